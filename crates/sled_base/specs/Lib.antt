@@ -1,0 +1,5 @@
+pub mod Errors
+pub mod Pointers
+pub mod Kept
+pub mod Order
+pub mod OrderLaws

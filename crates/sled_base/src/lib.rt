@@ -1,0 +1,11 @@
+//! The base of the page cache: byte strings, and the plain types that every layer names.
+#![tactic(auto)]
+
+pub mod ivec;
+pub mod types;
+
+pub use ivec::IVec;
+pub use types::{BlobPointer, Bug, Device, DiskPtr, Error, LogOffset, PageId, Refusal, Why};
+
+#[cfg(test)]
+mod tests;

@@ -1,0 +1,190 @@
+use super::*;
+use std::alloc::{AllocError, Global};
+use std::hash::{FoldHasher, Hash, Hasher};
+use std::process::Abort;
+use std::test::Fail;
+
+// It passes with each allocation failing.
+#[test]
+fn short_strings_take_no_memory(rt: HostRuntime) -> Result<(), Fail> {
+    assert_bytes(&rt, &IVec::default(), &[]);
+    for bytes in [[].as_slice(), &[1, 2, 3], &[5; 22]] {
+        let string = IVec::from_slice(rt.alloc(), bytes)?;
+        assert_bytes(&rt, &string, bytes);
+        assert_bytes(&rt, &string.clone()?, bytes);
+    }
+    Ok(())
+}
+
+#[test]
+fn a_copy_of_a_long_string_outlives_it(rt: HostRuntime) -> Result<(), Fail> {
+    for bytes in [[6; 23].as_slice(), &[4; 128]] {
+        let string = IVec::from_slice(rt.alloc(), bytes)?;
+        assert_bytes(&rt, &string, bytes);
+        let copy = string.clone()?;
+        drop(string);
+        assert_bytes(&rt, &copy, bytes);
+    }
+    Ok(())
+}
+
+fn assert_bytes(rt: &impl Abort, string: &IVec, bytes: &[u8]) {
+    assert_eq!(rt; string.as_slice(), bytes);
+    assert_eq!(rt; string.len(), bytes.len());
+    assert_eq!(rt; string.is_empty(), bytes.is_empty());
+    assert!(rt; string.eq_bytes(bytes));
+}
+
+#[test]
+fn strings_are_equal_where_their_bytes_are(rt: HostRuntime) -> Result<(), Fail> {
+    let long = [4; 30];
+    for (a, b, same) in [
+        ([].as_slice(), [].as_slice(), true),
+        (&[1, 2, 3], &[1, 2, 3], true),
+        (&[1, 2, 3], &[1, 2, 4], false),
+        (&[1, 2, 3], &[1, 2], false),
+        (&long, &[4; 30], true),
+        (&long, &[5; 30], false),
+        (&[4; 23], &[4; 22], false),
+    ] {
+        let x = IVec::from_slice(rt.alloc(), a)?;
+        let y = IVec::from_slice(rt.alloc(), b)?;
+        assert_eq!(rt; x == y, same, "{a:?} and {b:?}");
+        assert_eq!(rt; x.eq_bytes(b), same, "{a:?} and {b:?}");
+        if same {
+            assert_eq!(rt; hash_of(&x), hash_of(&y), "{a:?}");
+        }
+    }
+    Ok(())
+}
+
+fn hash_of<T: Hash>(value: &T) -> u64 {
+    let mut state = FoldHasher::default();
+    value.hash(&mut state);
+    state.finish()
+}
+
+#[test]
+fn the_first_byte_that_differs_decides_else_the_shorter_is_less(
+    rt: HostRuntime,
+) -> Result<(), Fail> {
+    let rising = [
+        [].as_slice(),
+        &[0],
+        &[1],
+        &[1; 22],
+        &[1; 23],
+        &[1, 2, 3],
+        &[1, 2, 3, 0],
+        &[1, 2, 3, 55],
+        &[4; 30],
+        &[5; 30],
+        &[255],
+    ];
+    for (i, a) in rising.iter().enumerate() {
+        for (j, b) in rising.iter().enumerate() {
+            let x = IVec::from_slice(rt.alloc(), a)?;
+            let y = IVec::from_slice(rt.alloc(), b)?;
+            assert_eq!(rt; x.cmp(&y), i.cmp(&j), "{a:?} and {b:?}");
+            assert_eq!(rt; x < y, i < j, "{a:?} and {b:?}");
+        }
+    }
+    Ok(())
+}
+
+#[test]
+fn strings_are_printed_as_lists(rt: HostRuntime) -> Result<(), Fail> {
+    let string = IVec::from_slice(rt.alloc(), &[1, 2, 3])?;
+    assert_eq!(rt; format!(in rt.alloc(); "{string:?}")?.as_str(), "[1, 2, 3]");
+    Ok(())
+}
+
+#[test]
+fn a_refusal_and_its_error_show_the_same_text(rt: HostRuntime) -> Result<(), Fail> {
+    for (refusal, text) in [
+        (Refusal::Unsupported(Why::ReservedId), "error unsupported 1"),
+        (
+            Refusal::Unsupported(Why::CapacityTooSmall),
+            "error unsupported 2",
+        ),
+        (
+            Refusal::Unsupported(Why::IntervalZero),
+            "error unsupported 3",
+        ),
+        (
+            Refusal::Unsupported(Why::SegmentZero),
+            "error unsupported 4",
+        ),
+        (
+            Refusal::Unsupported(Why::PagesUsedUp),
+            "error unsupported 5",
+        ),
+        (Refusal::Unsupported(Why::IdsUsedUp), "error unsupported 6"),
+        (
+            Refusal::Unsupported(Why::StampUsedUp),
+            "error unsupported 7",
+        ),
+        (Refusal::Unsupported(Why::BatchOpen), "error unsupported 8"),
+        (
+            Refusal::Unsupported(Why::TooManyNames),
+            "error unsupported 9",
+        ),
+        (
+            Refusal::Unsupported(Why::NameTooLong),
+            "error unsupported 10",
+        ),
+        (Refusal::Unsupported(Why::LogFull), "error unsupported 11"),
+        (Refusal::Unsupported(Why::BookFull), "error unsupported 12"),
+        (Refusal::ReportableBug(Bug::MissingMeta), "error bug 1"),
+        (Refusal::ReportableBug(Bug::MissingCounter), "error bug 2"),
+        (Refusal::ReportableBug(Bug::LinkRefused), "error bug 3"),
+        (Refusal::ReportableBug(Bug::FreeInPull), "error bug 4"),
+        (Refusal::Io(Device::Read), "error read"),
+        (Refusal::Io(Device::Write), "error write"),
+        (Refusal::Corruption(None), "error corruption"),
+        (
+            Refusal::Corruption(Some(DiskPtr::Inline(7))),
+            "error corruption",
+        ),
+        (Refusal::OutOfMemory, "error memory"),
+    ] {
+        assert_eq!(rt; format!(in rt.alloc(); "{refusal}")?.as_str(), text);
+        let error = Error::from(refusal);
+        assert_eq!(rt; format!(in rt.alloc(); "{error}")?.as_str(), text);
+    }
+    Ok(())
+}
+
+#[test]
+fn an_unknown_name_is_not_shown(rt: HostRuntime) -> Result<(), Fail> {
+    let error = Error::CollectionNotFound(IVec::from_slice(rt.alloc(), &[97])?);
+    assert_eq!(rt;
+        format!(in rt.alloc(); "{error}")?.as_str(),
+        "error collection"
+    );
+    Ok(())
+}
+
+#[test]
+fn wanting_memory_is_an_error_of_the_cache(rt: HostRuntime) -> Result<(), Fail> {
+    assert_eq!(rt; pushed(rt.alloc(), 7)?.as_slice(), [7].as_slice());
+    assert_eq!(rt; Error::from(AllocError), Error::OutOfMemory);
+    Ok(())
+}
+
+fn pushed(alloc: Global, byte: u8) -> Result<Vec<u8>, Error> {
+    let mut bytes = Vec::new(alloc);
+    bytes.push(byte)?;
+    Ok(bytes)
+}
+
+#[test]
+fn a_pointer_knows_its_message_and_its_blob(rt: HostRuntime) {
+    let inline = DiskPtr::Inline(7);
+    assert_eq!(rt; inline.lid(), 7);
+    assert!(rt; !inline.is_blob());
+    let blob = DiskPtr::Blob(7, 9);
+    assert_eq!(rt; blob.lid(), 7);
+    assert!(rt; blob.is_blob());
+    assert_eq!(rt; blob.blob(), (7, 9));
+}

@@ -1,0 +1,191 @@
+//! The plain types that every layer names, and the error of the page cache.
+
+ghost use Rattle.std.specs.Prelude.{◌≡◌, ◌↔◌, IsTrue};
+ghost use Rattle.sled_base.specs.Errors.{error_of, number_of_why, number_of_bug};
+ghost use Rattle.sled_base.specs.Pointers.{IsBlob, place_of, IsBlobAt};
+ghost use Rattle.sled_base.specs.declared.types.Error.TheVariants.{OutOfMemory};
+
+use crate::ivec::IVec;
+use std::alloc::{AllocError, AllocFailed};
+use thiserror::Error;
+
+/// The number of a page.
+pub type PageId = u64;
+
+/// A place in a log, in bytes from its beginning.
+pub type LogOffset = u64;
+
+/// The place of the message that first held a blob.
+pub type BlobPointer = i64;
+
+/// Where a message stands in a log, and whether its payload is a blob.
+#[derive(Clone, Copy, Debug, PartialEq, Eq)]
+pub enum DiskPtr {
+    Inline(LogOffset),
+    Blob(LogOffset, BlobPointer),
+}
+
+impl DiskPtr {
+    /// The place of the message.
+    pub fn lid(self) -> LogOffset
+        ensures { result ≡ place_of self }
+    {
+        match self {
+            DiskPtr::Inline(lid) | DiskPtr::Blob(lid, _) => lid,
+        }
+    }
+
+    /// Whether the payload is a blob.
+    pub fn is_blob(self) -> bool
+        ensures { IsTrue result ↔ IsBlob self }
+    {
+        matches!(self, DiskPtr::Blob(_, _))
+    }
+
+    /// The place of the message and the pointer to its blob.
+    pub fn blob(self) -> (LogOffset, BlobPointer)
+        requires { IsBlob self }
+        ensures { IsBlobAt self result.0 result.1 }
+    {
+        match self {
+            DiskPtr::Blob(lid, pointer) => (lid, pointer),
+            DiskPtr::Inline(_) => unreachable!(),
+        }
+    }
+}
+
+/// Why a call is not supported as it was made. Its number is the one that `Display` shows.
+#[derive(Clone, Copy, Debug, PartialEq, Eq)]
+pub enum Why {
+    /// The page is the cache's own.
+    ReservedId = 1,
+    /// The capacity of the cache is below 256.
+    CapacityTooSmall = 2,
+    /// The interval in which generated ids are persisted is 0.
+    IntervalZero = 3,
+    /// The size of a segment is 0.
+    SegmentZero = 4,
+    /// No page is free, and there are 2^37 of them.
+    PagesUsedUp = 5,
+    /// The next generated id would be above `u64::MAX`.
+    IdsUsedUp = 6,
+    /// The stamp of the page is `u64::MAX`.
+    StampUsedUp = 7,
+    /// A batch is open.
+    BatchOpen = 8,
+    /// There are 2^24 named roots already.
+    TooManyNames = 9,
+    /// The name has more than 2^31 - 1 bytes.
+    NameTooLong = 10,
+    /// The log has no room for the message.
+    LogFull = 11,
+    /// The book has no room for the call.
+    BookFull = 12,
+}
+
+impl Why {
+    /// Its number.
+    pub fn number(self) -> u8
+        ensures { result ≡ number_of_why self }
+    {
+        self as u8
+    }
+}
+
+/// What should never be seen: a misuse of a node, or a page of the wrong kind.
+#[derive(Clone, Copy, Debug, PartialEq, Eq)]
+pub enum Bug {
+    /// The page of the named roots is missing.
+    MissingMeta = 1,
+    /// The page of the counter is missing.
+    MissingCounter = 2,
+    /// The node does not accept the link.
+    LinkRefused = 3,
+    /// A free page was read from the log.
+    FreeInPull = 4,
+}
+
+impl Bug {
+    /// Its number.
+    pub fn number(self) -> u8
+        ensures { result ≡ number_of_bug self }
+    {
+        self as u8
+    }
+}
+
+/// Which work of the device failed.
+#[derive(Clone, Copy, Debug, PartialEq, Eq)]
+pub enum Device {
+    Read,
+    /// A write or a sync.
+    Write,
+}
+
+/// Why a call of the page cache was refused.
+///
+/// A refused call leaves what its own contract says. `Display` prints what a reply line of `sledpc` shows.
+#[derive(Debug, Drop, PartialEq, Eq, Error)]
+pub enum Error {
+    /// No root has this name.
+    #[error("error collection")]
+    CollectionNotFound(IVec),
+    #[error("error unsupported {}", .0.number())]
+    Unsupported(Why),
+    #[error("error bug {}", .0.number())]
+    ReportableBug(Bug),
+    /// The device failed in this call, or a write failed in an earlier one.
+    #[error("error {}", match .0 {Device::Read => "read", Device::Write => "write"})]
+    Io(Device),
+    /// The log holds what no cache wrote; where it was a page that was read, at this place.
+    #[error("error corruption")]
+    Corruption(Option<DiskPtr>),
+    /// Memory was wanting.
+    #[error("error memory")]
+    OutOfMemory,
+}
+
+/// An [`Error`] that owns no memory. The calls that lend from the cache answer it, and `?` makes an [`Error`] of it.
+#[derive(Clone, Copy, Debug, PartialEq, Eq, Error)]
+pub enum Refusal {
+    #[error("error unsupported {}", .0.number())]
+    Unsupported(Why),
+    #[error("error bug {}", .0.number())]
+    ReportableBug(Bug),
+    #[error("error {}", match .0 {Device::Read => "read", Device::Write => "write"})]
+    Io(Device),
+    #[error("error corruption")]
+    Corruption(Option<DiskPtr>),
+    #[error("error memory")]
+    OutOfMemory,
+}
+
+impl From<Refusal> for Error {
+    ghost from_gives = { λ refusal e. e ≡ error_of refusal };
+
+    fn from(refusal: Refusal) -> Error {
+        match refusal {
+            Refusal::Unsupported(why) => Error::Unsupported(why),
+            Refusal::ReportableBug(bug) => Error::ReportableBug(bug),
+            Refusal::Io(device) => Error::Io(device),
+            Refusal::Corruption(pointer) => Error::Corruption(pointer),
+            Refusal::OutOfMemory => Error::OutOfMemory,
+        }
+    }
+}
+
+impl From<AllocError> for Error {
+    ghost from_gives = { λ _ e. e ≡ OutOfMemory };
+
+    fn from(_e: AllocError) -> Error {
+        Error::OutOfMemory
+    }
+}
+
+impl<T: Drop> From<AllocFailed<T>> for Error {
+    ghost from_gives = { λ _ e. e ≡ OutOfMemory };
+
+    fn from(_e: AllocFailed<T>) -> Error {
+        Error::OutOfMemory
+    }
+}

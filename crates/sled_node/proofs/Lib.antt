@@ -1,0 +1,9 @@
+pub mod Rising
+pub mod Places
+pub mod Edits
+pub mod Pages
+pub mod WholeKeys
+pub mod NodeEdits
+pub mod Merging
+pub mod FromParts
+pub mod NodeEquality

@@ -1,0 +1,364 @@
+//! Nodes: a range of keys, and the pairs whose keys lie in it.
+
+ghost use Rattle.std.specs.Prelude.{◌≡◌, ◌↔◌, ◌<◌, ◌≤◌, ◌^◌, length, Some, IsTrue, IfOk, OnOk, OnErr, slice_get};
+ghost use Rattle.std.specs.Option.{option_map, SomeIff};
+ghost use Rattle.std.specs.Int.NonZero.{non_zero_u64_get};
+ghost use Rattle.std.specs.Cmp.{partial_equiv_from_equiv};
+ghost use Rattle.sled_node.specs.Equality.{same_nodes, node_equiv};
+ghost use Rattle.sled_node.specs.Node.{whole, IsWellFormed, IsInRange, empty_leaf};
+ghost use Rattle.sled_node.specs.Links.{Accepts, AcceptsHere, applied};
+ghost use Rattle.sled_node.specs.Pairs.{IsWithinLimit};
+ghost use Rattle.sled_node.specs.Parts.{node_of, HoldsData, item_of};
+ghost use Rattle.sled_node.specs.declared.node.link.Link.TheVariants.{Set, Del, ParentMergeConfirm};
+
+mod data;
+mod leaf;
+mod link;
+mod pairs;
+mod parts;
+
+pub use data::{Data, Index, Item};
+pub use leaf::Leaf;
+pub use link::Link;
+use pairs::is_below;
+use parts::{are_bounds, are_stored_within, know_page};
+use sled_base::IVec;
+use std::alloc::{AllocError, Global};
+use std::marker::Model;
+use std::num::NonZeroU64;
+
+/// The greatest length of a key, a value, a bound or a name, in bytes.
+pub const MAX_BYTES: usize = (1 << 31) - 1;
+
+/// The greatest number of pairs in a node.
+pub const MAX_PAIRS: usize = 1 << 24;
+
+/// A range of keys, and the pairs whose keys lie in it.
+///
+/// The range begins with `lo` and ends before `hi`; an empty `hi` is no end. A stored key lacks the first `prefix_len`
+/// bytes of `lo`, which `lo` and `hi` have in common. Contracts see whole keys, and every node is well-formed.
+#[derive(Debug, Drop)]
+pub struct Node {
+    prefix_len: u8,
+    next: Option<NonZeroU64>,
+    merging_child: Option<NonZeroU64>,
+    merging: bool,
+    lo: IVec,
+    hi: IVec,
+    contents: Data,
+}
+
+impl Model for Node {
+    ghost use Rattle.std.specs.Option.{option_map};
+    ghost use Rattle.std.specs.Int.NonZero.{non_zero_u64_get};
+    ghost use Rattle.sled_node.specs.Node.{WholeNode, IsWellFormed};
+
+    ghost Value = { WholeNode };
+
+    ghost use Rattle.sled_node.specs.Parts.{node_of};
+
+    ghost view = { λ n. node_of n.prefix_len (option_map non_zero_u64_get n.next) (option_map non_zero_u64_get n.merging_child) n.merging n.lo n.hi n.contents };
+
+    ghost invariant = { λ n. IsWellFormed (node_of n.prefix_len (option_map non_zero_u64_get n.next) (option_map non_zero_u64_get n.merging_child) n.merging n.lo n.hi n.contents) };
+}
+
+impl Node {
+    /// An empty leaf over all keys. It takes no memory.
+    pub fn default(alloc: Global) -> Node
+        ensures { result ≡ empty_leaf }
+    {
+        Node {
+            prefix_len: 0,
+            next: None,
+            merging_child: None,
+            merging: false,
+            lo: IVec::default(),
+            hi: IVec::default(),
+            contents: Data::Leaf(Leaf::default(alloc)),
+        }
+    }
+
+    /// The node of these parts, or none where they are ill-formed.
+    ///
+    /// They are well-formed where `lo` is below `hi` or `hi` is empty, `lo` and `hi` have `prefix_len` bytes in common,
+    /// which is 0 where `hi` is empty, each whole key is in the range, and no bound or whole key is above the limit.
+    pub fn from_parts(
+        prefix_len: u8,
+        next: Option<NonZeroU64>,
+        merging_child: Option<NonZeroU64>,
+        merging: bool,
+        lo: IVec,
+        hi: IVec,
+        contents: Data,
+    ) -> Option<Node>
+        ensures { SomeIff result (IsWellFormed (node_of prefix_len (option_map non_zero_u64_get next) (option_map non_zero_u64_get merging_child) merging lo hi contents)) (node_of prefix_len (option_map non_zero_u64_get next) (option_map non_zero_u64_get merging_child) merging lo hi contents) }
+    {
+        let skipped = prefix_len as usize;
+        if !are_bounds(skipped, lo.as_slice(), hi.as_slice()) {
+            return None;
+        }
+        let low = &lo.as_slice()[skipped..];
+        let high = &hi.as_slice()[skipped..];
+        if !are_stored_within(&contents, low, high, MAX_BYTES - skipped) {
+            return None;
+        }
+        know_page(next);
+        know_page(merging_child);
+        Some(Node {
+            prefix_len,
+            next,
+            merging_child,
+            merging,
+            lo,
+            hi,
+            contents,
+        })
+    }
+
+    /// How many bytes of `lo` the stored keys lack. `lo` has that many.
+    pub fn prefix_len(&self) -> u8
+        ensures value { result ≡ self.now.prefix_len }
+        ensures within { result ≤ length self.now.lo }
+    {
+        self.prefix_len
+    }
+
+    /// The page of the node to the right.
+    pub fn next(&self) -> Option<NonZeroU64>
+        ensures { option_map non_zero_u64_get result ≡ self.now.next }
+    {
+        self.next
+    }
+
+    /// The page of the child that is being merged into its left neighbour.
+    pub fn merging_child(&self) -> Option<NonZeroU64>
+        ensures { option_map non_zero_u64_get result ≡ self.now.child }
+    {
+        self.merging_child
+    }
+
+    /// Whether the node itself is being merged into its left neighbour, and takes no link any more.
+    pub fn merging(&self) -> bool
+        ensures { result ≡ self.now.capped }
+    {
+        self.merging
+    }
+
+    /// The least key of the range.
+    pub fn lo(&self) -> &IVec
+        ensures { result.now ≡ self.now.lo }
+    {
+        &self.lo
+    }
+
+    /// The end of the range, which is not in it. Where it is empty, the range has no end.
+    pub fn hi(&self) -> &IVec
+        ensures { result.now ≡ self.now.hi }
+    {
+        &self.hi
+    }
+
+    /// The stored keys, with their values or pages. Every node is well-formed.
+    pub fn data(&self) -> &Data
+        ensures value { HoldsData self.now result.now }
+        ensures well_formed { IsWellFormed self.now }
+    {
+        &self.contents
+    }
+
+    /// Whether the node leads to pages, and holds no values.
+    pub fn is_index(&self) -> bool
+        ensures { result ≡ self.now.is_index }
+    {
+        match &self.contents {
+            Data::Leaf(_) => false,
+            Data::Index(_) => true,
+        }
+    }
+
+    /// How many pairs there are.
+    pub fn len(&self) -> usize
+        ensures { result ≡ length self.now.pairs }
+    {
+        match &self.contents {
+            Data::Leaf(leaf) => leaf.len(),
+            Data::Index(index) => index.len(),
+        }
+    }
+
+    /// The stored key of the pair at place `i`, and what stands behind it.
+    pub fn pair(&self, i: usize) -> (&[u8], Item<'_>)
+        requires { i < length self.now.pairs }
+        ensures { slice_get self.now.pairs i ≡ Some (whole self.now result.0.now, item_of result.1) }
+    {
+        match &self.contents {
+            Data::Leaf(leaf) => {
+                let (key, value) = leaf.pair(i);
+                (key, Item::Value(value))
+            }
+            Data::Index(index) => {
+                let (key, page) = index.pair(i);
+                (key, Item::Child(page))
+            }
+        }
+    }
+
+    /// Whether the whole key is in the range.
+    pub fn contains_key(&self, key: &[u8]) -> bool
+        ensures { IsTrue result ↔ IsInRange self.now key.now }
+    {
+        !is_below(key, self.lo.as_slice())
+            && (self.hi.is_empty() || is_below(key, self.hi.as_slice()))
+    }
+
+    /// Whether the link may be applied.
+    ///
+    /// A merging node accepts no link, and no node one with a key or a value above the limit; keys count whole. `Set`
+    /// wants a leaf, a key in its range and room for a pair; `Del` a leaf; `ParentMergeIntention` a page other than 0,
+    /// and no merging child; `ParentMergeConfirm` an index, and a merging child that it leads to.
+    pub fn accepts(&self, link: &Link) -> bool
+        ensures { IsTrue result ↔ Accepts self.now link.now }
+    {
+        !self.merging && self.accepts_here(link)
+    }
+
+    /// Applies a link that the node accepts. A refusal leaves the node as it was.
+    pub fn apply(&mut self, link: &Link) -> Result<(), AllocError>
+        requires { Accepts self.old link.now }
+        ensures ok { OnOk result (self.new ≡ applied link.now self.old) }
+        ensures err { OnErr result (self.new ≡ self.old) }
+    {
+        match link {
+            Link::Set(key, value) => self.set_leaf(key.clone()?, value.clone()?)?,
+            Link::Del(key) => self.del_leaf(key),
+            Link::ParentMergeIntention(page) => self.merging_child = NonZeroU64::new(*page),
+            Link::ParentMergeConfirm => self.confirm_merge(),
+            Link::ChildMergeCap => self.merging = true,
+        }
+        Ok(())
+    }
+
+    /// Maps a stored key to a value, over the present value if there is one. A merging node does so too.
+    ///
+    /// A refusal leaves the node as it was.
+    pub fn set_leaf(&mut self, key: IVec, value: IVec) -> Result<(), AllocError>
+        requires { AcceptsHere self.old (Set key value) }
+        ensures ok { OnOk result (self.new ≡ applied (Set key value) self.old) }
+        ensures err { OnErr result (self.new ≡ self.old) }
+    {
+        self.contents.set(key, value)?;
+        Ok(())
+    }
+
+    /// Takes a stored key and its value out, or does nothing where the key is absent. A merging node does so too.
+    pub fn del_leaf(&mut self, key: &IVec)
+        requires { AcceptsHere self.old (Del key.now) }
+        ensures { self.new ≡ applied (Del key.now) self.old }
+    {
+        self.contents.del(key.as_slice());
+    }
+
+    // Whether the link may be applied, the node's own mark aside.
+    fn accepts_here(&self, link: &Link) -> bool
+        ensures { IsTrue result ↔ AcceptsHere self.now link.now }
+    {
+        match link {
+            Link::Set(key, value) => self.accepts_set(key, value),
+            Link::Del(key) => !self.is_index() && self.is_short(key.as_slice()),
+            Link::ParentMergeIntention(page) => *page != 0 && self.merging_child.is_none(),
+            Link::ParentMergeConfirm => self.leads_to_merging_child(),
+            Link::ChildMergeCap => true,
+        }
+    }
+
+    // Whether the pair may stand in the node, which is a leaf.
+    fn accepts_set(&self, key: &IVec, value: &IVec) -> bool
+        ensures { IsTrue result ↔ AcceptsHere self.now (Set key.now value.now) }
+    {
+        let stored = key.as_slice();
+        match &self.contents {
+            Data::Leaf(leaf) => {
+                self.spans(stored)
+                    && self.is_short(stored)
+                    && value.len() <= MAX_BYTES
+                    && leaf.has_room(stored)
+            }
+            Data::Index(_) => false,
+        }
+    }
+
+    // Whether the whole key of this stored key is in the range.
+    fn spans(&self, stored: &[u8]) -> bool
+        ensures { IsTrue result ↔ IsInRange self.now (whole self.now stored.now) }
+    {
+        let skipped = self.prefix_len as usize;
+        !is_below(stored, &self.lo.as_slice()[skipped..])
+            && (self.hi.is_empty() || is_below(stored, &self.hi.as_slice()[skipped..]))
+    }
+
+    // Whether the whole key of this stored key is within the limit.
+    fn is_short(&self, stored: &[u8]) -> bool
+        ensures { IsTrue result ↔ IsWithinLimit (whole self.now stored.now) }
+    {
+        stored.len() <= MAX_BYTES - self.prefix_len as usize
+    }
+
+    // Whether this is an index that leads to the child that is being merged.
+    fn leads_to_merging_child(&self) -> bool
+        ensures { IsTrue result ↔ AcceptsHere self.now ParentMergeConfirm }
+    {
+        match self.merging_child {
+            None => false,
+            Some(child) => self.contents.leads_to(child.get()),
+        }
+    }
+
+    // Takes the child that is being merged out of the index, and the mark away.
+    fn confirm_merge(&mut self)
+        requires { AcceptsHere self.old ParentMergeConfirm }
+        ensures { self.new ≡ applied ParentMergeConfirm self.old }
+    {
+        if let Some(child) = self.merging_child {
+            self.contents.remove_page(child.get());
+            self.merging_child = None;
+        }
+    }
+}
+
+impl Clone for Node {
+    ghost use Rattle.std.specs.Prelude.{◌≡◌};
+
+    ghost is_clone = { λ v w. w ≡ v };
+
+    fn clone(&self) -> Result<Node, AllocError> {
+        Ok(Node {
+            prefix_len: self.prefix_len,
+            next: self.next,
+            merging_child: self.merging_child,
+            merging: self.merging,
+            lo: self.lo.clone()?,
+            hi: self.hi.clone()?,
+            contents: self.contents.clone()?,
+        })
+    }
+}
+
+impl PartialEq for Node {
+    ghost eq = { same_nodes };
+
+    ghost laws = { partial_equiv_from_equiv node_equiv };
+
+    fn eq(&self, other: &Node) -> bool {
+        self.lo == other.lo
+            && self.hi == other.hi
+            && self.prefix_len == other.prefix_len
+            && self.next == other.next
+            && self.merging_child == other.merging_child
+            && self.merging == other.merging
+            && self.contents == other.contents
+    }
+}
+
+impl Eq for Node {
+    ghost laws = { node_equiv };
+}

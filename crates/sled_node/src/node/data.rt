@@ -1,0 +1,187 @@
+//! What a node holds: a leaf's values, or an index's pages.
+
+ghost use Rattle.std.specs.Prelude.{◌≡◌, ◌↔◌, ◌==◌, ◌<◌, ◌^◌, [], length, position, Some, IsTrue, IfOk, OnOk, OnErr, Any, nat_eq, slice_get};
+ghost use Rattle.std.specs.Cmp.{partial_equiv_from_equiv};
+ghost use Rattle.sled_node.specs.Pairs.{HasPairs};
+ghost use Rattle.sled_node.specs.Equality.{same_pairs, index_equiv};
+ghost use Rattle.sled_node.specs.Parts.{CanSet, set_stored, del_stored, LeadsTo, without_page, without_stored};
+
+use super::leaf::Leaf;
+use sled_base::{IVec, PageId};
+use std::alloc::{AllocError, Global};
+use std::marker::Model;
+
+/// What stands behind a key of a node.
+#[derive(Clone, Copy, Debug, PartialEq, Eq)]
+pub enum Item<'a> {
+    Value(&'a [u8]),
+    Child(PageId),
+}
+
+/// Stored keys and pages, with rising keys and within the limits of a node. Contracts see the list of the pairs.
+#[derive(Debug, Drop)]
+pub struct Index {
+    pairs: Vec<(IVec, PageId)>,
+}
+
+impl Model for Index {
+    ghost use Rattle.std.specs.Prelude.{List, ℕ, ◌<◌, ◌^◌};
+    ghost use Rattle.sled_node.specs.Pairs.{HasPairs};
+
+    ghost Value = { List (List ℕ × ℕ) };
+
+    ghost view = { λ index. index.pairs.items };
+
+    ghost invariant = { λ index. HasPairs (λ page. page < 2 ^ 64) index.pairs.items };
+}
+
+impl Index {
+    /// An index with no pairs. It takes no memory.
+    pub fn default(alloc: Global) -> Index
+        ensures { result ≡ [] }
+    {
+        Index {
+            pairs: Vec::new(alloc),
+        }
+    }
+
+    pub(super) fn len(&self) -> usize
+        ensures { result ≡ length self.now }
+    {
+        self.pairs.len()
+    }
+
+    pub(super) fn pair(&self, i: usize) -> (&[u8], PageId)
+        requires { i < length self.now }
+        ensures { slice_get self.now i ≡ Some (result.0.now, result.1) }
+    {
+        let pair = &self.pairs[i];
+        (pair.0.as_slice(), pair.1)
+    }
+
+    // The pairs, with what every index keeps.
+    pub(super) fn pairs(&self) -> &[(IVec, PageId)]
+        ensures value { result.now ≡ self.now }
+        ensures stored { HasPairs (λ page. page < 2 ^ 64) self.now }
+    {
+        &self.pairs
+    }
+
+    pub(super) fn leads_to(&self, page: PageId) -> bool
+        ensures { IsTrue result ↔ Any (λ pair. pair.1 ≡ page) self.now }
+    {
+        self.pairs.iter().any(|pair| pair.1 == page)
+    }
+
+    // Takes out the first pair that leads to the page.
+    pub(super) fn remove_page(&mut self, page: PageId)
+        ensures { self.new ≡ without_page page self.old }
+    {
+        remove_from(&mut self.pairs, page);
+    }
+}
+
+fn remove_from(pairs: &mut Vec<(IVec, PageId)>, page: PageId)
+    ensures { pairs.new.items ≡ without_page page pairs.old.items }
+{
+    if let Some(at) = first_to(pairs, page) {
+        pairs.remove(at);
+    }
+}
+
+// Where the first pair stands that leads to the page.
+fn first_to(pairs: &[(IVec, PageId)], page: PageId) -> Option<usize>
+    ensures { result ≡ position (λ pair. pair.1 == page) pairs.now }
+{
+    pairs.iter().position(|pair| pair.1 == page)
+}
+
+impl Clone for Index {
+    ghost use Rattle.std.specs.Prelude.{◌≡◌};
+
+    ghost is_clone = { λ v w. w ≡ v };
+
+    fn clone(&self) -> Result<Index, AllocError> {
+        Ok(Index {
+            pairs: self.pairs.clone()?,
+        })
+    }
+}
+
+impl PartialEq for Index {
+    ghost eq = { same_pairs nat_eq };
+
+    ghost laws = { partial_equiv_from_equiv index_equiv };
+
+    fn eq(&self, other: &Index) -> bool {
+        self.pairs == other.pairs
+    }
+}
+
+impl Eq for Index {
+    ghost laws = { index_equiv };
+}
+
+/// Stored keys, with the values of a leaf or the pages of an index.
+#[derive(Debug, Drop, PartialEq, Eq)]
+pub enum Data {
+    Leaf(Leaf),
+    Index(Index),
+}
+
+impl Clone for Data {
+    ghost use Rattle.std.specs.Prelude.{◌≡◌};
+
+    ghost is_clone = { λ v w. w ≡ v };
+
+    fn clone(&self) -> Result<Data, AllocError> {
+        Ok(match self {
+            Data::Leaf(leaf) => Data::Leaf(leaf.clone()?),
+            Data::Index(index) => Data::Index(index.clone()?),
+        })
+    }
+}
+
+impl Data {
+    // Maps a stored key to a value.
+    pub(super) fn set(&mut self, key: IVec, value: IVec) -> Result<(), AllocError>
+        requires { CanSet key value self.old }
+        ensures ok { OnOk result (self.new ≡ set_stored key value self.old) }
+        ensures err { OnErr result (self.new ≡ self.old) }
+    {
+        match self {
+            Data::Leaf(leaf) => leaf.set(key, value),
+            Data::Index(_) => Ok(()),
+        }
+    }
+
+    // Takes a stored key out of a leaf.
+    pub(super) fn del(&mut self, key: &[u8])
+        ensures { self.new ≡ del_stored key.now self.old }
+    {
+        match self {
+            Data::Leaf(leaf) => leaf.del(key),
+            Data::Index(_) => {}
+        }
+    }
+
+    // Whether an index leads to the page.
+    pub(super) fn leads_to(&self, page: PageId) -> bool
+        ensures { IsTrue result ↔ LeadsTo page self.now }
+    {
+        match self {
+            Data::Leaf(_) => false,
+            Data::Index(index) => index.leads_to(page),
+        }
+    }
+
+    // Takes the first pair that leads to the page out of an index.
+    pub(super) fn remove_page(&mut self, page: PageId)
+        ensures { self.new ≡ without_stored page self.old }
+    {
+        match self {
+            Data::Leaf(_) => {}
+            Data::Index(index) => index.remove_page(page),
+        }
+    }
+}

@@ -1,0 +1,40 @@
+//! Links: the changes of a node.
+
+use sled_base::{IVec, PageId};
+use std::alloc::AllocError;
+
+/// A change of a node.
+///
+/// The key of `Set` and `Del` is a stored key: it lacks the first `prefix_len` bytes of the node's `lo`.
+#[derive(Debug, Drop, PartialEq, Eq)]
+pub enum Link {
+    /// Maps the key to the value, in a leaf.
+    Set(IVec, IVec),
+    /// Takes the key out of a leaf.
+    Del(IVec),
+    /// Marks the child on this page as being merged into its left neighbour.
+    ParentMergeIntention(PageId),
+    /// Takes the marked child out of an index, and the mark away.
+    ParentMergeConfirm,
+    /// Marks the node itself as being merged. It takes no link any more.
+    ChildMergeCap,
+}
+
+impl Clone for Link {
+    ghost use Rattle.std.specs.Prelude.{◌≡◌};
+
+    ghost is_clone = { λ v w. w ≡ v };
+
+    fn clone(&self) -> Result<Link, AllocError> {
+        Ok(match self {
+            Link::Set(key, value) => Link::Set(key.clone()?, value.clone()?),
+            Link::Del(key) => Link::Del(key.clone()?),
+            Link::ParentMergeIntention(page) => Link::ParentMergeIntention(*page),
+            Link::ParentMergeConfirm => Link::ParentMergeConfirm,
+            Link::ChildMergeCap => Link::ChildMergeCap,
+        })
+    }
+}
+
+#[cfg(test)]
+mod tests;

@@ -1,0 +1,41 @@
+-- How pages and changes are kept.
+use Rattle.std.specs.Prelude.{◌≡◌, ℕ, Bool, false, List, map, Option, None, Some, ⊤}
+use Rattle.std.specs.FinMap.{empty}
+use Rattle.sled_pagecache.specs.declared.pagecache.page.Page.{Page as KeptPage}
+use Rattle.sled_pagecache.specs.declared.pagecache.page.Content.{Content as KeptContent}
+use Rattle.sled_pagecache.specs.declared.pagecache.page.Content.TheVariants as kept
+use Rattle.sled_pagecache.specs.declared.pagecache.log.Change.{Change as KeptChange}
+use Rattle.sled_pagecache.specs.declared.pagecache.log.Change.TheVariants as message
+use Rattle.sled_pagecache.specs.declared.pagecache.log.MemLog.{MemLog}
+use Rattle.sled_pagecache.specs.Step.{is_reserved}
+use Rattle.sled_pagecache.specs.State.{State, page_at, Content, Free, Counter, Roots, Node, Page, page, Change, Put, Linked}
+
+abbrev pub content_of : KeptContent → Content
+content_of (kept.Counter n) = Counter n
+content_of kept.Roots = Roots empty
+content_of (kept.Node node) = Node node
+
+abbrev pub page_of : KeptPage → Page
+page_of p = page p.stamp (content_of p.content)
+
+abbrev pub change_of : KeptChange → Change
+change_of (message.Put pid content) = Put pid (content_of content)
+change_of (message.Link pid link) = Linked pid link
+
+-- the changes that a log holds
+abbrev pub changes_of : MemLog → List Change
+changes_of log = map change_of log.changes.items
+
+-- a page that a reader may ask for: there is none, or it is free, or it has a node
+abbrev pub IsNodePage : Option Page → Type 0
+IsNodePage None = ⊤
+IsNodePage (Some p) = IsNode p.content
+  where
+    IsNode : Content → Type 0
+    IsNode Free = ⊤
+    IsNode (Node node) = ⊤
+    IsNode (Counter n) = ⊥
+    IsNode (Roots roots) = ⊥
+
+abbrev pub IsReadable : State → ℕ → Type 0
+IsReadable s pid = (is_reserved pid ≡ false) × IsNodePage (page_at s pid)

@@ -1,0 +1,131 @@
+-- The page cache as a machine: which answer a call may get in a state, and which state it leaves.
+use Rattle.std.specs.Prelude.{◌≡◌, ◌==◌, ◌||◌, ℕ, ◌+◌, ◌-◌, ◌^◌, ◌⊎◌, Bool, List, [], ◌∷◌, ◌++◌, length, Option, Some, None, Result, Ok, Err, MatchBool, MatchOption}
+use Rattle.sled_base.specs.declared.types.Bug.TheVariants.{LinkRefused}
+use Rattle.sled_base.specs.declared.types.Device.TheVariants.{Write}
+use Rattle.sled_base.specs.declared.types.DiskPtr.{DiskPtr}
+use Rattle.sled_base.specs.declared.types.Error.{Error}
+use Rattle.sled_base.specs.declared.types.Error.TheVariants.{Unsupported, ReportableBug, Io, Corruption, OutOfMemory}
+use Rattle.sled_base.specs.declared.types.Why.TheVariants.{ReservedId, PagesUsedUp, StampUsedUp}
+use Rattle.sled_node.specs.Links.{Accepts, applied}
+use Rattle.sled_node.specs.Node.{WholeNode}
+use Rattle.sled_node.specs.declared.node.link.Link.{Link as NodeLink}
+use Rattle.sled_pagecache.specs.declared.pagecache.TheConstants.{META_PID, COUNTER_PID, BATCH_MANIFEST_PID, MAX_PID_BITS}
+use Rattle.sled_pagecache.specs.declared.pagecache.call.Answer.{Answer}
+use Rattle.sled_pagecache.specs.declared.pagecache.call.Answer.TheVariants.{Allocated, Got, Linked}
+use Rattle.sled_pagecache.specs.declared.pagecache.call.Call.{Call}
+use Rattle.sled_pagecache.specs.declared.pagecache.call.Call.TheVariants.{Allocate, Get, Link}
+use Rattle.sled_pagecache.specs.State.{Content, Free, Counter, Roots, Node, Page, page, State, Change, Put, page_at, with_page, greatest_free}
+use Rattle.sled_pagecache.specs.State as changes
+use Rattle.sled_pagecache.specs.Token.{Token, token}
+
+-- the ids of the pages that are the cache's own
+abbrev pub is_reserved : ℕ → Bool
+is_reserved pid = (pid == META_PID) || (pid == COUNTER_PID) || (pid == BATCH_MANIFEST_PID)
+
+-- the answer is this error, and nothing changes
+abbrev pub IsRefused : {T : Type 0} → State → Result T Error → State → Error → Type 0
+IsRefused s answer t e = (answer ≡ Err e) × (t ≡ s)
+
+-- ---- What a call tests, in the order of the tests, before it goes on.
+
+-- a kept write fault is answered
+abbrev pub UnlessFaulty : {T : Type 0} → State → Result T Error → State → Type 0 → Type 0
+UnlessFaulty s answer t goes_on = MatchBool s.fault (IsRefused s answer t (Io Write)) goes_on
+
+-- a reserved id is refused
+abbrev pub UnlessReserved : {T : Type 0} → State → ℕ → Result T Error → State → Type 0 → Type 0
+UnlessReserved s pid answer t goes_on = MatchBool (is_reserved pid) (IsRefused s answer t (Unsupported ReservedId)) goes_on
+
+-- a stamp that is to rise is below the greatest
+abbrev pub UnlessLastStamp : {T : Type 0} → State → ℕ → Result T Error → State → Type 0 → Type 0
+UnlessLastStamp s stamp answer t goes_on = MatchBool (stamp == 2 ^ 64 - 1) (IsRefused s answer t (Unsupported StampUsedUp)) goes_on
+
+-- the work is done, or is refused for want of memory and leaves the state
+abbrev pub Does : {T : Type 0} → State → Result T Error → State → (T → Type 0) → Type 0
+Does s (Ok value) t work = work value
+Does s (Err e) t work = (e ≡ OutOfMemory) × (t ≡ s)
+
+-- a page of a kind that can't stand at its id
+abbrev pub IsCorruption : {T : Type 0} → State → Result T Error → State → Type 0
+IsCorruption s answer t = (pointer : Option DiskPtr) × IsRefused s answer t (Corruption pointer)
+
+-- ---- allocate: the free page with the greatest id at its next stamp, or else a new page at stamp 1
+
+abbrev pub AddsPage : State → WholeNode → Result (ℕ × Token) Error → State → Type 0
+AddsPage s node answer t =
+    MatchBool (length s.pages == 2 ^ MAX_PID_BITS)
+    (IsRefused s answer t (Unsupported PagesUsedUp))
+    (Does s answer t (λ made. (made.0 ≡ length s.pages) × (made.1 ≡ token (length s.pages) 1) × (t ≡ record s { pages = s.pages ++ page 1 (Node node) ∷ [] })))
+
+abbrev pub ReusesPage : State → WholeNode → Token → Result (ℕ × Token) Error → State → Type 0
+ReusesPage s node free answer t =
+    UnlessLastStamp s free.stamp answer t
+    (Does s answer t (λ made. (made.0 ≡ free.pid) × (made.1 ≡ token free.pid (free.stamp + 1)) × (t ≡ with_page s free.pid (page (free.stamp + 1) (Node node)))))
+
+abbrev pub Allocates : State → WholeNode → Result (ℕ × Token) Error → State → Type 0
+Allocates s node answer t = UnlessFaulty s answer t (MatchOption (greatest_free 0 s.pages) (AddsPage s node answer t) (λ free. ReusesPage s node free answer t))
+
+-- ---- get: the node and the token of a page, and none where the page is absent or free
+
+abbrev pub FindsContent : State → ℕ → ℕ → Content → Result (Option (Token × WholeNode)) Error → State → Type 0
+FindsContent s pid stamp Free answer t = (answer ≡ Ok None) × (t ≡ s)
+FindsContent s pid stamp (Node node) answer t = (answer ≡ Ok (Some (token pid stamp, node))) × (t ≡ s)
+FindsContent s pid stamp (Counter n) answer t = IsCorruption s answer t
+FindsContent s pid stamp (Roots roots) answer t = IsCorruption s answer t
+
+abbrev pub Finds : State → ℕ → Option Page → Result (Option (Token × WholeNode)) Error → State → Type 0
+Finds s pid None answer t = (answer ≡ Ok None) × (t ≡ s)
+Finds s pid (Some found) answer t = FindsContent s pid found.stamp found.content answer t
+
+abbrev pub Gets : State → ℕ → Result (Option (Token × WholeNode)) Error → State → Type 0
+Gets s pid answer t = UnlessFaulty s answer t (UnlessReserved s pid answer t (Finds s pid (page_at s pid) answer t))
+
+-- ---- link: at the page's present stamp a link that its node accepts is applied, and the stamp rises by one
+
+abbrev pub Swapped : Type 0 → Type 0
+Swapped Rejected = Result (Result Token (Option (Token × Rejected))) Error
+
+-- the page is absent or free
+abbrev pub IsGone : {R : Type 0} → State → Swapped R → State → Type 0
+IsGone s answer t = (answer ≡ Ok (Err None)) × (t ≡ s)
+
+-- at another stamp the present token comes back, with the rejected change
+abbrev pub UnlessStale : {R : Type 0} → State → Token → R → ℕ → Swapped R → State → Type 0 → Type 0
+UnlessStale s old rejected stamp answer t goes_on =
+    MatchBool (stamp == old.stamp) goes_on ((answer ≡ Ok (Err (Some (token old.pid stamp, rejected)))) × (t ≡ s))
+
+-- the page has a new content at its next stamp
+abbrev pub IsSwapped : State → Token → Content → {R : Type 0} → Result Token (Option (Token × R)) → State → Type 0
+IsSwapped s old content answer t = (answer ≡ Ok (token old.pid (old.stamp + 1))) × (t ≡ with_page s old.pid (page (old.stamp + 1) content))
+
+abbrev pub LinksNode : State → Token → NodeLink → WholeNode → Swapped NodeLink → State → Type 0
+LinksNode s old link node answer t =
+    (Accepts node link × UnlessLastStamp s old.stamp answer t (Does s answer t (λ swapped. IsSwapped s old (Node (applied link node)) swapped t)))
+    ⊎ ((¬ Accepts node link) × IsRefused s answer t (ReportableBug LinkRefused))
+
+abbrev pub LinksContent : State → Token → NodeLink → ℕ → Content → Swapped NodeLink → State → Type 0
+LinksContent s old link stamp Free answer t = IsGone s answer t
+LinksContent s old link stamp (Node node) answer t = UnlessStale s old link stamp answer t (LinksNode s old link node answer t)
+LinksContent s old link stamp (Counter n) answer t = UnlessStale s old link stamp answer t (IsCorruption s answer t)
+LinksContent s old link stamp (Roots roots) answer t = UnlessStale s old link stamp answer t (IsCorruption s answer t)
+
+abbrev pub LinksPage : State → Token → NodeLink → Option Page → Swapped NodeLink → State → Type 0
+LinksPage s old link None answer t = IsGone s answer t
+LinksPage s old link (Some found) answer t = LinksContent s old link found.stamp found.content answer t
+
+abbrev pub Links : State → Token → NodeLink → Swapped NodeLink → State → Type 0
+Links s old link answer t = UnlessFaulty s answer t (UnlessReserved s old.pid answer t (LinksPage s old link (page_at s old.pid) answer t))
+
+-- ---- From s, the cache may give this answer to the call and go on to t.
+abbrev pub Step : State → Call → Answer → State → Type 0
+Step s (Allocate node) (Allocated answer) t = Allocates s node answer t
+Step s (Get pid) (Got answer) t = Gets s pid answer t
+Step s (Link old link) (Linked answer) t = Links s old link answer t
+-- a call gets no answer of another call
+Step s call answer t = ⊥
+
+-- the changes that a call with this answer writes to the log
+abbrev pub begun : Call → Answer → List Change
+begun (Allocate node) (Allocated (Ok made)) = Put made.0 (Node node) ∷ []
+begun (Link old link) (Linked (Ok (Ok made))) = changes.Linked old.pid link ∷ []
+begun call answer = []

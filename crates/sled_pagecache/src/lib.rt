@@ -1,0 +1,11 @@
+//! The page cache: a list of stamped pages over a log.
+#![tactic(auto)]
+
+pub mod pagecache;
+
+pub use pagecache::{Answer, Call, Config, MemLog, NodeView, PageCache, PageView};
+pub use sled_base::{self, Bug, Device, DiskPtr, Error, IVec, PageId, Refusal, Why};
+pub use sled_node::{self, Data, Index, Item, Leaf, Link, Node};
+
+#[cfg(test)]
+mod tests;

@@ -1,0 +1,264 @@
+//! The cache. Each call is one step of a machine.
+
+ghost use Rattle.std.specs.Prelude.{◌≡◌, ◌++◌, ◌+◌, ◌<◌, ◌^◌, ⊤, length, map, Ok, Err, IfOk, IfErr, OnOk, OnErr, slice_get, vec_len, vec_capacity};
+ghost use Rattle.std.specs.Borrow.{sem};
+ghost use Rattle.sled_base.specs.Errors.{error_of};
+ghost use Rattle.sled_node.specs.Links.{Accepts, applied};
+ghost use Rattle.sled_pagecache.specs.Kept.{IsReadable, page_of, content_of, change_of, changes_of};
+ghost use Rattle.sled_pagecache.specs.Linking.{IsLinked, RefusesLink, begun_by};
+ghost use Rattle.sled_pagecache.specs.Lending.{told, Rests};
+ghost use Rattle.sled_pagecache.specs.Opening.{fault_of, Opens, system_pages, system_changes};
+ghost use Rattle.sled_pagecache.specs.State as changes;
+ghost use Rattle.sled_pagecache.specs.Step.{Step, begun, is_reserved};
+ghost use Rattle.sled_pagecache.specs.Token.{pid_of};
+ghost use Rattle.sled_pagecache.specs.declared.pagecache.call.Call.TheVariants.{Allocate, Get};
+ghost use Rattle.sled_pagecache.specs.declared.pagecache.call.Call.TheVariants as call;
+ghost use Rattle.sled_pagecache.specs.declared.pagecache.call.Answer.TheVariants.{Allocated, Got, Linked};
+
+use super::config::Config;
+use super::log::{Change, MemLog};
+use super::page::{Content, Page};
+use super::view::{NodeView, PageView};
+use super::{BATCH_MANIFEST_PID, COUNTER_PID, MAX_PID_BITS, META_PID};
+use sled_base::{Bug, Error, PageId, Refusal, Why};
+use sled_node::{Link, Node};
+use std::alloc::{AllocError, Global};
+use std::marker::Model;
+
+/// The greatest number of pages.
+const MAX_PAGES: usize = 1 << MAX_PID_BITS;
+
+/// Stamped pages by their ids, over a log. Pages 0 and 1 are the cache's own.
+///
+/// Contracts see the pages as a plain list, whether they were found in the log, and the changes that the log holds.
+#[derive(Drop)]
+pub struct PageCache {
+    config: Config,
+    pages: Vec<Page>,
+    recovered: bool,
+    log: MemLog,
+}
+
+impl Model for PageCache {
+    ghost use Rattle.std.specs.Prelude.{false, map};
+    ghost use Rattle.std.specs.Coded.{codes};
+    ghost use Rattle.sled_pagecache.specs.State.{Cache, names_code};
+
+    ghost Value = { Cache };
+
+    ghost coded = { Prim.hlevel (codes, names_code) };
+
+    ghost use Rattle.sled_pagecache.specs.Kept.{page_of, changes_of};
+
+    ghost view = { λ c. record { state = record { pages = map page_of c.pages.items; next = 0; batch = false; fault = false }; recovered = c.recovered; log = changes_of c.log } };
+}
+
+impl PageCache {
+    /// Opens a cache over a log.
+    ///
+    /// The config is tested before the log is touched: `CapacityTooSmall` below a capacity of 256, `IntervalZero`, then
+    /// `SegmentZero`. At an error the log comes back as it was.
+    pub fn start(alloc: Global, config: Config, log: MemLog) -> Result<PageCache, (Error, MemLog)>
+        ensures { Opens (fault_of config) (changes_of log) result }
+    {
+        if config.cache_capacity < 256 {
+            return Err((Error::Unsupported(Why::CapacityTooSmall), log));
+        }
+        if config.idgen_persist_interval == 0 {
+            return Err((Error::Unsupported(Why::IntervalZero), log));
+        }
+        if config.segment_size == 0 {
+            return Err((Error::Unsupported(Why::SegmentZero), log));
+        }
+        let mut log = log;
+        match system_pages(alloc, &mut log) {
+            Ok(pages) => Ok(PageCache {
+                config,
+                pages,
+                recovered: false,
+                log,
+            }),
+            Err(_) => Err((Error::OutOfMemory, log)),
+        }
+    }
+
+    /// Whether both system pages were found in the log.
+    pub fn was_recovered(&self) -> bool
+        ensures { result ≡ self.now.recovered }
+    {
+        self.recovered
+    }
+
+    /// Puts a node on a page: the free page with the greatest id, or else a new one.
+    ///
+    /// A new page has stamp 1. `PagesUsedUp` comes where there are 2^37 pages. An error leaves the cache as it was.
+    pub fn allocate(&mut self, node: Node) -> Result<(PageId, PageView), Error>
+        ensures step { Step self.old.state (Allocate node) (Allocated result) self.new.state }
+        ensures logged { self.new.log ≡ self.old.log ++ begun (Allocate node) (Allocated result) }
+        ensures recovered { self.new.recovered ≡ self.old.recovered }
+    {
+        if self.pages.len() == MAX_PAGES {
+            return Err(Error::Unsupported(Why::PagesUsedUp));
+        }
+        let pid = self.pages.len() as PageId;
+        let message = prepare(&mut self.pages, &mut self.log, pid, &node)?;
+        self.log.add(message);
+        self.pages.push_reserved(Page {
+            stamp: 1,
+            content: Content::Node(node),
+        });
+        Ok((pid, PageView::new(pid, 1)))
+    }
+
+    /// The node of a page with the page's token, lent. None where the page is absent or free.
+    ///
+    /// `ReservedId` comes for the cache's own pages.
+    pub fn get(&mut self, pid: PageId) -> Result<Option<NodeView<'_>>, Refusal>
+        ensures step { Step self.old.state (Get pid) (Got (told result)) self.old.state }
+        ensures* rests { sem 𝓛 (Rests self.entry) }
+    {
+        self.check_kind(pid)?;
+        let found = self.node_at(pid);
+        Ok(found)
+    }
+
+    /// Applies a link to the node of a page that is still at the stamp of the token, and raises the stamp by one.
+    ///
+    /// At another stamp the page's present token comes back with the link; where the page is absent or free, nothing
+    /// does. In this order: `ReservedId` comes for the cache's own pages, `LinkRefused` where the node does not accept
+    /// the link, `StampUsedUp` where the stamp is the greatest. An error leaves the cache as it was.
+    pub fn link(
+        &mut self,
+        pid: PageId,
+        old: PageView,
+        link: Link,
+    ) -> Result<Result<PageView, Option<(PageView, Link)>>, Error>
+        requires { pid_of old ≡ pid }
+        ensures step { Step self.old.state (call.Link old link) (Linked result) self.new.state }
+        ensures logged { self.new.log ≡ self.old.log ++ begun (call.Link old link) (Linked result) }
+        ensures recovered { self.new.recovered ≡ self.old.recovered }
+    {
+        let count = self.pages.len() as PageId;
+        if is_reserved(pid) {
+            return Err(Error::Unsupported(Why::ReservedId));
+        }
+        if pid >= count {
+            return Ok(Err(None));
+        }
+        let page = &mut self.pages[pid as usize];
+        if page.stamp != old.ts() {
+            return Ok(Err(Some((PageView::new(pid, page.stamp), link))));
+        }
+        link_page(page, pid, &link, &mut self.log)?;
+        Ok(Ok(PageView::new(pid, old.ts() + 1)))
+    }
+
+    /// Ends the cache and hands its log back. Nothing is flushed.
+    pub fn into_log(self) -> MemLog
+        ensures { changes_of result ≡ self.log }
+    {
+        self.log
+    }
+
+    // Refuses a page that is the cache's own, and one of another kind than a node.
+    fn check_kind(&self, pid: PageId) -> Result<(), Refusal>
+        ensures ok { OnOk result (IsReadable self.now.state pid) }
+        ensures err { IfErr result (λ e. Step self.now.state (Get pid) (Got (Err (error_of e))) self.now.state) }
+    {
+        let page = self.pages.get(pid as usize);
+        if is_reserved(pid) {
+            return Err(Refusal::Unsupported(Why::ReservedId));
+        }
+        match page {
+            Some(
+                Page {
+                    content: Content::Counter(_) | Content::Roots,
+                    ..
+                },
+            ) => Err(Refusal::Corruption(None)),
+            _ => Ok(()),
+        }
+    }
+
+    // The node at an id, with the page's token.
+    fn node_at(&self, pid: PageId) -> Option<NodeView<'_>>
+        requires { IsReadable self.now.state pid }
+        ensures { Step self.now.state (Get pid) (Got (told (Ok result))) self.now.state }
+    {
+        let page = self.pages.get(pid as usize)?;
+        let Content::Node(node) = &page.content else {
+            return None;
+        };
+        Some(NodeView::new(node, PageView::new(pid, page.stamp)))
+    }
+}
+
+// Whether the page is the cache's own.
+fn is_reserved(pid: PageId) -> bool
+    ensures { result ≡ is_reserved pid }
+{
+    pid == META_PID || pid == COUNTER_PID || pid == BATCH_MANIFEST_PID
+}
+
+// The pages of the named roots and of the counter, at stamp 1, which are added to the log.
+fn system_pages(alloc: Global, log: &mut MemLog) -> Result<Vec<Page>, AllocError>
+    ensures ok { IfOk result (λ pages. map page_of pages.items ≡ system_pages) }
+    ensures logged { OnOk result (changes_of log.new ≡ changes_of log.old ++ system_changes) }
+    ensures err { OnErr result (changes_of log.new ≡ changes_of log.old) }
+{
+    let mut pages = Vec::with_capacity(alloc, 2)?;
+    log.make_room(2)?;
+    log.add(Change::Put(META_PID, Content::Roots));
+    log.add(Change::Put(COUNTER_PID, Content::Counter(0)));
+    pages.push_reserved(Page {
+        stamp: 1,
+        content: Content::Roots,
+    });
+    pages.push_reserved(Page {
+        stamp: 1,
+        content: Content::Counter(0),
+    });
+    Ok(pages)
+}
+
+// Makes room for a page and for its message, which it makes too.
+fn prepare(
+    pages: &mut Vec<Page>,
+    log: &mut MemLog,
+    pid: PageId,
+    node: &Node,
+) -> Result<Change, AllocError>
+    ensures message { IfOk result (λ message. change_of message ≡ changes.Put pid (changes.Node node.now)) }
+    ensures pages { pages.new.items ≡ pages.old.items }
+    ensures room { OnOk result (vec_len pages.new < vec_capacity pages.new) }
+    ensures log { changes_of log.new ≡ changes_of log.old }
+    ensures log_room { OnOk result (vec_len log.new.changes < vec_capacity log.new.changes) }
+{
+    pages.reserve(1)?;
+    log.make_room(1)?;
+    Ok(Change::Put(pid, Content::Node(node.clone()?)))
+}
+
+// Applies a link to the page with this id, and adds it to the log.
+fn link_page(page: &mut Page, pid: PageId, link: &Link, log: &mut MemLog) -> Result<(), Error>
+    ensures ok { OnOk result (IsLinked page.old.stamp (content_of page.old.content) link.now (page_of page.new)) }
+    ensures refused { IfErr result (RefusesLink page.old.stamp (content_of page.old.content) link.now) }
+    ensures err { OnErr result (page_of page.new ≡ page_of page.old) }
+    ensures logged { changes_of log.new ≡ changes_of log.old ++ begun_by result (changes.Linked pid link.now) }
+{
+    let Content::Node(node) = &mut page.content else {
+        return Err(Error::Corruption(None));
+    };
+    if !node.accepts(link) {
+        return Err(Error::ReportableBug(Bug::LinkRefused));
+    }
+    if page.stamp == u64::MAX {
+        return Err(Error::Unsupported(Why::StampUsedUp));
+    }
+    log.make_room(1)?;
+    let message = Change::Link(pid, link.clone()?);
+    node.apply(link)?;
+    page.stamp += 1;
+    log.add(message);
+    Ok(())
+}

@@ -1,0 +1,21 @@
+//! The calls of the page cache, and their answers.
+
+use super::view::PageView;
+use sled_base::{Error, PageId};
+use sled_node::{Link, Node};
+
+/// A call of the page cache, with its arguments. A swap names its page by its token.
+#[derive(Debug, Drop)]
+pub enum Call {
+    Allocate(Node),
+    Get(PageId),
+    Link(PageView, Link),
+}
+
+/// What a call answered.
+#[derive(Debug, Drop)]
+pub enum Answer {
+    Allocated(Result<(PageId, PageView), Error>),
+    Got(Result<Option<(PageView, Node)>, Error>),
+    Linked(Result<Result<PageView, Option<(PageView, Link)>>, Error>),
+}

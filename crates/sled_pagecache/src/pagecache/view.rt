@@ -1,0 +1,66 @@
+//! What the cache hands out: tokens, and nodes that it lends.
+
+ghost use Rattle.std.specs.Prelude.{◌≡◌};
+ghost use Rattle.sled_pagecache.specs.Token.{token, pid_of, stamp_of};
+
+use sled_base::PageId;
+use sled_node::Node;
+
+/// The token of a page: its id, and a stamp that the page had.
+///
+/// Each change of a page raises its stamp, so a token stands for one version of a page. It is plain data: a token of an
+/// earlier opening is judged by its stamp alone.
+#[derive(Clone, Copy, Debug, PartialEq, Eq)]
+pub struct PageView {
+    pid: PageId,
+    stamp: u64,
+}
+
+impl PageView {
+    pub fn new(pid: PageId, ts: u64) -> PageView
+        ensures { result ≡ token pid ts }
+    {
+        PageView { pid, stamp: ts }
+    }
+
+    pub fn pid(self) -> PageId
+        ensures { result ≡ pid_of self }
+    {
+        self.pid
+    }
+
+    /// The stamp.
+    pub fn ts(self) -> u64
+        ensures { result ≡ stamp_of self }
+    {
+        self.stamp
+    }
+}
+
+/// A node that the cache lends, with its token.
+#[derive(Clone, Copy, Debug)]
+pub struct NodeView<'a> {
+    node: &'a Node,
+    token: PageView,
+}
+
+impl<'a> NodeView<'a> {
+    pub(super) fn new(node: &'a Node, token: PageView) -> NodeView<'a>
+        ensures node { result.node.now ≡ node.now }
+        ensures token { result.token ≡ token }
+    {
+        NodeView { node, token }
+    }
+
+    pub fn node(&self) -> &'a Node
+        ensures { result.now ≡ self.now.node.now }
+    {
+        self.node
+    }
+
+    pub fn token(&self) -> PageView
+        ensures { result ≡ self.now.token }
+    {
+        self.token
+    }
+}

@@ -1,0 +1,10 @@
+pub mod Numbers
+pub mod Cut
+pub mod Words
+pub mod Written
+pub mod LinesOf
+pub mod Entries
+pub mod Answered
+pub mod Spelled
+pub mod Commands
+pub mod Leaves

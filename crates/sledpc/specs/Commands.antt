@@ -1,0 +1,37 @@
+-- Which call a line of the script asks for.
+use Rattle.std.specs.Prelude.{◌≡◌, ◌<◌, ◌≤◌, ◌^◌, List, [], ◌∷◌, length, map, codes}
+use Rattle.std.specs.Fmt.{decimal}
+use Rattle.std.specs.List.{join_with_byte}
+use Rattle.sled_base.specs.Order.{Bytes}
+use Rattle.sled_node.specs.Node.{Value, WholeNode, leaf_of}
+use Rattle.sled_node.specs.Pairs.{IsWithinLimit, HasPairs}
+use Rattle.sled_node.specs.declared.node.link.Link.TheVariants.{Set, Del, ParentMergeIntention, ParentMergeConfirm, ChildMergeCap}
+use Rattle.sled_pagecache.specs.Token.{Token, pid_of, stamp_of}
+use Rattle.sled_pagecache.specs.declared.pagecache.call.Call.{Call}
+use Rattle.sled_pagecache.specs.declared.pagecache.call.Call.TheVariants.{Allocate, Get, Link}
+use Rattle.sledpc.specs.Words.{bytes_word, pair_word, AreBytes, ArePairs}
+use Rattle.sledpc.specs.declared.lines.TheConstants.{MAX_LINE}
+
+-- a leaf of these pairs over all keys: the keys rise strictly, and the limits of a node hold
+pub record IsLeafOf (pairs : List (Bytes × Bytes)) (node : WholeNode) : Type 0 where
+  pub bytes : ArePairs pairs
+  pub fits : HasPairs IsWithinLimit pairs
+  pub leaf : node ≡ leaf_of (map (λ pair. (pair.0, Value pair.1)) pairs)
+
+-- a token whose parts are numbers of the script
+abbrev pub IsToken : Token → Type 0
+IsToken token = (pid_of token < 2 ^ 64) × (stamp_of token < 2 ^ 64)
+
+-- the words ask for this call
+abbrev pub Asks : List Bytes → Call → Type 0
+Asks words (Allocate node) = (pairs : List (Bytes × Bytes)) × IsLeafOf pairs node × (words ≡ codes "alloc" ∷ map pair_word pairs)
+Asks words (Get pid) = (pid < 2 ^ 64) × (words ≡ codes "get" ∷ decimal pid ∷ [])
+Asks words (Link old (Set key value)) = IsToken old × AreBytes key × AreBytes value × (words ≡ codes "set" ∷ decimal (pid_of old) ∷ decimal (stamp_of old) ∷ bytes_word key ∷ bytes_word value ∷ [])
+Asks words (Link old (Del key)) = ⊥
+Asks words (Link old (ParentMergeIntention page)) = ⊥
+Asks words (Link old ParentMergeConfirm) = ⊥
+Asks words (Link old ChildMergeCap) = ⊥
+
+-- the line has such words, with single spaces between them
+abbrev pub Spells : Bytes → Call → Type 0
+Spells line call = (length line ≤ MAX_LINE) × ((words : List Bytes) × Asks words call × (line ≡ join_with_byte 32 words))

@@ -1,0 +1,11 @@
+pub mod Words
+pub mod Cut
+pub mod Lines
+pub mod NextByte
+pub mod Output
+pub mod Commands
+pub mod Replies
+pub mod Told
+pub mod Runs
+pub mod Served
+pub mod Asked

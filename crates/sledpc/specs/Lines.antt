@@ -1,0 +1,29 @@
+-- The lines of an input.
+use Rattle.std.specs.Prelude.{◌≡◌, ℕ, ◌<◌, ◌≤◌, ◌==◌, List, [], ◌∷◌, length, Option, None, Some, Result, Ok, Err, ⊤, if◌then◌else◌}
+use Rattle.sled_base.specs.Order.{Bytes}
+use Rattle.sledpc.specs.declared.lines.TheConstants.{MAX_LINE}
+use Rattle.sledpc.specs.declared.lines.Line.{Line}
+use Rattle.sledpc.specs.declared.lines.Line.TheVariants as read
+
+-- a byte in front of the first line, where there is one
+abbrev pub onto_first : ℕ → List Bytes → List Bytes
+onto_first byte [] = (byte ∷ []) ∷ []
+onto_first byte (line ∷ lines) = (byte ∷ line) ∷ lines
+
+-- A line ends at a newline, which is no part of it, or at the end of the input where bytes stand before that.
+abbrev pub lines_of : Bytes → List Bytes
+lines_of [] = []
+lines_of (byte ∷ bytes) = if byte == 10 then [] ∷ lines_of bytes else onto_first byte (lines_of bytes)
+
+-- What reading a line of the input found, which bytes it kept, and what it left: the end, a line, or a line that is too long to be kept.
+abbrev pub FindsLine : Bytes → Line → Bytes → Bytes → Type 0
+FindsLine input read.End kept rest = (input ≡ []) × (rest ≡ [])
+FindsLine input read.Whole kept rest = (length kept ≤ MAX_LINE) × (lines_of input ≡ kept ∷ lines_of rest)
+FindsLine input read.TooLong kept rest = (line : Bytes) × (MAX_LINE < length line) × (lines_of input ≡ line ∷ lines_of rest)
+
+-- the same, where the reader tells its bytes; a refusal says nothing
+abbrev pub ReadsLine : {E : Type 0} → Option Bytes → Option Bytes → Result Line E → Bytes → Type 0
+ReadsLine None new result kept = ⊤
+ReadsLine (Some input) (Some rest) (Ok line) kept = FindsLine input line kept rest
+ReadsLine (Some input) None (Ok line) kept = ⊥
+ReadsLine (Some input) new (Err e) kept = ⊤

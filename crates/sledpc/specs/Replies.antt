@@ -1,0 +1,45 @@
+-- The reply to an answer.
+use Rattle.std.specs.Prelude.{◌≡◌, ℕ, Bool, List, [], ◌∷◌, ◌++◌, Option, None, Some, Result, Ok, Err, codes, flat_map, if◌then◌else◌}
+use Rattle.std.specs.Fmt.{decimal}
+use Rattle.sled_base.specs.Errors.{number_of_why, number_of_bug}
+use Rattle.sled_base.specs.Order.{Bytes}
+use Rattle.sled_base.specs.declared.types.Device.TheVariants.{Read, Write}
+use Rattle.sled_base.specs.declared.types.Error.{Error}
+use Rattle.sled_base.specs.declared.types.Error.TheVariants.{CollectionNotFound, Unsupported, ReportableBug, Io, Corruption, OutOfMemory}
+use Rattle.sled_node.specs.Node.{Item, Value, Child, WholeNode}
+use Rattle.sled_pagecache.specs.Token.{stamp_of}
+use Rattle.sled_pagecache.specs.declared.pagecache.call.Answer.{Answer}
+use Rattle.sled_pagecache.specs.declared.pagecache.call.Answer.TheVariants.{Allocated, Got, Linked}
+use Rattle.sledpc.specs.Words.{bytes_word}
+
+abbrev pub error_text : Error → Bytes
+error_text (CollectionNotFound name) = codes "error collection"
+error_text (Unsupported why) = codes "error unsupported " ++ decimal (number_of_why why)
+error_text (ReportableBug bug) = codes "error bug " ++ decimal (number_of_bug bug)
+error_text (Io Read) = codes "error read"
+error_text (Io Write) = codes "error write"
+error_text (Corruption pointer) = codes "error corruption"
+error_text OutOfMemory = codes "error memory"
+
+abbrev pub item_word : Item → Bytes
+item_word (Value value) = bytes_word value
+item_word (Child page) = decimal page
+
+-- a space, the whole key, an equals sign, and the value or the page
+abbrev pub entry_text : Bytes × Item → Bytes
+entry_text pair = 32 ∷ bytes_word pair.0 ++ codes "=" ++ item_word pair.1
+
+-- the kind of a node, its stamp, and its pairs
+abbrev pub node_text : ℕ → WholeNode → Bytes
+node_text stamp node = (if node.is_index then codes "index " else codes "leaf ") ++ decimal stamp ++ flat_map entry_text node.pairs
+
+abbrev pub reply_of : Answer → Bytes
+reply_of (Allocated (Ok made)) = codes "page " ++ decimal made.0 ++ codes " " ++ decimal (stamp_of made.1)
+reply_of (Allocated (Err e)) = error_text e
+reply_of (Got (Ok None)) = codes "none"
+reply_of (Got (Ok (Some found))) = node_text (stamp_of found.0) found.1
+reply_of (Got (Err e)) = error_text e
+reply_of (Linked (Ok (Ok made))) = codes "ok " ++ decimal (stamp_of made)
+reply_of (Linked (Ok (Err None))) = codes "gone"
+reply_of (Linked (Ok (Err (Some back)))) = codes "stale " ++ decimal (stamp_of back.0)
+reply_of (Linked (Err e)) = error_text e

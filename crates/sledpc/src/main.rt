@@ -1,0 +1,32 @@
+//! A page cache behind a script: lines in, reply lines out.
+#![tactic(auto)]
+
+mod lines;
+mod output;
+mod program;
+mod script;
+
+use program::drive;
+use std::env;
+use std::process::ExitCode;
+
+fn main(rt: HostRuntime) -> ExitCode {
+    let words = words_of(&rt);
+    let status = drive(
+        rt.alloc(),
+        words.as_ref().map(|words| words.as_slice()),
+        &mut rt.reader(),
+        &mut rt.stdout(),
+        &mut rt.stderr(),
+    );
+    ExitCode::from(status)
+}
+
+// The words after the program's own path, or none where they are no text.
+fn words_of(rt: &HostRuntime) -> Option<Vec<String>> {
+    let words = env::args(rt).ok()?;
+    words.skip(1).collect(rt.alloc()).ok()
+}
+
+#[cfg(test)]
+mod tests;

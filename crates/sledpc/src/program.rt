@@ -1,0 +1,103 @@
+//! The program: its words, its streams and its status.
+
+use crate::script::run::{RunError, run};
+use sled_pagecache::{Config, Error, MemLog, PageCache};
+use std::alloc::Global;
+use std::io::{BufReader, BufWriter, Read, Write};
+
+/// The script ended with its input.
+const DONE: u8 = 0;
+
+/// An opening, a stream or the memory failed.
+const FAILED: u8 = 1;
+
+/// The words were no command.
+const WRONG_WORDS: u8 = 2;
+
+const USAGE: &str = "usage: sledpc mem | file PATH | crew N M\n";
+
+/// The settings of every cache that the program opens.
+const CONFIG: Config = Config {
+    cache_capacity: 1_048_576,
+    idgen_persist_interval: 10,
+    segment_size: 4096,
+};
+
+/// Payloads above this many bytes are blobs.
+const BLOB_LIMIT: usize = 512;
+
+/// A page is moved for so many messages.
+const CLEAN_EVERY: u64 = 16;
+
+/// What the words ask for.
+enum Job {
+    /// `mem`: the script over a new log in memory.
+    Memory,
+}
+
+/// Why a job failed.
+#[derive(Debug, Drop, thiserror::Error)]
+enum Fault {
+    #[error(transparent)]
+    Opening(Error),
+    #[error(transparent)]
+    Run(RunError),
+}
+
+/// Runs the program, and answers its status: 0 where the script ended, 1 where an opening, a stream or the memory
+/// failed, and 2 where the words are wrong.
+///
+/// `words` are those after the program's own path, or none where the system's words are no text. What went wrong is
+/// told to `faults` in one line.
+pub fn drive<R: Read, W: Write, F: Write>(
+    alloc: Global,
+    words: Option<&[String]>,
+    reader: &mut R,
+    writer: &mut W,
+    faults: &mut F,
+) -> u8 {
+    let Some(job) = words.and_then(job_of) else {
+        let _ = faults.write_all(USAGE.as_bytes());
+        return WRONG_WORDS;
+    };
+    let outcome = match job {
+        Job::Memory => serve_memory(alloc, reader, writer),
+    };
+    match outcome {
+        Ok(()) => DONE,
+        Err(fault) => {
+            let _ = writeln!(faults, "sledpc: {fault}");
+            FAILED
+        }
+    }
+}
+
+fn job_of(words: &[String]) -> Option<Job> {
+    match words {
+        [word] if word.as_str() == "mem" => Some(Job::Memory),
+        _ => None,
+    }
+}
+
+// Runs the script over a new log in memory.
+fn serve_memory<R: Read, W: Write>(
+    alloc: Global,
+    reader: &mut R,
+    writer: &mut W,
+) -> Result<(), Fault> {
+    let log = MemLog::new(alloc, BLOB_LIMIT, CLEAN_EVERY);
+    let mut cache = match PageCache::start(alloc, CONFIG, log) {
+        Ok(cache) => cache,
+        Err((error, _)) => return Err(Fault::Opening(error)),
+    };
+    let Ok(mut input) = BufReader::new(alloc, reader) else {
+        return Err(Fault::Run(RunError::Memory));
+    };
+    let Ok(mut output) = BufWriter::new(alloc, writer) else {
+        return Err(Fault::Run(RunError::Memory));
+    };
+    run(alloc, &mut cache, &mut input, &mut output).map_err(Fault::Run)
+}
+
+#[cfg(test)]
+mod tests;

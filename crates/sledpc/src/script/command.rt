@@ -1,0 +1,103 @@
+//! From a line to the call that it asks for.
+
+ghost use Rattle.std.specs.Prelude.{◌≤◌, ◌≡◌, length, map, codes, IfOk, IfSome, IfNone};
+ghost use Rattle.std.specs.Option.{option_map, SomeIff};
+ghost use Rattle.sled_base.specs.Order.{Bytes};
+ghost use Rattle.sled_node.specs.Node.{Value, leaf_of};
+ghost use Rattle.sled_node.specs.Pairs.{IsWithinLimit, HasPairs};
+ghost use Rattle.sledpc.specs.Asked.{AsksBehind, AreFour};
+ghost use Rattle.sledpc.specs.Commands.{Spells};
+ghost use Rattle.sled_pagecache.specs.declared.pagecache.call.Call.{Call};
+
+use super::words::{bytes_of, first_word, number_of, pairs_of};
+use crate::lines::MAX_LINE;
+use sled_pagecache::{Call, Data, IVec, Leaf, Link, Node, PageView};
+use std::alloc::{AllocError, Global};
+
+/// The call that a line asks for, or none where it is no command.
+pub fn call_of(alloc: Global, line: &[u8]) -> Result<Option<Call>, AllocError>
+    requires { length line.now ≤ MAX_LINE }
+    ensures some { IfOk result (λ found. IfSome found (Spells line.now)) }
+    ensures none { IfOk result (λ found. IfNone found ((call : Call) → ¬ Spells line.now call)) }
+{
+    let (name, arguments) = first_word(line);
+    match name {
+        b"alloc" => allocate_of(alloc, arguments),
+        b"get" => Ok(get_of(arguments)),
+        b"set" => set_of(alloc, arguments),
+        _ => Ok(None),
+    }
+}
+
+// `alloc PAIRS`: the leaf of these pairs.
+fn allocate_of(alloc: Global, arguments: Option<&[u8]>) -> Result<Option<Call>, AllocError>
+    ensures some { IfOk result (λ found. IfSome found (AsksBehind (codes "alloc") (option_map (λ rest. rest.now) arguments.entry))) }
+    ensures none { IfOk result (λ found. IfNone found ((call : Call) → ¬ AsksBehind (codes "alloc") (option_map (λ rest. rest.now) arguments.entry) call)) }
+{
+    let Some(pairs) = pairs_of(alloc, arguments)? else {
+        return Ok(None);
+    };
+    let Some(node) = leaf_of(alloc, pairs)? else {
+        return Ok(None);
+    };
+    Ok(Some(Call::Allocate(node)))
+}
+
+// The leaf of these pairs over all keys, or none where a leaf can't hold them.
+fn leaf_of(alloc: Global, pairs: Vec<(IVec, IVec)>) -> Result<Option<Node>, AllocError>
+    ensures { IfOk result (λ node. SomeIff node (HasPairs IsWithinLimit pairs.items) (leaf_of (map (λ pair. (pair.0, Value pair.1)) pairs.items))) }
+{
+    let Some(leaf) = Leaf::from_pairs(alloc, pairs)? else {
+        return Ok(None);
+    };
+    let (lo, hi) = (IVec::default(), IVec::default());
+    let contents = Data::Leaf(leaf);
+    Ok(Node::from_parts(0, None, None, false, lo, hi, contents))
+}
+
+// `get ID`
+fn get_of(arguments: Option<&[u8]>) -> Option<Call>
+    ensures some { IfSome result (AsksBehind (codes "get") (option_map (λ rest. rest.now) arguments.entry)) }
+    ensures none { IfNone result ((call : Call) → ¬ AsksBehind (codes "get") (option_map (λ rest. rest.now) arguments.entry) call) }
+{
+    let pid = number_of(arguments?)?;
+    Some(Call::Get(pid))
+}
+
+// `set ID STAMP KEY VALUE`
+fn set_of(alloc: Global, arguments: Option<&[u8]>) -> Result<Option<Call>, AllocError>
+    ensures some { IfOk result (λ found. IfSome found (AsksBehind (codes "set") (option_map (λ rest. rest.now) arguments.entry))) }
+    ensures none { IfOk result (λ found. IfNone found ((call : Call) → ¬ AsksBehind (codes "set") (option_map (λ rest. rest.now) arguments.entry) call)) }
+{
+    let Some((pid, stamp, key, value)) = four_words(arguments) else {
+        return Ok(None);
+    };
+    let Some(pid) = number_of(pid) else {
+        return Ok(None);
+    };
+    let Some(stamp) = number_of(stamp) else {
+        return Ok(None);
+    };
+    let Some(key) = bytes_of(alloc, key)? else {
+        return Ok(None);
+    };
+    let Some(value) = bytes_of(alloc, value)? else {
+        return Ok(None);
+    };
+    let old = PageView::new(pid, stamp);
+    Ok(Some(Call::Link(old, Link::Set(key, value))))
+}
+
+// The first three words, and all that stands behind the space after them.
+fn four_words(arguments: Option<&[u8]>) -> Option<(&[u8], &[u8], &[u8], &[u8])>
+    ensures some { IfSome result (λ words. AreFour (option_map (λ rest. rest.now) arguments.entry) words.0.now words.1.now words.2.now words.3.now) }
+    ensures none { IfNone result ((first second third rest : Bytes) → ¬ AreFour (option_map (λ rest. rest.now) arguments.entry) first second third rest) }
+{
+    let (first, rest) = first_word(arguments?);
+    let (second, rest) = first_word(rest?);
+    let (third, rest) = first_word(rest?);
+    Some((first, second, third, rest?))
+}
+
+#[cfg(test)]
+mod tests;

@@ -1,0 +1,148 @@
+//! From an answer to the line that replies to it.
+
+ghost use Rattle.std.specs.Prelude.{◌≡◌, ◌<◌, ◌≤◌, [], ◌∷◌, ◌++◌, length, codes, flat_map, take, if◌then◌else◌};
+ghost use Rattle.std.specs.Fmt.{decimal};
+ghost use Rattle.sled_node.specs.Parts.{item_of};
+ghost use Rattle.sledpc.specs.Output.{Writes};
+ghost use Rattle.sledpc.specs.Replies.{entry_text, error_text, item_word, node_text, reply_of};
+ghost use Rattle.sledpc.specs.Told.{answer_of};
+ghost use Rattle.sledpc.specs.Words.{bytes_word};
+
+use crate::output::{write_bytes_word, write_number, write_text};
+use sled_pagecache::{Device, Error, Item, Link, Node, NodeView, PageId, PageView, Refusal};
+use std::io;
+use std::io::Write;
+
+/// What a call of the cache answered, lent.
+#[derive(Clone, Copy)]
+pub enum Told<'a> {
+    Allocated(&'a Result<(PageId, PageView), Error>),
+    Got(Result<Option<NodeView<'a>>, Refusal>),
+    Linked(&'a Result<Result<PageView, Option<(PageView, Link)>>, Error>),
+}
+
+/// Writes the reply to an answer as a line.
+pub fn write_line<W: Write>(writer: &mut W, told: Told<'_>) -> io::Result<()>
+    ensures { Writes (W.contents writer.old) (W.contents writer.new) result (reply_of (answer_of told.entry) ++ 10 ∷ []) }
+{
+    write_reply(writer, told)?;
+    write_text(writer, b"\n")
+}
+
+// Writes the reply to an answer, without a newline.
+fn write_reply<W: Write>(writer: &mut W, told: Told<'_>) -> io::Result<()>
+    ensures { Writes (W.contents writer.old) (W.contents writer.new) result (reply_of (answer_of told.entry)) }
+{
+    match told {
+        Told::Allocated(Ok((pid, token))) => write_page(writer, *pid, token.ts()),
+        Told::Got(Ok(Some(view))) => write_node(writer, view.token().ts(), view.node()),
+        Told::Got(Ok(None)) => write_text(writer, b"none"),
+        Told::Linked(Ok(Ok(token))) => write_labelled(writer, b"ok ", token.ts()),
+        Told::Linked(Ok(Err(Some((token, _))))) => write_labelled(writer, b"stale ", token.ts()),
+        Told::Linked(Ok(Err(None))) => write_text(writer, b"gone"),
+        Told::Allocated(Err(error)) | Told::Linked(Err(error)) => write_error(writer, error),
+        Told::Got(Err(refusal)) => write_error(writer, &Error::from(refusal)),
+    }
+}
+
+fn write_labelled<W: Write>(writer: &mut W, label: &[u8], number: u64) -> io::Result<()>
+    ensures { Writes (W.contents writer.old) (W.contents writer.new) result (label.now ++ decimal number) }
+{
+    write_text(writer, label)?;
+    write_number(writer, number)
+}
+
+fn write_page<W: Write>(writer: &mut W, pid: PageId, stamp: u64) -> io::Result<()>
+    ensures { Writes (W.contents writer.old) (W.contents writer.new) result (codes "page " ++ decimal pid ++ codes " " ++ decimal stamp) }
+{
+    write_labelled(writer, b"page ", pid)?;
+    write_labelled(writer, b" ", stamp)
+}
+
+fn write_error<W: Write>(writer: &mut W, error: &Error) -> io::Result<()>
+    ensures { Writes (W.contents writer.old) (W.contents writer.new) result (error_text error.now) }
+{
+    match error {
+        Error::CollectionNotFound(_) => write_text(writer, b"error collection"),
+        Error::Unsupported(why) => {
+            write_labelled(writer, b"error unsupported ", u64::from(why.number()))
+        }
+        Error::ReportableBug(bug) => {
+            write_labelled(writer, b"error bug ", u64::from(bug.number()))
+        }
+        Error::Io(Device::Read) => write_text(writer, b"error read"),
+        Error::Io(Device::Write) => write_text(writer, b"error write"),
+        Error::Corruption(_) => write_text(writer, b"error corruption"),
+        Error::OutOfMemory => write_text(writer, b"error memory"),
+    }
+}
+
+fn write_node<W: Write>(writer: &mut W, stamp: u64, node: &Node) -> io::Result<()>
+    ensures { Writes (W.contents writer.old) (W.contents writer.new) result (node_text stamp node.now) }
+{
+    write_labelled(writer, label_of(node), stamp)?;
+    write_entries(writer, node)
+}
+
+// What a reply calls the node.
+fn label_of(node: &Node) -> &'static [u8]
+    ensures { result.now ≡ (if node.now.is_index then codes "index " else codes "leaf ") }
+{
+    if node.is_index() { b"index " } else { b"leaf " }
+}
+
+fn write_entries<W: Write>(writer: &mut W, node: &Node) -> io::Result<()>
+    ensures { Writes (W.contents writer.old) (W.contents writer.new) result (flat_map entry_text node.now.pairs) }
+{
+    let front = front_of(node);
+    for i in 0..node.len() {
+        let (rest, item) = node.pair(i);
+        write_entry(writer, front, rest, item)?;
+    }
+    Ok(())
+}
+
+// The bytes that the stored keys lack.
+fn front_of(node: &Node) -> &[u8]
+    ensures { result.now ≡ take node.now.prefix_len node.now.lo }
+{
+    &node.lo().as_slice()[..node.prefix_len() as usize]
+}
+
+// Writes a space, the whole key, of which the front and the rest are given, an equals sign, and the item.
+fn write_entry<W: Write>(
+    writer: &mut W,
+    front: &[u8],
+    rest: &[u8],
+    item: Item<'_>,
+) -> io::Result<()>
+    ensures { Writes (W.contents writer.old) (W.contents writer.new) result (entry_text (front.now ++ rest.now, item_of item.entry)) }
+{
+    write_text(writer, b" ")?;
+    write_key(writer, front, rest)?;
+    write_text(writer, b"=")?;
+    write_item(writer, item)
+}
+
+// Writes a whole key, of which the front and the rest are given.
+fn write_key<W: Write>(writer: &mut W, front: &[u8], rest: &[u8]) -> io::Result<()>
+    ensures { Writes (W.contents writer.old) (W.contents writer.new) result (bytes_word (front.now ++ rest.now)) }
+{
+    if front.is_empty() {
+        return write_bytes_word(writer, rest);
+    }
+    if rest.is_empty() {
+        return write_bytes_word(writer, front);
+    }
+    write_bytes_word(writer, front)?;
+    write_bytes_word(writer, rest)
+}
+
+fn write_item<W: Write>(writer: &mut W, item: Item<'_>) -> io::Result<()>
+    ensures { Writes (W.contents writer.old) (W.contents writer.new) result (item_word (item_of item.entry)) }
+{
+    match item {
+        Item::Value(value) => write_bytes_word(writer, value),
+        Item::Child(page) => write_number(writer, page),
+    }
+}

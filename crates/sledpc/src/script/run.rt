@@ -1,0 +1,113 @@
+//! The engine: it reads lines, and writes the replies to them.
+
+ghost use Rattle.std.specs.Prelude.{◌≡◌, ◌≤◌, ◌++◌, [], ◌∷◌, length, codes, IfOk, IfSome, IfNone, IfErr};
+ghost use Rattle.sledpc.specs.Commands.{Spells};
+ghost use Rattle.sledpc.specs.Output.{Writes};
+ghost use Rattle.sledpc.specs.Runs.{Serves};
+ghost use Rattle.sledpc.specs.Served.{RepliesTo, RepliesLine};
+ghost use Rattle.sled_pagecache.specs.declared.pagecache.call.Call.{Call};
+
+use super::command::call_of;
+use super::reply::{Told, write_line};
+use crate::lines::{Line, MAX_LINE, ReadError, read_line};
+use crate::output::write_text;
+use sled_pagecache::{Call, PageCache};
+use std::alloc::{AllocError, Global};
+use std::io;
+use std::io::{BufRead, Write};
+use thiserror::Error;
+
+/// Why a run ended before its input did.
+#[derive(Clone, Copy, Debug, PartialEq, Eq, Error)]
+pub enum RunError {
+    /// The input was not read.
+    #[error("error read")]
+    Read,
+    /// A reply was not written.
+    #[error("error write")]
+    Write,
+    /// Memory was wanting for a line or for its arguments.
+    #[error("error memory")]
+    Memory,
+}
+
+impl From<ReadError> for RunError {
+    fn from(error: ReadError) -> RunError {
+        match error {
+            ReadError::Read => RunError::Read,
+            ReadError::Memory => RunError::Memory,
+        }
+    }
+}
+
+impl From<AllocError> for RunError {
+    fn from(_error: AllocError) -> RunError {
+        RunError::Memory
+    }
+}
+
+impl From<io::Error> for RunError {
+    fn from(_error: io::Error) -> RunError {
+        RunError::Write
+    }
+}
+
+/// Makes the calls that the lines of the input ask for, and writes one reply line for each line.
+///
+/// A line that is no command, or is longer than 65,536 bytes, is answered by `error line` and changes nothing. At an
+/// error a beginning of the lines was answered, and of the replies to it a beginning was written. Apart from the pages
+/// and the log, at most one line is held in memory.
+pub fn run<R: BufRead, W: Write>(
+    alloc: Global,
+    cache: &mut PageCache,
+    reader: &mut R,
+    writer: &mut W,
+) -> Result<(), RunError>
+    ensures { Serves cache.old.state (R.remaining reader.old) (W.contents writer.old) (W.contents writer.new) result cache.new.state }
+{
+    let mut line = Vec::new(alloc);
+    for _ in 0..u64::MAX {
+        match read_line(reader, &mut line)? {
+            Line::End => return Ok(()),
+            Line::Whole => serve_line(alloc, cache, &line, writer)?,
+            Line::TooLong => write_text(writer, b"error line\n")?,
+        }
+        writer.flush()?;
+    }
+    Err(RunError::Read)
+}
+
+// Serves one line: its reply is written as a line.
+fn serve_line<W: Write>(
+    alloc: Global,
+    cache: &mut PageCache,
+    line: &[u8],
+    writer: &mut W,
+) -> Result<(), RunError>
+    requires { length line.now ≤ MAX_LINE }
+    ensures { RepliesLine cache.old.state line.now (W.contents writer.old) (W.contents writer.new) result cache.new.state }
+{
+    let Some(call) = call_of(alloc, line)? else {
+        write_text(writer, b"error line\n")?;
+        return Ok(());
+    };
+    serve_call(cache, call, writer)?;
+    Ok(())
+}
+
+// Makes a call, and writes the reply to its answer as a line.
+fn serve_call<W: Write>(cache: &mut PageCache, call: Call, writer: &mut W) -> io::Result<()>
+    ensures { RepliesTo cache.old.state call (W.contents writer.old) (W.contents writer.new) result cache.new.state }
+{
+    match call {
+        Call::Allocate(node) => {
+            let answer = cache.allocate(node);
+            write_line(writer, Told::Allocated(&answer))
+        }
+        Call::Get(pid) => write_line(writer, Told::Got(cache.get(pid))),
+        Call::Link(old, link) => {
+            let answer = cache.link(old.pid(), old, link);
+            write_line(writer, Told::Linked(&answer))
+        }
+    }
+}

@@ -1,0 +1,135 @@
+//! The words of a line, and what they spell.
+
+ghost use Rattle.std.specs.Prelude.{◌≡◌, ◌≢◌, ◌↔◌, ℕ, ◌/◌, ◌%◌, ◌<◌, ◌^◌, List, IsTrue, IfOk, IfSome, IfNone};
+ghost use Rattle.std.specs.Option.{option_map};
+ghost use Rattle.std.specs.Fmt.{decimal};
+ghost use Rattle.sled_base.specs.Order.{Bytes};
+ghost use Rattle.sledpc.specs.Cut.{HasPlainFront, IsCutAt};
+ghost use Rattle.sledpc.specs.Words.{AreBytes, ArePairs, IsPairOfBytes, hex_digit, bytes_word, pair_word, BeginsLine, SpellPairs};
+
+use sled_base::IVec;
+use std::alloc::{AllocError, Global};
+
+/// The word at the front of a line, and what follows the space behind it, if a space is there.
+pub fn first_word(line: &[u8]) -> (&[u8], Option<&[u8]>)
+    ensures { BeginsLine line.now result.0.now (option_map (λ rest. rest.now) result.1) }
+{
+    cut_at(line, b' ')
+}
+
+/// What stands before the first such byte, and what stands behind it, if the byte is there.
+fn cut_at(text: &[u8], mark: u8) -> (&[u8], Option<&[u8]>)
+    ensures { IsCutAt mark text.now result.0.now (option_map (λ rest. rest.now) result.1) }
+{
+    match text.iter().position(|byte| *byte == mark) {
+        Some(at) => (&text[..at], Some(&text[at + 1..])),
+        None => (text, None),
+    }
+}
+
+/// The number that the word spells: decimal digits without a leading zero, at most `u64::MAX`.
+pub fn number_of(word: &[u8]) -> Option<u64>
+    ensures some { IfSome result (λ n. word.now ≡ decimal n) }
+    ensures none { IfNone result ((n : ℕ) → n < 2 ^ 64 → word.now ≢ decimal n) }
+{
+    if !has_plain_front(word) {
+        return None;
+    }
+    match std::str::from_utf8(word) {
+        Ok(text) => text.parse().ok(),
+        Err(_) => None,
+    }
+}
+
+/// Whether no plus sign stands in front, and no zero in front of more.
+fn has_plain_front(word: &[u8]) -> bool
+    ensures { IsTrue result ↔ HasPlainFront word.now }
+{
+    match word {
+        [b'+', ..] | [b'0', _, ..] => false,
+        _ => true,
+    }
+}
+
+/// The value of a lower-case hexadecimal digit.
+fn hex_value(digit: u8) -> Option<u8>
+    ensures some { IfSome result (λ value. (value < 16) × (digit ≡ hex_digit value)) }
+    ensures none { IfNone result ((value : ℕ) → value < 16 → digit ≢ hex_digit value) }
+{
+    match digit {
+        b'0'..=b'9' => Some(digit - b'0'),
+        b'a'..=b'f' => Some(digit - b'a' + 10),
+        _ => None,
+    }
+}
+
+/// The byte that two hexadecimal digits spell.
+fn hex_byte(high: u8, low: u8) -> Option<u8>
+    ensures some { IfSome result (λ byte. (high ≡ hex_digit (byte / 16)) × (low ≡ hex_digit (byte % 16))) }
+    ensures none { IfNone result ((byte : ℕ) → byte < 256 → high ≡ hex_digit (byte / 16) → low ≢ hex_digit (byte % 16)) }
+{
+    Some(hex_value(high)? * 16 + hex_value(low)?)
+}
+
+/// The bytes that the word spells: lower-case hexadecimal, or `-` for none.
+pub fn bytes_of(alloc: Global, word: &[u8]) -> Result<Option<IVec>, AllocError>
+    ensures some { IfOk result (λ found. IfSome found (λ bytes. word.now ≡ bytes_word bytes)) }
+    ensures bytes { IfOk result (λ found. IfSome found AreBytes) }
+    ensures none { IfOk result (λ found. IfNone found ((bytes : Bytes) → AreBytes bytes → word.now ≢ bytes_word bytes)) }
+{
+    if word == b"-".as_slice() {
+        return Ok(Some(IVec::from_slice(alloc, &[])?));
+    }
+    if word.is_empty() || word.len() % 2 != 0 {
+        return Ok(None);
+    }
+    let mut bytes = Vec::with_capacity(alloc, word.len() / 2)?;
+    for index in 0..word.len() / 2 {
+        match hex_byte(word[2 * index], word[2 * index + 1]) {
+            Some(byte) => bytes.push(byte)?,
+            None => return Ok(None),
+        }
+    }
+    Ok(Some(IVec::from_slice(alloc, &bytes)?))
+}
+
+/// The key and the value that the word spells, with `=` between them.
+pub fn pair_of(alloc: Global, word: &[u8]) -> Result<Option<(IVec, IVec)>, AllocError>
+    ensures some { IfOk result (λ found. IfSome found (λ pair. word.now ≡ pair_word pair)) }
+    ensures bytes { IfOk result (λ found. IfSome found IsPairOfBytes) }
+    ensures none { IfOk result (λ found. IfNone found ((pair : Bytes × Bytes) → IsPairOfBytes pair → word.now ≢ pair_word pair)) }
+{
+    let (key, rest) = cut_at(word, b'=');
+    let Some(value) = rest else {
+        return Ok(None);
+    };
+    let Some(key) = bytes_of(alloc, key)? else {
+        return Ok(None);
+    };
+    let Some(value) = bytes_of(alloc, value)? else {
+        return Ok(None);
+    };
+    Ok(Some((key, value)))
+}
+
+/// The pairs that the words behind a command's name spell.
+pub fn pairs_of(
+    alloc: Global,
+    words: Option<&[u8]>,
+) -> Result<Option<Vec<(IVec, IVec)>>, AllocError>
+    ensures some { IfOk result (λ found. IfSome found (λ pairs. SpellPairs (option_map (λ rest. rest.now) words.entry) pairs.items)) }
+    ensures bytes { IfOk result (λ found. IfSome found (λ pairs. ArePairs pairs.items)) }
+    ensures none { IfOk result (λ found. IfNone found ((pairs : List (Bytes × Bytes)) → ArePairs pairs → ¬ SpellPairs (option_map (λ rest. rest.now) words.entry) pairs)) }
+{
+    let mut pairs = Vec::new(alloc);
+    let mut left = words;
+    while let Some(line) = left {
+        let (word, rest) = first_word(line);
+        let Some(pair) = pair_of(alloc, word)? else {
+            return Ok(None);
+        };
+        pairs.push(pair)?;
+        left = rest;
+    }
+    Ok(Some(pairs))
+}
