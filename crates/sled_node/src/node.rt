@@ -1,6 +1,6 @@
 //! Nodes: a range of keys, and the pairs whose keys lie in it.
 
-ghost use Rattle.std.specs.Prelude.{◌≡◌, ◌↔◌, ◌<◌, ◌≤◌, ◌^◌, length, Some, IsTrue, IfOk, OnOk, OnErr, slice_get};
+ghost use Rattle.std.specs.Prelude.{◌≡◌, ◌↔◌, ◌<◌, ◌≤◌, length, Some, IsTrue, OnOk, OnErr, slice_get};
 ghost use Rattle.std.specs.Option.{option_map, SomeIff};
 ghost use Rattle.std.specs.Int.NonZero.{non_zero_u64_get};
 ghost use Rattle.std.specs.Cmp.{partial_equiv_from_equiv};
@@ -52,10 +52,9 @@ impl Model for Node {
     ghost use Rattle.std.specs.Option.{option_map};
     ghost use Rattle.std.specs.Int.NonZero.{non_zero_u64_get};
     ghost use Rattle.sled_node.specs.Node.{WholeNode, IsWellFormed};
+    ghost use Rattle.sled_node.specs.Parts.{node_of};
 
     ghost Value = { WholeNode };
-
-    ghost use Rattle.sled_node.specs.Parts.{node_of};
 
     ghost view = { λ n. node_of n.prefix_len (option_map non_zero_u64_get n.next) (option_map non_zero_u64_get n.merging_child) n.merging n.lo n.hi n.contents };
 

@@ -1,17 +1,15 @@
 -- Steps of a cache, told of the pages that it keeps.
-use Rattle.std.proofs.Common.{◌≡◌, ◌≢◌, ◌==◌, ℕ, ◌+◌, ◌-◌, ◌^◌, ◌⊎◌, ◌≤◌, Bool, true, false, List, [], ◌∷◌, ◌++◌, length, map, get_or, Option, None, Some, Result, Ok, Err, refl, sym, ap, subst, ◌∙◌, inl, inr, eq-eqb, arith}
+use Rattle.std.proofs.Common.{◌≡◌, ◌==◌, ℕ, ◌+◌, ◌-◌, ◌^◌, ◌≤◌, true, false, List, [], ◌∷◌, ◌++◌, length, map, get_or, Option, None, Some, Result, Ok, Err, refl, sym, ap, subst, ◌∙◌, inl, inr, eq-eqb}
 use Rattle.std.specs.Option.{option_map}
 use Rattle.std.specs.Prelude.{slice_get, slice_set}
 use Rattle.std.proofs.lemmas.Bool.{ne_eqb}
 use Rattle.std.proofs.lemmas.Option.{slice_get-map, slice_get_past, get_or_from_slice_get}
 use Rattle.std.proofs.Math.Seq.{map-set_same}
 use Rattle.std.proofs.lemmas.List.{length-map, map-append, map-set}
-use Rattle.sled_base.specs.declared.types.Bug.TheVariants.{LinkRefused}
-use Rattle.sled_base.specs.declared.types.DiskPtr.{DiskPtr}
 use Rattle.sled_base.specs.declared.types.Error.{Error}
-use Rattle.sled_base.specs.declared.types.Error.TheVariants.{Unsupported, ReportableBug, Corruption, OutOfMemory}
-use Rattle.sled_base.specs.declared.types.Why.TheVariants.{ReservedId, PagesUsedUp, StampUsedUp}
-use Rattle.sled_node.specs.Links.{Accepts, applied}
+use Rattle.sled_base.specs.declared.types.Error.TheVariants.{Unsupported, OutOfMemory}
+use Rattle.sled_base.specs.declared.types.Why.TheVariants.{ReservedId, PagesUsedUp}
+use Rattle.sled_node.specs.Links.{applied}
 use Rattle.sled_node.specs.Node.{WholeNode}
 use Rattle.sled_node.specs.declared.node.link.Link.{Link}
 use Rattle.sled_pagecache.specs.declared.pagecache.page.Page.{Page as KeptPage}
@@ -19,7 +17,7 @@ use Rattle.sled_pagecache.specs.declared.pagecache.page.Content.{Content as Kept
 use Rattle.sled_pagecache.specs.declared.pagecache.page.Content.TheVariants as content
 use Rattle.sled_pagecache.specs.Kept.{content_of, page_of}
 use Rattle.sled_pagecache.specs.Linking.{IsLinked, RefusesLink}
-use Rattle.sled_pagecache.specs.State.{Content, Free, Counter, Roots, Node, Page, page, State, is_free, greatest_free, with_page}
+use Rattle.sled_pagecache.specs.State.{Node, Page, page, State, is_free, greatest_free, with_page}
 use Rattle.sled_pagecache.specs.Step.{is_reserved, AddsPage, Allocates, Finds, Gets, Swapped, LinksContent, LinksPage, Links}
 use Rattle.sled_pagecache.specs.Token.{Token, token}
 

@@ -1,5 +1,5 @@
 -- How pages and changes are kept.
-use Rattle.std.specs.Prelude.{◌≡◌, ℕ, Bool, false, List, map, Option, None, Some, ⊤}
+use Rattle.std.specs.Prelude.{◌≡◌, ℕ, false, map, Option, None, Some, ⊤}
 use Rattle.std.specs.FinMap.{empty}
 use Rattle.sled_pagecache.specs.declared.pagecache.page.Page.{Page as KeptPage}
 use Rattle.sled_pagecache.specs.declared.pagecache.page.Content.{Content as KeptContent}
@@ -8,7 +8,7 @@ use Rattle.sled_pagecache.specs.declared.pagecache.log.Change.{Change as KeptCha
 use Rattle.sled_pagecache.specs.declared.pagecache.log.Change.TheVariants as message
 use Rattle.sled_pagecache.specs.declared.pagecache.log.MemLog.{MemLog}
 use Rattle.sled_pagecache.specs.Step.{is_reserved}
-use Rattle.sled_pagecache.specs.State.{State, page_at, Content, Free, Counter, Roots, Node, Page, page, Change, Put, Linked}
+use Rattle.sled_pagecache.specs.State.{State, page_at, Content, Free, Counter, Roots, Node, Page, page, Change, Put, Linked, Log}
 
 abbrev pub content_of : KeptContent → Content
 content_of (kept.Counter n) = Counter n
@@ -22,9 +22,8 @@ abbrev pub change_of : KeptChange → Change
 change_of (message.Put pid content) = Put pid (content_of content)
 change_of (message.Link pid link) = Linked pid link
 
--- the changes that a log holds
-abbrev pub changes_of : MemLog → List Change
-changes_of log = map change_of log.changes.items
+abbrev pub log_of : MemLog → Log
+log_of log = record { blob_limit = log.blob_limit; clean_every = log.clean_every; changes = map change_of log.changes.items }
 
 -- a page that a reader may ask for: there is none, or it is free, or it has a node
 abbrev pub IsNodePage : Option Page → Type 0

@@ -1,5 +1,5 @@
 -- What a page cache is when it is opened.
-use Rattle.std.specs.Prelude.{◌≡◌, ◌==◌, ℕ, ◌<◌, ◌^◌, Bool, true, false, List, [], ◌∷◌, ◌++◌, Result, Ok, Err, nat_lt, ⊤, if◌then◌else◌, Option, Some, None}
+use Rattle.std.specs.Prelude.{◌≡◌, ◌==◌, false, List, [], ◌∷◌, Result, Ok, Err, nat_lt, if◌then◌else◌, Option, Some, None}
 use Rattle.std.specs.FinMap.{empty}
 use Rattle.sled_base.specs.declared.types.Error.{Error}
 use Rattle.sled_base.specs.declared.types.Error.TheVariants.{Unsupported, OutOfMemory}
@@ -7,8 +7,8 @@ use Rattle.sled_base.specs.declared.types.Why.{Why}
 use Rattle.sled_base.specs.declared.types.Why.TheVariants.{CapacityTooSmall, IntervalZero, SegmentZero}
 use Rattle.sled_pagecache.specs.declared.pagecache.config.Config.{Config}
 use Rattle.sled_pagecache.specs.declared.pagecache.log.MemLog.{MemLog}
-use Rattle.sled_pagecache.specs.Kept.{changes_of}
-use Rattle.sled_pagecache.specs.State.{Content, Counter, Roots, Page, page, State, Change, Put, Cache}
+use Rattle.sled_pagecache.specs.Kept.{log_of}
+use Rattle.sled_pagecache.specs.State.{Counter, Roots, Page, page, Change, Put, Log, with_changes, Cache}
 
 -- what is wrong with a config, by the first of its faults
 abbrev pub fault_of : Config → Option Why
@@ -25,16 +25,17 @@ abbrev pub system_changes : List Change
 system_changes = Put 0 (Roots empty) ∷ Put 1 (Counter 0) ∷ []
 
 -- a cache with the system pages alone, over a log to which it added them
-abbrev pub new_cache : List Change → Cache
-new_cache log = record {
+abbrev pub new_cache : Config → Log → Cache
+new_cache config log = record {
   state = record { pages = system_pages; next = 0; batch = false; fault = false };
+  config = config;
   recovered = false;
-  log = log ++ system_changes;
+  log = with_changes log system_changes;
 }
 
 -- what opening a cache answers: a new cache, or the fault of the config, or want of memory; at an error the log comes back
-abbrev pub Opens : Option Why → List Change → Result Cache (Error × MemLog) → Type 0
-Opens None log (Ok cache) = cache ≡ new_cache log
-Opens None log (Err refused) = (refused.0 ≡ OutOfMemory) × (changes_of refused.1 ≡ log)
-Opens (Some why) log (Ok cache) = ⊥
-Opens (Some why) log (Err refused) = (refused.0 ≡ Unsupported why) × (changes_of refused.1 ≡ log)
+abbrev pub Opens : Option Why → Config → Log → Result Cache (Error × MemLog) → Type 0
+Opens None config log (Ok cache) = cache ≡ new_cache config log
+Opens None config log (Err refused) = (refused.0 ≡ OutOfMemory) × (log_of refused.1 ≡ log)
+Opens (Some why) config log (Ok cache) = ⊥
+Opens (Some why) config log (Err refused) = (refused.0 ≡ Unsupported why) × (log_of refused.1 ≡ log)

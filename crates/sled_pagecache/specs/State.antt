@@ -1,11 +1,12 @@
 -- What a page cache is: a list of stamped pages, the next generated id, whether a batch is open, and a kept write fault.
-use Rattle.std.specs.Prelude.{ℕ, ◌+◌, Bool, true, false, List, [], ◌∷◌, Option, None, Some, slice_get, slice_set, if◌then◌else◌}
+use Rattle.std.specs.Prelude.{ℕ, ◌+◌, Bool, true, false, List, [], ◌∷◌, ◌++◌, Option, None, Some, slice_get, slice_set, if◌then◌else◌}
 use Rattle.std.specs.Cmp.Lexicographic.{slice_cmp}
 use Rattle.std.specs.Coded.{Coded, coded_ℕ, coded_list}
 use Rattle.std.specs.FinMap.{FinMap, code}
 use Rattle.std.specs.Ordering.{nat_cmp}
 use Rattle.sled_node.specs.Node.{WholeNode}
 use Rattle.sled_node.specs.declared.node.link.Link.{Link}
+use Rattle.sled_pagecache.specs.declared.pagecache.config.Config.{Config}
 use Rattle.sled_pagecache.specs.Token.{Token, token}
 
 -- a finite map from names to pages
@@ -43,11 +44,26 @@ pub data Change : Type 0 where
   Put : ℕ → Content → Change
   Linked : ℕ → Link → Change
 
--- what a contract sees of a page cache: its state, whether its pages were found in the log, and the changes in the log
+-- what a log holds: its settings, and changes of pages in their order
+pub record Log : Type 0 where
+  pub blob_limit : ℕ
+  pub clean_every : ℕ
+  pub changes : List Change
+
+-- a log with no changes
+abbrev pub new_log : ℕ → ℕ → Log
+new_log blob_limit clean_every = record { blob_limit = blob_limit; clean_every = clean_every; changes = [] }
+
+-- the log with further changes
+abbrev pub with_changes : Log → List Change → Log
+with_changes log added = record log { changes = log.changes ++ added }
+
+-- what a contract sees of a page cache: its state, its config, whether its pages were found in the log, and the log
 pub record Cache : Type 0 where
   pub state : State
+  pub config : Config
   pub recovered : Bool
-  pub log : List Change
+  pub log : Log
 
 -- the page at an id, if there is one
 abbrev pub page_at : State → ℕ → Option Page

@@ -1,9 +1,8 @@
 -- The entries of a node, written one after another.
-use Rattle.std.proofs.Common.{◌≡◌, ℕ, zero, suc, ◌+◌, List, [], ◌∷◌, ◌++◌, take, drop, Option, Some, Result, refl, sym, ap, ◌∙◌, append_assoc, IsErr}
+use Rattle.std.proofs.Common.{◌≡◌, ℕ, zero, suc, List, [], ◌∷◌, ◌++◌, take, drop, Option, Some, Result, refl, sym, ap, ◌∙◌, append_assoc, IsErr}
 use Rattle.std.specs.Io.KnownBytes.{Appends}
 use Rattle.std.specs.List.{flat_map, slice_get}
 use Rattle.std.proofs.KnownBytes.{Appends-trans}
-use Rattle.std.proofs.Math.Numerals.{add-one}
 use Rattle.std.proofs.lemmas.List.{append-nil}
 use Rattle.sled_base.specs.Order.{Bytes}
 use Rattle.sledpc.specs.Output.{AppendsBeginning, Writes}

@@ -8,3 +8,4 @@ pub mod Answered
 pub mod Spelled
 pub mod Commands
 pub mod Leaves
+pub mod Job

@@ -1,5 +1,5 @@
 -- The lines of a text, and what reading one of them found.
-use Rattle.std.proofs.Common.{◌≡◌, ◌<◌, ◌≤◌, ◌⊎◌, inl, inr, Bool, true, false, eqb, ℕ, [], ◌∷◌, ◌++◌, length, Option, None, Some, Ok, sym, ap, ◌∙◌, arith, refl, append_assoc, append-nil, length-append}
+use Rattle.std.proofs.Common.{◌≡◌, ◌≢◌, ◌<◌, ◌≤◌, ◌⊎◌, List, inl, inr, Bool, true, false, eqb, ℕ, [], ◌∷◌, ◌++◌, length, Option, None, Some, Ok, Err, sym, ap, ◌∙◌, arith, refl, append_assoc, append-nil, length-append}
 use Rattle.std.specs.Io.BufRead.{drop_through, DropsThrough}
 use Rattle.std.specs.Io.KnownBytes.{Consumes}
 use Rattle.std.proofs.lemmas.Bool.Decides.{nat_tests}
@@ -56,6 +56,30 @@ long_line kept text clean some =
       | inr e ↦ (line, omega arith, ap (λ l. lines_of (kept ++ l)) e.0 ∙ last_line line both (omega arith) ∙ ap (λ l. line ∷ lines_of l) (sym e.1))
     ]
 
+-- ---- texts that have a line
+
+onto_some : (byte : ℕ) (lines : List Bytes) → onto_first byte lines ≢ []
+onto_some byte [] none = absurd cc
+onto_some byte (line ∷ lines) none = absurd cc
+
+line_by_test : (byte : ℕ) (bytes : Bytes) (test : Bool) → eqb byte 10 ≡ test → lines_of (byte ∷ bytes) ≢ []
+line_by_test byte bytes true e none = let first : [] ∷ lines_of bytes ≡ [] = rw e at none in absurd cc
+line_by_test byte bytes false e none = onto_some byte (lines_of bytes) (rw e at none)
+
+-- a text that has bytes has a line
+pub has_line : (text : Bytes) → text ≢ [] → lines_of text ≢ []
+has_line [] some = absurd (some refl)
+has_line (byte ∷ text) some = line_by_test byte text (eqb byte 10) refl
+
+-- a list with something behind others is not empty
+pub has_end : {A : Type 0} (others : List A) (last : A) → others ++ last ∷ [] ≢ []
+has_end [] last none = absurd cc
+has_end (other ∷ others) last none = absurd cc
+
+pub has_last : {A : Type 0} (others : List A) (last : A) (rest : List A) → (others ++ last ∷ []) ++ rest ≢ []
+has_last [] last rest none = absurd cc
+has_last (other ∷ others) last rest none = absurd cc
+
 -- ---- what reading a line found
 
 -- a newline behind the bytes that were kept
@@ -82,3 +106,10 @@ found_long (Some x) (Some y) (Some z) kept clean long taken skipped =
     let (line, more, lines) = long_line kept y clean (omega arith) in
     let rest : z ≡ drop_through 10 y = cc in
     (line, omega arith, ap lines_of taken ∙ lines ∙ ap (λ l. line ∷ lines_of l) (sym rest))
+
+-- the input is not read behind what was kept
+pub unread_behind : {E : Type 0} (old mid new : Option Bytes) (kept : Bytes) (e : E) → Consumes old mid kept → TakesByte mid new (Err e) → Consumes old new kept
+unread_behind None mid new kept e taken byte = tt
+unread_behind (Some x) None new kept e taken byte = absurd taken
+unread_behind (Some x) (Some y) None kept e taken byte = absurd byte
+unread_behind (Some x) (Some y) (Some z) kept e taken byte = taken ∙ ap (λ l. kept ++ l) (sym byte)

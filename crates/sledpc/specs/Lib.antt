@@ -9,3 +9,4 @@ pub mod Told
 pub mod Runs
 pub mod Served
 pub mod Asked
+pub mod Job

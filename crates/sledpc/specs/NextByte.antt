@@ -7,9 +7,9 @@ abbrev pub IsFirstByte : Bytes → Option ℕ → Bytes → Type 0
 IsFirstByte input None rest = (input ≡ []) × (rest ≡ [])
 IsFirstByte input (Some byte) rest = input ≡ byte ∷ rest
 
--- the same, where the reader tells its bytes; a refusal says nothing
+-- the same, where the reader tells its bytes; a refusal takes none
 abbrev pub TakesByte : {E : Type 0} → Option Bytes → Option Bytes → Result (Option ℕ) E → Type 0
 TakesByte None new result = ⊤
+TakesByte (Some input) None result = ⊥
 TakesByte (Some input) (Some rest) (Ok byte) = IsFirstByte input byte rest
-TakesByte (Some input) None (Ok byte) = ⊥
-TakesByte (Some input) new (Err e) = ⊤
+TakesByte (Some input) (Some rest) (Err e) = rest ≡ input

@@ -1,5 +1,5 @@
 -- The reply to an answer.
-use Rattle.std.specs.Prelude.{◌≡◌, ℕ, Bool, List, [], ◌∷◌, ◌++◌, Option, None, Some, Result, Ok, Err, codes, flat_map, if◌then◌else◌}
+use Rattle.std.specs.Prelude.{ℕ, ◌∷◌, ◌++◌, None, Some, Ok, Err, codes, flat_map, if◌then◌else◌}
 use Rattle.std.specs.Fmt.{decimal}
 use Rattle.sled_base.specs.Errors.{number_of_why, number_of_bug}
 use Rattle.sled_base.specs.Order.{Bytes}

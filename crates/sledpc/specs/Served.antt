@@ -1,5 +1,5 @@
 -- What serving one call and one line does.
-use Rattle.std.specs.Prelude.{◌≡◌, ◌⊎◌, [], ◌∷◌, ◌++◌, Option, Result, Ok, Err}
+use Rattle.std.specs.Prelude.{◌≡◌, [], ◌∷◌, ◌++◌, Option, Result, Ok, Err}
 use Rattle.std.specs.Io.KnownBytes.{Appends}
 use Rattle.sled_base.specs.Order.{Bytes}
 use Rattle.sled_pagecache.specs.State.{State}
@@ -9,6 +9,8 @@ use Rattle.sled_pagecache.specs.declared.pagecache.call.Call.{Call}
 use Rattle.sledpc.specs.Output.{AppendsBeginning, Writes}
 use Rattle.sledpc.specs.Replies.{reply_of}
 use Rattle.sledpc.specs.Runs.{Replies}
+use Rattle.sledpc.specs.declared.script.run.RunError.{RunError}
+use Rattle.sledpc.specs.declared.script.run.RunError.TheVariants.{Read, Write, Memory}
 
 -- the call is one step, and the reply to its answer is written as a line
 pub record RepliesTo {E : Type 0} (s : State) (call : Call) (old new : Option Bytes) (result : Result Unit E) (t : State) : Type 0 where
@@ -16,7 +18,9 @@ pub record RepliesTo {E : Type 0} (s : State) (call : Call) (old new : Option By
   pub step : Step s call answer t
   pub written : Writes old new result (reply_of answer ++ 10 ∷ [])
 
--- the line is answered, and the reply is written as a line; or at an error a beginning of it, or the line is not answered
-abbrev pub RepliesLine : {E : Type 0} → State → Bytes → Option Bytes → Option Bytes → Result Unit E → State → Type 0
+-- The line is answered, and the reply is written as a line, or where it is not written whole, a beginning of it; or memory was wanting for the line, and nothing is changed or written.
+abbrev pub RepliesLine : State → Bytes → Option Bytes → Option Bytes → Result Unit RunError → State → Type 0
 RepliesLine s line old new (Ok done) t = (reply : Bytes) × Replies s line reply t × Appends old new (reply ++ 10 ∷ [])
-RepliesLine s line old new (Err e) t = ((reply : Bytes) × Replies s line reply t × AppendsBeginning old new (reply ++ 10 ∷ [])) ⊎ ((t ≡ s) × Appends old new [])
+RepliesLine s line old new (Err Write) t = (reply : Bytes) × Replies s line reply t × AppendsBeginning old new (reply ++ 10 ∷ [])
+RepliesLine s line old new (Err Memory) t = (t ≡ s) × Appends old new []
+RepliesLine s line old new (Err Read) t = ⊥

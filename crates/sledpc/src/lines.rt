@@ -1,7 +1,7 @@
 //! Lines of an input, one at a time.
 
-ghost use Rattle.std.specs.Prelude.{◌≡◌, ◌+◌, ◌≤◌, length, Ok};
-ghost use Rattle.sledpc.specs.Lines.{ReadsLine};
+ghost use Rattle.std.specs.Prelude.{◌≡◌, ◌+◌, ◌≤◌, length, Ok, IfErr};
+ghost use Rattle.sledpc.specs.Lines.{ReadsLine, IsUnread};
 ghost use Rattle.sledpc.specs.NextByte.{TakesByte};
 
 use std::io::{BufRead, ErrorKind, Read};
@@ -31,6 +31,7 @@ pub enum ReadError {
 pub fn read_line<R: BufRead>(reader: &mut R, kept: &mut Vec<u8>) -> Result<Line, ReadError>
     ensures reads { ReadsLine (R.remaining reader.old) (R.remaining reader.new) result kept.new.items }
     ensures whole { result ≡ Ok Line.Whole → length kept.new.items ≤ MAX_LINE }
+    ensures unread { IfErr result (λ e. IsUnread e (R.remaining reader.old) (R.remaining reader.new) kept.new.items) }
     ensures few { length kept.new.items ≤ MAX_LINE + 1 }
 {
     kept.clear();
@@ -54,7 +55,8 @@ pub fn read_line<R: BufRead>(reader: &mut R, kept: &mut Vec<u8>) -> Result<Line,
 
 /// Takes the next byte, if the input is not at its end.
 fn next_byte<R: BufRead>(reader: &mut R) -> Result<Option<u8>, ReadError>
-    ensures { TakesByte (R.remaining reader.old) (R.remaining reader.new) result }
+    ensures takes { TakesByte (R.remaining reader.old) (R.remaining reader.new) result }
+    ensures err { IfErr result (λ e. e ≡ ReadError.Read) }
 {
     let mut byte = [0];
     for _ in 0..u64::MAX {

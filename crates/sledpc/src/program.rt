@@ -1,5 +1,10 @@
 //! The program: its words, its streams and its status.
 
+ghost use Rattle.std.specs.Prelude.{◌≡◌, ◌↔◌, map, IsSome, Some};
+ghost use Rattle.std.specs.Option.{option_map};
+ghost use Rattle.std.specs.String.{string_bytes};
+ghost use Rattle.sledpc.specs.Job.{AskForMemory};
+
 use crate::script::run::{RunError, run};
 use sled_pagecache::{Config, Error, MemLog, PageCache};
 use std::alloc::Global;
@@ -55,7 +60,9 @@ pub fn drive<R: Read, W: Write, F: Write>(
     reader: &mut R,
     writer: &mut W,
     faults: &mut F,
-) -> u8 {
+) -> u8
+    ensures wrong { (result ≡ WRONG_WORDS) ↔ ¬ AskForMemory (option_map (λ given. map string_bytes given.now) words.entry) }
+{
     let Some(job) = words.and_then(job_of) else {
         let _ = faults.write_all(USAGE.as_bytes());
         return WRONG_WORDS;
@@ -72,7 +79,9 @@ pub fn drive<R: Read, W: Write, F: Write>(
     }
 }
 
-fn job_of(words: &[String]) -> Option<Job> {
+fn job_of(words: &[String]) -> Option<Job>
+    ensures { IsSome result ↔ AskForMemory (Some (map string_bytes words.now)) }
+{
     match words {
         [word] if word.as_str() == "mem" => Some(Job::Memory),
         _ => None,

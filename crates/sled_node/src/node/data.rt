@@ -1,6 +1,6 @@
 //! What a node holds: a leaf's values, or an index's pages.
 
-ghost use Rattle.std.specs.Prelude.{◌≡◌, ◌↔◌, ◌==◌, ◌<◌, ◌^◌, [], length, position, Some, IsTrue, IfOk, OnOk, OnErr, Any, nat_eq, slice_get};
+ghost use Rattle.std.specs.Prelude.{◌≡◌, ◌↔◌, ◌==◌, ◌<◌, ◌^◌, [], length, position, Some, IsTrue, OnOk, OnErr, Any, nat_eq, slice_get};
 ghost use Rattle.std.specs.Cmp.{partial_equiv_from_equiv};
 ghost use Rattle.sled_node.specs.Pairs.{HasPairs};
 ghost use Rattle.sled_node.specs.Equality.{same_pairs, index_equiv};

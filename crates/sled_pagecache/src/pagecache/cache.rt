@@ -1,13 +1,13 @@
 //! The cache. Each call is one step of a machine.
 
-ghost use Rattle.std.specs.Prelude.{◌≡◌, ◌++◌, ◌+◌, ◌<◌, ◌^◌, ⊤, length, map, Ok, Err, IfOk, IfErr, OnOk, OnErr, slice_get, vec_len, vec_capacity};
+ghost use Rattle.std.specs.Prelude.{◌≡◌, ◌<◌, map, Ok, Err, IfOk, IfErr, OnOk, OnErr, vec_len, vec_capacity};
 ghost use Rattle.std.specs.Borrow.{sem};
 ghost use Rattle.sled_base.specs.Errors.{error_of};
-ghost use Rattle.sled_node.specs.Links.{Accepts, applied};
-ghost use Rattle.sled_pagecache.specs.Kept.{IsReadable, page_of, content_of, change_of, changes_of};
+ghost use Rattle.sled_pagecache.specs.Kept.{IsReadable, page_of, content_of, change_of, log_of};
 ghost use Rattle.sled_pagecache.specs.Linking.{IsLinked, RefusesLink, begun_by};
 ghost use Rattle.sled_pagecache.specs.Lending.{told, Rests};
 ghost use Rattle.sled_pagecache.specs.Opening.{fault_of, Opens, system_pages, system_changes};
+ghost use Rattle.sled_pagecache.specs.State.{with_changes};
 ghost use Rattle.sled_pagecache.specs.State as changes;
 ghost use Rattle.sled_pagecache.specs.Step.{Step, begun, is_reserved};
 ghost use Rattle.sled_pagecache.specs.Token.{pid_of};
@@ -30,7 +30,7 @@ const MAX_PAGES: usize = 1 << MAX_PID_BITS;
 
 /// Stamped pages by their ids, over a log. Pages 0 and 1 are the cache's own.
 ///
-/// Contracts see the pages as a plain list, whether they were found in the log, and the changes that the log holds.
+/// Contracts see the pages as a plain list, the config, whether the pages were found in the log, and the log.
 #[derive(Drop)]
 pub struct PageCache {
     config: Config,
@@ -48,9 +48,9 @@ impl Model for PageCache {
 
     ghost coded = { Prim.hlevel (codes, names_code) };
 
-    ghost use Rattle.sled_pagecache.specs.Kept.{page_of, changes_of};
+    ghost use Rattle.sled_pagecache.specs.Kept.{page_of, log_of};
 
-    ghost view = { λ c. record { state = record { pages = map page_of c.pages.items; next = 0; batch = false; fault = false }; recovered = c.recovered; log = changes_of c.log } };
+    ghost view = { λ c. record { state = record { pages = map page_of c.pages.items; next = 0; batch = false; fault = false }; config = c.config; recovered = c.recovered; log = log_of c.log } };
 }
 
 impl PageCache {
@@ -59,7 +59,7 @@ impl PageCache {
     /// The config is tested before the log is touched: `CapacityTooSmall` below a capacity of 256, `IntervalZero`, then
     /// `SegmentZero`. At an error the log comes back as it was.
     pub fn start(alloc: Global, config: Config, log: MemLog) -> Result<PageCache, (Error, MemLog)>
-        ensures { Opens (fault_of config) (changes_of log) result }
+        ensures { Opens (fault_of config) config (log_of log) result }
     {
         if config.cache_capacity < 256 {
             return Err((Error::Unsupported(Why::CapacityTooSmall), log));
@@ -94,7 +94,8 @@ impl PageCache {
     /// A new page has stamp 1. `PagesUsedUp` comes where there are 2^37 pages. An error leaves the cache as it was.
     pub fn allocate(&mut self, node: Node) -> Result<(PageId, PageView), Error>
         ensures step { Step self.old.state (Allocate node) (Allocated result) self.new.state }
-        ensures logged { self.new.log ≡ self.old.log ++ begun (Allocate node) (Allocated result) }
+        ensures logged { self.new.log ≡ with_changes self.old.log (begun (Allocate node) (Allocated result)) }
+        ensures config { self.new.config ≡ self.old.config }
         ensures recovered { self.new.recovered ≡ self.old.recovered }
     {
         if self.pages.len() == MAX_PAGES {
@@ -135,7 +136,8 @@ impl PageCache {
     ) -> Result<Result<PageView, Option<(PageView, Link)>>, Error>
         requires { pid_of old ≡ pid }
         ensures step { Step self.old.state (call.Link old link) (Linked result) self.new.state }
-        ensures logged { self.new.log ≡ self.old.log ++ begun (call.Link old link) (Linked result) }
+        ensures logged { self.new.log ≡ with_changes self.old.log (begun (call.Link old link) (Linked result)) }
+        ensures config { self.new.config ≡ self.old.config }
         ensures recovered { self.new.recovered ≡ self.old.recovered }
     {
         let count = self.pages.len() as PageId;
@@ -155,7 +157,7 @@ impl PageCache {
 
     /// Ends the cache and hands its log back. Nothing is flushed.
     pub fn into_log(self) -> MemLog
-        ensures { changes_of result ≡ self.log }
+        ensures { log_of result ≡ self.log }
     {
         self.log
     }
@@ -203,8 +205,8 @@ fn is_reserved(pid: PageId) -> bool
 // The pages of the named roots and of the counter, at stamp 1, which are added to the log.
 fn system_pages(alloc: Global, log: &mut MemLog) -> Result<Vec<Page>, AllocError>
     ensures ok { IfOk result (λ pages. map page_of pages.items ≡ system_pages) }
-    ensures logged { OnOk result (changes_of log.new ≡ changes_of log.old ++ system_changes) }
-    ensures err { OnErr result (changes_of log.new ≡ changes_of log.old) }
+    ensures logged { OnOk result (log_of log.new ≡ with_changes (log_of log.old) system_changes) }
+    ensures err { OnErr result (log_of log.new ≡ log_of log.old) }
 {
     let mut pages = Vec::with_capacity(alloc, 2)?;
     log.make_room(2)?;
@@ -231,7 +233,7 @@ fn prepare(
     ensures message { IfOk result (λ message. change_of message ≡ changes.Put pid (changes.Node node.now)) }
     ensures pages { pages.new.items ≡ pages.old.items }
     ensures room { OnOk result (vec_len pages.new < vec_capacity pages.new) }
-    ensures log { changes_of log.new ≡ changes_of log.old }
+    ensures log { log_of log.new ≡ log_of log.old }
     ensures log_room { OnOk result (vec_len log.new.changes < vec_capacity log.new.changes) }
 {
     pages.reserve(1)?;
@@ -244,7 +246,7 @@ fn link_page(page: &mut Page, pid: PageId, link: &Link, log: &mut MemLog) -> Res
     ensures ok { OnOk result (IsLinked page.old.stamp (content_of page.old.content) link.now (page_of page.new)) }
     ensures refused { IfErr result (RefusesLink page.old.stamp (content_of page.old.content) link.now) }
     ensures err { OnErr result (page_of page.new ≡ page_of page.old) }
-    ensures logged { changes_of log.new ≡ changes_of log.old ++ begun_by result (changes.Linked pid link.now) }
+    ensures logged { log_of log.new ≡ with_changes (log_of log.old) (begun_by result (changes.Linked pid link.now)) }
 {
     let Content::Node(node) = &mut page.content else {
         return Err(Error::Corruption(None));

@@ -1,14 +1,15 @@
 //! The log in memory.
 
-ghost use Rattle.std.specs.Prelude.{◌≡◌, ◌+◌, ◌<◌, ◌≤◌, [], ◌∷◌, ◌++◌, OnOk, OnErr, vec_len, vec_capacity};
-ghost use Rattle.sled_pagecache.specs.Kept.{change_of, changes_of};
+ghost use Rattle.std.specs.Prelude.{◌≡◌, ◌+◌, ◌<◌, ◌≤◌, [], ◌∷◌, OnOk, vec_len, vec_capacity};
+ghost use Rattle.sled_pagecache.specs.Kept.{change_of, log_of};
+ghost use Rattle.sled_pagecache.specs.State.{new_log, with_changes};
 
 use super::page::Content;
 use sled_base::PageId;
 use sled_node::Link;
 use std::alloc::{AllocError, Global};
 
-/// A log in memory: the changes of the pages, in their order.
+/// A log in memory: two settings, which stay the same, and the changes of the pages, in their order.
 ///
 /// No call reads them back yet, so a cache that is started over it begins anew.
 #[derive(Debug, Drop)]
@@ -31,7 +32,7 @@ impl MemLog {
     /// Payloads above `blob_limit` bytes are to be kept as blobs, and a page is to be moved for every `clean_every`
     /// messages; neither is done yet.
     pub fn new(alloc: Global, blob_limit: usize, clean_every: u64) -> MemLog
-        ensures { changes_of result ≡ [] }
+        ensures { log_of result ≡ new_log blob_limit clean_every }
     {
         MemLog {
             blob_limit,
@@ -42,7 +43,7 @@ impl MemLog {
 
     // Makes room for so many more changes.
     pub(super) fn make_room(&mut self, additional: usize) -> Result<(), AllocError>
-        ensures changes { changes_of self.new ≡ changes_of self.old }
+        ensures log { log_of self.new ≡ log_of self.old }
         ensures ok { OnOk result (vec_len self.new.changes + additional ≤ vec_capacity self.new.changes) }
     {
         self.changes.reserve(additional)
@@ -51,7 +52,7 @@ impl MemLog {
     // Adds a change, for which there is room.
     pub(super) fn add(&mut self, change: Change)
         requires { vec_len self.old.changes < vec_capacity self.old.changes }
-        ensures changes { changes_of self.new ≡ changes_of self.old ++ change_of change ∷ [] }
+        ensures log { log_of self.new ≡ with_changes (log_of self.old) (change_of change ∷ []) }
         ensures len { vec_len self.new.changes ≡ vec_len self.old.changes + 1 }
         ensures capacity { vec_capacity self.new.changes ≡ vec_capacity self.old.changes }
     {

@@ -6,13 +6,23 @@ use std::test::Fail;
 
 const TOLD_USAGE: &[u8] = b"usage: sledpc mem | file PATH | crew N M\n";
 
-/// A stream that fails at each use.
+/// What a [`Broken`] stream gives before it fails.
+const ASKED: &[u8] = b"alloc\nget";
+
+/// A stream that gives a line and the beginning of another so many times, and else fails at each use.
 #[derive(Drop)]
-struct Broken;
+struct Broken {
+    reads: u8,
+}
 
 impl Read for Broken {
-    fn read(&mut self, _buf: &mut [u8]) -> io::Result<usize> {
-        Err(io::Error::from(ErrorKind::BrokenPipe))
+    fn read(&mut self, buf: &mut [u8]) -> io::Result<usize> {
+        if self.reads == 0 || buf.len() < ASKED.len() {
+            return Err(io::Error::from(ErrorKind::BrokenPipe));
+        }
+        self.reads -= 1;
+        buf[..ASKED.len()].copy_from_slice(ASKED);
+        Ok(ASKED.len())
     }
 }
 
@@ -143,7 +153,13 @@ fn wrong_words_are_told_and_touch_no_stream(rt: HostRuntime) -> Result<(), Fail>
         Some(crew.as_slice()),
     ] {
         let mut faults = Vec::new(alloc);
-        let status = drive(alloc, words, &mut Broken, &mut Broken, &mut faults);
+        let status = drive(
+            alloc,
+            words,
+            &mut Broken { reads: 1 },
+            &mut Broken { reads: 0 },
+            &mut faults,
+        );
         assert_eq!(rt; status, 2);
         assert_eq!(rt; faults.as_slice(), TOLD_USAGE);
     }
@@ -159,26 +175,32 @@ fn a_refused_stream_is_told(rt: HostRuntime) -> Result<(), Fail> {
     let status = drive(
         alloc,
         Some(words.as_slice()),
-        &mut Broken,
+        &mut Broken { reads: 1 },
         &mut output,
         &mut faults,
     );
     assert_eq!(rt; status, 1);
     assert_eq!(rt; faults.as_slice(), b"sledpc: error read\n".as_slice());
-    assert!(rt; output.is_empty());
+    assert_eq!(rt; output.as_slice(), b"page 2 1\n".as_slice());
     let mut input = b"get 2\n".as_slice();
     let mut faults = Vec::new(alloc);
     let status = drive(
         alloc,
         Some(words.as_slice()),
         &mut input,
-        &mut Broken,
+        &mut Broken { reads: 0 },
         &mut faults,
     );
     assert_eq!(rt; status, 1);
     assert_eq!(rt; faults.as_slice(), b"sledpc: error write\n".as_slice());
     let mut input = b"".as_slice();
-    let status = drive(alloc, None, &mut input, &mut output, &mut Broken);
+    let status = drive(
+        alloc,
+        None,
+        &mut input,
+        &mut output,
+        &mut Broken { reads: 0 },
+    );
     assert_eq!(rt; status, 2);
     Ok(())
 }

@@ -3,7 +3,7 @@
 ghost use Rattle.std.specs.Prelude.{◌≡◌, ◌≤◌, ◌++◌, [], ◌∷◌, length, codes, IfOk, IfSome, IfNone, IfErr};
 ghost use Rattle.sledpc.specs.Commands.{Spells};
 ghost use Rattle.sledpc.specs.Output.{Writes};
-ghost use Rattle.sledpc.specs.Runs.{Serves};
+ghost use Rattle.sledpc.specs.Runs.{Serves, error_of};
 ghost use Rattle.sledpc.specs.Served.{RepliesTo, RepliesLine};
 ghost use Rattle.sled_pagecache.specs.declared.pagecache.call.Call.{Call};
 
@@ -32,6 +32,8 @@ pub enum RunError {
 }
 
 impl From<ReadError> for RunError {
+    ghost from_gives = { λ e r. r ≡ error_of e };
+
     fn from(error: ReadError) -> RunError {
         match error {
             ReadError::Read => RunError::Read,
@@ -41,12 +43,20 @@ impl From<ReadError> for RunError {
 }
 
 impl From<AllocError> for RunError {
+    ghost use Rattle.sledpc.specs.declared.script.run.RunError.TheVariants.{Memory};
+
+    ghost from_gives = { λ _ r. r ≡ Memory };
+
     fn from(_error: AllocError) -> RunError {
         RunError::Memory
     }
 }
 
 impl From<io::Error> for RunError {
+    ghost use Rattle.sledpc.specs.declared.script.run.RunError.TheVariants.{Write};
+
+    ghost from_gives = { λ _ r. r ≡ Write };
+
     fn from(_error: io::Error) -> RunError {
         RunError::Write
     }
@@ -54,9 +64,11 @@ impl From<io::Error> for RunError {
 
 /// Makes the calls that the lines of the input ask for, and writes one reply line for each line.
 ///
-/// A line that is no command, or is longer than 65,536 bytes, is answered by `error line` and changes nothing. At an
-/// error a beginning of the lines was answered, and of the replies to it a beginning was written. Apart from the pages
-/// and the log, at most one line is held in memory.
+/// A line that is no command, or is longer than 65,536 bytes, is answered by `error line` and changes nothing. Apart
+/// from the pages and the log, at most one line is held in memory.
+///
+/// At an error a beginning of the lines was answered. At [`RunError::Read`] and [`RunError::Memory`] the replies to them
+/// were written, and at [`RunError::Write`] a beginning of these replies.
 pub fn run<R: BufRead, W: Write>(
     alloc: Global,
     cache: &mut PageCache,

@@ -1,4 +1,4 @@
-use Rattle.std.proofs.Common.{◌++◌, refl, ap, sym}
+use Rattle.std.proofs.Common.{◌++◌, ap, sym}
 use Rattle.std.specs.Fmt.{decimal}
 use Rattle.std.specs.List.{flat_map}
 use Rattle.sledpc.specs.Replies.{entry_text}

@@ -1,4 +1,4 @@
-use Rattle.std.proofs.Common.{◌++◌, refl, sym, ap, append_assoc}
+use Rattle.std.proofs.Common.{◌++◌, append_assoc}
 use Rattle.std.specs.Prelude.{codes}
 use Rattle.std.specs.Fmt.{decimal}
 use Rattle.sledpc.proofs.Written.{writes_more, stops_before}

@@ -1,9 +1,10 @@
-use Rattle.std.proofs.Common.{rules, ap, ◌∙◌, Ok, refl, subst}
+use Rattle.std.proofs.Common.{ap, Ok, Err, subst}
 use Rattle.std.proofs.lemmas.Result.{err_from_is_err_and}
 use Rattle.sledpc.specs.declared.lines.ReadError.{ReadError}
-use Rattle.sledpc.specs.declared.script.run.RunError.{RunError}
-use Rattle.sledpc.specs.declared.script.run.RunError.TheVariants.{Read}
-use Rattle.sledpc.proofs.Answered.{SoFar, none_yet, stops_here, ends_here, line_done, line_stops, long_done, long_stops, flushed}
+use Rattle.sledpc.specs.declared.script.run.RunError.TheVariants.{Write}
+use Rattle.sledpc.specs.Runs.{Serves}
+use Rattle.sledpc.specs.Served.{RepliesLine}
+use Rattle.sledpc.proofs.Answered.{SoFar, none_yet, gives_up, line_unread, ends_here, line_done, line_stops, unflushed, long_done, long_stops, stands, flushed}
 use Rattle.sledpc.proofs.script.run.run.Goals as goal
 use Rattle.sledpc.proofs.script.run.run.Goals.{in-Whole+in_ok-serve_line-in-Whole, in-TooLong+in_ok-write_text-in-TooLong}
 
@@ -14,7 +15,7 @@ loop-init g c = none_yet c.args.cache.now.state (g.R.Read.remaining c.args.reade
 pub returns-in_err-read_line : goal.returns-in_err-read_line
 returns-in_err-read_line g c =
     let told = err_from_is_err_and c.from_residual.result c.from_residual.ensures.1 in
-    rw (told.1) (stops_here c.args.cache.now.state c.loop.cache.state (g.R.Read.remaining c.args.reader.now) (g.R.Read.remaining c.loop.reader) (g.W.Write.contents c.args.writer.now) (g.W.Write.contents c.loop.writer) told.0 c.loop.invariant)
+    rw (told.1, told.2) (line_unread c.args.cache.now.state c.loop.cache.state (g.R.Read.remaining c.args.reader.now) (g.R.Read.remaining c.loop.reader) (g.R.Read.remaining c.read_line.new.reader) (g.W.Write.contents c.args.writer.now) (g.W.Write.contents c.loop.writer) c.read_line.new.kept.items c.in_err-read_line.field-0.0 c.loop.invariant c.in_err-read_line.ensures.unread)
 
 -- the input is at its end
 pub returns-in-End : goal.returns-in-End
@@ -22,7 +23,7 @@ returns-in-End g c =
     let read = g.R.Read.remaining in
     let contents = g.W.Write.contents in
     let at = rw (c.in-End.is) at c.in_ok-read_line.ensures.reads in
-    ends_here ReadError RunError c.args.cache.now.state c.loop.cache.state (read c.args.reader.now) (read c.loop.reader) (read c.read_line.new.reader) (contents c.args.writer.now) (contents c.loop.writer) c.read_line.new.kept.items c.loop.invariant at
+    ends_here ReadError c.args.cache.now.state c.loop.cache.state (read c.args.reader.now) (read c.loop.reader) (read c.read_line.new.reader) (contents c.args.writer.now) (contents c.loop.writer) c.read_line.new.kept.items c.loop.invariant at
 
 pub serve_line-requires : goal.serve_line-requires
 serve_line-requires g c = rw c.deref.ensures.value (c.in_ok-read_line.ensures.whole (ap Ok c.in-Whole.is))
@@ -32,9 +33,9 @@ returns-in_err-serve_line-in-Whole g c =
     let read = g.R.Read.remaining in
     let contents = g.W.Write.contents in
     let at = rw (c.in-Whole.is) at c.in_ok-read_line.ensures.reads in
-    let replied = rw (c.deref.ensures.value) at c.in_err-serve_line-in-Whole.ensures in
+    let replied = subst (λ line. RepliesLine c.loop.cache.state line (contents c.loop.writer) (contents c.serve_line.new.writer) (Err c.in_err-serve_line-in-Whole.field-0.0) c.serve_line.new.cache.state) c.deref.ensures.value c.in_err-serve_line-in-Whole.ensures in
     let told = err_from_is_err_and c.from_residual-in_err-serve_line-in-Whole.result c.from_residual-in_err-serve_line-in-Whole.ensures.1 in
-    rw (told.1, told.2) (line_stops ReadError RunError c.args.cache.now.state c.loop.cache.state c.serve_line.new.cache.state (read c.args.reader.now) (read c.loop.reader) (read c.read_line.new.reader) (contents c.args.writer.now) (contents c.loop.writer) (contents c.serve_line.new.writer) c.read_line.new.kept.items c.in_err-serve_line-in-Whole.field-0.0 c.loop.invariant at replied)
+    rw (told.1, told.2) (line_stops ReadError c.args.cache.now.state c.loop.cache.state c.serve_line.new.cache.state (read c.args.reader.now) (read c.loop.reader) (read c.read_line.new.reader) (contents c.args.writer.now) (contents c.loop.writer) (contents c.serve_line.new.writer) c.read_line.new.kept.items c.in_err-serve_line-in-Whole.field-0.0 c.loop.invariant at replied)
 
 pub returns-in_err-write_text-in-TooLong : goal.returns-in_err-write_text-in-TooLong
 returns-in_err-write_text-in-TooLong g c =
@@ -42,26 +43,29 @@ returns-in_err-write_text-in-TooLong g c =
     let contents = g.W.Write.contents in
     let at = rw (c.in-TooLong.is) at c.in_ok-read_line.ensures.reads in
     let told = err_from_is_err_and c.from_residual-in_err-write_text-in-TooLong.result c.from_residual-in_err-write_text-in-TooLong.ensures.1 in
-    rw (told.1) (long_stops ReadError RunError c.args.cache.now.state c.loop.cache.state (read c.args.reader.now) (read c.loop.reader) (read c.read_line.new.reader) (contents c.args.writer.now) (contents c.loop.writer) (contents c.write_text.new.writer) c.read_line.new.kept.items told.0 c.loop.invariant at c.in_err-write_text-in-TooLong.ensures)
+    rw (told.1, told.2) (long_stops ReadError c.args.cache.now.state c.loop.cache.state (read c.args.reader.now) (read c.loop.reader) (read c.read_line.new.reader) (contents c.args.writer.now) (contents c.loop.writer) (contents c.write_text.new.writer) c.read_line.new.kept.items c.loop.invariant at c.in_err-write_text-in-TooLong.ensures)
 
--- the line is answered, whichever it is
+-- the reply is written, whichever line it was, and not flushed
 pub returns-in_err-flush : goal.returns-in_err-flush
 returns-in_err-flush g c =
     let read = g.R.Read.remaining in
     let contents = g.W.Write.contents in
-    let so : SoFar c.args.cache.now.state (read c.args.reader.now) (read c.read_line.new.reader) (contents c.args.writer.now) (contents c.match-branch-2.writer) c.match-branch-2.cache.state =
+    let stopped : Serves c.args.cache.now.state (read c.args.reader.now) (contents c.args.writer.now) (contents c.flush.new.self) (Err Write) c.match-branch-2.cache.state =
     elim c.match-branch-2.branch [
       | in-Whole+in_ok-serve_line-in-Whole w ↦
           let at = rw (w.in-Whole.is) at c.in_ok-read_line.ensures.reads in
           let replied = rw (w.deref.ensures.value) at w.in_ok-serve_line-in-Whole.ensures in
-          rw (w.writer-is, w.cache-is) (line_done ReadError RunError c.args.cache.now.state c.loop.cache.state w.serve_line.new.cache.state (read c.args.reader.now) (read c.loop.reader) (read c.read_line.new.reader) (contents c.args.writer.now) (contents c.loop.writer) (contents w.serve_line.new.writer) c.read_line.new.kept.items c.loop.invariant at replied)
+          let kept = rw (w.writer-is) at c.flush.ensures.bytes in
+          rw (w.cache-is) (line_stops ReadError c.args.cache.now.state c.loop.cache.state w.serve_line.new.cache.state (read c.args.reader.now) (read c.loop.reader) (read c.read_line.new.reader) (contents c.args.writer.now) (contents c.loop.writer) (contents c.flush.new.self) c.read_line.new.kept.items Write c.loop.invariant at
+          (unflushed c.loop.cache.state w.serve_line.new.cache.state c.read_line.new.kept.items (contents c.loop.writer) (contents w.serve_line.new.writer) (contents c.flush.new.self) replied kept))
       | in-TooLong+in_ok-write_text-in-TooLong w ↦
           let at = rw (w.in-TooLong.is) at c.in_ok-read_line.ensures.reads in
-          rw (w.writer-is, w.cache-is) (long_done ReadError c.args.cache.now.state c.loop.cache.state (read c.args.reader.now) (read c.loop.reader) (read c.read_line.new.reader) (contents c.args.writer.now) (contents c.loop.writer) (contents w.write_text.new.writer) c.read_line.new.kept.items c.loop.invariant at w.in_ok-write_text-in-TooLong.ensures)
+          let kept = rw (w.writer-is) at c.flush.ensures.bytes in
+          rw (w.cache-is) (long_stops ReadError c.args.cache.now.state c.loop.cache.state (read c.args.reader.now) (read c.loop.reader) (read c.read_line.new.reader) (contents c.args.writer.now) (contents c.loop.writer) (contents c.flush.new.self) c.read_line.new.kept.items c.loop.invariant at
+          (stands (contents c.loop.writer) (contents w.write_text.new.writer) (contents c.flush.new.self) _ w.in_ok-write_text-in-TooLong.ensures kept))
     ] in
     let told = err_from_is_err_and c.from_residual-in_err-flush.result c.from_residual-in_err-flush.ensures.1 in
-    rw (told.1) (stops_here c.args.cache.now.state c.match-branch-2.cache.state (read c.args.reader.now) (read c.read_line.new.reader) (contents c.args.writer.now) (contents c.flush.new.self) told.0
-    (flushed c.args.cache.now.state c.match-branch-2.cache.state (read c.args.reader.now) (read c.read_line.new.reader) (contents c.args.writer.now) (contents c.match-branch-2.writer) (contents c.flush.new.self) so c.flush.ensures.bytes))
+    rw (told.1, told.2) stopped
 
 pub loop-preserved : goal.loop-preserved
 loop-preserved g c =
@@ -72,7 +76,7 @@ loop-preserved g c =
       | in-Whole+in_ok-serve_line-in-Whole w ↦
           let at = rw (w.in-Whole.is) at c.in_ok-read_line.ensures.reads in
           let replied = rw (w.deref.ensures.value) at w.in_ok-serve_line-in-Whole.ensures in
-          rw (w.writer-is, w.cache-is) (line_done ReadError RunError c.args.cache.now.state c.loop.cache.state w.serve_line.new.cache.state (read c.args.reader.now) (read c.loop.reader) (read c.read_line.new.reader) (contents c.args.writer.now) (contents c.loop.writer) (contents w.serve_line.new.writer) c.read_line.new.kept.items c.loop.invariant at replied)
+          rw (w.writer-is, w.cache-is) (line_done ReadError c.args.cache.now.state c.loop.cache.state w.serve_line.new.cache.state (read c.args.reader.now) (read c.loop.reader) (read c.read_line.new.reader) (contents c.args.writer.now) (contents c.loop.writer) (contents w.serve_line.new.writer) c.read_line.new.kept.items c.loop.invariant at replied)
       | in-TooLong+in_ok-write_text-in-TooLong w ↦
           let at = rw (w.in-TooLong.is) at c.in_ok-read_line.ensures.reads in
           rw (w.writer-is, w.cache-is) (long_done ReadError c.args.cache.now.state c.loop.cache.state (read c.args.reader.now) (read c.loop.reader) (read c.read_line.new.reader) (contents c.args.writer.now) (contents c.loop.writer) (contents w.write_text.new.writer) c.read_line.new.kept.items c.loop.invariant at w.in_ok-write_text-in-TooLong.ensures)
@@ -82,4 +86,4 @@ loop-preserved g c =
 -- the loop gives up
 pub returns : goal.returns
 returns g c =
-    stops_here c.args.cache.now.state c.loop.cache.state (g.R.Read.remaining c.args.reader.now) (g.R.Read.remaining c.loop.reader) (g.W.Write.contents c.args.writer.now) (g.W.Write.contents c.loop.writer) Read c.loop.invariant
+    gives_up c.args.cache.now.state c.loop.cache.state (g.R.Read.remaining c.args.reader.now) (g.R.Read.remaining c.loop.reader) (g.W.Write.contents c.args.writer.now) (g.W.Write.contents c.loop.writer) c.loop.invariant

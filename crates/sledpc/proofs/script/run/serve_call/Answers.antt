@@ -1,4 +1,4 @@
-use Rattle.std.proofs.Common.{ap, sym, subst}
+use Rattle.std.proofs.Common.{sym, subst}
 use Rattle.sled_pagecache.specs.Lending.{told}
 use Rattle.sled_pagecache.specs.Step.{Step}
 use Rattle.sled_pagecache.specs.declared.pagecache.call.Answer.TheVariants.{Allocated, Got, Linked}
