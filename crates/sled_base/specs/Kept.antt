@@ -1,19 +1,22 @@
 -- How a byte string is kept.
-use Rattle.std.specs.Prelude.{ℕ, ◌+◌, ◌<◌, ◌≤◌, List, length, take, drop}
+use Rattle.std.specs.Prelude.{ℕ, ◌≤◌, List, length, take, drop}
 use Rattle.std.specs.Arc.{arc_value}
 use Rattle.sled_base.specs.declared.ivec.TheConstants.{CUTOFF}
-use Rattle.sled_base.specs.declared.ivec.Kept.{Kept}
-use Rattle.sled_base.specs.declared.ivec.Kept.TheVariants.{Inline, Shared}
+use Rattle.sled_base.specs.declared.kept.Short.{Short}
+use Rattle.sled_base.specs.declared.kept.Part.{Part}
+use Rattle.sled_base.specs.declared.kept.Kept.{Kept}
+use Rattle.sled_base.specs.declared.kept.Kept.TheVariants.{Inline, Shared}
+
+abbrev pub short_bytes : Short → List ℕ
+short_bytes short = take short.len short.bytes
+
+abbrev pub part_bytes : Part → List ℕ
+part_bytes part = take part.len (drop part.offset (arc_value part.base).items)
 
 -- the bytes: the first ones in place, or a part of what is shared
 abbrev pub bytes_of : Kept → List ℕ
-bytes_of (Inline len bytes) = take len bytes
-bytes_of (Shared base offset len) = take len (drop offset (arc_value base).items)
-
--- a short string lies in place, and only a long one is shared
-abbrev pub IsKept : Kept → Type 0
-IsKept (Inline len bytes) = len ≤ CUTOFF
-IsKept (Shared base offset len) = (CUTOFF < len) × (offset + len ≤ length (arc_value base).items)
+bytes_of (Inline short) = short_bytes short
+bytes_of (Shared part) = part_bytes part
 
 -- so short that a copy takes no memory
 abbrev pub IsShort : List ℕ → Type 0

@@ -1,17 +1,21 @@
 //! Byte strings that are kept in place where they are short, and shared where they are long.
 
-ghost use Rattle.std.specs.Prelude.{◌≡◌, ◌↔◌, ◌+◌, ◌<◌, ◌≤◌, [], length, take, drop, nat_eq, IsTrue, IfOk, IsOk, Some, refl};
+ghost use Rattle.std.specs.Prelude.{◌≡◌, ◌↔◌, ◌-◌, ◌<◌, ◌≤◌, [], length, take, drop, nat_eq, IsTrue, IfOk, IsOk, Some, refl};
 ghost use Rattle.std.specs.Arc.{arc_value};
+ghost use Rattle.std.specs.Box.{boxed_slice_items};
 ghost use Rattle.std.specs.Cmp as laws;
 ghost use Rattle.std.specs.Cmp.Lexicographic.{slice_cmp, pointwise, nat_list_eq_equiv, nat_list_cmp_total, texts_po, texts_ties, same_text};
 ghost use Rattle.std.specs.Hash as fed;
 ghost use Rattle.std.specs.Ordering.{nat_cmp};
 ghost use Rattle.std.proofs.Common.{ap, sym};
 
+use crate::kept::{Kept, Part, Short, shared_copy};
 use std::alloc::{AllocError, Global};
+use std::boxed::BoxedSlice;
 use std::cmp::Ordering;
 use std::fmt;
 use std::hash::{Hash, Hasher};
+use std::iter::FromIterator;
 use std::marker::Model;
 use std::sync::Arc;
 
@@ -26,28 +30,13 @@ pub struct IVec {
     kept: Kept,
 }
 
-#[derive(Drop)]
-enum Kept {
-    Inline {
-        len: u8,
-        bytes: [u8; CUTOFF],
-    },
-    Shared {
-        base: Arc<Vec<u8>>,
-        offset: usize,
-        len: usize,
-    },
-}
-
 impl Model for IVec {
     ghost use Rattle.std.specs.Prelude.{List, ℕ};
-    ghost use Rattle.sled_base.specs.Kept.{bytes_of, IsKept};
+    ghost use Rattle.sled_base.specs.Kept.{bytes_of};
 
     ghost Value = { List ℕ };
 
     ghost view = { λ v. bytes_of v.kept };
-
-    ghost invariant = { λ v. IsKept v.kept };
 }
 
 impl IVec {
@@ -63,13 +52,95 @@ impl IVec {
         Ok(IVec::shared(Arc::new(alloc, base)?))
     }
 
+    /// The bytes of a list, which is kept and not copied where they are more than [`CUTOFF`].
+    ///
+    /// Up to [`CUTOFF`] of them take no memory. An error means that memory is wanting, and the list is let go.
+    pub fn from_vec(alloc: Global, bytes: Vec<u8>) -> Result<IVec, AllocError>
+        ensures ok { IfOk result (λ v. v ≡ bytes.items) }
+        ensures few { length bytes.items ≤ CUTOFF → IsOk result }
+    {
+        if bytes.len() > CUTOFF {
+            return Ok(IVec::shared(Arc::new(alloc, bytes)?));
+        }
+        Ok(IVec::inline(&bytes))
+    }
+
+    /// The bytes of a boxed slice, which is taken as [`IVec::from_vec`] takes a list.
+    pub fn from_box(alloc: Global, bytes: BoxedSlice<u8>) -> Result<IVec, AllocError>
+        ensures ok { IfOk result (λ v. v ≡ boxed_slice_items bytes) }
+        ensures few { length (boxed_slice_items bytes) ≤ CUTOFF → IsOk result }
+    {
+        IVec::from_vec(alloc, bytes.into_vec())
+    }
+
+    /// The bytes of a shared list, which stays shared where they are more than [`CUTOFF`].
+    ///
+    /// It takes no memory and is never refused. The allocator is there as in the other calls of its kind.
+    pub fn from_arc(_alloc: Global, bytes: Arc<Vec<u8>>) -> Result<IVec, AllocError>
+        ensures ok { IfOk result (λ v. v ≡ (arc_value bytes).items) }
+        ensures taken { IsOk result }
+    {
+        if bytes.len() > CUTOFF {
+            return Ok(IVec::shared(bytes));
+        }
+        Ok(IVec::inline(&bytes))
+    }
+
+    /// A copy of the bytes of a text. Up to [`CUTOFF`] of them take no memory.
+    pub fn from_str(alloc: Global, text: &str) -> Result<IVec, AllocError>
+        ensures ok { IfOk result (λ v. v ≡ text.now) }
+        ensures few { length text.now ≤ CUTOFF → IsOk result }
+    {
+        IVec::from_slice(alloc, text.as_bytes())
+    }
+
+    /// The bytes of an array. Up to [`CUTOFF`] of them take no memory.
+    pub fn from_array<const N: usize>(alloc: Global, bytes: [u8; N]) -> Result<IVec, AllocError>
+        ensures ok { IfOk result (λ v. v ≡ bytes.entry) }
+        ensures few { N ≤ CUTOFF → IsOk result }
+    {
+        IVec::from_slice(alloc, &bytes)
+    }
+
+    /// `len` bytes from `offset` on. Up to [`CUTOFF`] of them take no memory, and more are shared with these.
+    ///
+    /// An error means that there are more holders than can be counted.
+    pub fn subslice(&self, offset: usize, len: usize) -> Result<IVec, AllocError>
+        requires start { offset ≤ length self.now }
+        requires end { len ≤ length self.now - offset }
+        ensures ok { IfOk result (λ v. v ≡ take len (drop offset self.now)) }
+        ensures few { len ≤ CUTOFF → IsOk result }
+    {
+        if let Kept::Shared(part) = &self.kept
+            && len > CUTOFF
+        {
+            return Ok(IVec {
+                kept: Kept::Shared(part.part(offset, len)?),
+            });
+        }
+        Ok(IVec::inline(&self.as_slice()[offset..offset + len]))
+    }
+
+    /// The bytes, shared. Where these are all the bytes of what is shared, it is that itself, and else a copy.
+    ///
+    /// An error means that memory for the copy is wanting, and the bytes are let go.
+    pub fn into_arc(self, alloc: Global) -> Result<Arc<Vec<u8>>, AllocError>
+        ensures { IfOk result (λ a. (arc_value a).items ≡ self) }
+    {
+        let IVec { kept } = self;
+        match kept {
+            Kept::Inline(short) => shared_copy(alloc, short.as_slice()),
+            Kept::Shared(part) => part.into_arc(alloc),
+        }
+    }
+
     /// The bytes, lent.
     pub fn as_slice(&self) -> &[u8]
         ensures { result.now ≡ self.now }
     {
         match &self.kept {
-            Kept::Inline { len, bytes } => &bytes[..*len as usize],
-            Kept::Shared { base, offset, len } => &base[*offset..*offset + *len],
+            Kept::Inline(short) => short.as_slice(),
+            Kept::Shared(part) => part.as_slice(),
         }
     }
 
@@ -94,17 +165,12 @@ impl IVec {
         self.as_slice() == bytes
     }
 
-    fn inline(from: &[u8]) -> IVec
-        requires { length from.now ≤ CUTOFF }
-        ensures { result ≡ from.now }
+    fn inline(bytes: &[u8]) -> IVec
+        requires { length bytes.now ≤ CUTOFF }
+        ensures { result ≡ bytes.now }
     {
-        let mut bytes = [0u8; CUTOFF];
-        bytes[..from.len()].copy_from_slice(from);
         IVec {
-            kept: Kept::Inline {
-                len: from.len() as u8,
-                bytes,
-            },
+            kept: Kept::Inline(Short::new(bytes)),
         }
     }
 
@@ -112,14 +178,20 @@ impl IVec {
         requires { CUTOFF < length (arc_value base).items }
         ensures { result ≡ (arc_value base).items }
     {
-        let len = base.len();
         IVec {
-            kept: Kept::Shared {
-                base,
-                offset: 0,
-                len,
-            },
+            kept: Kept::Shared(Part::whole(base)),
         }
+    }
+}
+
+impl FromIterator<u8> for IVec {
+    type Alloc = Global;
+
+    ghost from_iter_gives = { λ bytes v. v ≡ bytes };
+
+    /// The bytes that come, in their order. They are first put into a list.
+    fn from_iter<U: IntoIterator<Item = u8>>(alloc: Global, iter: U) -> Result<IVec, AllocError> {
+        IVec::from_vec(alloc, Vec::from_iter(alloc, iter)?)
     }
 }
 
@@ -141,21 +213,7 @@ impl Clone for IVec {
     ghost is_infallible = { IsShort };
 
     fn clone(&self) -> Result<IVec, AllocError> {
-        match &self.kept {
-            Kept::Inline { len, bytes } => Ok(IVec {
-                kept: Kept::Inline {
-                    len: *len,
-                    bytes: *bytes,
-                },
-            }),
-            Kept::Shared { base, offset, len } => Ok(IVec {
-                kept: Kept::Shared {
-                    base: base.clone()?,
-                    offset: *offset,
-                    len: *len,
-                },
-            }),
-        }
+        self.subslice(0, self.len())
     }
 }
 

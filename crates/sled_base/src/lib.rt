@@ -2,6 +2,7 @@
 #![tactic(auto)]
 
 pub mod ivec;
+mod kept;
 pub mod types;
 
 pub use ivec::IVec;

@@ -2,6 +2,8 @@ use super::*;
 use std::alloc::{AllocError, Global};
 use std::hash::{FoldHasher, Hash, Hasher};
 use std::process::Abort;
+use std::str;
+use std::sync::Arc;
 use std::test::Fail;
 
 // It passes with each allocation failing.
@@ -33,6 +35,97 @@ fn assert_bytes(rt: &impl Abort, string: &IVec, bytes: &[u8]) {
     assert_eq!(rt; string.len(), bytes.len());
     assert_eq!(rt; string.is_empty(), bytes.is_empty());
     assert!(rt; string.eq_bytes(bytes));
+}
+
+const LONG: [u8; 128] = [4; 128];
+
+#[test]
+fn long_strings_come_from_slices_arrays_and_iterators(rt: HostRuntime) -> Result<(), Fail> {
+    assert_uses(&rt, rt.alloc(), IVec::from_slice(rt.alloc(), &LONG)?)?;
+    assert_uses(&rt, rt.alloc(), IVec::from_array(rt.alloc(), LONG)?)?;
+    assert_uses(
+        &rt,
+        rt.alloc(),
+        IVec::from_iter(rt.alloc(), LONG.iter().copied())?,
+    )
+}
+
+#[test]
+fn long_strings_come_from_texts_and_boxes(rt: HostRuntime) -> Result<(), Fail> {
+    let text = str::from_utf8(&LONG).ok().ok_or("no text")?;
+    assert_uses(&rt, rt.alloc(), IVec::from_str(rt.alloc(), text)?)?;
+    let boxed = Vec::from_slice(rt.alloc(), &LONG)?.into_boxed_slice();
+    assert_uses(&rt, rt.alloc(), IVec::from_box(rt.alloc(), boxed)?)
+}
+
+#[test]
+fn long_strings_come_from_lists_and_shared_lists(rt: HostRuntime) -> Result<(), Fail> {
+    let list = Vec::from_slice(rt.alloc(), &LONG)?;
+    assert_uses(&rt, rt.alloc(), IVec::from_vec(rt.alloc(), list)?)?;
+    let shared = Arc::new(rt.alloc(), Vec::from_slice(rt.alloc(), &LONG)?)?;
+    assert_uses(&rt, rt.alloc(), IVec::from_arc(rt.alloc(), shared)?)
+}
+
+// The string, and each use of it, is `LONG`.
+fn assert_uses(rt: &impl Abort, alloc: Global, string: IVec) -> Result<(), Fail> {
+    assert_bytes(rt, &string, &LONG);
+    assert_bytes(rt, &string.clone()?, &LONG);
+    assert_bytes(rt, &string.subslice(0, string.len())?, &LONG);
+    assert_eq!(rt; string.into_arc(alloc)?.as_slice(), LONG.as_slice());
+    Ok(())
+}
+
+#[test]
+fn a_part_is_so_many_bytes_from_its_place_on(rt: HostRuntime) -> Result<(), Fail> {
+    let string = IVec::from_slice(rt.alloc(), &[1, 2, 3])?;
+    assert_bytes(&rt, &string.subslice(3, 0)?, &[]);
+    assert_bytes(&rt, &string.subslice(2, 1)?, &[3]);
+    assert_bytes(&rt, &string.subslice(1, 2)?, &[2, 3]);
+    assert_bytes(&rt, &string.subslice(0, 3)?, &[1, 2, 3]);
+    Ok(())
+}
+
+const LETTERS: &[u8; 26] = b"abcdefghijklmnopqrstuvwxyz";
+
+#[test]
+fn a_part_outlives_the_whole(rt: HostRuntime) -> Result<(), Fail> {
+    let string = IVec::from_slice(rt.alloc(), LETTERS)?;
+    let part = string.subslice(2, 23)?;
+    drop(string);
+    assert_bytes(&rt, &part, b"cdefghijklmnopqrstuvwxy");
+    assert_eq!(rt;
+        part.into_arc(rt.alloc())?.as_slice(),
+        b"cdefghijklmnopqrstuvwxy".as_slice()
+    );
+    Ok(())
+}
+
+#[test]
+fn short_strings_come_from_all_that_has_bytes(rt: HostRuntime) -> Result<(), Fail> {
+    let alloc = rt.alloc();
+    let list = Vec::from_slice(alloc, &[1, 2, 3])?;
+    assert_bytes(&rt, &IVec::from_vec(alloc, list)?, &[1, 2, 3]);
+    let shared = Arc::new(alloc, Vec::from_slice(alloc, &[5; 22])?)?;
+    assert_bytes(&rt, &IVec::from_arc(alloc, shared)?, &[5; 22]);
+    assert_bytes(&rt, &IVec::from_str(alloc, "abc")?, b"abc");
+    assert_bytes(&rt, &IVec::from_array(alloc, [7; 22])?, &[7; 22]);
+    assert_eq!(rt;
+        IVec::from_array(alloc, [1, 2])?.into_arc(alloc)?.as_slice(),
+        [1, 2].as_slice()
+    );
+    Ok(())
+}
+
+#[test]
+fn what_is_shared_whole_is_given_out_itself(rt: HostRuntime) -> Result<(), Fail> {
+    let shared = Arc::new(rt.alloc(), Vec::from_slice(rt.alloc(), LETTERS)?)?;
+    let other = shared.clone()?;
+    let string = IVec::from_arc(rt.alloc(), shared)?;
+    let same = string.into_arc(rt.alloc())?;
+    assert_eq!(rt; Arc::strong_count(&same), 2);
+    drop(other);
+    assert_eq!(rt; Arc::strong_count(&same), 1);
+    Ok(())
 }
 
 #[test]

@@ -1,0 +1,113 @@
+//! How the bytes of a string are kept: a short string in place, and a long one as a part of what is shared.
+
+ghost use Rattle.std.specs.Prelude.{◌≡◌, ◌+◌, ◌<◌, ◌≤◌, length, take, drop, IfOk};
+ghost use Rattle.std.specs.Arc.{arc_value};
+ghost use Rattle.sled_base.specs.declared.ivec.TheConstants.{CUTOFF};
+
+use crate::ivec::CUTOFF;
+use std::alloc::{AllocError, Global};
+use std::sync::Arc;
+
+#[derive(Drop)]
+pub(crate) enum Kept {
+    Inline(Short),
+    Shared(Part),
+}
+
+/// Up to [`CUTOFF`] bytes: the first `len` of an array.
+#[derive(Drop)]
+pub(crate) struct Short {
+    len: u8,
+    bytes: [u8; CUTOFF],
+    ghost short: { len ≤ CUTOFF },
+}
+
+/// More than [`CUTOFF`] bytes: `len` of those that are shared, from `offset` on.
+#[derive(Drop)]
+pub(crate) struct Part {
+    base: Arc<Vec<u8>>,
+    offset: usize,
+    len: usize,
+    ghost long: { CUTOFF < len },
+    ghost within: { offset + len ≤ length (arc_value base).items },
+}
+
+impl Short {
+    ghost use Rattle.sled_base.specs.Kept.{short_bytes};
+
+    /// A copy of the bytes.
+    pub(crate) fn new(from: &[u8]) -> Short
+        requires { length from.now ≤ CUTOFF }
+        ensures { short_bytes result ≡ from.now }
+    {
+        let mut bytes = [0u8; CUTOFF];
+        bytes[..from.len()].copy_from_slice(from);
+        Short {
+            len: from.len() as u8,
+            bytes,
+        }
+    }
+
+    /// The bytes, lent.
+    pub(crate) fn as_slice(&self) -> &[u8]
+        ensures { result.now ≡ short_bytes self.now }
+    {
+        &self.bytes[..self.len as usize]
+    }
+}
+
+impl Part {
+    ghost use Rattle.sled_base.specs.Kept.{part_bytes};
+
+    /// All that is shared.
+    pub(crate) fn whole(base: Arc<Vec<u8>>) -> Part
+        requires { CUTOFF < length (arc_value base).items }
+        ensures { part_bytes result ≡ (arc_value base).items }
+    {
+        let len = base.len();
+        Part {
+            base,
+            offset: 0,
+            len,
+        }
+    }
+
+    /// The bytes, lent.
+    pub(crate) fn as_slice(&self) -> &[u8]
+        ensures { result.now ≡ part_bytes self.now }
+    {
+        &self.base[self.offset..self.offset + self.len]
+    }
+
+    /// `len` bytes from `offset` on, which are shared with these.
+    pub(crate) fn part(&self, offset: usize, len: usize) -> Result<Part, AllocError>
+        requires long { CUTOFF < len }
+        requires within { offset + len ≤ length (part_bytes self.now) }
+        ensures { IfOk result (λ p. part_bytes p ≡ take len (drop offset (part_bytes self.now))) }
+    {
+        Ok(Part {
+            base: self.base.clone()?,
+            offset: self.offset + offset,
+            len,
+        })
+    }
+
+    /// The bytes, shared. Where these are all that is shared, it is that itself, and else a copy.
+    pub(crate) fn into_arc(self, alloc: Global) -> Result<Arc<Vec<u8>>, AllocError>
+        ensures { IfOk result (λ a. (arc_value a).items ≡ part_bytes self) }
+    {
+        if self.len < self.base.len() {
+            return shared_copy(alloc, self.as_slice());
+        }
+        let Part { base, .. } = self;
+        Ok(base)
+    }
+}
+
+/// A copy of the bytes, to be shared.
+pub(crate) fn shared_copy(alloc: Global, bytes: &[u8]) -> Result<Arc<Vec<u8>>, AllocError>
+    ensures { IfOk result (λ a. (arc_value a).items ≡ bytes.now) }
+{
+    let bytes = Vec::from_slice(alloc, bytes)?;
+    Ok(Arc::new(alloc, bytes)?)
+}
