@@ -1,6 +1,6 @@
 -- How a byte string is kept.
-use Rattle.std.specs.Prelude.{ℕ, ◌≤◌, List, length, take, drop}
-use Rattle.std.specs.Arc.{arc_value}
+use Rattle.std.specs.Prelude.{ℕ, ◌≤◌, List, length, take}
+use Rattle.sled_base.specs.Bases.{bytes_at}
 use Rattle.sled_base.specs.declared.ivec.TheConstants.{CUTOFF}
 use Rattle.sled_base.specs.declared.kept.Short.{Short}
 use Rattle.sled_base.specs.declared.kept.Part.{Part}
@@ -11,7 +11,7 @@ abbrev pub short_bytes : Short → List ℕ
 short_bytes short = take short.len short.bytes
 
 abbrev pub part_bytes : Part → List ℕ
-part_bytes part = take part.len (drop part.offset (arc_value part.base).items)
+part_bytes part = bytes_at part.base part.offset part.len
 
 -- the bytes: the first ones in place, or a part of what is shared
 abbrev pub bytes_of : Kept → List ℕ

@@ -1,5 +1,6 @@
 pub mod Errors
 pub mod Pointers
+pub mod Bases
 pub mod Kept
 pub mod Order
 pub mod OrderLaws

@@ -1,6 +1,7 @@
 //! Byte strings that are kept in place where they are short, and shared where they are long.
 
-ghost use Rattle.std.specs.Prelude.{◌≡◌, ◌↔◌, ◌-◌, ◌<◌, ◌≤◌, [], length, take, drop, nat_eq, IsTrue, IfOk, IsOk, Some, refl};
+ghost use Rattle.std.specs.Prelude.{◌≡◌, ◌↔◌, ◌-◌, ◌<◌, ◌≤◌, [], length, take, drop, nat_eq, IsTrue, IfOk, IsOk, OnErr, Some, refl};
+ghost use Rattle.std.specs.Fn.{FnOnceTakesAtMut, FnOnceReturnsAtMut};
 ghost use Rattle.std.specs.Arc.{arc_value};
 ghost use Rattle.std.specs.Box.{boxed_slice_items};
 ghost use Rattle.std.specs.Cmp as laws;
@@ -141,6 +142,28 @@ impl IVec {
         match &self.kept {
             Kept::Inline(short) => short.as_slice(),
             Kept::Shared(part) => part.as_slice(),
+        }
+    }
+
+    /// What `f` answers, which is lent the bytes to write. How many there are stays.
+    ///
+    /// Nobody else sees what is written. Up to [`CUTOFF`] bytes, and more that nobody else holds, are written in
+    /// place. The others are copied first. An error means that memory for the copy is wanting: then `f` isn't called,
+    /// and the bytes are as before.
+    pub fn write_with<R, F: FnOnce(&mut [u8]) -> R>(
+        &mut self,
+        alloc: Global,
+        f: F,
+    ) -> Result<R, AllocError>
+        requires { FnOnceTakesAtMut F.FnOnce f self.old }
+        ensures written { IfOk result (λ answer. FnOnceReturnsAtMut F.FnOnce f self.old answer self.new) }
+        ensures length { length self.new ≡ length self.old }
+        ensures few { length self.old ≤ CUTOFF → IsOk result }
+        ensures stays { OnErr result (self.new ≡ self.old) }
+    {
+        match &mut self.kept {
+            Kept::Inline(short) => Ok(short.write_with(f)),
+            Kept::Shared(part) => part.write_with(alloc, f),
         }
     }
 

@@ -1,8 +1,10 @@
 //! How the bytes of a string are kept: a short string in place, and a long one as a part of what is shared.
 
-ghost use Rattle.std.specs.Prelude.{◌≡◌, ◌+◌, ◌<◌, ◌≤◌, length, take, drop, IfOk};
+ghost use Rattle.std.specs.Prelude.{◌≡◌, ◌+◌, ◌<◌, ◌≤◌, length, take, drop, IfOk, OnErr};
+ghost use Rattle.std.specs.Fn.{FnOnceTakesAtMut, FnOnceReturnsAtMut};
 ghost use Rattle.std.specs.Arc.{arc_value};
 ghost use Rattle.sled_base.specs.declared.ivec.TheConstants.{CUTOFF};
+ghost use Rattle.sled_base.specs.Bases.{bytes_at};
 
 use crate::ivec::CUTOFF;
 use std::alloc::{AllocError, Global};
@@ -54,6 +56,15 @@ impl Short {
     {
         &self.bytes[..self.len as usize]
     }
+
+    /// What `f` answers, which is lent the bytes to write.
+    pub(crate) fn write_with<R, F: FnOnce(&mut [u8]) -> R>(&mut self, f: F) -> R
+        requires { FnOnceTakesAtMut F.FnOnce f (short_bytes self.old) }
+        ensures written { FnOnceReturnsAtMut F.FnOnce f (short_bytes self.old) result (short_bytes self.new) }
+        ensures length { length (short_bytes self.new) ≡ length (short_bytes self.old) }
+    {
+        write_front(&mut self.bytes, self.len as usize, f)
+    }
 }
 
 impl Part {
@@ -92,6 +103,31 @@ impl Part {
         })
     }
 
+    /// What `f` answers, which is lent the bytes to write. They are copied first where others hold them too.
+    pub(crate) fn write_with<R, F: FnOnce(&mut [u8]) -> R>(
+        &mut self,
+        alloc: Global,
+        f: F,
+    ) -> Result<R, AllocError>
+        requires { FnOnceTakesAtMut F.FnOnce f (part_bytes self.old) }
+        ensures written { IfOk result (λ answer. FnOnceReturnsAtMut F.FnOnce f (part_bytes self.old) answer (part_bytes self.new)) }
+        ensures length { length (part_bytes self.new) ≡ length (part_bytes self.old) }
+        ensures stays { OnErr result (part_bytes self.new ≡ part_bytes self.old) }
+    {
+        self.own(alloc)?;
+        write_part(&mut self.base, self.offset, self.len, f)
+    }
+
+    // Copies the bytes where others hold them too.
+    fn own(&mut self, alloc: Global) -> Result<(), AllocError>
+        ensures same { part_bytes self.new ≡ part_bytes self.old }
+    {
+        if Arc::strong_count(&self.base) > 1 {
+            *self = Part::whole(shared_copy(alloc, self.as_slice())?);
+        }
+        Ok(())
+    }
+
     /// The bytes, shared. Where these are all that is shared, it is that itself, and else a copy.
     pub(crate) fn into_arc(self, alloc: Global) -> Result<Arc<Vec<u8>>, AllocError>
         ensures { IfOk result (λ a. (arc_value a).items ≡ part_bytes self) }
@@ -101,6 +137,35 @@ impl Part {
         }
         let Part { base, .. } = self;
         Ok(base)
+    }
+}
+
+// What `f` answers, which is lent the first `len` bytes of an array to write.
+fn write_front<R, F: FnOnce(&mut [u8]) -> R>(bytes: &mut [u8; CUTOFF], len: usize, f: F) -> R
+    requires within { len ≤ CUTOFF }
+    requires callable { FnOnceTakesAtMut F.FnOnce f (take len bytes.old) }
+    ensures written { FnOnceReturnsAtMut F.FnOnce f (take len bytes.old) result (take len bytes.new) }
+    ensures length { length (take len bytes.new) ≡ length (take len bytes.old) }
+{
+    f(&mut bytes[..len])
+}
+
+// The same for `len` bytes of a list from `offset` on. It is an error where the list has another holder.
+fn write_part<R, F: FnOnce(&mut [u8]) -> R>(
+    base: &mut Arc<Vec<u8>>,
+    offset: usize,
+    len: usize,
+    f: F,
+) -> Result<R, AllocError>
+    requires within { offset + len ≤ length (arc_value base.old).items }
+    requires callable { FnOnceTakesAtMut F.FnOnce f (bytes_at base.old offset len) }
+    ensures written { IfOk result (λ answer. FnOnceReturnsAtMut F.FnOnce f (bytes_at base.old offset len) answer (bytes_at base.new offset len)) }
+    ensures length { length (arc_value base.new).items ≡ length (arc_value base.old).items }
+    ensures stays { OnErr result ((arc_value base.new).items ≡ (arc_value base.old).items) }
+{
+    match Arc::get_mut(base) {
+        Some(bytes) => Ok(f(bytes.slice_mut(offset..offset + len))),
+        None => Err(AllocError),
     }
 }
 

@@ -6,7 +6,9 @@ mod kept;
 pub mod types;
 
 pub use ivec::IVec;
-pub use types::{BlobPointer, Bug, Device, DiskPtr, Error, LogOffset, PageId, Refusal, Why};
+pub use types::{
+    BatchManifest, BlobPointer, Bug, Device, DiskPtr, Error, LogOffset, Lsn, PageId, Refusal, Why,
+};
 
 #[cfg(test)]
 mod tests;

@@ -1,3 +1,6 @@
+ghost use Rattle.std.specs.Prelude.{◌≡◌, ◌<◌, ◌≤◌, length, slice_set, IsOk, OnOk, OnErr};
+ghost use Rattle.sled_base.specs.declared.ivec.TheConstants.{CUTOFF};
+
 use super::*;
 use std::alloc::{AllocError, Global};
 use std::hash::{FoldHasher, Hash, Hasher};
@@ -272,6 +275,20 @@ fn pushed(alloc: Global, byte: u8) -> Result<Vec<u8>, Error> {
 }
 
 #[test]
+fn manifests_are_ordered_as_their_places(rt: HostRuntime) {
+    assert_eq!(rt; BatchManifest::default(), BatchManifest(0));
+    let places: [Lsn; 5] = [i64::MIN, -1, 0, 1, i64::MAX];
+    for (i, a) in places.iter().enumerate() {
+        for (j, b) in places.iter().enumerate() {
+            let (x, y) = (BatchManifest(*a), BatchManifest(*b));
+            assert_eq!(rt; x.cmp(&y), i.cmp(&j), "{a} and {b}");
+            assert_eq!(rt; x < y, i < j, "{a} and {b}");
+            assert_eq!(rt; x == y, i == j, "{a} and {b}");
+        }
+    }
+}
+
+#[test]
 fn a_pointer_knows_its_message_and_its_blob(rt: HostRuntime) {
     let inline = DiskPtr::Inline(7);
     assert_eq!(rt; inline.lid(), 7);
@@ -280,4 +297,49 @@ fn a_pointer_knows_its_message_and_its_blob(rt: HostRuntime) {
     assert_eq!(rt; blob.lid(), 7);
     assert!(rt; blob.is_blob());
     assert_eq!(rt; blob.blob(), (7, 9));
+}
+
+#[test]
+fn others_keep_the_bytes_from_before_a_write(rt: HostRuntime) -> Result<(), Fail> {
+    assert_keeps(&rt, rt.alloc(), &[1, 2, 3], 2)?;
+    assert_keeps(&rt, rt.alloc(), &LONG, 100)
+}
+
+// A copy of a string and its first `len` bytes stay as they were, and the string is written.
+fn assert_keeps(rt: &impl Abort, alloc: Global, bytes: &[u8], len: usize) -> Result<(), Fail> {
+    let mut string = IVec::from_slice(alloc, bytes)?;
+    let seen = string.write_with(alloc, |lent| Vec::from_slice(alloc, lent))??;
+    assert_eq!(rt; seen.as_slice(), bytes);
+    let copy = string.clone()?;
+    assert!(rt; 0 < len && len <= string.len());
+    let part = string.subslice(0, len)?;
+    set_first(&mut string, alloc, 9)?;
+    assert_eq!(rt; string.as_slice()[0], 9);
+    assert_eq!(rt; &string.as_slice()[1..], &bytes[1..]);
+    assert_bytes(rt, &copy, bytes);
+    assert_bytes(rt, &part, &bytes[..len]);
+    Ok(())
+}
+
+fn set_first(string: &mut IVec, alloc: Global, byte: u8) -> Result<(), AllocError>
+    requires { 0 < length string.old }
+    ensures written { OnOk result (string.new ≡ slice_set string.old 0 byte) }
+    ensures few { length string.old ≤ CUTOFF → IsOk result }
+    ensures stays { OnErr result (string.new ≡ string.old) }
+{
+    string.write_with(alloc, |bytes| bytes[0] = byte)
+}
+
+// A copy would have no room to spare.
+#[test]
+fn what_nobody_else_holds_is_written_where_it_lies(rt: HostRuntime) -> Result<(), Fail> {
+    let mut list = Vec::with_capacity(rt.alloc(), 100)?;
+    list.extend_from_slice(LETTERS)?;
+    let room = list.capacity();
+    let mut string = IVec::from_vec(rt.alloc(), list)?;
+    assert!(rt; !string.is_empty());
+    set_first(&mut string, rt.alloc(), 65)?;
+    assert_bytes(&rt, &string, b"Abcdefghijklmnopqrstuvwxyz");
+    assert_eq!(rt; string.into_arc(rt.alloc())?.capacity(), room);
+    Ok(())
 }

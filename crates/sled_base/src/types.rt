@@ -15,8 +15,15 @@ pub type PageId = u64;
 /// A place in a log, in bytes from its beginning.
 pub type LogOffset = u64;
 
+/// The place of a message in a log, as a log sequence number.
+pub type Lsn = i64;
+
 /// The place of the message that first held a blob.
 pub type BlobPointer = i64;
+
+/// What the mark of a batch in a log holds: the place of the batch's last record.
+#[derive(Clone, Copy, Debug, Default, PartialEq, Eq, PartialOrd, Ord)]
+pub struct BatchManifest(pub Lsn);
 
 /// Where a message stands in a log, and whether its payload is a blob.
 #[derive(Clone, Copy, Debug, PartialEq, Eq)]

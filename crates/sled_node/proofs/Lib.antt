@@ -7,3 +7,5 @@ pub mod NodeEdits
 pub mod Merging
 pub mod FromParts
 pub mod NodeEquality
+pub mod Payloads
+pub mod Roots

@@ -3,4 +3,7 @@ pub mod Equality
 pub mod DataEquality
 pub mod Node
 pub mod Links
+pub mod Meta
+pub mod MetaLaws
 pub mod Parts
+pub mod Payloads

@@ -1,9 +1,13 @@
 //! What a page holds: nodes of a tree, and the links that change them.
 #![tactic(auto)]
 
+pub mod meta;
 pub mod node;
+pub mod serialization;
 
+pub use meta::Meta;
 pub use node::{Data, Index, Item, Leaf, Link, Node};
+pub use serialization::Serialize;
 
 #[cfg(test)]
 mod tests;

@@ -14,8 +14,9 @@ ghost use Rattle.sled_node.specs.declared.node.link.Link.TheVariants.{Set, Del, 
 mod data;
 mod leaf;
 mod link;
-mod pairs;
+pub(crate) mod pairs;
 mod parts;
+mod payload;
 
 pub use data::{Data, Index, Item};
 pub use leaf::Leaf;

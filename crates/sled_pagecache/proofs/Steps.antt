@@ -1,14 +1,14 @@
 -- Steps of a cache, told of the pages that it keeps.
-use Rattle.std.proofs.Common.{◌≡◌, ◌==◌, ℕ, ◌+◌, ◌-◌, ◌^◌, ◌≤◌, true, false, List, [], ◌∷◌, ◌++◌, length, map, get_or, Option, None, Some, Result, Ok, Err, refl, sym, ap, subst, ◌∙◌, inl, inr, eq-eqb}
+use Rattle.std.proofs.Common.{◌≡◌, ◌==◌, ℕ, ◌+◌, ◌-◌, ◌^◌, false, List, [], ◌∷◌, ◌++◌, length, map, get_or, None, Some, Result, Ok, Err, refl, sym, ap, subst, ◌∙◌, inl, inr, eq-eqb}
 use Rattle.std.specs.Option.{option_map}
 use Rattle.std.specs.Prelude.{slice_get, slice_set}
 use Rattle.std.proofs.lemmas.Bool.{ne_eqb}
-use Rattle.std.proofs.lemmas.Option.{slice_get-map, slice_get_past, get_or_from_slice_get}
+use Rattle.std.proofs.lemmas.Option.{slice_get-map, get_or_from_slice_get}
 use Rattle.std.proofs.Math.Seq.{map-set_same}
 use Rattle.std.proofs.lemmas.List.{length-map, map-append, map-set}
 use Rattle.sled_base.specs.declared.types.Error.{Error}
 use Rattle.sled_base.specs.declared.types.Error.TheVariants.{Unsupported, OutOfMemory}
-use Rattle.sled_base.specs.declared.types.Why.TheVariants.{ReservedId, PagesUsedUp}
+use Rattle.sled_base.specs.declared.types.Why.TheVariants.{PagesUsedUp}
 use Rattle.sled_node.specs.Links.{applied}
 use Rattle.sled_node.specs.Node.{WholeNode}
 use Rattle.sled_node.specs.declared.node.link.Link.{Link}
@@ -18,7 +18,7 @@ use Rattle.sled_pagecache.specs.declared.pagecache.page.Content.TheVariants as c
 use Rattle.sled_pagecache.specs.Kept.{content_of, page_of}
 use Rattle.sled_pagecache.specs.Linking.{IsLinked, RefusesLink}
 use Rattle.sled_pagecache.specs.State.{Node, Page, page, State, is_free, greatest_free, with_page}
-use Rattle.sled_pagecache.specs.Step.{is_reserved, AddsPage, Allocates, Finds, Gets, Swapped, LinksContent, LinksPage, Links}
+use Rattle.sled_pagecache.specs.Step.{is_reserved, AddsPage, Allocates, Swapped, LinksContent, LinksPage, Links}
 use Rattle.sled_pagecache.specs.Token.{Token, token}
 
 -- the state of a cache that keeps these pages
@@ -60,19 +60,7 @@ adds_page s ps qs p node pid made is room last first added shown =
     let pages : map page_of qs ≡ map page_of ps ++ page 1 (Node node) ∷ [] = ap (map page_of) added ∙ map-append page_of ps (p ∷ []) ∙ ap (λ q. map page_of ps ++ q ∷ []) shown in
     adds s ps node (Ok (pid, made)) (kept qs) is (rw (below_full ps room) (len, (first ∙ ap (λ n. token n 1) len), ap (λ (all : List Page). record (kept ps) { pages = all }) pages))
 
--- ---- get
-
-pub gets_reserved : (s : State) (pid : ℕ) → s.fault ≡ false → is_reserved pid ≡ true → Gets s pid (Err (Unsupported ReservedId)) s
-gets_reserved s pid well reserved = rw (well, reserved) (refl, refl)
-
--- what stands at the id is found
-pub gets : (s : State) (ps : List KeptPage) (pid : ℕ) (answer : Result (Option (Token × WholeNode)) Error) → kept ps ≡ s → is_reserved pid ≡ false → Finds (kept ps) pid (option_map page_of (slice_get ps pid)) answer (kept ps) → Gets s pid answer s
-gets s ps pid answer is free found = subst (λ u. Gets u pid answer u) is (rw (free, slice_get-map page_of ps pid) found)
-
 -- ---- link
-
-pub links_reserved : (s : State) (old : Token) (pid : ℕ) (link : Link) → s.fault ≡ false → old.pid ≡ pid → is_reserved pid ≡ true → Links s old link (Err (Unsupported ReservedId)) s
-links_reserved s old pid link well same reserved = rw (well, same, reserved) (refl, refl)
 
 -- what stands at the id is asked
 links : (s t : State) (ps : List KeptPage) (old : Token) (pid : ℕ) (link : Link) (answer : Swapped Link) → kept ps ≡ s → old.pid ≡ pid → is_reserved pid ≡ false → LinksPage (kept ps) old link (option_map page_of (slice_get ps pid)) answer t → Links s old link answer t
@@ -80,10 +68,6 @@ links s t ps old pid link answer is same free found =
     let outside : is_reserved old.pid ≡ false = ap is_reserved same ∙ free in
     let at : slice_get (map page_of ps) old.pid ≡ option_map page_of (slice_get ps pid) = ap (slice_get (map page_of ps)) same ∙ slice_get-map page_of ps pid in
     subst (λ u. Links u old link answer t) is (rw (outside, at) found)
-
-pub links_none : (s : State) (ps : List KeptPage) (old : Token) (pid : ℕ) (link : Link) → kept ps ≡ s → old.pid ≡ pid → is_reserved pid ≡ false → length ps ≤ pid → Links s old link (Ok (Err None)) s
-links_none s ps old pid link is same free past =
-    links s s ps old pid link (Ok (Err None)) is same free (rw (slice_get_past ps pid past) (refl, sym is))
 
 -- a page stands at the id
 links_at : (s t : State) (ps : List KeptPage) (old : Token) (pid : ℕ) (link : Link) (answer : Swapped Link) (p : KeptPage) → kept ps ≡ s → old.pid ≡ pid → is_reserved pid ≡ false → slice_get ps pid ≡ Some p → LinksContent (kept ps) old link p.stamp (content_of p.content) answer t → Links s old link answer t

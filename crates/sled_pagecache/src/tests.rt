@@ -1,6 +1,5 @@
 use super::*;
 use std::alloc::{AllocError, Global};
-use std::process::Abort;
 use std::test::Fail;
 
 const CONFIG: Config = Config {
@@ -9,8 +8,18 @@ const CONFIG: Config = Config {
     segment_size: 4096,
 };
 
+/// What a link answers.
+type Swapped = Result<Result<PageView, Option<(PageView, Link)>>, Error>;
+
+// Steps of the tests. Each asks the cache one thing, and what comes back is let go here: a test that let it go itself would
+// be proved for each way in which it may be kept.
+
 fn open(alloc: Global, config: Config) -> Result<PageCache, (Error, MemLog)> {
     PageCache::start(alloc, config, MemLog::new(alloc, 512, 16))
+}
+
+fn opened(alloc: Global) -> Result<PageCache, Fail> {
+    Ok(open(alloc, CONFIG)?)
 }
 
 fn set(alloc: Global, key: &[u8], value: &[u8]) -> Result<Link, AllocError> {
@@ -20,40 +29,121 @@ fn set(alloc: Global, key: &[u8], value: &[u8]) -> Result<Link, AllocError> {
     ))
 }
 
-// The page has a node with this stamp and no pairs.
-fn expect_empty(
-    rt: &impl Abort,
-    cache: &mut PageCache,
-    pid: PageId,
-    stamp: u64,
-) -> Result<(), Fail> {
-    let view = cache.get(pid)?.ok_or("a page")?;
-    assert_eq!(rt; view.token(), PageView::new(pid, stamp));
-    assert_eq!(rt; view.node().len(), 0);
-    Ok(())
+// Whether a config has this fault, or none. A log that was refused, or that was in use, serves again.
+fn has_fault(alloc: Global, config: Config, fault: Option<Why>) -> bool {
+    match open(alloc, config) {
+        Ok(cache) => fault.is_none() && serves(alloc, cache.into_log()),
+        Err((error, log)) => is_fault(error, fault) && serves(alloc, log),
+    }
 }
 
-// The page has a node with this stamp and one pair, of this stored key and this value.
-fn expect_pair(
-    rt: &impl Abort,
-    cache: &mut PageCache,
-    pid: PageId,
-    stamp: u64,
-    key: &[u8],
-    value: &[u8],
-) -> Result<(), Fail> {
-    let view = cache.get(pid)?.ok_or("a page")?;
-    assert_eq!(rt; view.token(), PageView::new(pid, stamp));
-    let node = view.node();
-    assert_eq!(rt; node.len(), 1);
+fn is_fault(error: Error, fault: Option<Why>) -> bool {
+    match error {
+        Error::Unsupported(why) => fault == Some(why),
+        _ => false,
+    }
+}
+
+fn serves(alloc: Global, log: MemLog) -> bool {
+    PageCache::start(alloc, CONFIG, log).is_ok()
+}
+
+// Whether the node goes to the page with this id, at stamp 1.
+fn adds(cache: &mut PageCache, node: Node, pid: PageId) -> bool {
+    match cache.allocate(node) {
+        Ok(made) => made == (pid, PageView::new(pid, 1)),
+        Err(_) => false,
+    }
+}
+
+fn adds_leaf(alloc: Global, cache: &mut PageCache, pid: PageId) -> bool {
+    adds(cache, Node::default(alloc), pid)
+}
+
+// Whether a link, by the token with this stamp, is answered so.
+fn answers(cache: &mut PageCache, pid: PageId, stamp: u64, link: Link, wanted: Swapped) -> bool {
+    let answer = cache.link(pid, PageView::new(pid, stamp), link);
+    let is_so = answer == wanted;
+    let_go(answer);
+    let_go(wanted);
+    is_so
+}
+
+fn let_go(_answer: Swapped) {}
+
+// Whether a link to page 2, by the token with this stamp, is answered by the present token and the same link.
+fn is_stale(cache: &mut PageCache, stamp: u64, link: Link, present: PageView, same: Link) -> bool {
+    answers(cache, 2, stamp, link, Ok(Err(Some((present, same)))))
+}
+
+fn is_gone(cache: &mut PageCache, pid: PageId, link: Link) -> bool {
+    answers(cache, pid, 1, link, Ok(Err(None)))
+}
+
+fn is_reserved(cache: &mut PageCache, pid: PageId, stamp: u64, link: Link) -> bool {
+    let refused = Err(Error::Unsupported(Why::ReservedId));
+    answers(cache, pid, stamp, link, refused)
+}
+
+// Whether page 2, at this stamp, refuses the link.
+fn refuses(cache: &mut PageCache, stamp: u64, link: Link) -> bool {
+    let refused = Err(Error::ReportableBug(Bug::LinkRefused));
+    answers(cache, 2, stamp, link, refused)
+}
+
+// Whether page 2, at stamp 1, takes the link.
+fn takes(cache: &mut PageCache, link: Link) -> bool {
+    answers(cache, 2, 1, link, Ok(Ok(PageView::new(2, 2))))
+}
+
+// Whether the page is not lent, since it is the cache's own.
+fn is_kept_back(cache: &mut PageCache, pid: PageId) -> bool {
+    matches!(cache.get(pid), Err(Refusal::Unsupported(Why::ReservedId)))
+}
+
+fn is_absent(cache: &mut PageCache, pid: PageId) -> bool {
+    matches!(cache.get(pid), Ok(None))
+}
+
+// An empty leaf of the keys between these, of which the first byte is a prefix.
+fn node_between(alloc: Global, lo: &[u8], hi: &[u8]) -> Result<Option<Node>, AllocError> {
+    let lo = IVec::from_slice(alloc, lo)?;
+    let hi = IVec::from_slice(alloc, hi)?;
+    Ok(leaf_of(1, lo, hi, Leaf::default(alloc)))
+}
+
+fn leaf_of(prefix_len: u8, lo: IVec, hi: IVec, leaf: Leaf) -> Option<Node> {
+    Node::from_parts(prefix_len, None, None, false, lo, hi, Data::Leaf(leaf))
+}
+
+// Whether the page has a node with this stamp and no pairs.
+fn is_empty(cache: &mut PageCache, pid: PageId, stamp: u64) -> bool {
+    match cache.get(pid) {
+        Ok(Some(view)) => view.token() == PageView::new(pid, stamp) && view.node().len() == 0,
+        _ => false,
+    }
+}
+
+// Whether the page has a node with this stamp and one pair, of this stored key and this value.
+fn has_pair(cache: &mut PageCache, pid: PageId, stamp: u64, key: &[u8], value: &[u8]) -> bool {
+    match cache.get(pid) {
+        Ok(Some(view)) => {
+            view.token() == PageView::new(pid, stamp) && is_pair(view.node(), key, value)
+        }
+        _ => false,
+    }
+}
+
+fn is_pair(node: &Node, key: &[u8], value: &[u8]) -> bool {
+    if node.len() != 1 {
+        return false;
+    }
     let (stored, item) = node.pair(0);
-    assert_eq!(rt; stored, key);
-    assert_eq!(rt; item, Item::Value(value));
-    Ok(())
+    stored == key && item == Item::Value(value)
 }
 
 #[test]
-fn the_first_fault_of_a_config_is_answered(rt: HostRuntime) -> Result<(), Fail> {
+fn the_first_fault_of_a_config_is_answered(rt: HostRuntime) {
     for (cache_capacity, idgen_persist_interval, segment_size, fault) in [
         (255, 0, 0, Some(Why::CapacityTooSmall)),
         (256, 0, 0, Some(Why::IntervalZero)),
@@ -65,108 +155,98 @@ fn the_first_fault_of_a_config_is_answered(rt: HostRuntime) -> Result<(), Fail> 
             idgen_persist_interval,
             segment_size,
         };
-        let (refused, log) = match open(rt.alloc(), config) {
-            Ok(cache) => (None, cache.into_log()),
-            Err((error, log)) => (Some(error), log),
-        };
-        let wanted = fault.map(Error::Unsupported);
-        assert_eq!(rt; refused, wanted, "{config:?}");
-        PageCache::start(rt.alloc(), CONFIG, log)?;
+        assert!(rt; has_fault(rt.alloc(), config, fault), "{config:?}");
     }
-    Ok(())
 }
 
 #[test]
 fn new_pages_come_behind_the_two_of_the_cache(rt: HostRuntime) -> Result<(), Fail> {
-    let mut cache = open(rt.alloc(), CONFIG)?;
+    let mut cache = opened(rt.alloc())?;
     assert!(rt; !cache.was_recovered());
     for pid in [2, 3] {
-        let made = cache.allocate(Node::default(rt.alloc()))?;
-        assert_eq!(rt; made, (pid, PageView::new(pid, 1)));
+        assert!(rt; adds_leaf(rt.alloc(), &mut cache, pid), "page {pid}");
     }
     for pid in [2, 3] {
-        expect_empty(&rt, &mut cache, pid, 1)?;
+        assert!(rt; is_empty(&mut cache, pid, 1), "page {pid}");
     }
     for pid in [0, 1, u64::MAX - 666] {
-        let answer = cache.get(pid);
-        assert!(rt;
-            matches!(answer, Err(Refusal::Unsupported(Why::ReservedId))),
-            "page {pid}"
-        );
+        assert!(rt; is_kept_back(&mut cache, pid), "page {pid}");
     }
     for pid in [4, 9, u64::MAX] {
-        assert!(rt; cache.get(pid)?.is_none(), "page {pid}");
+        assert!(rt; is_absent(&mut cache, pid), "page {pid}");
     }
     Ok(())
 }
 
 #[test]
 fn a_link_wants_the_present_token(rt: HostRuntime) -> Result<(), Fail> {
-    let mut cache = open(rt.alloc(), CONFIG)?;
-    cache.allocate(Node::default(rt.alloc()))?;
-    let first = PageView::new(2, 1);
+    let alloc = rt.alloc();
+    let mut cache = opened(alloc)?;
+    assert!(rt; adds_leaf(alloc, &mut cache, 2));
     let second = PageView::new(2, 2);
-    assert_eq!(rt;
-        cache.link(2, first, set(rt.alloc(), b"b", b"v")?)?,
-        Ok(second)
-    );
-    expect_pair(&rt, &mut cache, 2, 2, b"b", b"v")?;
+    assert!(rt; takes(&mut cache, set(alloc, b"b", b"v")?));
+    assert!(rt; has_pair(&mut cache, 2, 2, b"b", b"v"));
     for stamp in [0, 1, 3, u64::MAX] {
-        let answer = cache.link(2, PageView::new(2, stamp), set(rt.alloc(), b"c", b"w")?)?;
-        let link = set(rt.alloc(), b"c", b"w")?;
-        assert_eq!(rt; answer, Err(Some((second, link))), "stamp {stamp}");
-        expect_pair(&rt, &mut cache, 2, 2, b"b", b"v")?;
+        let (link, same) = (set(alloc, b"c", b"w")?, set(alloc, b"c", b"w")?);
+        assert!(rt;
+            is_stale(&mut cache, stamp, link, second, same),
+            "stamp {stamp}"
+        );
+        assert!(rt; has_pair(&mut cache, 2, 2, b"b", b"v"), "stamp {stamp}");
     }
     Ok(())
 }
 
 #[test]
-fn a_link_wants_a_page_and_a_node_that_accepts_it(rt: HostRuntime) -> Result<(), Fail> {
-    let mut cache = open(rt.alloc(), CONFIG)?;
-    cache.allocate(Node::default(rt.alloc()))?;
+fn a_link_wants_a_page(rt: HostRuntime) -> Result<(), Fail> {
+    let alloc = rt.alloc();
+    let mut cache = opened(alloc)?;
+    assert!(rt; adds_leaf(alloc, &mut cache, 2));
     for pid in [9, u64::MAX] {
-        let answer = cache.link(pid, PageView::new(pid, 1), set(rt.alloc(), b"b", b"v")?)?;
-        assert_eq!(rt; answer, Err(None), "page {pid}");
+        let link = set(alloc, b"b", b"v")?;
+        assert!(rt; is_gone(&mut cache, pid, link), "page {pid}");
     }
     for (pid, stamp) in [(0, 1), (0, 7), (1, 1), (u64::MAX - 666, 1)] {
-        let answer = cache.link(pid, PageView::new(pid, stamp), set(rt.alloc(), b"b", b"v")?);
-        assert_eq!(rt;
-            answer,
-            Err(Error::Unsupported(Why::ReservedId)),
-            "page {pid}"
-        );
+        let link = set(alloc, b"b", b"v")?;
+        assert!(rt; is_reserved(&mut cache, pid, stamp, link), "page {pid}");
     }
-    let refused = Err(Error::ReportableBug(Bug::LinkRefused));
-    let answer = cache.link(2, PageView::new(2, 1), Link::ParentMergeConfirm);
-    assert_eq!(rt; answer, refused);
-    expect_empty(&rt, &mut cache, 2, 1)?;
-    let capped = cache.link(2, PageView::new(2, 1), Link::ChildMergeCap)?;
-    assert_eq!(rt; capped, Ok(PageView::new(2, 2)));
+    Ok(())
+}
+
+#[test]
+fn a_link_wants_a_node_that_accepts_it(rt: HostRuntime) -> Result<(), Fail> {
+    let alloc = rt.alloc();
+    let mut cache = opened(alloc)?;
+    assert!(rt; adds_leaf(alloc, &mut cache, 2));
+    assert!(rt; refuses(&mut cache, 1, Link::ParentMergeConfirm));
+    assert!(rt; is_empty(&mut cache, 2, 1));
+    assert!(rt; takes(&mut cache, Link::ChildMergeCap));
     for link in [
-        set(rt.alloc(), b"b", b"v")?,
-        Link::Del(IVec::from_slice(rt.alloc(), b"b")?),
+        set(alloc, b"b", b"v")?,
+        Link::Del(IVec::from_slice(alloc, b"b")?),
         Link::ParentMergeIntention(5),
         Link::ParentMergeConfirm,
         Link::ChildMergeCap,
     ] {
-        assert_eq!(rt; cache.link(2, PageView::new(2, 2), link), refused);
-        expect_empty(&rt, &mut cache, 2, 2)?;
+        assert!(rt; refuses(&mut cache, 2, link));
+        assert!(rt; is_empty(&mut cache, 2, 2));
     }
     Ok(())
 }
 
 #[test]
 fn a_page_keeps_stored_keys_without_the_prefix(rt: HostRuntime) -> Result<(), Fail> {
-    let lo = IVec::from_slice(rt.alloc(), b"ba")?;
-    let hi = IVec::from_slice(rt.alloc(), b"bz")?;
-    let contents = Data::Leaf(Leaf::default(rt.alloc()));
-    let node = Node::from_parts(1, None, None, false, lo, hi, contents).ok_or("well-formed")?;
-    let mut cache = open(rt.alloc(), CONFIG)?;
-    let (pid, token) = cache.allocate(node)?;
-    assert_eq!(rt; (pid, token), (2, PageView::new(2, 1)));
-    let linked = cache.link(2, PageView::new(2, 1), set(rt.alloc(), b"b", b"v")?)?;
-    assert_eq!(rt; linked, Ok(PageView::new(2, 2)));
-    expect_pair(&rt, &mut cache, 2, 2, b"b", b"v")?;
+    let alloc = rt.alloc();
+    let mut cache = opened(alloc)?;
+    assert!(rt;
+        adds(
+            &mut cache,
+            node_between(alloc, b"ba", b"bz")?.ok_or("well-formed")?,
+            2
+        )
+    );
+    assert!(rt; takes(&mut cache, set(alloc, b"b", b"v")?));
+    assert!(rt; has_pair(&mut cache, 2, 2, b"b", b"v"));
     let view = cache.get(2)?.ok_or("a page")?;
     assert_eq!(rt; view.node().prefix_len(), 1);
     assert_eq!(rt; view.node().lo().as_slice(), b"ba".as_slice());

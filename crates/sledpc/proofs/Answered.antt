@@ -14,7 +14,7 @@ use Rattle.sledpc.specs.declared.lines.ReadError.{ReadError}
 use Rattle.sledpc.specs.declared.lines.ReadError.TheVariants as unread
 use Rattle.sledpc.specs.declared.script.run.RunError.{RunError}
 use Rattle.sledpc.specs.declared.script.run.RunError.TheVariants.{Read, Write, Memory}
-use Rattle.sledpc.proofs.LinesOf.{has_line, has_last, has_end}
+use Rattle.sledpc.proofs.LinesOf.{has_line, not_empty}
 use Rattle.sledpc.specs.declared.lines.TheConstants.{MAX_LINE}
 
 -- one more line is answered
@@ -70,7 +70,7 @@ line_unread s t (Some input) None next old new kept e so why = absurd so
 line_unread s t (Some input) (Some rest) next old new kept unread.Read so why = stops s t input rest old new Read so so.written
 line_unread s t (Some input) (Some rest) None old new kept unread.Memory so why = absurd why.1
 line_unread s t (Some input) (Some rest) (Some next) old new kept unread.Memory so why =
-    let some : rest ≢ [] = λ none. has_last kept why.0 next (sym why.1 ∙ none) in
+    let some : rest ≢ [] = λ none. not_empty kept why.0 next (sym (append_assoc kept (why.0 ∷ []) next) ∙ sym why.1 ∙ none) in
     stops s t input rest old new Memory so (has_line rest some, so.written)
 
 -- the input is at its end
@@ -104,7 +104,7 @@ module _ (s t u : State) (input rest next : Bytes) (old mid new : Option Bytes) 
     lines = lines_on;
     replies = so.replies ++ reply ∷ [];
     run = runs_more s t u so.answered so.replies line reply so.run told;
-    stopped = (has_end so.answered line, (text_of so.replies ++ wrote.0, wrote.1, text_more so.replies reply ∙ ap (λ text. text_of so.replies ++ text) wrote.2 ∙ sym (append_assoc (text_of so.replies) wrote.0 wrote.1), Appends-trans old mid new (text_of so.replies) wrote.0 so.written wrote.3));
+    stopped = (not_empty so.answered line [], (text_of so.replies ++ wrote.0, wrote.1, text_more so.replies reply ∙ ap (λ text. text_of so.replies ++ text) wrote.2 ∙ sym (append_assoc (text_of so.replies) wrote.0 wrote.1), Appends-trans old mid new (text_of so.replies) wrote.0 so.written wrote.3));
   }
 
 -- a line that was kept is answered

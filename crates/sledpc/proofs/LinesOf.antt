@@ -71,14 +71,10 @@ pub has_line : (text : Bytes) → text ≢ [] → lines_of text ≢ []
 has_line [] some = absurd (some refl)
 has_line (byte ∷ text) some = line_by_test byte text (eqb byte 10) refl
 
--- a list with something behind others is not empty
-pub has_end : {A : Type 0} (others : List A) (last : A) → others ++ last ∷ [] ≢ []
-has_end [] last none = absurd cc
-has_end (other ∷ others) last none = absurd cc
-
-pub has_last : {A : Type 0} (others : List A) (last : A) (rest : List A) → (others ++ last ∷ []) ++ rest ≢ []
-has_last [] last rest none = absurd cc
-has_last (other ∷ others) last rest none = absurd cc
+-- a list that something stands in is not empty
+pub not_empty : {A : Type 0} (before : List A) (item : A) (after : List A) → before ++ item ∷ after ≢ []
+not_empty [] item after none = absurd cc
+not_empty (first ∷ before) item after none = absurd cc
 
 -- ---- what reading a line found
 

@@ -1,12 +1,16 @@
 //! What a node holds: a leaf's values, or an index's pages.
 
-ghost use Rattle.std.specs.Prelude.{◌≡◌, ◌↔◌, ◌==◌, ◌<◌, ◌^◌, [], length, position, Some, IsTrue, OnOk, OnErr, Any, nat_eq, slice_get};
+ghost use Rattle.std.specs.Prelude.{◌≡◌, ◌↔◌, ◌==◌, ◌<◌, ◌^◌, [], length, position, Some, IsTrue, IfOk, OnOk, OnErr, Any, nat_eq, slice_get};
 ghost use Rattle.std.specs.Cmp.{partial_equiv_from_equiv};
+ghost use Rattle.std.specs.Option.{SomeIff};
+ghost use Rattle.std.specs.List.{AllByRecursion};
 ghost use Rattle.sled_node.specs.Pairs.{HasPairs};
 ghost use Rattle.sled_node.specs.Equality.{same_pairs, index_equiv};
 ghost use Rattle.sled_node.specs.Parts.{CanSet, set_stored, del_stored, LeadsTo, without_page, without_stored};
 
+use super::MAX_PAIRS;
 use super::leaf::Leaf;
+use super::pairs::{are_rising, are_short};
 use sled_base::{IVec, PageId};
 use std::alloc::{AllocError, Global};
 use std::marker::Model;
@@ -45,6 +49,20 @@ impl Index {
         }
     }
 
+    /// An index of these pairs, or none where the keys don't rise strictly or a limit of a node is passed.
+    pub fn from_pairs(
+        _alloc: Global,
+        pairs: Vec<(IVec, PageId)>,
+    ) -> Result<Option<Index>, AllocError>
+        ensures { IfOk result (λ index. SomeIff index (HasPairs (λ page. page < 2 ^ 64) pairs.items) pairs.items) }
+    {
+        know_pages(&pairs);
+        if pairs.len() > MAX_PAIRS || !are_rising(&pairs) || !are_short(&pairs) {
+            return Ok(None);
+        }
+        Ok(Some(Index { pairs }))
+    }
+
     pub(super) fn len(&self) -> usize
         ensures { result ≡ length self.now }
     {
@@ -79,6 +97,23 @@ impl Index {
     {
         remove_from(&mut self.pairs, page);
     }
+}
+
+// Does nothing. The pages are numbers of 64 bits, and a proof learns it here.
+fn know_pages(pairs: &[(IVec, PageId)])
+    ensures { AllByRecursion (λ pair. pair.1 < 2 ^ 64) pairs.now }
+{
+    for pair in pairs {
+        page_of(pair);
+    }
+}
+
+// The page of a pair, a number of 64 bits.
+fn page_of(pair: &(IVec, PageId)) -> PageId
+    ensures value { result ≡ pair.now.1 }
+    ensures bound { result < 2 ^ 64 }
+{
+    pair.1
 }
 
 fn remove_from(pairs: &mut Vec<(IVec, PageId)>, page: PageId)

@@ -40,32 +40,70 @@ fn text(alloc: Global, from: &str) -> Result<String, AllocError> {
     String::from_str(alloc, from)
 }
 
-// What the program writes for a script, where it ends with status 0 and tells no fault.
-fn served(alloc: Global, script: &[u8]) -> Result<Option<Vec<u8>>, AllocError> {
-    let words = [text(alloc, "mem")?];
+fn texts(alloc: Global, from: &[&str]) -> Result<Vec<String>, AllocError> {
+    let mut words = Vec::new(alloc);
+    for word in from {
+        words.push(text(alloc, word)?)?;
+    }
+    Ok(words)
+}
+
+// Steps of the tests. Each runs the program once, and what it made is let go here: a test that let it go itself would be
+// proved for each way in which a run may end.
+
+// Whether the program ends a script so, and tells this fault.
+fn ends_so<R: Read, W: Write>(
+    alloc: Global,
+    input: &mut R,
+    output: &mut W,
+    status: u8,
+    fault: &[u8],
+) -> Result<bool, AllocError> {
+    let words = texts(alloc, &["mem"])?;
+    let mut faults = Vec::new(alloc);
+    let ended = drive(alloc, Some(words.as_slice()), input, output, &mut faults);
+    Ok(ended == status && faults.as_slice() == fault)
+}
+
+// Whether the program answers a script so, ends with status 0 and tells no fault.
+fn replies(alloc: Global, script: &[u8], want: &[u8]) -> Result<bool, AllocError> {
     let mut input = script;
     let mut output = Vec::new(alloc);
+    let is_done = ends_so(alloc, &mut input, &mut output, 0, b"")?;
+    Ok(is_done && output.as_slice() == want)
+}
+
+// A script whose first line has so many digits of a value.
+fn long_script(alloc: Global, digits: usize) -> Result<Vec<u8>, AllocError> {
+    let mut script = Vec::from_slice(alloc, b"set 9 10 61 ")?;
+    for _ in 0..digits {
+        script.push(b'0')?;
+    }
+    script.extend_from_slice(b"\nget 9\n")?;
+    Ok(script)
+}
+
+// Whether the words are told to be wrong, and no stream is touched.
+fn are_wrong(alloc: Global, words: Option<&[String]>) -> bool {
     let mut faults = Vec::new(alloc);
     let status = drive(
         alloc,
-        Some(words.as_slice()),
-        &mut input,
-        &mut output,
+        words,
+        &mut Broken { reads: 1 },
+        &mut Broken { reads: 0 },
         &mut faults,
     );
-    if status == 0 && faults.is_empty() {
-        return Ok(Some(output));
-    }
-    Ok(None)
+    status == 2 && faults.as_slice() == TOLD_USAGE
 }
 
 #[test]
 fn a_first_script(rt: HostRuntime) -> Result<(), Fail> {
-    let script = b"alloc\nset 2 1 62 76\nget 2\nset 2 1 63 77\n";
-    let output = served(rt.alloc(), script)?.ok_or("failed")?;
-    assert_eq!(rt;
-        output.as_slice(),
-        b"page 2 1\nok 2\nleaf 2 62=76\nstale 2\n".as_slice()
+    assert!(rt;
+        replies(
+            rt.alloc(),
+            b"alloc\nset 2 1 62 76\nget 2\nset 2 1 63 77\n",
+            b"page 2 1\nok 2\nleaf 2 62=76\nstale 2\n"
+        )?
     );
     Ok(())
 }
@@ -113,8 +151,8 @@ fn replies_to_lines(rt: HostRuntime) -> Result<(), Fail> {
             "error line\nerror line\nerror line\nerror line\nerror line\nerror line\nerror line\nerror line\nerror line\n",
         ),
     ] {
-        let output = served(rt.alloc(), script.as_bytes())?.ok_or("failed")?;
-        assert_eq!(rt; output.as_slice(), want.as_bytes(), "at {script}");
+        let is_so = replies(rt.alloc(), script.as_bytes(), want.as_bytes())?;
+        assert!(rt; is_so, "at {script}");
     }
     Ok(())
 }
@@ -125,13 +163,9 @@ fn a_line_of_65536_bytes_is_read_and_a_longer_one_is_not(rt: HostRuntime) -> Res
         (65_524usize, "gone\nnone\n"),
         (65_526, "error line\nnone\n"),
     ] {
-        let mut script = Vec::from_slice(rt.alloc(), b"set 9 10 61 ")?;
-        for _ in 0..digits {
-            script.push(b'0')?;
-        }
-        script.extend_from_slice(b"\nget 9\n")?;
-        let output = served(rt.alloc(), script.as_slice())?.ok_or("failed")?;
-        assert_eq!(rt; output.as_slice(), want.as_bytes(), "with {digits} digits");
+        let script = long_script(rt.alloc(), digits)?;
+        let is_so = replies(rt.alloc(), &script, want.as_bytes())?;
+        assert!(rt; is_so, "with {digits} digits");
     }
     Ok(())
 }
@@ -139,68 +173,57 @@ fn a_line_of_65536_bytes_is_read_and_a_longer_one_is_not(rt: HostRuntime) -> Res
 #[test]
 fn wrong_words_are_told_and_touch_no_stream(rt: HostRuntime) -> Result<(), Fail> {
     let alloc = rt.alloc();
-    let none: [String; 0] = [];
-    let one = [text(alloc, "memory")?];
-    let two = [text(alloc, "mem")?, text(alloc, "x")?];
-    let file = [text(alloc, "file")?, text(alloc, "path")?];
-    let crew = [text(alloc, "crew")?, text(alloc, "1")?, text(alloc, "0")?];
-    for words in [
-        None,
-        Some(none.as_slice()),
-        Some(one.as_slice()),
-        Some(two.as_slice()),
-        Some(file.as_slice()),
-        Some(crew.as_slice()),
-    ] {
-        let mut faults = Vec::new(alloc);
-        let status = drive(
-            alloc,
-            words,
-            &mut Broken { reads: 1 },
-            &mut Broken { reads: 0 },
-            &mut faults,
-        );
-        assert_eq!(rt; status, 2);
-        assert_eq!(rt; faults.as_slice(), TOLD_USAGE);
+    assert!(rt; are_wrong(alloc, None));
+    let wrong: [&[&str]; 5] = [
+        &[],
+        &["memory"],
+        &["mem", "x"],
+        &["file", "path"],
+        &["crew", "1", "0"],
+    ];
+    for words in wrong {
+        let words = texts(alloc, words)?;
+        assert!(rt; are_wrong(alloc, Some(words.as_slice())));
     }
     Ok(())
 }
 
 #[test]
-fn a_refused_stream_is_told(rt: HostRuntime) -> Result<(), Fail> {
-    let alloc = rt.alloc();
-    let words = [text(alloc, "mem")?];
-    let mut output = Vec::new(alloc);
-    let mut faults = Vec::new(alloc);
-    let status = drive(
-        alloc,
-        Some(words.as_slice()),
-        &mut Broken { reads: 1 },
-        &mut output,
-        &mut faults,
-    );
-    assert_eq!(rt; status, 1);
-    assert_eq!(rt; faults.as_slice(), b"sledpc: error read\n".as_slice());
-    assert_eq!(rt; output.as_slice(), b"page 2 1\n".as_slice());
-    let mut input = b"get 2\n".as_slice();
-    let mut faults = Vec::new(alloc);
-    let status = drive(
-        alloc,
-        Some(words.as_slice()),
-        &mut input,
-        &mut Broken { reads: 0 },
-        &mut faults,
-    );
-    assert_eq!(rt; status, 1);
-    assert_eq!(rt; faults.as_slice(), b"sledpc: error write\n".as_slice());
-    let mut input = b"".as_slice();
-    let status = drive(
-        alloc,
-        None,
+fn a_refused_reader_is_told(rt: HostRuntime) -> Result<(), Fail> {
+    let mut input = Broken { reads: 1 };
+    let mut output = Vec::new(rt.alloc());
+    let is_so = ends_so(
+        rt.alloc(),
         &mut input,
         &mut output,
-        &mut Broken { reads: 0 },
-    );
-    assert_eq!(rt; status, 2);
+        1,
+        b"sledpc: error read\n",
+    )?;
+    assert!(rt; is_so);
+    assert!(rt; output.as_slice() == b"page 2 1\n".as_slice());
     Ok(())
+}
+
+#[test]
+fn a_refused_writer_is_told(rt: HostRuntime) -> Result<(), Fail> {
+    let mut input = b"get 2\n".as_slice();
+    let mut output = Broken { reads: 0 };
+    let is_so = ends_so(
+        rt.alloc(),
+        &mut input,
+        &mut output,
+        1,
+        b"sledpc: error write\n",
+    )?;
+    assert!(rt; is_so);
+    Ok(())
+}
+
+#[test]
+fn wrong_words_are_answered_where_nothing_can_be_told(rt: HostRuntime) {
+    let mut input = b"".as_slice();
+    let mut output = Vec::new(rt.alloc());
+    let mut faults = Broken { reads: 0 };
+    let status = drive(rt.alloc(), None, &mut input, &mut output, &mut faults);
+    assert_eq!(rt; status, 2);
 }

@@ -1,55 +1,113 @@
 //! Lines that ask for calls, and lines that don't.
 
 use super::call_of;
-use sled_pagecache::{Call, Item, Link};
-use std::process::Abort;
+use crate::lines::MAX_LINE;
+use sled_pagecache::{Call, IVec, Item, Link, Node, PageId, PageView};
+use std::alloc::Global;
 use std::test::Fail;
 
-// The call allocates the leaf of these pairs over all keys.
-fn expect_leaf(rt: &impl Abort, call: Option<Call>, pairs: &[(&[u8], &[u8])]) -> Result<(), Fail> {
-    let Some(Call::Allocate(node)) = call else {
-        return Err(Fail::from("no leaf"));
-    };
-    assert!(rt; node.lo().is_empty());
-    assert!(rt; node.hi().is_empty());
-    assert!(rt; !node.is_index());
-    assert_eq!(rt; node.len(), pairs.len());
-    for (i, (key, value)) in pairs.iter().enumerate() {
-        let (stored, item) = node.pair(i);
-        assert_eq!(rt; stored, *key);
-        assert_eq!(rt; item, Item::Value(value));
+// Steps of the tests. A call is taken apart and let go here, and not in a test, which would be proved for each way in which
+// it may be kept.
+
+// The call that the line asks for. No line that is read is longer.
+fn asked(alloc: Global, line: &[u8]) -> Result<Option<Call>, Fail> {
+    if line.len() > MAX_LINE {
+        return Err(Fail::from("a long line"));
     }
-    Ok(())
+    Ok(call_of(alloc, line)?)
+}
+
+// Whether the line allocates the leaf of these pairs over all keys.
+fn asks_for_leaf(alloc: Global, line: &[u8], pairs: &[(&[u8], &[u8])]) -> Result<bool, Fail> {
+    match asked(alloc, line)? {
+        Some(Call::Allocate(node)) => Ok(is_over_all_keys(&node) && has_pairs(&node, pairs)),
+        _ => Ok(false),
+    }
+}
+
+fn is_over_all_keys(node: &Node) -> bool {
+    node.lo().is_empty() && node.hi().is_empty()
+}
+
+// Whether a leaf has these pairs, and no others.
+fn has_pairs(node: &Node, pairs: &[(&[u8], &[u8])]) -> bool {
+    if node.is_index() || node.len() != pairs.len() {
+        return false;
+    }
+    for (i, (key, value)) in pairs.iter().enumerate() {
+        if !has_pair(node, i, key, value) {
+            return false;
+        }
+    }
+    true
+}
+
+fn has_pair(node: &Node, at: usize, key: &[u8], value: &[u8]) -> bool {
+    if at >= node.len() {
+        return false;
+    }
+    let (stored, item) = node.pair(at);
+    stored == key && item == Item::Value(value)
+}
+
+// The page that the line asks for, if it does.
+fn page_of(alloc: Global, line: &[u8]) -> Result<Option<PageId>, Fail> {
+    match asked(alloc, line)? {
+        Some(Call::Get(pid)) => Ok(Some(pid)),
+        _ => Ok(None),
+    }
+}
+
+// Whether the line sets this value at this key, by this token.
+fn asks_for_set(
+    alloc: Global,
+    line: &[u8],
+    token: PageView,
+    key: &[u8],
+    value: &[u8],
+) -> Result<bool, Fail> {
+    match asked(alloc, line)? {
+        Some(Call::Link(old, link)) => Ok(old == token && is_set(link, key, value)),
+        _ => Ok(false),
+    }
+}
+
+fn is_set(link: Link, key: &[u8], value: &[u8]) -> bool {
+    match link {
+        Link::Set(at, item) => is_bytes(&at, key) && is_bytes(&item, value),
+        _ => false,
+    }
+}
+
+fn is_bytes(bytes: &IVec, want: &[u8]) -> bool {
+    bytes.as_slice() == want
+}
+
+fn asks_for_none(alloc: Global, line: &[u8]) -> Result<bool, Fail> {
+    Ok(asked(alloc, line)?.is_none())
 }
 
 #[test]
 fn asks_for_leaves(rt: HostRuntime) -> Result<(), Fail> {
-    expect_leaf(&rt, call_of(rt.alloc(), b"alloc")?, &[])?;
+    assert!(rt; asks_for_leaf(rt.alloc(), b"alloc", &[])?);
     let pairs = [
         (b"a".as_slice(), b"b".as_slice()),
         (b"c".as_slice(), b"d".as_slice()),
     ];
-    expect_leaf(&rt, call_of(rt.alloc(), b"alloc 61=62 63=64")?, &pairs)
+    assert!(rt; asks_for_leaf(rt.alloc(), b"alloc 61=62 63=64", &pairs)?);
+    Ok(())
 }
 
 #[test]
 fn asks_for_a_page(rt: HostRuntime) -> Result<(), Fail> {
-    let Some(Call::Get(pid)) = call_of(rt.alloc(), b"get 2")? else {
-        return Err(Fail::from("no page"));
-    };
-    assert_eq!(rt; pid, 2);
+    assert_eq!(rt; page_of(rt.alloc(), b"get 2")?, Some(2));
     Ok(())
 }
 
 #[test]
 fn asks_for_a_swap(rt: HostRuntime) -> Result<(), Fail> {
-    let Some(Call::Link(old, Link::Set(key, value))) = call_of(rt.alloc(), b"set 2 1 62 76")? else {
-        return Err(Fail::from("no swap"));
-    };
-    assert_eq!(rt; old.pid(), 2);
-    assert_eq!(rt; old.ts(), 1);
-    assert_eq!(rt; key.as_slice(), [0x62].as_slice());
-    assert_eq!(rt; value.as_slice(), [0x76].as_slice());
+    let token = PageView::new(2, 1);
+    assert!(rt; asks_for_set(rt.alloc(), b"set 2 1 62 76", token, &[0x62], &[0x76])?);
     Ok(())
 }
 
@@ -75,10 +133,7 @@ fn asks_for_nothing(rt: HostRuntime) -> Result<(), Fail> {
         "allocx",
         "del 2 1 62",
     ] {
-        assert!(rt;
-            call_of(rt.alloc(), line.as_bytes())?.is_none(),
-            "at {line}"
-        );
+        assert!(rt; asks_for_none(rt.alloc(), line.as_bytes())?, "at {line}");
     }
     Ok(())
 }

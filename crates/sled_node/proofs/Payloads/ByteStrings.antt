@@ -1,0 +1,23 @@
+-- Where no byte string is read.
+use Rattle.std.proofs.Common.{ℕ, ◌<◌, ◌≤◌, ◌^◌, List, length, ap, arith}
+use Rattle.std.proofs.lemmas.List.{length-append}
+use Rattle.sled_node.specs.Payloads.Reading.{ReadsNothing}
+use Rattle.sled_node.specs.Payloads.Numbers.{ReadsU64}
+use Rattle.sled_node.specs.Payloads.NumberLaws.{U64-grammar}
+use Rattle.sled_node.specs.Payloads.ByteStrings.{ReadsBytes, ReadsShort}
+use Rattle.sled_node.specs.Payloads.ByteStringLaws.{Bytes-grammar}
+
+pub no_length : (input : List ℕ) → ReadsNothing ReadsU64 input → ReadsNothing ReadsBytes input
+no_length input nothing bytes rest found = nothing (length bytes) found.0 found.1
+
+-- the length passes the end
+pub too_long : (input : List ℕ) (len : ℕ) (middle : List ℕ) → ReadsU64 input len middle → length middle < len → ReadsNothing ReadsBytes input
+too_long input len middle read long bytes rest found =
+    let same = U64-grammar.one_reading input len (length bytes) middle found.0 read found.1 in
+    omega (arith, same.0, long, ap length same.1, ap length found.2, length-append bytes rest)
+
+-- what is read is longer than a short string
+pub not_short : (input text rest : List ℕ) → ReadsBytes input text rest → 2 ^ 31 ≤ length text → ReadsNothing ReadsShort input
+not_short input text rest read long bytes others found =
+    let same = Bytes-grammar.one_reading input text bytes rest others read found.0 in
+    omega (arith, ap length same.0, long, found.1)

@@ -1,0 +1,68 @@
+-- Reading and writing the pairs of a root map.
+use Rattle.std.proofs.Common.{◌≡◌, ◌≢◌, ℕ, ◌<◌, ◌≤◌, ◌^◌, List, [], ◌∷◌, ◌++◌, length, sym, ap, subst, ◌∙◌, arith}
+use Rattle.std.specs.List.{AllByRecursion}
+use Rattle.std.proofs.lemmas.List.{length-append}
+use Rattle.std.proofs.lemmas.List.Sums.{fold-append}
+use Rattle.sled_base.specs.Order.{Bytes}
+use Rattle.sled_node.specs.Pairs.{IsRising}
+use Rattle.sled_node.specs.Meta.{Roots, with_root, with_roots, IsRootMap}
+use Rattle.sled_node.specs.Payloads.Reading.{ReadsNothing}
+use Rattle.sled_node.specs.Payloads.Numbers.{written_u64}
+use Rattle.sled_node.specs.Payloads.ByteStrings.{written_bytes, CanWriteBytes}
+use Rattle.sled_node.specs.Payloads.Sequences.{ReadsAll}
+use Rattle.sled_node.specs.Payloads.SequenceLaws.{ReadsAll-more}
+use Rattle.sled_node.specs.Payloads.Roots.{ReadsRoot, ReadsRoots, written_root, written_roots}
+use Rattle.sled_node.specs.Payloads.RootLaws.{CanWriteRoot, go_on, can_write_roots}
+use Rattle.sled_node.proofs.Roots.{never_fewer, rising_with}
+use Rattle.sled_node.proofs.Payloads.Sizes.{all_size, number_size, string_size}
+
+-- the pairs that a map comes from, so far
+abbrev pub PutSoFar : List ℕ → List ℕ → Roots → Type 0
+PutSoFar input rest roots = (pairs : List (Bytes × ℕ)) × ReadsAll ReadsRoot input pairs rest × (roots ≡ with_roots pairs [])
+
+-- one pair more
+put_last : (pairs : List (Bytes × ℕ)) (pair : Bytes × ℕ) → with_roots (pairs ++ pair ∷ []) [] ≡ with_root pair.0 pair.1 (with_roots pairs [])
+put_last pairs pair = fold-append (λ so_far x. with_root x.0 x.1 so_far) [] pairs (pair ∷ [])
+
+pub put_more : (input middle rest : List ℕ) (roots : Roots) (pair : Bytes × ℕ) → PutSoFar input middle roots → ReadsRoot middle pair rest → PutSoFar input rest (with_root pair.0 pair.1 roots)
+put_more input middle rest roots pair (pairs, so_far, is) read =
+    (pairs ++ pair ∷ [], ReadsAll-more ReadsRoot input pairs middle pair rest so_far read, ap (with_root pair.0 pair.1) is ∙ sym (put_last pairs pair))
+
+-- where bytes are left that are no pair, no map is read
+pub no_pair : (input middle : List ℕ) (roots : Roots) → PutSoFar input middle roots → middle ≢ [] → ReadsNothing ReadsRoot middle → ReadsNothing ReadsRoots input
+no_pair input middle roots (pairs, so_far, is) left nothing others rest (end, qs, all, was, few) = by (go_on input pairs qs middle so_far all)
+  where
+    by : (more : List (Bytes × ℕ)) × (qs ≡ pairs ++ more) × ReadsAll ReadsRoot middle more [] → ⊥
+    by ([], same, behind) = left behind
+    by (q ∷ more, same, (m, a, behind)) = nothing q m a
+
+-- nor where the pairs so far make too many names
+pub too_many : (input middle : List ℕ) (roots : Roots) → PutSoFar input middle roots → 2 ^ 24 < length roots → ReadsNothing ReadsRoots input
+too_many input middle roots (pairs, so_far, is) many others rest (end, qs, all, was, few) =
+    let (more, same, behind) = go_on input pairs qs middle so_far all in
+    let put : others ≡ with_roots more roots = was ∙ ap (λ k. with_roots k []) same ∙ fold-append (λ so_far x. with_root x.0 x.1 so_far) [] pairs more ∙ ap (with_roots more) (sym is) in
+    let kept = never_fewer more roots (subst IsRising (sym is) (rising_with pairs [] tt)) in
+    omega (arith, many, few, ap length put, kept)
+
+-- the map that is read
+pub put_all : (input rest : List ℕ) (roots : Roots) → PutSoFar input rest roots → rest ≡ [] → length roots ≤ 2 ^ 24 → ReadsRoots input roots rest
+put_all input rest roots (pairs, so_far, is) end few = (end, pairs, subst (λ k. ReadsAll ReadsRoot input pairs k) end so_far, is, few)
+
+-- what is written is short enough for a size of 64 bits
+each_size : (roots : Roots) → AllByRecursion CanWriteRoot roots → AllByRecursion (λ pair. length (written_root pair) ≤ 2147483665) roots
+each_size [] all = tt
+each_size (pair ∷ roots) (here, all) = (omega (arith, string_size pair.0 here.0, number_size pair.1, length-append (written_bytes pair.0) (written_u64 pair.1)), each_size roots all)
+
+pub roots_written : (roots : Roots) → IsRootMap roots → length (written_roots roots) < 2 ^ 57
+roots_written roots map = omega (arith, map.few, all_size written_root 2147483665 roots (each_size roots (can_write_roots roots map)))
+
+-- a pair that can be written is one of its parts
+abbrev pub CanWriteParts : Bytes × ℕ → Type 0
+CanWriteParts pair = CanWriteBytes pair.0 × (pair.1 < 2 ^ 64)
+
+parts_of : (roots : Roots) → AllByRecursion CanWriteRoot roots → AllByRecursion CanWriteParts roots
+parts_of [] all = tt
+parts_of (pair ∷ roots) (here, all) = let name = here.0 in ((omega arith, here.1), parts_of roots all)
+
+pub can_write_parts : (roots : Roots) → IsRootMap roots → AllByRecursion CanWriteParts roots
+can_write_parts roots map = parts_of roots (can_write_roots roots map)

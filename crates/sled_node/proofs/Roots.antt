@@ -1,0 +1,159 @@
+-- Looking names up, and how many names there are.
+use Rattle.std.proofs.Common.{◌≡◌, ℕ, ◌+◌, ◌*◌, ◌<◌, ◌≤◌, ◌^◌, Bool, true, false, cond, [], ◌∷◌, ◌++◌, length, get_or, drop, Some, None, refl, sym, ap, subst, ◌∙◌, arith}
+use Rattle.std.specs.Prelude.{Option}
+use Rattle.std.specs.List.{AllByRecursion, sum_by}
+use Rattle.std.proofs.Math.Nat.{suc-mul}
+use Rattle.std.proofs.lemmas.List.Sums.{sum_by-cons, sum_by-drop_more}
+use Rattle.std.specs.declared.cmp.Ordering.{Ordering}
+use Rattle.std.specs.declared.cmp.Ordering.TheVariants.{Less, Equal, Greater}
+use Rattle.std.specs.Ordering.{is_lt, is_eq, ordering_reverse}
+use Rattle.std.proofs.lemmas.List.{length-append, take-append-drop, drop_more}
+use Rattle.sled_base.specs.Order.{Bytes, bytes_cmp, is_below, IsBelow}
+use Rattle.sled_base.specs.OrderLaws.{equal_is_same, below_is_above, reversed}
+use Rattle.sled_node.specs.Pairs.{IsWithinLimit, IsRising, pairs_below, pairs_above, StandsAt, IsGap}
+use Rattle.sled_node.specs.Meta.{Roots, is_name, root_of, with_root, with_roots, IsRootMap, HasRoom, roots_size}
+use Rattle.sled_node.proofs.Edits.{below_key, above_key, few_del, rising_set}
+
+-- what isn't less is as much
+not_less : {m n : ℕ} → (m < n → ⊥) → n ≤ m
+not_less h = omega (arith, h)
+
+module _ (name : Bytes) where
+  -- ---- how many
+
+  -- a pair of another name is below the name or above it
+  one_aside : (o : Ordering) (pair : Bytes × ℕ) (ys zs roots : Roots) → cond (is_eq o) (Some pair.1) (root_of name roots) ≡ None → (root_of name roots ≡ None → length ys + length zs ≡ length roots)
+      → length (cond (is_lt (ordering_reverse o)) (pair ∷ ys) ys) + length (cond (is_lt o) (pair ∷ zs) zs) ≡ length (pair ∷ roots)
+  one_aside Less pair ys zs roots missing others = omega (arith, others missing)
+  one_aside Equal pair ys zs roots missing others = absurd cc
+  one_aside Greater pair ys zs roots missing others = omega (arith, others missing)
+
+  pub count_missing : (roots : Roots) → root_of name roots ≡ None → length (pairs_below name roots) + length (pairs_above name roots) ≡ length roots
+  count_missing [] missing = refl
+  count_missing (pair ∷ roots) missing =
+      subst (λ o. length (cond (is_lt o) (pair ∷ pairs_below name roots) (pairs_below name roots)) + length (pairs_above name (pair ∷ roots)) ≡ length (pair ∷ roots)) (sym (reversed pair.0 name))
+      (one_aside (bytes_cmp name pair.0) pair (pairs_below name roots) (pairs_above name roots) roots missing (count_missing roots))
+
+  one_here : (o : Ordering) (pair : Bytes × ℕ) (ys zs roots : Roots) (r : ℕ) → cond (is_eq o) (Some pair.1) (root_of name roots) ≡ Some r → length ys + length zs ≤ length roots → (root_of name roots ≡ Some r → length ys + length zs < length roots)
+      → length (cond (is_lt (ordering_reverse o)) (pair ∷ ys) ys) + length (cond (is_lt o) (pair ∷ zs) zs) < length (pair ∷ roots)
+  one_here Less pair ys zs roots r there few others = omega (arith, others there)
+  one_here Equal pair ys zs roots r there few others = omega (arith, few)
+  one_here Greater pair ys zs roots r there few others = omega (arith, others there)
+
+  pub count_there : (roots : Roots) (r : ℕ) → root_of name roots ≡ Some r → length (pairs_below name roots) + length (pairs_above name roots) < length roots
+  count_there [] r there = absurd cc
+  count_there (pair ∷ roots) r there =
+      subst (λ o. length (cond (is_lt o) (pair ∷ pairs_below name roots) (pairs_below name roots)) + length (pairs_above name (pair ∷ roots)) < length (pair ∷ roots)) (sym (reversed pair.0 name))
+      (one_here (bytes_cmp name pair.0) pair (pairs_below name roots) (pairs_above name roots) roots r there (few_del name roots) (count_there roots r))
+
+  -- the names with one set
+  pub length_with : (root : ℕ) (roots : Roots) → length (with_root name root roots) ≡ length (pairs_below name roots) + length (pairs_above name roots) + 1
+  length_with root roots = omega (arith, length-append (pairs_below name roots) ((name, root) ∷ pairs_above name roots))
+
+  -- a name that has room leaves the map within the limit
+  pub fits_with : (root : ℕ) (roots : Roots) → length roots ≤ 2 ^ 24 → HasRoom name roots → length (with_root name root roots) ≤ 2 ^ 24
+  fits_with root roots few room = by (root_of name roots) refl
+    where
+      by : (found : Option ℕ) → root_of name roots ≡ found → length (with_root name root roots) ≤ 2 ^ 24
+      by None is = omega (arith, room is, length_with root roots, few_del name roots)
+      by (Some r) is = omega (arith, few, length_with root roots, count_there roots r is)
+
+  -- and one that has none leads past it
+  pub passes_with : (root : ℕ) (roots : Roots) → (HasRoom name roots → ⊥) → 2 ^ 24 < length (with_root name root roots)
+  passes_with root roots full = by (root_of name roots) refl
+    where
+      by : (found : Option ℕ) → root_of name roots ≡ found → 2 ^ 24 < length (with_root name root roots)
+      by None is = let many : 2 ^ 24 ≤ length roots = not_less (λ less. full (λ _. less)) in omega (arith, many, length_with root roots, count_missing roots is)
+      by (Some r) is = absurd (full (λ none. absurd (let e = sym none ∙ is in cc)))
+
+  -- rising names are never fewer after one was set
+  all_stay : (roots : Roots) → AllByRecursion (λ pair. IsBelow name pair.0) roots → length (pairs_above name roots) ≡ length roots
+  all_stay [] above = refl
+  all_stay (pair ∷ roots) above =
+      let here : is_below name pair.0 ≡ true = ap is_lt above.0 in
+      rw here (omega (arith, all_stay roots above.1))
+
+  one_stays : (o : Ordering) (pair : Bytes × ℕ) (ys zs roots : Roots) → (o ≡ Equal → length zs ≡ length roots) → length roots ≤ length ys + length zs + 1
+      → length (pair ∷ roots) ≤ length (cond (is_lt (ordering_reverse o)) (pair ∷ ys) ys) + length (cond (is_lt o) (pair ∷ zs) zs) + 1
+  one_stays Less pair ys zs roots all others = omega (arith, others)
+  one_stays Equal pair ys zs roots all others = omega (arith, all refl)
+  one_stays Greater pair ys zs roots all others = omega (arith, others)
+
+  count_rising : (roots : Roots) → IsRising roots → length roots ≤ length (pairs_below name roots) + length (pairs_above name roots) + 1
+  count_rising [] rising = omega arith
+  count_rising (pair ∷ roots) rising =
+      subst (λ o. length (pair ∷ roots) ≤ length (cond (is_lt o) (pair ∷ pairs_below name roots) (pairs_below name roots)) + length (pairs_above name (pair ∷ roots)) + 1) (sym (reversed pair.0 name))
+      (one_stays (bytes_cmp name pair.0) pair (pairs_below name roots) (pairs_above name roots) roots (λ same. all_stay roots (subst (λ k. AllByRecursion (λ later. IsBelow k later.0) roots) (sym (equal_is_same name pair.0 same)) rising.0)) (count_rising roots rising.1))
+
+  pub never_fewer_with : (root : ℕ) (roots : Roots) → IsRising roots → length roots ≤ length (with_root name root roots)
+  never_fewer_with root roots rising = omega (arith, length_with root roots, count_rising roots rising)
+
+  -- ---- where a name stands
+
+  past : (front roots : Roots) → AllByRecursion (λ pair. IsBelow pair.0 name) front → root_of name (front ++ roots) ≡ root_of name roots
+  past [] roots below = refl
+  past (pair ∷ front) roots below =
+      let other : is_name name pair.0 ≡ false = ap is_eq (below_is_above pair.0 name below.0) in
+      rw other (past front roots below.1)
+
+  none_above : (roots : Roots) → AllByRecursion (λ pair. IsBelow name pair.0) roots → root_of name roots ≡ None
+  none_above [] above = refl
+  none_above (pair ∷ roots) above =
+      let other : is_name name pair.0 ≡ false = ap is_eq above.0 in
+      rw other (none_above roots above.1)
+
+  module _ (roots : Roots) where
+    behind_below : (rest : Roots) → root_of name (pairs_below name roots ++ rest) ≡ root_of name rest
+    behind_below rest = past (pairs_below name roots) rest (below_key name roots)
+
+    nothing_above : root_of name (pairs_above name roots) ≡ None
+    nothing_above = none_above (pairs_above name roots) (above_key name roots)
+
+    pub root_missing : (i : ℕ) → IsGap roots name i → None ≡ root_of name roots
+    root_missing i gap =
+        sym (ap (root_of name) (sym (take-append-drop i roots)) ∙ ap (λ front. root_of name (front ++ drop i roots)) gap.before ∙ behind_below (drop i roots) ∙ ap (root_of name) gap.after ∙ nothing_above)
+
+    module _ (i : ℕ) (pair : Bytes × ℕ) (at : StandsAt roots name i) (is : pair ≡ get_or roots i pair) where
+      split : roots ≡ pairs_below name roots ++ pair ∷ pairs_above name roots
+      split =
+          sym (take-append-drop i roots) ∙ ap (λ front. front ++ drop i roots) at.before ∙ ap (λ back. pairs_below name roots ++ back) (drop_more roots i pair at.within ∙ ap (λ x. x ∷ drop (i + 1) roots) (sym is) ∙ ap (λ back. pair ∷ back) at.after)
+
+      found : root_of name roots ≡ cond (is_name name pair.0) (Some pair.1) None
+      found = ap (root_of name) split ∙ behind_below (pair ∷ pairs_above name roots) ∙ ap (cond (is_name name pair.0) (Some pair.1)) nothing_above
+
+      pub root_there : Some pair.1 ≡ root_of name roots
+      root_there = by (is_name name pair.0) refl
+        where
+          by : (b : Bool) → is_name name pair.0 ≡ b → Some pair.1 ≡ root_of name roots
+          by true this = sym (found ∙ ap (λ b. cond b (Some pair.1) None) this)
+          by false other =
+              let missing : root_of name roots ≡ None = found ∙ ap (λ b. cond b (Some pair.1) None) other in
+              absurd (omega (arith, count_missing roots missing, ap length split, length-append (pairs_below name roots) (pair ∷ pairs_above name roots)))
+
+-- ---- pairs that are put in one after the other
+
+pub never_fewer : (pairs roots : Roots) → IsRising roots → length roots ≤ length (with_roots pairs roots)
+never_fewer [] roots rising = omega arith
+never_fewer (pair ∷ pairs) roots rising =
+    let one = never_fewer_with pair.0 pair.1 roots rising in
+    let others = never_fewer pairs (with_root pair.0 pair.1 roots) (rising_set pair.0 roots pair.1 rising) in
+    omega (arith, one, others)
+
+pub rising_with : (pairs roots : Roots) → IsRising roots → IsRising (with_roots pairs roots)
+rising_with [] roots rising = rising
+rising_with (pair ∷ pairs) roots rising = rising_with pairs (with_root pair.0 pair.1 roots) (rising_set pair.0 roots pair.1 rising)
+
+-- ---- the size
+
+abbrev size_of : Bytes × ℕ → ℕ
+size_of pair = length pair.0 + 8
+
+size_fits : (roots : Roots) → AllByRecursion (λ pair. IsWithinLimit pair.0) roots → sum_by size_of roots ≤ length roots * 2147483656
+size_fits [] short = omega arith
+size_fits (pair ∷ roots) short = rw suc-mul (omega (arith, short.0, size_fits roots short.1, sum_by-cons size_of pair roots))
+
+-- a size so far and that of one more pair
+pub size_so_far : (roots : Roots) → IsRootMap roots → (i : ℕ) (pair : Bytes × ℕ) (size : ℕ) → i < length roots → pair ≡ get_or roots i pair → size + roots_size (drop i roots) ≡ roots_size roots → size + (length pair.0 + 8) < 2 ^ 64
+size_so_far roots map i pair size lt is so_far =
+    let here : size_of pair ≡ size_of (get_or roots i pair) = ap size_of is in
+    omega (arith, map.few, size_fits roots map.keys, so_far, here, sum_by-drop_more size_of roots i pair lt)

@@ -1,0 +1,38 @@
+use Rattle.std.specs.Prelude.{◌==◌}
+use Rattle.std.proofs.Common.{length, refl, ap, ◌∙◌}
+use Rattle.std.proofs.lemmas.Result.{err_from_is_err_and}
+use Rattle.sled_node.specs.Meta.{with_root}
+use Rattle.sled_node.specs.Payloads.Roots.{ReadsRoot, ReadsRoots}
+use Rattle.sled_node.proofs.Roots.{fits_with, passes_with}
+use Rattle.sled_node.proofs.Payloads.Refusals.{refused_so}
+use Rattle.sled_node.proofs.Payloads.Roots.{put_more, no_pair, too_many}
+use Rattle.sled_node.proofs.meta.payload.MetaSerialize.deserialize.Goals as goal
+
+-- where bytes are left that are no pair
+pub returns-in_err-name-clause-refused : goal.returns-in_err-name-clause-refused
+returns-in_err-name-clause-refused c =
+    let p = err_from_is_err_and c.from_residual.result c.from_residual.ensures.1 in
+    let input = c.args.input.now.now in
+    let rest = c.loop-alloc.rest.now in
+    rw (p.1, p.2) (refused_so ReadsRoot ReadsRoots rest input c.in_err-name.field-0.0 (no_pair input rest c.loop-alloc.meta c.loop-alloc.invariant.put (λ none. let empty = c.loop-alloc-test.ensures ∙ ap (λ bytes. length bytes == 0) none in absurd cc)) c.in_err-name.ensures.refused)
+
+-- where one name more is too many
+pub returns-then-not-has_room-clause-refused : goal.returns-then-not-has_room-clause-refused
+returns-then-not-has_room-clause-refused c =
+    let input = c.args.input.now.now in
+    let rest = c.read_root.new.input.now in
+    let name = c.in_ok-name.name in
+    let root = c.in_ok-name.root in
+    let put = put_more input c.loop-alloc.rest.now rest c.loop-alloc.meta (name, root) c.loop-alloc.invariant.put c.in_ok-name.ensures.read in
+    let tested = rw c.as_slice.ensures at c.if-not-has_room.ensures in
+    too_many input rest (with_root name root c.loop-alloc.meta) put (passes_with name root c.loop-alloc.meta (λ room. let no = tested.1 room in absurd cc))
+
+pub loop-alloc-preserved : goal.loop-alloc-preserved
+loop-alloc-preserved c =
+    let input = c.args.input.now.now in
+    let rest = c.read_root.new.input.now in
+    let name = c.in_ok-name.name in
+    let root = c.in_ok-name.root in
+    let put = put_more input c.loop-alloc.rest.now rest c.loop-alloc.meta (name, root) c.loop-alloc.invariant.put c.in_ok-name.ensures.read in
+    let tested = rw c.as_slice.ensures at c.if-not-has_room.ensures in
+    rw c.in_ok-set_root.ensures.ok (record { put = put; few = fits_with name root c.loop-alloc.meta c.loop-alloc.invariant.few (tested.0 refl) })

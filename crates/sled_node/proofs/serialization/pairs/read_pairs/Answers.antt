@@ -1,0 +1,16 @@
+use Rattle.std.proofs.lemmas.Result.{err_from_is_err_and}
+use Rattle.sled_node.specs.Payloads.Pairs.{ReadsBoth, ReadsPairs}
+use Rattle.sled_node.proofs.Payloads.Refusals.{refused_so}
+use Rattle.sled_node.proofs.Payloads.PairReads.{no_both}
+use Rattle.sled_node.proofs.serialization.pairs.read_pairs.Goals as goal
+
+pub returns-in_err-pairs-clause-refused : goal.returns-in_err-pairs-clause-refused
+returns-in_err-pairs-clause-refused g c =
+    let p = err_from_is_err_and c.from_residual.result c.from_residual.ensures.1 in
+    let reads = g.V.Serialize.reads in
+    let input = c.args.input.now.now in
+    let count = c.in-Some.count in
+    let keys = c.in-Some.keys.now in
+    let items = c.in-Some.behind.now in
+    let split = c.in-Some.ensures.found in
+    rw (p.1, p.2) (refused_so (ReadsBoth reads count keys) (ReadsPairs reads) items input c.in_err-pairs.field-0.0 (no_both reads g.met.V.Serialize.grammar input count keys split.0 items split.3) c.in_err-pairs.ensures.refused)

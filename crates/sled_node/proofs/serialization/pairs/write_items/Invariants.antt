@@ -1,0 +1,16 @@
+use Rattle.std.proofs.Common.{◌≡◌, ◌+◌, ◌++◌, length, take, drop}
+use Rattle.std.specs.List.{flat_map, AllByRecursion}
+use Rattle.sled_node.specs.Payloads.Pairs.{items_of}
+use Rattle.sled_node.proofs.serialization.pairs.write_items.Given as goal
+
+-- the bytes so far, those of what is left, and what stood behind
+abbrev pub invariant-loop-pair : goal.invariant-loop-pair
+invariant-loop-pair g l =
+    let left = flat_map g.V.Serialize.written (items_of (drop l.pair-index l.pairs)) in
+    let all = flat_map g.V.Serialize.written (items_of l.pairs) in
+    record {
+      size : l.end + length left ≡ length all;
+      front : take l.end l.out ++ left ≡ all;
+      back : drop l.end l.out ≡ drop l.end l.initial.out;
+      can_write : AllByRecursion g.V.Serialize.can_write (items_of (drop l.pair-index l.pairs));
+    }

@@ -1,0 +1,41 @@
+-- A finite map from names to root pages, as the list of its names with their roots, in the order of names.
+use Rattle.std.specs.Prelude.{◌≡◌, ℕ, ◌+◌, ◌<◌, ◌^◌, Bool, List, length, Option, None}
+use Rattle.std.specs.List.{fold, sum_by}
+use Rattle.std.specs.Map.{lookup}
+use Rattle.std.specs.Ordering.{is_eq}
+use Rattle.sled_base.specs.Order.{Bytes, bytes_cmp}
+use Rattle.sled_node.specs.Pairs.{set_pair, del_pair, HasPairs}
+
+abbrev pub Roots : Type 0
+Roots = List (Bytes × ℕ)
+
+-- whether the names are one
+abbrev pub is_name : Bytes → Bytes → Bool
+is_name name other = is_eq (bytes_cmp name other)
+
+-- the root of the name, if it has one
+abbrev pub root_of : Bytes → Roots → Option ℕ
+root_of name roots = lookup (is_name name) roots
+
+-- the map with that name set, and with that name taken out; all other names as before
+abbrev pub with_root : Bytes → ℕ → Roots → Roots
+with_root name root roots = set_pair name root roots
+
+abbrev pub without_root : Bytes → Roots → Roots
+without_root name roots = del_pair name roots
+
+-- the map with the pairs set one after the other, so that a later pair of a name wins
+abbrev pub with_roots : List (Bytes × ℕ) → Roots → Roots
+with_roots pairs roots = fold (λ so_far pair. with_root pair.0 pair.1 so_far) roots pairs
+
+-- strictly rising names within the limit, at most 2^24 of them, and pages of 64 bits
+abbrev pub IsRootMap : Roots → Type 0
+IsRootMap roots = HasPairs (λ page. page < 2 ^ 64) roots
+
+-- a name that is missing finds room
+abbrev pub HasRoom : Bytes → Roots → Type 0
+HasRoom name roots = root_of name roots ≡ None → length roots < 2 ^ 24
+
+-- for each name its length, and 8 for the root
+abbrev pub roots_size : Roots → ℕ
+roots_size roots = sum_by (λ pair. length pair.0 + 8) roots

@@ -1,0 +1,58 @@
+-- How nodes are spelled.
+use Rattle.std.specs.Prelude.{◌≡◌, ℕ, Bool, true, false, List, [], ◌++◌, map, drop, Option, Some, None}
+use Rattle.std.specs.declared.num.NonZeroU64.{NonZeroU64}
+use Rattle.std.specs.Int.NonZero.{non_zero_u64_get}
+use Rattle.std.specs.Option.{option_map}
+use Rattle.sled_base.specs.Order.{Bytes}
+use Rattle.sled_node.specs.declared.node.data.Data.{Data}
+use Rattle.sled_node.specs.declared.node.data.Data.TheVariants.{Leaf, Index}
+use Rattle.sled_node.specs.Node.{Item, Value, Child, WholeNode, IsWellFormed}
+use Rattle.sled_node.specs.Parts.{node_of}
+use Rattle.sled_node.specs.Payloads.Reading.{ReadsTriple}
+use Rattle.sled_node.specs.Payloads.Numbers.{written_u64, ReadsBool, written_bool, ReadsU8, written_u8}
+use Rattle.sled_node.specs.Payloads.Options.{ReadsPage}
+use Rattle.sled_node.specs.Payloads.ByteStrings.{ReadsBytes, written_bytes}
+use Rattle.sled_node.specs.Payloads.Data.{ReadsData, written_data}
+
+-- next, the merging child, and whether the node is being merged; how many bytes stored keys lack, lo, and hi; the stored pairs
+abbrev pub NodeParts : Type 0
+NodeParts = (Option NonZeroU64 × Option NonZeroU64 × Bool) × (ℕ × Bytes × Bytes) × Data
+
+abbrev pub ReadsParts : List ℕ → NodeParts → List ℕ → Type 0
+ReadsParts = ReadsTriple (ReadsTriple ReadsPage ReadsPage ReadsBool) (ReadsTriple ReadsU8 ReadsBytes ReadsBytes) ReadsData
+
+-- the node of these parts
+abbrev pub node_from : NodeParts → WholeNode
+node_from parts = node_of parts.1.0 (option_map non_zero_u64_get parts.0.0) (option_map non_zero_u64_get parts.0.1) parts.0.2 parts.1.1 parts.1.2 parts.2
+
+-- the parts of a well-formed node, in turn
+abbrev pub ReadsNode : List ℕ → WholeNode → List ℕ → Type 0
+ReadsNode input n rest = (parts : NodeParts) × ReadsParts input parts rest × (node_from parts ≡ n) × IsWellFormed n
+
+-- 0 where there is no page
+abbrev pub page_of : Option ℕ → ℕ
+page_of None = 0
+page_of (Some page) = page
+
+-- what stands behind the keys of a leaf, and of an index
+abbrev pub value_in : Item → Bytes
+value_in (Value value) = value
+value_in (Child page) = []
+
+abbrev pub page_in : Item → ℕ
+page_in (Value value) = 0
+page_in (Child page) = page
+
+-- the pairs as they are stored: keys lack their first bytes
+abbrev pub stored_pairs : {V : Type 0} → (Item → V) → ℕ → List (Bytes × Item) → List (Bytes × V)
+stored_pairs pick p pairs = map (λ pair. (drop p pair.0, pick pair.1)) pairs
+
+abbrev pub stored_as : Bool → ℕ → List (Bytes × Item) → Data
+stored_as false p pairs = Leaf (stored_pairs value_in p pairs)
+stored_as true p pairs = Index (stored_pairs page_in p pairs)
+
+abbrev pub written_node : WholeNode → List ℕ
+written_node n =
+    (written_u64 (page_of n.next) ++ (written_u64 (page_of n.child) ++ written_bool n.capped)) ++
+    ((written_u8 n.prefix_len ++ (written_bytes n.lo ++ written_bytes n.hi)) ++
+    written_data (stored_as n.is_index n.prefix_len n.pairs))

@@ -1,0 +1,159 @@
+//! The root map of a page cache: which page is the root of each named tree.
+
+ghost use Rattle.std.specs.Prelude.{◌≡◌, ◌≢◌, ◌↔◌, ◌<◌, ◌^◌, [], length, IsTrue, IfOk, OnOk, OnErr, nat_eq};
+ghost use Rattle.std.specs.Cmp.{partial_equiv_from_equiv};
+ghost use Rattle.sled_node.specs.Pairs.{IsWithinLimit};
+ghost use Rattle.sled_node.specs.Equality.{same_pairs, index_equiv};
+ghost use Rattle.sled_node.specs.Meta.{root_of, with_root, without_root, IsRootMap, HasRoom, roots_size};
+
+mod payload;
+
+use crate::node::pairs::{del_from, place_of, set_in};
+use sled_base::{IVec, PageId};
+use std::alloc::{AllocError, Global};
+use std::marker::Model;
+
+/// The greatest number of names in a root map.
+pub const MAX_NAMES: usize = 1 << 24;
+
+/// The root pages of named trees.
+///
+/// Contracts see the list of the names with their pages, in the order of names. A map holds at most [`MAX_NAMES`] names,
+/// each of at most [`MAX_BYTES`](crate::node::MAX_BYTES) bytes.
+#[derive(Debug, Drop)]
+pub struct Meta {
+    roots: Vec<(IVec, PageId)>,
+}
+
+impl Model for Meta {
+    ghost use Rattle.std.specs.Prelude.{List, ℕ};
+    ghost use Rattle.sled_node.specs.Meta.{IsRootMap};
+
+    ghost Value = { List (List ℕ × ℕ) };
+
+    ghost view = { λ meta. meta.roots.items };
+
+    ghost invariant = { λ meta. IsRootMap meta.roots.items };
+}
+
+impl Meta {
+    /// A map without names. It takes no memory.
+    pub fn default(alloc: Global) -> Meta
+        ensures { result ≡ [] }
+    {
+        Meta {
+            roots: Vec::new(alloc),
+        }
+    }
+
+    /// How many names there are.
+    pub fn len(&self) -> usize
+        ensures { result ≡ length self.now }
+    {
+        self.roots.len()
+    }
+
+    /// Whether there are no names.
+    pub fn is_empty(&self) -> bool
+        ensures { IsTrue result ↔ (self.now ≡ []) }
+    {
+        self.roots.is_empty()
+    }
+
+    /// The root page of a name, if the name is there. It takes no memory.
+    pub fn get_root(&self, name: &[u8]) -> Option<PageId>
+        ensures { result ≡ root_of name.now self.now }
+    {
+        match place_of(&self.roots, name) {
+            Ok(at) => Some(self.roots[at].1),
+            Err(_) => None,
+        }
+    }
+
+    /// Whether the name may be set: it is there, or fewer than [`MAX_NAMES`] names are.
+    pub fn has_room(&self, name: &[u8]) -> bool
+        ensures { IsTrue result ↔ HasRoom name.now self.now }
+    {
+        self.roots.len() < MAX_NAMES || self.get_root(name).is_some()
+    }
+
+    /// Gives a name its root page, and answers the page that it had before.
+    ///
+    /// A refusal for want of memory leaves the map as it was.
+    pub fn set_root(&mut self, name: IVec, root: PageId) -> Result<Option<PageId>, AllocError>
+        requires name { IsWithinLimit name }
+        requires room { HasRoom name self.old }
+        ensures former { IfOk result (λ former. former ≡ root_of name self.old) }
+        ensures ok { OnOk result (self.new ≡ with_root name root self.old) }
+        ensures err { OnErr result (self.new ≡ self.old) }
+    {
+        let former = self.get_root(name.as_slice());
+        set_in(&mut self.roots, name, root)?;
+        Ok(former)
+    }
+
+    /// Takes a name out, and answers the page that it had, if the name was there. It takes no memory.
+    pub fn del_root(&mut self, name: &[u8]) -> Option<PageId>
+        ensures former { result ≡ root_of name.now self.old }
+        ensures value { self.new ≡ without_root name.now self.old }
+    {
+        let former = self.get_root(name);
+        del_from(&mut self.roots, name);
+        former
+    }
+
+    /// A copy of the names with their root pages, in the order of names.
+    pub fn tenants(&self) -> Result<Vec<(IVec, PageId)>, AllocError>
+        ensures { IfOk result (λ tenants. tenants.items ≡ self.now) }
+    {
+        self.roots.clone()
+    }
+
+    /// How large the map is: for each name its length, and 8 for the page.
+    pub fn rss(&self) -> u64
+        ensures { result ≡ roots_size self.now }
+    {
+        let mut size = 0;
+        for pair in &self.roots {
+            size += pair.0.len() as u64 + 8;
+        }
+        size
+    }
+
+    // The names with their pages, with what every map keeps.
+    fn roots(&self) -> &[(IVec, PageId)]
+        ensures value { result.now ≡ self.now }
+        ensures kept { IsRootMap self.now }
+    {
+        &self.roots
+    }
+}
+
+impl Clone for Meta {
+    ghost use Rattle.std.specs.Prelude.{◌≡◌};
+
+    ghost is_clone = { λ v w. w ≡ v };
+
+    fn clone(&self) -> Result<Meta, AllocError> {
+        Ok(Meta {
+            roots: self.roots.clone()?,
+        })
+    }
+}
+
+impl PartialEq for Meta {
+    ghost eq = { same_pairs nat_eq };
+
+    ghost laws = { partial_equiv_from_equiv index_equiv };
+
+    fn eq(&self, other: &Meta) -> bool {
+        self.roots == other.roots
+    }
+}
+
+impl Eq for Meta {
+    ghost laws = { index_equiv };
+}
+
+#[cfg(test)]
+mod tests;

@@ -1,0 +1,207 @@
+//! Payloads of what a node holds.
+
+ghost use Rattle.std.specs.Prelude.{◌≡◌, ◌<◌, ◌≤◌, ◌^◌, ◌++◌, length, drop, IfOk, IfErr, OnErr};
+ghost use Rattle.sled_node.specs.Parts.{HasStored};
+ghost use Rattle.sled_node.specs.Payloads.Reading.{IsRefusal};
+ghost use Rattle.sled_node.specs.Payloads.Numbers.{written_u64};
+ghost use Rattle.sled_node.specs.Payloads.ByteStrings.{written_bytes};
+ghost use Rattle.sled_node.specs.Payloads.Pairs.{written_pairs};
+ghost use Rattle.sled_node.specs.Payloads.Data.{ReadsLeaf, ReadsIndex, ReadsData, written_data};
+ghost use Rattle.sled_node.specs.Payloads.DataLaws.{Data-grammar};
+ghost use Rattle.sled_node.specs.Payloads.Nodes.{ReadsNode, written_node};
+ghost use Rattle.sled_node.specs.Payloads.NodeLaws.{Node-grammar};
+ghost use Rattle.sled_node.specs.Node.{IsWellFormed};
+
+use super::{Data, Index, Leaf, Node};
+use crate::serialization::Serialize;
+use crate::serialization::pairs::{read_pairs, size_of_pairs, write_pairs};
+use crate::serialization::tuples::{size_of_three, write_at, write_three, write_three_at};
+use sled_base::{Error, IVec};
+use std::alloc::{AllocError, Global};
+use std::num::NonZeroU64;
+
+impl Serialize for Data {
+    ghost reads = { ReadsData };
+
+    ghost written = { written_data };
+
+    ghost can_write = { HasStored };
+
+    ghost least_size = { 2 };
+
+    ghost grammar = { Data-grammar };
+
+    fn serialized_size(&self) -> u64
+        ensures { result ≡ length (written_data self.now) }
+    {
+        match self {
+            Data::Leaf(leaf) => 1 + size_of_leaf(leaf),
+            Data::Index(index) => 1 + size_of_index(index),
+        }
+    }
+
+    fn serialize_into(&self, out: &mut [u8]) -> usize
+        requires { length (written_data self.now) ≤ length out.old }
+        ensures size { result ≡ length (written_data self.now) }
+        ensures bytes { out.new ≡ written_data self.now ++ drop (length (written_data self.now)) out.old }
+    {
+        match self {
+            Data::Leaf(leaf) => {
+                out[0] = 0;
+                1 + write_leaf(leaf, &mut out[1..])
+            }
+            Data::Index(index) => {
+                out[0] = 1;
+                1 + write_index(index, &mut out[1..])
+            }
+        }
+    }
+
+    fn deserialize(alloc: Global, input: &mut &[u8]) -> Result<Data, Error> {
+        let (tag, mut rest) = match *input {
+            [tag, rest @ ..] => (*tag, rest),
+            [] => return Err(Error::Corruption(None)),
+        };
+        let contents = match tag {
+            0 => Data::Leaf(read_leaf(alloc, &mut rest)?),
+            1 => Data::Index(read_index(alloc, &mut rest)?),
+            _ => return Err(Error::Corruption(None)),
+        };
+        *input = rest;
+        Ok(contents)
+    }
+
+    fn serialize(&self, alloc: Global) -> Result<Vec<u8>, AllocError>
+        ensures { IfOk result (λ bytes. bytes.items ≡ written_data self.now) }
+    {
+        let size = self.serialized_size() as usize;
+        let mut bytes = vec![in alloc; 0u8; size]?;
+        self.serialize_into(&mut bytes);
+        Ok(bytes)
+    }
+}
+
+fn size_of_leaf(leaf: &Leaf) -> u64
+    ensures value { result ≡ length (written_pairs written_bytes leaf.now) }
+    ensures bound { result < 2 ^ 57 }
+{
+    size_of_pairs(leaf.pairs())
+}
+
+fn size_of_index(index: &Index) -> u64
+    ensures value { result ≡ length (written_pairs written_u64 index.now) }
+    ensures bound { result < 2 ^ 57 }
+{
+    size_of_pairs(index.pairs())
+}
+
+// Writes the pairs of a leaf at the beginning.
+fn write_leaf(leaf: &Leaf, out: &mut [u8]) -> usize
+    requires { length (written_pairs written_bytes leaf.now) ≤ length out.old }
+    ensures size { result ≡ length (written_pairs written_bytes leaf.now) }
+    ensures bytes { out.new ≡ written_pairs written_bytes leaf.now ++ drop (length (written_pairs written_bytes leaf.now)) out.old }
+{
+    write_pairs(leaf.pairs(), out)
+}
+
+// Writes the pairs of an index at the beginning.
+fn write_index(index: &Index, out: &mut [u8]) -> usize
+    requires { length (written_pairs written_u64 index.now) ≤ length out.old }
+    ensures size { result ≡ length (written_pairs written_u64 index.now) }
+    ensures bytes { out.new ≡ written_pairs written_u64 index.now ++ drop (length (written_pairs written_u64 index.now)) out.old }
+{
+    write_pairs(index.pairs(), out)
+}
+
+// Reads the pairs of a leaf.
+fn read_leaf(alloc: Global, input: &mut &[u8]) -> Result<Leaf, Error>
+    ensures read { IfOk result (λ leaf. ReadsLeaf input.old.now leaf input.new.now) }
+    ensures refused { IfErr result (IsRefusal ReadsLeaf input.old.now) }
+    ensures stays { OnErr result (input.new ≡ input.old) }
+{
+    let mut rest = *input;
+    let pairs = read_pairs::<IVec>(alloc, &mut rest)?;
+    match Leaf::from_pairs(alloc, pairs)? {
+        Some(leaf) => {
+            *input = rest;
+            Ok(leaf)
+        }
+        None => Err(Error::Corruption(None)),
+    }
+}
+
+// Reads the pairs of an index.
+fn read_index(alloc: Global, input: &mut &[u8]) -> Result<Index, Error>
+    ensures read { IfOk result (λ index. ReadsIndex input.old.now index input.new.now) }
+    ensures refused { IfErr result (IsRefusal ReadsIndex input.old.now) }
+    ensures stays { OnErr result (input.new ≡ input.old) }
+{
+    let mut rest = *input;
+    let pairs = read_pairs::<u64>(alloc, &mut rest)?;
+    match Index::from_pairs(alloc, pairs)? {
+        Some(index) => {
+            *input = rest;
+            Ok(index)
+        }
+        None => Err(Error::Corruption(None)),
+    }
+}
+
+// Next, the merging child and whether the node is being merged; how many bytes stored keys lack, lo and hi; the pairs.
+type Parts = (
+    (Option<NonZeroU64>, Option<NonZeroU64>, bool),
+    (u8, IVec, IVec),
+    Data,
+);
+
+impl Serialize for Node {
+    ghost reads = { ReadsNode };
+
+    ghost written = { written_node };
+
+    ghost can_write = { IsWellFormed };
+
+    ghost least_size = { 8 };
+
+    ghost grammar = { Node-grammar };
+
+    fn serialized_size(&self) -> u64
+        ensures { result ≡ length (written_node self.now) }
+    {
+        let head = size_of_three(&self.next, &self.merging_child, &self.merging);
+        let bounds = size_of_three(&self.prefix_len, &self.lo, &self.hi);
+        head + bounds + self.contents.serialized_size()
+    }
+
+    fn serialize_into(&self, out: &mut [u8]) -> usize
+        requires { length (written_node self.now) ≤ length out.old }
+        ensures size { result ≡ length (written_node self.now) }
+        ensures bytes { out.new ≡ written_node self.now ++ drop (length (written_node self.now)) out.old }
+    {
+        let start = write_three(&self.next, &self.merging_child, &self.merging, out);
+        let end = write_three_at(&self.prefix_len, &self.lo, &self.hi, out, start);
+        write_at(&self.contents, out, end)
+    }
+
+    fn deserialize(alloc: Global, input: &mut &[u8]) -> Result<Node, Error> {
+        let mut rest = *input;
+        let parts = <Parts as Serialize>::deserialize(alloc, &mut rest)?;
+        let ((next, merging_child, merging), (prefix_len, lo, hi), contents) = parts;
+        match Node::from_parts(prefix_len, next, merging_child, merging, lo, hi, contents) {
+            Some(node) => {
+                *input = rest;
+                Ok(node)
+            }
+            None => Err(Error::Corruption(None)),
+        }
+    }
+
+    fn serialize(&self, alloc: Global) -> Result<Vec<u8>, AllocError>
+        ensures { IfOk result (λ bytes. bytes.items ≡ written_node self.now) }
+    {
+        let size = self.serialized_size() as usize;
+        let mut bytes = vec![in alloc; 0u8; size]?;
+        self.serialize_into(&mut bytes);
+        Ok(bytes)
+    }
+}

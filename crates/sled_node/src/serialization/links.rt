@@ -1,0 +1,94 @@
+//! Links.
+
+ghost use Rattle.std.specs.Prelude.{◌≡◌, IfOk, IfErr, OnErr};
+ghost use Rattle.sled_node.specs.Payloads.Reading.{IsRefusal, ReadsPair};
+ghost use Rattle.sled_node.specs.Payloads.ByteStrings.{ReadsShort};
+ghost use Rattle.sled_node.specs.Payloads.Links.{ReadsLink, written_link, CanWriteLink};
+ghost use Rattle.sled_node.specs.Payloads.LinkLaws.{Link-grammar};
+
+use super::Serialize;
+use super::bytes::read_short;
+use super::tuples::write_both;
+use crate::node::Link;
+use sled_base::{Error, IVec};
+use std::alloc::Global;
+
+impl Serialize for Link {
+    ghost reads = { ReadsLink };
+
+    ghost written = { written_link };
+
+    ghost can_write = { CanWriteLink };
+
+    ghost least_size = { 1 };
+
+    ghost grammar = { Link-grammar };
+
+    fn serialized_size(&self) -> u64 {
+        match self {
+            Link::Set(key, value) => 1 + key.serialized_size() + value.serialized_size(),
+            Link::Del(key) => 1 + key.serialized_size(),
+            Link::ParentMergeIntention(page) => 1 + page.serialized_size(),
+            Link::ParentMergeConfirm => 1,
+            Link::ChildMergeCap => 1,
+        }
+    }
+
+    fn serialize_into(&self, out: &mut [u8]) -> usize {
+        match self {
+            Link::Set(key, value) => {
+                out[0] = 0;
+                1 + write_both(key, value, &mut out[1..])
+            }
+            Link::Del(key) => {
+                out[0] = 1;
+                1 + key.serialize_into(&mut out[1..])
+            }
+            Link::ParentMergeIntention(page) => {
+                out[0] = 2;
+                1 + page.serialize_into(&mut out[1..])
+            }
+            Link::ParentMergeConfirm => {
+                out[0] = 3;
+                1
+            }
+            Link::ChildMergeCap => {
+                out[0] = 4;
+                1
+            }
+        }
+    }
+
+    fn deserialize(alloc: Global, input: &mut &[u8]) -> Result<Link, Error> {
+        let (tag, mut rest) = match *input {
+            [tag, rest @ ..] => (*tag, rest),
+            [] => return Err(Error::Corruption(None)),
+        };
+        let link = match tag {
+            0 => {
+                let (key, value) = read_two(alloc, &mut rest)?;
+                Link::Set(key, value)
+            }
+            1 => Link::Del(read_short(alloc, &mut rest)?),
+            2 => Link::ParentMergeIntention(u64::deserialize(alloc, &mut rest)?),
+            3 => Link::ParentMergeConfirm,
+            4 => Link::ChildMergeCap,
+            _ => return Err(Error::Corruption(None)),
+        };
+        *input = rest;
+        Ok(link)
+    }
+}
+
+// Reads the key and the value of a link.
+fn read_two(alloc: Global, input: &mut &[u8]) -> Result<(IVec, IVec), Error>
+    ensures read { IfOk result (λ pair. ReadsPair ReadsShort ReadsShort input.old.now pair input.new.now) }
+    ensures refused { IfErr result (IsRefusal (ReadsPair ReadsShort ReadsShort) input.old.now) }
+    ensures stays { OnErr result (input.new ≡ input.old) }
+{
+    let mut rest = *input;
+    let key = read_short(alloc, &mut rest)?;
+    let value = read_short(alloc, &mut rest)?;
+    *input = rest;
+    Ok((key, value))
+}
