@@ -1,4 +1,5 @@
 pub mod Errors
+pub mod Kinds
 pub mod Pointers
 pub mod Bases
 pub mod Kept

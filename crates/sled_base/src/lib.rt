@@ -3,9 +3,11 @@
 
 pub mod ivec;
 mod kept;
+pub mod kinds;
 pub mod types;
 
 pub use ivec::IVec;
+pub use kinds::{LogKind, MessageKind};
 pub use types::{
     BatchManifest, BlobPointer, Bug, Device, DiskPtr, Error, LogOffset, Lsn, PageId, Refusal, Why,
 };

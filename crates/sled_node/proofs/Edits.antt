@@ -54,10 +54,10 @@ module _ {V : Type 0} where
   rising_append (x ∷ xs) ys a b below = (all_append (λ later. IsBelow x.0 later.0) xs ys a.0 below.0, rising_append xs ys a.1 b below.1)
 
   module _ (key : Bytes) (pairs : List (Bytes × V)) where
-    pub below_key : AllByRecursion (λ pair. IsBelow pair.0 key) (pairs_below key pairs)
+    below_key : AllByRecursion (λ pair. IsBelow pair.0 key) (pairs_below key pairs)
     below_key = all_so (λ pair h. lt_is (bytes_cmp pair.0 key) h) (pairs_below key pairs) (all_passed (λ pair. is_below pair.0 key) pairs)
 
-    pub above_key : AllByRecursion (λ pair. IsBelow key pair.0) (pairs_above key pairs)
+    above_key : AllByRecursion (λ pair. IsBelow key pair.0) (pairs_above key pairs)
     above_key = all_so (λ pair h. lt_is (bytes_cmp key pair.0) h) (pairs_above key pairs) (all_passed (λ pair. is_below key pair.0) pairs)
 
     all_beyond : AllByRecursion (λ x. AllByRecursion (λ y. IsBelow x.0 y.0) (pairs_above key pairs)) (pairs_below key pairs)

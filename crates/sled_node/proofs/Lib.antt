@@ -9,3 +9,4 @@ pub mod FromParts
 pub mod NodeEquality
 pub mod Payloads
 pub mod Roots
+pub mod RootEntries

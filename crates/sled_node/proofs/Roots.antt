@@ -1,18 +1,18 @@
--- Looking names up, and how many names there are.
-use Rattle.std.proofs.Common.{◌≡◌, ℕ, ◌+◌, ◌*◌, ◌<◌, ◌≤◌, ◌^◌, Bool, true, false, cond, [], ◌∷◌, ◌++◌, length, get_or, drop, Some, None, refl, sym, ap, subst, ◌∙◌, arith}
+-- How many names there are, and how large they are.
+use Rattle.std.proofs.Common.{◌≡◌, ℕ, ◌+◌, ◌*◌, ◌<◌, ◌≤◌, ◌^◌, true, cond, [], ◌∷◌, length, Some, None, refl, sym, ap, subst, ◌∙◌, arith}
 use Rattle.std.specs.Prelude.{Option}
 use Rattle.std.specs.List.{AllByRecursion, sum_by}
 use Rattle.std.proofs.Math.Nat.{suc-mul}
-use Rattle.std.proofs.lemmas.List.Sums.{sum_by-cons, sum_by-drop_more}
+use Rattle.std.proofs.lemmas.List.Sums.{sum_by-cons}
 use Rattle.std.specs.declared.cmp.Ordering.{Ordering}
 use Rattle.std.specs.declared.cmp.Ordering.TheVariants.{Less, Equal, Greater}
 use Rattle.std.specs.Ordering.{is_lt, is_eq, ordering_reverse}
-use Rattle.std.proofs.lemmas.List.{length-append, take-append-drop, drop_more}
+use Rattle.std.proofs.lemmas.List.{length-append}
 use Rattle.sled_base.specs.Order.{Bytes, bytes_cmp, is_below, IsBelow}
-use Rattle.sled_base.specs.OrderLaws.{equal_is_same, below_is_above, reversed}
-use Rattle.sled_node.specs.Pairs.{IsWithinLimit, IsRising, pairs_below, pairs_above, StandsAt, IsGap}
-use Rattle.sled_node.specs.Meta.{Roots, is_name, root_of, with_root, with_roots, IsRootMap, HasRoom, roots_size}
-use Rattle.sled_node.proofs.Edits.{below_key, above_key, few_del, rising_set}
+use Rattle.sled_base.specs.OrderLaws.{equal_is_same, reversed}
+use Rattle.sled_node.specs.Pairs.{IsWithinLimit, IsRising, pairs_below, pairs_above}
+use Rattle.sled_node.specs.Meta.{Roots, root_of, with_root, with_roots, IsRootMap, HasRoom, roots_size}
+use Rattle.sled_node.proofs.Edits.{few_del, rising_set}
 
 -- what isn't less is as much
 not_less : {m n : ℕ} → (m < n → ⊥) → n ≤ m
@@ -88,48 +88,6 @@ module _ (name : Bytes) where
   pub never_fewer_with : (root : ℕ) (roots : Roots) → IsRising roots → length roots ≤ length (with_root name root roots)
   never_fewer_with root roots rising = omega (arith, length_with root roots, count_rising roots rising)
 
-  -- ---- where a name stands
-
-  past : (front roots : Roots) → AllByRecursion (λ pair. IsBelow pair.0 name) front → root_of name (front ++ roots) ≡ root_of name roots
-  past [] roots below = refl
-  past (pair ∷ front) roots below =
-      let other : is_name name pair.0 ≡ false = ap is_eq (below_is_above pair.0 name below.0) in
-      rw other (past front roots below.1)
-
-  none_above : (roots : Roots) → AllByRecursion (λ pair. IsBelow name pair.0) roots → root_of name roots ≡ None
-  none_above [] above = refl
-  none_above (pair ∷ roots) above =
-      let other : is_name name pair.0 ≡ false = ap is_eq above.0 in
-      rw other (none_above roots above.1)
-
-  module _ (roots : Roots) where
-    behind_below : (rest : Roots) → root_of name (pairs_below name roots ++ rest) ≡ root_of name rest
-    behind_below rest = past (pairs_below name roots) rest (below_key name roots)
-
-    nothing_above : root_of name (pairs_above name roots) ≡ None
-    nothing_above = none_above (pairs_above name roots) (above_key name roots)
-
-    pub root_missing : (i : ℕ) → IsGap roots name i → None ≡ root_of name roots
-    root_missing i gap =
-        sym (ap (root_of name) (sym (take-append-drop i roots)) ∙ ap (λ front. root_of name (front ++ drop i roots)) gap.before ∙ behind_below (drop i roots) ∙ ap (root_of name) gap.after ∙ nothing_above)
-
-    module _ (i : ℕ) (pair : Bytes × ℕ) (at : StandsAt roots name i) (is : pair ≡ get_or roots i pair) where
-      split : roots ≡ pairs_below name roots ++ pair ∷ pairs_above name roots
-      split =
-          sym (take-append-drop i roots) ∙ ap (λ front. front ++ drop i roots) at.before ∙ ap (λ back. pairs_below name roots ++ back) (drop_more roots i pair at.within ∙ ap (λ x. x ∷ drop (i + 1) roots) (sym is) ∙ ap (λ back. pair ∷ back) at.after)
-
-      found : root_of name roots ≡ cond (is_name name pair.0) (Some pair.1) None
-      found = ap (root_of name) split ∙ behind_below (pair ∷ pairs_above name roots) ∙ ap (cond (is_name name pair.0) (Some pair.1)) nothing_above
-
-      pub root_there : Some pair.1 ≡ root_of name roots
-      root_there = by (is_name name pair.0) refl
-        where
-          by : (b : Bool) → is_name name pair.0 ≡ b → Some pair.1 ≡ root_of name roots
-          by true this = sym (found ∙ ap (λ b. cond b (Some pair.1) None) this)
-          by false other =
-              let missing : root_of name roots ≡ None = found ∙ ap (λ b. cond b (Some pair.1) None) other in
-              absurd (omega (arith, count_missing roots missing, ap length split, length-append (pairs_below name roots) (pair ∷ pairs_above name roots)))
-
 -- ---- pairs that are put in one after the other
 
 pub never_fewer : (pairs roots : Roots) → IsRising roots → length roots ≤ length (with_roots pairs roots)
@@ -152,8 +110,6 @@ size_fits : (roots : Roots) → AllByRecursion (λ pair. IsWithinLimit pair.0) r
 size_fits [] short = omega arith
 size_fits (pair ∷ roots) short = rw suc-mul (omega (arith, short.0, size_fits roots short.1, sum_by-cons size_of pair roots))
 
--- a size so far and that of one more pair
-pub size_so_far : (roots : Roots) → IsRootMap roots → (i : ℕ) (pair : Bytes × ℕ) (size : ℕ) → i < length roots → pair ≡ get_or roots i pair → size + roots_size (drop i roots) ≡ roots_size roots → size + (length pair.0 + 8) < 2 ^ 64
-size_so_far roots map i pair size lt is so_far =
-    let here : size_of pair ≡ size_of (get_or roots i pair) = ap size_of is in
-    omega (arith, map.few, size_fits roots map.keys, so_far, here, sum_by-drop_more size_of roots i pair lt)
+-- so it fits into 64 bits
+pub roots_fit : (roots : Roots) → IsRootMap roots → roots_size roots < 2 ^ 64
+roots_fit roots map = omega (arith, map.few, size_fits roots map.keys)

@@ -1,5 +1,7 @@
 -- A finite map from names to root pages, as the list of its names with their roots, in the order of names.
-use Rattle.std.specs.Prelude.{◌≡◌, ℕ, ◌+◌, ◌<◌, ◌^◌, Bool, List, length, Option, None}
+use Rattle.std.specs.Prelude.{◌≡◌, ℕ, ◌+◌, ◌<◌, ◌^◌, Bool, List, map, length, Option, None}
+use Rattle.std.specs.BTreeMap.{BTreeMap}
+use Rattle.std.specs.Global.{Vec}
 use Rattle.std.specs.List.{fold, sum_by}
 use Rattle.std.specs.Map.{lookup}
 use Rattle.std.specs.Ordering.{is_eq}
@@ -8,6 +10,13 @@ use Rattle.sled_node.specs.Pairs.{set_pair, del_pair, HasPairs}
 
 abbrev pub Roots : Type 0
 Roots = List (Bytes × ℕ)
+
+-- the entries of a map of std, as names with their pages
+abbrev pub named : List (Vec ℕ × ℕ) → Roots
+named entries = map (λ entry. (entry.0.items, entry.1)) entries
+
+abbrev pub named_pages : BTreeMap (Vec ℕ) ℕ → Roots
+named_pages pages = named pages.entries
 
 -- whether the names are one
 abbrev pub is_name : Bytes → Bytes → Bool

@@ -1,6 +1,7 @@
 -- The laws of the root map.
 use Rattle.std.specs.Prelude.{◌≡◌, ℕ, true, false, [], ◌∷◌, ◌++◌, refl}
 use Rattle.std.proofs.Common.{sym, ap, subst, ◌∙◌, append_assoc}
+use Rattle.std.proofs.lemmas.List.{append-nil}
 use Rattle.std.specs.List.{AllByRecursion}
 use Rattle.std.specs.Ordering.{is_lt}
 use Rattle.sled_base.specs.Order.{Bytes, is_below, IsBelow}
@@ -34,11 +35,7 @@ before_it [] pair back rising = tt
 before_it (x ∷ front) pair back rising = (all_behind (λ later. IsBelow x.0 later.0) front pair back rising.0, before_it front pair back rising.1)
 
 put_behind : (front pairs : Roots) → IsRising (front ++ pairs) → with_roots pairs front ≡ front ++ pairs
-put_behind front [] rising = sym (append_nil front)
-  where
-    append_nil : (xs : Roots) → xs ++ [] ≡ xs
-    append_nil [] = refl
-    append_nil (x ∷ xs) = ap (λ rest. x ∷ rest) (append_nil xs)
+put_behind front [] rising = sym (append-nil front)
 put_behind front (pair ∷ pairs) rising =
     let last = comes_last pair.0 pair.1 front (before_it front pair pairs rising) in
     let regrouped = append_assoc front (pair ∷ []) pairs in

@@ -7,7 +7,7 @@ pub mod serialization;
 
 pub use meta::Meta;
 pub use node::{Data, Index, Item, Leaf, Link, Node};
-pub use serialization::Serialize;
+pub use serialization::{ConsumeSequence, Serialize};
 
 #[cfg(test)]
 mod tests;

@@ -4,13 +4,15 @@ ghost use Rattle.std.specs.Prelude.{◌≡◌, ◌≢◌, ◌↔◌, ◌<◌, �
 ghost use Rattle.std.specs.Cmp.{partial_equiv_from_equiv};
 ghost use Rattle.sled_node.specs.Pairs.{IsWithinLimit};
 ghost use Rattle.sled_node.specs.Equality.{same_pairs, index_equiv};
-ghost use Rattle.sled_node.specs.Meta.{root_of, with_root, without_root, IsRootMap, HasRoom, roots_size};
+ghost use Rattle.sled_node.specs.Meta.{named_pages, root_of, with_root, without_root, IsRootMap, HasRoom, roots_size};
 
+mod names;
 mod payload;
 
-use crate::node::pairs::{del_from, place_of, set_in};
+use names::{page_of, set_page, take_page};
 use sled_base::{IVec, PageId};
 use std::alloc::{AllocError, Global};
+use std::collections::BTreeMap;
 use std::marker::Model;
 
 /// The greatest number of names in a root map.
@@ -22,18 +24,19 @@ pub const MAX_NAMES: usize = 1 << 24;
 /// each of at most [`MAX_BYTES`](crate::node::MAX_BYTES) bytes.
 #[derive(Debug, Drop)]
 pub struct Meta {
-    roots: Vec<(IVec, PageId)>,
+    alloc: Global,
+    roots: BTreeMap<Vec<u8>, PageId>,
 }
 
 impl Model for Meta {
     ghost use Rattle.std.specs.Prelude.{List, ℕ};
-    ghost use Rattle.sled_node.specs.Meta.{IsRootMap};
+    ghost use Rattle.sled_node.specs.Meta.{named_pages, IsRootMap};
 
     ghost Value = { List (List ℕ × ℕ) };
 
-    ghost view = { λ meta. meta.roots.items };
+    ghost view = { λ meta. named_pages meta.roots };
 
-    ghost invariant = { λ meta. IsRootMap meta.roots.items };
+    ghost invariant = { λ meta. IsRootMap (named_pages meta.roots) };
 }
 
 impl Meta {
@@ -42,7 +45,8 @@ impl Meta {
         ensures { result ≡ [] }
     {
         Meta {
-            roots: Vec::new(alloc),
+            alloc,
+            roots: BTreeMap::new(alloc),
         }
     }
 
@@ -64,10 +68,7 @@ impl Meta {
     pub fn get_root(&self, name: &[u8]) -> Option<PageId>
         ensures { result ≡ root_of name.now self.now }
     {
-        match place_of(&self.roots, name) {
-            Ok(at) => Some(self.roots[at].1),
-            Err(_) => None,
-        }
+        page_of(&self.roots, name)
     }
 
     /// Whether the name may be set: it is there, or fewer than [`MAX_NAMES`] names are.
@@ -79,7 +80,7 @@ impl Meta {
 
     /// Gives a name its root page, and answers the page that it had before.
     ///
-    /// A refusal for want of memory leaves the map as it was.
+    /// The map keeps a copy of the name. A refusal for want of memory leaves the map as it was.
     pub fn set_root(&mut self, name: IVec, root: PageId) -> Result<Option<PageId>, AllocError>
         requires name { IsWithinLimit name }
         requires room { HasRoom name self.old }
@@ -87,8 +88,7 @@ impl Meta {
         ensures ok { OnOk result (self.new ≡ with_root name root self.old) }
         ensures err { OnErr result (self.new ≡ self.old) }
     {
-        let former = self.get_root(name.as_slice());
-        set_in(&mut self.roots, name, root)?;
+        let former = set_page(self.alloc, &mut self.roots, name.as_slice(), root)?;
         Ok(former)
     }
 
@@ -97,14 +97,12 @@ impl Meta {
         ensures former { result ≡ root_of name.now self.old }
         ensures value { self.new ≡ without_root name.now self.old }
     {
-        let former = self.get_root(name);
-        del_from(&mut self.roots, name);
-        former
+        take_page(&mut self.roots, name)
     }
 
-    /// A copy of the names with their root pages, in the order of names.
-    pub fn tenants(&self) -> Result<Vec<(IVec, PageId)>, AllocError>
-        ensures { IfOk result (λ tenants. tenants.items ≡ self.now) }
+    /// A copy of the names with their root pages, in the order of names. An error means that memory for it is wanting.
+    pub fn tenants(&self) -> Result<BTreeMap<Vec<u8>, PageId>, AllocError>
+        ensures { IfOk result (λ tenants. named_pages tenants ≡ self.now) }
     {
         self.roots.clone()
     }
@@ -114,15 +112,15 @@ impl Meta {
         ensures { result ≡ roots_size self.now }
     {
         let mut size = 0;
-        for pair in &self.roots {
-            size += pair.0.len() as u64 + 8;
+        for name in self.roots.keys() {
+            size += name.len() as u64 + 8;
         }
         size
     }
 
     // The names with their pages, with what every map keeps.
-    fn roots(&self) -> &[(IVec, PageId)]
-        ensures value { result.now ≡ self.now }
+    fn roots(&self) -> &BTreeMap<Vec<u8>, PageId>
+        ensures value { named_pages result.now ≡ self.now }
         ensures kept { IsRootMap self.now }
     {
         &self.roots
@@ -136,6 +134,7 @@ impl Clone for Meta {
 
     fn clone(&self) -> Result<Meta, AllocError> {
         Ok(Meta {
+            alloc: self.alloc,
             roots: self.roots.clone()?,
         })
     }

@@ -14,7 +14,7 @@ ghost use Rattle.sled_node.specs.declared.node.link.Link.TheVariants.{Set, Del, 
 mod data;
 mod leaf;
 mod link;
-pub(crate) mod pairs;
+mod pairs;
 mod parts;
 mod payload;
 

@@ -28,7 +28,7 @@ kept ps = record { pages = map page_of ps; next = 0; batch = false; fault = fals
 -- ---- allocate
 
 -- no page that is kept is free
-not_free : (c : KeptContent) → is_free (content_of c) ≡ false
+pub not_free : (c : KeptContent) → is_free (content_of c) ≡ false
 not_free (content.Counter n) = refl
 not_free content.Roots = refl
 not_free (content.Node node) = refl
@@ -97,21 +97,21 @@ linked s t old link stamp (content.Node node) q made same (accepts, below, is) f
     let changed : t ≡ with_page s old.pid (page (old.stamp + 1) (Node (applied link node))) = moved ∙ ap (with_page s old.pid) (is ∙ ap (λ n. page (n + 1) (Node (applied link node))) same) in
     rw (eq-eqb stamp old.stamp same) (inl (accepts, rw (ne_eqb old.stamp (2 ^ 64 - 1) (λ h. below (same ∙ h)), first) (refl, changed)))
 
-module _ (s : State) (ps : List KeptPage) (old : Token) (pid : ℕ) (link : Link) (p : KeptPage) (is : kept ps ≡ s) (same : old.pid ≡ pid) (free : is_reserved pid ≡ false) (there : slice_get ps pid ≡ Some p) where
-  -- a page that shows no change
-  unchanged : (p' : KeptPage) → page_of p' ≡ page_of p → kept (slice_set ps pid p') ≡ kept ps
-  unchanged p' shown =
-      let at : page_of p' ≡ page_of (get_or ps pid p) = shown ∙ ap page_of (sym (get_or_from_slice_get ps pid p p there)) in
-      ap (λ (all : List Page). record (kept ps) { pages = all }) (map-set_same page_of ps pid p' p at)
+-- a page that shows no change
+pub unchanged : (ps : List KeptPage) (pid : ℕ) (p p' : KeptPage) → slice_get ps pid ≡ Some p → page_of p' ≡ page_of p → kept (slice_set ps pid p') ≡ kept ps
+unchanged ps pid p p' there shown =
+    let at : page_of p' ≡ page_of (get_or ps pid p) = shown ∙ ap page_of (sym (get_or_from_slice_get ps pid p p there)) in
+    ap (λ (all : List Page). record (kept ps) { pages = all }) (map-set_same page_of ps pid p' p at)
 
+module _ (s : State) (ps : List KeptPage) (old : Token) (pid : ℕ) (link : Link) (p : KeptPage) (is : kept ps ≡ s) (same : old.pid ≡ pid) (free : is_reserved pid ≡ false) (there : slice_get ps pid ≡ Some p) where
   pub links_stale : (p' : KeptPage) (back : Token) → (p.stamp ≡ old.stamp → ⊥) → back ≡ token pid p.stamp → page_of p' ≡ page_of p → Links s old link (Ok (Err (Some (back, link)))) (kept (slice_set ps pid p'))
   links_stale p' back other made shown =
       links_at s (kept (slice_set ps pid p')) ps old pid link (Ok (Err (Some (back, link)))) p is same free there
-      (stale (kept ps) (kept (slice_set ps pid p')) old link p.stamp p.content back other (made ∙ ap (λ n. token n p.stamp) (sym same)) (unchanged p' shown))
+      (stale (kept ps) (kept (slice_set ps pid p')) old link p.stamp p.content back other (made ∙ ap (λ n. token n p.stamp) (sym same)) (unchanged ps pid p p' there shown))
 
   pub links_refused : (p' : KeptPage) (e : Error) (answer : Swapped Link) → p.stamp ≡ old.stamp → RefusesLink p.stamp (content_of p.content) link e → answer ≡ Err e → page_of p' ≡ page_of p → Links s old link answer (kept (slice_set ps pid p'))
   links_refused p' e answer at why told shown =
-      rw told (links_at s (kept (slice_set ps pid p')) ps old pid link (Err e) p is same free there (refused (kept ps) (kept (slice_set ps pid p')) old link p.stamp p.content e at why (unchanged p' shown)))
+      rw told (links_at s (kept (slice_set ps pid p')) ps old pid link (Err e) p is same free there (refused (kept ps) (kept (slice_set ps pid p')) old link p.stamp p.content e at why (unchanged ps pid p p' there shown)))
 
   pub links_done : (p' : KeptPage) (made : Token) → p.stamp ≡ old.stamp → IsLinked p.stamp (content_of p.content) link (page_of p') → made ≡ token pid (old.stamp + 1) → Links s old link (Ok (Ok made)) (kept (slice_set ps pid p'))
   links_done p' made at done first =

@@ -1,14 +1,13 @@
--- How pages and changes are kept.
+-- How pages and messages are kept.
 use Rattle.std.specs.Prelude.{◌≡◌, ℕ, false, map, Option, None, Some, ⊤}
 use Rattle.std.specs.FinMap.{empty}
 use Rattle.sled_pagecache.specs.declared.pagecache.page.Page.{Page as KeptPage}
 use Rattle.sled_pagecache.specs.declared.pagecache.page.Content.{Content as KeptContent}
 use Rattle.sled_pagecache.specs.declared.pagecache.page.Content.TheVariants as kept
-use Rattle.sled_pagecache.specs.declared.pagecache.log.Change.{Change as KeptChange}
-use Rattle.sled_pagecache.specs.declared.pagecache.log.Change.TheVariants as message
 use Rattle.sled_pagecache.specs.declared.pagecache.log.MemLog.{MemLog}
+use Rattle.sled_pagecache.specs.declared.pagecache.log.Message.{Message as KeptMessage}
 use Rattle.sled_pagecache.specs.Step.{is_reserved}
-use Rattle.sled_pagecache.specs.State.{State, page_at, Content, Free, Counter, Roots, Node, Page, page, Change, Put, Linked, Log}
+use Rattle.sled_pagecache.specs.State.{State, page_at, Content, Free, Counter, Roots, Node, Page, page, Message, Log}
 
 abbrev pub content_of : KeptContent → Content
 content_of (kept.Counter n) = Counter n
@@ -18,12 +17,11 @@ content_of (kept.Node node) = Node node
 abbrev pub page_of : KeptPage → Page
 page_of p = page p.stamp (content_of p.content)
 
-abbrev pub change_of : KeptChange → Change
-change_of (message.Put pid content) = Put pid (content_of content)
-change_of (message.Link pid link) = Linked pid link
+abbrev pub as_message : KeptMessage → Message
+as_message m = record { kind = m.kind; pid = m.pid; payload = m.payload.items }
 
 abbrev pub log_of : MemLog → Log
-log_of log = record { blob_limit = log.blob_limit; clean_every = log.clean_every; changes = map change_of log.changes.items }
+log_of log = record { blob_limit = log.blob_limit; clean_every = log.clean_every; messages = map as_message log.messages.items }
 
 -- a page that a reader may ask for: there is none, or it is free, or it has a node
 abbrev pub IsNodePage : Option Page → Type 0

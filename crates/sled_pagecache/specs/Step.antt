@@ -11,10 +11,10 @@ use Rattle.sled_node.specs.Node.{WholeNode}
 use Rattle.sled_node.specs.declared.node.link.Link.{Link as NodeLink}
 use Rattle.sled_pagecache.specs.declared.pagecache.TheConstants.{META_PID, COUNTER_PID, BATCH_MANIFEST_PID, MAX_PID_BITS}
 use Rattle.sled_pagecache.specs.declared.pagecache.call.Answer.{Answer}
-use Rattle.sled_pagecache.specs.declared.pagecache.call.Answer.TheVariants.{Allocated, Got, Linked}
+use Rattle.sled_pagecache.specs.declared.pagecache.call.Answer.TheVariants.{Allocated, Got, Linked, Replaced}
 use Rattle.sled_pagecache.specs.declared.pagecache.call.Call.{Call}
-use Rattle.sled_pagecache.specs.declared.pagecache.call.Call.TheVariants.{Allocate, Get, Link}
-use Rattle.sled_pagecache.specs.State.{Content, Free, Counter, Roots, Node, Page, page, State, Change, Put, page_at, with_page, greatest_free}
+use Rattle.sled_pagecache.specs.declared.pagecache.call.Call.TheVariants.{Allocate, Get, Link, Replace}
+use Rattle.sled_pagecache.specs.State.{Content, Free, Counter, Roots, Node, Page, page, State, Change, Put, page_at, with_page, is_free, greatest_free}
 use Rattle.sled_pagecache.specs.State as changes
 use Rattle.sled_pagecache.specs.Token.{Token, token}
 
@@ -116,11 +116,25 @@ LinksPage s old link (Some found) answer t = LinksContent s old link found.stamp
 abbrev pub Links : State → Token → NodeLink → Swapped NodeLink → State → Type 0
 Links s old link answer t = UnlessFaulty s answer t (UnlessReserved s old.pid answer t (LinksPage s old link (page_at s old.pid) answer t))
 
+-- ---- replace: at the page's present stamp the page holds the node in place of what it held, and the stamp rises by one
+
+abbrev pub ReplacesContent : State → Token → WholeNode → Swapped WholeNode → State → Type 0
+ReplacesContent s old node answer t = UnlessLastStamp s old.stamp answer t (Does s answer t (λ swapped. IsSwapped s old (Node node) swapped t))
+
+abbrev pub ReplacesPage : State → Token → WholeNode → Option Page → Swapped WholeNode → State → Type 0
+ReplacesPage s old node None answer t = IsGone s answer t
+ReplacesPage s old node (Some found) answer t =
+    MatchBool (is_free found.content) (IsGone s answer t) (UnlessStale s old node found.stamp answer t (ReplacesContent s old node answer t))
+
+abbrev pub Replaces : State → Token → WholeNode → Swapped WholeNode → State → Type 0
+Replaces s old node answer t = UnlessFaulty s answer t (UnlessReserved s old.pid answer t (ReplacesPage s old node (page_at s old.pid) answer t))
+
 -- ---- From s, the cache may give this answer to the call and go on to t.
 abbrev pub Step : State → Call → Answer → State → Type 0
 Step s (Allocate node) (Allocated answer) t = Allocates s node answer t
 Step s (Get pid) (Got answer) t = Gets s pid answer t
 Step s (Link old link) (Linked answer) t = Links s old link answer t
+Step s (Replace old node) (Replaced answer) t = Replaces s old node answer t
 -- a call gets no answer of another call
 Step s call answer t = ⊥
 
@@ -128,4 +142,5 @@ Step s call answer t = ⊥
 abbrev pub begun : Call → Answer → List Change
 begun (Allocate node) (Allocated (Ok made)) = Put made.0 (Node node) ∷ []
 begun (Link old link) (Linked (Ok (Ok made))) = changes.Linked old.pid link ∷ []
+begun (Replace old node) (Replaced (Ok (Ok made))) = Put old.pid (Node node) ∷ []
 begun call answer = []

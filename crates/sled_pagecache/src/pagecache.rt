@@ -23,5 +23,8 @@ pub const COUNTER_PID: PageId = 1;
 /// The page id that marks the beginning of a batch in a log.
 pub const BATCH_MANIFEST_PID: PageId = u64::MAX - 666;
 
+/// How many bytes of a log a message takes up beside its payload.
+pub const MAX_MSG_HEADER_LEN: usize = 17;
+
 /// The ids of pages are below 2 to this power.
 pub const MAX_PID_BITS: u32 = 37;

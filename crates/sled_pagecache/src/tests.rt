@@ -253,3 +253,80 @@ fn a_page_keeps_stored_keys_without_the_prefix(rt: HostRuntime) -> Result<(), Fa
     assert_eq!(rt; view.node().hi().as_slice(), b"bz".as_slice());
     Ok(())
 }
+
+/// What a replacement answers.
+type Replaced = Result<Result<PageView, Option<(PageView, Node)>>, Error>;
+
+// Whether a replacement, by the token with this stamp, is answered so.
+fn is_answer(cache: &mut PageCache, pid: PageId, stamp: u64, node: Node, wanted: Replaced) -> bool {
+    let answer = cache.replace(pid, PageView::new(pid, stamp), node);
+    let is_so = answer == wanted;
+    let_both_go(answer, wanted);
+    is_so
+}
+
+fn let_both_go(_answer: Replaced, _wanted: Replaced) {}
+
+// Whether page 2, at stamp 2, takes the node.
+fn holds(cache: &mut PageCache, node: Node) -> bool {
+    is_answer(cache, 2, 2, node, Ok(Ok(PageView::new(2, 3))))
+}
+
+// Whether page 2, by the token with this stamp, is answered by the present token and the same node.
+fn comes_back(
+    cache: &mut PageCache,
+    stamp: u64,
+    node: Node,
+    present: PageView,
+    same: Node,
+) -> bool {
+    is_answer(cache, 2, stamp, node, Ok(Err(Some((present, same)))))
+}
+
+fn finds_no_page(cache: &mut PageCache, pid: PageId, node: Node) -> bool {
+    is_answer(cache, pid, 1, node, Ok(Err(None)))
+}
+
+fn is_kept_from(cache: &mut PageCache, pid: PageId, node: Node) -> bool {
+    let refused = Err(Error::Unsupported(Why::ReservedId));
+    is_answer(cache, pid, 1, node, refused)
+}
+
+#[test]
+fn a_replacement_wants_the_present_token(rt: HostRuntime) -> Result<(), Fail> {
+    let alloc = rt.alloc();
+    let mut cache = opened(alloc)?;
+    assert!(rt; adds_leaf(alloc, &mut cache, 2));
+    assert!(rt; takes(&mut cache, set(alloc, b"b", b"v")?));
+    let present = PageView::new(2, 2);
+    for stamp in [1, 3] {
+        let (node, same) = (Node::default(alloc), Node::default(alloc));
+        assert!(rt;
+            comes_back(&mut cache, stamp, node, present, same),
+            "stamp {stamp}"
+        );
+        assert!(rt; has_pair(&mut cache, 2, 2, b"b", b"v"), "stamp {stamp}");
+    }
+    assert!(rt; holds(&mut cache, Node::default(alloc)));
+    assert!(rt; is_empty(&mut cache, 2, 3));
+    Ok(())
+}
+
+#[test]
+fn a_replacement_wants_a_page(rt: HostRuntime) -> Result<(), Fail> {
+    let alloc = rt.alloc();
+    let mut cache = opened(alloc)?;
+    for pid in [2, u64::MAX] {
+        assert!(rt;
+            finds_no_page(&mut cache, pid, Node::default(alloc)),
+            "page {pid}"
+        );
+    }
+    for pid in [0, 1, u64::MAX - 666] {
+        assert!(rt;
+            is_kept_from(&mut cache, pid, Node::default(alloc)),
+            "page {pid}"
+        );
+    }
+    Ok(())
+}

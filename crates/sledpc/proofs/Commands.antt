@@ -1,7 +1,8 @@
 -- Which calls a name and the text behind it ask for.
-use Rattle.std.proofs.Common.{◌≡◌, ◌≢◌, ℕ, ◌<◌, ◌^◌, List, [], ◌∷◌, ◌++◌, map, get_or, Option, None, Some, IfNone, IfOk, Result, Ok, Err, codes, sym, ap, ◌∙◌, subst, arith, rules, refl}
+use Rattle.std.proofs.Common.{◌≡◌, ◌≢◌, ℕ, ◌<◌, ◌^◌, List, [], ◌∷◌, ◌++◌, map, length, get_or, Option, None, Some, IfNone, IfOk, IfSome, Result, Ok, Err, codes, sym, ap, ◌∙◌, subst, arith, rules, refl}
 use Rattle.std.specs.Fmt.{decimal}
 use Rattle.std.specs.List.{join_with_byte}
+use Rattle.std.specs.Option.{SomeIff}
 use Rattle.std.specs.Str.Parse.{AllDigits}
 use Rattle.std.specs.Char.{digit_value}
 use Rattle.std.proofs.lemmas.Bool.Decides.{nat_tests}
@@ -9,12 +10,13 @@ use Rattle.std.proofs.lemmas.Fmt.{digits_decimal}
 use Rattle.std.proofs.lemmas.Str.Parse.{numerals_by_value, tells_digits}
 use Rattle.sled_base.specs.Order.{Bytes}
 use Rattle.sled_node.specs.declared.node.link.Link.TheVariants.{Set, Del, ParentMergeIntention, ParentMergeConfirm, ChildMergeCap}
+use Rattle.sled_node.specs.Node.{Value, WholeNode, leaf_of}
 use Rattle.sled_node.specs.Pairs.{IsWithinLimit, HasPairs}
-use Rattle.sled_pagecache.specs.Token.{pid_of, stamp_of}
+use Rattle.sled_pagecache.specs.Token.{Token, token, pid_of, stamp_of}
 use Rattle.sled_pagecache.specs.declared.pagecache.call.Call.{Call}
-use Rattle.sled_pagecache.specs.declared.pagecache.call.Call.TheVariants.{Allocate, Get, Link}
-use Rattle.sledpc.specs.Asked.{AsksBehind, AreFour}
-use Rattle.sledpc.specs.Commands.{Asks, Spells}
+use Rattle.sled_pagecache.specs.declared.pagecache.call.Call.TheVariants.{Allocate, Get, Link, Replace}
+use Rattle.sledpc.specs.Asked.{AsksBehind, AreTwo, BeginsWithToken, SpellLeaf, at_the_end}
+use Rattle.sledpc.specs.Commands.{Asks, IsToken, Spells}
 use Rattle.sledpc.specs.Cut.{HasNo}
 use Rattle.sledpc.specs.Words.{AreBytes, ArePairs, SpellPairs, bytes_word, pair_word, after_name, HasNoSpace, BeginsLine}
 use Rattle.sledpc.proofs.Cut.{cut_once, no_mark}
@@ -55,7 +57,7 @@ begins_itself word (next ∷ words) plain = (plain, refl)
 abbrev first_byte : List Bytes → ℕ
 first_byte words = get_or (get_or words 0 []) 0 0
 
--- ---- the pairs of `alloc`
+-- ---- the pairs of `alloc` and of `replace`
 
 words_once : (pairs others : List (Bytes × Bytes)) → ArePairs pairs → ArePairs others → after_name (map pair_word pairs) ≡ after_name (map pair_word others) → pairs ≡ others
 words_once [] [] are also e = refl
@@ -72,51 +74,139 @@ words_once (pair ∷ pairs) (other ∷ others) are also e =
 pub pairs_once : (text : Option Bytes) (pairs others : List (Bytes × Bytes)) → ArePairs pairs → ArePairs others → SpellPairs text pairs → SpellPairs text others → pairs ≡ others
 pairs_once text pairs others are also spell spelled = words_once pairs others are also (sym spell ∙ spelled)
 
+-- the pairs of a text make one leaf, where they make one at all
+pub leaf_spelled : {E : Type 0} (text : Option Bytes) (pairs : List (Bytes × Bytes)) (result : Result (Option WholeNode) E) → SpellPairs text pairs → ArePairs pairs
+    → IfOk result (λ node. SomeIff node (HasPairs IsWithinLimit pairs) (leaf_of (map (λ pair. (pair.0, Value pair.1)) pairs))) → IfOk result (λ found. IfSome found (SpellLeaf text))
+leaf_spelled text pairs (Ok None) spelled bytes made = tt
+leaf_spelled text pairs (Ok (Some node)) spelled bytes made = (pairs, record { bytes = bytes; fits = made.0; leaf = made.1 }, spelled)
+leaf_spelled text pairs (Err error) spelled bytes made = tt
+
+pub no_leaf_spelled : {E : Type 0} (text : Option Bytes) (pairs : List (Bytes × Bytes)) (result : Result (Option WholeNode) E) → SpellPairs text pairs → ArePairs pairs
+    → IfOk result (λ node. SomeIff node (HasPairs IsWithinLimit pairs) (leaf_of (map (λ pair. (pair.0, Value pair.1)) pairs))) → IfOk result (λ found. IfNone found ((node : WholeNode) → SpellLeaf text node → ⊥))
+no_leaf_spelled text pairs (Ok None) spelled bytes made = λ node leaf. made (subst (HasPairs IsWithinLimit) (pairs_once text leaf.0 pairs leaf.1.bytes bytes leaf.2 spelled) leaf.1.fits)
+no_leaf_spelled text pairs (Ok (Some node)) spelled bytes made = tt
+no_leaf_spelled text pairs (Err error) spelled bytes made = tt
+
 pub record IsAllocate (text : Option Bytes) : Type 0 where
-  pub pairs : List (Bytes × Bytes)
-  pub bytes : ArePairs pairs
-  pub fits : HasPairs IsWithinLimit pairs
-  pub spelled : SpellPairs text pairs
+  pub node : WholeNode
+  pub leaf : SpellLeaf text node
 
 pub allocate_asked : (text : Option Bytes) (call : Call) → AsksBehind (codes "alloc") text call → IsAllocate text
 allocate_asked text (Allocate node) asked =
     let e : asked.0 ≡ map pair_word asked.1.0 = cc (asked.1.2) in
-    record { pairs = asked.1.0; bytes = asked.1.1.bytes; fits = asked.1.1.fits; spelled = asked.2 ∙ ap after_name e }
+    record { node = node; leaf = (asked.1.0, asked.1.1, asked.2 ∙ ap after_name e) }
 allocate_asked text (Get pid) asked = let e : ◌≡◌ {A = ℕ} 97 103 = ap first_byte asked.1.1 in absurd (omega arith)
 allocate_asked text (Link old (Set key value)) asked = let e : ◌≡◌ {A = ℕ} 97 115 = ap first_byte asked.1.3 in absurd (omega arith)
-allocate_asked text (Link old (Del key)) asked = absurd (asked.1)
+allocate_asked text (Link old (Del key)) asked = let e : ◌≡◌ {A = ℕ} 97 100 = ap first_byte asked.1.2 in absurd (omega arith)
 allocate_asked text (Link old (ParentMergeIntention page)) asked = absurd (asked.1)
 allocate_asked text (Link old ParentMergeConfirm) asked = absurd (asked.1)
 allocate_asked text (Link old ChildMergeCap) asked = absurd (asked.1)
+allocate_asked text (Replace old node) asked = let e : ◌≡◌ {A = ℕ} 97 114 = ap first_byte asked.1.3 in absurd (omega arith)
 
--- ---- the four words of `set`
+-- ---- two words
 
--- a text is cut into four in one way
-pub four_once : (text : Option Bytes) (a b c d first second third rest : Bytes) → AreFour text a b c d → AreFour text first second third rest → (a ≡ first) × (b ≡ second) × (c ≡ third) × (d ≡ rest)
-four_once text a b c d first second third rest one other =
-    let joined : join_with_byte 32 (a ∷ b ∷ c ∷ d ∷ []) ≡ join_with_byte 32 (first ∷ second ∷ third ∷ rest ∷ []) = cc (one.joined, other.joined) in
-    let front = cut_once 32 a first _ _ one.plain_first other.plain_first joined in
-    let middle = cut_once 32 b second _ _ one.plain_second other.plain_second front.1 in
-    let back = cut_once 32 c third _ _ one.plain_third other.plain_third middle.1 in
-    (front.0, middle.0, back.0, back.1)
+-- a text is cut into two in one way
+pub two_once : (text : Option Bytes) (a b first rest : Bytes) → AreTwo text a b → AreTwo text first rest → (a ≡ first) × (b ≡ rest)
+two_once text a b first rest one other =
+    let joined : join_with_byte 32 (a ∷ b ∷ []) ≡ join_with_byte 32 (first ∷ rest ∷ []) = cc (one.joined, other.joined) in
+    cut_once 32 a first b rest one.plain_first other.plain_first joined
 
--- four texts by what they are
-pub are_words : (text : Option Bytes) (a b c d first second third rest : Bytes) → AreFour text a b c d → a ≡ first → b ≡ second → c ≡ third → d ≡ rest → text ≡ after_name (first ∷ second ∷ third ∷ rest ∷ [])
-are_words text a b c d first second third rest are e f g h = are.joined ∙ ap Some cc
+-- two texts by what they are
+pub are_words : (text : Option Bytes) (a b first rest : Bytes) → AreTwo text a b → a ≡ first → b ≡ rest → text ≡ after_name (first ∷ rest ∷ [])
+are_words text a b first rest are e f = are.joined ∙ ap Some cc
 
 -- behind the first of two words is the other
 pub behind : (line word first more : Bytes) (text rest : Option Bytes) → text ≡ Some line → BeginsLine line word rest → HasNoSpace first → text ≡ Some (first ++ 32 ∷ more) → rest ≡ Some more
 behind line word first more text rest is begins plain e = (in_front line word first more rest begins plain cc).1
 
+-- ---- a token
+
+-- a line is cut at its first space in one way
+begins_once : (line word other : Bytes) (rest more : Option Bytes) → BeginsLine line word rest → BeginsLine line other more → (word ≡ other) × (rest ≡ more)
+begins_once line word other None None begins also = (sym begins.1 ∙ also.1, refl)
+begins_once line word other None (Some more) begins also = absurd (no_mark 32 word other more begins.0 (sym begins.1 ∙ also.1))
+begins_once line word other (Some rest) None begins also = absurd (no_mark 32 other word rest also.0 (sym also.1 ∙ begins.1))
+begins_once line word other (Some rest) (Some more) begins also = let cut = cut_once 32 word other rest more begins.0 also.0 (sym begins.1 ∙ also.1) in (cut.0, ap Some cut.1)
+
+-- a text that begins with a token, cut at its first space
+pub record IsTokenCut (text : Option Bytes) (old : Token) (rest : Option Bytes) : Type 0 where
+  pub back : Bytes
+  pub plain : HasNoSpace (decimal (pid_of old))
+  pub front : text ≡ Some (decimal (pid_of old) ++ 32 ∷ back)
+  pub begins : BeginsLine back (decimal (stamp_of old)) rest
+
+pub token_cut : (text : Option Bytes) (old : Token) (rest : Option Bytes) → BeginsWithToken text old rest → IsTokenCut text old rest
+token_cut text old None token = record {
+  back = decimal (stamp_of old);
+  plain = no_space_in_number (pid_of old) token.token.0;
+  front = token.joined;
+  begins = (no_space_in_number (stamp_of old) token.token.1, refl);
+}
+token_cut text old (Some rest) token = record {
+  back = decimal (stamp_of old) ++ 32 ∷ rest;
+  plain = no_space_in_number (pid_of old) token.token.0;
+  front = token.joined;
+  begins = (no_space_in_number (stamp_of old) token.token.1, refl);
+}
+
+-- the first two words of a text with a token are those of the token
+pub token_words : (line page back stamp : Bytes) (text rest more last : Option Bytes) (old : Token) → text ≡ Some line → BeginsLine line page rest → rest ≡ Some back → BeginsLine back stamp more → BeginsWithToken text old last
+    → (page ≡ decimal (pid_of old)) × (stamp ≡ decimal (stamp_of old)) × (more ≡ last)
+token_words line page back stamp text rest more last old is begins e next token =
+    let cut = token_cut text old last token in
+    let front = in_front line page (decimal (pid_of old)) cut.back rest begins cut.plain cc in
+    let same : back ≡ cut.back = cc in
+    let both = begins_once back stamp (decimal (stamp_of old)) more last next (subst (λ line. BeginsLine line (decimal (stamp_of old)) last) (sym same) cut.begins) in
+    (front.0, both.0, both.1)
+
+pub one_page_word : (line page : Bytes) (text rest last : Option Bytes) (old : Token) → text ≡ Some line → BeginsLine line page rest → BeginsWithToken text old last → (page ≡ decimal (pid_of old)) × (rest ≡ None → ⊥)
+one_page_word line page text rest last old is begins token =
+    let cut = token_cut text old last token in
+    let front = in_front line page (decimal (pid_of old)) cut.back rest begins cut.plain cc in
+    (front.0, λ none. cc)
+
+-- two numbers in front of a text are a token
+pub is_token : (line page back stamp : Bytes) (text rest more : Option Bytes) (pid number : ℕ) → text ≡ Some line → BeginsLine line page rest → rest ≡ Some back → BeginsLine back stamp more → page ≡ decimal pid → stamp ≡ decimal number
+    → pid < 2 ^ 64 → number < 2 ^ 64 → BeginsWithToken text (token pid number) more
+is_token line page back stamp text rest None pid number is begins e next first second small also =
+    let front : BeginsLine line page (Some back) = subst (BeginsLine line page) e begins in
+    record { token = (small, also); joined = is ∙ ap Some (front.1 ∙ ap (λ word. word ++ 32 ∷ back) first ∙ ap (λ word. decimal pid ++ 32 ∷ word) (next.1 ∙ second)) }
+is_token line page back stamp text rest (Some more) pid number is begins e next first second small also =
+    let front : BeginsLine line page (Some back) = subst (BeginsLine line page) e begins in
+    record { token = (small, also); joined = is ∙ ap Some (front.1 ∙ ap (λ word. word ++ 32 ∷ back) first ∙ ap (λ word. decimal pid ++ 32 ∷ word) (next.1 ∙ ap (λ word. word ++ 32 ∷ more) second)) }
+
+-- what stands behind a token is one text
+pub token_rest : (text rest more : Option Bytes) (old other : Token) → BeginsWithToken text old rest → BeginsWithToken text other more → rest ≡ more
+token_rest text rest more old other one two =
+    let cut = token_cut text old rest one in
+    let also = token_cut text other more two in
+    let joined : decimal (pid_of old) ++ 32 ∷ cut.back ≡ decimal (pid_of other) ++ 32 ∷ also.back = cc (cut.front, also.front) in
+    let front = cut_once 32 (decimal (pid_of old)) (decimal (pid_of other)) cut.back also.back cut.plain also.plain joined in
+    (begins_once cut.back (decimal (stamp_of old)) (decimal (stamp_of other)) rest more cut.begins (subst (λ line. BeginsLine line (decimal (stamp_of other)) more) (sym front.1) also.begins)).1
+
+-- words behind two others, and the same words as one text
+end_joined : (first second : Bytes) (words : List Bytes) → after_name (first ∷ second ∷ words) ≡ after_name (first ∷ second ∷ at_the_end (after_name words))
+end_joined first second [] = refl
+end_joined first second (word ∷ words) = refl
+
+-- a token's words, and the words behind them
+pub token_joined : (text rest : Option Bytes) (old : Token) (words : List Bytes) → BeginsWithToken text old rest → rest ≡ after_name words → text ≡ after_name (decimal (pid_of old) ∷ decimal (stamp_of old) ∷ words)
+token_joined text rest old words token e =
+    token.joined ∙ ap (λ last. after_name (decimal (pid_of old) ∷ decimal (stamp_of old) ∷ at_the_end last)) e ∙ sym (end_joined (decimal (pid_of old)) (decimal (stamp_of old)) words)
+
+-- words that begin with a token's
+token_in_front : (text : Option Bytes) (old : Token) (words more : List Bytes) → IsToken old → text ≡ after_name words → words ≡ decimal (pid_of old) ∷ decimal (stamp_of old) ∷ more → BeginsWithToken text old (after_name more)
+token_in_front text old words more token e f = record { token = token; joined = e ∙ ap after_name f ∙ end_joined (decimal (pid_of old)) (decimal (stamp_of old)) more }
+
 -- what a text behind `set` spells
 pub record IsSet (text : Option Bytes) : Type 0 where
-  pub pid : ℕ
-  pub stamp : ℕ
+  pub old : Token
   pub key : Bytes
   pub value : Bytes
-  pub token : (pid < 2 ^ 64) × (stamp < 2 ^ 64)
   pub bytes : AreBytes key × AreBytes value
-  pub words : AreFour text (decimal pid) (decimal stamp) (bytes_word key) (bytes_word value)
+  pub rest : Option Bytes
+  pub words : AreTwo rest (bytes_word key) (bytes_word value)
+  pub token : BeginsWithToken text old rest
 
 pub set_asked : (text : Option Bytes) (call : Call) → AsksBehind (codes "set") text call → IsSet text
 set_asked text (Allocate node) asked = let e : ◌≡◌ {A = ℕ} 115 97 = ap first_byte asked.1.2 in absurd (omega arith)
@@ -124,27 +214,63 @@ set_asked text (Get pid) asked = let e : ◌≡◌ {A = ℕ} 115 103 = ap first_
 set_asked text (Link old (Set key value)) asked =
     let e : asked.0 ≡ decimal (pid_of old) ∷ decimal (stamp_of old) ∷ bytes_word key ∷ bytes_word value ∷ [] = cc (asked.1.3) in
     record {
-      pid = pid_of old;
-      stamp = stamp_of old;
+      old = old;
       key = key;
       value = value;
-      token = asked.1.0;
       bytes = (asked.1.1, asked.1.2);
-      words = record {
-        plain_first = no_space_in_number (pid_of old) asked.1.0.0;
-        plain_second = no_space_in_number (stamp_of old) asked.1.0.1;
-        plain_third = no_space key asked.1.1;
-        joined = asked.2 ∙ ap after_name e;
-      };
+      rest = after_name (bytes_word key ∷ bytes_word value ∷ []);
+      words = record { plain_first = no_space key asked.1.1; joined = refl };
+      token = token_in_front text old asked.0 (bytes_word key ∷ bytes_word value ∷ []) asked.1.0 asked.2 e;
     }
-set_asked text (Link old (Del key)) asked = absurd (asked.1)
+set_asked text (Link old (Del key)) asked = let e : ◌≡◌ {A = ℕ} 115 100 = ap first_byte asked.1.2 in absurd (omega arith)
 set_asked text (Link old (ParentMergeIntention page)) asked = absurd (asked.1)
 set_asked text (Link old ParentMergeConfirm) asked = absurd (asked.1)
 set_asked text (Link old ChildMergeCap) asked = absurd (asked.1)
+set_asked text (Replace old node) asked = let e : ◌≡◌ {A = ℕ} 115 114 = ap first_byte asked.1.3 in absurd (omega arith)
+
+-- what a text behind `del` spells
+pub record IsDel (text : Option Bytes) : Type 0 where
+  pub old : Token
+  pub key : Bytes
+  pub bytes : AreBytes key
+  pub token : BeginsWithToken text old (Some (bytes_word key))
+
+pub del_asked : (text : Option Bytes) (call : Call) → AsksBehind (codes "del") text call → IsDel text
+del_asked text (Allocate node) asked = let e : ◌≡◌ {A = ℕ} 100 97 = ap first_byte asked.1.2 in absurd (omega arith)
+del_asked text (Get pid) asked = let e : ◌≡◌ {A = ℕ} 100 103 = ap first_byte asked.1.1 in absurd (omega arith)
+del_asked text (Link old (Set key value)) asked = let e : ◌≡◌ {A = ℕ} 100 115 = ap first_byte asked.1.3 in absurd (omega arith)
+del_asked text (Link old (Del key)) asked =
+    let e : asked.0 ≡ decimal (pid_of old) ∷ decimal (stamp_of old) ∷ bytes_word key ∷ [] = cc (asked.1.2) in
+    record { old = old; key = key; bytes = asked.1.1; token = token_in_front text old asked.0 (bytes_word key ∷ []) asked.1.0 asked.2 e }
+del_asked text (Link old (ParentMergeIntention page)) asked = absurd (asked.1)
+del_asked text (Link old ParentMergeConfirm) asked = absurd (asked.1)
+del_asked text (Link old ChildMergeCap) asked = absurd (asked.1)
+del_asked text (Replace old node) asked = let e : ◌≡◌ {A = ℕ} 100 114 = ap first_byte asked.1.3 in absurd (omega arith)
+
+-- what a text behind `replace` spells
+pub record IsReplace (text : Option Bytes) : Type 0 where
+  pub old : Token
+  pub node : WholeNode
+  pub rest : Option Bytes
+  pub leaf : SpellLeaf rest node
+  pub token : BeginsWithToken text old rest
+
+pub replace_asked : (text : Option Bytes) (call : Call) → AsksBehind (codes "replace") text call → IsReplace text
+replace_asked text (Allocate node) asked = let e : ◌≡◌ {A = ℕ} 114 97 = ap first_byte asked.1.2 in absurd (omega arith)
+replace_asked text (Get pid) asked = let e : ◌≡◌ {A = ℕ} 114 103 = ap first_byte asked.1.1 in absurd (omega arith)
+replace_asked text (Link old (Set key value)) asked = let e : ◌≡◌ {A = ℕ} 114 115 = ap first_byte asked.1.3 in absurd (omega arith)
+replace_asked text (Link old (Del key)) asked = let e : ◌≡◌ {A = ℕ} 114 100 = ap first_byte asked.1.2 in absurd (omega arith)
+replace_asked text (Link old (ParentMergeIntention page)) asked = absurd (asked.1)
+replace_asked text (Link old ParentMergeConfirm) asked = absurd (asked.1)
+replace_asked text (Link old ChildMergeCap) asked = absurd (asked.1)
+replace_asked text (Replace old node) asked =
+    let pairs = asked.1.1 in
+    let e : asked.0 ≡ decimal (pid_of old) ∷ decimal (stamp_of old) ∷ map pair_word pairs = cc (asked.1.3) in
+    record { old = old; node = node; rest = after_name (map pair_word pairs); leaf = (pairs, asked.1.2, refl); token = token_in_front text old asked.0 (map pair_word pairs) asked.1.0 asked.2 e }
 
 -- ---- a line by its name
 
--- words that ask for a call begin with one of three names
+-- words that ask for a call begin with one of five names
 record IsNamed (words : List Bytes) : Type 0 where
   name : Bytes
   rest : List Bytes
@@ -156,10 +282,12 @@ is_named words (Allocate node) asks = record { name = codes "alloc"; rest = map 
 is_named words (Get pid) asks = record { name = codes "get"; rest = decimal pid ∷ []; plain = search rules; joined = asks.1 }
 is_named words (Link old (Set key value)) asks =
     record { name = codes "set"; rest = decimal (pid_of old) ∷ decimal (stamp_of old) ∷ bytes_word key ∷ bytes_word value ∷ []; plain = search rules; joined = asks.3 }
-is_named words (Link old (Del key)) asks = absurd asks
+is_named words (Link old (Del key)) asks = record { name = codes "del"; rest = decimal (pid_of old) ∷ decimal (stamp_of old) ∷ bytes_word key ∷ []; plain = search rules; joined = asks.2 }
 is_named words (Link old (ParentMergeIntention page)) asks = absurd asks
 is_named words (Link old ParentMergeConfirm) asks = absurd asks
 is_named words (Link old ChildMergeCap) asks = absurd asks
+is_named words (Replace old node) asks =
+    record { name = codes "replace"; rest = decimal (pid_of old) ∷ decimal (stamp_of old) ∷ map pair_word asks.1; plain = search rules; joined = asks.3 }
 
 -- a line that spells a call is its name and the text behind it
 pub spelled_behind : (line name : Bytes) (text : Option Bytes) (call : Call) → BeginsLine line name text → Spells line call → AsksBehind name text call
@@ -168,15 +296,28 @@ spelled_behind line name text call begins spells =
     let cut = named line name front.name text front.rest begins front.plain (spells.1.2 ∙ ap (join_with_byte 32) front.joined) in
     (front.rest, subst (λ words. Asks words call) (front.joined ∙ ap (λ first. first ∷ front.rest) (sym cut.0)) spells.1.1, cut.1)
 
--- there are three names
-pub no_name : (name : Bytes) (text : Option Bytes) (call : Call) → name ≢ codes "alloc" → name ≢ codes "get" → name ≢ codes "set" → AsksBehind name text call → ⊥
-no_name name text (Allocate node) alloc get set asked = alloc (cc (asked.1.2))
-no_name name text (Get pid) alloc get set asked = get (cc (asked.1.1))
-no_name name text (Link old (Set key value)) alloc get set asked = set (cc (asked.1.3))
-no_name name text (Link old (Del key)) alloc get set asked = asked.1
-no_name name text (Link old (ParentMergeIntention page)) alloc get set asked = asked.1
-no_name name text (Link old ParentMergeConfirm) alloc get set asked = asked.1
-no_name name text (Link old ChildMergeCap) alloc get set asked = asked.1
+-- a word of seven bytes, byte by byte
+pub seven_bytes : (word : Bytes) (a b c d e f g : ℕ) → length word ≡ 7 → get_or word 0 0 ≡ a → get_or word 1 0 ≡ b → get_or word 2 0 ≡ c → get_or word 3 0 ≡ d → get_or word 4 0 ≡ e → get_or word 5 0 ≡ f → get_or word 6 0 ≡ g → word ≡ a ∷ b ∷ c ∷ d ∷ e ∷ f ∷ g ∷ []
+seven_bytes [] a b c d e f g n p q r s t u v = absurd (omega (arith, n))
+seven_bytes (x0 ∷ []) a b c d e f g n p q r s t u v = absurd (omega (arith, n))
+seven_bytes (x0 ∷ x1 ∷ []) a b c d e f g n p q r s t u v = absurd (omega (arith, n))
+seven_bytes (x0 ∷ x1 ∷ x2 ∷ []) a b c d e f g n p q r s t u v = absurd (omega (arith, n))
+seven_bytes (x0 ∷ x1 ∷ x2 ∷ x3 ∷ []) a b c d e f g n p q r s t u v = absurd (omega (arith, n))
+seven_bytes (x0 ∷ x1 ∷ x2 ∷ x3 ∷ x4 ∷ []) a b c d e f g n p q r s t u v = absurd (omega (arith, n))
+seven_bytes (x0 ∷ x1 ∷ x2 ∷ x3 ∷ x4 ∷ x5 ∷ []) a b c d e f g n p q r s t u v = absurd (omega (arith, n))
+seven_bytes (x0 ∷ x1 ∷ x2 ∷ x3 ∷ x4 ∷ x5 ∷ x6 ∷ []) a b c d e f g n p q r s t u v = cc
+seven_bytes (x0 ∷ x1 ∷ x2 ∷ x3 ∷ x4 ∷ x5 ∷ x6 ∷ y ∷ more) a b c d e f g n p q r s t u v = absurd (omega (arith, n))
+
+-- there are five names
+pub no_name : (name : Bytes) (text : Option Bytes) (call : Call) → name ≢ codes "alloc" → name ≢ codes "get" → name ≢ codes "set" → name ≢ codes "del" → name ≢ codes "replace" → AsksBehind name text call → ⊥
+no_name name text (Allocate node) alloc get set del replace asked = alloc (cc (asked.1.2))
+no_name name text (Get pid) alloc get set del replace asked = get (cc (asked.1.1))
+no_name name text (Link old (Set key value)) alloc get set del replace asked = set (cc (asked.1.3))
+no_name name text (Link old (Del key)) alloc get set del replace asked = del (cc (asked.1.2))
+no_name name text (Link old (ParentMergeIntention page)) alloc get set del replace asked = asked.1
+no_name name text (Link old ParentMergeConfirm) alloc get set del replace asked = asked.1
+no_name name text (Link old ChildMergeCap) alloc get set del replace asked = asked.1
+no_name name text (Replace old node) alloc get set del replace asked = replace (cc (asked.1.3))
 
 -- what no call is asked for behind the name, no call is spelled for by the line
 pub none_spelled : (line name : Bytes) (text : Option Bytes) (found : Option Call) → BeginsLine line name text → IfNone found ((call : Call) → AsksBehind name text call → ⊥) → IfNone found ((call : Call) → Spells line call → ⊥)

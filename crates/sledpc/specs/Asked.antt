@@ -1,18 +1,33 @@
 -- What a command's name and the text behind it ask for.
-use Rattle.std.specs.Prelude.{◌≡◌, List, [], ◌∷◌, Option, Some}
+use Rattle.std.specs.Prelude.{◌≡◌, List, [], ◌∷◌, Option, None, Some}
+use Rattle.std.specs.Fmt.{decimal}
 use Rattle.std.specs.List.{join_with_byte}
 use Rattle.sled_base.specs.Order.{Bytes}
+use Rattle.sled_node.specs.Node.{WholeNode}
+use Rattle.sled_pagecache.specs.Token.{Token, pid_of, stamp_of}
 use Rattle.sled_pagecache.specs.declared.pagecache.call.Call.{Call}
-use Rattle.sledpc.specs.Commands.{Asks}
-use Rattle.sledpc.specs.Words.{after_name, HasNoSpace}
+use Rattle.sledpc.specs.Commands.{Asks, IsLeafOf, IsToken}
+use Rattle.sledpc.specs.Words.{after_name, HasNoSpace, SpellPairs}
 
 -- the name and the words in the text behind it ask for the call
 abbrev pub AsksBehind : Bytes → Option Bytes → Call → Type 0
 AsksBehind name text call = (words : List Bytes) × Asks (name ∷ words) call × (text ≡ after_name words)
 
--- the text is three words and any fourth text, with single spaces between them
-pub record AreFour (text : Option Bytes) (first second third rest : Bytes) : Type 0 where
+-- the text is a word and any second text, with a single space between them
+pub record AreTwo (text : Option Bytes) (first rest : Bytes) : Type 0 where
   pub plain_first : HasNoSpace first
-  pub plain_second : HasNoSpace second
-  pub plain_third : HasNoSpace third
-  pub joined : text ≡ Some (join_with_byte 32 (first ∷ second ∷ third ∷ rest ∷ []))
+  pub joined : text ≡ Some (join_with_byte 32 (first ∷ rest ∷ []))
+
+-- a text, where there is one, as the last of some words
+abbrev pub at_the_end : Option Bytes → List Bytes
+at_the_end None = []
+at_the_end (Some rest) = rest ∷ []
+
+-- the text is the two words of a token, and then a space and the rest, where there is one
+pub record BeginsWithToken (text : Option Bytes) (old : Token) (rest : Option Bytes) : Type 0 where
+  pub token : IsToken old
+  pub joined : text ≡ after_name (decimal (pid_of old) ∷ decimal (stamp_of old) ∷ at_the_end rest)
+
+-- the words in the text spell the pairs of the leaf
+abbrev pub SpellLeaf : Option Bytes → WholeNode → Type 0
+SpellLeaf text node = (pairs : List (Bytes × Bytes)) × IsLeafOf pairs node × SpellPairs text pairs

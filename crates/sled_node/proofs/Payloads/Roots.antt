@@ -8,7 +8,7 @@ use Rattle.sled_node.specs.Pairs.{IsRising}
 use Rattle.sled_node.specs.Meta.{Roots, with_root, with_roots, IsRootMap}
 use Rattle.sled_node.specs.Payloads.Reading.{ReadsNothing}
 use Rattle.sled_node.specs.Payloads.Numbers.{written_u64}
-use Rattle.sled_node.specs.Payloads.ByteStrings.{written_bytes, CanWriteBytes}
+use Rattle.sled_node.specs.Payloads.ByteStrings.{written_bytes}
 use Rattle.sled_node.specs.Payloads.Sequences.{ReadsAll}
 use Rattle.sled_node.specs.Payloads.SequenceLaws.{ReadsAll-more}
 use Rattle.sled_node.specs.Payloads.Roots.{ReadsRoot, ReadsRoots, written_root, written_roots}
@@ -55,14 +55,3 @@ each_size (pair ∷ roots) (here, all) = (omega (arith, string_size pair.0 here.
 
 pub roots_written : (roots : Roots) → IsRootMap roots → length (written_roots roots) < 2 ^ 57
 roots_written roots map = omega (arith, map.few, all_size written_root 2147483665 roots (each_size roots (can_write_roots roots map)))
-
--- a pair that can be written is one of its parts
-abbrev pub CanWriteParts : Bytes × ℕ → Type 0
-CanWriteParts pair = CanWriteBytes pair.0 × (pair.1 < 2 ^ 64)
-
-parts_of : (roots : Roots) → AllByRecursion CanWriteRoot roots → AllByRecursion CanWriteParts roots
-parts_of [] all = tt
-parts_of (pair ∷ roots) (here, all) = let name = here.0 in ((omega arith, here.1), parts_of roots all)
-
-pub can_write_parts : (roots : Roots) → IsRootMap roots → AllByRecursion CanWriteParts roots
-can_write_parts roots map = parts_of roots (can_write_roots roots map)

@@ -1,8 +1,9 @@
 //! Payloads of a root map.
 
-ghost use Rattle.std.specs.Prelude.{◌≡◌, ◌+◌, ◌<◌, ◌≤◌, ◌^◌, ◌++◌, [], length, drop, IfOk, IfErr, OnErr};
+ghost use Rattle.std.specs.Prelude.{◌≡◌, ◌+◌, ◌<◌, ◌≤◌, ◌^◌, ◌++◌, [], length, take, drop, IfOk, IfErr, OnErr};
 ghost use Rattle.std.specs.List.{flat_map};
-ghost use Rattle.sled_node.specs.Meta.{IsRootMap};
+ghost use Rattle.sled_node.specs.Meta.{named_pages, IsRootMap};
+ghost use Rattle.sled_node.specs.Payloads.ByteStrings.{written_bytes};
 ghost use Rattle.sled_node.specs.Payloads.Reading.{IsRefusal};
 ghost use Rattle.sled_node.specs.Payloads.Roots.{ReadsRoot, ReadsRoots, written_root, written_roots};
 ghost use Rattle.sled_node.specs.Payloads.RootLaws.{Roots-grammar};
@@ -10,9 +11,9 @@ ghost use Rattle.sled_node.specs.Payloads.RootLaws.{Roots-grammar};
 use super::Meta;
 use crate::serialization::Serialize;
 use crate::serialization::bytes::read_short;
-use crate::serialization::tuples::write_at;
 use sled_base::{Error, IVec, PageId};
 use std::alloc::{AllocError, Global};
+use std::collections::BTreeMap;
 
 impl Serialize for Meta {
     ghost reads = { ReadsRoots };
@@ -31,8 +32,8 @@ impl Serialize for Meta {
         ensures { result ≡ length (written_roots self.now) }
     {
         let mut size = 0;
-        for pair in self.roots() {
-            size += pair.serialized_size();
+        for (name, root) in self.roots() {
+            size += root_size(name, *root);
         }
         size
     }
@@ -73,17 +74,56 @@ impl Serialize for Meta {
     }
 }
 
-// Writes the pairs one after the other at the beginning.
-fn write_roots(roots: &[(IVec, PageId)], out: &mut [u8]) -> usize
-    requires kept { IsRootMap roots.now }
-    requires room { length (written_roots roots.now) ≤ length out.old }
-    ensures size { result ≡ length (written_roots roots.now) }
-    ensures bytes { out.new ≡ written_roots roots.now ++ drop (length (written_roots roots.now)) out.old }
+// How many bytes a name and its page are written as.
+fn root_size(name: &[u8], root: PageId) -> u64
+    requires fits { length (written_root (name.now, root)) < 2 ^ 64 }
+    ensures { result ≡ length (written_root (name.now, root)) }
+{
+    let len = name.len() as u64;
+    len.serialized_size() + len + root.serialized_size()
+}
+
+// Writes the names with their pages one after the other at the beginning.
+fn write_roots(roots: &BTreeMap<Vec<u8>, PageId>, out: &mut [u8]) -> usize
+    requires { length (written_roots (named_pages roots.now)) ≤ length out.old }
+    ensures size { result ≡ length (written_roots (named_pages roots.now)) }
+    ensures bytes { out.new ≡ written_roots (named_pages roots.now) ++ drop (length (written_roots (named_pages roots.now))) out.old }
 {
     let mut end = 0;
-    for pair in roots {
-        end = write_at(pair, out, end);
+    for (name, root) in roots {
+        end = write_root(name, *root, out, end);
     }
+    end
+}
+
+// Writes a name and its page from a place on, and answers where they end.
+fn write_root(name: &[u8], root: PageId, out: &mut [u8], start: usize) -> usize
+    requires room { start + length (written_root (name.now, root)) ≤ length out.old }
+    ensures size { result ≡ start + length (written_root (name.now, root)) }
+    ensures bytes { out.new ≡ (take start out.old ++ written_root (name.now, root)) ++ drop (start + length (written_root (name.now, root))) out.old }
+{
+    start + write_pair(name, root, &mut out[start..])
+}
+
+// Writes a name and its page at the beginning.
+fn write_pair(name: &[u8], root: PageId, out: &mut [u8]) -> usize
+    requires room { length (written_root (name.now, root)) ≤ length out.old }
+    ensures size { result ≡ length (written_root (name.now, root)) }
+    ensures bytes { out.new ≡ written_root (name.now, root) ++ drop (length (written_root (name.now, root))) out.old }
+{
+    let end = write_name(name, out);
+    end + root.serialize_into(&mut out[end..])
+}
+
+// Writes a name at the beginning.
+fn write_name(name: &[u8], out: &mut [u8]) -> usize
+    requires room { length (written_bytes name.now) ≤ length out.old }
+    ensures size { result ≡ length (written_bytes name.now) }
+    ensures bytes { out.new ≡ written_bytes name.now ++ drop (length (written_bytes name.now)) out.old }
+{
+    let start = (name.len() as u64).serialize_into(out);
+    let end = start + name.len();
+    out[start..end].copy_from_slice(name);
     end
 }
 

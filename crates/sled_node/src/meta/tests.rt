@@ -39,12 +39,13 @@ fn names_have_pages(rt: HostRuntime) -> Result<(), Fail> {
 #[test]
 fn tenants_come_in_order(rt: HostRuntime) -> Result<(), Fail> {
     let tenants = two_names(&rt, rt.alloc())?.tenants()?;
-    match tenants.as_slice() {
-        [first, second] => {
-            assert!(rt; first.0.eq_bytes(b"a"));
-            assert_eq!(rt; first.1, 2);
-            assert!(rt; second.0.eq_bytes(b"b"));
-            assert_eq!(rt; second.1, 3);
+    assert_eq!(rt; tenants.len(), 2);
+    match (tenants.first_key_value(), tenants.last_key_value()) {
+        (Some(first), Some(last)) => {
+            assert_eq!(rt; first.0.as_slice(), b"a".as_slice());
+            assert_eq!(rt; *first.1, 2);
+            assert_eq!(rt; last.0.as_slice(), b"b".as_slice());
+            assert_eq!(rt; *last.1, 3);
         }
         _ => assert!(rt; false),
     }

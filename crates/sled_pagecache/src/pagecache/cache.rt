@@ -3,20 +3,20 @@
 ghost use Rattle.std.specs.Prelude.{◌≡◌, ◌<◌, map, Ok, Err, IfOk, IfErr, OnOk, OnErr, vec_len, vec_capacity};
 ghost use Rattle.std.specs.Borrow.{sem};
 ghost use Rattle.sled_base.specs.Errors.{error_of};
-ghost use Rattle.sled_pagecache.specs.Kept.{IsReadable, page_of, content_of, change_of, log_of};
+ghost use Rattle.sled_pagecache.specs.Kept.{IsReadable, page_of, content_of, as_message, log_of};
 ghost use Rattle.sled_pagecache.specs.Linking.{IsLinked, RefusesLink, begun_by};
 ghost use Rattle.sled_pagecache.specs.Lending.{told, Rests};
 ghost use Rattle.sled_pagecache.specs.Opening.{fault_of, Opens, system_pages, system_changes};
-ghost use Rattle.sled_pagecache.specs.State.{with_changes};
+ghost use Rattle.sled_pagecache.specs.State.{message_of, with_changes};
 ghost use Rattle.sled_pagecache.specs.State as changes;
 ghost use Rattle.sled_pagecache.specs.Step.{Step, begun, is_reserved};
 ghost use Rattle.sled_pagecache.specs.Token.{pid_of};
 ghost use Rattle.sled_pagecache.specs.declared.pagecache.call.Call.TheVariants.{Allocate, Get};
 ghost use Rattle.sled_pagecache.specs.declared.pagecache.call.Call.TheVariants as call;
-ghost use Rattle.sled_pagecache.specs.declared.pagecache.call.Answer.TheVariants.{Allocated, Got, Linked};
+ghost use Rattle.sled_pagecache.specs.declared.pagecache.call.Answer.TheVariants.{Allocated, Got, Linked, Replaced};
 
 use super::config::Config;
-use super::log::{Change, MemLog};
+use super::log::{MemLog, Message};
 use super::page::{Content, Page};
 use super::view::{NodeView, PageView};
 use super::{BATCH_MANIFEST_PID, COUNTER_PID, MAX_PID_BITS, META_PID};
@@ -37,6 +37,7 @@ pub struct PageCache {
     pages: Vec<Page>,
     recovered: bool,
     log: MemLog,
+    alloc: Global,
 }
 
 impl Model for PageCache {
@@ -77,6 +78,7 @@ impl PageCache {
                 pages,
                 recovered: false,
                 log,
+                alloc,
             }),
             Err(_) => Err((Error::OutOfMemory, log)),
         }
@@ -102,12 +104,10 @@ impl PageCache {
             return Err(Error::Unsupported(Why::PagesUsedUp));
         }
         let pid = self.pages.len() as PageId;
-        let message = prepare(&mut self.pages, &mut self.log, pid, &node)?;
+        let content = Content::Node(node);
+        let message = prepare(self.alloc, &mut self.pages, &mut self.log, pid, &content)?;
         self.log.add(message);
-        self.pages.push_reserved(Page {
-            stamp: 1,
-            content: Content::Node(node),
-        });
+        self.pages.push_reserved(Page { stamp: 1, content });
         Ok((pid, PageView::new(pid, 1)))
     }
 
@@ -151,7 +151,40 @@ impl PageCache {
         if page.stamp != old.ts() {
             return Ok(Err(Some((PageView::new(pid, page.stamp), link))));
         }
-        link_page(page, pid, &link, &mut self.log)?;
+        link_page(self.alloc, page, pid, &link, &mut self.log)?;
+        Ok(Ok(PageView::new(pid, old.ts() + 1)))
+    }
+
+    /// Puts a node on a page that is still at the stamp of the token, in place of what it held, and raises the stamp by
+    /// one.
+    ///
+    /// At another stamp the page's present token comes back with the node; where the page is absent or free, nothing
+    /// does. `ReservedId` comes for the cache's own pages, `StampUsedUp` where the stamp is the greatest. An error leaves
+    /// the cache as it was.
+    pub fn replace(
+        &mut self,
+        pid: PageId,
+        old: PageView,
+        node: Node,
+    ) -> Result<Result<PageView, Option<(PageView, Node)>>, Error>
+        requires { pid_of old ≡ pid }
+        ensures step { Step self.old.state (call.Replace old node) (Replaced result) self.new.state }
+        ensures logged { self.new.log ≡ with_changes self.old.log (begun (call.Replace old node) (Replaced result)) }
+        ensures config { self.new.config ≡ self.old.config }
+        ensures recovered { self.new.recovered ≡ self.old.recovered }
+    {
+        let count = self.pages.len() as PageId;
+        if is_reserved(pid) {
+            return Err(Error::Unsupported(Why::ReservedId));
+        }
+        if pid >= count {
+            return Ok(Err(None));
+        }
+        let page = &mut self.pages[pid as usize];
+        if old.ts() != page.stamp {
+            return Ok(Err(Some((PageView::new(pid, page.stamp), node))));
+        }
+        page.replace(self.alloc, pid, node, &mut self.log)?;
         Ok(Ok(PageView::new(pid, old.ts() + 1)))
     }
 
@@ -208,41 +241,51 @@ fn system_pages(alloc: Global, log: &mut MemLog) -> Result<Vec<Page>, AllocError
     ensures logged { OnOk result (log_of log.new ≡ with_changes (log_of log.old) system_changes) }
     ensures err { OnErr result (log_of log.new ≡ log_of log.old) }
 {
+    let (roots, counter) = (Content::Roots, Content::Counter(0));
     let mut pages = Vec::with_capacity(alloc, 2)?;
+    let roots_message = Message::of_content(alloc, META_PID, &roots)?;
+    let counter_message = Message::of_content(alloc, COUNTER_PID, &counter)?;
     log.make_room(2)?;
-    log.add(Change::Put(META_PID, Content::Roots));
-    log.add(Change::Put(COUNTER_PID, Content::Counter(0)));
+    log.add(roots_message);
+    log.add(counter_message);
     pages.push_reserved(Page {
         stamp: 1,
-        content: Content::Roots,
+        content: roots,
     });
     pages.push_reserved(Page {
         stamp: 1,
-        content: Content::Counter(0),
+        content: counter,
     });
     Ok(pages)
 }
 
 // Makes room for a page and for its message, which it makes too.
 fn prepare(
+    alloc: Global,
     pages: &mut Vec<Page>,
     log: &mut MemLog,
     pid: PageId,
-    node: &Node,
-) -> Result<Change, AllocError>
-    ensures message { IfOk result (λ message. change_of message ≡ changes.Put pid (changes.Node node.now)) }
+    content: &Content,
+) -> Result<Message, AllocError>
+    ensures message { IfOk result (λ message. as_message message ≡ message_of (changes.Put pid (content_of content.now))) }
     ensures pages { pages.new.items ≡ pages.old.items }
     ensures room { OnOk result (vec_len pages.new < vec_capacity pages.new) }
     ensures log { log_of log.new ≡ log_of log.old }
-    ensures log_room { OnOk result (vec_len log.new.changes < vec_capacity log.new.changes) }
+    ensures log_room { OnOk result (vec_len log.new.messages < vec_capacity log.new.messages) }
 {
     pages.reserve(1)?;
     log.make_room(1)?;
-    Ok(Change::Put(pid, Content::Node(node.clone()?)))
+    Message::of_content(alloc, pid, content)
 }
 
 // Applies a link to the page with this id, and adds it to the log.
-fn link_page(page: &mut Page, pid: PageId, link: &Link, log: &mut MemLog) -> Result<(), Error>
+fn link_page(
+    alloc: Global,
+    page: &mut Page,
+    pid: PageId,
+    link: &Link,
+    log: &mut MemLog,
+) -> Result<(), Error>
     ensures ok { OnOk result (IsLinked page.old.stamp (content_of page.old.content) link.now (page_of page.new)) }
     ensures refused { IfErr result (RefusesLink page.old.stamp (content_of page.old.content) link.now) }
     ensures err { OnErr result (page_of page.new ≡ page_of page.old) }
@@ -258,7 +301,7 @@ fn link_page(page: &mut Page, pid: PageId, link: &Link, log: &mut MemLog) -> Res
         return Err(Error::Unsupported(Why::StampUsedUp));
     }
     log.make_room(1)?;
-    let message = Change::Link(pid, link.clone()?);
+    let message = Message::of_link(alloc, pid, link)?;
     node.apply(link)?;
     page.stamp += 1;
     log.add(message);

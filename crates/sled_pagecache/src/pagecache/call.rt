@@ -10,6 +10,7 @@ pub enum Call {
     Allocate(Node),
     Get(PageId),
     Link(PageView, Link),
+    Replace(PageView, Node),
 }
 
 /// What a call answered.
@@ -18,4 +19,5 @@ pub enum Answer {
     Allocated(Result<(PageId, PageView), Error>),
     Got(Result<Option<(PageView, Node)>, Error>),
     Linked(Result<Result<PageView, Option<(PageView, Link)>>, Error>),
+    Replaced(Result<Result<PageView, Option<(PageView, Node)>>, Error>),
 }

@@ -147,8 +147,20 @@ fn replies_to_lines(rt: HostRuntime) -> Result<(), Fail> {
             "page 2 1\nerror line\nerror line\nerror line\nerror line\nerror line\nerror line\nleaf 1\n",
         ),
         (
-            "del 2 1 61\nreplace 2 1\nfree 2 1\nopen 74\nflush\nid\npin\nseal\nsize\n",
-            "error line\nerror line\nerror line\nerror line\nerror line\nerror line\nerror line\nerror line\nerror line\n",
+            "free 2 1\nopen 74\nflush\nid\npin\nseal\nsize\n",
+            "error line\nerror line\nerror line\nerror line\nerror line\nerror line\nerror line\n",
+        ),
+        (
+            "alloc 61=62\nreplace 2 1 63=64\nget 2\ndel 2 2 63\nget 2\nget 9\nset 9 1 61 62\nget 0\nalloc 62=76 61=77\n",
+            "page 2 1\nok 2\nleaf 2 63=64\nok 3\nleaf 3\nnone\ngone\nerror unsupported 1\nerror line\n",
+        ),
+        (
+            "alloc 61=62\nreplace 2 1\nget 2\nreplace 2 1 63=64\ndel 2 1 61\nreplace 9 1\ndel 9 1 61\nreplace 0 0\ndel 0 0 61\n",
+            "page 2 1\nok 2\nleaf 2\nstale 2\nstale 2\ngone\ngone\nerror unsupported 1\nerror unsupported 1\n",
+        ),
+        (
+            "alloc\nreplace 2 1 \nreplace 2\nreplace 2 1 62=76 61=77\ndel 2 1\ndel 2 1 6\ndel 2 1 61 62\nget 2\n",
+            "page 2 1\nerror line\nerror line\nerror line\nerror line\nerror line\nerror line\nleaf 1\n",
         ),
     ] {
         let is_so = replies(rt.alloc(), script.as_bytes(), want.as_bytes())?;

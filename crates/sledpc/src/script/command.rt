@@ -1,12 +1,13 @@
 //! From a line to the call that it asks for.
 
-ghost use Rattle.std.specs.Prelude.{◌≤◌, ◌≡◌, length, map, codes, IfOk, IfSome, IfNone};
+ghost use Rattle.std.specs.Prelude.{◌≤◌, ◌≡◌, length, map, codes, Option, IfOk, IfSome, IfNone};
 ghost use Rattle.std.specs.Option.{option_map, SomeIff};
 ghost use Rattle.sled_base.specs.Order.{Bytes};
-ghost use Rattle.sled_node.specs.Node.{Value, leaf_of};
+ghost use Rattle.sled_node.specs.Node.{Value, WholeNode, leaf_of};
 ghost use Rattle.sled_node.specs.Pairs.{IsWithinLimit, HasPairs};
-ghost use Rattle.sledpc.specs.Asked.{AsksBehind, AreFour};
+ghost use Rattle.sledpc.specs.Asked.{AsksBehind, AreTwo, BeginsWithToken, SpellLeaf};
 ghost use Rattle.sledpc.specs.Commands.{Spells};
+ghost use Rattle.sled_pagecache.specs.Token.{Token};
 ghost use Rattle.sled_pagecache.specs.declared.pagecache.call.Call.{Call};
 
 use super::words::{bytes_of, first_word, number_of, pairs_of};
@@ -25,6 +26,8 @@ pub fn call_of(alloc: Global, line: &[u8]) -> Result<Option<Call>, AllocError>
         b"alloc" => allocate_of(alloc, arguments),
         b"get" => Ok(get_of(arguments)),
         b"set" => set_of(alloc, arguments),
+        b"del" => del_of(alloc, arguments),
+        b"replace" => replace_of(alloc, arguments),
         _ => Ok(None),
     }
 }
@@ -34,13 +37,21 @@ fn allocate_of(alloc: Global, arguments: Option<&[u8]>) -> Result<Option<Call>, 
     ensures some { IfOk result (λ found. IfSome found (AsksBehind (codes "alloc") (option_map (λ rest. rest.now) arguments.entry))) }
     ensures none { IfOk result (λ found. IfNone found ((call : Call) → ¬ AsksBehind (codes "alloc") (option_map (λ rest. rest.now) arguments.entry) call)) }
 {
-    let Some(pairs) = pairs_of(alloc, arguments)? else {
-        return Ok(None);
-    };
-    let Some(node) = leaf_of(alloc, pairs)? else {
+    let Some(node) = leaf_behind(alloc, arguments)? else {
         return Ok(None);
     };
     Ok(Some(Call::Allocate(node)))
+}
+
+// The leaf of the pairs that the words spell.
+fn leaf_behind(alloc: Global, arguments: Option<&[u8]>) -> Result<Option<Node>, AllocError>
+    ensures some { IfOk result (λ found. IfSome found (SpellLeaf (option_map (λ rest. rest.now) arguments.entry))) }
+    ensures none { IfOk result (λ found. IfNone found ((node : WholeNode) → ¬ SpellLeaf (option_map (λ rest. rest.now) arguments.entry) node)) }
+{
+    let Some(pairs) = pairs_of(alloc, arguments)? else {
+        return Ok(None);
+    };
+    leaf_of(alloc, pairs)
 }
 
 // The leaf of these pairs over all keys, or none where a leaf can't hold them.
@@ -69,13 +80,10 @@ fn set_of(alloc: Global, arguments: Option<&[u8]>) -> Result<Option<Call>, Alloc
     ensures some { IfOk result (λ found. IfSome found (AsksBehind (codes "set") (option_map (λ rest. rest.now) arguments.entry))) }
     ensures none { IfOk result (λ found. IfNone found ((call : Call) → ¬ AsksBehind (codes "set") (option_map (λ rest. rest.now) arguments.entry) call)) }
 {
-    let Some((pid, stamp, key, value)) = four_words(arguments) else {
+    let Some((old, rest)) = token_of(arguments) else {
         return Ok(None);
     };
-    let Some(pid) = number_of(pid) else {
-        return Ok(None);
-    };
-    let Some(stamp) = number_of(stamp) else {
+    let Some((key, value)) = two_words(rest) else {
         return Ok(None);
     };
     let Some(key) = bytes_of(alloc, key)? else {
@@ -84,19 +92,58 @@ fn set_of(alloc: Global, arguments: Option<&[u8]>) -> Result<Option<Call>, Alloc
     let Some(value) = bytes_of(alloc, value)? else {
         return Ok(None);
     };
-    let old = PageView::new(pid, stamp);
     Ok(Some(Call::Link(old, Link::Set(key, value))))
 }
 
-// The first three words, and all that stands behind the space after them.
-fn four_words(arguments: Option<&[u8]>) -> Option<(&[u8], &[u8], &[u8], &[u8])>
-    ensures some { IfSome result (λ words. AreFour (option_map (λ rest. rest.now) arguments.entry) words.0.now words.1.now words.2.now words.3.now) }
-    ensures none { IfNone result ((first second third rest : Bytes) → ¬ AreFour (option_map (λ rest. rest.now) arguments.entry) first second third rest) }
+// `del ID STAMP KEY`
+fn del_of(alloc: Global, arguments: Option<&[u8]>) -> Result<Option<Call>, AllocError>
+    ensures some { IfOk result (λ found. IfSome found (AsksBehind (codes "del") (option_map (λ rest. rest.now) arguments.entry))) }
+    ensures none { IfOk result (λ found. IfNone found ((call : Call) → ¬ AsksBehind (codes "del") (option_map (λ rest. rest.now) arguments.entry) call)) }
+{
+    let Some((old, rest)) = token_of(arguments) else {
+        return Ok(None);
+    };
+    let Some(word) = rest else {
+        return Ok(None);
+    };
+    let Some(key) = bytes_of(alloc, word)? else {
+        return Ok(None);
+    };
+    Ok(Some(Call::Link(old, Link::Del(key))))
+}
+
+// `replace ID STAMP PAIRS`: the leaf of these pairs.
+fn replace_of(alloc: Global, arguments: Option<&[u8]>) -> Result<Option<Call>, AllocError>
+    ensures some { IfOk result (λ found. IfSome found (AsksBehind (codes "replace") (option_map (λ rest. rest.now) arguments.entry))) }
+    ensures none { IfOk result (λ found. IfNone found ((call : Call) → ¬ AsksBehind (codes "replace") (option_map (λ rest. rest.now) arguments.entry) call)) }
+{
+    let Some((old, rest)) = token_of(arguments) else {
+        return Ok(None);
+    };
+    let Some(node) = leaf_behind(alloc, rest)? else {
+        return Ok(None);
+    };
+    Ok(Some(Call::Replace(old, node)))
+}
+
+// The token whose words stand in front, and what follows the space behind them, if a space is there.
+fn token_of(arguments: Option<&[u8]>) -> Option<(PageView, Option<&[u8]>)>
+    ensures some { IfSome result (λ read. BeginsWithToken (option_map (λ rest. rest.now) arguments.entry) read.0 (option_map (λ rest. rest.now) read.1)) }
+    ensures none { IfNone result ((old : Token) (rest : Option Bytes) → ¬ BeginsWithToken (option_map (λ rest. rest.now) arguments.entry) old rest) }
+{
+    let (page, rest) = first_word(arguments?);
+    let (stamp, rest) = first_word(rest?);
+    let old = PageView::new(number_of(page)?, number_of(stamp)?);
+    Some((old, rest))
+}
+
+// The first word, and all that stands behind the space after it.
+fn two_words(arguments: Option<&[u8]>) -> Option<(&[u8], &[u8])>
+    ensures some { IfSome result (λ words. AreTwo (option_map (λ rest. rest.now) arguments.entry) words.0.now words.1.now) }
+    ensures none { IfNone result ((first rest : Bytes) → ¬ AreTwo (option_map (λ rest. rest.now) arguments.entry) first rest) }
 {
     let (first, rest) = first_word(arguments?);
-    let (second, rest) = first_word(rest?);
-    let (third, rest) = first_word(rest?);
-    Some((first, second, third, rest?))
+    Some((first, rest?))
 }
 
 #[cfg(test)]

@@ -19,6 +19,7 @@ pub enum Told<'a> {
     Allocated(&'a Result<(PageId, PageView), Error>),
     Got(Result<Option<NodeView<'a>>, Refusal>),
     Linked(&'a Result<Result<PageView, Option<(PageView, Link)>>, Error>),
+    Replaced(&'a Result<Result<PageView, Option<(PageView, Node)>>, Error>),
 }
 
 /// Writes the reply to an answer as a line.
@@ -37,10 +38,16 @@ fn write_reply<W: Write>(writer: &mut W, told: Told<'_>) -> io::Result<()>
         Told::Allocated(Ok((pid, token))) => write_page(writer, *pid, token.ts()),
         Told::Got(Ok(Some(view))) => write_node(writer, view.token().ts(), view.node()),
         Told::Got(Ok(None)) => write_text(writer, b"none"),
-        Told::Linked(Ok(Ok(token))) => write_labelled(writer, b"ok ", token.ts()),
-        Told::Linked(Ok(Err(Some((token, _))))) => write_labelled(writer, b"stale ", token.ts()),
-        Told::Linked(Ok(Err(None))) => write_text(writer, b"gone"),
-        Told::Allocated(Err(error)) | Told::Linked(Err(error)) => write_error(writer, error),
+        Told::Linked(Ok(Ok(token))) | Told::Replaced(Ok(Ok(token))) => {
+            write_labelled(writer, b"ok ", token.ts())
+        }
+        Told::Linked(Ok(Err(Some((token, _))))) | Told::Replaced(Ok(Err(Some((token, _))))) => {
+            write_labelled(writer, b"stale ", token.ts())
+        }
+        Told::Linked(Ok(Err(None))) | Told::Replaced(Ok(Err(None))) => write_text(writer, b"gone"),
+        Told::Allocated(Err(error)) | Told::Linked(Err(error)) | Told::Replaced(Err(error)) => {
+            write_error(writer, error)
+        }
         Told::Got(Err(refusal)) => write_error(writer, &Error::from(refusal)),
     }
 }

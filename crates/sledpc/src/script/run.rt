@@ -121,5 +121,9 @@ fn serve_call<W: Write>(cache: &mut PageCache, call: Call, writer: &mut W) -> io
             let answer = cache.link(old.pid(), old, link);
             write_line(writer, Told::Linked(&answer))
         }
+        Call::Replace(old, node) => {
+            let answer = cache.replace(old.pid(), old, node);
+            write_line(writer, Told::Replaced(&answer))
+        }
     }
 }

@@ -20,9 +20,13 @@ fn asked(alloc: Global, line: &[u8]) -> Result<Option<Call>, Fail> {
 // Whether the line allocates the leaf of these pairs over all keys.
 fn asks_for_leaf(alloc: Global, line: &[u8], pairs: &[(&[u8], &[u8])]) -> Result<bool, Fail> {
     match asked(alloc, line)? {
-        Some(Call::Allocate(node)) => Ok(is_over_all_keys(&node) && has_pairs(&node, pairs)),
+        Some(Call::Allocate(node)) => Ok(is_whole_leaf(&node, pairs)),
         _ => Ok(false),
     }
+}
+
+fn is_whole_leaf(node: &Node, pairs: &[(&[u8], &[u8])]) -> bool {
+    is_over_all_keys(node) && has_pairs(node, pairs)
 }
 
 fn is_over_all_keys(node: &Node) -> bool {
@@ -79,6 +83,34 @@ fn is_set(link: Link, key: &[u8], value: &[u8]) -> bool {
     }
 }
 
+// Whether the line deletes this key, by this token.
+fn asks_for_del(alloc: Global, line: &[u8], token: PageView, key: &[u8]) -> Result<bool, Fail> {
+    match asked(alloc, line)? {
+        Some(Call::Link(old, link)) => Ok(old == token && is_del(link, key)),
+        _ => Ok(false),
+    }
+}
+
+fn is_del(link: Link, key: &[u8]) -> bool {
+    match link {
+        Link::Del(at) => is_bytes(&at, key),
+        _ => false,
+    }
+}
+
+// Whether the line replaces a page by the leaf of these pairs over all keys, by this token.
+fn asks_for_replacement(
+    alloc: Global,
+    line: &[u8],
+    token: PageView,
+    pairs: &[(&[u8], &[u8])],
+) -> Result<bool, Fail> {
+    match asked(alloc, line)? {
+        Some(Call::Replace(old, node)) => Ok(old == token && is_whole_leaf(&node, pairs)),
+        _ => Ok(false),
+    }
+}
+
 fn is_bytes(bytes: &IVec, want: &[u8]) -> bool {
     bytes.as_slice() == want
 }
@@ -108,6 +140,16 @@ fn asks_for_a_page(rt: HostRuntime) -> Result<(), Fail> {
 fn asks_for_a_swap(rt: HostRuntime) -> Result<(), Fail> {
     let token = PageView::new(2, 1);
     assert!(rt; asks_for_set(rt.alloc(), b"set 2 1 62 76", token, &[0x62], &[0x76])?);
+    assert!(rt; asks_for_del(rt.alloc(), b"del 2 1 62", token, &[0x62])?);
+    Ok(())
+}
+
+#[test]
+fn asks_for_replacements(rt: HostRuntime) -> Result<(), Fail> {
+    let token = PageView::new(2, 1);
+    assert!(rt; asks_for_replacement(rt.alloc(), b"replace 2 1", token, &[])?);
+    let pairs = [(b"a".as_slice(), b"b".as_slice())];
+    assert!(rt; asks_for_replacement(rt.alloc(), b"replace 2 1 61=62", token, &pairs)?);
     Ok(())
 }
 
@@ -131,7 +173,12 @@ fn asks_for_nothing(rt: HostRuntime) -> Result<(), Fail> {
         "set  2 1 62 76",
         "SET 2 1 62 76",
         "allocx",
-        "del 2 1 62",
+        "del 2 1",
+        "del 2 1 62 63",
+        "del 2 1 6",
+        "replace 2",
+        "replace 2 1 ",
+        "replace 2 1 62=76 61=77",
     ] {
         assert!(rt; asks_for_none(rt.alloc(), line.as_bytes())?, "at {line}");
     }

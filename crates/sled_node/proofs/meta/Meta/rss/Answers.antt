@@ -1,12 +1,13 @@
-use Rattle.std.proofs.Common.{arith}
-use Rattle.sled_node.proofs.Roots.{size_so_far}
+use Rattle.std.proofs.Common.{◌≡◌, ◌+◌, ◌<◌, ◌^◌, ◌∷◌, length, ap, subst, arith}
+use Rattle.std.proofs.lemmas.List.Sums.{sum_by-cons}
+use Rattle.sled_node.specs.Meta.{named_pages, roots_size}
+use Rattle.sled_node.proofs.RootEntries.{names_size}
+use Rattle.sled_node.proofs.Roots.{roots_fit}
 use Rattle.sled_node.proofs.meta.Meta.rss.Goals as goal
 
-pub overflow_add-size-in-loop-pair : goal.overflow_add-size-in-loop-pair
-overflow_add-size-in-loop-pair c =
-    let roots = c.self.inside.roots.items in
-    let so_far = rw c.deref-pair-items.ensures.value at c.loop-pair.invariant in
-    let lt = rw c.deref-pair-items.ensures.value at c.loop-pair-test.true in
-    let is = rw c.deref-pair-items.ensures.value at c.pair-item.is in
-    let small = size_so_far roots c.self.invariant c.loop-pair.pair-index c.pair-item.result c.loop-pair.size lt is so_far in
-    omega (arith, small, c.len.ensures)
+pub overflow_add-size-in-loop-name : goal.overflow_add-size-in-loop-name
+overflow_add-size-in-loop-name c =
+    let small = subst (λ roots. roots_size roots < 2 ^ 64) c.self.view_is (roots_fit (named_pages c.self.inside.roots) c.self.invariant) in
+    let next : names_size c.loop-name.name-iterator ≡ names_size (c.in-Some.name.now ∷ c.next.new.self) = ap names_size c.in-Some.ensures.steps in
+    let split = sum_by-cons (λ name. length name.items + 8) c.in-Some.name.now c.next.new.self in
+    omega (arith, small, c.loop-name.invariant, next, split, c.len.ensures)

@@ -1,7 +1,8 @@
-use Rattle.std.proofs.Common.{◌≡◌, ◌+◌, drop}
+use Rattle.std.proofs.Common.{◌≡◌, ◌+◌}
 use Rattle.sled_node.specs.Meta.{roots_size}
+use Rattle.sled_node.proofs.RootEntries.{names_size}
 use Rattle.sled_node.proofs.meta.Meta.rss.Given as goal
 
--- the size so far, and that of what is left
-abbrev pub invariant-loop-pair : goal.invariant-loop-pair
-invariant-loop-pair l = l.size + roots_size (drop l.pair-index l.pair-items) ≡ roots_size l.pair-items
+-- the size so far, and that of the names that are left
+abbrev pub invariant-loop-name : goal.invariant-loop-name
+invariant-loop-name l = l.size + names_size l.name-iterator ≡ roots_size l.self

@@ -1,12 +1,15 @@
--- A text spells one list of pairs, so no other pairs make a leaf.
-use Rattle.std.proofs.Common.{subst}
-use Rattle.sled_node.specs.Pairs.{IsWithinLimit, HasPairs}
-use Rattle.sledpc.proofs.Commands.{allocate_asked, pairs_once}
+-- A leaf is allocated where the text spells one.
+use Rattle.std.proofs.Common.{map, refl}
+use Rattle.sledpc.specs.Words.{pair_word}
+use Rattle.sledpc.proofs.Commands.{allocate_asked}
 use Rattle.sledpc.proofs.script.command.allocate_of.Goals as goal
 
-pub returns-in_default-2-clause-none : goal.returns-in_default-2-clause-none
-returns-in_default-2-clause-none c = λ call asked.
-    let spelled = rw c.in-Some.is at c.in_ok-pairs.ensures.some in
-    let bytes = rw c.in-Some.is at c.in_ok-pairs.ensures.bytes in
+pub returns-in_default-clause-none : goal.returns-in_default-clause-none
+returns-in_default-clause-none c = λ call asked.
     let other = allocate_asked _ call asked in
-    (rw c.in_default-2.is at c.in_ok-node.ensures) (subst (HasPairs IsWithinLimit) (pairs_once _ _ _ other.bytes bytes other.spelled spelled) other.fits)
+    (rw c.in_default.is at c.in_ok-node.ensures.none) other.node other.leaf
+
+pub returns-clause-some : goal.returns-clause-some
+returns-clause-some c =
+    let leaf = rw c.in-Some.is at c.in_ok-node.ensures.some in
+    (map pair_word leaf.0, (leaf.0, leaf.1, refl), leaf.2)

@@ -1,7 +1,7 @@
 use Rattle.std.proofs.Common.{sym, subst}
 use Rattle.sled_pagecache.specs.Lending.{told}
 use Rattle.sled_pagecache.specs.Step.{Step}
-use Rattle.sled_pagecache.specs.declared.pagecache.call.Answer.TheVariants.{Allocated, Got, Linked}
+use Rattle.sled_pagecache.specs.declared.pagecache.call.Answer.TheVariants.{Allocated, Got, Linked, Replaced}
 use Rattle.sled_pagecache.specs.declared.pagecache.call.Call.TheVariants.{Get}
 use Rattle.sledpc.proofs.script.run.serve_call.Goals as goal
 
@@ -27,4 +27,11 @@ returns-in-Link g c = record {
   answer = Linked c.link-answer.result;
   step = rw (c.in-Link.is) c.link-answer.ensures.step;
   written = c.write_line-in-Link.ensures;
+}
+
+pub returns-in-Replace : goal.returns-in-Replace
+returns-in-Replace g c = record {
+  answer = Replaced c.replace-answer.result;
+  step = rw (c.in-Replace.is) c.replace-answer.ensures.step;
+  written = c.write_line-in-Replace.ensures;
 }

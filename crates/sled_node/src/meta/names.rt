@@ -1,0 +1,42 @@
+//! Names with their pages, in std's map.
+
+ghost use Rattle.std.specs.Prelude.{◌≡◌, IfOk, OnOk, OnErr};
+ghost use Rattle.sled_node.specs.Pairs.{IsRising};
+ghost use Rattle.sled_node.specs.Meta.{named_pages, root_of, with_root, without_root};
+
+use sled_base::PageId;
+use std::alloc::{AllocError, Global};
+use std::collections::BTreeMap;
+
+// The page of a name, if the name is there.
+pub fn page_of(pages: &BTreeMap<Vec<u8>, PageId>, name: &[u8]) -> Option<PageId>
+    ensures { result ≡ root_of name.now (named_pages pages.now) }
+{
+    pages.get(name).copied()
+}
+
+// Gives a name its page, and answers the page that it had before. The map keeps a copy of the name.
+pub fn set_page(
+    alloc: Global,
+    pages: &mut BTreeMap<Vec<u8>, PageId>,
+    name: &[u8],
+    page: PageId,
+) -> Result<Option<PageId>, AllocError>
+    requires rising { IsRising (named_pages pages.old) }
+    ensures former { IfOk result (λ former. former ≡ root_of name.now (named_pages pages.old)) }
+    ensures ok { OnOk result (named_pages pages.new ≡ with_root name.now page (named_pages pages.old)) }
+    ensures err { OnErr result (named_pages pages.new ≡ named_pages pages.old) }
+{
+    let copy = Vec::from_slice(alloc, name)?;
+    let former = pages.insert(copy, page)?;
+    Ok(former)
+}
+
+// Takes a name out, and answers the page that it had, if the name was there.
+pub fn take_page(pages: &mut BTreeMap<Vec<u8>, PageId>, name: &[u8]) -> Option<PageId>
+    requires rising { IsRising (named_pages pages.old) }
+    ensures former { result ≡ root_of name.now (named_pages pages.old) }
+    ensures value { named_pages pages.new ≡ without_root name.now (named_pages pages.old) }
+{
+    pages.remove(name)
+}
