@@ -5,3 +5,4 @@ pub mod Bases
 pub mod Kept
 pub mod Order
 pub mod OrderLaws
+pub mod Payloads

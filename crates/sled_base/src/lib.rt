@@ -1,13 +1,15 @@
-//! The base of the page cache: byte strings, and the plain types that every layer names.
+//! The base of the page cache: byte strings, the plain types that every layer names, and how plain values are spelled.
 #![tactic(auto)]
 
 pub mod ivec;
 mod kept;
 pub mod kinds;
+pub mod serialization;
 pub mod types;
 
 pub use ivec::IVec;
 pub use kinds::{LogKind, MessageKind};
+pub use serialization::{ConsumeSequence, Serialize};
 pub use types::{
     BatchManifest, BlobPointer, Bug, Device, DiskPtr, Error, LogOffset, Lsn, PageId, Refusal, Why,
 };

@@ -1,8 +1,5 @@
 -- Reading and writing payloads.
-pub mod Refusals
-pub mod LowBytes
-pub mod PlainNumber
-pub mod ByteStrings
+pub mod ShortStrings
 pub mod Links
 pub mod PairReads
 pub mod WriteAll

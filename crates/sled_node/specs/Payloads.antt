@@ -1,15 +1,6 @@
--- How values are spelled as bytes.
-pub mod Reading
-pub mod ReadingLaws
-pub mod Numbers
-pub mod PlainNumbers
-pub mod NumberLaws
-pub mod Options
-pub mod OptionLaws
-pub mod Manifests
-pub mod ManifestLaws
-pub mod ByteStrings
-pub mod ByteStringLaws
+-- How links, nodes and root maps are spelled as bytes.
+pub mod ShortStrings
+pub mod ShortStringLaws
 pub mod Links
 pub mod LinkLaws
 pub mod Sequences
@@ -18,7 +9,6 @@ pub mod Pairs
 pub mod PairLaws
 pub mod Data
 pub mod DataLaws
-pub mod Consuming
 pub mod Nodes
 pub mod NodeLaws
 pub mod Roots

@@ -1,78 +1,10 @@
-//! Payloads: values as bytes, and back.
+//! Payloads of links and nodes, beside those of the plain values below.
 
-ghost use Rattle.std.specs.Prelude.{◌≡◌, ℕ, ◌+◌, ◌<◌, ◌≤◌, ◌^◌, List, length, drop, ◌++◌, IfOk, IfErr, OnErr};
-ghost use Rattle.sled_node.specs.Payloads.Reading.{IsRefusal, IsGrammar};
-
-pub(crate) mod bytes;
-mod consume;
 mod links;
-mod manifests;
-mod numbers;
-mod options;
 pub(crate) mod pairs;
-pub(crate) mod tuples;
+pub(crate) mod short;
 
-pub use consume::ConsumeSequence;
-use sled_base::Error;
-use std::alloc::{AllocError, Global};
-
-/// A type whose values can be spelled as bytes, each in one way when it is written.
-pub trait Serialize: Drop {
-    /// The input is a spelling of the value, and then the rest.
-    ghost reads: { List ℕ → Self → List ℕ → Type 0 };
-
-    /// The one spelling that is written.
-    ghost written: { Self → List ℕ };
-
-    /// The value has a spelling, and keeps the limits.
-    ghost can_write: { Self → Type 0 };
-
-    /// Bytes that may follow the value that was written: it is read again, with them as the rest.
-    ghost can_follow: { Self → List ℕ → Type 0 } = { λ _ _. Unit {0} };
-
-    /// How many bytes each spelling has at least.
-    ghost least_size: { ℕ };
-
-    /// How many bytes the value is written as.
-    fn serialized_size(&self) -> u64
-        requires can_write { can_write self.now }
-        requires fits { length (written self.now) < 2 ^ 64 }
-        ensures { result ≡ length (written self.now) };
-
-    /// Writes the value at the beginning, and answers how many bytes it took. The other bytes stay as they were.
-    ///
-    /// It takes no memory.
-    fn serialize_into(&self, out: &mut [u8]) -> usize
-        requires can_write { can_write self.now }
-        requires room { length (written self.now) ≤ length out.old }
-        ensures size { result ≡ length (written self.now) }
-        ensures bytes { out.new ≡ written self.now ++ drop (length (written self.now)) out.old };
-
-    /// Reads a value from the front of the input, which then begins with what is left.
-    ///
-    /// It answers `Corruption(None)` exactly where no value is read from the input, and `OutOfMemory` where memory was
-    /// wanting. A refusal leaves the input as it was.
-    fn deserialize(alloc: Global, input: &mut &[u8]) -> Result<Self, Error>
-        ensures read { IfOk result (λ value. reads input.old.now value input.new.now) }
-        ensures refused { IfErr result (IsRefusal reads input.old.now) }
-        ensures stays { OnErr result (input.new ≡ input.old) };
-
-    /// The value as bytes of their own.
-    fn serialize(&self, alloc: Global) -> Result<Vec<u8>, AllocError>
-        requires can_write { can_write self.now }
-        requires fits { length (written self.now) < 2 ^ 64 }
-        ensures { IfOk result (λ bytes. bytes.items ≡ written self.now) }
-    {
-        let size = self.serialized_size() as usize;
-        let mut bytes = vec![in alloc; 0u8; size]?;
-        self.serialize_into(&mut bytes);
-        Ok(bytes)
-    }
-
-    /// At most one value and one rest are read, what was written is read again with what may follow it as the rest, and
-    /// a reading takes at least so many bytes.
-    ghost grammar: { IsGrammar reads written can_write can_follow least_size };
-}
+pub use sled_base::serialization::{ConsumeSequence, Serialize};
 
 #[cfg(test)]
 mod tests;

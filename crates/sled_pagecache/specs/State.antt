@@ -9,7 +9,7 @@ use Rattle.sled_base.specs.declared.kinds.MessageKind.TheVariants as kinds
 use Rattle.sled_node.specs.Node.{WholeNode}
 use Rattle.sled_node.specs.Payloads.Links.{written_link}
 use Rattle.sled_node.specs.Payloads.Nodes.{written_node}
-use Rattle.sled_node.specs.Payloads.Numbers.{written_u64}
+use Rattle.sled_base.specs.Payloads.Numbers.{written_u64}
 use Rattle.sled_node.specs.Payloads.Roots.{written_roots}
 use Rattle.sled_node.specs.declared.node.link.Link.{Link}
 use Rattle.sled_pagecache.specs.declared.pagecache.TheConstants.{MAX_MSG_HEADER_LEN}

@@ -4,8 +4,11 @@
 pub mod pagecache;
 
 pub use pagecache::{Answer, Call, Config, MemLog, NodeView, PageCache, PageView};
-pub use sled_base::{self, Bug, Device, DiskPtr, Error, IVec, PageId, Refusal, Why};
-pub use sled_node::{self, Data, Index, Item, Leaf, Link, Node};
+pub use sled_base::{
+    self, BatchManifest, Bug, ConsumeSequence, Device, DiskPtr, Error, IVec, LogKind, MessageKind,
+    PageId, Refusal, Serialize, Why,
+};
+pub use sled_node::{self, Data, Index, Item, Leaf, Link, Meta, Node};
 
 #[cfg(test)]
 mod tests;

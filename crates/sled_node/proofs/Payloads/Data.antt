@@ -1,11 +1,12 @@
 -- Where no pairs of a node are read.
 use Rattle.std.proofs.Common.{◌≡◌, ℕ, ◌≤◌, List, length, get_or, subst, arith}
 use Rattle.sled_node.specs.declared.node.data.Data.TheVariants.{Leaf, Index}
-use Rattle.sled_node.specs.Payloads.Reading.{ReadsNothing}
-use Rattle.sled_node.specs.Payloads.ReadingLaws.{behind, first}
-use Rattle.sled_node.specs.Payloads.Data.{ReadsLeaf, ReadsIndex, ReadsData}
+use Rattle.sled_base.specs.Payloads.Reading.{ReadsNothing}
+use Rattle.sled_base.specs.Payloads.ReadingLaws.{behind, first}
+use Rattle.sled_node.specs.Payloads.Pairs.{AsksPairs}
+use Rattle.sled_node.specs.Payloads.Data.{ReadsLeaf, ReadsIndex, ReadsData, AsksData}
 use Rattle.sled_node.specs.Payloads.DataLaws.{tag_is}
-use Rattle.sled_node.proofs.Payloads.Refusals.{rest_of, behind_first}
+use Rattle.sled_base.proofs.Payloads.Refusals.{rest_of, behind_first}
 
 module _ (input : List ℕ) (long : 1 ≤ length input) where
   pub no_leaf : get_or input 0 0 ≡ 0 → ReadsNothing ReadsLeaf (rest_of input) → ReadsNothing ReadsData input
@@ -17,3 +18,7 @@ module _ (input : List ℕ) (long : 1 ≤ length input) where
   no_index is nothing (Index pairs) rest (parts, also, found) =
       nothing pairs rest (subst (λ text. ReadsIndex text pairs rest) (behind 1 input parts (rest_of input) also (behind_first input 1 long is)) found)
   no_index is nothing contents rest found = absurd (omega (arith, tag_is input contents rest found, first input 1 (rest_of input) (behind_first input 1 long is)))
+
+-- where memory is asked for
+pub asks_behind : (input : List ℕ) (tag : ℕ) → 1 ≤ length input → get_or input 0 0 ≡ tag → tag ≤ 1 → AsksPairs (rest_of input) → AsksData input
+asks_behind input tag long is low asks = (tag, rest_of input, behind_first input tag long is, low, asks)

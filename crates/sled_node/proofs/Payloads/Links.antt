@@ -1,13 +1,13 @@
 -- Where no link is read.
-use Rattle.std.proofs.Common.{◌≡◌, ℕ, ◌≤◌, List, length, get_or, subst, arith}
+use Rattle.std.proofs.Common.{◌≡◌, ℕ, ◌≤◌, List, length, get_or, inl, inr, subst, arith}
 use Rattle.sled_node.specs.declared.node.link.Link.TheVariants.{Set, Del, ParentMergeIntention}
-use Rattle.sled_node.specs.Payloads.Reading.{ReadsPair, ReadsNothing}
-use Rattle.sled_node.specs.Payloads.Numbers.{ReadsU64}
-use Rattle.sled_node.specs.Payloads.ByteStrings.{ReadsShort}
-use Rattle.sled_node.specs.Payloads.Links.{ReadsLink}
-use Rattle.sled_node.specs.Payloads.ReadingLaws.{behind, first}
+use Rattle.sled_base.specs.Payloads.Reading.{ReadsPair, AsksPair, ReadsNothing}
+use Rattle.sled_base.specs.Payloads.Numbers.{ReadsU64}
+use Rattle.sled_node.specs.Payloads.ShortStrings.{ReadsShort, AsksShort}
+use Rattle.sled_node.specs.Payloads.Links.{ReadsLink, AsksLink}
+use Rattle.sled_base.specs.Payloads.ReadingLaws.{behind, first}
 use Rattle.sled_node.specs.Payloads.LinkLaws.{tag_is}
-use Rattle.sled_node.proofs.Payloads.Refusals.{rest_of, behind_first}
+use Rattle.sled_base.proofs.Payloads.Refusals.{rest_of, behind_first}
 
 module _ (input : List ℕ) (long : 1 ≤ length input) where
   pub no_set : get_or input 0 0 ≡ 0 → ReadsNothing (ReadsPair ReadsShort ReadsShort) (rest_of input) → ReadsNothing ReadsLink input
@@ -24,3 +24,11 @@ module _ (input : List ℕ) (long : 1 ≤ length input) where
   no_intention is nothing (ParentMergeIntention page) rest (parts, also, found) =
       nothing page rest (subst (λ text. ReadsU64 text page rest) (behind 2 input parts (rest_of input) also (behind_first input 2 long is)) found)
   no_intention is nothing link rest found = absurd (omega (arith, tag_is input link rest found, first input 2 (rest_of input) (behind_first input 2 long is)))
+
+  -- ---- where memory is asked for
+
+  pub asks_set : get_or input 0 0 ≡ 0 → AsksPair AsksShort ReadsShort AsksShort (rest_of input) → AsksLink input
+  asks_set is asks = (rest_of input, inl (behind_first input 0 long is, asks))
+
+  pub asks_del : get_or input 0 0 ≡ 1 → AsksShort (rest_of input) → AsksLink input
+  asks_del is asks = (rest_of input, inr (behind_first input 1 long is, asks))

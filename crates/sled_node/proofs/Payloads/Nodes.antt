@@ -7,10 +7,10 @@ use Rattle.std.specs.Int.NonZero.{non_zero_u64_get}
 use Rattle.std.specs.Option.{option_map}
 use Rattle.sled_node.specs.Node.{WholeNode, IsPage, IsWellFormed}
 use Rattle.sled_node.specs.Parts.{HasStored}
-use Rattle.sled_node.specs.Payloads.Reading.{ReadsNothing}
-use Rattle.sled_node.specs.Payloads.Numbers.{written_u64, written_bool, written_u8}
-use Rattle.sled_node.specs.Payloads.Options.{page_number, written_page, CanWritePage}
-use Rattle.sled_node.specs.Payloads.ByteStrings.{written_bytes}
+use Rattle.sled_base.specs.Payloads.Reading.{ReadsNothing}
+use Rattle.sled_base.specs.Payloads.Numbers.{written_u64, written_bool, written_u8}
+use Rattle.sled_base.specs.Payloads.Options.{page_number, written_page, CanWritePage}
+use Rattle.sled_base.specs.Payloads.ByteStrings.{written_bytes}
 use Rattle.sled_node.specs.Payloads.Data.{written_data}
 use Rattle.sled_node.specs.Payloads.Nodes.{NodeParts, ReadsParts, node_from, ReadsNode, written_node}
 use Rattle.sled_node.specs.Payloads.NodeLaws.{number_of_page, stored_again, formed_stored, one_parts}

@@ -3,11 +3,11 @@ use Rattle.std.proofs.Common.{◌≡◌, ℕ, ◌+◌, ◌*◌, ◌<◌, ◌≤�
 use Rattle.std.proofs.Math.Nat.{mul-le-mul_left}
 use Rattle.std.proofs.lemmas.List.{length-map}
 use Rattle.sled_base.specs.Order.{Bytes}
-use Rattle.sled_node.specs.Payloads.Reading.{IsGrammar, ReadsNothing}
-use Rattle.sled_node.specs.Payloads.Numbers.{ReadsU64}
-use Rattle.sled_node.specs.Payloads.NumberLaws.{U64-grammar}
-use Rattle.sled_node.specs.Payloads.ByteStrings.{ReadsBytes}
-use Rattle.sled_node.specs.Payloads.ByteStringLaws.{Bytes-grammar}
+use Rattle.sled_base.specs.Payloads.Reading.{IsGrammar, ReadsNothing}
+use Rattle.sled_base.specs.Payloads.Numbers.{ReadsU64}
+use Rattle.sled_base.specs.Payloads.NumberLaws.{U64-grammar}
+use Rattle.sled_base.specs.Payloads.ByteStrings.{ReadsBytes}
+use Rattle.sled_base.specs.Payloads.ByteStringLaws.{Bytes-grammar}
 use Rattle.sled_node.specs.Payloads.Sequences.{ReadsAll, ReadsCount}
 use Rattle.sled_node.specs.Payloads.SequenceLaws.{ReadsAll-one, ReadsAll-takes, ReadsAll-stops}
 use Rattle.sled_node.specs.Payloads.Pairs.{keys_of, items_of, IsBehindKeys, ReadsBoth, ReadsPairs}

@@ -6,12 +6,13 @@ use Rattle.std.proofs.lemmas.List.Sums.{fold-append}
 use Rattle.sled_base.specs.Order.{Bytes}
 use Rattle.sled_node.specs.Pairs.{IsRising}
 use Rattle.sled_node.specs.Meta.{Roots, with_root, with_roots, IsRootMap}
-use Rattle.sled_node.specs.Payloads.Reading.{ReadsNothing}
-use Rattle.sled_node.specs.Payloads.Numbers.{written_u64}
-use Rattle.sled_node.specs.Payloads.ByteStrings.{written_bytes}
+use Rattle.sled_base.specs.Payloads.Reading.{ReadsNothing}
+use Rattle.sled_base.specs.Payloads.Numbers.{written_u64}
+use Rattle.sled_base.specs.Payloads.ByteStrings.{written_bytes}
+use Rattle.sled_node.specs.Payloads.ShortStrings.{ReadsShort, AsksShort}
 use Rattle.sled_node.specs.Payloads.Sequences.{ReadsAll}
 use Rattle.sled_node.specs.Payloads.SequenceLaws.{ReadsAll-more}
-use Rattle.sled_node.specs.Payloads.Roots.{ReadsRoot, ReadsRoots, written_root, written_roots}
+use Rattle.sled_node.specs.Payloads.Roots.{ReadsRoot, ReadsRoots, AsksRoots, written_root, written_roots}
 use Rattle.sled_node.specs.Payloads.RootLaws.{CanWriteRoot, go_on, can_write_roots}
 use Rattle.sled_node.proofs.Roots.{never_fewer, rising_with}
 use Rattle.sled_node.proofs.Payloads.Sizes.{all_size, number_size, string_size}
@@ -43,6 +44,17 @@ too_many input middle roots (pairs, so_far, is) many others rest (end, qs, all, 
     let put : others ≡ with_roots more roots = was ∙ ap (λ k. with_roots k []) same ∙ fold-append (λ so_far x. with_root x.0 x.1 so_far) [] pairs more ∙ ap (with_roots more) (sym is) in
     let kept = never_fewer more roots (subst IsRising (sym is) (rising_with pairs [] tt)) in
     omega (arith, many, few, ap length put, kept)
+
+-- memory is asked for behind a name: the first one, or the one that stands here
+asks_first : (input middle : List ℕ) (pairs : List (Bytes × ℕ)) → ReadsAll ReadsRoot input pairs middle → (name rest : List ℕ) → ReadsShort middle name rest → AsksRoots input
+asks_first input middle [] same name rest here = (name, rest, subst (λ text. ReadsShort text name rest) (sym same) here)
+asks_first input middle (pair ∷ pairs) (behind, first, others) name rest here = (pair.0, first.0, first.1)
+
+pub asks_so_far : (input middle : List ℕ) (roots : Roots) → PutSoFar input middle roots → AsksShort middle → AsksRoots input
+asks_so_far input middle roots (pairs, so_far, is) (name, rest, here, long) = asks_first input middle pairs so_far name rest here
+
+pub asks_for_name : (input middle rest : List ℕ) (roots : Roots) (pair : Bytes × ℕ) → PutSoFar input middle roots → ReadsRoot middle pair rest → AsksRoots input
+asks_for_name input middle rest roots pair (pairs, so_far, is) (behind, name, page) = asks_first input middle pairs so_far pair.0 behind name
 
 -- the map that is read
 pub put_all : (input rest : List ℕ) (roots : Roots) → PutSoFar input rest roots → rest ≡ [] → length roots ≤ 2 ^ 24 → ReadsRoots input roots rest

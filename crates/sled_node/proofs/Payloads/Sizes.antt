@@ -9,9 +9,9 @@ use Rattle.sled_node.specs.declared.node.data.Data.{Data}
 use Rattle.sled_node.specs.declared.node.data.Data.TheVariants.{Leaf, Index}
 use Rattle.sled_node.specs.Pairs.{IsWithinLimit, HasPairs}
 use Rattle.sled_node.specs.Parts.{HasStored}
-use Rattle.sled_node.specs.Payloads.Numbers.{byte_count, written_u64}
-use Rattle.sled_node.specs.Payloads.NumberLaws.{chosen, length-low_bytes}
-use Rattle.sled_node.specs.Payloads.ByteStrings.{written_bytes}
+use Rattle.sled_base.specs.Payloads.Numbers.{byte_count, written_u64}
+use Rattle.sled_base.specs.Payloads.NumberLaws.{chosen, length-low_bytes}
+use Rattle.sled_base.specs.Payloads.ByteStrings.{written_bytes}
 use Rattle.sled_node.specs.Payloads.Pairs.{keys_of, items_of, written_pairs}
 use Rattle.sled_node.specs.Payloads.PairLaws.{all_keys, all_items}
 use Rattle.sled_node.specs.Payloads.Data.{written_data}

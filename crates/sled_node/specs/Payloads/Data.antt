@@ -1,12 +1,12 @@
 -- How the pairs of a node are spelled.
-use Rattle.std.specs.Prelude.{◌≡◌, ℕ, ◌<◌, ◌^◌, List, ◌∷◌}
+use Rattle.std.specs.Prelude.{◌≡◌, ℕ, ◌<◌, ◌≤◌, ◌^◌, List, ◌∷◌}
 use Rattle.sled_base.specs.Order.{Bytes}
 use Rattle.sled_node.specs.declared.node.data.Data.{Data}
 use Rattle.sled_node.specs.declared.node.data.Data.TheVariants.{Leaf, Index}
 use Rattle.sled_node.specs.Pairs.{IsWithinLimit, HasPairs}
-use Rattle.sled_node.specs.Payloads.Numbers.{ReadsU64, written_u64}
-use Rattle.sled_node.specs.Payloads.ByteStrings.{ReadsBytes, written_bytes}
-use Rattle.sled_node.specs.Payloads.Pairs.{ReadsPairs, written_pairs}
+use Rattle.sled_base.specs.Payloads.Numbers.{ReadsU64, written_u64}
+use Rattle.sled_base.specs.Payloads.ByteStrings.{ReadsBytes, written_bytes}
+use Rattle.sled_node.specs.Payloads.Pairs.{ReadsPairs, AsksPairs, written_pairs}
 
 -- the pairs of a leaf: the keys rise, and the limits hold
 abbrev pub ReadsLeaf : List ℕ → List (Bytes × Bytes) → List ℕ → Type 0
@@ -20,6 +20,10 @@ ReadsIndex input pairs rest = ReadsPairs ReadsU64 input pairs rest × HasPairs (
 abbrev pub ReadsData : List ℕ → Data → List ℕ → Type 0
 ReadsData input (Leaf pairs) rest = (parts : List ℕ) × (input ≡ 0 ∷ parts) × ReadsLeaf parts pairs rest
 ReadsData input (Index pairs) rest = (parts : List ℕ) × (input ≡ 1 ∷ parts) × ReadsIndex parts pairs rest
+
+-- memory is asked for where the count of pairs has room, and so many keys stand behind it
+abbrev pub AsksData : List ℕ → Type 0
+AsksData input = (tag : ℕ) × (parts : List ℕ) × (input ≡ tag ∷ parts) × (tag ≤ 1) × AsksPairs parts
 
 abbrev pub written_data : Data → List ℕ
 written_data (Leaf pairs) = 0 ∷ written_pairs written_bytes pairs

@@ -6,12 +6,12 @@ use Rattle.sled_node.specs.declared.node.data.Data.{Data}
 use Rattle.sled_node.specs.declared.node.data.Data.TheVariants.{Leaf, Index}
 use Rattle.sled_node.specs.Pairs.{IsWithinLimit, HasPairs}
 use Rattle.sled_node.specs.Parts.{HasStored}
-use Rattle.sled_node.specs.Payloads.Reading.{IsGrammar}
-use Rattle.sled_node.specs.Payloads.ReadingLaws.{Only-grammar, behind, first}
-use Rattle.sled_node.specs.Payloads.Numbers.{written_u64}
-use Rattle.sled_node.specs.Payloads.NumberLaws.{U64-grammar}
-use Rattle.sled_node.specs.Payloads.ByteStrings.{written_bytes, CanWriteBytes}
-use Rattle.sled_node.specs.Payloads.ByteStringLaws.{Bytes-grammar}
+use Rattle.sled_base.specs.Payloads.Reading.{IsGrammar}
+use Rattle.sled_base.specs.Payloads.ReadingLaws.{Only-grammar, behind, first}
+use Rattle.sled_base.specs.Payloads.Numbers.{written_u64}
+use Rattle.sled_base.specs.Payloads.NumberLaws.{U64-grammar}
+use Rattle.sled_base.specs.Payloads.ByteStrings.{written_bytes, CanWriteBytes}
+use Rattle.sled_base.specs.Payloads.ByteStringLaws.{Bytes-grammar}
 use Rattle.sled_node.specs.Payloads.Pairs.{CanWritePairs, written_pairs}
 use Rattle.sled_node.specs.Payloads.PairLaws.{all_keys, all_items, Pairs-grammar}
 use Rattle.sled_node.specs.Payloads.Data.{ReadsLeaf, ReadsIndex, ReadsData, written_data}

@@ -3,12 +3,12 @@ use Rattle.std.specs.Prelude.{◌≡◌, ℕ, ◌+◌, ◌≤◌, List, ◌++◌
 use Rattle.std.proofs.Common.{get_or, sym, ap, subst, arith}
 use Rattle.sled_node.specs.declared.node.link.Link.{Link}
 use Rattle.sled_node.specs.declared.node.link.Link.TheVariants.{Set, Del, ParentMergeIntention, ParentMergeConfirm, ChildMergeCap}
-use Rattle.sled_node.specs.Payloads.Reading.{ReadsPair, IsGrammar}
-use Rattle.sled_node.specs.Payloads.ReadingLaws.{Pair-grammar, behind, first}
-use Rattle.sled_node.specs.Payloads.Numbers.{ReadsU64}
-use Rattle.sled_node.specs.Payloads.NumberLaws.{U64-grammar}
-use Rattle.sled_node.specs.Payloads.ByteStrings.{ReadsShort}
-use Rattle.sled_node.specs.Payloads.ByteStringLaws.{Short-grammar}
+use Rattle.sled_base.specs.Payloads.Reading.{ReadsPair, IsGrammar}
+use Rattle.sled_base.specs.Payloads.ReadingLaws.{Pair-grammar, behind, first}
+use Rattle.sled_base.specs.Payloads.Numbers.{ReadsU64}
+use Rattle.sled_base.specs.Payloads.NumberLaws.{U64-grammar}
+use Rattle.sled_node.specs.Payloads.ShortStrings.{ReadsShort}
+use Rattle.sled_node.specs.Payloads.ShortStringLaws.{Short-grammar}
 use Rattle.sled_node.specs.Payloads.Links.{ReadsLink, written_link, CanWriteLink}
 
 -- the first byte

@@ -1,11 +1,12 @@
 -- How links are spelled.
-use Rattle.std.specs.Prelude.{◌≡◌, ℕ, ◌<◌, ◌^◌, List, [], ◌∷◌, ◌++◌}
+use Rattle.std.specs.Prelude.{◌≡◌, ℕ, ◌<◌, ◌^◌, List, [], ◌∷◌, ◌++◌, ◌⊎◌}
 use Rattle.sled_node.specs.declared.node.link.Link.{Link}
 use Rattle.sled_node.specs.declared.node.link.Link.TheVariants.{Set, Del, ParentMergeIntention, ParentMergeConfirm, ChildMergeCap}
 use Rattle.sled_node.specs.Pairs.{IsWithinLimit}
-use Rattle.sled_node.specs.Payloads.Reading.{ReadsPair}
-use Rattle.sled_node.specs.Payloads.Numbers.{ReadsU64, written_u64}
-use Rattle.sled_node.specs.Payloads.ByteStrings.{ReadsShort, written_bytes}
+use Rattle.sled_base.specs.Payloads.Reading.{ReadsPair, AsksPair}
+use Rattle.sled_base.specs.Payloads.Numbers.{ReadsU64, written_u64}
+use Rattle.sled_base.specs.Payloads.ByteStrings.{written_bytes}
+use Rattle.sled_node.specs.Payloads.ShortStrings.{ReadsShort, AsksShort}
 
 -- a tag, and the parts of that link
 abbrev pub ReadsLink : List ℕ → Link → List ℕ → Type 0
@@ -14,6 +15,10 @@ ReadsLink input (Del key) rest = (parts : List ℕ) × (input ≡ 1 ∷ parts) �
 ReadsLink input (ParentMergeIntention page) rest = (parts : List ℕ) × (input ≡ 2 ∷ parts) × ReadsU64 parts page rest
 ReadsLink input ParentMergeConfirm rest = input ≡ 3 ∷ rest
 ReadsLink input ChildMergeCap rest = input ≡ 4 ∷ rest
+
+-- memory is asked for where a key or a value is read that doesn't fit in place
+abbrev pub AsksLink : List ℕ → Type 0
+AsksLink input = (parts : List ℕ) × (((input ≡ 0 ∷ parts) × AsksPair AsksShort ReadsShort AsksShort parts) ⊎ ((input ≡ 1 ∷ parts) × AsksShort parts))
 
 abbrev pub written_link : Link → List ℕ
 written_link (Set key value) = 0 ∷ written_bytes key ++ written_bytes value

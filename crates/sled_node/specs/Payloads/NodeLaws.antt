@@ -18,14 +18,14 @@ use Rattle.sled_node.specs.declared.node.data.Data.TheVariants.{Leaf, Index}
 use Rattle.sled_node.specs.Pairs.{IsWithinLimit, IsRising, HasPairs}
 use Rattle.sled_node.specs.Node.{Item, Value, Child, WholeNode, IsInRange, ItemFits, IsPage, IsWellFormed}
 use Rattle.sled_node.specs.Parts.{is_index, pairs_under, HasStored}
-use Rattle.sled_node.specs.Payloads.Reading.{IsGrammar}
-use Rattle.sled_node.specs.Payloads.ReadingLaws.{Triple-grammar}
-use Rattle.sled_node.specs.Payloads.Numbers.{written_u64, written_bool, written_u8}
-use Rattle.sled_node.specs.Payloads.NumberLaws.{Bool-grammar, U8-grammar}
-use Rattle.sled_node.specs.Payloads.Options.{page_number, written_page, CanWritePage}
-use Rattle.sled_node.specs.Payloads.OptionLaws.{Page-grammar}
-use Rattle.sled_node.specs.Payloads.ByteStrings.{written_bytes, CanWriteBytes}
-use Rattle.sled_node.specs.Payloads.ByteStringLaws.{Bytes-grammar}
+use Rattle.sled_base.specs.Payloads.Reading.{IsGrammar}
+use Rattle.sled_base.specs.Payloads.ReadingLaws.{Triple-grammar}
+use Rattle.sled_base.specs.Payloads.Numbers.{written_u64, written_bool, written_u8}
+use Rattle.sled_base.specs.Payloads.NumberLaws.{Bool-grammar, U8-grammar}
+use Rattle.sled_base.specs.Payloads.Options.{page_number, written_page, CanWritePage}
+use Rattle.sled_base.specs.Payloads.OptionLaws.{Page-grammar}
+use Rattle.sled_base.specs.Payloads.ByteStrings.{written_bytes, CanWriteBytes}
+use Rattle.sled_base.specs.Payloads.ByteStringLaws.{Bytes-grammar}
 use Rattle.sled_node.specs.Payloads.Data.{written_data}
 use Rattle.sled_node.specs.Payloads.DataLaws.{Data-grammar}
 use Rattle.sled_node.specs.Payloads.Nodes.{NodeParts, ReadsParts, node_from, ReadsNode, page_of, value_in, page_in, stored_pairs, stored_as, written_node}

@@ -8,11 +8,11 @@ use Rattle.sled_node.specs.declared.node.data.Data.{Data}
 use Rattle.sled_node.specs.declared.node.data.Data.TheVariants.{Leaf, Index}
 use Rattle.sled_node.specs.Node.{Item, Value, Child, WholeNode, IsWellFormed}
 use Rattle.sled_node.specs.Parts.{node_of}
-use Rattle.sled_node.specs.Payloads.Reading.{ReadsTriple}
-use Rattle.sled_node.specs.Payloads.Numbers.{written_u64, ReadsBool, written_bool, ReadsU8, written_u8}
-use Rattle.sled_node.specs.Payloads.Options.{ReadsPage}
-use Rattle.sled_node.specs.Payloads.ByteStrings.{ReadsBytes, written_bytes}
-use Rattle.sled_node.specs.Payloads.Data.{ReadsData, written_data}
+use Rattle.sled_base.specs.Payloads.Reading.{AsksNever, ReadsTriple, AsksTriple}
+use Rattle.sled_base.specs.Payloads.Numbers.{written_u64, ReadsBool, written_bool, ReadsU8, written_u8}
+use Rattle.sled_base.specs.Payloads.Options.{ReadsPage}
+use Rattle.sled_base.specs.Payloads.ByteStrings.{ReadsBytes, AsksBytes, written_bytes}
+use Rattle.sled_node.specs.Payloads.Data.{ReadsData, AsksData, written_data}
 
 -- next, the merging child, and whether the node is being merged; how many bytes stored keys lack, lo, and hi; the stored pairs
 abbrev pub NodeParts : Type 0
@@ -20,6 +20,10 @@ NodeParts = (Option NonZeroU64 × Option NonZeroU64 × Bool) × (ℕ × Bytes ×
 
 abbrev pub ReadsParts : List ℕ → NodeParts → List ℕ → Type 0
 ReadsParts = ReadsTriple (ReadsTriple ReadsPage ReadsPage ReadsBool) (ReadsTriple ReadsU8 ReadsBytes ReadsBytes) ReadsData
+
+-- memory is asked for by a bound that doesn't fit in place, and by the pairs
+abbrev pub AsksParts : List ℕ → Type 0
+AsksParts = AsksTriple (AsksTriple AsksNever ReadsPage AsksNever ReadsPage AsksNever) (ReadsTriple ReadsPage ReadsPage ReadsBool) (AsksTriple AsksNever ReadsU8 AsksBytes ReadsBytes AsksBytes) (ReadsTriple ReadsU8 ReadsBytes ReadsBytes) AsksData
 
 -- the node of these parts
 abbrev pub node_from : NodeParts → WholeNode

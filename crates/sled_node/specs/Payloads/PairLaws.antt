@@ -4,11 +4,11 @@ use Rattle.std.proofs.Common.{sym, ap, subst, ◌∙◌, append_assoc, arith}
 use Rattle.std.proofs.lemmas.List.{length-map}
 use Rattle.std.specs.List.{flat_map, AllByRecursion}
 use Rattle.sled_base.specs.Order.{Bytes}
-use Rattle.sled_node.specs.Payloads.Reading.{IsGrammar}
-use Rattle.sled_node.specs.Payloads.Numbers.{ReadsU64, written_u64}
-use Rattle.sled_node.specs.Payloads.NumberLaws.{U64-grammar}
-use Rattle.sled_node.specs.Payloads.ByteStrings.{ReadsBytes, written_bytes}
-use Rattle.sled_node.specs.Payloads.ByteStringLaws.{Bytes-grammar}
+use Rattle.sled_base.specs.Payloads.Reading.{IsGrammar}
+use Rattle.sled_base.specs.Payloads.Numbers.{ReadsU64, written_u64}
+use Rattle.sled_base.specs.Payloads.NumberLaws.{U64-grammar}
+use Rattle.sled_base.specs.Payloads.ByteStrings.{ReadsBytes, written_bytes}
+use Rattle.sled_base.specs.Payloads.ByteStringLaws.{Bytes-grammar}
 use Rattle.sled_node.specs.Payloads.Sequences.{ReadsAll}
 use Rattle.sled_node.specs.Payloads.SequenceLaws.{ReadsAll-one, ReadsAll-again, ReadsAll-takes}
 use Rattle.sled_node.specs.Payloads.Pairs.{CanWritePairs, keys_of, items_of, ReadsPairs, written_pairs}

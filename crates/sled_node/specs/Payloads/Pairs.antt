@@ -2,8 +2,8 @@
 use Rattle.std.specs.Prelude.{◌≡◌, ℕ, ◌*◌, ◌≤◌, ◌^◌, List, ◌++◌, length, map}
 use Rattle.std.specs.List.{flat_map, AllByRecursion}
 use Rattle.sled_base.specs.Order.{Bytes}
-use Rattle.sled_node.specs.Payloads.Numbers.{ReadsU64, written_u64}
-use Rattle.sled_node.specs.Payloads.ByteStrings.{ReadsBytes, written_bytes, CanWriteBytes}
+use Rattle.sled_base.specs.Payloads.Numbers.{ReadsU64, written_u64}
+use Rattle.sled_base.specs.Payloads.ByteStrings.{ReadsBytes, written_bytes, CanWriteBytes}
 use Rattle.sled_node.specs.Payloads.Sequences.{ReadsAll, ReadsCount}
 
 abbrev pub keys_of : {V : Type 0} → List (Bytes × V) → List Bytes
@@ -23,6 +23,10 @@ IsBehindKeys count input rest = (keys : List Bytes) × ReadsCount count ReadsByt
 -- a count that keeps the limit, where so many keys begin, which have room with as many items, and where the items begin
 abbrev pub SplitsPairs : List ℕ → ℕ → List ℕ → List ℕ → Type 0
 SplitsPairs input count keys items = ReadsU64 input count keys × (count ≤ 2 ^ 24) × (2 * count ≤ length keys) × IsBehindKeys count keys items
+
+-- memory is asked for behind a count that has room and so many keys
+abbrev pub AsksPairs : List ℕ → Type 0
+AsksPairs input = (count : ℕ) × (keys items : List ℕ) × SplitsPairs input count keys items
 
 -- so many keys up to the input of the items, and from there as many items
 abbrev pub ReadsBoth : {V : Type 0} → (List ℕ → V → List ℕ → Type 0) → ℕ → List ℕ → List ℕ → List (Bytes × V) → List ℕ → Type 0

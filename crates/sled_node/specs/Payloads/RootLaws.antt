@@ -6,10 +6,10 @@ use Rattle.sled_base.specs.Order.{Bytes}
 use Rattle.sled_node.specs.Pairs.{IsWithinLimit}
 use Rattle.sled_node.specs.Meta.{Roots, with_roots, IsRootMap}
 use Rattle.sled_node.specs.MetaLaws.{put_in_order}
-use Rattle.sled_node.specs.Payloads.Reading.{IsGrammar}
-use Rattle.sled_node.specs.Payloads.ReadingLaws.{Pair-grammar}
-use Rattle.sled_node.specs.Payloads.NumberLaws.{U64-grammar}
-use Rattle.sled_node.specs.Payloads.ByteStringLaws.{Short-grammar}
+use Rattle.sled_base.specs.Payloads.Reading.{IsGrammar}
+use Rattle.sled_base.specs.Payloads.ReadingLaws.{Pair-grammar}
+use Rattle.sled_base.specs.Payloads.NumberLaws.{U64-grammar}
+use Rattle.sled_node.specs.Payloads.ShortStringLaws.{Short-grammar}
 use Rattle.sled_node.specs.Payloads.Sequences.{ReadsAll}
 use Rattle.sled_node.specs.Payloads.SequenceLaws.{ReadsAll-again}
 use Rattle.sled_node.specs.Payloads.Roots.{ReadsRoot, ReadsRoots, written_root, written_roots}

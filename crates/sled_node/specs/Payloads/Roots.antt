@@ -3,9 +3,10 @@ use Rattle.std.specs.Prelude.{◌≡◌, ℕ, ◌≤◌, ◌^◌, List, [], ◌+
 use Rattle.std.specs.List.{flat_map}
 use Rattle.sled_base.specs.Order.{Bytes}
 use Rattle.sled_node.specs.Meta.{Roots, with_roots}
-use Rattle.sled_node.specs.Payloads.Reading.{ReadsPair}
-use Rattle.sled_node.specs.Payloads.Numbers.{ReadsU64, written_u64}
-use Rattle.sled_node.specs.Payloads.ByteStrings.{ReadsShort, written_bytes}
+use Rattle.sled_base.specs.Payloads.Reading.{ReadsPair}
+use Rattle.sled_base.specs.Payloads.Numbers.{ReadsU64, written_u64}
+use Rattle.sled_base.specs.Payloads.ByteStrings.{written_bytes}
+use Rattle.sled_node.specs.Payloads.ShortStrings.{ReadsShort}
 use Rattle.sled_node.specs.Payloads.Sequences.{ReadsAll}
 
 -- a name and its root
@@ -15,6 +16,10 @@ ReadsRoot = ReadsPair ReadsShort ReadsU64
 -- Pairs up to the end of the input. They are put into the empty map in their order, which has at most 2^24 names then.
 abbrev pub ReadsRoots : List ℕ → Roots → List ℕ → Type 0
 ReadsRoots input roots rest = (rest ≡ []) × (pairs : List (Bytes × ℕ)) × ReadsAll ReadsRoot input pairs [] × (roots ≡ with_roots pairs []) × (length roots ≤ 2 ^ 24)
+
+-- memory is asked for where a name stands at the front
+abbrev pub AsksRoots : List ℕ → Type 0
+AsksRoots input = (name rest : List ℕ) × ReadsShort input name rest
 
 abbrev pub written_root : Bytes × ℕ → List ℕ
 written_root pair = written_bytes pair.0 ++ written_u64 pair.1

@@ -3,7 +3,7 @@ use Rattle.std.specs.Prelude.{◌≡◌, ℕ, ◌+◌, ◌*◌, ◌<◌, ◌≤�
 use Rattle.std.proofs.Common.{sym, ap, subst, ◌∙◌, append_assoc, arith}
 use Rattle.std.specs.List.{flat_map, AllByRecursion}
 use Rattle.std.proofs.Math.Nat.{suc-mul}
-use Rattle.sled_node.specs.Payloads.Reading.{IsGrammar, ReadsNothing}
+use Rattle.sled_base.specs.Payloads.Reading.{IsGrammar, ReadsNothing}
 use Rattle.sled_node.specs.Payloads.Sequences.{ReadsAll}
 
 module _ {V : Type 0} {reads : List ℕ → V → List ℕ → Type 0} {written : V → List ℕ} {can_write : V → Type 0} {can_follow : V → List ℕ → Type 0} {least : ℕ} where

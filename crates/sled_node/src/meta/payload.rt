@@ -3,20 +3,23 @@
 ghost use Rattle.std.specs.Prelude.{◌≡◌, ◌+◌, ◌<◌, ◌≤◌, ◌^◌, ◌++◌, [], length, take, drop, IfOk, IfErr, OnErr};
 ghost use Rattle.std.specs.List.{flat_map};
 ghost use Rattle.sled_node.specs.Meta.{named_pages, IsRootMap};
-ghost use Rattle.sled_node.specs.Payloads.ByteStrings.{written_bytes};
-ghost use Rattle.sled_node.specs.Payloads.Reading.{IsRefusal};
-ghost use Rattle.sled_node.specs.Payloads.Roots.{ReadsRoot, ReadsRoots, written_root, written_roots};
+ghost use Rattle.sled_base.specs.Payloads.ByteStrings.{written_bytes};
+ghost use Rattle.sled_base.specs.Payloads.Reading.{IsRefusal};
+ghost use Rattle.sled_node.specs.Payloads.ShortStrings.{AsksShort};
+ghost use Rattle.sled_node.specs.Payloads.Roots.{ReadsRoot, ReadsRoots, AsksRoots, written_root, written_roots};
 ghost use Rattle.sled_node.specs.Payloads.RootLaws.{Roots-grammar};
 
 use super::Meta;
 use crate::serialization::Serialize;
-use crate::serialization::bytes::read_short;
+use crate::serialization::short::read_short;
 use sled_base::{Error, IVec, PageId};
 use std::alloc::{AllocError, Global};
 use std::collections::BTreeMap;
 
 impl Serialize for Meta {
     ghost reads = { ReadsRoots };
+
+    ghost asks = { AsksRoots };
 
     ghost written = { written_roots };
 
@@ -49,7 +52,8 @@ impl Serialize for Meta {
     /// Reads the names with their pages to the end of the input. Of two pairs with one name the later one stands.
     ///
     /// It answers `Corruption(None)` exactly where what is left of the input is no pair, or where there are more names
-    /// than a map holds, and `OutOfMemory` where memory was wanting. A refusal leaves the input as it was.
+    /// than a map holds, and `OutOfMemory` where memory was wanting, which comes only behind a name. A refusal leaves the
+    /// input as it was.
     fn deserialize(alloc: Global, input: &mut &[u8]) -> Result<Meta, Error> {
         let mut meta = Meta::default(alloc);
         let mut rest = *input;
@@ -130,7 +134,7 @@ fn write_name(name: &[u8], out: &mut [u8]) -> usize
 // Reads a name and its page.
 fn read_root(alloc: Global, input: &mut &[u8]) -> Result<(IVec, PageId), Error>
     ensures read { IfOk result (λ pair. ReadsRoot input.old.now pair input.new.now) }
-    ensures refused { IfErr result (IsRefusal ReadsRoot input.old.now) }
+    ensures refused { IfErr result (IsRefusal AsksShort ReadsRoot input.old.now) }
     ensures stays { OnErr result (input.new ≡ input.old) }
 {
     let mut rest = *input;

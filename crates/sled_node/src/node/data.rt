@@ -1,6 +1,6 @@
 //! What a node holds: a leaf's values, or an index's pages.
 
-ghost use Rattle.std.specs.Prelude.{◌≡◌, ◌↔◌, ◌==◌, ◌<◌, ◌^◌, [], length, position, Some, IsTrue, IfOk, OnOk, OnErr, Any, nat_eq, slice_get};
+ghost use Rattle.std.specs.Prelude.{◌≡◌, ◌↔◌, ◌==◌, ◌<◌, ◌^◌, [], length, position, Some, IsTrue, IfOk, IsOk, OnOk, OnErr, Any, nat_eq, slice_get};
 ghost use Rattle.std.specs.Cmp.{partial_equiv_from_equiv};
 ghost use Rattle.std.specs.Option.{SomeIff};
 ghost use Rattle.std.specs.List.{AllByRecursion};
@@ -49,12 +49,14 @@ impl Index {
         }
     }
 
-    /// An index of these pairs, or none where the keys don't rise strictly or a limit of a node is passed.
+    /// An index of these pairs, or none where the keys don't rise strictly or a limit of a node is passed. It takes no
+    /// memory.
     pub fn from_pairs(
         _alloc: Global,
         pairs: Vec<(IVec, PageId)>,
     ) -> Result<Option<Index>, AllocError>
-        ensures { IfOk result (λ index. SomeIff index (HasPairs (λ page. page < 2 ^ 64) pairs.items) pairs.items) }
+        ensures taken { IsOk result }
+        ensures value { IfOk result (λ index. SomeIff index (HasPairs (λ page. page < 2 ^ 64) pairs.items) pairs.items) }
     {
         know_pages(&pairs);
         if pairs.len() > MAX_PAIRS || !are_rising(&pairs) || !are_short(&pairs) {

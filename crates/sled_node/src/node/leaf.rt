@@ -1,6 +1,6 @@
 //! Leaves: stored keys and values.
 
-ghost use Rattle.std.specs.Prelude.{◌≡◌, ◌↔◌, ◌<◌, ◌≤◌, ◌^◌, [], length, Some, IsTrue, IfOk, OnOk, OnErr, nat_eq, slice_get};
+ghost use Rattle.std.specs.Prelude.{◌≡◌, ◌↔◌, ◌<◌, ◌≤◌, ◌^◌, [], length, Some, IsTrue, IfOk, IsOk, OnOk, OnErr, nat_eq, slice_get};
 ghost use Rattle.std.specs.Option.{SomeIff};
 ghost use Rattle.std.specs.List.{AllByRecursion};
 ghost use Rattle.std.specs.Cmp.{partial_equiv_from_equiv};
@@ -41,9 +41,11 @@ impl Leaf {
         }
     }
 
-    /// A leaf of these pairs, or none where the keys don't rise strictly or a limit of a node is passed.
+    /// A leaf of these pairs, or none where the keys don't rise strictly or a limit of a node is passed. It takes no
+    /// memory.
     pub fn from_pairs(_alloc: Global, pairs: Vec<(IVec, IVec)>) -> Result<Option<Leaf>, AllocError>
-        ensures { IfOk result (λ leaf. SomeIff leaf (HasPairs IsWithinLimit pairs.items) pairs.items) }
+        ensures taken { IsOk result }
+        ensures value { IfOk result (λ leaf. SomeIff leaf (HasPairs IsWithinLimit pairs.items) pairs.items) }
     {
         if pairs.len() > MAX_PAIRS
             || !are_rising(&pairs)

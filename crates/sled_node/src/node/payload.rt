@@ -2,26 +2,28 @@
 
 ghost use Rattle.std.specs.Prelude.{◌≡◌, ◌<◌, ◌≤◌, ◌^◌, ◌++◌, length, drop, IfOk, IfErr, OnErr};
 ghost use Rattle.sled_node.specs.Parts.{HasStored};
-ghost use Rattle.sled_node.specs.Payloads.Reading.{IsRefusal};
-ghost use Rattle.sled_node.specs.Payloads.Numbers.{written_u64};
-ghost use Rattle.sled_node.specs.Payloads.ByteStrings.{written_bytes};
-ghost use Rattle.sled_node.specs.Payloads.Pairs.{written_pairs};
-ghost use Rattle.sled_node.specs.Payloads.Data.{ReadsLeaf, ReadsIndex, ReadsData, written_data};
+ghost use Rattle.sled_base.specs.Payloads.Reading.{IsRefusal};
+ghost use Rattle.sled_base.specs.Payloads.Numbers.{written_u64};
+ghost use Rattle.sled_base.specs.Payloads.ByteStrings.{written_bytes};
+ghost use Rattle.sled_node.specs.Payloads.Pairs.{AsksPairs, written_pairs};
+ghost use Rattle.sled_node.specs.Payloads.Data.{ReadsLeaf, ReadsIndex, ReadsData, AsksData, written_data};
 ghost use Rattle.sled_node.specs.Payloads.DataLaws.{Data-grammar};
-ghost use Rattle.sled_node.specs.Payloads.Nodes.{ReadsNode, written_node};
+ghost use Rattle.sled_node.specs.Payloads.Nodes.{ReadsNode, AsksParts, written_node};
 ghost use Rattle.sled_node.specs.Payloads.NodeLaws.{Node-grammar};
 ghost use Rattle.sled_node.specs.Node.{IsWellFormed};
 
 use super::{Data, Index, Leaf, Node};
 use crate::serialization::Serialize;
 use crate::serialization::pairs::{read_pairs, size_of_pairs, write_pairs};
-use crate::serialization::tuples::{size_of_three, write_at, write_three, write_three_at};
+use sled_base::serialization::tuples::{size_of_three, write_at, write_three, write_three_at};
 use sled_base::{Error, IVec};
 use std::alloc::{AllocError, Global};
 use std::num::NonZeroU64;
 
 impl Serialize for Data {
     ghost reads = { ReadsData };
+
+    ghost asks = { AsksData };
 
     ghost written = { written_data };
 
@@ -116,7 +118,7 @@ fn write_index(index: &Index, out: &mut [u8]) -> usize
 // Reads the pairs of a leaf.
 fn read_leaf(alloc: Global, input: &mut &[u8]) -> Result<Leaf, Error>
     ensures read { IfOk result (λ leaf. ReadsLeaf input.old.now leaf input.new.now) }
-    ensures refused { IfErr result (IsRefusal ReadsLeaf input.old.now) }
+    ensures refused { IfErr result (IsRefusal AsksPairs ReadsLeaf input.old.now) }
     ensures stays { OnErr result (input.new ≡ input.old) }
 {
     let mut rest = *input;
@@ -133,7 +135,7 @@ fn read_leaf(alloc: Global, input: &mut &[u8]) -> Result<Leaf, Error>
 // Reads the pairs of an index.
 fn read_index(alloc: Global, input: &mut &[u8]) -> Result<Index, Error>
     ensures read { IfOk result (λ index. ReadsIndex input.old.now index input.new.now) }
-    ensures refused { IfErr result (IsRefusal ReadsIndex input.old.now) }
+    ensures refused { IfErr result (IsRefusal AsksPairs ReadsIndex input.old.now) }
     ensures stays { OnErr result (input.new ≡ input.old) }
 {
     let mut rest = *input;
@@ -156,6 +158,8 @@ type Parts = (
 
 impl Serialize for Node {
     ghost reads = { ReadsNode };
+
+    ghost asks = { AsksParts };
 
     ghost written = { written_node };
 

@@ -1,20 +1,22 @@
 //! Links.
 
 ghost use Rattle.std.specs.Prelude.{◌≡◌, IfOk, IfErr, OnErr};
-ghost use Rattle.sled_node.specs.Payloads.Reading.{IsRefusal, ReadsPair};
-ghost use Rattle.sled_node.specs.Payloads.ByteStrings.{ReadsShort};
-ghost use Rattle.sled_node.specs.Payloads.Links.{ReadsLink, written_link, CanWriteLink};
+ghost use Rattle.sled_base.specs.Payloads.Reading.{IsRefusal, ReadsPair, AsksPair};
+ghost use Rattle.sled_node.specs.Payloads.ShortStrings.{ReadsShort, AsksShort};
+ghost use Rattle.sled_node.specs.Payloads.Links.{ReadsLink, AsksLink, written_link, CanWriteLink};
 ghost use Rattle.sled_node.specs.Payloads.LinkLaws.{Link-grammar};
 
 use super::Serialize;
-use super::bytes::read_short;
-use super::tuples::write_both;
+use super::short::read_short;
 use crate::node::Link;
+use sled_base::serialization::tuples::write_both;
 use sled_base::{Error, IVec};
 use std::alloc::Global;
 
 impl Serialize for Link {
     ghost reads = { ReadsLink };
+
+    ghost asks = { AsksLink };
 
     ghost written = { written_link };
 
@@ -83,7 +85,7 @@ impl Serialize for Link {
 // Reads the key and the value of a link.
 fn read_two(alloc: Global, input: &mut &[u8]) -> Result<(IVec, IVec), Error>
     ensures read { IfOk result (λ pair. ReadsPair ReadsShort ReadsShort input.old.now pair input.new.now) }
-    ensures refused { IfErr result (IsRefusal (ReadsPair ReadsShort ReadsShort) input.old.now) }
+    ensures refused { IfErr result (IsRefusal (AsksPair AsksShort ReadsShort AsksShort) (ReadsPair ReadsShort ReadsShort) input.old.now) }
     ensures stays { OnErr result (input.new ≡ input.old) }
 {
     let mut rest = *input;

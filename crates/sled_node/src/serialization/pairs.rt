@@ -3,16 +3,16 @@
 ghost use Rattle.std.specs.Prelude.{◌≡◌, ◌+◌, ◌*◌, ◌<◌, ◌≤◌, ◌^◌, ◌++◌, [], length, drop, take, IfSome, IfNone, IfOk, IfErr, OnErr};
 ghost use Rattle.std.specs.List.{flat_map, AllByRecursion};
 ghost use Rattle.std.specs.Vec.{vec_capacity};
-ghost use Rattle.sled_node.specs.Payloads.Reading.{ReadsNothing, IsRefusal};
-ghost use Rattle.sled_node.specs.Payloads.ByteStrings.{ReadsBytes, written_bytes, CanWriteBytes};
+ghost use Rattle.sled_base.specs.Payloads.Reading.{ReadsNothing, IsRefusal};
+ghost use Rattle.sled_base.specs.Payloads.ByteStrings.{ReadsBytes, written_bytes, CanWriteBytes};
 ghost use Rattle.sled_node.specs.Payloads.Sequences.{ReadsCount};
-ghost use Rattle.sled_node.specs.Payloads.Pairs.{keys_of, items_of, IsBehindKeys, SplitsPairs, ReadsBoth, ReadsPairs, CanWritePairs, written_pairs};
+ghost use Rattle.sled_node.specs.Payloads.Pairs.{keys_of, items_of, IsBehindKeys, SplitsPairs, AsksPairs, ReadsBoth, ReadsPairs, CanWritePairs, written_pairs};
 
 use super::Serialize;
-use super::bytes::split_bytes;
-use super::numbers::read_u64;
-use super::tuples::write_at;
 use crate::node::MAX_PAIRS;
+use sled_base::serialization::bytes::split_bytes;
+use sled_base::serialization::numbers::read_u64;
+use sled_base::serialization::tuples::write_at;
 use sled_base::{Error, IVec};
 use std::alloc::{AllocError, Global};
 
@@ -22,7 +22,7 @@ const MOST_PAIRS: u64 = MAX_PAIRS as u64;
 pub fn read_pairs<V: Serialize>(alloc: Global, input: &mut &[u8]) -> Result<Vec<(IVec, V)>, Error>
     requires { 1 ≤ V.least_size }
     ensures read { IfOk result (λ pairs. ReadsPairs V.reads input.old.now pairs.items input.new.now) }
-    ensures refused { IfErr result (IsRefusal (ReadsPairs V.reads) input.old.now) }
+    ensures refused { IfErr result (IsRefusal AsksPairs (ReadsPairs V.reads) input.old.now) }
     ensures stays { OnErr result (input.new ≡ input.old) }
 {
     let Some((count, keys, behind)) = split_pairs::<V>(*input) else {
@@ -75,7 +75,7 @@ fn read_both<V: Serialize>(
     requires judged { 2 * count ≤ length keys.now }
     requires behind { IsBehindKeys count keys.now items.old.now }
     ensures read { IfOk result (λ pairs. ReadsBoth V.reads count keys.now items.old.now pairs.items items.new.now) }
-    ensures refused { IfErr result (IsRefusal (ReadsBoth V.reads count keys.now) items.old.now) }
+    ensures refused { IfErr result (IsRefusal (λ _. Unit {0}) (ReadsBoth V.reads count keys.now) items.old.now) }
     ensures stays { OnErr result (items.new ≡ items.old) }
 {
     let mut pairs = room_for(alloc, count, keys)?;

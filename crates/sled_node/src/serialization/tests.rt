@@ -1,8 +1,10 @@
 ghost use Rattle.std.specs.Prelude.{◌<◌, ◌^◌, length};
+ghost use Rattle.sled_node.specs.Payloads.Links.{written_link, CanWriteLink};
 
 use super::*;
 use crate::node::{Data, Index, Leaf, Link, Node};
-use sled_base::{BatchManifest, IVec};
+use sled_base::{Error, IVec};
+use std::alloc::{AllocError, Global};
 use std::num::NonZeroU64;
 use std::process::Abort;
 use std::test::Fail;
@@ -30,23 +32,28 @@ fn expect_read<T: Serialize + PartialEq>(
     Ok(())
 }
 
-// The bytes are the spelling that is written, of the size that is told, and they are read as the value.
-fn expect_spelled<T: Serialize + PartialEq>(
+// The bytes are the spelling that was written, of the size that was told, and they are read as the value.
+fn expect_same<T: Serialize + PartialEq>(
     rt: &impl Abort,
     alloc: Global,
     value: &T,
+    written: &[u8],
+    size: u64,
     bytes: &[u8],
-) -> Result<(), AllocError>
-    requires can_write { T.can_write value.now }
-    requires fits { length (T.written value.now) < 2 ^ 64 }
-{
-    let written = value.serialize(alloc)?;
-    assert!(rt; written.as_slice() == bytes);
-    assert!(rt; value.serialized_size() == bytes.len() as u64);
+) -> Result<(), AllocError> {
+    assert!(rt; written == bytes);
+    assert!(rt; size == bytes.len() as u64);
     expect_read(rt, alloc, bytes, value)
 }
 
-// The same of what a node holds, and of a node: they can always be written.
+fn expect_link(rt: &impl Abort, alloc: Global, link: &Link, bytes: &[u8]) -> Result<(), AllocError>
+    requires can_write { CanWriteLink link.now }
+    requires fits { length (written_link link.now) < 2 ^ 64 }
+{
+    let written = link.serialize(alloc)?;
+    expect_same(rt, alloc, link, &written, link.serialized_size(), bytes)
+}
+
 fn expect_data(
     rt: &impl Abort,
     alloc: Global,
@@ -54,9 +61,7 @@ fn expect_data(
     bytes: &[u8],
 ) -> Result<(), AllocError> {
     let written = data.serialize(alloc)?;
-    assert!(rt; written.as_slice() == bytes);
-    assert!(rt; data.serialized_size() == bytes.len() as u64);
-    expect_read(rt, alloc, bytes, data)
+    expect_same(rt, alloc, data, &written, data.serialized_size(), bytes)
 }
 
 fn expect_node(
@@ -66,9 +71,7 @@ fn expect_node(
     bytes: &[u8],
 ) -> Result<(), AllocError> {
     let written = node.serialize(alloc)?;
-    assert!(rt; written.as_slice() == bytes);
-    assert!(rt; node.serialized_size() == bytes.len() as u64);
-    expect_read(rt, alloc, bytes, node)
+    expect_same(rt, alloc, node, &written, node.serialized_size(), bytes)
 }
 
 // No value is read, and the input stays where it was.
@@ -80,155 +83,17 @@ fn expect_corruption<T: Serialize>(rt: &impl Abort, alloc: Global, bytes: &[u8])
 }
 
 #[test]
-fn unsigned_numbers(rt: HostRuntime) -> Result<(), Fail> {
-    for (number, bytes) in [
-        (0, [0].as_slice()),
-        (240, &[240]),
-        (241, &[241, 1]),
-        (2287, &[248, 255]),
-        (2288, &[249, 0, 0]),
-        (67823, &[249, 255, 255]),
-        (67824, &[250, 240, 8, 1]),
-        (16777215, &[250, 255, 255, 255]),
-        (16777216, &[251, 0, 0, 0, 1]),
-        (u64::MAX, &[255, 255, 255, 255, 255, 255, 255, 255, 255]),
-    ] {
-        expect_spelled::<u64>(&rt, rt.alloc(), &number, bytes)?;
-    }
-    Ok(())
-}
-
-#[test]
-fn longer_spellings_are_read(rt: HostRuntime) -> Result<(), Fail> {
-    for (bytes, number) in [
-        ([241, 0].as_slice(), 240),
-        (&[249, 0, 1], 2289),
-        (&[250, 1, 0, 0], 1),
-        (&[255, 1, 0, 0, 0, 0, 0, 0, 0], 1),
-    ] {
-        expect_read::<u64>(&rt, rt.alloc(), bytes, &number)?;
-    }
-    Ok(())
-}
-
-#[test]
-fn numbers_that_end_too_early(rt: HostRuntime) {
-    for bytes in [
-        [].as_slice(),
-        &[241],
-        &[249, 0],
-        &[250, 1],
-        &[250, 1, 0],
-        &[255, 0, 0, 0, 0, 0, 0, 0],
-    ] {
-        expect_corruption::<u64>(&rt, rt.alloc(), bytes);
-    }
-    expect_corruption::<u32>(&rt, rt.alloc(), &[1, 2, 3]);
-    expect_corruption::<i64>(&rt, rt.alloc(), &[1, 2, 3, 4, 5, 6, 7]);
-    expect_corruption::<BatchManifest>(&rt, rt.alloc(), &[1, 2, 3, 4, 5, 6, 7]);
-    expect_corruption::<u8>(&rt, rt.alloc(), &[]);
-    expect_corruption::<bool>(&rt, rt.alloc(), &[]);
-}
-
-#[test]
-fn numbers_of_a_fixed_size(rt: HostRuntime) -> Result<(), Fail> {
-    expect_spelled::<u32>(&rt, rt.alloc(), &67305985, &[1, 2, 3, 4])?;
-    expect_spelled::<u8>(&rt, rt.alloc(), &255, &[255])?;
-    for (number, bytes) in [
-        (0, [0; 8].as_slice()),
-        (1, &[1, 0, 0, 0, 0, 0, 0, 0]),
-        (-1, &[255; 8]),
-        (-256, &[0, 255, 255, 255, 255, 255, 255, 255]),
-        (i64::MAX, &[255, 255, 255, 255, 255, 255, 255, 127]),
-        (i64::MIN, &[0, 0, 0, 0, 0, 0, 0, 128]),
-    ] {
-        expect_spelled::<i64>(&rt, rt.alloc(), &number, bytes)?;
-    }
-    let manifest = BatchManifest(142);
-    expect_spelled(&rt, rt.alloc(), &manifest, &[142, 0, 0, 0, 0, 0, 0, 0])?;
-    Ok(())
-}
-
-#[test]
-fn truth_values(rt: HostRuntime) -> Result<(), Fail> {
-    expect_spelled(&rt, rt.alloc(), &true, &[1])?;
-    expect_spelled(&rt, rt.alloc(), &false, &[0])?;
-    expect_read(&rt, rt.alloc(), &[7], &true)?;
-    Ok(())
-}
-
-#[test]
-fn numbers_that_may_be_missing(rt: HostRuntime) -> Result<(), Fail> {
-    for (number, bytes) in [
-        (None, [0].as_slice()),
-        (Some(0u64), &[1]),
-        (Some(239), &[240]),
-        (Some(240), &[241, 1]),
-    ] {
-        expect_read(&rt, rt.alloc(), bytes, &number)?;
-    }
-    expect_spelled::<Option<u64>>(&rt, rt.alloc(), &None, &[0])?;
-    expect_spelled(&rt, rt.alloc(), &Some(240u64), &[241, 1])?;
-    for (number, bytes) in [
-        (None, [0; 8].as_slice()),
-        (Some(0i64), &[1, 0, 0, 0, 0, 0, 0, 0]),
-        (Some(-1), &[255; 8]),
-        (Some(i64::MIN), &[0, 0, 0, 0, 0, 0, 0, 128]),
-    ] {
-        expect_read(&rt, rt.alloc(), bytes, &number)?;
-    }
-    expect_spelled::<Option<i64>>(&rt, rt.alloc(), &None, &[0; 8])?;
-    expect_spelled(&rt, rt.alloc(), &Some(-1i64), &[255; 8])?;
-    expect_spelled(&rt, rt.alloc(), &Some(0i64), &[1, 0, 0, 0, 0, 0, 0, 0])?;
-    expect_spelled::<Option<NonZeroU64>>(&rt, rt.alloc(), &None, &[0])?;
-    expect_spelled(&rt, rt.alloc(), &NonZeroU64::new(241), &[241, 1])?;
-    Ok(())
-}
-
-#[test]
-fn pairs_and_triples(rt: HostRuntime) -> Result<(), Fail> {
-    expect_spelled(&rt, rt.alloc(), &(1u8, 241u64), &[1, 241, 1])?;
-    expect_corruption::<(u8, u64)>(&rt, rt.alloc(), &[1, 241]);
-    expect_spelled(&rt, rt.alloc(), &(1u8, (), 2u32), &[1, 2, 0, 0, 0])?;
-    expect_corruption::<(u8, (), u32)>(&rt, rt.alloc(), &[1, 2, 0, 0]);
-    Ok(())
-}
-
-#[test]
-fn the_rest_stays(rt: HostRuntime) -> Result<(), Fail> {
-    let mut input: &[u8] = &[241, 1, 7, 8];
-    assert!(rt; read::<u64>(rt.alloc(), &mut input)? == Some(241));
-    assert!(rt; input == [7, 8].as_slice());
-    let mut out = [9u8; 4];
-    assert!(rt; 241u64.serialize_into(&mut out) == 2);
-    assert!(rt; out.as_slice() == [241, 1, 9, 9].as_slice());
-    Ok(())
-}
-
-#[test]
-fn byte_strings(rt: HostRuntime) -> Result<(), Fail> {
-    expect_spelled(&rt, rt.alloc(), &IVec::default(), &[0])?;
-    let text = IVec::from_slice(rt.alloc(), b"ab")?;
-    expect_spelled(&rt, rt.alloc(), &text, &[2, 97, 98])?;
-    expect_read(&rt, rt.alloc(), &[250, 2, 0, 0, 97, 98], &text)?;
-    for bytes in [[].as_slice(), &[2, 97], &[255; 9]] {
-        expect_corruption::<IVec>(&rt, rt.alloc(), bytes);
-    }
-    Ok(())
-}
-
-#[test]
 fn links(rt: HostRuntime) -> Result<(), Fail> {
     let key = IVec::from_slice(rt.alloc(), &[1])?;
     let value = IVec::from_slice(rt.alloc(), &[2])?;
     let set = Link::Set(key.clone()?, value);
-    expect_spelled(&rt, rt.alloc(), &set, &[0, 1, 1, 1, 2])?;
-    expect_spelled(&rt, rt.alloc(), &Link::Del(key), &[1, 1, 1])?;
+    expect_link(&rt, rt.alloc(), &set, &[0, 1, 1, 1, 2])?;
+    expect_link(&rt, rt.alloc(), &Link::Del(key), &[1, 1, 1])?;
     for (page, bytes) in [(0, [2, 0].as_slice()), (241, &[2, 241, 1])] {
-        expect_spelled(&rt, rt.alloc(), &Link::ParentMergeIntention(page), bytes)?;
+        expect_link(&rt, rt.alloc(), &Link::ParentMergeIntention(page), bytes)?;
     }
-    expect_spelled(&rt, rt.alloc(), &Link::ParentMergeConfirm, &[3])?;
-    expect_spelled(&rt, rt.alloc(), &Link::ChildMergeCap, &[4])?;
+    expect_link(&rt, rt.alloc(), &Link::ParentMergeConfirm, &[3])?;
+    expect_link(&rt, rt.alloc(), &Link::ChildMergeCap, &[4])?;
     Ok(())
 }
 
@@ -248,33 +113,9 @@ fn no_links(rt: HostRuntime) {
     }
 }
 
-// The next value is this number.
-fn expect_number(rt: &impl Abort, values: &mut ConsumeSequence<'_, u64>, number: u64) {
-    assert!(rt; matches!(values.next(), Some(Ok(next)) if next == number));
-}
-
-#[test]
-fn values_to_the_end(rt: HostRuntime) {
-    let mut values = ConsumeSequence::<u64>::new(rt.alloc(), &[1, 241, 1, 2, 241]);
-    expect_number(&rt, &mut values, 1);
-    expect_number(&rt, &mut values, 241);
-    expect_number(&rt, &mut values, 2);
-    assert!(rt; matches!(values.next(), Some(Err(Error::Corruption(None)))));
-    assert!(rt; values.next().is_none());
-    let mut none = ConsumeSequence::<u64>::new(rt.alloc(), &[]);
-    assert!(rt; none.next().is_none());
-}
-
 // Run with the first allocation refused too: none of these asks for any.
 #[test]
 fn a_lie_about_a_length_takes_no_memory(rt: HostRuntime) {
-    for bytes in [
-        [255; 9].as_slice(),
-        &[250, 0, 0, 1, 97],
-        &[255, 255, 255, 255, 255, 255, 255, 255, 127, 97],
-    ] {
-        expect_corruption::<IVec>(&rt, rt.alloc(), bytes);
-    }
     for bytes in [
         [0, 255, 255, 255, 255, 255, 255, 255, 255, 255].as_slice(),
         &[0, 250, 0, 0, 1, 1, 97, 1, 98],

@@ -1,5 +1,5 @@
 use Rattle.std.proofs.Common.{◌<◌, ◌^◌, length, sym, subst, arith}
-use Rattle.sled_node.specs.Payloads.Numbers.{written_u64}
+use Rattle.sled_base.specs.Payloads.Numbers.{written_u64}
 use Rattle.sled_node.specs.Payloads.Pairs.{CanWritePairs, written_pairs}
 use Rattle.sled_node.specs.Payloads.DataLaws.{index_can_write}
 use Rattle.sled_node.proofs.Payloads.Sizes.{index_size}

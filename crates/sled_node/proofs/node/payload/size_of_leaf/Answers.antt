@@ -1,5 +1,5 @@
 use Rattle.std.proofs.Common.{◌<◌, ◌^◌, length, sym, subst, arith}
-use Rattle.sled_node.specs.Payloads.ByteStrings.{written_bytes, CanWriteBytes}
+use Rattle.sled_base.specs.Payloads.ByteStrings.{written_bytes, CanWriteBytes}
 use Rattle.sled_node.specs.Payloads.Pairs.{CanWritePairs, written_pairs}
 use Rattle.sled_node.specs.Payloads.DataLaws.{leaf_can_write}
 use Rattle.sled_node.proofs.Payloads.Sizes.{leaf_size}

@@ -1,5 +1,5 @@
 use Rattle.std.proofs.Common.{sym, subst}
-use Rattle.sled_node.specs.Payloads.ByteStrings.{CanWriteBytes}
+use Rattle.sled_base.specs.Payloads.ByteStrings.{CanWriteBytes}
 use Rattle.sled_node.specs.Payloads.Pairs.{CanWritePairs}
 use Rattle.sled_node.specs.Payloads.DataLaws.{leaf_can_write}
 use Rattle.sled_node.proofs.node.payload.write_leaf.Goals as goal

@@ -1,10 +1,10 @@
 use Rattle.std.proofs.Common.{sym, subst, arith}
 use Rattle.std.proofs.lemmas.Result.{err_from_is_err_and}
-use Rattle.sled_node.specs.Payloads.ByteStrings.{ReadsBytes}
+use Rattle.sled_base.specs.Payloads.ByteStrings.{ReadsBytes, AsksBytes}
 use Rattle.sled_node.specs.Payloads.Sequences.{ReadsAll}
 use Rattle.sled_node.specs.Payloads.SequenceLaws.{ReadsAll-more}
 use Rattle.sled_node.specs.Payloads.Pairs.{keys_of, items_of, ReadsBoth}
-use Rattle.sled_node.proofs.Payloads.Refusals.{refused_so}
+use Rattle.sled_base.proofs.Payloads.Refusals.{refused_so}
 use Rattle.sled_node.proofs.Payloads.PairReads.{keys_more, items_more, length_more, no_key, no_item, both_read}
 use Rattle.sled_node.proofs.serialization.pairs.read_both.Goals as goal
 
@@ -16,7 +16,7 @@ returns-in_err-key-clause-refused g c =
     let keys = c.args.keys.now in
     let input = c.args.items.now.now in
     let rest = c.loop.key_rest.now in
-    rw (p.1, p.2) (refused_so ReadsBytes (ReadsBoth reads c.args.count keys) rest input c.in_err-key.field-0.0 (no_key reads g.met.V.Serialize.grammar c.args.count keys input c.loop.pairs.items (omega (arith, c.loop.invariant.so_many)) rest c.loop.invariant.keys) c.in_err-key.ensures.refused)
+    rw (p.1, p.2) (refused_so AsksBytes (λ _. Unit {0}) ReadsBytes (ReadsBoth reads c.args.count keys) rest input c.in_err-key.field-0.0 (λ _. tt) (no_key reads g.met.V.Serialize.grammar c.args.count keys input c.loop.pairs.items (omega (arith, c.loop.invariant.so_many)) rest c.loop.invariant.keys) c.in_err-key.ensures.refused)
 
 -- nor where the next item isn't
 pub returns-in_err-item-clause-refused : goal.returns-in_err-item-clause-refused
@@ -26,7 +26,7 @@ returns-in_err-item-clause-refused g c =
     let keys = c.args.keys.now in
     let input = c.args.items.now.now in
     let rest = c.loop.item_rest.now in
-    rw (p.1, p.2) (refused_so reads (ReadsBoth reads c.args.count keys) rest input c.in_err-item.field-0.0 (no_item reads g.met.V.Serialize.grammar c.args.count keys input c.loop.pairs.items (omega (arith, c.loop.invariant.so_many)) rest c.loop.invariant.items) c.in_err-item.ensures.refused)
+    rw (p.1, p.2) (refused_so g.V.Serialize.asks (λ _. Unit {0}) reads (ReadsBoth reads c.args.count keys) rest input c.in_err-item.field-0.0 (λ _. tt) (no_item reads g.met.V.Serialize.grammar c.args.count keys input c.loop.pairs.items (omega (arith, c.loop.invariant.so_many)) rest c.loop.invariant.items) c.in_err-item.ensures.refused)
 
 pub loop-preserved : goal.loop-preserved
 loop-preserved g c =

@@ -1,5 +1,5 @@
 use Rattle.std.proofs.Common.{◌≡◌, length}
-use Rattle.sled_node.specs.Payloads.ByteStrings.{ReadsBytes}
+use Rattle.sled_base.specs.Payloads.ByteStrings.{ReadsBytes}
 use Rattle.sled_node.specs.Payloads.Sequences.{ReadsAll}
 use Rattle.sled_node.specs.Payloads.Pairs.{keys_of, items_of}
 use Rattle.sled_node.proofs.serialization.pairs.read_both.Given as goal

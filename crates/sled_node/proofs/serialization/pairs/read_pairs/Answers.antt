@@ -1,6 +1,6 @@
 use Rattle.std.proofs.lemmas.Result.{err_from_is_err_and}
-use Rattle.sled_node.specs.Payloads.Pairs.{ReadsBoth, ReadsPairs}
-use Rattle.sled_node.proofs.Payloads.Refusals.{refused_so}
+use Rattle.sled_node.specs.Payloads.Pairs.{AsksPairs, ReadsBoth, ReadsPairs}
+use Rattle.sled_base.proofs.Payloads.Refusals.{refused_so}
 use Rattle.sled_node.proofs.Payloads.PairReads.{no_both}
 use Rattle.sled_node.proofs.serialization.pairs.read_pairs.Goals as goal
 
@@ -13,4 +13,4 @@ returns-in_err-pairs-clause-refused g c =
     let keys = c.in-Some.keys.now in
     let items = c.in-Some.behind.now in
     let split = c.in-Some.ensures.found in
-    rw (p.1, p.2) (refused_so (ReadsBoth reads count keys) (ReadsPairs reads) items input c.in_err-pairs.field-0.0 (no_both reads g.met.V.Serialize.grammar input count keys split.0 items split.3) c.in_err-pairs.ensures.refused)
+    rw (p.1, p.2) (refused_so (λ _. Unit {0}) AsksPairs (ReadsBoth reads count keys) (ReadsPairs reads) items input c.in_err-pairs.field-0.0 (λ _. (count, keys, items, split)) (no_both reads g.met.V.Serialize.grammar input count keys split.0 items split.3) c.in_err-pairs.ensures.refused)

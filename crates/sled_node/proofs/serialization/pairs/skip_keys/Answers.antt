@@ -1,6 +1,6 @@
 use Rattle.std.proofs.Common.{[], ◌∷◌, ◌++◌, refl, arith}
 use Rattle.std.proofs.lemmas.List.{length_push}
-use Rattle.sled_node.specs.Payloads.ByteStrings.{ReadsBytes}
+use Rattle.sled_base.specs.Payloads.ByteStrings.{ReadsBytes}
 use Rattle.sled_node.specs.Payloads.SequenceLaws.{ReadsAll-more}
 use Rattle.sled_node.proofs.Payloads.PairReads.{no_more_keys}
 use Rattle.sled_node.proofs.serialization.pairs.skip_keys.Goals as goal

@@ -1,6 +1,6 @@
 use Rattle.std.proofs.Common.{◌≡◌, List, length}
 use Rattle.sled_base.specs.Order.{Bytes}
-use Rattle.sled_node.specs.Payloads.ByteStrings.{ReadsBytes}
+use Rattle.sled_base.specs.Payloads.ByteStrings.{ReadsBytes}
 use Rattle.sled_node.specs.Payloads.Sequences.{ReadsAll}
 use Rattle.sled_node.proofs.serialization.pairs.skip_keys.Given as goal
 

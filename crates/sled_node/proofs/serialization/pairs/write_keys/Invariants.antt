@@ -1,6 +1,6 @@
 use Rattle.std.proofs.Common.{◌≡◌, ◌+◌, ◌++◌, length, take, drop}
 use Rattle.std.specs.List.{flat_map, AllByRecursion}
-use Rattle.sled_node.specs.Payloads.ByteStrings.{written_bytes, CanWriteBytes}
+use Rattle.sled_base.specs.Payloads.ByteStrings.{written_bytes, CanWriteBytes}
 use Rattle.sled_node.specs.Payloads.Pairs.{keys_of}
 use Rattle.sled_node.proofs.serialization.pairs.write_keys.Given as goal
 

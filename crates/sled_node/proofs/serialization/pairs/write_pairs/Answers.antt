@@ -1,7 +1,7 @@
 use Rattle.std.proofs.Common.{◌++◌, length}
 use Rattle.std.specs.List.{flat_map}
-use Rattle.sled_node.specs.Payloads.Numbers.{written_u64}
-use Rattle.sled_node.specs.Payloads.ByteStrings.{written_bytes}
+use Rattle.sled_base.specs.Payloads.Numbers.{written_u64}
+use Rattle.sled_base.specs.Payloads.ByteStrings.{written_bytes}
 use Rattle.sled_node.specs.Payloads.Pairs.{keys_of, items_of}
 use Rattle.sled_node.proofs.Payloads.WriteAll.{placed}
 use Rattle.sled_node.proofs.serialization.pairs.write_pairs.Goals as goal

@@ -5,4 +5,4 @@ use Rattle.sledpc.proofs.script.command.leaf_of.Goals as goal
 pub returns : goal.returns
 returns c =
     let has = rw c.in-Some.is at c.in_ok-leaf.ensures in
-    leaf_found c.args.pairs.items c.from_parts.result has.0 (rw (c.default-lo.ensures, c.default-hi.ensures, has.1) at c.from_parts.ensures)
+    leaf_found c.args.pairs.items c.from_parts.result has.value.0 (rw (c.default-lo.ensures, c.default-hi.ensures, has.value.1) at c.from_parts.ensures)

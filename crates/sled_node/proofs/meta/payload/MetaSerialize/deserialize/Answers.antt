@@ -2,10 +2,11 @@ use Rattle.std.specs.Prelude.{◌==◌}
 use Rattle.std.proofs.Common.{length, refl, ap, ◌∙◌}
 use Rattle.std.proofs.lemmas.Result.{err_from_is_err_and}
 use Rattle.sled_node.specs.Meta.{with_root}
-use Rattle.sled_node.specs.Payloads.Roots.{ReadsRoot, ReadsRoots}
+use Rattle.sled_node.specs.Payloads.ShortStrings.{AsksShort}
+use Rattle.sled_node.specs.Payloads.Roots.{ReadsRoot, ReadsRoots, AsksRoots}
 use Rattle.sled_node.proofs.Roots.{fits_with, passes_with}
-use Rattle.sled_node.proofs.Payloads.Refusals.{refused_so}
-use Rattle.sled_node.proofs.Payloads.Roots.{put_more, no_pair, too_many}
+use Rattle.sled_base.proofs.Payloads.Refusals.{refused_so}
+use Rattle.sled_node.proofs.Payloads.Roots.{put_more, no_pair, too_many, asks_so_far, asks_for_name}
 use Rattle.sled_node.proofs.meta.payload.MetaSerialize.deserialize.Goals as goal
 
 -- where bytes are left that are no pair
@@ -14,7 +15,13 @@ returns-in_err-name-clause-refused c =
     let p = err_from_is_err_and c.from_residual.result c.from_residual.ensures.1 in
     let input = c.args.input.now.now in
     let rest = c.loop-alloc.rest.now in
-    rw (p.1, p.2) (refused_so ReadsRoot ReadsRoots rest input c.in_err-name.field-0.0 (no_pair input rest c.loop-alloc.meta c.loop-alloc.invariant.put (λ none. let empty = c.loop-alloc-test.ensures ∙ ap (λ bytes. length bytes == 0) none in absurd cc)) c.in_err-name.ensures.refused)
+    rw (p.1, p.2) (refused_so AsksShort AsksRoots ReadsRoot ReadsRoots rest input c.in_err-name.field-0.0 (asks_so_far input rest c.loop-alloc.meta c.loop-alloc.invariant.put) (no_pair input rest c.loop-alloc.meta c.loop-alloc.invariant.put (λ none. let empty = c.loop-alloc-test.ensures ∙ ap (λ bytes. length bytes == 0) none in absurd cc)) c.in_err-name.ensures.refused)
+
+-- where the name is there, and its page has no room
+pub returns-in_err-set_root-clause-refused : goal.returns-in_err-set_root-clause-refused
+returns-in_err-set_root-clause-refused c =
+    let p = err_from_is_err_and c.from_residual-in_err-set_root.result c.from_residual-in_err-set_root.ensures.1 in
+    rw (p.1, p.2) (asks_for_name c.args.input.now.now c.loop-alloc.rest.now c.read_root.new.input.now c.loop-alloc.meta (c.in_ok-name.name, c.in_ok-name.root) c.loop-alloc.invariant.put c.in_ok-name.ensures.read)
 
 -- where one name more is too many
 pub returns-then-not-has_room-clause-refused : goal.returns-then-not-has_room-clause-refused

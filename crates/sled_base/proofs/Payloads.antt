@@ -1,0 +1,5 @@
+-- Reading and writing payloads.
+pub mod Refusals
+pub mod LowBytes
+pub mod PlainNumber
+pub mod ByteStrings

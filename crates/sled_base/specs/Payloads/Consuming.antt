@@ -1,0 +1,20 @@
+-- Reading values to the end of an input.
+use Rattle.std.specs.Prelude.{◌≡◌, ◌≢◌, ◌⊎◌, ℕ, Bool, true, false, List, [], length, Option, Some, None, Result, Ok, Err, ◌==◌, if◌then◌else◌}
+use Rattle.std.specs.Iterator.{Count, at_most, endless}
+use Rattle.sled_base.specs.declared.types.Error.{Error}
+use Rattle.sled_base.specs.Payloads.Reading.{IsRefusal}
+
+-- what is left of the input, and whether a value was refused
+pub record Consuming : Type 0 where
+  pub rest : List ℕ
+  pub refused : Bool
+
+-- One call: nothing behind a refusal or at the end of the input, else the next value, or its refusal.
+abbrev pub Consumes : {V : Type 0} → (List ℕ → Type 0) → (List ℕ → V → List ℕ → Type 0) → Consuming → Option (Result V Error) → Consuming → Type 0
+Consumes asks reads before None after = ((before.refused ≡ true) ⊎ (before.rest ≡ [])) × (after ≡ before)
+Consumes asks reads before (Some (Ok value)) after = (before.refused ≡ false) × (before.rest ≢ []) × reads before.rest value after.rest × (after.refused ≡ false)
+Consumes asks reads before (Some (Err e)) after = (before.refused ≡ false) × (before.rest ≢ []) × IsRefusal asks reads before.rest e × (after.rest ≡ before.rest) × (after.refused ≡ true)
+
+-- how many values still come: none behind a refusal, else no more than there are bytes; without end where a value may take no byte
+abbrev pub values_left : ℕ → Consuming → Count
+values_left least before = if least == 0 then endless else at_most (if before.refused then 0 else length before.rest)

@@ -1,0 +1,60 @@
+//! Byte strings.
+
+ghost use Rattle.std.specs.Prelude.{◌≡◌, IfSome, IfNone};
+ghost use Rattle.sled_base.specs.Payloads.Reading.{ReadsNothing};
+ghost use Rattle.sled_base.specs.Payloads.ByteStrings.{ReadsBytes, AsksBytes, written_bytes, CanWriteBytes};
+ghost use Rattle.sled_base.specs.Payloads.ByteStringLaws.{Bytes-grammar};
+
+use super::Serialize;
+use super::numbers::read_u64;
+use crate::ivec::IVec;
+use crate::types::Error;
+use std::alloc::Global;
+
+/// The byte string at the front, where it lies, and the rest, or none where none is read. It takes no memory.
+pub fn split_bytes(bytes: &[u8]) -> Option<(&[u8], &[u8])>
+    ensures read { IfSome result (λ x. ReadsBytes bytes.now x.0.now x.1.now) }
+    ensures nothing { IfNone result (ReadsNothing ReadsBytes bytes.now) }
+{
+    let (len, rest) = read_u64(bytes)?;
+    if len > rest.len() as u64 {
+        return None;
+    }
+    Some(rest.split_at(len as usize))
+}
+
+impl Serialize for IVec {
+    ghost reads = { ReadsBytes };
+
+    ghost asks = { AsksBytes };
+
+    ghost written = { written_bytes };
+
+    ghost can_write = { CanWriteBytes };
+
+    ghost least_size = { 1 };
+
+    ghost grammar = { Bytes-grammar };
+
+    fn serialized_size(&self) -> u64 {
+        let len = self.len() as u64;
+        len.serialized_size() + len
+    }
+
+    fn serialize_into(&self, out: &mut [u8]) -> usize {
+        let bytes = self.as_slice();
+        let start = (bytes.len() as u64).serialize_into(out);
+        let end = start + bytes.len();
+        out[start..end].copy_from_slice(bytes);
+        end
+    }
+
+    fn deserialize(alloc: Global, input: &mut &[u8]) -> Result<IVec, Error> {
+        let Some((bytes, rest)) = split_bytes(*input) else {
+            return Err(Error::Corruption(None));
+        };
+        let value = IVec::from_slice(alloc, bytes)?;
+        *input = rest;
+        Ok(value)
+    }
+}

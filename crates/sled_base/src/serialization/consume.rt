@@ -1,0 +1,60 @@
+//! Values to the end of an input.
+
+ghost use Rattle.std.specs.Prelude.{◌≡◌, false};
+
+use super::Serialize;
+use crate::types::Error;
+use std::alloc::Global;
+use std::marker::{Model, PhantomData};
+
+/// Gives the values of an input in order, to its end or to the first refusal, which is the last item.
+///
+/// It ends, unless a value of the type may take no byte.
+#[derive(Drop)]
+pub struct ConsumeSequence<'a, T> {
+    alloc: Global,
+    rest: &'a [u8],
+    refused: bool,
+    of: PhantomData<T>,
+}
+
+impl<'a, T> Model for ConsumeSequence<'a, T> {
+    ghost use Rattle.sled_base.specs.Payloads.Consuming.{Consuming};
+
+    ghost Value = { Consuming };
+
+    ghost view = { λ s. record { rest = s.rest.now; refused = s.refused } };
+}
+
+impl<'a, T: Serialize> ConsumeSequence<'a, T> {
+    /// The values of the input.
+    pub fn new(alloc: Global, input: &'a [u8]) -> ConsumeSequence<'a, T>
+        ensures { result ≡ record { rest = input.now; refused = false } }
+    {
+        ConsumeSequence {
+            alloc,
+            rest: input,
+            refused: false,
+            of: PhantomData,
+        }
+    }
+}
+
+impl<'a, T: Serialize> Iterator for ConsumeSequence<'a, T> {
+    type Item = Result<T, Error>;
+
+    ghost use Rattle.sled_base.specs.Payloads.Consuming.{Consumes, values_left};
+
+    ghost next_gives = { Consumes T.asks T.reads };
+
+    ghost remaining = { values_left T.least_size };
+
+    fn next(&mut self) -> Option<Result<T, Error>> {
+        if self.refused || self.rest.is_empty() {
+            return None;
+        }
+        let result = T::deserialize(self.alloc, &mut self.rest);
+        self.refused = result.is_err();
+        Some(result)
+    }
+}
