@@ -5,4 +5,5 @@ pub mod Bases
 pub mod Kept
 pub mod Order
 pub mod OrderLaws
+pub mod Searches
 pub mod Payloads

@@ -4,6 +4,8 @@
 pub mod ivec;
 mod kept;
 pub mod kinds;
+pub mod prefix;
+pub mod search;
 pub mod serialization;
 pub mod types;
 

@@ -3,6 +3,9 @@ pub mod Places
 pub mod Edits
 pub mod Pages
 pub mod WholeKeys
+pub mod WholePlaces
+pub mod StoredPairs
+pub mod Nearest
 pub mod NodeEdits
 pub mod Merging
 pub mod FromParts
@@ -10,3 +13,12 @@ pub mod NodeEquality
 pub mod Payloads
 pub mod Roots
 pub mod RootEntries
+pub mod Sizes
+pub mod Inserts
+pub mod Children
+pub mod Prefixes
+pub mod Separators
+pub mod Restoring
+pub mod Receiving
+pub mod Parting
+pub mod SplitStored

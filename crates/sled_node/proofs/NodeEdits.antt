@@ -24,11 +24,11 @@ module _ {V : Type 0} (front : Bytes) (make : V → Item) where
   chosen_alike false true x xs ys same rest = absurd cc
   chosen_alike false false x xs ys same rest = rest
 
-  below_under : (key : Bytes) (pairs : List (Bytes × V)) → map made (pairs_below key pairs) ≡ pairs_below (front ++ key) (map made pairs)
+  pub below_under : (key : Bytes) (pairs : List (Bytes × V)) → map made (pairs_below key pairs) ≡ pairs_below (front ++ key) (map made pairs)
   below_under key [] = refl
   below_under key (pair ∷ pairs) = chosen_alike (is_below pair.0 key) (is_below (front ++ pair.0) (front ++ key)) pair (pairs_below key pairs) (pairs_below (front ++ key) (map made pairs)) (ap is_lt (sym (under_one_front front pair.0 key))) (below_under key pairs)
 
-  above_under : (key : Bytes) (pairs : List (Bytes × V)) → map made (pairs_above key pairs) ≡ pairs_above (front ++ key) (map made pairs)
+  pub above_under : (key : Bytes) (pairs : List (Bytes × V)) → map made (pairs_above key pairs) ≡ pairs_above (front ++ key) (map made pairs)
   above_under key [] = refl
   above_under key (pair ∷ pairs) = chosen_alike (is_below key pair.0) (is_below (front ++ key) (front ++ pair.0)) pair (pairs_above key pairs) (pairs_above (front ++ key) (map made pairs)) (ap is_lt (sym (under_one_front front key pair.0))) (above_under key pairs)
 

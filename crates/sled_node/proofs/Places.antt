@@ -51,9 +51,14 @@ is_below_itself a = not_below (bytes_cmp a a) (not_below_itself a)
 
 module _ {V : Type 0} (key : Bytes) where
   -- all of the pairs are above
-  all_above : (pairs : List (Bytes × V)) → AllByRecursion (λ pair. IsBelow key pair.0) pairs → (pairs_below key pairs ≡ []) × (pairs_above key pairs ≡ pairs)
+  pub all_above : (pairs : List (Bytes × V)) → AllByRecursion (λ pair. IsBelow key pair.0) pairs → (pairs_below key pairs ≡ []) × (pairs_above key pairs ≡ pairs)
   all_above pairs h =
       (filter_none (λ pair. is_below pair.0 key) pairs (all_so (λ pair lt. is_below_false key pair.0 lt) pairs h), filter_all (λ pair. is_below key pair.0) pairs (all_so (λ pair lt. is_below_true key pair.0 lt) pairs h))
+
+  -- all of the pairs are below
+  pub all_below : (pairs : List (Bytes × V)) → AllByRecursion (λ pair. IsBelow pair.0 key) pairs → (pairs_below key pairs ≡ pairs) × (pairs_above key pairs ≡ [])
+  all_below pairs h =
+      (filter_all (λ pair. is_below pair.0 key) pairs (all_so (λ pair lt. is_below_true pair.0 key lt) pairs h), filter_none (λ pair. is_below key pair.0) pairs (all_so (λ pair lt. is_below_false pair.0 key lt) pairs h))
 
   -- the first pair is below
   past : (pair : Bytes × V) (pairs : List (Bytes × V)) → IsBelow pair.0 key → (pairs_below key (pair ∷ pairs) ≡ pair ∷ pairs_below key pairs) × (pairs_above key (pair ∷ pairs) ≡ pairs_above key pairs)
@@ -105,6 +110,11 @@ module _ {V : Type 0} (key : Bytes) where
     pub search_found : (r : Result ℕ ℕ) → IsSearchInRange r (length pairs) → IsBinarySearchResult (λ pair. bytes_cmp pair.0 key) pairs r → IfOk r (StandsAt pairs key)
     search_found (Ok i) bound found = stands pairs i rising bound (λ d. equal_is_same (get_or pairs i d).0 key (found d))
     search_found (Err i) bound found = tt
+
+    -- whose key it is
+    pub search_same : (r : Result ℕ ℕ) → IsSearchInRange r (length pairs) → IsBinarySearchResult (λ pair. bytes_cmp pair.0 key) pairs r → IfOk r (HoldsAt (λ pair. pair.0 ≡ key) pairs)
+    search_same (Ok i) bound found = λ d. equal_is_same (get_or pairs i d).0 key (found d)
+    search_same (Err i) bound found = tt
 
     -- and where it finds none
     pub search_missing : (r : Result ℕ ℕ) → IsSearchInRange r (length pairs) → IsBinarySearchResult (λ pair. bytes_cmp pair.0 key) pairs r → IfErr r (IsGap pairs key)

@@ -18,7 +18,7 @@ all_at P [] j d h lt = absurd (omega arith)
 all_at P (x ∷ xs) zero d h lt = h.0
 all_at P (x ∷ xs) (suc j) d h lt = all_at P xs j d h.1 (omega arith)
 
-all_at_front : {X : Type 0} (P : X → Type 0) (xs : List X) (j : ℕ) (d : X) → AllByRecursion P (take (suc j) xs) → j < length xs → P (get_or xs j d)
+pub all_at_front : {X : Type 0} (P : X → Type 0) (xs : List X) (j : ℕ) (d : X) → AllByRecursion P (take (suc j) xs) → j < length xs → P (get_or xs j d)
 all_at_front P [] j d h lt = absurd (omega arith)
 all_at_front P (x ∷ xs) zero d h lt = h.0
 all_at_front P (x ∷ xs) (suc j) d h lt = all_at_front P xs j d h.1 (omega arith)

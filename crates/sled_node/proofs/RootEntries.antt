@@ -17,7 +17,7 @@ use Rattle.sled_base.specs.OrderLaws.{equal_is_same, below_is_above, above_is_be
 use Rattle.sled_node.specs.Equality.{same_pairs}
 use Rattle.sled_node.specs.Pairs.{IsRising, pairs_below, pairs_above}
 use Rattle.sled_node.specs.Meta.{Roots, named, is_name, root_of, with_root, without_root}
-use Rattle.sled_node.proofs.Places.{all_so}
+use Rattle.sled_node.proofs.Places.{all_so, all_above}
 
 abbrev pub Entries : Type 0
 Entries = List (Vec ℕ × ℕ)
@@ -35,27 +35,18 @@ looked_up name (entry ∷ entries) = ap (cond (is_name name entry.0.items) (Some
 -- ---- edits of rising names
 
 module _ (name : Bytes) where
-  -- all of the names are above
-  all_above : (roots : Roots) → AllByRecursion (λ pair. IsBelow name pair.0) roots → (pairs_below name roots ≡ []) × (pairs_above name roots ≡ roots)
-  all_above [] above = (refl, refl)
-  all_above (pair ∷ roots) above =
-      let others = all_above roots above.1 in
-      let here : is_below name pair.0 ≡ true = ap is_lt above.0 in
-      let there : is_below pair.0 name ≡ false = ap is_lt (below_is_above name pair.0 above.0) in
-      (rw there others.0, rw here (ap (λ rest. pair ∷ rest) others.1))
-
   module _ (pair : Bytes × ℕ) (roots : Roots) (rising : IsRising (pair ∷ roots)) where
     -- the first name is above, and so all of them
     above_first : IsBelow name pair.0 → (pairs_below name (pair ∷ roots) ≡ []) × (pairs_above name (pair ∷ roots) ≡ pair ∷ roots)
-    above_first lt = all_above (pair ∷ roots) (lt, all_so (λ later more. below_trans name pair.0 later.0 lt more) roots rising.0)
+    above_first lt = all_above name (pair ∷ roots) (lt, all_so (λ later more. below_trans name pair.0 later.0 lt more) roots rising.0)
 
     above_others : IsBelow name pair.0 → (pairs_below name roots ≡ []) × (pairs_above name roots ≡ roots)
-    above_others lt = all_above roots (all_so (λ later more. below_trans name pair.0 later.0 lt more) roots rising.0)
+    above_others lt = all_above name roots (all_so (λ later more. below_trans name pair.0 later.0 lt more) roots rising.0)
 
     -- the first name is that one, and so the others are above
     at_first : name ≡ pair.0 → (pairs_below name (pair ∷ roots) ≡ []) × (pairs_above name (pair ∷ roots) ≡ roots)
     at_first same =
-        let others = all_above roots (subst (λ k. AllByRecursion (λ later. IsBelow k later.0) roots) (sym same) rising.0) in
+        let others = all_above name roots (subst (λ k. AllByRecursion (λ later. IsBelow k later.0) roots) (sym same) rising.0) in
         let here : is_below name pair.0 ≡ false = ap (is_below name) (sym same) ∙ ap is_lt (tied_itself nat_list_cmp_total name) in
         let there : is_below pair.0 name ≡ false = ap (λ k. is_below k name) (sym same) ∙ ap is_lt (tied_itself nat_list_cmp_total name) in
         (rw there others.0, rw here others.1)

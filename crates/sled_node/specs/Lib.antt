@@ -7,3 +7,12 @@ pub mod Meta
 pub mod MetaLaws
 pub mod Parts
 pub mod Payloads
+pub mod Lookups
+pub mod Neighbours
+pub mod Sizes
+pub mod Contents
+pub mod Bounds
+pub mod Inserts
+pub mod Children
+pub mod Splitting
+pub mod Restoring

@@ -11,12 +11,21 @@ ghost use Rattle.sled_node.specs.Pairs.{IsWithinLimit};
 ghost use Rattle.sled_node.specs.Parts.{node_of, HoldsData, item_of};
 ghost use Rattle.sled_node.specs.declared.node.link.Link.TheVariants.{Set, Del, ParentMergeConfirm};
 
+mod bounds;
+mod children;
+mod contents;
 mod data;
 mod leaf;
 mod link;
+mod lookups;
+mod merge;
+mod neighbours;
 mod pairs;
 mod parts;
 mod payload;
+mod sizes;
+mod split;
+mod stored;
 
 pub use data::{Data, Index, Item};
 pub use leaf::Leaf;

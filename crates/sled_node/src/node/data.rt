@@ -1,16 +1,17 @@
 //! What a node holds: a leaf's values, or an index's pages.
 
-ghost use Rattle.std.specs.Prelude.{◌≡◌, ◌↔◌, ◌==◌, ◌<◌, ◌^◌, [], length, position, Some, IsTrue, IfOk, IsOk, OnOk, OnErr, Any, nat_eq, slice_get};
+ghost use Rattle.std.specs.Prelude.{◌≡◌, ◌↔◌, ◌⊎◌, ◌==◌, ◌<◌, ◌^◌, [], length, position, Some, IsTrue, IfOk, IsOk, OnOk, OnErr, Any, nat_eq, slice_get};
 ghost use Rattle.std.specs.Cmp.{partial_equiv_from_equiv};
 ghost use Rattle.std.specs.Option.{SomeIff};
 ghost use Rattle.std.specs.List.{AllByRecursion};
-ghost use Rattle.sled_node.specs.Pairs.{HasPairs};
+ghost use Rattle.sled_node.specs.Pairs.{IsWithinLimit, IsRising, HasPairs, set_pair};
+ghost use Rattle.sled_node.specs.Inserts.{HasKey, inserted};
 ghost use Rattle.sled_node.specs.Equality.{same_pairs, index_equiv};
 ghost use Rattle.sled_node.specs.Parts.{CanSet, set_stored, del_stored, LeadsTo, without_page, without_stored};
 
 use super::MAX_PAIRS;
 use super::leaf::Leaf;
-use super::pairs::{are_rising, are_short};
+use super::pairs::{are_rising, are_short, place_of};
 use sled_base::{IVec, PageId};
 use std::alloc::{AllocError, Global};
 use std::marker::Model;
@@ -87,6 +88,35 @@ impl Index {
         &self.pairs
     }
 
+    // An index of pairs that have what every index keeps.
+    pub(super) fn of(pairs: Vec<(IVec, PageId)>) -> Index
+        requires { HasPairs (λ page. page < 2 ^ 64) pairs.items }
+        ensures { result ≡ pairs.items }
+    {
+        Index { pairs }
+    }
+
+    // Puts the pair in, unless the key is there, and answers whether it was put in.
+    pub(super) fn insert(&mut self, key: &[u8], page: PageId) -> Result<bool, AllocError>
+        requires limit { IsWithinLimit key.now }
+        requires room { (length self.old < 2 ^ 24) ⊎ HasKey self.old key.now }
+        ensures new { IfOk result (λ is_new. IsTrue is_new ↔ (HasKey self.old key.now → ⊥)) }
+        ensures value { IfOk result (λ is_new. self.new ≡ inserted is_new (set_pair key.now page self.old) self.old) }
+        ensures there { HasKey self.old key.now → IsOk result }
+        ensures err { OnErr result (self.new ≡ self.old) }
+    {
+        let is_new = insert_in(&mut self.pairs, key, page)?;
+        Ok(is_new)
+    }
+
+    // The pairs, given out.
+    pub(super) fn into_pairs(self) -> Vec<(IVec, PageId)>
+        ensures { result.items ≡ self }
+    {
+        let Index { pairs } = self;
+        pairs
+    }
+
     pub(super) fn leads_to(&self, page: PageId) -> bool
         ensures { IsTrue result ↔ Any (λ pair. pair.1 ≡ page) self.now }
     {
@@ -124,6 +154,22 @@ fn remove_from(pairs: &mut Vec<(IVec, PageId)>, page: PageId)
     if let Some(at) = first_to(pairs, page) {
         pairs.remove(at);
     }
+}
+
+// Puts the pair in, unless the key is there, and answers whether it was put in.
+fn insert_in(pairs: &mut Vec<(IVec, PageId)>, key: &[u8], page: PageId) -> Result<bool, AllocError>
+    requires { IsRising pairs.old.items }
+    ensures new { IfOk result (λ is_new. IsTrue is_new ↔ (HasKey pairs.old.items key.now → ⊥)) }
+    ensures value { IfOk result (λ is_new. pairs.new.items ≡ inserted is_new (set_pair key.now page pairs.old.items) pairs.old.items) }
+    ensures there { HasKey pairs.old.items key.now → IsOk result }
+    ensures err { OnErr result (pairs.new.items ≡ pairs.old.items) }
+{
+    let Err(at) = place_of(pairs, key) else {
+        return Ok(false);
+    };
+    let key = IVec::from_slice(*pairs.allocator(), key)?;
+    pairs.insert(at, (key, page))?;
+    Ok(true)
 }
 
 // Where the first pair stands that leads to the page.

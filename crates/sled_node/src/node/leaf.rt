@@ -79,6 +79,22 @@ impl Leaf {
         &self.pairs
     }
 
+    // A leaf of pairs that have what every leaf keeps.
+    pub(super) fn of(pairs: Vec<(IVec, IVec)>) -> Leaf
+        requires { HasPairs IsWithinLimit pairs.items }
+        ensures { result ≡ pairs.items }
+    {
+        Leaf { pairs }
+    }
+
+    // The pairs, given out.
+    pub(super) fn into_pairs(self) -> Vec<(IVec, IVec)>
+        ensures { result.items ≡ self }
+    {
+        let Leaf { pairs } = self;
+        pairs
+    }
+
     // Whether there is room for a pair with this key.
     pub(super) fn has_room(&self, key: &[u8]) -> bool
         ensures { IsTrue result ↔ (length (set_pair key.now [] self.now) ≤ 2 ^ 24) }

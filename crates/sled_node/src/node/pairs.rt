@@ -1,7 +1,7 @@
 //! Pairs of a key and an item, in the order of their keys.
 
 ghost use Rattle.std.specs.Prelude.{◌≡◌, ◌↔◌, IsTrue, IfOk, IfErr, OnOk, OnErr};
-ghost use Rattle.std.specs.List.{AllByRecursion};
+ghost use Rattle.std.specs.List.{AllByRecursion, HoldsAt};
 ghost use Rattle.sled_base.specs.Order.{IsBelow};
 ghost use Rattle.sled_node.specs.Pairs.{IsWithinLimit, IsRising, StandsAt, IsGap, set_pair, del_pair};
 
@@ -20,6 +20,7 @@ pub fn is_below(left: &[u8], right: &[u8]) -> bool
 pub fn place_of<V>(pairs: &[(IVec, V)], key: &[u8]) -> Result<usize, usize>
     requires { IsRising pairs.now }
     ensures found { IfOk result (StandsAt pairs.now key.now) }
+    ensures same { IfOk result (HoldsAt (λ pair. pair.0 ≡ key.now) pairs.now) }
     ensures missing { IfErr result (IsGap pairs.now key.now) }
 {
     pairs.binary_search_by(|pair| pair.0.as_slice().cmp(&key))

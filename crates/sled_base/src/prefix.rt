@@ -1,0 +1,91 @@
+//! Keys without the prefix that they share, and searches in sorted slices of keys.
+
+ghost use Rattle.std.specs.Prelude.{◌≡◌, ◌≢◌, ◌+◌, ◌≤◌, ◌++◌, [], length, drop, All, IfOk, IfErr, IfSome, IfNone, IsOk, OnErr};
+ghost use Rattle.sled_base.specs.declared.ivec.TheConstants.{CUTOFF};
+ghost use Rattle.sled_base.specs.Order.{bytes_cmp, IsBelow};
+ghost use Rattle.sled_base.specs.Searches.{IsSorted, IsLastAtMost, IsLastEqual, count_below};
+
+use crate::ivec::{CUTOFF, IVec};
+use crate::search::{last_at_most, last_equal};
+use std::alloc::{AllocError, Global};
+use std::cmp::Ordering;
+
+/// No bytes. It takes no memory.
+pub fn empty() -> IVec
+    ensures { result ≡ [] }
+{
+    IVec::default()
+}
+
+/// The whole key: the prefix and then the key that is kept without it. Up to [`CUTOFF`] bytes take no memory.
+pub fn decode(alloc: Global, prefix: &[u8], key: &[u8]) -> Result<IVec, AllocError>
+    ensures ok { IfOk result (λ whole. whole ≡ prefix.now ++ key.now) }
+    ensures few { length (prefix.now ++ key.now) ≤ CUTOFF → IsOk result }
+{
+    let len = prefix.len() + key.len();
+    if len <= CUTOFF {
+        return decode_few(alloc, prefix, key);
+    }
+    let mut whole = Vec::with_capacity(alloc, len)?;
+    whole.extend_from_slice(prefix)?;
+    whole.extend_from_slice(key)?;
+    IVec::from_vec(alloc, whole)
+}
+
+// The same for so few bytes that they take no memory.
+fn decode_few(alloc: Global, prefix: &[u8], key: &[u8]) -> Result<IVec, AllocError>
+    requires { length prefix.now + length key.now ≤ CUTOFF }
+    ensures ok { IfOk result (λ whole. whole ≡ prefix.now ++ key.now) }
+    ensures few { IsOk result }
+{
+    let len = prefix.len() + key.len();
+    let mut whole = [0u8; CUTOFF];
+    whole[..prefix.len()].copy_from_slice(prefix);
+    whole[prefix.len()..len].copy_from_slice(key);
+    IVec::from_slice(alloc, &whole[..len])
+}
+
+/// The whole key without its first `n` bytes, as it is kept under a prefix of so many. It is empty if there are fewer.
+///
+/// Up to [`CUTOFF`] bytes take no memory.
+pub fn reencode(alloc: Global, prefix: &[u8], key: &[u8], n: usize) -> Result<IVec, AllocError>
+    ensures ok { IfOk result (λ rest. rest ≡ drop n (prefix.now ++ key.now)) }
+    ensures few { length (drop n (prefix.now ++ key.now)) ≤ CUTOFF → IsOk result }
+{
+    let front = n.min(prefix.len());
+    let back = (n - front).min(key.len());
+    decode(alloc, &prefix[front..], &key[back..])
+}
+
+/// How the first bytes stand to the second: the first byte that differs decides, else the shorter is less.
+pub fn fastcmp(l: &[u8], r: &[u8]) -> Ordering
+    ensures { result ≡ bytes_cmp l.now r.now }
+{
+    l.cmp(&r)
+}
+
+/// The greatest place whose item equals the key. Where none does, the error is how many items are below the key.
+///
+/// The items are sorted, and there may be doubles.
+pub fn binary_search(key: &[u8], s: &[IVec]) -> Result<usize, usize>
+    requires { IsSorted s.now }
+    ensures found { IfOk result (IsLastEqual key.now s.now) }
+    ensures missing { OnErr result (All (λ item. item ≢ key.now) s.now) }
+    ensures below { IfErr result (λ n. n ≡ count_below key.now s.now) }
+{
+    last_equal(key, s)
+}
+
+/// The greatest place whose item isn't above the key, or None where every item is above.
+///
+/// The items are sorted, and there may be doubles.
+pub fn binary_search_lub(key: &[u8], s: &[IVec]) -> Option<usize>
+    requires { IsSorted s.now }
+    ensures found { IfSome result (IsLastAtMost key.now s.now) }
+    ensures none { IfNone result (All (IsBelow key.now) s.now) }
+{
+    last_at_most(key, s)
+}
+
+#[cfg(test)]
+mod tests;

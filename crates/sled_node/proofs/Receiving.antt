@@ -1,0 +1,93 @@
+-- A node that has taken in its right neighbour is well-formed.
+use Rattle.std.proofs.Common.{◌≡◌, ℕ, Bool, [], ◌∷◌, ◌++◌, take, Option, refl, sym, ap, subst, ◌∙◌, arith}
+use Rattle.std.specs.List.{AllByRecursion}
+use Rattle.std.proofs.lemmas.List.{length-append}
+use Rattle.sled_base.specs.Order.{Bytes, IsBelow}
+use Rattle.sled_base.specs.OrderLaws.{below_trans}
+use Rattle.sled_node.specs.declared.node.data.Data.{Data}
+use Rattle.sled_node.specs.Pairs.{IsWithinLimit}
+use Rattle.sled_node.specs.Node.{WholeNode, IsInRange, IsWellFormed, ItemFits}
+use Rattle.sled_node.specs.Parts.{is_index, pairs_under, node_of, HasStored}
+use Rattle.sled_node.specs.Splitting.{own_prefix, CanReceive, merged}
+use Rattle.sled_node.specs.Restoring.{restored_data, joined_data}
+use Rattle.sled_node.proofs.Edits.{all_append, rising_append}
+use Rattle.sled_node.proofs.Places.{all_so}
+use Rattle.sled_node.proofs.Prefixes.{common_front, shares}
+use Rattle.sled_node.proofs.Separators.{below_most, below_is_most}
+use Rattle.sled_node.proofs.Restoring.{Share, all_parts, stored_from, restored_under, joined_under, restored_kind, joined_kind}
+
+-- the prefix length of a node's own bounds
+pub own_open : (lo hi : Bytes) → hi ≡ [] → own_prefix lo hi ≡ 0
+own_open [] hi none = refl
+own_open (x ∷ lo) [] none = refl
+own_open (x ∷ lo) (y ∷ hi) none = absurd cc
+
+pub own_common : (lo hi : Bytes) → take (own_prefix lo hi) lo ≡ take (own_prefix lo hi) hi
+own_common lo hi = common_front (own_prefix lo hi) lo hi (omega arith)
+
+-- the keys of a well-formed node have its own prefix
+pub share_own : (n : WholeNode) → IsWellFormed n → Share (own_prefix n.lo n.hi) n.lo n.pairs
+share_own n formed = all_so (λ pair inside. shares n.lo n.hi pair.0 inside.0 inside.1) n.pairs formed.in_range
+
+module _ (l r : WholeNode) (left : IsWellFormed l) (right : IsWellFormed r) (can : CanReceive l r) where
+  keys_low : AllByRecursion (λ pair. IsBelow pair.0 r.lo) l.pairs
+  keys_low = all_so (λ pair inside. subst (IsBelow pair.0) can.meet (inside.1 can.bounded)) l.pairs left.in_range
+
+  low : IsBelow l.lo r.lo
+  low = subst (IsBelow l.lo) can.meet (left.range can.bounded)
+
+  kind : r.is_index ≡ l.is_index
+  kind = sym can.kind
+
+  merged_formed : IsWellFormed (merged l r)
+  merged_formed = record {
+    range = λ some. below_trans l.lo r.lo r.hi low (right.range some);
+    prefix_byte = omega arith;
+    prefix_open = own_open l.lo r.hi;
+    prefix_common = own_common l.lo r.hi;
+    rising = rising_append l.pairs r.pairs left.rising right.rising
+        (all_so (λ pair lt. all_so (λ later inside. below_most pair.0 r.lo later.0 lt inside.0) r.pairs right.in_range) l.pairs keys_low);
+    in_range = all_append (λ pair. IsInRange (merged l r) pair.0) l.pairs r.pairs
+        (all_so (λ pair inside. (inside.0, λ some. below_trans pair.0 r.lo r.hi (subst (IsBelow pair.0) can.meet (inside.1 can.bounded)) (right.range some))) l.pairs left.in_range)
+        (all_so (λ pair inside. (below_is_most l.lo pair.0 (below_most l.lo r.lo pair.0 low inside.0), inside.1)) r.pairs right.in_range);
+    few = omega (arith, can.few, length-append l.pairs r.pairs);
+    bounds = (left.bounds.0, right.bounds.1);
+    keys = all_append (λ pair. IsWithinLimit pair.0) l.pairs r.pairs left.keys right.keys;
+    items = all_append (λ pair. ItemFits l.is_index pair.1) l.pairs r.pairs left.items (subst (λ b. AllByRecursion (λ pair. ItemFits b pair.1) r.pairs) kind right.items);
+    pages = (right.pages.0, left.pages.1);
+  }
+
+-- ---- stored keys
+
+module _ (p q : ℕ) (next_l next_r child_l child_r : Option ℕ) (capped_l capped_r : Bool) (lo mid low hi : Bytes) (left right : Data) where
+  abbrev left_node : WholeNode
+  left_node = node_of p next_l child_l capped_l lo mid left
+
+  abbrev right_node : WholeNode
+  right_node = node_of q next_r child_r capped_r low hi right
+
+  abbrev own : ℕ
+  own = own_prefix lo hi
+
+  abbrev joined : Data
+  joined = joined_data (restored_data (take p lo) own left) (restored_data (take q low) own right)
+
+  module _ (left_formed : IsWellFormed left_node) (right_formed : IsWellFormed right_node) (can : CanReceive left_node right_node) where
+    joined_pairs : pairs_under (take own lo) joined ≡ pairs_under (take p lo) left ++ pairs_under (take q low) right
+    joined_pairs =
+        let share = all_parts _ (pairs_under (take p lo) left) (pairs_under (take q low) right) (share_own (merged left_node right_node) (merged_formed left_node right_node left_formed right_formed can)) in
+        let kinds = restored_kind (take p lo) own left ∙ can.kind ∙ sym (restored_kind (take q low) own right) in
+        joined_under own lo (restored_data (take p lo) own left) (restored_data (take q low) own right) kinds
+        ∙ ap (λ ps. ps ++ pairs_under (take own lo) (restored_data (take q low) own right)) (restored_under own lo (take p lo) left share.0)
+        ∙ ap (λ ps. pairs_under (take p lo) left ++ ps) (restored_under own lo (take q low) right share.1)
+
+    pub joined_node : node_of own next_r child_l capped_l lo hi joined ≡ merged left_node right_node
+    joined_node =
+        let kind : is_index joined ≡ is_index left = joined_kind (restored_data (take p lo) own left) (restored_data (take q low) own right) ∙ restored_kind (take p lo) own left in
+        (λ i. record (merged left_node right_node) { is_index = kind i; pairs = joined_pairs i })
+
+    pub joined_formed : IsWellFormed (node_of own next_r child_l capped_l lo hi joined)
+    joined_formed = subst IsWellFormed (sym joined_node) (merged_formed left_node right_node left_formed right_formed can)
+
+    pub joined_stored : HasStored joined
+    joined_stored = stored_from own next_r child_l capped_l lo hi joined joined_formed

@@ -1,0 +1,128 @@
+//! The children of an index: which one a key leads to, and how they come to be there.
+
+ghost use Rattle.std.specs.Prelude.{◌≡◌, ◌≢◌, ◌↔◌, ◌⊎◌, ◌<◌, ◌^◌, [], ◌∷◌, true, length, map, IsTrue, IfOk, IsOk, OnErr};
+ghost use Rattle.sled_node.specs.Pairs.{IsWithinLimit, IsRising, HasPairs};
+ghost use Rattle.sled_node.specs.Node.{IsInRange, Child};
+ghost use Rattle.sled_node.specs.Inserts.{HasKey, inserted};
+ghost use Rattle.sled_node.specs.Children.{index_of, BeginsAtMost, HasChildFor, IsLastAtMost, with_child};
+
+use super::pairs::is_below;
+use super::{Data, Index, Node};
+use sled_base::{IVec, PageId};
+use std::alloc::{AllocError, Global};
+
+impl Node {
+    /// An index over all keys, which leads to one child. An error means that memory for it is wanting.
+    pub fn new_root(alloc: Global, child: PageId) -> Result<Node, AllocError>
+        ensures { IfOk result (λ root. root ≡ index_of (([], Child child) ∷ [])) }
+    {
+        let pairs = vec![in alloc; (IVec::default(), child)]?;
+        Ok(index_over_all(pairs))
+    }
+
+    /// An index over all keys, which leads to one child below a key and to another from it on.
+    ///
+    /// The key isn't empty and is within the limit. An error means that memory for the index is wanting.
+    pub fn new_hoisted_root(
+        alloc: Global,
+        left: PageId,
+        at: IVec,
+        right: PageId,
+    ) -> Result<Node, AllocError>
+        requires some { at ≢ [] }
+        requires limit { IsWithinLimit at }
+        ensures { IfOk result (λ root. root ≡ index_of (([], Child left) ∷ (at, Child right) ∷ [])) }
+    {
+        let pairs = vec![in alloc; (IVec::default(), left), (at, right)]?;
+        Ok(index_over_all(pairs))
+    }
+
+    /// Whether this is an index with the key in its range, and the first whole key isn't above it.
+    pub fn has_child_for(&self, key: &[u8]) -> bool
+        ensures { IsTrue result ↔ HasChildFor self.now key.now }
+    {
+        match &self.contents {
+            Data::Leaf(_) => false,
+            Data::Index(index) => {
+                self.contains_key(key) && begins_at_most(index.pairs(), self.without_prefix(key))
+            }
+        }
+    }
+
+    /// The place of the last pair whose whole key isn't above the key, and the page that it leads to.
+    ///
+    /// It takes a node that [`has_child_for`](Node::has_child_for) the key.
+    pub fn index_next_node(&self, key: &[u8]) -> (usize, PageId)
+        requires { HasChildFor self.now key.now }
+        ensures { IsLastAtMost self.now.pairs key.now result.0 (Child result.1) }
+    {
+        match &self.contents {
+            Data::Leaf(_) => unreachable!(),
+            Data::Index(index) => last_at_most(index.pairs(), self.without_prefix(key)),
+        }
+    }
+
+    /// Leads from the key on to another child, and answers true; where the index has the key it stays as it is, and the
+    /// answer is false.
+    ///
+    /// The key is whole, in the range and within the limit, and there is room for it: the index has it, or fewer than
+    /// [`MAX_PAIRS`](super::MAX_PAIRS) pairs. A refusal for want of memory leaves the node as it was; a key that is there
+    /// takes no memory.
+    pub fn parent_split(&mut self, at: &[u8], to: PageId) -> Result<bool, AllocError>
+        requires index { self.old.is_index ≡ true }
+        requires range { IsInRange self.old at.now }
+        requires limit { IsWithinLimit at.now }
+        requires room { (length self.old.pairs < 2 ^ 24) ⊎ HasKey self.old.pairs at.now }
+        ensures new { IfOk result (λ is_new. IsTrue is_new ↔ (HasKey self.old.pairs at.now → ⊥)) }
+        ensures value { IfOk result (λ is_new. self.new ≡ inserted is_new (with_child at.now to self.old) self.old) }
+        ensures there { HasKey self.old.pairs at.now → IsOk result }
+        ensures err { OnErr result (self.new ≡ self.old) }
+    {
+        let stored = self.without_prefix(at);
+        let Data::Index(index) = &mut self.contents else {
+            unreachable!()
+        };
+        let is_new = index.insert(stored, to)?;
+        Ok(is_new)
+    }
+}
+
+// The index of these pairs, over all keys.
+fn index_over_all(pairs: Vec<(IVec, PageId)>) -> Node
+    requires { HasPairs (λ page. page < 2 ^ 64) pairs.items }
+    ensures { result ≡ index_of (map (λ pair. (pair.0, Child pair.1)) pairs.items) }
+{
+    Node {
+        prefix_len: 0,
+        next: None,
+        merging_child: None,
+        merging: false,
+        lo: IVec::default(),
+        hi: IVec::default(),
+        contents: Data::Index(Index::of(pairs)),
+    }
+}
+
+// Whether there is a first pair, and its key isn't above.
+fn begins_at_most(pairs: &[(IVec, PageId)], key: &[u8]) -> bool
+    ensures { IsTrue result ↔ BeginsAtMost pairs.now key.now }
+{
+    match pairs.first() {
+        None => false,
+        Some(pair) => !is_below(key, pair.0.as_slice()),
+    }
+}
+
+// The place of the last pair whose key isn't above, and the page that it leads to.
+fn last_at_most(pairs: &[(IVec, PageId)], key: &[u8]) -> (usize, PageId)
+    requires rising { IsRising pairs.now }
+    requires begins { BeginsAtMost pairs.now key.now }
+    ensures { IsLastAtMost pairs.now key.now result.0 result.1 }
+{
+    let count = pairs.partition_point(|pair| !is_below(key, pair.0.as_slice()));
+    let last = count - 1;
+    (last, pairs[last].1)
+}
+
+#[cfg(test)]
+mod tests;

@@ -1,0 +1,116 @@
+//! Looking whole keys up in a leaf.
+
+ghost use Rattle.std.specs.Prelude.{◌≡◌, ◌<◌, false, take, drop, length, Some, IfOk, IfErr, IfSome, IfNone, slice_get};
+ghost use Rattle.std.specs.List.{HoldsAt};
+ghost use Rattle.sled_node.specs.declared.node.data.Data.TheVariants.{Leaf as Stored};
+ghost use Rattle.sled_node.specs.Node.{whole, IsInRange, IsWellFormed};
+ghost use Rattle.sled_node.specs.Pairs.{IsRising, StandsAt, IsGap};
+ghost use Rattle.sled_node.specs.Parts.{pairs_under};
+ghost use Rattle.sled_node.specs.Lookups.{HasValue, LacksKey};
+
+use super::pairs::{is_below, place_of};
+use super::{Data, Node};
+use sled_base::IVec;
+use std::alloc::{AllocError, Global};
+
+impl Node {
+    /// The stored key and the value of a whole key, or none where the leaf lacks the key.
+    ///
+    /// The key may be out of the range.
+    pub fn leaf_pair_for_key(&self, key: &[u8]) -> Option<(&[u8], &[u8])>
+        requires leaf { self.now.is_index ≡ false }
+        ensures key { IfSome result (λ pair. whole self.now pair.0.now ≡ key.now) }
+        ensures value { IfSome result (λ pair. HasValue self.now key.now pair.1.now) }
+        ensures absent { IfNone result (LacksKey self.now key.now) }
+    {
+        match self.place_of_whole(key) {
+            Ok(at) => {
+                let pair = &self.leaf_pairs()[at];
+                Some((pair.0.as_slice(), pair.1.as_slice()))
+            }
+            Err(_) => None,
+        }
+    }
+
+    /// The stored key of a whole key in the leaf's range, and the key's value, or no value where the leaf lacks the key.
+    ///
+    /// An error means that memory for a copy is wanting.
+    pub fn node_kv_pair(
+        &self,
+        alloc: Global,
+        key: &[u8],
+    ) -> Result<(IVec, Option<IVec>), AllocError>
+        requires leaf { self.now.is_index ≡ false }
+        requires in_range { IsInRange self.now key.now }
+        ensures stored { IfOk result (λ pair. pair.0 ≡ drop self.now.prefix_len key.now) }
+        ensures key { IfOk result (λ pair. whole self.now pair.0 ≡ key.now) }
+        ensures value { IfOk result (λ pair. IfSome pair.1 (HasValue self.now key.now)) }
+        ensures absent { IfOk result (λ pair. IfNone pair.1 (LacksKey self.now key.now)) }
+    {
+        match self.place_of_whole(key) {
+            Ok(at) => {
+                let pair = &self.leaf_pairs()[at];
+                Ok((pair.0.clone()?, Some(pair.1.clone()?)))
+            }
+            Err(_) => Ok((IVec::from_slice(alloc, self.without_prefix(key))?, None)),
+        }
+    }
+
+    // Where the whole key stands in a leaf, or else where it would.
+    pub(super) fn place_of_whole(&self, key: &[u8]) -> Result<usize, usize>
+        requires leaf { self.now.is_index ≡ false }
+        ensures found { IfOk result (StandsAt self.now.pairs key.now) }
+        ensures same { IfOk result (HoldsAt (λ pair. pair.0 ≡ key.now) self.now.pairs) }
+        ensures missing { IfErr result (IsGap self.now.pairs key.now) }
+        ensures well_formed { IsWellFormed self.now }
+    {
+        place_under(self.leaf_pairs(), self.prefix(), key)
+    }
+
+    // The stored pairs of a leaf.
+    pub(super) fn leaf_pairs(&self) -> &[(IVec, IVec)]
+        requires leaf { self.now.is_index ≡ false }
+        ensures value { self.now.pairs ≡ pairs_under (take self.now.prefix_len self.now.lo) (Stored result.now) }
+        ensures rising { IsRising result.now }
+        ensures well_formed { IsWellFormed self.now }
+    {
+        match &self.contents {
+            Data::Leaf(leaf) => leaf.pairs(),
+            Data::Index(_) => &[],
+        }
+    }
+
+    // The stored key of a whole key in the range.
+    pub(super) fn without_prefix<'a>(&self, key: &'a [u8]) -> &'a [u8]
+        requires { IsInRange self.now key.now }
+        ensures stored { result.now ≡ drop self.now.prefix_len key.now }
+        ensures key { whole self.now result.now ≡ key.now }
+    {
+        &key[self.prefix_len as usize..]
+    }
+
+    // The first bytes of `lo`, which stored keys lack.
+    pub(super) fn prefix(&self) -> &[u8]
+        ensures well_formed { IsWellFormed self.now }
+        ensures value { result.now ≡ take self.now.prefix_len self.now.lo }
+    {
+        &self.lo.as_slice()[..self.prefix_len as usize]
+    }
+}
+
+// Where the whole key stands among pairs whose stored keys lack the prefix, or else where it would.
+fn place_under(pairs: &[(IVec, IVec)], prefix: &[u8], key: &[u8]) -> Result<usize, usize>
+    requires { IsRising pairs.now }
+    ensures found { IfOk result (StandsAt (pairs_under prefix.now (Stored pairs.now)) key.now) }
+    ensures same { IfOk result (HoldsAt (λ pair. pair.0 ≡ key.now) (pairs_under prefix.now (Stored pairs.now))) }
+    ensures missing { IfErr result (IsGap (pairs_under prefix.now (Stored pairs.now)) key.now) }
+{
+    match key.strip_prefix(prefix) {
+        Some(stored) => place_of(pairs, stored),
+        None if is_below(key, prefix) => Err(0),
+        None => Err(pairs.len()),
+    }
+}
+
+#[cfg(test)]
+mod tests;

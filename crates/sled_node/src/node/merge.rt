@@ -1,0 +1,102 @@
+//! Taking in the right neighbour.
+
+ghost use Rattle.std.specs.Prelude.{◌≡◌, ◌↔◌, ◌≤◌, ◌++◌, take, length, IsTrue, IfOk};
+ghost use Rattle.sled_node.specs.Parts.{is_index, HasStored};
+ghost use Rattle.sled_node.specs.Splitting.{CanReceive, merged};
+ghost use Rattle.sled_node.specs.Restoring.{restored, restored_data, joined_data};
+
+use super::stored::{own_prefix, store_without};
+use super::{Data, Index, Leaf, MAX_PAIRS, Node};
+use sled_base::IVec;
+use std::alloc::{AllocError, Global};
+
+impl Node {
+    /// Whether this node can take in `right`: both are of one kind, `right` begins where this one ends, and a node may
+    /// have the pairs of both.
+    pub fn can_receive(&self, right: &Node) -> bool
+        ensures { IsTrue result ↔ CanReceive self.now right.now }
+    {
+        self.is_index() == right.is_index()
+            && !self.hi.is_empty()
+            && self.hi == right.lo
+            && self.len() <= MAX_PAIRS - right.len()
+    }
+
+    /// This node with the pairs of its right neighbour behind its own, where it can receive them.
+    ///
+    /// It has this node's marks, and the neighbour's end and next. Stored keys lack what its bounds have in common, up to
+    /// 255 bytes. Both nodes are left as they are. An error means that memory is wanting.
+    pub fn receive_merge(&self, alloc: Global, right: &Node) -> Result<Node, AllocError>
+        requires { CanReceive self.now right.now }
+        ensures { IfOk result (λ node. node ≡ merged self.now right.now) }
+    {
+        let lo = self.lo.clone()?;
+        let hi = right.hi.clone()?;
+        let prefix_len = own_prefix(lo.as_slice(), hi.as_slice());
+        let contents = self.contents.joined(
+            alloc,
+            self.prefix(),
+            &right.contents,
+            right.prefix(),
+            prefix_len as usize,
+        )?;
+        Ok(Node {
+            prefix_len,
+            next: right.next,
+            merging_child: self.merging_child,
+            merging: self.merging,
+            lo,
+            hi,
+            contents,
+        })
+    }
+}
+
+impl Data {
+    // The pairs of both, with stored keys that lack so many bytes in place of those of the prefixes.
+    fn joined(
+        &self,
+        alloc: Global,
+        prefix: &[u8],
+        right: &Data,
+        right_prefix: &[u8],
+        skipped: usize,
+    ) -> Result<Data, AllocError>
+        requires kinds { is_index self.now ≡ is_index right.now }
+        requires stored { HasStored (joined_data (restored_data prefix.now skipped self.now) (restored_data right_prefix.now skipped right.now)) }
+        ensures { IfOk result (λ parts. parts ≡ joined_data (restored_data prefix.now skipped self.now) (restored_data right_prefix.now skipped right.now)) }
+    {
+        match (self, right) {
+            (Data::Leaf(left), Data::Leaf(right)) => {
+                let left = left.clone()?.into_pairs();
+                let right = right.clone()?.into_pairs();
+                let pairs = joined_pairs(alloc, left, prefix, right, right_prefix, skipped)?;
+                Ok(Data::Leaf(Leaf::of(pairs)))
+            }
+            (Data::Index(left), Data::Index(right)) => {
+                let left = left.clone()?.into_pairs();
+                let right = right.clone()?.into_pairs();
+                let pairs = joined_pairs(alloc, left, prefix, right, right_prefix, skipped)?;
+                Ok(Data::Index(Index::of(pairs)))
+            }
+            _ => unreachable!(),
+        }
+    }
+}
+
+// The pairs of both, with stored keys that lack so many bytes in place of those of the prefixes.
+fn joined_pairs<V: Drop>(
+    alloc: Global,
+    mut left: Vec<(IVec, V)>,
+    prefix: &[u8],
+    mut right: Vec<(IVec, V)>,
+    right_prefix: &[u8],
+    skipped: usize,
+) -> Result<Vec<(IVec, V)>, AllocError>
+    ensures { IfOk result (λ pairs. pairs.items ≡ restored prefix.now skipped left.items ++ restored right_prefix.now skipped right.items) }
+{
+    store_without(alloc, &mut left, prefix, skipped)?;
+    store_without(alloc, &mut right, right_prefix, skipped)?;
+    left.append(&mut right)?;
+    Ok(left)
+}

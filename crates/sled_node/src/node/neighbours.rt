@@ -1,0 +1,110 @@
+//! The nearest pairs on either side of a bound.
+
+ghost use Rattle.std.specs.Prelude.{◌≡◌, false, IfOk, IfSome, IfNone};
+ghost use Rattle.sled_base.specs.Order.{IsBelow, IsAtMost};
+ghost use Rattle.sled_node.specs.Node.{whole};
+ghost use Rattle.sled_node.specs.Neighbours.{IsBehind, IsBefore, IsLeast, IsGreatest, HasNone, IsCount};
+
+use super::Node;
+use sled_base::IVec;
+use sled_base::prefix::decode;
+use std::alloc::{AllocError, Global};
+use std::ops::Bound;
+
+impl Node {
+    /// The whole key and the value of the leaf's first pair behind the bound, or none where no pair is behind it.
+    ///
+    /// The bound may be out of the range. An error means that memory for the copy is wanting.
+    pub fn successor(
+        &self,
+        alloc: Global,
+        bound: &Bound<IVec>,
+    ) -> Result<Option<(IVec, IVec)>, AllocError>
+        requires leaf { self.now.is_index ≡ false }
+        ensures least { IfOk result (λ found. IfSome found (IsLeast (IsBehind bound.now) self.now)) }
+        ensures none { IfOk result (λ found. IfNone found (HasNone (IsBehind bound.now) self.now)) }
+    {
+        let first = self.first_behind(bound);
+        match self.leaf_pairs().get(first) {
+            Some(pair) => Ok(Some(self.whole_pair(alloc, pair)?)),
+            None => Ok(None),
+        }
+    }
+
+    /// The whole key and the value of the leaf's last pair before the bound, or none where no pair is before it.
+    ///
+    /// The bound may be out of the range. An error means that memory for the copy is wanting.
+    pub fn predecessor(
+        &self,
+        alloc: Global,
+        bound: &Bound<IVec>,
+    ) -> Result<Option<(IVec, IVec)>, AllocError>
+        requires leaf { self.now.is_index ≡ false }
+        ensures greatest { IfOk result (λ found. IfSome found (IsGreatest (IsBefore bound.now) self.now)) }
+        ensures none { IfOk result (λ found. IfNone found (HasNone (IsBefore bound.now) self.now)) }
+    {
+        let end = self.end_before(bound);
+        match self.leaf_pairs()[..end].last() {
+            Some(pair) => Ok(Some(self.whole_pair(alloc, pair)?)),
+            None => Ok(None),
+        }
+    }
+
+    // The place of a leaf's first pair behind the bound, or the number of pairs.
+    fn first_behind(&self, bound: &Bound<IVec>) -> usize
+        requires leaf { self.now.is_index ≡ false }
+        ensures { IsCount (λ key. IsBehind bound.now key → ⊥) (IsBehind bound.now) self.now.pairs result }
+    {
+        match bound {
+            Bound::Included(key) => self.count_below(key.as_slice()),
+            Bound::Excluded(key) => self.count_up_to(key.as_slice()),
+            Bound::Unbounded => 0,
+        }
+    }
+
+    // The place after a leaf's last pair before the bound, or 0.
+    fn end_before(&self, bound: &Bound<IVec>) -> usize
+        requires leaf { self.now.is_index ≡ false }
+        ensures { IsCount (IsBefore bound.now) (λ key. IsBefore bound.now key → ⊥) self.now.pairs result }
+    {
+        match bound {
+            Bound::Included(key) => self.count_up_to(key.as_slice()),
+            Bound::Excluded(key) => self.count_below(key.as_slice()),
+            Bound::Unbounded => self.len(),
+        }
+    }
+
+    // How many pairs of a leaf have a whole key below this one.
+    fn count_below(&self, key: &[u8]) -> usize
+        requires leaf { self.now.is_index ≡ false }
+        ensures { IsCount (λ other. IsBelow other key.now) (λ other. IsAtMost key.now other) self.now.pairs result }
+    {
+        match self.place_of_whole(key) {
+            Ok(at) => at,
+            Err(at) => at,
+        }
+    }
+
+    // How many pairs of a leaf have a whole key that is at most this one.
+    fn count_up_to(&self, key: &[u8]) -> usize
+        requires leaf { self.now.is_index ≡ false }
+        ensures { IsCount (λ other. IsAtMost other key.now) (λ other. IsBelow key.now other) self.now.pairs result }
+    {
+        match self.place_of_whole(key) {
+            Ok(at) => at + 1,
+            Err(at) => at,
+        }
+    }
+
+    // A copy of a stored pair, with its whole key.
+    fn whole_pair(&self, alloc: Global, pair: &(IVec, IVec)) -> Result<(IVec, IVec), AllocError>
+        ensures key { IfOk result (λ copy. copy.0 ≡ whole self.now pair.now.0) }
+        ensures value { IfOk result (λ copy. copy.1 ≡ pair.now.1) }
+    {
+        let key = decode(alloc, self.prefix(), pair.0.as_slice())?;
+        Ok((key, pair.1.clone()?))
+    }
+}
+
+#[cfg(test)]
+mod tests;

@@ -1,0 +1,172 @@
+//! Parting a node in two.
+
+ghost use Rattle.std.specs.Prelude.{◌≡◌, ◌+◌, ◌/◌, ◌<◌, ◌≤◌, take, drop, length, IfOk, OnOk};
+ghost use Rattle.sled_node.specs.Parts.{HasStored};
+ghost use Rattle.sled_node.specs.Splitting.{least, greatest, SeparatesAt, Splits, MergeBack};
+ghost use Rattle.sled_node.specs.Restoring.{restored, restored_data, first_data, later_data, data_len};
+
+use super::stored::{common_len, own_prefix, store_without};
+use super::{Data, Index, Leaf, Node};
+use sled_base::IVec;
+use sled_base::prefix::decode;
+use std::alloc::{AllocError, Global};
+
+impl Node {
+    /// Parts a node of three pairs or more in two. The left has the first `len / 2 + 1` of them, the right the others.
+    ///
+    /// The left begins where the node did, and the right ends where it did. They meet at a separator, the least key of
+    /// the right, which in a leaf is cut to one byte past what it shares with the greatest key of the left. The left
+    /// keeps the marks and has no next; the right keeps the next and has no marks. Stored keys lack what the bounds of
+    /// their own part have in common, up to 255 bytes. An error means that memory is wanting, and the node is let go.
+    pub fn split(self, alloc: Global) -> Result<(Node, Node), AllocError>
+        requires { 3 ≤ length self.pairs }
+        ensures parts { IfOk result (λ parts. Splits self parts.0 parts.1) }
+        ensures merge { IfOk result (λ parts. MergeBack self parts.0 parts.1) }
+    {
+        let count = self.len() / 2 + 1;
+        let separator = self.separator(alloc, count)?;
+        self.split_at(alloc, count, separator)
+    }
+
+    // The parts that meet at the separator, of which the left has so many pairs.
+    fn split_at(
+        self,
+        alloc: Global,
+        count: usize,
+        separator: IVec,
+    ) -> Result<(Node, Node), AllocError>
+        requires many { 3 ≤ length self.pairs }
+        requires half { count ≡ length self.pairs / 2 + 1 }
+        requires separates { SeparatesAt self.is_index (greatest (take count self.pairs)) (least (drop count self.pairs)) separator }
+        ensures parts { IfOk result (λ parts. Splits self parts.0 parts.1) }
+        ensures merge { IfOk result (λ parts. MergeBack self parts.0 parts.1) }
+    {
+        let Node {
+            prefix_len,
+            next,
+            merging_child,
+            merging,
+            lo,
+            hi,
+            contents,
+        } = self;
+        let low = separator.clone()?;
+        let left_len = own_prefix(lo.as_slice(), separator.as_slice());
+        let right_len = own_prefix(low.as_slice(), hi.as_slice());
+        let prefix = &lo.as_slice()[..prefix_len as usize];
+        let (left, right) = contents.split(
+            alloc,
+            count,
+            prefix,
+            left_len as usize,
+            right_len as usize,
+        )?;
+        let left = Node {
+            prefix_len: left_len,
+            next: None,
+            merging_child,
+            merging,
+            lo,
+            hi: separator,
+            contents: left,
+        };
+        let right = Node {
+            prefix_len: right_len,
+            next,
+            merging_child: None,
+            merging: false,
+            lo: low,
+            hi,
+            contents: right,
+        };
+        Ok((left, right))
+    }
+
+    // A string that parts the keys of the first pairs from those of the others: of an index the least key of the others,
+    // and of a leaf a shortest string.
+    fn separator(&self, alloc: Global, count: usize) -> Result<IVec, AllocError>
+        requires some { 1 ≤ count }
+        requires others { count < length self.now.pairs }
+        ensures { IfOk result (λ s. SeparatesAt self.now.is_index (greatest (take count self.now.pairs)) (least (drop count self.now.pairs)) s) }
+    {
+        let prefix = self.prefix();
+        let (left, _) = self.pair(count - 1);
+        let (right, _) = self.pair(count);
+        match &self.contents {
+            Data::Leaf(_) => {
+                let len = common_len(left, right) + 1;
+                decode(alloc, prefix, &right[..len])
+            }
+            Data::Index(_) => decode(alloc, prefix, right),
+        }
+    }
+}
+
+impl Data {
+    // The first pairs and the others, with stored keys that lack so many bytes in place of those of the prefix.
+    fn split(
+        self,
+        alloc: Global,
+        count: usize,
+        prefix: &[u8],
+        left_skipped: usize,
+        right_skipped: usize,
+    ) -> Result<(Data, Data), AllocError>
+        requires within { count ≤ data_len self }
+        requires left { HasStored (restored_data prefix.now left_skipped (first_data count self)) }
+        requires right { HasStored (restored_data prefix.now right_skipped (later_data count self)) }
+        ensures left { IfOk result (λ parts. parts.0 ≡ restored_data prefix.now left_skipped (first_data count self)) }
+        ensures right { IfOk result (λ parts. parts.1 ≡ restored_data prefix.now right_skipped (later_data count self)) }
+    {
+        match self {
+            Data::Leaf(leaf) => {
+                let mut left = leaf.into_pairs();
+                let right = split_pairs(
+                    alloc,
+                    &mut left,
+                    count,
+                    prefix,
+                    left_skipped,
+                    right_skipped,
+                )?;
+                Ok((Data::Leaf(Leaf::of(left)), Data::Leaf(Leaf::of(right))))
+            }
+            Data::Index(index) => {
+                let mut left = index.into_pairs();
+                let right = split_pairs(
+                    alloc,
+                    &mut left,
+                    count,
+                    prefix,
+                    left_skipped,
+                    right_skipped,
+                )?;
+                Ok((Data::Index(Index::of(left)), Data::Index(Index::of(right))))
+            }
+        }
+    }
+}
+
+// Takes out the pairs behind the first ones, with stored keys that lack so many bytes in place of those of the prefix.
+//
+// An error leaves some pairs changed and others not.
+fn split_pairs<V: Drop>(
+    alloc: Global,
+    pairs: &mut Vec<(IVec, V)>,
+    count: usize,
+    prefix: &[u8],
+    left_skipped: usize,
+    right_skipped: usize,
+) -> Result<Vec<(IVec, V)>, AllocError>
+    requires { count ≤ length pairs.old.items }
+    ensures left { OnOk result (pairs.new.items ≡ restored prefix.now left_skipped (take count pairs.old.items)) }
+    ensures right { IfOk result (λ right. right.items ≡ restored prefix.now right_skipped (drop count pairs.old.items)) }
+{
+    let mut right = pairs.split_off(count)?;
+    store_without(alloc, pairs, prefix, left_skipped)?;
+    store_without(alloc, &mut right, prefix, right_skipped)?;
+    Ok(right)
+}
+
+#[cfg(test)]
+mod tests;

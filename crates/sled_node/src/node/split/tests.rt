@@ -1,0 +1,408 @@
+use super::*;
+use crate::node::Item;
+use std::num::NonZeroU64;
+use std::test::Fail;
+
+// What a node is to be: its bounds, and its stored keys, which lack so many bytes.
+#[derive(Clone, Copy, Drop)]
+struct Shape<'a> {
+    prefix_len: u8,
+    lo: &'a [u8],
+    hi: &'a [u8],
+    keys: &'a [&'a [u8]],
+}
+
+fn has_shape(node: &Node, shape: &Shape<'_>) -> bool {
+    node.prefix_len() == shape.prefix_len
+        && node.lo().eq_bytes(shape.lo)
+        && node.hi().eq_bytes(shape.hi)
+        && has_keys(node, shape.keys)
+}
+
+fn has_keys(node: &Node, keys: &[&[u8]]) -> bool {
+    if node.len() != keys.len() {
+        return false;
+    }
+    for i in 0..node.len() {
+        if node.pair(i).0 != keys[i] {
+            return false;
+        }
+    }
+    true
+}
+
+// A leaf of this shape, with the marks.
+fn leaf(alloc: Global, shape: &Shape<'_>) -> Result<Option<Node>, AllocError> {
+    let mut pairs = Vec::new(alloc);
+    for key in shape.keys {
+        pairs.push((
+            IVec::from_slice(alloc, key)?,
+            IVec::from_slice(alloc, b"v")?,
+        ))?;
+    }
+    let Some(leaf) = Leaf::from_pairs(alloc, pairs)? else {
+        return Ok(None);
+    };
+    node(alloc, shape, Data::Leaf(leaf))
+}
+
+// An index of this shape, with the marks, whose keys lead to the pages from 2 on.
+fn index(alloc: Global, shape: &Shape<'_>) -> Result<Option<Node>, AllocError> {
+    let mut pairs = Vec::new(alloc);
+    let mut page = 2u64;
+    for key in shape.keys {
+        pairs.push((IVec::from_slice(alloc, key)?, page))?;
+        page = page.wrapping_add(1);
+    }
+    let Some(index) = Index::from_pairs(alloc, pairs)? else {
+        return Ok(None);
+    };
+    node(alloc, shape, Data::Index(index))
+}
+
+// Next to page 7, with page 5 being merged, and being merged itself.
+fn node(alloc: Global, shape: &Shape<'_>, contents: Data) -> Result<Option<Node>, AllocError> {
+    let (lo, hi) = (
+        IVec::from_slice(alloc, shape.lo)?,
+        IVec::from_slice(alloc, shape.hi)?,
+    );
+    let (next, child) = (NonZeroU64::new(7), NonZeroU64::new(5));
+    Ok(Node::from_parts(shape.prefix_len, next, child, true, lo, hi, contents))
+}
+
+fn has_marks(node: &Node, next: u64, child: u64, merging: bool) -> bool {
+    node.next() == NonZeroU64::new(next)
+        && node.merging_child() == NonZeroU64::new(child)
+        && node.merging() == merging
+}
+
+// Whether the parts of the node are of these shapes, and the two merged again of the third.
+fn splits(
+    alloc: Global,
+    node: Node,
+    left: &Shape<'_>,
+    right: &Shape<'_>,
+    again: &Shape<'_>,
+) -> Result<bool, AllocError> {
+    if node.len() < 3 {
+        return Ok(false);
+    }
+    let (low, high) = node.split(alloc)?;
+    let parted = has_shape(&low, left)
+        && has_marks(&low, 0, 5, true)
+        && has_shape(&high, right)
+        && has_marks(&high, 7, 0, false);
+    Ok(parted && merges(alloc, &low, &high, again)?)
+}
+
+// Whether the left node takes in the right one, and is then of this shape.
+fn merges(alloc: Global, left: &Node, right: &Node, shape: &Shape<'_>) -> Result<bool, AllocError> {
+    if !left.can_receive(right) {
+        return Ok(false);
+    }
+    let merged = left.receive_merge(alloc, right)?;
+    Ok(has_shape(&merged, shape) && has_marks(&merged, 7, 5, true))
+}
+
+fn leads_to(node: &Node, i: usize, page: u64) -> bool {
+    i < node.len() && node.pair(i).1 == Item::Child(page)
+}
+
+#[test]
+fn a_leaf_without_an_end_splits(rt: HostRuntime) -> Result<(), Fail> {
+    let whole = Shape {
+        prefix_len: 0,
+        lo: b"aa",
+        hi: b"",
+        keys: &[b"aab".as_slice(), b"aac", b"aad"],
+    };
+    let left = Shape {
+        prefix_len: 2,
+        lo: b"aa",
+        hi: b"aad",
+        keys: &[b"b".as_slice(), b"c"],
+    };
+    let right = Shape {
+        prefix_len: 0,
+        lo: b"aad",
+        hi: b"",
+        keys: &[b"aad".as_slice()],
+    };
+    let node = leaf(rt.alloc(), &whole)?.ok_or("well-formed")?;
+    assert!(rt; splits(rt.alloc(), node, &left, &right, &whole)?);
+    Ok(())
+}
+
+#[test]
+fn an_index_splits_at_the_least_right_key(rt: HostRuntime) -> Result<(), Fail> {
+    let whole = Shape {
+        prefix_len: 0,
+        lo: b"",
+        hi: b"",
+        keys: &[b"".as_slice(), b"b", b"c"],
+    };
+    let left = Shape {
+        prefix_len: 0,
+        lo: b"",
+        hi: b"c",
+        keys: &[b"".as_slice(), b"b"],
+    };
+    let right = Shape {
+        prefix_len: 0,
+        lo: b"c",
+        hi: b"",
+        keys: &[b"c".as_slice()],
+    };
+    let node = index(rt.alloc(), &whole)?.ok_or("well-formed")?;
+    assert!(rt; leads_to(&node, 2, 4));
+    assert!(rt; splits(rt.alloc(), node, &left, &right, &whole)?);
+    Ok(())
+}
+
+#[test]
+fn pages_go_with_their_keys(rt: HostRuntime) -> Result<(), Fail> {
+    let whole = Shape {
+        prefix_len: 0,
+        lo: b"",
+        hi: b"",
+        keys: &[b"".as_slice(), b"b", b"c"],
+    };
+    let node = index(rt.alloc(), &whole)?.ok_or("well-formed")?;
+    assert!(rt; parts_lead_to(rt.alloc(), node)?);
+    Ok(())
+}
+
+// Whether the left part leads to the pages 2 and 3, the right one to 4, and the two merged again to all of them.
+fn parts_lead_to(alloc: Global, node: Node) -> Result<bool, AllocError> {
+    if node.len() < 3 {
+        return Ok(false);
+    }
+    let (left, right) = node.split(alloc)?;
+    let parted = leads_to(&left, 0, 2) && leads_to(&left, 1, 3) && leads_to(&right, 0, 4);
+    if !parted || !left.can_receive(&right) {
+        return Ok(false);
+    }
+    let merged = left.receive_merge(alloc, &right)?;
+    Ok(leads_to(&merged, 0, 2) && leads_to(&merged, 1, 3) && leads_to(&merged, 2, 4))
+}
+
+#[test]
+fn a_leaf_splits_at_the_shortest_string(rt: HostRuntime) -> Result<(), Fail> {
+    let whole = Shape {
+        prefix_len: 0,
+        lo: b"",
+        hi: b"",
+        keys: &[b"aaa".as_slice(), b"aab", b"abc"],
+    };
+    let left = Shape {
+        prefix_len: 0,
+        lo: b"",
+        hi: b"ab",
+        keys: &[b"aaa".as_slice(), b"aab"],
+    };
+    let right = Shape {
+        prefix_len: 0,
+        lo: b"ab",
+        hi: b"",
+        keys: &[b"abc".as_slice()],
+    };
+    let node = leaf(rt.alloc(), &whole)?.ok_or("well-formed")?;
+    assert!(rt; splits(rt.alloc(), node, &left, &right, &whole)?);
+    Ok(())
+}
+
+#[test]
+fn parts_have_the_prefix_of_the_whole(rt: HostRuntime) -> Result<(), Fail> {
+    let whole = Shape {
+        prefix_len: 1,
+        lo: b"ba",
+        hi: b"bz",
+        keys: &[b"b".as_slice(), b"c", b"d"],
+    };
+    let left = Shape {
+        prefix_len: 1,
+        lo: b"ba",
+        hi: b"bd",
+        keys: &[b"b".as_slice(), b"c"],
+    };
+    let right = Shape {
+        prefix_len: 1,
+        lo: b"bd",
+        hi: b"bz",
+        keys: &[b"d".as_slice()],
+    };
+    let node = leaf(rt.alloc(), &whole)?.ok_or("well-formed")?;
+    assert!(rt; splits(rt.alloc(), node, &left, &right, &whole)?);
+    Ok(())
+}
+
+// The prefix lengths of parts are those of their bounds, also where that of the whole is less.
+#[test]
+fn a_short_prefix_is_made_up_for(rt: HostRuntime) -> Result<(), Fail> {
+    let whole = Shape {
+        prefix_len: 0,
+        lo: b"ba",
+        hi: b"bz",
+        keys: &[b"bb".as_slice(), b"bc", b"bdx"],
+    };
+    let left = Shape {
+        prefix_len: 1,
+        lo: b"ba",
+        hi: b"bd",
+        keys: &[b"b".as_slice(), b"c"],
+    };
+    let right = Shape {
+        prefix_len: 1,
+        lo: b"bd",
+        hi: b"bz",
+        keys: &[b"dx".as_slice()],
+    };
+    let again = Shape {
+        prefix_len: 1,
+        lo: b"ba",
+        hi: b"bz",
+        keys: &[b"b".as_slice(), b"c", b"dx"],
+    };
+    let node = leaf(rt.alloc(), &whole)?.ok_or("well-formed")?;
+    assert!(rt; splits(rt.alloc(), node, &left, &right, &again)?);
+    Ok(())
+}
+
+// So many bytes "a", and then others.
+fn long(alloc: Global, count: usize, last: &[u8]) -> Result<Vec<u8>, AllocError> {
+    let mut bytes = Vec::new(alloc);
+    for _ in 0..count {
+        bytes.push(b'a')?;
+    }
+    bytes.extend_from_slice(last)?;
+    Ok(bytes)
+}
+
+#[test]
+fn a_prefix_ends_at_255_bytes(rt: HostRuntime) -> Result<(), Fail> {
+    let alloc = rt.alloc();
+    let (lo, mid, hi) = (
+        long(alloc, 255, b"a")?,
+        long(alloc, 255, b"d")?,
+        long(alloc, 255, b"z")?,
+    );
+    let whole = Shape {
+        prefix_len: 255,
+        lo: &lo,
+        hi: &hi,
+        keys: &[b"b".as_slice(), b"c", b"d"],
+    };
+    let left = Shape {
+        prefix_len: 255,
+        lo: &lo,
+        hi: &mid,
+        keys: &[b"b".as_slice(), b"c"],
+    };
+    let right = Shape {
+        prefix_len: 255,
+        lo: &mid,
+        hi: &hi,
+        keys: &[b"d".as_slice()],
+    };
+    let node = leaf(alloc, &whole)?.ok_or("well-formed")?;
+    assert!(rt; splits(alloc, node, &left, &right, &whole)?);
+    Ok(())
+}
+
+#[test]
+fn no_prefix_is_longer(rt: HostRuntime) -> Result<(), Fail> {
+    let alloc = rt.alloc();
+    let (lo, mid, hi) = (
+        long(alloc, 256, b"a")?,
+        long(alloc, 256, b"d")?,
+        long(alloc, 256, b"z")?,
+    );
+    let whole = Shape {
+        prefix_len: 255,
+        lo: &lo,
+        hi: &hi,
+        keys: &[b"ab".as_slice(), b"ac", b"ad"],
+    };
+    let left = Shape {
+        prefix_len: 255,
+        lo: &lo,
+        hi: &mid,
+        keys: &[b"ab".as_slice(), b"ac"],
+    };
+    let right = Shape {
+        prefix_len: 255,
+        lo: &mid,
+        hi: &hi,
+        keys: &[b"ad".as_slice()],
+    };
+    let node = leaf(alloc, &whole)?.ok_or("well-formed")?;
+    assert!(rt; splits(alloc, node, &left, &right, &whole)?);
+    Ok(())
+}
+
+fn receives(left: &Node, right: &Node) -> bool {
+    left.can_receive(right)
+}
+
+#[test]
+fn neighbours_meet_and_are_of_one_kind(rt: HostRuntime) -> Result<(), Fail> {
+    let alloc = rt.alloc();
+    let (low, high) = (
+        Shape {
+            prefix_len: 0,
+            lo: b"",
+            hi: b"m",
+            keys: &[],
+        },
+        Shape {
+            prefix_len: 0,
+            lo: b"m",
+            hi: b"",
+            keys: &[],
+        },
+    );
+    let left = leaf(alloc, &low)?.ok_or("well-formed")?;
+    let right = leaf(alloc, &high)?.ok_or("well-formed")?;
+    assert!(rt; receives(&left, &right));
+    assert!(rt; !receives(&right, &left));
+    assert!(rt; !receives(&left, &left));
+    Ok(())
+}
+
+#[test]
+fn a_leaf_receives_no_index(rt: HostRuntime) -> Result<(), Fail> {
+    let alloc = rt.alloc();
+    let (low, high) = (
+        Shape {
+            prefix_len: 0,
+            lo: b"",
+            hi: b"m",
+            keys: &[],
+        },
+        Shape {
+            prefix_len: 0,
+            lo: b"m",
+            hi: b"",
+            keys: &[],
+        },
+    );
+    let left = leaf(alloc, &low)?.ok_or("well-formed")?;
+    let right = index(alloc, &high)?.ok_or("well-formed")?;
+    assert!(rt; !receives(&left, &right));
+    Ok(())
+}
+
+// The empty end of a node is none, and not the empty key at which another begins.
+#[test]
+fn a_node_without_an_end_receives_none(rt: HostRuntime) -> Result<(), Fail> {
+    let alloc = rt.alloc();
+    let all = Shape {
+        prefix_len: 0,
+        lo: b"",
+        hi: b"",
+        keys: &[],
+    };
+    let left = leaf(alloc, &all)?.ok_or("well-formed")?;
+    assert!(rt; !receives(&left, &left));
+    Ok(())
+}
