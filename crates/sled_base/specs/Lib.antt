@@ -1,6 +1,7 @@
 pub mod Errors
 pub mod Kinds
 pub mod Pointers
+pub mod PageStates
 pub mod Bases
 pub mod Kept
 pub mod Order

@@ -13,7 +13,8 @@ pub use ivec::IVec;
 pub use kinds::{LogKind, MessageKind};
 pub use serialization::{ConsumeSequence, Serialize};
 pub use types::{
-    BatchManifest, BlobPointer, Bug, Device, DiskPtr, Error, LogOffset, Lsn, PageId, Refusal, Why,
+    BatchManifest, BlobPointer, Bug, Device, DiskPtr, Error, LogOffset, Lsn, PageId, PageState,
+    Refusal, Why,
 };
 
 #[cfg(test)]

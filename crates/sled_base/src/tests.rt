@@ -343,3 +343,14 @@ fn what_nobody_else_holds_is_written_where_it_lies(rt: HostRuntime) -> Result<()
     assert_eq!(rt; string.into_arc(rt.alloc())?.capacity(), room);
     Ok(())
 }
+
+#[test]
+fn a_page_is_free_or_present(rt: HostRuntime) {
+    let free = PageState::Free(3, DiskPtr::Inline(3));
+    assert!(rt; free.is_free());
+    let present = PageState::Present {
+        base: (0, DiskPtr::Inline(0), 25),
+        frags: Vec::new(rt.alloc()),
+    };
+    assert!(rt; !present.is_free());
+}

@@ -5,7 +5,10 @@ ghost use Rattle.sled_base.specs.Errors.{error_of, number_of_why, number_of_bug}
 ghost use Rattle.sled_base.specs.Pointers.{IsBlob, place_of, IsBlobAt};
 ghost use Rattle.sled_base.specs.declared.types.Error.TheVariants.{OutOfMemory};
 
+mod page_state;
+
 use crate::ivec::IVec;
+pub use page_state::PageState;
 use std::alloc::{AllocError, AllocFailed};
 use thiserror::Error;
 

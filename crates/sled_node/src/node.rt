@@ -179,20 +179,14 @@ impl Node {
     pub fn is_index(&self) -> bool
         ensures { result ≡ self.now.is_index }
     {
-        match &self.contents {
-            Data::Leaf(_) => false,
-            Data::Index(_) => true,
-        }
+        self.contents.is_index()
     }
 
     /// How many pairs there are.
     pub fn len(&self) -> usize
         ensures { result ≡ length self.now.pairs }
     {
-        match &self.contents {
-            Data::Leaf(leaf) => leaf.len(),
-            Data::Index(index) => index.len(),
-        }
+        self.contents.len()
     }
 
     /// The stored key of the pair at place `i`, and what stands behind it.

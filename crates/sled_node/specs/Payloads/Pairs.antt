@@ -24,9 +24,9 @@ IsBehindKeys count input rest = (keys : List Bytes) × ReadsCount count ReadsByt
 abbrev pub SplitsPairs : List ℕ → ℕ → List ℕ → List ℕ → Type 0
 SplitsPairs input count keys items = ReadsU64 input count keys × (count ≤ 2 ^ 24) × (2 * count ≤ length keys) × IsBehindKeys count keys items
 
--- memory is asked for behind a count that has room and so many keys
+-- memory is asked for behind a count of at least one that has room, and so many keys
 abbrev pub AsksPairs : List ℕ → Type 0
-AsksPairs input = (count : ℕ) × (keys items : List ℕ) × SplitsPairs input count keys items
+AsksPairs input = (count : ℕ) × (keys items : List ℕ) × SplitsPairs input count keys items × (1 ≤ count)
 
 -- so many keys up to the input of the items, and from there as many items
 abbrev pub ReadsBoth : {V : Type 0} → (List ℕ → V → List ℕ → Type 0) → ℕ → List ℕ → List ℕ → List (Bytes × V) → List ℕ → Type 0

@@ -75,7 +75,7 @@ fn read_both<V: Serialize>(
     requires judged { 2 * count ≤ length keys.now }
     requires behind { IsBehindKeys count keys.now items.old.now }
     ensures read { IfOk result (λ pairs. ReadsBoth V.reads count keys.now items.old.now pairs.items items.new.now) }
-    ensures refused { IfErr result (IsRefusal (λ _. Unit {0}) (ReadsBoth V.reads count keys.now) items.old.now) }
+    ensures refused { IfErr result (IsRefusal (λ _. 1 ≤ count) (ReadsBoth V.reads count keys.now) items.old.now) }
     ensures stays { OnErr result (items.new ≡ items.old) }
 {
     let mut pairs = room_for(alloc, count, keys)?;
@@ -95,6 +95,7 @@ fn room_for<V>(alloc: Global, count: usize, rest: &[u8]) -> Result<Vec<(IVec, V)
     requires judged { 2 * count ≤ length rest.now }
     ensures empty { IfOk result (λ pairs. pairs.items ≡ []) }
     ensures room { IfOk result (λ pairs. vec_capacity pairs ≡ count) }
+    ensures taken { OnErr result (1 ≤ count) }
 {
     Vec::with_capacity(alloc, count)
 }

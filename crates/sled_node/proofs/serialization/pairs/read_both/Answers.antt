@@ -1,4 +1,4 @@
-use Rattle.std.proofs.Common.{sym, subst, arith}
+use Rattle.std.proofs.Common.{◌≤◌, sym, subst, arith}
 use Rattle.std.proofs.lemmas.Result.{err_from_is_err_and}
 use Rattle.sled_base.specs.Payloads.ByteStrings.{ReadsBytes, AsksBytes}
 use Rattle.sled_node.specs.Payloads.Sequences.{ReadsAll}
@@ -16,7 +16,7 @@ returns-in_err-key-clause-refused g c =
     let keys = c.args.keys.now in
     let input = c.args.items.now.now in
     let rest = c.loop.key_rest.now in
-    rw (p.1, p.2) (refused_so AsksBytes (λ _. Unit {0}) ReadsBytes (ReadsBoth reads c.args.count keys) rest input c.in_err-key.field-0.0 (λ _. tt) (no_key reads g.met.V.Serialize.grammar c.args.count keys input c.loop.pairs.items (omega (arith, c.loop.invariant.so_many)) rest c.loop.invariant.keys) c.in_err-key.ensures.refused)
+    rw (p.1, p.2) (refused_so AsksBytes (λ _. 1 ≤ c.args.count) ReadsBytes (ReadsBoth reads c.args.count keys) rest input c.in_err-key.field-0.0 (λ _. omega (arith, c.loop.invariant.so_many)) (no_key reads g.met.V.Serialize.grammar c.args.count keys input c.loop.pairs.items (omega (arith, c.loop.invariant.so_many)) rest c.loop.invariant.keys) c.in_err-key.ensures.refused)
 
 -- nor where the next item isn't
 pub returns-in_err-item-clause-refused : goal.returns-in_err-item-clause-refused
@@ -26,7 +26,7 @@ returns-in_err-item-clause-refused g c =
     let keys = c.args.keys.now in
     let input = c.args.items.now.now in
     let rest = c.loop.item_rest.now in
-    rw (p.1, p.2) (refused_so g.V.Serialize.asks (λ _. Unit {0}) reads (ReadsBoth reads c.args.count keys) rest input c.in_err-item.field-0.0 (λ _. tt) (no_item reads g.met.V.Serialize.grammar c.args.count keys input c.loop.pairs.items (omega (arith, c.loop.invariant.so_many)) rest c.loop.invariant.items) c.in_err-item.ensures.refused)
+    rw (p.1, p.2) (refused_so g.V.Serialize.asks (λ _. 1 ≤ c.args.count) reads (ReadsBoth reads c.args.count keys) rest input c.in_err-item.field-0.0 (λ _. omega (arith, c.loop.invariant.so_many)) (no_item reads g.met.V.Serialize.grammar c.args.count keys input c.loop.pairs.items (omega (arith, c.loop.invariant.so_many)) rest c.loop.invariant.items) c.in_err-item.ensures.refused)
 
 pub loop-preserved : goal.loop-preserved
 loop-preserved g c =

@@ -1,3 +1,4 @@
+use Rattle.std.proofs.Common.{◌≤◌}
 use Rattle.std.proofs.lemmas.Result.{err_from_is_err_and}
 use Rattle.sled_node.specs.Payloads.Pairs.{AsksPairs, ReadsBoth, ReadsPairs}
 use Rattle.sled_base.proofs.Payloads.Refusals.{refused_so}
@@ -13,4 +14,4 @@ returns-in_err-pairs-clause-refused g c =
     let keys = c.in-Some.keys.now in
     let items = c.in-Some.behind.now in
     let split = c.in-Some.ensures.found in
-    rw (p.1, p.2) (refused_so (λ _. Unit {0}) AsksPairs (ReadsBoth reads count keys) (ReadsPairs reads) items input c.in_err-pairs.field-0.0 (λ _. (count, keys, items, split)) (no_both reads g.met.V.Serialize.grammar input count keys split.0 items split.3) c.in_err-pairs.ensures.refused)
+    rw (p.1, p.2) (refused_so (λ _. 1 ≤ count) AsksPairs (ReadsBoth reads count keys) (ReadsPairs reads) items input c.in_err-pairs.field-0.0 (λ some. (count, keys, items, split, some)) (no_both reads g.met.V.Serialize.grammar input count keys split.0 items split.3) c.in_err-pairs.ensures.refused)

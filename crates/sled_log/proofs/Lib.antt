@@ -1,0 +1,13 @@
+pub mod ChainLaws
+pub mod SizeLaws
+pub mod Filters
+pub mod Moments
+pub mod Places
+pub mod MemCalls
+pub mod PageStates
+pub mod KeptEntries
+pub mod Batches
+pub mod CallLists
+pub mod Sizes
+pub mod Eager
+pub mod Buffered

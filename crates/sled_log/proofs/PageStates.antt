@@ -1,0 +1,67 @@
+-- The pages that a log answers, while chains grow.
+use Rattle.std.proofs.Common.{◌≡◌, ◌≤◌, ◌<◌, ◌+◌, ℕ, Bool, true, false, cond, ◌==◌, List, [], ◌∷◌, ◌++◌, length, map, take, get_or, sym, ◌∙◌, ap, subst, arith, slice_set, slice_index_or, set}
+use Rattle.std.specs.List.{AllZip}
+use Rattle.std.proofs.lemmas.List.{map-append, set_past, take_more}
+use Rattle.std.proofs.lemmas.Slice.Zip.{AllZip-long}
+use Rattle.sled_base.specs.declared.kinds.LogKind.{LogKind}
+use Rattle.sled_base.specs.declared.kinds.LogKind.TheVariants as kinds
+use Rattle.sled_log.specs.Chains.{linked, begun, changed, chains_from, chains_after}
+use Rattle.sled_log.specs.Items.{event_of}
+use Rattle.sled_log.specs.Laws.{chains_after-append}
+use Rattle.sled_log.specs.Messages.{Entry, Chain, effect_of_entry}
+use Rattle.sled_log.specs.Pages.{IsPageState}
+use Rattle.sled_log.specs.ZipLaws.{zip-append, zip-set}
+use Rattle.sled_log.specs.declared.memory.item.Item.{Item}
+use Rattle.sled_base.specs.declared.types.page_state.PageState.{PageState}
+
+abbrev pub Shows : List Chain → List PageState → Type 0
+Shows chains pages = AllZip IsPageState chains pages
+
+-- a new chain
+begun-shows : (chains : List Chain) (pages : List PageState) (id : ℕ) (entry : Entry) (page : PageState) → Shows chains pages → IsPageState (entry ∷ []) page
+    → Shows (begun effect_of_entry chains id entry) (cond (id == length pages) (pages ++ page ∷ []) (slice_set pages id page))
+begun-shows chains pages id entry page h r =
+    subst (λ n. Shows (begun effect_of_entry chains id entry) (cond (id == n) (pages ++ page ∷ []) (slice_set pages id page))) (sym (AllZip-long IsPageState chains pages h))
+    (by (id == length chains))
+  where
+    by : (b : Bool) → Shows (cond b (chains ++ (entry ∷ []) ∷ []) (slice_set chains id (entry ∷ []))) (cond b (pages ++ page ∷ []) (slice_set pages id page))
+    by true = zip-append IsPageState chains pages ((entry ∷ []) ∷ []) (page ∷ []) h (r, tt)
+    by false = zip-set IsPageState id chains pages (entry ∷ []) page h r
+
+pub freed-shows : (kind : LogKind) (chains : List Chain) (pages : List PageState) (id : ℕ) (entry : Entry) (page : PageState) → kinds.Free ≡ kind → Shows chains pages → IsPageState (entry ∷ []) page
+    → Shows (changed effect_of_entry kind chains id entry) (cond (id == length pages) (pages ++ page ∷ []) (slice_set pages id page))
+freed-shows kind chains pages id entry page is h r =
+    subst (λ k. Shows (changed effect_of_entry k chains id entry) (cond (id == length pages) (pages ++ page ∷ []) (slice_set pages id page))) is (begun-shows chains pages id entry page h r)
+
+pub replaced-shows : (kind : LogKind) (chains : List Chain) (pages : List PageState) (id : ℕ) (entry : Entry) (page : PageState) → kinds.Replace ≡ kind → Shows chains pages → IsPageState (entry ∷ []) page
+    → Shows (changed effect_of_entry kind chains id entry) (cond (id == length pages) (pages ++ page ∷ []) (slice_set pages id page))
+replaced-shows kind chains pages id entry page is h r =
+    subst (λ k. Shows (changed effect_of_entry k chains id entry) (cond (id == length pages) (pages ++ page ∷ []) (slice_set pages id page))) is (begun-shows chains pages id entry page h r)
+
+-- a link on a page that is there
+pub linked-shows : (kind : LogKind) (chains : List Chain) (pages : List PageState) (id : ℕ) (entry : Entry) (page : PageState) → kinds.Link ≡ kind → Shows chains pages
+    → IsPageState (linked effect_of_entry (slice_index_or chains id []) entry) page
+    → Shows (changed effect_of_entry kind chains id entry) (set pages id page)
+linked-shows kind chains pages id entry page is h r =
+    subst (λ k. Shows (changed effect_of_entry k chains id entry) (set pages id page)) is
+    (zip-set IsPageState id chains pages (linked effect_of_entry (slice_index_or chains id []) entry) page h r)
+
+-- and on one that isn't
+pub absent-shows : (kind : LogKind) (chains : List Chain) (pages : List PageState) (id : ℕ) (entry : Entry) → kinds.Link ≡ kind → length pages ≤ id → Shows chains pages
+    → Shows (changed effect_of_entry kind chains id entry) pages
+absent-shows kind chains pages id entry is le h =
+    subst (λ k. Shows (changed effect_of_entry k chains id entry) pages) is
+    (subst (λ l. Shows l pages) (sym (set_past chains id (linked effect_of_entry (slice_index_or chains id []) entry) (let l = AllZip-long IsPageState chains pages h in omega arith))) h)
+
+-- the pages of one item more
+pub more-shows : (items : List Item) (i : ℕ) (item : Item) (pages : List PageState) → i < length items → item ≡ get_or items i item
+    → Shows (chains_from effect_of_entry (chains_after effect_of_entry [] (map event_of (take i items))) (event_of item)) pages
+    → Shows (chains_after effect_of_entry [] (map event_of (take (i + 1) items))) pages
+more-shows items i item pages lt is h =
+    subst (λ l. Shows l pages)
+    (sym
+    (ap (λ (l : List Item). chains_after effect_of_entry [] (map event_of l)) (take_more items i item lt)
+    ∙ ap (chains_after effect_of_entry []) (map-append event_of (take i items) (get_or items i item ∷ []))
+    ∙ chains_after-append effect_of_entry [] (map event_of (take i items)) (event_of (get_or items i item) ∷ [])
+    ∙ ap (λ (x : Item). chains_from effect_of_entry (chains_after effect_of_entry [] (map event_of (take i items))) (event_of x)) (sym is)))
+    h

@@ -1,0 +1,59 @@
+-- The log sizes of the chains of the log in memory.
+use Rattle.std.proofs.Common.{◌≡◌, ◌<◌, ◌^◌, ℕ, List, [], ◌∷◌, map, refl, sym, subst, arith}
+use Rattle.std.specs.List.{AllByRecursion}
+use Rattle.std.proofs.lemmas.List.Sums.{sum_by-cons}
+use Rattle.sled_log.proofs.ChainLaws.{Says, chains-all}
+use Rattle.sled_log.specs.Chains.{chains_after}
+use Rattle.sled_log.specs.Items.{event_of_mark, event_of, size_of_mark, log_size, state_at}
+use Rattle.sled_log.specs.Messages.{Entry, Chain, effect_of_entry}
+use Rattle.sled_log.specs.Messages as messages
+use Rattle.sled_log.specs.Pages.{IsSized}
+use Rattle.sled_log.proofs.SizeLaws.{chain_size, chains_size, event_size, events_size, chains_after-size, each-below}
+use Rattle.sled_log.specs.State.{now}
+use Rattle.sled_log.specs.declared.memory.MemLog.{MemLog}
+use Rattle.sled_log.specs.declared.memory.item.Item.{Item}
+use Rattle.sled_log.specs.declared.memory.item.Mark.{Mark}
+use Rattle.sled_log.specs.declared.memory.item.Mark.TheVariants as kept
+use Rattle.sled_log.proofs.Moments.{now_is}
+
+abbrev place_size : Entry → ℕ
+place_size entry = entry.place.log_size
+
+abbrev IsExact : Entry → Type 0
+IsExact entry = entry.place.log_size ≡ messages.size_of entry.message
+
+mark-size : (mark : Mark) → event_size effect_of_entry place_size (event_of_mark mark) ≡ size_of_mark mark
+mark-size (kept.Change change) = refl
+mark-size kept.Pin = refl
+mark-size kept.Seal = refl
+mark-size kept.Cancel = refl
+
+-- the events of items are as large as the items
+items-size : (items : List Item) → events_size effect_of_entry place_size (map event_of items) ≡ log_size items
+items-size [] = refl
+items-size (item ∷ items) =
+    omega (arith, sum_by-cons (event_size effect_of_entry place_size) (event_of item) (map event_of items), sum_by-cons (λ (item : Item). size_of_mark item.mark) item items, mark-size item.mark, items-size items)
+
+mark-exact : (mark : Mark) → Says effect_of_entry IsExact (event_of_mark mark)
+mark-exact (kept.Change change) = refl
+mark-exact kept.Pin = tt
+mark-exact kept.Seal = tt
+mark-exact kept.Cancel = tt
+
+items-exact : (items : List Item) → AllByRecursion (Says effect_of_entry IsExact) (map event_of items)
+items-exact [] = tt
+items-exact (item ∷ items) = (mark-exact item.mark, items-exact items)
+
+both : (chains : List Chain) → AllByRecursion (AllByRecursion IsExact) chains → AllByRecursion (λ chain. chain_size effect_of_entry place_size chain < 2 ^ 63) chains → AllByRecursion IsSized chains
+both [] each total = tt
+both (chain ∷ chains) each total = (record { each = each.0; total = total.0 }, both chains each.1 total.1)
+
+-- its messages together are smaller than the limit, so each chain is
+pub chains-sized : (log : MemLog) → AllByRecursion IsSized (now effect_of_entry (state_at log.clock log.items.items))
+chains-sized log =
+    let items = log.items.items in
+    let chains : List Chain = chains_after effect_of_entry [] (map event_of items) in
+    let small : chains_size effect_of_entry place_size chains < 2 ^ 63 =
+    (let most = chains_after-size effect_of_entry place_size [] (map event_of items) in let all = items-size items in let sized = log.sized in let fits = log.fits in omega (arith, most, all, sized, fits)) in
+    subst (AllByRecursion IsSized) (sym (now_is log.clock log.stable items log.in_order))
+    (both chains (chains-all effect_of_entry IsExact [] (map event_of items) tt (items-exact items)) (each-below effect_of_entry place_size (2 ^ 63) chains small))

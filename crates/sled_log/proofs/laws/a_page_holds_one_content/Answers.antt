@@ -1,0 +1,5 @@
+use Rattle.sled_log.specs.ReadingLaws.{one_content}
+use Rattle.sled_log.proofs.laws.a_page_holds_one_content.Goals as goal
+
+pub returns : goal.returns
+returns c = one_content

@@ -1,0 +1,8 @@
+use Rattle.std.proofs.Common.{sym, ◌∙◌, ap}
+use Rattle.sled_log.specs.Batches.{is_open}
+use Rattle.sled_log.proofs.Moments.{pending_events}
+use Rattle.sled_log.proofs.memory.calls.MemLogLog.batch_open.Goals as goal
+
+pub returns : goal.returns
+returns c =
+    let self = c.args.self.now in self.batch_is ∙ ap is_open (sym (pending_events self.clock self.stable self.items.items self.in_order))

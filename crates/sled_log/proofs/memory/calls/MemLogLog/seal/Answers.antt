@@ -1,0 +1,10 @@
+use Rattle.std.proofs.Common.{sym, ◌∙◌, ap}
+use Rattle.sled_log.specs.Batches.{is_open}
+use Rattle.sled_log.proofs.Moments.{pending_events}
+use Rattle.sled_log.proofs.memory.calls.MemLogLog.seal.Goals as goal
+
+-- a batch is open, so there is room for its closing mark
+pub add-requires-clause-room : goal.add-requires-clause-room
+add-requires-clause-room c =
+    let self = c.args.self.now in
+    self.room (self.batch_is ∙ ap is_open (sym (pending_events self.clock self.stable self.items.items self.in_order)) ∙ c.requires.opened)

@@ -1,0 +1,6 @@
+use Rattle.std.proofs.Common.{refl}
+use Rattle.sled_log.proofs.Buffered.{called_buffered}
+use Rattle.sled_log.proofs.tests.buffered.BufferedLogLog.read.Goals as goal
+
+pub returns-clause-called : goal.returns-clause-called
+returns-clause-called c = called_buffered (λ log. log.log) c.args.self.now _ _ _ _ c.read.result (λ _. refl) c.read.ensures.called c.read.ensures.past

@@ -1,0 +1,21 @@
+use Rattle.std.proofs.Common.{List, [], refl, sym, subst}
+use Rattle.std.specs.List.{AllByRecursion}
+use Rattle.std.specs.Prelude.{OnOk}
+use Rattle.sled_log.specs.Laws.{now-Adds}
+use Rattle.sled_log.specs.Memory.{state_of}
+use Rattle.sled_log.specs.Messages.{Chain, effect_of_entry}
+use Rattle.sled_log.specs.Pages.{IsSized}
+use Rattle.sled_log.specs.declared.tests.eager.EagerLog.{EagerLog}
+use Rattle.sled_log.proofs.Eager.{called_eager}
+use Rattle.sled_log.proofs.tests.eager.EagerLogLog.append.Goals as goal
+
+pub returns-clause-called : goal.returns-clause-called
+returns-clause-called c =
+    let settled = c.settle.ensures in
+    called_eager (λ (log : EagerLog). log.log) c.args.self.now _ _ _ _ _ _ settled.adds settled.stop settled.counts (λ said. refl) c.append-said.ensures.called
+
+-- what became stable behind the call changed no page
+pub returns-clause-sized : goal.returns-clause-sized
+returns-clause-sized c =
+    subst (λ (l : List Chain). OnOk c.append-said.result (AllByRecursion IsSized l))
+    (sym (now-Adds effect_of_entry (state_of c.append-said.new.self) (state_of c.settle.new.log) [] c.settle.ensures.adds)) c.append-said.ensures.sized

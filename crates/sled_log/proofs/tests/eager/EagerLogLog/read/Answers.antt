@@ -1,0 +1,9 @@
+use Rattle.std.proofs.Common.{refl}
+use Rattle.sled_log.specs.declared.tests.eager.EagerLog.{EagerLog}
+use Rattle.sled_log.proofs.Eager.{called_eager}
+use Rattle.sled_log.proofs.tests.eager.EagerLogLog.read.Goals as goal
+
+pub returns-clause-called : goal.returns-clause-called
+returns-clause-called c =
+    let settled = c.settle.ensures in
+    called_eager (λ (log : EagerLog). log.log) c.args.self.now _ _ _ _ _ _ settled.adds settled.stop settled.counts (λ said. refl) c.read-found.ensures.called

@@ -1,0 +1,29 @@
+-- Batches, and where a stop may cut a list of events.
+use Rattle.std.specs.Prelude.{◌≡◌, ℕ, ◌≤◌, Bool, true, false, List, [], ◌∷◌, length, take, drop}
+use Rattle.sled_log.specs.Events.{Event, Change, Pin, Seal, Cancel}
+
+module _ {E : Type 0} where
+  -- whether a batch is open after these events, where the first argument says whether one is before them
+  abbrev pub open_after : Bool → List (Event E) → Bool
+  open_after was [] = was
+  open_after was (Change id said ∷ events) = open_after was events
+  open_after was (Pin ∷ events) = open_after true events
+  open_after was (Seal ∷ events) = open_after false events
+  open_after was (Cancel ∷ events) = open_after false events
+
+  -- whether these events leave a batch open
+  abbrev pub is_open : List (Event E) → Bool
+  is_open events = open_after false events
+
+  -- whether a batch that is open before these events is cancelled by them: not where it is sealed or still open
+  abbrev pub is_cancelled : List (Event E) → Bool
+  is_cancelled [] = false
+  is_cancelled (Change id said ∷ events) = is_cancelled events
+  is_cancelled (Pin ∷ events) = is_cancelled events
+  is_cancelled (Seal ∷ events) = false
+  is_cancelled (Cancel ∷ events) = true
+
+  -- A stop may keep the first `cut` of these events: no batch is open there, but for one that is cancelled behind it.
+  pub record IsFair (events : List (Event E)) (cut : ℕ) : Type 0 where
+    pub within : cut ≤ length events
+    pub no_part : is_open (take cut events) ≡ true → is_cancelled (drop cut events) ≡ true

@@ -1,0 +1,72 @@
+-- What a call of a log does.
+use Rattle.std.specs.Prelude.{◌≡◌, ◌⊎◌, ◌+◌, ◌-◌, ◌^◌, ◌<◌, ◌≤◌, ℕ, Bool, true, false, not, nat_lt, nat_le, ◌==◌, List, [], length, slice_index_or, Result, Ok, Err, IfOk, OnErr, IsErrOf, if◌then◌else◌}
+use Rattle.sled_base.specs.declared.kinds.LogKind.{LogKind}
+use Rattle.sled_base.specs.declared.kinds.MessageKind.{MessageKind}
+use Rattle.sled_base.specs.declared.kinds.MessageKind.TheVariants as kinds
+use Rattle.sled_log.specs.Chains.{is_empty}
+use Rattle.sled_log.specs.Events.{Event}
+use Rattle.sled_log.specs.Messages.{Message, Entry, Told, effect_of, effect_of_entry}
+use Rattle.sled_log.specs.State.{State, Adds, IsLeft, told_state, StopsLeave}
+use Rattle.sled_log.specs.declared.log.LogError.{LogError}
+use Rattle.sled_log.specs.declared.log.LogError.TheVariants.{Memory, Full, ReadFault, WriteFault, Corruption}
+
+-- Whether a log may be told a message of that kind of a page: a content where the page is there or is the next new one, that
+-- it is free where it is there, and a link where it has a content. Blobs are a log's own, and so are the other kinds.
+abbrev pub can_tell : {E : Type 0} → (E → LogKind) → List (List E) → ℕ → MessageKind → Bool
+can_tell effect pages pid kinds.Free = nat_lt pid (length pages)
+can_tell effect pages pid kinds.Counter = nat_le pid (length pages)
+can_tell effect pages pid kinds.InlineMeta = nat_le pid (length pages)
+can_tell effect pages pid kinds.InlineNode = nat_le pid (length pages)
+can_tell effect pages pid kinds.InlineLink = not (is_empty effect (slice_index_or pages pid []))
+can_tell effect pages pid kind = false
+
+-- The events of a call that a stop may find: a call that answers Memory, Full or ReadFault has none.
+abbrev pub begun_by : {T : Type 0} → Result T LogError → List (Event Message) → List (Event Message)
+begun_by (Ok _) events = events
+begun_by (Err WriteFault) events = events
+begun_by (Err Memory) events = []
+begun_by (Err Full) events = []
+begun_by (Err ReadFault) events = []
+begun_by (Err Corruption) events = []
+
+-- How often a log has read, and how often a read, and a write or sync, has failed. Each count stays at the greatest u64.
+pub record Counts : Type 0 where
+  pub reads : ℕ
+  pub failed_reads : ℕ
+  pub write_faults : ℕ
+
+-- one more, or the greatest u64
+abbrev pub one_more : ℕ → ℕ
+one_more n = if n == 2 ^ 64 - 1 then n else n + 1
+
+-- the count grew, or stays where it counts as grown
+abbrev pub HasGrown : ℕ → ℕ → Type 0
+HasGrown old new = (old < new) ⊎ (new ≡ 2 ^ 64 - 1)
+
+-- A fault is told only where its count grew, and no count falls. Corruption is never told of what the log was given.
+pub record HasCause {T : Type 0} (old new : Counts) (result : Result T LogError) : Type 0 where
+  pub failed_reads : old.failed_reads ≤ new.failed_reads
+  pub write_faults : old.write_faults ≤ new.write_faults
+  pub read : IsErrOf result ReadFault → HasGrown old.failed_reads new.failed_reads
+  pub write : IsErrOf result WriteFault → HasGrown old.write_faults new.write_faults
+  pub sound : IsErrOf result Corruption → ⊥
+
+-- whether the call met a write fault
+abbrev pub is_write_fault : {T : Type 0} → Result T LogError → Bool
+is_write_fault (Ok _) = false
+is_write_fault (Err Memory) = false
+is_write_fault (Err Full) = false
+is_write_fault (Err ReadFault) = false
+is_write_fault (Err WriteFault) = true
+is_write_fault (Err Corruption) = false
+
+-- What a call does that, by its answer, is to add these events, and has begun these messages and marks. At Ok the events
+-- were added, at a refusal none was; a write fault makes the log unusable. A stop at any moment of it leaves what was
+-- pending and what was begun, up to a fair cut. The log has read so often then.
+pub record Called {L T : Type 0} (state : L → State Entry) (moment : L → ℕ) (left_since : L → ℕ → List Told → Type 0) (counts : L → Counts) (old new : L) (count : ℕ) (events : T → List (Event Entry)) (begun : List (Event Message)) (result : Result T LogError) : Type 0 where
+  pub added : IfOk result (λ answer. Adds effect_of_entry (state old) (events answer) (state new))
+  pub refused : OnErr result (is_write_fault result ≡ false → Adds effect_of_entry (state old) [] (state new))
+  pub usable : (state new).usable ≡ not (is_write_fault result)
+  pub stop : StopsLeave moment left_since old new (IsLeft effect_of (told_state (state old)) (begun_by result begun))
+  pub cause : HasCause (counts old) (counts new) result
+  pub reads : (counts new).reads ≡ count

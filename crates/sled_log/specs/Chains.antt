@@ -1,0 +1,72 @@
+-- The chain of a page: the last change that puts a content there, and the links after it.
+use Rattle.std.specs.List.{list_all}
+use Rattle.std.specs.Prelude.{ℕ, ◌==◌, Bool, true, false, List, [], ◌∷◌, ◌++◌, length, slice_set, slice_index_or, if◌then◌else◌}
+use Rattle.sled_base.specs.declared.kinds.LogKind.{LogKind}
+use Rattle.sled_base.specs.declared.kinds.LogKind.TheVariants as kinds
+use Rattle.sled_log.specs.Events.{Event, Change, Pin, Seal, Cancel}
+
+abbrev pub is_freeing : LogKind → Bool
+is_freeing kinds.Free = true
+is_freeing kinds.Replace = false
+is_freeing kinds.Link = false
+is_freeing kinds.Skip = false
+is_freeing kinds.Corrupted = false
+
+abbrev pub is_linking : LogKind → Bool
+is_linking kinds.Free = false
+is_linking kinds.Replace = false
+is_linking kinds.Link = true
+is_linking kinds.Skip = false
+is_linking kinds.Corrupted = false
+
+-- what a change does to its page, for each thing that a change may be said by
+module _ {E : Type 0} (effect : E → LogKind) where
+  -- whether a page has no content: there is no change of it, or it was freed
+  abbrev pub is_empty : List E → Bool
+  is_empty [] = true
+  is_empty (said ∷ chain) = is_freeing (effect said)
+
+  -- the chain after a link, which a page without a content doesn't take
+  abbrev pub linked : List E → E → List E
+  linked chain said = if is_empty chain then chain else chain ++ said ∷ []
+
+  -- The chains, by id, with a new one. An id that is their number makes a new page; one above it changes nothing.
+  abbrev pub begun : List (List E) → ℕ → E → List (List E)
+  begun chains id said = if id == length chains then chains ++ (said ∷ []) ∷ [] else slice_set chains id (said ∷ [])
+
+  -- the chains after one change, by what it does
+  abbrev pub changed : LogKind → List (List E) → ℕ → E → List (List E)
+  changed kinds.Free chains id said = begun chains id said
+  changed kinds.Replace chains id said = begun chains id said
+  changed kinds.Link chains id said = slice_set chains id (linked (slice_index_or chains id []) said)
+  changed kinds.Skip chains id said = chains
+  changed kinds.Corrupted chains id said = chains
+
+  -- the chains after one event; a mark changes none
+  abbrev pub chains_from : List (List E) → Event E → List (List E)
+  chains_from chains (Change id said) = changed (effect said) chains id said
+  chains_from chains Pin = chains
+  chains_from chains Seal = chains
+  chains_from chains Cancel = chains
+
+  -- the chains after events, the first of them first
+  abbrev pub chains_after : List (List E) → List (Event E) → List (List E)
+  chains_after chains [] = chains
+  chains_after chains (event ∷ events) = chains_after (chains_from chains event) events
+
+  abbrev pub is_end : List E → Bool
+  is_end [] = true
+  is_end (said ∷ chain) = false
+
+  -- whether these follow a change that does so: links follow a content, and nothing one that frees the page
+  abbrev pub may_follow : LogKind → List E → Bool
+  may_follow kinds.Free chain = is_end chain
+  may_follow kinds.Replace chain = list_all (λ said. is_linking (effect said)) chain
+  may_follow kinds.Link chain = false
+  may_follow kinds.Skip chain = false
+  may_follow kinds.Corrupted chain = false
+
+  -- whether this is the chain of a page
+  abbrev pub is_chain : List E → Bool
+  is_chain [] = false
+  is_chain (said ∷ chain) = may_follow (effect said) chain

@@ -1,0 +1,64 @@
+-- What a log is told of a page, and where it keeps it.
+use Rattle.std.specs.Prelude.{ℕ, ◌+◌, ℤ, List, length, map}
+use Rattle.sled_base.specs.Kinds.{log_kind_of}
+use Rattle.sled_base.specs.declared.kinds.LogKind.{LogKind}
+use Rattle.sled_base.specs.declared.kinds.MessageKind.{MessageKind}
+use Rattle.sled_base.specs.declared.kinds.MessageKind.TheVariants as kinds
+use Rattle.sled_base.specs.declared.types.DiskPtr.{DiskPtr}
+use Rattle.sled_base.specs.declared.types.DiskPtr.TheVariants.{Inline, Blob}
+
+-- the kind of a message, and the bytes of its payload
+pub record Message : Type 0 where
+  pub kind : MessageKind
+  pub payload : List ℕ
+
+abbrev pub message : MessageKind → List ℕ → Message
+message kind payload = record { kind = kind; payload = payload }
+
+-- where a message is kept, and what it takes there
+pub record Place : Type 0 where
+  pub lsn : ℤ
+  pub pointer : DiskPtr
+  pub log_size : ℕ
+
+-- a message that a log keeps at a place
+pub record Entry : Type 0 where
+  pub message : Message
+  pub place : Place
+
+-- a page as a log keeps it, and as one knows it who knows nothing of places
+abbrev pub Chain : Type 0
+Chain = List Entry
+
+abbrev pub Told : Type 0
+Told = List Message
+
+abbrev pub told : Chain → Told
+told chain = map (λ entry. entry.message) chain
+
+-- what a message does to its page
+abbrev pub effect_of : Message → LogKind
+effect_of message = log_kind_of message.kind
+
+abbrev pub effect_of_entry : Entry → LogKind
+effect_of_entry entry = effect_of entry.message
+
+-- how much of a log a message takes up: 17 bytes, and its payload
+abbrev pub size_of : Message → ℕ
+size_of message = 17 + length message.payload
+
+-- the kind under which a payload of a kind is kept as a blob, if it has one
+abbrev pub blob_kind : MessageKind → MessageKind
+blob_kind kinds.InlineMeta = kinds.BlobMeta
+blob_kind kinds.InlineNode = kinds.BlobNode
+blob_kind kinds.InlineLink = kinds.BlobLink
+blob_kind kind = kind
+
+-- the kind that a reader of an entry is told
+abbrev pub kind_at : DiskPtr → MessageKind → MessageKind
+kind_at (Inline place) kind = kind
+kind_at (Blob place pointer) kind = blob_kind kind
+
+-- a message at the place that a call answers: its lsn, the pointer to it, and its log size
+abbrev pub placed : Message → ℤ × DiskPtr × ℕ → Entry
+placed message said = record { message = message; place = record { lsn = said.0; pointer = said.1; log_size = said.2 } }

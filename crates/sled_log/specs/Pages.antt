@@ -1,0 +1,36 @@
+-- How a log answers what it keeps of pages.
+use Rattle.std.specs.Prelude.{◌≡◌, ℕ, ℤ, ◌<◌, ◌^◌, true, false, [], ◌∷◌, map, sum_by}
+use Rattle.std.specs.Global.{Vec}
+use Rattle.std.specs.List.{AllByRecursion}
+use Rattle.sled_base.specs.declared.kinds.MessageKind.{MessageKind}
+use Rattle.sled_base.specs.declared.types.DiskPtr.{DiskPtr}
+use Rattle.sled_log.specs.Chains.{is_empty}
+use Rattle.sled_log.specs.Messages.{Entry, Chain, effect_of_entry, kind_at, size_of}
+use Rattle.sled_base.specs.declared.types.page_state.PageState.{PageState}
+use Rattle.sled_base.specs.declared.types.page_state.PageState.TheVariants.{Present, Free}
+
+-- the place of an entry, as a page says it
+abbrev pub said_of : Entry → ℤ × DiskPtr × ℕ
+said_of entry = (entry.place.lsn, entry.place.pointer, entry.place.log_size)
+
+-- where a message that frees a page is kept
+abbrev pub freed_of : Entry → ℤ × DiskPtr
+freed_of entry = (entry.place.lsn, entry.place.pointer)
+
+-- A page that has a content is said by the places of its chain, a free one by that of the message that freed it.
+abbrev pub IsPageState : Chain → PageState → Type 0
+IsPageState chain (Present base frags) = (is_empty effect_of_entry chain ≡ false) × (map said_of chain ≡ base ∷ frags.items)
+IsPageState chain (Free lsn pointer) = (is_empty effect_of_entry chain ≡ true) × (map freed_of chain ≡ (lsn, pointer) ∷ [])
+
+-- Each log size of a chain is that of its message, and together they are at most the greatest i64.
+pub record IsSized (chain : Chain) : Type 0 where
+  pub each : AllByRecursion (λ entry. entry.place.log_size ≡ size_of entry.message) chain
+  pub total : sum_by (λ entry. entry.place.log_size) chain < 2 ^ 63
+
+-- an entry that is kept there
+abbrev pub IsAt : ℤ → DiskPtr → Entry → Type 0
+IsAt lsn pointer entry = (entry.place.lsn ≡ lsn) × (entry.place.pointer ≡ pointer)
+
+-- what a reader of an entry is told: its kind, or that of its blob, and its payload
+abbrev pub IsRead : Entry → MessageKind × Vec ℕ → Type 0
+IsRead entry found = (found.0 ≡ kind_at entry.place.pointer entry.message.kind) × (found.1.items ≡ entry.message.payload)

@@ -1,0 +1,88 @@
+-- Which change of a page a message is: the one that its payload reads.
+use Rattle.std.specs.Prelude.{◌≡◌, ◌<◌, ◌≤◌, ℕ, List, [], ◌∷◌, ◌++◌, length, take, slice_get, Some}
+use Rattle.std.specs.List.{AllZip}
+use Rattle.sled_base.specs.Payloads.Numbers.{ReadsU64}
+use Rattle.sled_base.specs.declared.kinds.MessageKind.{MessageKind}
+use Rattle.sled_base.specs.declared.kinds.MessageKind.TheVariants as kinds
+use Rattle.sled_node.specs.Links.{Accepts, applied}
+use Rattle.sled_node.specs.Node.{WholeNode}
+use Rattle.sled_node.specs.Payloads.Links.{ReadsLink}
+use Rattle.sled_node.specs.Payloads.Nodes.{ReadsNode}
+use Rattle.sled_node.specs.Payloads.Roots.{ReadsRoots}
+use Rattle.sled_node.specs.declared.node.link.Link.{Link as NodeLink}
+use Rattle.sled_log.specs.Batches.{IsFair}
+use Rattle.sled_log.specs.Contents.{contents_from, contents_after, Content, Free, Counter, Roots, Node, Update, Put, Link}
+use Rattle.sled_log.specs.Events.{Event, Change, Pin, Seal, Cancel}
+use Rattle.sled_log.specs.Messages.{Message, Told}
+use Rattle.sled_log.specs.State.{IsBeginning}
+
+-- The payload of such a kind reads the update, up to the payload's end.
+abbrev pub Reads : MessageKind → List ℕ → Update → Type 0
+Reads kinds.Free payload (Put Free) = payload ≡ []
+Reads kinds.Counter payload (Put (Counter n)) = ReadsU64 payload n []
+Reads kinds.InlineMeta payload (Put (Roots roots)) = ReadsRoots payload roots []
+Reads kinds.BlobMeta payload (Put (Roots roots)) = ReadsRoots payload roots []
+Reads kinds.InlineNode payload (Put (Node node)) = ReadsNode payload node []
+Reads kinds.BlobNode payload (Put (Node node)) = ReadsNode payload node []
+Reads kinds.InlineLink payload (Link link) = ReadsLink payload link []
+Reads kinds.BlobLink payload (Link link) = ReadsLink payload link []
+-- no other kind goes with an update
+Reads kind payload update = ⊥
+
+abbrev pub IsUpdate : Message → Update → Type 0
+IsUpdate message update = Reads message.kind message.payload update
+
+-- the events that messages are
+abbrev pub IsEvent : Event Message → Event Update → Type 0
+IsEvent (Change id message) (Change other update) = (id ≡ other) × IsUpdate message update
+IsEvent Pin Pin = Unit {0}
+IsEvent Seal Seal = Unit {0}
+IsEvent Cancel Cancel = Unit {0}
+IsEvent event other = ⊥
+
+-- The messages behind the first one of a page make this of what it held: each is a link, and the node that it meets accepts
+-- it.
+abbrev pub LeadTo : Content → Told → Content → Type 0
+LeadTo before [] after = before ≡ after
+LeadTo before (message ∷ messages) after =
+    (node : WholeNode) × (link : NodeLink) × (before ≡ Node node) × IsUpdate message (Link link) × Accepts node link × LeadTo (Node (applied link node)) messages after
+
+-- The messages of a page make this content: the first puts a content there, and links follow.
+abbrev pub Makes : Told → Content → Type 0
+Makes [] content = ⊥
+Makes (message ∷ messages) content = (first : Content) × IsUpdate message (Put first) × LeadTo first messages content
+
+-- pages of which these messages were told hold such contents
+abbrev pub Hold : List Told → List Content → Type 0
+Hold = AllZip Makes
+
+-- The change may be made of pages that hold such contents: one puts a content on a page that is there, or on the next new
+-- one, which isn't left free, and a link is accepted by the page's node.
+abbrev pub MayChange : List Content → ℕ → Update → Type 0
+MayChange contents id (Put Free) = id < length contents
+MayChange contents id (Put (Counter n)) = id ≤ length contents
+MayChange contents id (Put (Roots roots)) = id ≤ length contents
+MayChange contents id (Put (Node node)) = id ≤ length contents
+MayChange contents id (Link link) = (node : WholeNode) × (slice_get contents id ≡ Some (Node node)) × Accepts node link
+
+abbrev pub MayCome : List Content → Event Update → Type 0
+MayCome contents (Change id update) = MayChange contents id update
+MayCome contents Pin = Unit {0}
+MayCome contents Seal = Unit {0}
+MayCome contents Cancel = Unit {0}
+
+-- Messages are these changes, and each may be made of what the pages hold by then.
+abbrev pub AreTold : List Content → List (Event Message) → List (Event Update) → Type 0
+AreTold contents [] [] = Unit {0}
+AreTold contents (message ∷ messages) (event ∷ events) = IsEvent message event × MayCome contents event × AreTold (contents_from contents event) messages events
+AreTold contents [] (event ∷ events) = ⊥
+AreTold contents (message ∷ messages) [] = ⊥
+
+-- What a stop leaves of stable contents, pending events, and others that began to come: some beginning of these had come,
+-- and the pages hold what was stable, and then the pending events up to a fair cut.
+pub record AreLeft (stable : List Content) (pending begun : List (Event Update)) (pages : List Told) : Type 0 where
+  pub came : List (Event Update)
+  pub beginning : IsBeginning came begun
+  pub cut : ℕ
+  pub fair : IsFair (pending ++ came) cut
+  pub is : Hold pages (contents_after stable (take cut (pending ++ came)))

@@ -1,0 +1,48 @@
+//! What holds of the definitions that the contracts of a log cite.
+
+ghost use Rattle.std.specs.Prelude.{◌≡◌, List, map};
+ghost use Rattle.sled_log.specs.Chains.{chains_after};
+ghost use Rattle.sled_log.specs.Contents.{Content, Update, contents_after, effect_of_update, content_of};
+ghost use Rattle.sled_log.specs.Events.{Event};
+ghost use Rattle.sled_log.specs.Messages.{Message, Entry, Told, effect_of, effect_of_entry};
+ghost use Rattle.sled_log.specs.Reading.{IsUpdate, Makes, AreTold, Hold, AreLeft};
+ghost use Rattle.sled_log.specs.State.{State, Adds, IsLeft, told_state};
+ghost use Rattle.sled_log.specs.Writing.{message_of, CanWrite};
+ghost use Rattle.sled_log.specs.TellingLaws.{told_events};
+
+/// Folding chains and folding contents agree: the contents of the chains after events are those of the chains before
+/// them, after the events.
+pub fn chains_fold_to_contents()
+    ensures { (chains : List (List Update)) (events : List (Event Update)) → map content_of (chains_after effect_of_update chains events) ≡ contents_after (map content_of chains) events }
+{}
+
+/// A message is one change of its page at most: its payload reads no two.
+pub fn a_message_is_one_change()
+    ensures { (message : Message) (u v : Update) → IsUpdate message u → IsUpdate message v → u ≡ v }
+{}
+
+/// A change within the limits is read again from the message that it is written as.
+pub fn what_was_written_is_read()
+    ensures { (update : Update) → CanWrite update → IsUpdate (message_of update) update }
+{}
+
+/// The messages of a page make one content at most.
+pub fn a_page_holds_one_content()
+    ensures { (messages : Told) (c d : Content) → Makes messages c → Makes messages d → c ≡ d }
+{}
+
+/// Pages hold, after messages, the contents after the changes that these are.
+pub fn messages_change_contents()
+    ensures { (pages : List Told) (contents : List Content) (messages : List (Event Message)) (events : List (Event Update)) → Hold pages contents → AreTold contents messages events → Hold (chains_after effect_of pages messages) (contents_after contents events) }
+{}
+
+/// Whoever knows nothing of places sees a log add the same.
+pub fn places_are_forgotten()
+    ensures { (old new : State Entry) (events : List (Event Entry)) → Adds effect_of_entry old events new → Adds effect_of (told_state old) (told_events events) (told_state new) }
+{}
+
+/// What a stop leaves holds the stable contents, and then the pending changes and a beginning of those that had begun,
+/// up to a fair cut.
+pub fn stops_leave_contents()
+    ensures { (old : State Message) (begun : List (Event Message)) (pages : List Told) (stable : List Content) (pending events : List (Event Update)) → Hold old.stable stable → AreTold stable old.pending pending → AreTold (contents_after stable pending) begun events → IsLeft effect_of old begun pages → AreLeft stable pending events pages }
+{}

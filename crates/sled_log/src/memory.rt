@@ -1,0 +1,163 @@
+//! The log in memory.
+
+ghost use Rattle.std.specs.Prelude.{◌≡◌, ◌+◌, ◌≤◌, ◌<◌, ◌^◌, ◌↔◌, [], ◌∷◌, ◌++◌, length, take, drop, map, true, false, IsTrue, vec_len, vec_capacity};
+ghost use Rattle.sled_log.specs.Batches.{is_open, open_after, IsFair};
+ghost use Rattle.sled_log.specs.Calls.{one_more};
+ghost use Rattle.sled_log.specs.Chains.{chains_after};
+ghost use Rattle.sled_log.specs.Items.{event_of, event_of_mark, size_of_mark, log_size, IsInOrder, are_placed, stands_at};
+ghost use Rattle.sled_log.specs.Messages.{effect_of, effect_of_entry};
+ghost use Rattle.sled_log.specs.State.{State, Adds, IsLeft, StopsLeave, told_state};
+ghost use Rattle.sled_log.specs.TellingLaws.{told_events};
+
+mod calls;
+mod cuts;
+mod finding;
+mod item;
+mod keeping;
+mod pages;
+
+use cuts::is_fair_cut;
+use item::{Item, Mark};
+use keeping::{keep_first, total_size};
+use std::alloc::Global;
+
+/// A log in memory. Each item keeps when it came and when it became stable, so what a stop at any moment might have
+/// left is known from what is stored.
+#[derive(Drop)]
+pub struct MemLog {
+    alloc: Global,
+    // payloads above so many bytes are blobs
+    blob_limit: usize,
+    clean_every: u64,
+    items: Vec<Item>,
+    // how many of them are stable
+    stable: usize,
+    // the log sizes of the stable messages, and of all
+    stable_size: u64,
+    size: u64,
+    clock: u128,
+    // whether a batch is open
+    batch: bool,
+    reads: u64,
+    ghost in_order: { IsInOrder clock stable items.items },
+    ghost counted: { clock ≤ length items.items + stable },
+    ghost sized: { size ≡ log_size items.items },
+    ghost stable_sized: { stable_size ≡ log_size (take stable items.items) },
+    ghost fits: { size < 2 ^ 63 },
+    ghost placed: { IsTrue (are_placed 0 items.items) },
+    ghost batch_is: { batch ≡ is_open (map event_of (drop stable items.items)) },
+    // a batch that is open has room for its closing mark
+    ghost room: { batch ≡ true → vec_len items < vec_capacity items },
+}
+
+impl MemLog {
+    ghost use Rattle.sled_log.specs.Memory.{state_of, clock_of, might_have_left, counts_of, settings_of, size_of, Remembers};
+
+    /// An empty log. It takes no memory.
+    ///
+    /// Payloads above `blob_limit` bytes are kept as blobs, and a page is to be moved for every `clean_every` messages.
+    pub fn new(alloc: Global, blob_limit: usize, clean_every: u64) -> MemLog
+        ensures state { state_of result ≡ record { stable = []; pending = []; usable = true } }
+        ensures settings { settings_of result ≡ (blob_limit, clean_every) }
+        ensures size { size_of result ≡ 0 }
+        ensures moment { clock_of result ≡ 0 }
+        ensures counts { counts_of result ≡ record { reads = 0; failed_reads = 0; write_faults = 0 } }
+    {
+        MemLog {
+            alloc,
+            blob_limit,
+            clean_every,
+            items: Vec::new(alloc),
+            stable: 0,
+            stable_size: 0,
+            size: 0,
+            clock: 0,
+            batch: false,
+            reads: 0,
+        }
+    }
+
+    /// Whether a stop may keep `n` of the pending events.
+    pub fn is_fair(&self, n: usize) -> bool
+        ensures { IsTrue result ↔ IsFair (state_of self.now).pending n }
+    {
+        is_fair_cut(&self.items[self.stable..], n)
+    }
+
+    /// The log after a stop that kept `n` of the pending events.
+    pub fn stop(self, n: usize) -> MemLog
+        requires { IsFair (state_of self).pending n }
+        ensures stable { (state_of result).stable ≡ chains_after effect_of_entry (state_of self).stable (take n (state_of self).pending) }
+        ensures pending { (state_of result).pending ≡ [] }
+        ensures moment { clock_of result ≡ 0 }
+        ensures settings { settings_of result ≡ settings_of self }
+    {
+        let MemLog {
+            alloc,
+            blob_limit,
+            clean_every,
+            mut items,
+            stable,
+            stable_size: _,
+            size: _,
+            clock: _,
+            batch: _,
+            reads,
+        } = self;
+        let kept = stable + n;
+        keep_first(&mut items, kept);
+        let size = total_size(&items);
+        let stable = items.len();
+        MemLog {
+            alloc,
+            blob_limit,
+            clean_every,
+            items,
+            stable,
+            stable_size: size,
+            size,
+            clock: 0,
+            batch: false,
+            reads,
+        }
+    }
+
+    // Adds an item for which there is room. `batch` says whether a batch is open then.
+    fn add(&mut self, mark: Mark, batch: bool)
+        requires room { vec_len self.old.items < vec_capacity self.old.items }
+        requires more_room { batch ≡ true → vec_len self.old.items + 1 < vec_capacity self.old.items }
+        requires fits { self.old.size + size_of_mark mark < 2 ^ 63 }
+        requires stands { IsTrue (stands_at self.old.size mark) }
+        requires batch { batch ≡ open_after self.old.batch (event_of_mark mark ∷ []) }
+        ensures adds { Adds effect_of_entry (state_of self.old) (event_of_mark mark ∷ []) (state_of self.new) }
+        ensures stop { StopsLeave clock_of might_have_left self.old self.new (IsLeft effect_of (told_state (state_of self.old)) (told_events (event_of_mark mark ∷ []))) }
+        ensures reads { self.new.reads ≡ self.old.reads }
+        ensures settings { settings_of self.new ≡ settings_of self.old }
+        ensures stable { (state_of self.new).stable ≡ (state_of self.old).stable }
+        ensures pending { (state_of self.new).pending ≡ (state_of self.old).pending ++ event_of_mark mark ∷ [] }
+        ensures past { Remembers self.old self.new }
+    {
+        self.clock += 1;
+        self.size += mark.size();
+        self.batch = batch;
+        let item = Item {
+            mark,
+            end: self.size,
+            came: self.clock,
+            settled: None,
+        };
+        self.items.push_reserved(item);
+    }
+
+    // Counts a read.
+    fn count_read(&mut self)
+        ensures reads { self.new.reads ≡ one_more self.old.reads }
+        ensures clock { self.new.clock ≡ self.old.clock }
+        ensures items { self.new.items.items ≡ self.old.items.items }
+        ensures settings { settings_of self.new ≡ settings_of self.old }
+    {
+        if self.reads < u64::MAX {
+            self.reads += 1;
+        }
+    }
+}

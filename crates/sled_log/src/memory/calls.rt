@@ -1,0 +1,216 @@
+// The log in memory as a log.
+
+ghost use Rattle.std.specs.Prelude.{◌≡◌, ◌+◌, ◌≤◌, ◌<◌, ◌^◌, ◌↔◌, pos, [], ◌∷◌, length, true, false, slice_index_or, IfOk, IfErr, OnOk, IsOk, IsErrOf};
+ghost use Rattle.std.specs.List.{All, AllByRecursion, AllZip, Any};
+ghost use Rattle.sled_log.specs.Batches.{is_open};
+ghost use Rattle.sled_log.specs.Calls.{Called, one_more};
+ghost use Rattle.sled_log.specs.Chains.{is_chain};
+ghost use Rattle.sled_log.specs.Events.{Change, Pin, Seal, Cancel};
+ghost use Rattle.sled_log.specs.Items.{state_at, WasLeft, left_now, stable_left, pointer_at};
+ghost use Rattle.sled_log.specs.Messages.{effect_of_entry, message, placed};
+ghost use Rattle.sled_log.specs.Pages.{IsPageState, IsSized, IsAt, IsRead};
+ghost use Rattle.sled_log.specs.State.{now};
+ghost use Rattle.sled_log.specs.declared.log.LogError.TheVariants.{Memory, Full};
+
+use super::MemLog;
+use super::finding::{change_at, told};
+use super::item::{self, HEAD, Mark};
+use super::keeping::settle_from;
+use super::pages::apply;
+use crate::{Log, LogError, PageState};
+use sled_base::{DiskPtr, LogOffset, Lsn, MessageKind, PageId};
+
+const MAX_SIZE: u64 = i64::MAX as u64;
+
+// The pointer to a message at that place: above the limit its payload is a blob.
+fn pointer_for(limit: usize, place: LogOffset, payload: &[u8]) -> DiskPtr
+    requires { place < 2 ^ 63 }
+    ensures { result ≡ pointer_at limit place payload.now }
+{
+    if payload.len() <= limit {
+        DiskPtr::Inline(place)
+    } else {
+        DiskPtr::Blob(place, place as Lsn)
+    }
+}
+
+impl Log for MemLog {
+    ghost use Rattle.sled_log.specs.Memory.{state_of, clock_of, might_have_left, counts_of, size_of, stable_size_of, pending_size_of, settings_of, MovesNothing, Remembers};
+
+    ghost state = { λ log. state_at log.clock log.items.items };
+
+    ghost moment = { λ log. log.clock };
+
+    ghost left_since = { λ log t pages. WasLeft log.clock log.items.items t pages };
+
+    ghost counts = { λ log. record { reads = log.reads; failed_reads = 0; write_faults = 0 } };
+
+    ghost bytes = { λ log. size_of log };
+
+    ghost stable_bytes = { λ log. pos (stable_size_of log) };
+
+    ghost to_write = { λ log. pending_size_of log };
+
+    ghost is_full = { λ log n. 2 ^ 63 ≤ size_of log + 17 + n };
+
+    ghost is_full_for_batch = { λ _. ⊥ };
+
+    ghost keeps_stable = { λ log t le usable. stable_left log.clock log.items.items t le };
+
+    ghost only_now = { λ log pages left. left_now log.clock log.items.items pages left };
+
+    // Its place is the sum of the log sizes before it. It is Full exactly where the sum would pass the limit then.
+    fn append(
+        &mut self,
+        kind: MessageKind,
+        pid: PageId,
+        payload: &[u8],
+    ) -> Result<(Lsn, DiskPtr, u64), LogError>
+        ensures called { Called state_of clock_of might_have_left counts_of self.old self.new (counts_of self.old).reads (λ said. Change pid (placed (message kind payload.now) said) ∷ []) (Change pid (message kind payload.now) ∷ []) result }
+        ensures size { IfOk result (λ said. said.2 ≡ 17 + length payload.now) }
+        ensures sized { OnOk result (AllByRecursion IsSized (now effect_of_entry (state_of self.new))) }
+        ensures lsn { IfOk result (λ said. said.0 ≡ pos (size_of self.old)) }
+        ensures pointer { IfOk result (λ said. said.1 ≡ pointer_at (settings_of self.old).0 (size_of self.old) payload.now) }
+        ensures moves { MovesNothing self.old self.new (λ said. Change pid (placed (message kind payload.now) said) ∷ []) result }
+        ensures full { IsErrOf result Full ↔ (2 ^ 63 ≤ size_of self.old + 17 + length payload.now) }
+        ensures past { Remembers self.old self.new }
+    {
+        let len = payload.len() as u64;
+        let room = MAX_SIZE - self.size;
+        if room < HEAD || room - HEAD < len {
+            return Err(LogError::Full);
+        }
+        let payload = payload.to_vec(self.alloc)?;
+        self.items.reserve(2)?;
+        let lsn = self.size as Lsn;
+        let pointer = pointer_for(self.blob_limit, self.size, &payload);
+        let change = item::Change {
+            kind,
+            pid,
+            payload,
+            lsn,
+            pointer,
+        };
+        self.add(Mark::Change(change), self.batch);
+        Ok((lsn, pointer, HEAD + len))
+    }
+
+    fn read(
+        &mut self,
+        pid: PageId,
+        lsn: Lsn,
+        pointer: DiskPtr,
+    ) -> Result<(MessageKind, Vec<u8>), LogError>
+        requires known { Any (IsAt lsn pointer) (slice_index_or (now effect_of_entry (state_of self.old)) pid []) }
+        ensures called { Called state_of clock_of might_have_left counts_of self.old self.new (one_more (counts_of self.old).reads) (λ _. []) [] result }
+        ensures found { IfOk result (λ found. All (λ entry. IsAt lsn pointer entry → IsRead entry found) (slice_index_or (now effect_of_entry (state_of self.old)) pid [])) }
+        ensures moves { MovesNothing self.old self.new (λ _. []) result }
+        ensures only { IfErr result (λ e. e ≡ Memory) }
+        ensures past { Remembers self.old self.new }
+    {
+        self.count_read();
+        match change_at(&self.items, pointer.lid()) {
+            Some(change) => Ok(told(self.alloc, change)?),
+            None => Err(LogError::Corruption),
+        }
+    }
+
+    // It is never refused.
+    fn make_stable(&mut self) -> Result<usize, LogError>
+        requires closed { is_open (state_of self.old).pending ≡ false }
+        ensures called { Called state_of clock_of might_have_left counts_of self.old self.new (counts_of self.old).reads (λ _. []) [] result }
+        ensures stable { OnOk result ((state_of self.new).pending ≡ []) }
+        ensures number { IfOk result (λ n. n ≡ pending_size_of self.old) }
+        ensures settings { settings_of self.new ≡ settings_of self.old }
+        ensures always { IsOk result }
+        ensures past { Remembers self.old self.new }
+    {
+        let wrote = self.size - self.stable_size;
+        if self.stable < self.items.len() {
+            self.clock += 1;
+            settle_from(&mut self.items, self.stable, self.clock);
+            self.stable = self.items.len();
+            self.stable_size = self.size;
+        }
+        Ok(wrote as usize)
+    }
+
+    // It is never Full.
+    fn pin(&mut self) -> Result<(), LogError>
+        requires closed { is_open (state_of self.old).pending ≡ false }
+        ensures called { Called state_of clock_of might_have_left counts_of self.old self.new (counts_of self.old).reads (λ _. Pin ∷ []) (Pin ∷ []) result }
+        ensures moves { MovesNothing self.old self.new (λ _. Pin ∷ []) result }
+        ensures only { IfErr result (λ e. e ≡ Memory) }
+        ensures past { Remembers self.old self.new }
+    {
+        self.items.reserve(2)?;
+        self.add(Mark::Pin, true);
+        Ok(())
+    }
+
+    // It is never refused.
+    fn seal(&mut self) -> Result<(), LogError>
+        requires opened { is_open (state_of self.old).pending ≡ true }
+        ensures called { Called state_of clock_of might_have_left counts_of self.old self.new (counts_of self.old).reads (λ _. Seal ∷ []) (Seal ∷ []) result }
+        ensures moves { MovesNothing self.old self.new (λ _. Seal ∷ []) result }
+        ensures always { IsOk result }
+        ensures past { Remembers self.old self.new }
+    {
+        self.add(Mark::Seal, false);
+        Ok(())
+    }
+
+    // It is never refused.
+    fn cancel(&mut self) -> Result<(), LogError>
+        requires opened { is_open (state_of self.old).pending ≡ true }
+        ensures called { Called state_of clock_of might_have_left counts_of self.old self.new (counts_of self.old).reads (λ _. Cancel ∷ []) (Cancel ∷ []) result }
+        ensures moves { MovesNothing self.old self.new (λ _. Cancel ∷ []) result }
+        ensures always { IsOk result }
+        ensures past { Remembers self.old self.new }
+    {
+        self.add(Mark::Cancel, false);
+        Ok(())
+    }
+
+    fn recover(&mut self) -> Result<Vec<PageState>, LogError>
+        ensures called { Called state_of clock_of might_have_left counts_of self.old self.new (counts_of self.old).reads (λ _. []) [] result }
+        ensures pages { IfOk result (λ pages. AllZip IsPageState (now effect_of_entry (state_of self.old)) pages.items) }
+        ensures sized { OnOk result (AllByRecursion IsSized (now effect_of_entry (state_of self.old))) }
+        ensures chains { OnOk result (AllByRecursion (λ chain. is_chain effect_of_entry chain ≡ true) (now effect_of_entry (state_of self.old))) }
+        ensures moves { MovesNothing self.old self.new (λ _. []) result }
+        ensures only { IfErr result (λ e. e ≡ Memory) }
+        ensures past { Remembers self.old self.new }
+    {
+        let mut pages = Vec::new(self.alloc);
+        for item in &self.items {
+            if let Mark::Change(change) = &item.mark {
+                apply(self.alloc, &mut pages, change)?;
+            }
+        }
+        Ok(pages)
+    }
+
+    fn batch_open(&self) -> bool {
+        self.batch
+    }
+
+    fn stable_offset(&self) -> Lsn {
+        self.stable_size as Lsn
+    }
+
+    fn size(&self) -> u64 {
+        self.size
+    }
+
+    fn reads(&self) -> u64 {
+        self.reads
+    }
+
+    fn failed_reads(&self) -> u64 {
+        0
+    }
+
+    fn write_faults(&self) -> u64 {
+        0
+    }
+}

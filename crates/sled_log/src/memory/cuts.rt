@@ -1,0 +1,46 @@
+// Where a stop may cut the items of the log in memory.
+
+ghost use Rattle.std.specs.Prelude.{◌≡◌, ◌↔◌, map, IsTrue};
+ghost use Rattle.sled_log.specs.Batches.{is_open, is_cancelled, IsFair};
+ghost use Rattle.sled_log.specs.Items.{event_of};
+
+use super::item::{Item, Mark};
+
+// Whether these items leave a batch open.
+fn leaves_open(items: &[Item]) -> bool
+    ensures { result ≡ is_open (map event_of items.now) }
+{
+    let mut open = false;
+    for item in items {
+        match &item.mark {
+            Mark::Change(_) => {}
+            Mark::Pin => open = true,
+            Mark::Seal | Mark::Cancel => open = false,
+        }
+    }
+    open
+}
+
+// Whether these items cancel a batch that is open before them.
+fn cancels(items: &[Item]) -> bool
+    ensures { result ≡ is_cancelled (map event_of items.now) }
+{
+    for item in items {
+        match &item.mark {
+            Mark::Change(_) | Mark::Pin => {}
+            Mark::Seal => return false,
+            Mark::Cancel => return true,
+        }
+    }
+    false
+}
+
+// Whether a stop may keep the first `n` of these items.
+pub(super) fn is_fair_cut(items: &[Item], n: usize) -> bool
+    ensures { IsTrue result ↔ IsFair (map event_of items.now) n }
+{
+    if items.len() < n {
+        return false;
+    }
+    !leaves_open(&items[..n]) || cancels(&items[n..])
+}

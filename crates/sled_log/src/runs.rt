@@ -1,0 +1,71 @@
+//! Calls of a log in a row.
+
+ghost use Rattle.std.specs.Prelude.{◌≡◌, ℕ, ◌<◌, ◌++◌, true, false, not, IsTrue, List, [], length, take, OnOk, OnErr};
+ghost use Rattle.sled_log.specs.Batches.{is_open};
+ghost use Rattle.sled_log.specs.Calls.{HasCause, is_write_fault};
+ghost use Rattle.sled_log.specs.Events.{Event};
+ghost use Rattle.sled_log.specs.Messages.{Message, effect_of};
+ghost use Rattle.sled_log.specs.Runs.{events_of, events_of_all, can_make, can_make_all};
+ghost use Rattle.sled_log.specs.State.{State, now, Adds, IsLeft, StopsLeave, told_state};
+
+use crate::{Log, LogError};
+use sled_base::{MessageKind, PageId};
+
+/// A call that adds to a log, or makes it stable.
+#[derive(Debug, Drop)]
+pub enum LogCall {
+    Append(MessageKind, PageId, Vec<u8>),
+    MakeStable,
+    Pin,
+    Seal,
+    Cancel,
+}
+
+/// What stops leave of two parts of a call, the second from the state that the first left, is what they leave of the
+/// whole: what was stable and pending, and what both parts began, up to a fair cut.
+pub fn parts_make_the_whole<L: Log>()
+    ensures { (old mid new : L) (before after : State Message) (first second : List (Event Message)) → Adds effect_of before first after → StopsLeave L.moment L.left_since old mid (IsLeft effect_of before first) → StopsLeave L.moment L.left_since mid new (IsLeft effect_of after second) → StopsLeave L.moment L.left_since old new (IsLeft effect_of before (first ++ second)) }
+{}
+
+/// Makes one call.
+fn make_call<L: Log>(log: &mut L, call: &LogCall) -> Result<(), LogError>
+    requires usable { (L.state log.old).usable ≡ true }
+    requires can { IsTrue (can_make (now effect_of (told_state (L.state log.old))) (is_open (L.state log.old).pending) call.now) }
+    ensures added { OnOk result (Adds effect_of (told_state (L.state log.old)) (events_of call.now) (told_state (L.state log.new))) }
+    ensures refused { OnErr result (is_write_fault result ≡ false → Adds effect_of (told_state (L.state log.old)) [] (told_state (L.state log.new))) }
+    ensures usable { (L.state log.new).usable ≡ not (is_write_fault result) }
+    ensures stop { StopsLeave L.moment L.left_since log.old log.new (IsLeft effect_of (told_state (L.state log.old)) (events_of call.now)) }
+    ensures cause { HasCause (L.counts log.old) (L.counts log.new) result }
+{
+    match call {
+        LogCall::Append(kind, pid, payload) => {
+            log.append(*kind, *pid, payload)?;
+        }
+        LogCall::MakeStable => {
+            log.make_stable()?;
+        }
+        LogCall::Pin => log.pin()?,
+        LogCall::Seal => log.seal()?,
+        LogCall::Cancel => log.cancel()?,
+    }
+    Ok(())
+}
+
+/// Makes the calls in order, up to the first that is refused, which adds nothing unless it met a write fault.
+///
+/// A stop at any moment of it leaves what was stable and pending, and a beginning of what all calls add, up to a fair
+/// cut.
+pub fn make_calls<L: Log>(log: &mut L, calls: &[LogCall]) -> Result<(), LogError>
+    requires usable { (L.state log.old).usable ≡ true }
+    requires can { IsTrue (can_make_all (now effect_of (told_state (L.state log.old))) (is_open (L.state log.old).pending) calls.now) }
+    ensures added { OnOk result (Adds effect_of (told_state (L.state log.old)) (events_of_all calls.now) (told_state (L.state log.new))) }
+    ensures refused { OnErr result (is_write_fault result ≡ false → (made : ℕ) × (made < length calls.now) × Adds effect_of (told_state (L.state log.old)) (events_of_all (take made calls.now)) (told_state (L.state log.new))) }
+    ensures usable { (L.state log.new).usable ≡ not (is_write_fault result) }
+    ensures stop { StopsLeave L.moment L.left_since log.old log.new (IsLeft effect_of (told_state (L.state log.old)) (events_of_all calls.now)) }
+    ensures cause { HasCause (L.counts log.old) (L.counts log.new) result }
+{
+    for call in calls {
+        make_call(log, call)?;
+    }
+    Ok(())
+}

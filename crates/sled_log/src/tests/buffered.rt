@@ -1,0 +1,114 @@
+// A log with a buffer: a stop leaves just what was made stable, and nothing of what is pending. The trait asks no more.
+
+ghost use Rattle.std.proofs.Common.{refl, ◌∙◌, ap};
+ghost use Rattle.std.proofs.Math.Nat.{le_refl, le_antisymm};
+ghost use Rattle.std.specs.Prelude.{◌≡◌, ℕ, ◌+◌, ◌≤◌, ◌^◌, pos, [], true};
+ghost use Rattle.sled_log.specs.Laws.{IsFair-none};
+ghost use Rattle.sled_log.specs.Memory.{state_of, clock_of, was_at, counts_of, size_of, stable_size_of, pending_size_of};
+ghost use Rattle.sled_log.specs.State.{told_state};
+
+use super::*;
+use sled_base::PageId;
+
+// A log that holds what is pending in a buffer alone.
+#[derive(Drop)]
+pub(super) struct BufferedLog {
+    log: MemLog,
+}
+
+impl BufferedLog {
+    // An empty log.
+    pub(super) fn new(alloc: Global) -> BufferedLog
+        ensures { state_of result.log ≡ record { stable = []; pending = []; usable = true } }
+    {
+        BufferedLog {
+            log: MemLog::new(alloc, 512, 16),
+        }
+    }
+}
+
+impl Log for BufferedLog {
+    ghost state = { λ log. state_of log.log };
+
+    ghost moment = { λ log. clock_of log.log };
+
+    ghost left_since = { λ log t pages. (at : ℕ) × (t ≤ at) × (at ≤ clock_of log.log) × (pages ≡ (told_state (was_at at log.log)).stable) };
+
+    ghost counts = { λ log. counts_of log.log };
+
+    ghost bytes = { λ log. size_of log.log };
+
+    ghost stable_bytes = { λ log. pos (stable_size_of log.log) };
+
+    ghost to_write = { λ log. pending_size_of log.log };
+
+    ghost is_full = { λ log n. 2 ^ 63 ≤ size_of log.log + 17 + n };
+
+    ghost is_full_for_batch = { λ _. ⊥ };
+
+    ghost keeps_stable = { λ log t le usable. (clock_of log.log, le, le_refl (clock_of log.log), refl) };
+
+    ghost only_now = { λ log pages left. record { came = []; beginning = ([], refl); cut = 0; fair = IsFair-none _; is = left.3 ∙ ap (λ moment. (told_state (was_at moment log.log)).stable) (le_antisymm left.2 left.1) } };
+
+    fn append(
+        &mut self,
+        kind: MessageKind,
+        pid: PageId,
+        payload: &[u8],
+    ) -> Result<(Lsn, DiskPtr, u64), LogError> {
+        self.log.append(kind, pid, payload)
+    }
+
+    fn read(
+        &mut self,
+        pid: PageId,
+        lsn: Lsn,
+        pointer: DiskPtr,
+    ) -> Result<(MessageKind, Vec<u8>), LogError> {
+        self.log.read(pid, lsn, pointer)
+    }
+
+    fn make_stable(&mut self) -> Result<usize, LogError> {
+        self.log.make_stable()
+    }
+
+    fn pin(&mut self) -> Result<(), LogError> {
+        self.log.pin()
+    }
+
+    fn seal(&mut self) -> Result<(), LogError> {
+        self.log.seal()
+    }
+
+    fn cancel(&mut self) -> Result<(), LogError> {
+        self.log.cancel()
+    }
+
+    fn recover(&mut self) -> Result<Vec<PageState>, LogError> {
+        self.log.recover()
+    }
+
+    fn batch_open(&self) -> bool {
+        self.log.batch_open()
+    }
+
+    fn stable_offset(&self) -> Lsn {
+        self.log.stable_offset()
+    }
+
+    fn size(&self) -> u64 {
+        self.log.size()
+    }
+
+    fn reads(&self) -> u64 {
+        self.log.reads()
+    }
+
+    fn failed_reads(&self) -> u64 {
+        self.log.failed_reads()
+    }
+
+    fn write_faults(&self) -> u64 {
+        self.log.write_faults()
+    }
+}
