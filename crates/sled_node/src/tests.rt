@@ -2,10 +2,13 @@ use super::*;
 use sled_base::IVec;
 use std::alloc::{AllocError, Global};
 use std::num::NonZeroU64;
+use std::process::Abort;
 use std::test::Fail;
 
 // Steps of the tests. What a call takes or gives is let go here, and not in a test, which would be proved for each way in which
-// it may be kept.
+// it may be kept. A test that may end early lends its node to a step, and lets it go once, behind it.
+
+fn let_go(_node: Node) {}
 
 fn bytes(alloc: Global, from: &[u8]) -> Result<IVec, AllocError> {
     IVec::from_slice(alloc, from)
@@ -45,17 +48,41 @@ fn makes_node(lo: IVec, hi: IVec, contents: Data) -> bool {
     Node::from_parts(0, None, None, false, lo, hi, contents).is_some()
 }
 
+fn prefixed_leaf(alloc: Global) -> Result<Node, Fail> {
+    Ok(leaf(alloc, 1, b"ba", b"bz")?.ok_or("well-formed")?)
+}
+
 // Whether the node accepts the link, which is then applied.
-fn takes(node: &mut Node, link: Link) -> Result<bool, AllocError> {
-    if !node.accepts(&link) {
+fn applies(node: &mut Node, link: &Link) -> Result<bool, AllocError> {
+    if !node.accepts(link) {
         return Ok(false);
     }
-    node.apply(&link)?;
+    node.apply(link)?;
     Ok(true)
+}
+
+fn takes(node: &mut Node, link: Link) -> Result<bool, AllocError> {
+    applies(node, &link)
+}
+
+fn sets(alloc: Global, node: &mut Node, key: &[u8], value: &[u8]) -> Result<bool, AllocError> {
+    takes(node, set(alloc, key, value)?)
+}
+
+fn dels(alloc: Global, node: &mut Node, key: &[u8]) -> Result<bool, AllocError> {
+    takes(node, del(alloc, key)?)
 }
 
 fn refuses(node: &Node, link: Link) -> bool {
     !node.accepts(&link)
+}
+
+fn refuses_set(alloc: Global, node: &Node, key: &[u8], value: &[u8]) -> Result<bool, AllocError> {
+    Ok(refuses(node, set(alloc, key, value)?))
+}
+
+fn refuses_del(alloc: Global, node: &Node, key: &[u8]) -> Result<bool, AllocError> {
+    Ok(refuses(node, del(alloc, key)?))
 }
 
 // Whether the node has one pair, of this stored key and this value.
@@ -96,64 +123,89 @@ fn default_is_an_empty_leaf(rt: HostRuntime) {
     assert!(rt; node.contains_key(b"\xff\xff"));
 }
 
+fn expect_sets_and_dels(rt: &impl Abort, alloc: Global, node: &mut Node) -> Result<(), AllocError> {
+    assert!(rt; sets(alloc, node, b"b", b"v")?);
+    assert!(rt; has_pair(node, b"b", b"v"));
+    assert!(rt; sets(alloc, node, b"b", b"w")?);
+    assert!(rt; has_pair(node, b"b", b"w"));
+    assert!(rt; dels(alloc, node, b"a")?);
+    assert!(rt; has_pair(node, b"b", b"w"));
+    assert!(rt; dels(alloc, node, b"b")?);
+    assert!(rt; is_empty_leaf(node));
+    Ok(())
+}
+
 #[test]
 fn sets_and_dels(rt: HostRuntime) -> Result<(), Fail> {
-    let alloc = rt.alloc();
-    let mut node = Node::default(alloc);
-    assert!(rt; takes(&mut node, set(alloc, b"b", b"v")?)?);
-    assert!(rt; has_pair(&node, b"b", b"v"));
-    assert!(rt; takes(&mut node, set(alloc, b"b", b"w")?)?);
-    assert!(rt; has_pair(&node, b"b", b"w"));
-    assert!(rt; takes(&mut node, del(alloc, b"a")?)?);
-    assert!(rt; has_pair(&node, b"b", b"w"));
-    assert!(rt; takes(&mut node, del(alloc, b"b")?)?);
-    assert!(rt; is_empty_leaf(&node));
+    let mut node = Node::default(rt.alloc());
+    let done = expect_sets_and_dels(&rt, rt.alloc(), &mut node);
+    let_go(node);
+    Ok(done?)
+}
+
+fn expect_capped(rt: &impl Abort, alloc: Global, node: &mut Node) -> Result<(), AllocError> {
+    assert!(rt; takes(node, Link::ChildMergeCap)?);
+    assert!(rt; node.merging());
+    assert!(rt; refuses_set(alloc, node, b"b", b"v")?);
+    assert!(rt; refuses_del(alloc, node, b"b")?);
+    assert!(rt; refuses(node, Link::ParentMergeIntention(5)));
+    assert!(rt; refuses(node, Link::ParentMergeConfirm));
+    assert!(rt; refuses(node, Link::ChildMergeCap));
     Ok(())
 }
 
 #[test]
 fn a_capped_node_accepts_no_link(rt: HostRuntime) -> Result<(), Fail> {
-    let alloc = rt.alloc();
-    let mut node = Node::default(alloc);
-    assert!(rt; takes(&mut node, Link::ChildMergeCap)?);
-    assert!(rt; node.merging());
-    assert!(rt; refuses(&node, set(alloc, b"b", b"v")?));
-    assert!(rt; refuses(&node, del(alloc, b"b")?));
-    assert!(rt; refuses(&node, Link::ParentMergeIntention(5)));
-    assert!(rt; refuses(&node, Link::ParentMergeConfirm));
-    assert!(rt; refuses(&node, Link::ChildMergeCap));
+    let mut node = Node::default(rt.alloc());
+    let done = expect_capped(&rt, rt.alloc(), &mut node);
+    let_go(node);
+    Ok(done?)
+}
+
+fn expect_one_child(rt: &impl Abort, node: &mut Node) -> Result<(), AllocError> {
+    assert!(rt; refuses(node, Link::ParentMergeIntention(0)));
+    assert!(rt; refuses(node, Link::ParentMergeConfirm));
+    assert!(rt; takes(node, Link::ParentMergeIntention(5))?);
+    assert!(rt; merges(node, 5));
+    assert!(rt; refuses(node, Link::ParentMergeIntention(5)));
+    assert!(rt; refuses(node, Link::ParentMergeIntention(6)));
+    assert!(rt; refuses(node, Link::ParentMergeConfirm));
     Ok(())
 }
 
 #[test]
 fn one_child_merges_at_a_time(rt: HostRuntime) -> Result<(), Fail> {
     let mut node = Node::default(rt.alloc());
-    assert!(rt; refuses(&node, Link::ParentMergeIntention(0)));
-    assert!(rt; refuses(&node, Link::ParentMergeConfirm));
-    assert!(rt; takes(&mut node, Link::ParentMergeIntention(5))?);
-    assert!(rt; merges(&node, 5));
-    assert!(rt; refuses(&node, Link::ParentMergeIntention(5)));
-    assert!(rt; refuses(&node, Link::ParentMergeIntention(6)));
-    assert!(rt; refuses(&node, Link::ParentMergeConfirm));
+    let done = expect_one_child(&rt, &mut node);
+    let_go(node);
+    Ok(done?)
+}
+
+fn expect_prefix(rt: &impl Abort, node: &Node) {
+    assert!(rt; is_over(node, 1, b"ba", b"bz"));
+    assert!(rt; is_next_to(node, 7));
+    assert!(rt; node.contains_key(b"ba"));
+    assert!(rt; node.contains_key(b"byz"));
+    assert!(rt; !node.contains_key(b"b"));
+    assert!(rt; !node.contains_key(b"bz"));
+}
+
+fn expect_stored(rt: &impl Abort, alloc: Global, node: &mut Node) -> Result<(), AllocError> {
+    assert!(rt; !refuses_set(alloc, node, b"a", b"v")?);
+    assert!(rt; refuses_set(alloc, node, b"", b"v")?);
+    assert!(rt; refuses_set(alloc, node, b"z", b"v")?);
+    assert!(rt; sets(alloc, node, b"b", b"v")?);
+    assert!(rt; has_pair(node, b"b", b"v"));
     Ok(())
 }
 
 #[test]
 fn stored_keys_lack_the_prefix(rt: HostRuntime) -> Result<(), Fail> {
-    let alloc = rt.alloc();
-    let mut node = leaf(alloc, 1, b"ba", b"bz")?.ok_or("well-formed")?;
-    assert!(rt; is_over(&node, 1, b"ba", b"bz"));
-    assert!(rt; is_next_to(&node, 7));
-    assert!(rt; node.contains_key(b"ba"));
-    assert!(rt; node.contains_key(b"byz"));
-    assert!(rt; !node.contains_key(b"b"));
-    assert!(rt; !node.contains_key(b"bz"));
-    assert!(rt; !refuses(&node, set(alloc, b"a", b"v")?));
-    assert!(rt; refuses(&node, set(alloc, b"", b"v")?));
-    assert!(rt; refuses(&node, set(alloc, b"z", b"v")?));
-    assert!(rt; takes(&mut node, set(alloc, b"b", b"v")?)?);
-    assert!(rt; has_pair(&node, b"b", b"v"));
-    Ok(())
+    let mut node = prefixed_leaf(rt.alloc())?;
+    expect_prefix(&rt, &node);
+    let done = expect_stored(&rt, rt.alloc(), &mut node);
+    let_go(node);
+    Ok(done?)
 }
 
 #[test]
@@ -186,28 +238,50 @@ fn pairs_out_of_the_range_make_no_node(rt: HostRuntime) -> Result<(), Fail> {
     Ok(())
 }
 
+fn expect_copy(rt: &impl Abort, copy: &Node) {
+    assert!(rt; is_over(copy, 1, b"ba", b"bz"));
+    assert!(rt; is_next_to(copy, 7));
+    assert!(rt; merges(copy, 5));
+    assert!(rt; copy.merging());
+    assert!(rt; has_pair(copy, b"b", b"v"));
+}
+
+fn expect_clone(rt: &impl Abort, alloc: Global, node: &mut Node) -> Result<(), AllocError> {
+    assert!(rt; sets(alloc, node, b"b", b"v")?);
+    assert!(rt; takes(node, Link::ParentMergeIntention(5))?);
+    assert!(rt; takes(node, Link::ChildMergeCap)?);
+    let copy = node.clone()?;
+    expect_copy(rt, &copy);
+    Ok(())
+}
+
 #[test]
 fn a_clone_is_the_same(rt: HostRuntime) -> Result<(), Fail> {
-    let alloc = rt.alloc();
-    let mut node = leaf(alloc, 1, b"ba", b"bz")?.ok_or("well-formed")?;
-    assert!(rt; takes(&mut node, set(alloc, b"b", b"v")?)?);
-    assert!(rt; takes(&mut node, Link::ParentMergeIntention(5))?);
-    assert!(rt; takes(&mut node, Link::ChildMergeCap)?);
-    let copy = node.clone()?;
-    assert!(rt; is_over(&copy, 1, b"ba", b"bz"));
-    assert!(rt; is_next_to(&copy, 7));
-    assert!(rt; merges(&copy, 5));
-    assert!(rt; copy.merging());
-    assert!(rt; has_pair(&copy, b"b", b"v"));
+    let mut node = prefixed_leaf(rt.alloc())?;
+    let done = expect_clone(&rt, rt.alloc(), &mut node);
+    let_go(node);
+    Ok(done?)
+}
+
+// The two are equal until the other is capped.
+fn expect_equal(rt: &impl Abort, node: &Node, other: &mut Node) -> Result<(), AllocError> {
+    assert!(rt; *other == *node);
+    assert!(rt; takes(other, Link::ChildMergeCap)?);
+    assert!(rt; *other != *node);
     Ok(())
+}
+
+fn expect_equal_clone(rt: &impl Abort, node: &Node) -> Result<(), AllocError> {
+    let mut other = node.clone()?;
+    let done = expect_equal(rt, node, &mut other);
+    let_go(other);
+    done
 }
 
 #[test]
 fn equal_nodes_are_the_same(rt: HostRuntime) -> Result<(), Fail> {
     let node = Node::default(rt.alloc());
-    let mut other = node.clone()?;
-    assert!(rt; other == node);
-    assert!(rt; takes(&mut other, Link::ChildMergeCap)?);
-    assert!(rt; other != node);
-    Ok(())
+    let done = expect_equal_clone(&rt, &node);
+    let_go(node);
+    Ok(done?)
 }

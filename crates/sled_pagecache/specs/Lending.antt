@@ -1,13 +1,18 @@
 -- What a page cache lends, and what it is once the loan is over.
-use Rattle.std.specs.Prelude.{◌≡◌, ⊤, Option, Some, None, Result, Ok, Err}
-use Rattle.std.specs.Borrow.{Fml, MutBor, follows_so}
+use Rattle.std.specs.Prelude.{ℕ, ⊤, Option, Some, None, Result, Ok, Err, OnErr, IfOk, IfSome}
+use Rattle.std.specs.Borrow.{Fml, RattleType, MutBor, follows_so}
 use mathlib.Core.Option.{none}
 use Rattle.sled_base.specs.Errors.{error_of}
 use Rattle.sled_base.specs.declared.types.Error.{Error}
 use Rattle.sled_base.specs.declared.types.Refusal.{Refusal}
+use Rattle.sled_log.specs.declared.log.Log.{Ghosts}
 use Rattle.sled_node.specs.Node.{WholeNode}
+use Rattle.sled_pagecache.specs.Cache.{Cache, IsResident, IsAway}
+use Rattle.sled_pagecache.specs.Calls.{Steps, IsBlamed}
+use Rattle.sled_pagecache.specs.Reads.{ReadsPage}
 use Rattle.sled_pagecache.specs.Token.{Token}
-use Rattle.sled_pagecache.specs.State.{Cache}
+use Rattle.sled_pagecache.specs.declared.pagecache.call.Answer.TheVariants.{Got}
+use Rattle.sled_pagecache.specs.declared.pagecache.call.Call.TheVariants.{Get}
 use Rattle.sled_pagecache.specs.declared.pagecache.view.NodeView.{NodeView}
 use Rattle.sled_pagecache.specs.contracts.pagecache.cache.PageCache.{the_row}
 
@@ -17,6 +22,15 @@ told (Ok None) = Ok None
 told (Ok (Some view)) = Ok (Some (view.token, view.node.now))
 told (Err refusal) = Err (error_of refusal)
 
--- the cache is what it was
-abbrev pub Rests : MutBor Cache → Fml
-Rests cache = follows_so the_row the_row cache.ghost_name none (λ _ _. ⊤) (λ new. new ≡ cache.now)
+-- The call is one step, and reads the page's messages where the page doesn't lie in memory; then it does. What a refused call
+-- has read isn't kept.
+pub record IsGot {L : Type 0} (g : Ghosts L) (old : Cache L) (pid : ℕ) (result : Result (Option NodeView) Refusal) (new : Cache L) : Type 0 where
+  pub step : Steps g old (Get pid) (Got (told result)) new
+  pub blame : IsBlamed g old new (told result)
+  pub reads : ReadsPage g old pid new
+  pub once : IfOk result (λ found. IfSome found (λ view. IsResident new pid))
+  pub kept_out : OnErr result (IsAway old pid → IsAway new pid)
+
+-- what the cache is at the end of the loan
+abbrev pub EndsAsGot : (L : RattleType) (g : Ghosts L.Denot) → MutBor (Cache L.Denot) → ℕ → Result (Option NodeView) Refusal → Fml
+EndsAsGot L g cache pid result = follows_so (the_row L g) (the_row L g) cache.ghost_name none (λ _ _. ⊤) (IsGot g cache.now pid result)

@@ -1,35 +1,7 @@
 -- What a page cache is: a list of stamped pages, the next generated id, whether a batch is open, and a kept write fault.
-use Rattle.std.specs.Prelude.{ℕ, ◌+◌, Bool, true, false, List, [], ◌∷◌, ◌++◌, map, length, Option, None, Some, slice_get, slice_set, if◌then◌else◌}
-use Rattle.std.specs.Cmp.Lexicographic.{slice_cmp}
-use Rattle.std.specs.Coded.{Coded, coded_ℕ, coded_list}
-use Rattle.std.specs.FinMap.{FinMap, code, entries}
-use Rattle.std.specs.Ordering.{nat_cmp}
-use Rattle.sled_base.specs.declared.kinds.MessageKind.{MessageKind}
-use Rattle.sled_base.specs.declared.kinds.MessageKind.TheVariants as kinds
-use Rattle.sled_node.specs.Node.{WholeNode}
-use Rattle.sled_node.specs.Payloads.Links.{written_link}
-use Rattle.sled_node.specs.Payloads.Nodes.{written_node}
-use Rattle.sled_base.specs.Payloads.Numbers.{written_u64}
-use Rattle.sled_node.specs.Payloads.Roots.{written_roots}
-use Rattle.sled_node.specs.declared.node.link.Link.{Link}
-use Rattle.sled_pagecache.specs.declared.pagecache.TheConstants.{MAX_MSG_HEADER_LEN}
-use Rattle.sled_pagecache.specs.declared.pagecache.config.Config.{Config}
+use Rattle.std.specs.Prelude.{ℕ, ◌+◌, Bool, true, false, List, [], ◌∷◌, map, Option, None, Some, slice_get, slice_set, if◌then◌else◌}
+use Rattle.sled_log.specs.Contents.{Content, Free, Counter, Roots, Node}
 use Rattle.sled_pagecache.specs.Token.{Token, token}
-
--- a finite map from names to pages
-abbrev pub Names : Type 0
-Names = FinMap (slice_cmp nat_cmp) ℕ
-
--- how such a map is stored
-abbrev pub names_code : Coded Names
-names_code = code (coded_list coded_ℕ) coded_ℕ
-
--- what a page holds: nothing, the counter of generated ids, the named roots, or a node
-pub data Content : Type 0 where
-  Free : Content
-  Counter : ℕ → Content
-  Roots : Names → Content
-  Node : WholeNode → Content
 
 -- each change of a page raises its stamp
 pub record Page : Type 0 where
@@ -46,62 +18,11 @@ pub record State : Type 0 where
   pub batch : Bool
   pub fault : Bool
 
--- a change of a page: its whole content, or a link on its node
-pub data Change : Type 0 where
-  Put : ℕ → Content → Change
-  Linked : ℕ → Link → Change
+abbrev pub contents_of : State → List Content
+contents_of s = map (λ p. p.content) s.pages
 
--- a message of a log: its kind, its page, and the bytes of its payload
-pub record Message : Type 0 where
-  pub kind : MessageKind
-  pub pid : ℕ
-  pub payload : List ℕ
-
--- the kind of a message that puts a content on its page, and the payload that spells the content
-abbrev pub kind_of_content : Content → MessageKind
-kind_of_content Free = kinds.Free
-kind_of_content (Counter n) = kinds.Counter
-kind_of_content (Roots roots) = kinds.InlineMeta
-kind_of_content (Node node) = kinds.InlineNode
-
-abbrev pub payload_of : Content → List ℕ
-payload_of Free = []
-payload_of (Counter n) = written_u64 n
-payload_of (Roots roots) = written_roots (entries roots)
-payload_of (Node node) = written_node node
-
--- the message of a change
-abbrev pub message_of : Change → Message
-message_of (Put pid content) = record { kind = kind_of_content content; pid = pid; payload = payload_of content }
-message_of (Linked pid link) = record { kind = kinds.InlineLink; pid = pid; payload = written_link link }
-
--- how much of a log a message takes up: its header, and its payload
-abbrev pub log_size : Message → ℕ
-log_size message = MAX_MSG_HEADER_LEN + length message.payload
-
--- what a log holds: its settings, and messages in their order
-pub record Log : Type 0 where
-  pub blob_limit : ℕ
-  pub clean_every : ℕ
-  pub messages : List Message
-
--- a log with no messages
-abbrev pub new_log : ℕ → ℕ → Log
-new_log blob_limit clean_every = record { blob_limit = blob_limit; clean_every = clean_every; messages = [] }
-
--- the log with further messages, and with those of further changes
-abbrev pub with_messages : Log → List Message → Log
-with_messages log added = record log { messages = log.messages ++ added }
-
-abbrev pub with_changes : Log → List Change → Log
-with_changes log added = with_messages log (map message_of added)
-
--- what a contract sees of a page cache: its state, its config, whether its pages were found in the log, and the log
-pub record Cache : Type 0 where
-  pub state : State
-  pub config : Config
-  pub recovered : Bool
-  pub log : Log
+abbrev pub stamps_of : State → List ℕ
+stamps_of s = map (λ p. p.stamp) s.pages
 
 -- the page at an id, if there is one
 abbrev pub page_at : State → ℕ → Option Page

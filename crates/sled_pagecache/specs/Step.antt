@@ -1,21 +1,20 @@
 -- The page cache as a machine: which answer a call may get in a state, and which state it leaves.
-use Rattle.std.specs.Prelude.{◌≡◌, ◌==◌, ◌||◌, ℕ, ◌+◌, ◌-◌, ◌^◌, ◌⊎◌, Bool, List, [], ◌∷◌, ◌++◌, length, Option, Some, None, Result, Ok, Err, MatchBool, MatchOption}
+use Rattle.std.specs.Prelude.{◌≡◌, ◌==◌, ◌||◌, ℕ, ◌+◌, ◌-◌, ◌^◌, ◌⊎◌, Bool, true, List, [], ◌∷◌, ◌++◌, length, Option, Some, None, Result, Ok, Err, MatchBool, MatchOption, IsOkAnd}
 use Rattle.sled_base.specs.declared.types.Bug.TheVariants.{LinkRefused}
-use Rattle.sled_base.specs.declared.types.Device.TheVariants.{Write}
-use Rattle.sled_base.specs.declared.types.DiskPtr.{DiskPtr}
+use Rattle.sled_base.specs.declared.types.Device.TheVariants.{Read, Write}
 use Rattle.sled_base.specs.declared.types.Error.{Error}
 use Rattle.sled_base.specs.declared.types.Error.TheVariants.{Unsupported, ReportableBug, Io, Corruption, OutOfMemory}
-use Rattle.sled_base.specs.declared.types.Why.TheVariants.{ReservedId, PagesUsedUp, StampUsedUp}
+use Rattle.sled_base.specs.declared.types.Why.TheVariants.{ReservedId, PagesUsedUp, StampUsedUp, BatchOpen, LogFull}
 use Rattle.sled_node.specs.Links.{Accepts, applied}
 use Rattle.sled_node.specs.Node.{WholeNode}
 use Rattle.sled_node.specs.declared.node.link.Link.{Link as NodeLink}
 use Rattle.sled_pagecache.specs.declared.pagecache.TheConstants.{META_PID, COUNTER_PID, BATCH_MANIFEST_PID, MAX_PID_BITS}
 use Rattle.sled_pagecache.specs.declared.pagecache.call.Answer.{Answer}
-use Rattle.sled_pagecache.specs.declared.pagecache.call.Answer.TheVariants.{Allocated, Got, Linked, Replaced}
+use Rattle.sled_pagecache.specs.declared.pagecache.call.Answer.TheVariants.{Allocated, Got, Linked, Replaced, Flushed, Sized}
 use Rattle.sled_pagecache.specs.declared.pagecache.call.Call.{Call}
-use Rattle.sled_pagecache.specs.declared.pagecache.call.Call.TheVariants.{Allocate, Get, Link, Replace}
-use Rattle.sled_pagecache.specs.State.{Content, Free, Counter, Roots, Node, Page, page, State, Change, Put, page_at, with_page, is_free, greatest_free}
-use Rattle.sled_pagecache.specs.State as changes
+use Rattle.sled_pagecache.specs.declared.pagecache.call.Call.TheVariants.{Allocate, Get, Link, Replace, Flush, SizeOnDisk}
+use Rattle.sled_log.specs.Contents.{Content, Free, Counter, Roots, Node}
+use Rattle.sled_pagecache.specs.State.{Page, page, State, page_at, with_page, is_free, greatest_free}
 use Rattle.sled_pagecache.specs.Token.{Token, token}
 
 -- the ids of the pages that are the cache's own
@@ -40,14 +39,28 @@ UnlessReserved s pid answer t goes_on = MatchBool (is_reserved pid) (IsRefused s
 abbrev pub UnlessLastStamp : {T : Type 0} → State → ℕ → Result T Error → State → Type 0 → Type 0
 UnlessLastStamp s stamp answer t goes_on = MatchBool (stamp == 2 ^ 64 - 1) (IsRefused s answer t (Unsupported StampUsedUp)) goes_on
 
--- the work is done, or is refused for want of memory and leaves the state
+-- Memory was wanting, or a read failed, and the state is left; or a write failed, which is kept.
+abbrev pub IsHindered : State → Error → State → Type 0
+IsHindered s OutOfMemory t = t ≡ s
+IsHindered s (Io Read) t = t ≡ s
+IsHindered s (Io Write) t = t ≡ record s { fault = true }
+IsHindered s e t = ⊥
+
+-- something is read, and the state is left
+abbrev pub Reads : {T : Type 0} → State → Result T Error → State → (T → Type 0) → Type 0
+Reads s (Ok value) t read = (t ≡ s) × read value
+Reads s (Err e) t read = IsHindered s e t
+
+-- the work is done, unless the call is hindered or the log is full, which leaves the state
 abbrev pub Does : {T : Type 0} → State → Result T Error → State → (T → Type 0) → Type 0
 Does s (Ok value) t work = work value
-Does s (Err e) t work = (e ≡ OutOfMemory) × (t ≡ s)
+Does s (Err (Unsupported LogFull)) t work = t ≡ s
+Does s (Err e) t work = IsHindered s e t
 
 -- a page of a kind that can't stand at its id
 abbrev pub IsCorruption : {T : Type 0} → State → Result T Error → State → Type 0
-IsCorruption s answer t = (pointer : Option DiskPtr) × IsRefused s answer t (Corruption pointer)
+IsCorruption s (Err (Corruption pointer)) t = t ≡ s
+IsCorruption s answer t = Reads s answer t (λ _. ⊥)
 
 -- ---- allocate: the free page with the greatest id at its next stamp, or else a new page at stamp 1
 
@@ -69,7 +82,7 @@ Allocates s node answer t = UnlessFaulty s answer t (MatchOption (greatest_free 
 
 abbrev pub FindsContent : State → ℕ → ℕ → Content → Result (Option (Token × WholeNode)) Error → State → Type 0
 FindsContent s pid stamp Free answer t = (answer ≡ Ok None) × (t ≡ s)
-FindsContent s pid stamp (Node node) answer t = (answer ≡ Ok (Some (token pid stamp, node))) × (t ≡ s)
+FindsContent s pid stamp (Node node) answer t = Reads s answer t (λ found. found ≡ Some (token pid stamp, node))
 FindsContent s pid stamp (Counter n) answer t = IsCorruption s answer t
 FindsContent s pid stamp (Roots roots) answer t = IsCorruption s answer t
 
@@ -102,6 +115,7 @@ abbrev pub LinksNode : State → Token → NodeLink → WholeNode → Swapped No
 LinksNode s old link node answer t =
     (Accepts node link × UnlessLastStamp s old.stamp answer t (Does s answer t (λ swapped. IsSwapped s old (Node (applied link node)) swapped t)))
     ⊎ ((¬ Accepts node link) × IsRefused s answer t (ReportableBug LinkRefused))
+    ⊎ Reads s answer t (λ _. ⊥)
 
 abbrev pub LinksContent : State → Token → NodeLink → ℕ → Content → Swapped NodeLink → State → Type 0
 LinksContent s old link stamp Free answer t = IsGone s answer t
@@ -129,18 +143,25 @@ ReplacesPage s old node (Some found) answer t =
 abbrev pub Replaces : State → Token → WholeNode → Swapped WholeNode → State → Type 0
 Replaces s old node answer t = UnlessFaulty s answer t (UnlessReserved s old.pid answer t (ReplacesPage s old node (page_at s old.pid) answer t))
 
+-- ---- flush and size: no page changes
+
+abbrev pub Flushes : State → Result ℕ Error → State → Type 0
+Flushes s answer t = UnlessFaulty s answer t (MatchBool s.batch (IsRefused s answer t (Unsupported BatchOpen)) (FlushesLog answer))
+  where
+    FlushesLog : Result ℕ Error → Type 0
+    FlushesLog (Ok written) = t ≡ s
+    FlushesLog (Err e) = (e ≡ Io Write) × (t ≡ record s { fault = true })
+
+abbrev pub Sizes : State → Result ℕ Error → State → Type 0
+Sizes s answer t = UnlessFaulty s answer t (IsOkAnd answer (λ size. t ≡ s))
+
 -- ---- From s, the cache may give this answer to the call and go on to t.
 abbrev pub Step : State → Call → Answer → State → Type 0
 Step s (Allocate node) (Allocated answer) t = Allocates s node answer t
 Step s (Get pid) (Got answer) t = Gets s pid answer t
 Step s (Link old link) (Linked answer) t = Links s old link answer t
 Step s (Replace old node) (Replaced answer) t = Replaces s old node answer t
+Step s Flush (Flushed answer) t = Flushes s answer t
+Step s SizeOnDisk (Sized answer) t = Sizes s answer t
 -- a call gets no answer of another call
 Step s call answer t = ⊥
-
--- the changes that a call with this answer writes to the log
-abbrev pub begun : Call → Answer → List Change
-begun (Allocate node) (Allocated (Ok made)) = Put made.0 (Node node) ∷ []
-begun (Link old link) (Linked (Ok (Ok made))) = changes.Linked old.pid link ∷ []
-begun (Replace old node) (Replaced (Ok (Ok made))) = Put old.pid (Node node) ∷ []
-begun call answer = []

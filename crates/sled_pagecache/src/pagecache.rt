@@ -1,16 +1,26 @@
 //! The page cache: a list of stamped pages over a log.
 
+mod add;
 mod cache;
 mod call;
+mod chain;
 mod config;
-mod log;
+mod journal;
+mod own;
 mod page;
+mod pull;
+mod reading;
+mod recovered;
+mod start;
+mod swap;
 mod view;
+mod write;
 
 pub use cache::PageCache;
 pub use call::{Answer, Call};
+pub use chain::CacheInfo;
 pub use config::Config;
-pub use log::MemLog;
+pub use page::Page;
 use sled_base::PageId;
 pub use view::{NodeView, PageView};
 
@@ -23,8 +33,11 @@ pub const COUNTER_PID: PageId = 1;
 /// The page id that marks the beginning of a batch in a log.
 pub const BATCH_MANIFEST_PID: PageId = u64::MAX - 666;
 
-/// How many bytes of a log a message takes up beside its payload.
-pub const MAX_MSG_HEADER_LEN: usize = 17;
+/// At most so many messages make a page. The next link is written as the whole node.
+pub const PAGE_CONSOLIDATION_THRESHOLD: usize = 10;
 
 /// The ids of pages are below 2 to this power.
 pub const MAX_PID_BITS: u32 = 37;
+
+// the greatest number of pages
+const MAX_PAGES: usize = 1 << MAX_PID_BITS;

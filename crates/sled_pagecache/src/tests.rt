@@ -1,6 +1,14 @@
+mod failing;
+mod reads;
+mod recovery;
+mod stops;
+
 use super::*;
 use std::alloc::{AllocError, Global};
 use std::test::Fail;
+
+// The cache over the log in memory.
+type Cache = PageCache<MemLog>;
 
 const CONFIG: Config = Config {
     cache_capacity: 1_048_576,
@@ -14,12 +22,12 @@ type Swapped = Result<Result<PageView, Option<(PageView, Link)>>, Error>;
 // Steps of the tests. Each asks the cache one thing, and what comes back is let go here: a test that let it go itself would
 // be proved for each way in which it may be kept.
 
-fn open(alloc: Global, config: Config) -> Result<PageCache, (Error, MemLog)> {
+fn open(alloc: Global, config: Config) -> Result<Cache, (Error, MemLog)> {
     PageCache::start(alloc, config, MemLog::new(alloc, 512, 16))
 }
 
-fn opened(alloc: Global) -> Result<PageCache, Fail> {
-    Ok(open(alloc, CONFIG)?)
+fn opened(alloc: Global) -> Result<Cache, Fail> {
+    Ok(open(alloc, CONFIG).map_err(|(error, _)| error)?)
 }
 
 fn set(alloc: Global, key: &[u8], value: &[u8]) -> Result<Link, AllocError> {
@@ -45,23 +53,34 @@ fn is_fault(error: Error, fault: Option<Why>) -> bool {
 }
 
 fn serves(alloc: Global, log: MemLog) -> bool {
-    PageCache::start(alloc, CONFIG, log).is_ok()
+    reopened(alloc, log).is_some()
+}
+
+// A cache over a log in which no batch is open.
+fn reopened(alloc: Global, log: MemLog) -> Option<Cache> {
+    if log.batch_open() {
+        return None;
+    }
+    match PageCache::start(alloc, CONFIG, log) {
+        Ok(cache) => Some(cache),
+        Err(_) => None,
+    }
 }
 
 // Whether the node goes to the page with this id, at stamp 1.
-fn adds(cache: &mut PageCache, node: Node, pid: PageId) -> bool {
+fn adds(cache: &mut Cache, node: Node, pid: PageId) -> bool {
     match cache.allocate(node) {
         Ok(made) => made == (pid, PageView::new(pid, 1)),
         Err(_) => false,
     }
 }
 
-fn adds_leaf(alloc: Global, cache: &mut PageCache, pid: PageId) -> bool {
+fn adds_leaf(alloc: Global, cache: &mut Cache, pid: PageId) -> bool {
     adds(cache, Node::default(alloc), pid)
 }
 
 // Whether a link, by the token with this stamp, is answered so.
-fn answers(cache: &mut PageCache, pid: PageId, stamp: u64, link: Link, wanted: Swapped) -> bool {
+fn answers(cache: &mut Cache, pid: PageId, stamp: u64, link: Link, wanted: Swapped) -> bool {
     let answer = cache.link(pid, PageView::new(pid, stamp), link);
     let is_so = answer == wanted;
     let_go(answer);
@@ -72,36 +91,36 @@ fn answers(cache: &mut PageCache, pid: PageId, stamp: u64, link: Link, wanted: S
 fn let_go(_answer: Swapped) {}
 
 // Whether a link to page 2, by the token with this stamp, is answered by the present token and the same link.
-fn is_stale(cache: &mut PageCache, stamp: u64, link: Link, present: PageView, same: Link) -> bool {
+fn is_stale(cache: &mut Cache, stamp: u64, link: Link, present: PageView, same: Link) -> bool {
     answers(cache, 2, stamp, link, Ok(Err(Some((present, same)))))
 }
 
-fn is_gone(cache: &mut PageCache, pid: PageId, link: Link) -> bool {
+fn is_gone(cache: &mut Cache, pid: PageId, link: Link) -> bool {
     answers(cache, pid, 1, link, Ok(Err(None)))
 }
 
-fn is_reserved(cache: &mut PageCache, pid: PageId, stamp: u64, link: Link) -> bool {
+fn is_reserved(cache: &mut Cache, pid: PageId, stamp: u64, link: Link) -> bool {
     let refused = Err(Error::Unsupported(Why::ReservedId));
     answers(cache, pid, stamp, link, refused)
 }
 
 // Whether page 2, at this stamp, refuses the link.
-fn refuses(cache: &mut PageCache, stamp: u64, link: Link) -> bool {
+fn refuses(cache: &mut Cache, stamp: u64, link: Link) -> bool {
     let refused = Err(Error::ReportableBug(Bug::LinkRefused));
     answers(cache, 2, stamp, link, refused)
 }
 
 // Whether page 2, at stamp 1, takes the link.
-fn takes(cache: &mut PageCache, link: Link) -> bool {
+fn takes(cache: &mut Cache, link: Link) -> bool {
     answers(cache, 2, 1, link, Ok(Ok(PageView::new(2, 2))))
 }
 
 // Whether the page is not lent, since it is the cache's own.
-fn is_kept_back(cache: &mut PageCache, pid: PageId) -> bool {
+fn is_kept_back(cache: &mut Cache, pid: PageId) -> bool {
     matches!(cache.get(pid), Err(Refusal::Unsupported(Why::ReservedId)))
 }
 
-fn is_absent(cache: &mut PageCache, pid: PageId) -> bool {
+fn is_absent(cache: &mut Cache, pid: PageId) -> bool {
     matches!(cache.get(pid), Ok(None))
 }
 
@@ -117,7 +136,7 @@ fn leaf_of(prefix_len: u8, lo: IVec, hi: IVec, leaf: Leaf) -> Option<Node> {
 }
 
 // Whether the page has a node with this stamp and no pairs.
-fn is_empty(cache: &mut PageCache, pid: PageId, stamp: u64) -> bool {
+fn is_empty(cache: &mut Cache, pid: PageId, stamp: u64) -> bool {
     match cache.get(pid) {
         Ok(Some(view)) => view.token() == PageView::new(pid, stamp) && view.node().len() == 0,
         _ => false,
@@ -125,7 +144,7 @@ fn is_empty(cache: &mut PageCache, pid: PageId, stamp: u64) -> bool {
 }
 
 // Whether the page has a node with this stamp and one pair, of this stored key and this value.
-fn has_pair(cache: &mut PageCache, pid: PageId, stamp: u64, key: &[u8], value: &[u8]) -> bool {
+fn has_pair(cache: &mut Cache, pid: PageId, stamp: u64, key: &[u8], value: &[u8]) -> bool {
     match cache.get(pid) {
         Ok(Some(view)) => {
             view.token() == PageView::new(pid, stamp) && is_pair(view.node(), key, value)
@@ -258,7 +277,7 @@ fn a_page_keeps_stored_keys_without_the_prefix(rt: HostRuntime) -> Result<(), Fa
 type Replaced = Result<Result<PageView, Option<(PageView, Node)>>, Error>;
 
 // Whether a replacement, by the token with this stamp, is answered so.
-fn is_answer(cache: &mut PageCache, pid: PageId, stamp: u64, node: Node, wanted: Replaced) -> bool {
+fn is_answer(cache: &mut Cache, pid: PageId, stamp: u64, node: Node, wanted: Replaced) -> bool {
     let answer = cache.replace(pid, PageView::new(pid, stamp), node);
     let is_so = answer == wanted;
     let_both_go(answer, wanted);
@@ -268,26 +287,20 @@ fn is_answer(cache: &mut PageCache, pid: PageId, stamp: u64, node: Node, wanted:
 fn let_both_go(_answer: Replaced, _wanted: Replaced) {}
 
 // Whether page 2, at stamp 2, takes the node.
-fn holds(cache: &mut PageCache, node: Node) -> bool {
+fn holds(cache: &mut Cache, node: Node) -> bool {
     is_answer(cache, 2, 2, node, Ok(Ok(PageView::new(2, 3))))
 }
 
 // Whether page 2, by the token with this stamp, is answered by the present token and the same node.
-fn comes_back(
-    cache: &mut PageCache,
-    stamp: u64,
-    node: Node,
-    present: PageView,
-    same: Node,
-) -> bool {
+fn comes_back(cache: &mut Cache, stamp: u64, node: Node, present: PageView, same: Node) -> bool {
     is_answer(cache, 2, stamp, node, Ok(Err(Some((present, same)))))
 }
 
-fn finds_no_page(cache: &mut PageCache, pid: PageId, node: Node) -> bool {
+fn finds_no_page(cache: &mut Cache, pid: PageId, node: Node) -> bool {
     is_answer(cache, pid, 1, node, Ok(Err(None)))
 }
 
-fn is_kept_from(cache: &mut PageCache, pid: PageId, node: Node) -> bool {
+fn is_kept_from(cache: &mut Cache, pid: PageId, node: Node) -> bool {
     let refused = Err(Error::Unsupported(Why::ReservedId));
     is_answer(cache, pid, 1, node, refused)
 }

@@ -1,168 +1,223 @@
 -- The lines that were answered so far.
-use Rattle.std.proofs.Common.{◌≡◌, ◌≢◌, ◌<◌, ◌≤◌, List, [], ◌∷◌, ◌++◌, length, Option, None, Some, Ok, Err, refl, sym, ap, subst, ◌∙◌, inr, arith, append_assoc, append-nil}
+use Rattle.std.proofs.Common.{◌≡◌, ◌≢◌, ◌<◌, ◌≤◌, List, [], ◌∷◌, ◌++◌, length, Option, None, Some, Result, Ok, Err, refl, sym, ap, subst, ◌∙◌, arith, append_assoc, append-nil}
 use Rattle.std.specs.Prelude.{codes, ⊤}
 use Rattle.std.specs.Io.KnownBytes.{Appends, Keeps}
+use Rattle.std.specs.List.{AllZip}
 use Rattle.std.proofs.KnownBytes.{Appends-nil, Appends-trans, Appends-kept}
 use Rattle.sled_base.specs.Order.{Bytes}
-use Rattle.sled_pagecache.specs.State.{State}
+use Rattle.sled_log.specs.Messages.{Told, effect_of}
+use Rattle.sled_log.specs.State.{IsLeft, told_state}
+use Rattle.sled_log.specs.declared.log.Log.{Ghosts}
+use Rattle.sled_pagecache.specs.Cache.{Cache}
+use Rattle.sled_pagecache.specs.RowLaws.{row-none, row-one, row-then, made-more}
+use Rattle.sled_pagecache.specs.Rows.{StepInRow, IsMade, AreMade}
+use Rattle.sled_pagecache.specs.declared.pagecache.call.Call.{Call}
 use Rattle.sledpc.specs.Lines.{lines_of, ReadsLine, IsUnread}
 use Rattle.sledpc.specs.Output.{AppendsBeginning}
-use Rattle.sledpc.specs.Runs.{Replies, Runs, text_of, Stops, AnswersSome, Serves, error_of}
-use Rattle.sledpc.specs.Served.{RepliesLine}
+use Rattle.sledpc.specs.Runs.{Served, AsksFor, reply_to, text_of, calls_of, Answers, IsWritten, Ends, Serves, error_of}
+use Rattle.sledpc.specs.Served.{Goes, RepliesLine}
 use Rattle.sledpc.specs.declared.lines.Line.TheVariants as read
 use Rattle.sledpc.specs.declared.lines.ReadError.{ReadError}
 use Rattle.sledpc.specs.declared.lines.ReadError.TheVariants as unread
+use Rattle.sledpc.specs.declared.lines.TheConstants.{MAX_LINE}
 use Rattle.sledpc.specs.declared.script.run.RunError.{RunError}
 use Rattle.sledpc.specs.declared.script.run.RunError.TheVariants.{Read, Write, Memory}
 use Rattle.sledpc.proofs.LinesOf.{has_line, not_empty}
-use Rattle.sledpc.specs.declared.lines.TheConstants.{MAX_LINE}
 
--- one more line is answered
-pub runs_more : (s t u : State) (lines replies : List Bytes) (line reply : Bytes) → Runs s lines replies t → Replies t line reply u → Runs s (lines ++ line ∷ []) (replies ++ reply ∷ []) u
-runs_more s t u [] [] line reply run next = (u, subst (λ from. Replies from line reply u) run next, refl)
-runs_more s t u [] (r ∷ replies) line reply run next = absurd run
-runs_more s t u (l ∷ lines) [] line reply run next = absurd run
-runs_more s t u (l ∷ lines) (r ∷ replies) line reply run next = (run.0, run.1, runs_more run.0 t u lines replies line reply run.2 next)
+-- ---- one more line
 
-text_more : (replies : List Bytes) (reply : Bytes) → text_of (replies ++ reply ∷ []) ≡ text_of replies ++ (reply ++ 10 ∷ [])
-text_more [] reply = append-nil (reply ++ 10 ∷ [])
-text_more (r ∷ replies) reply = ap (λ rest. (r ++ 10 ∷ []) ++ rest) (text_more replies reply) ∙ sym (append_assoc (r ++ 10 ∷ []) (text_of replies) (reply ++ 10 ∷ []))
+asks_more : (lines : List Bytes) (served : List Served) (line : Bytes) (one : Served) → AllZip AsksFor lines served → AsksFor line one → AllZip AsksFor (lines ++ line ∷ []) (served ++ one ∷ [])
+asks_more [] [] line one all asks = (asks, tt)
+asks_more (l ∷ lines) (s ∷ served) line one all asks = (all.0, asks_more lines served line one all.1 asks)
+asks_more [] (s ∷ served) line one all asks = absurd all
+asks_more (l ∷ lines) [] line one all asks = absurd all
 
--- these lines of the input were answered, and just the replies were written
-pub record Answered (s : State) (input rest : Bytes) (old new : Option Bytes) (t : State) : Type 0 where
-  pub answered : List Bytes
-  pub lines : lines_of input ≡ answered ++ lines_of rest
-  pub replies : List Bytes
-  pub run : Runs s answered replies t
-  pub written : Appends old new (text_of replies)
+text_more : (served : List Served) (one : Served) → text_of (served ++ one ∷ []) ≡ text_of served ++ (reply_to one ++ 10 ∷ [])
+text_more [] one = append-nil (reply_to one ++ 10 ∷ [])
+text_more (s ∷ served) one = ap (λ rest. (reply_to s ++ 10 ∷ []) ++ rest) (text_more served one) ∙ sym (append_assoc (reply_to s ++ 10 ∷ []) (text_of served) (reply_to one ++ 10 ∷ []))
 
--- the same, where the input is known
-abbrev pub SoFar : State → Option Bytes → Option Bytes → Option Bytes → Option Bytes → State → Type 0
-SoFar s None rest old new t = ⊤
-SoFar s (Some input) None old new t = ⊥
-SoFar s (Some input) (Some rest) old new t = Answered s input rest old new t
+calls_more : (served : List Served) (one : Served) → calls_of (served ++ one ∷ []) ≡ calls_of served ++ calls_of (one ∷ [])
+calls_more [] one = refl
+calls_more (None ∷ served) one = calls_more served one
+calls_more (Some made ∷ served) one = ap (λ calls. made ∷ calls) (calls_more served one)
 
-pub none_yet : (s : State) (input old : Option Bytes) → SoFar s input input old old s
-none_yet s None old = tt
-none_yet s (Some input) old = record { answered = []; lines = refl; replies = []; run = refl; written = Appends-nil old }
+-- ---- what has been done so far
 
--- a stop behind the lines that were answered
-stops : (s t : State) (input rest : Bytes) (old new : Option Bytes) (e : RunError) (so : Answered s input rest old new t) → Stops e so.answered (lines_of rest) old new (text_of so.replies) → AnswersSome s input old new e t
-stops s t input rest old new e so why = record {
-  answered = so.answered;
-  others = lines_of rest;
-  lines = so.lines;
-  replies = so.replies;
-  run = so.run;
-  stopped = why;
-}
+-- some first lines of a known input were answered, and the rest is left
+abbrev pub IsBehind : Option Bytes → Option Bytes → List Served → Type 0
+IsBehind None rest served = ⊤
+IsBehind (Some input) None served = ⊥
+IsBehind (Some input) (Some rest) served = (answered : List Bytes) × (lines_of input ≡ answered ++ lines_of rest) × AllZip AsksFor answered served
 
--- the input is not read any more
-pub gives_up : (s t : State) (input rest old new : Option Bytes) → SoFar s input rest old new t → Serves s input old new (Err Read) t
-gives_up s t None rest old new so = tt
-gives_up s t (Some input) None old new so = absurd so
-gives_up s t (Some input) (Some rest) old new so = stops s t input rest old new Read so so.written
+-- the next line, where the input is known, is of this kind
+abbrev IsNext : Option Bytes → Option Bytes → Served → Type 0
+IsNext None next one = ⊤
+IsNext (Some rest) None one = ⊥
+IsNext (Some rest) (Some next) one = (line : Bytes) × (lines_of rest ≡ line ∷ lines_of next) × AsksFor line one
 
--- the next line is not read
-pub line_unread : (s t : State) (input rest next old new : Option Bytes) (kept : Bytes) (e : ReadError) → SoFar s input rest old new t → IsUnread e rest next kept → Serves s input old new (Err (error_of e)) t
-line_unread s t None rest next old new kept e so why = tt
-line_unread s t (Some input) None next old new kept e so why = absurd so
-line_unread s t (Some input) (Some rest) next old new kept unread.Read so why = stops s t input rest old new Read so so.written
-line_unread s t (Some input) (Some rest) None old new kept unread.Memory so why = absurd why.1
-line_unread s t (Some input) (Some rest) (Some next) old new kept unread.Memory so why =
-    let some : rest ≢ [] = λ none. not_empty kept why.0 next (sym (append_assoc kept (why.0 ∷ []) next) ∙ sym why.1 ∙ none) in
-    stops s t input rest old new Memory so (has_line rest some, so.written)
+behind_more : (input rest next : Option Bytes) (served : List Served) (one : Served) → IsBehind input rest served → IsNext rest next one → IsBehind input next (served ++ one ∷ [])
+behind_more None rest next served one behind at = tt
+behind_more (Some input) None next served one behind at = absurd behind
+behind_more (Some input) (Some rest) None served one behind at = absurd at
+behind_more (Some input) (Some rest) (Some next) served one (answered, lines, asked) (line, first, asks) =
+    (answered ++ line ∷ [], lines ∙ ap (λ left. answered ++ left) first ∙ sym (append_assoc answered (line ∷ []) (lines_of next)), asks_more answered served line one asked asks)
 
--- the input is at its end
-pub ends_here : (E : Type 0) (s t : State) (input rest rest' old new : Option Bytes) (kept : Bytes) → SoFar s input rest old new t → ReadsLine {E = E} rest rest' (Ok read.End) kept → Serves s input old new (Ok tt) t
-ends_here E s t None rest rest' old new kept so at = tt
-ends_here E s t (Some input) None rest' old new kept so at = absurd so
-ends_here E s t (Some input) (Some rest) None old new kept so at = absurd at
-ends_here E s t (Some input) (Some rest) (Some rest') old new kept so at =
-    let all : lines_of input ≡ so.answered = so.lines ∙ ap (λ left. so.answered ++ lines_of left) at.0 ∙ append-nil so.answered in
-    record { replies = so.replies; run = subst (λ lines. Runs s lines so.replies t) (sym all) so.run; written = so.written }
+-- what a stop behind some lines says of the input
+read_ends : (input rest : Option Bytes) (served : List Served) → IsBehind input rest served → Answers input (Err Read) served
+read_ends None rest served behind = tt
+read_ends (Some input) None served behind = absurd behind
+read_ends (Some input) (Some rest) served (answered, lines, asked) = (answered, lines_of rest, lines, asked, tt)
 
-module _ (s t u : State) (input rest next : Bytes) (old mid new : Option Bytes) (line reply : Bytes) (so : Answered s input rest old mid t) (at : lines_of rest ≡ line ∷ lines_of next) (told : Replies t line reply u) where
-  lines_on : lines_of input ≡ (so.answered ++ line ∷ []) ++ lines_of next
-  lines_on = so.lines ∙ ap (λ left. so.answered ++ left) at ∙ sym (append_assoc so.answered (line ∷ []) (lines_of next))
+memory_ends : (input rest next : Option Bytes) (served : List Served) (line : Bytes) → IsBehind input rest served → (E : Type 0) → ReadsLine {E = E} rest next (Ok read.Whole) line → Answers input (Err Memory) served
+memory_ends None rest next served line behind E at = tt
+memory_ends (Some input) None next served line behind E at = absurd behind
+memory_ends (Some input) (Some rest) None served line behind E at = absurd at
+memory_ends (Some input) (Some rest) (Some next) served line (answered, lines, asked) E at =
+    (answered, lines_of rest, lines, asked, λ none. let first = at.1 in absurd cc)
 
-  -- the next line is answered
-  goes_on : Appends mid new (reply ++ 10 ∷ []) → Answered s input next old new u
-  goes_on wrote = record {
-    answered = so.answered ++ line ∷ [];
-    lines = lines_on;
-    replies = so.replies ++ reply ∷ [];
-    run = runs_more s t u so.answered so.replies line reply so.run told;
-    written = subst (Appends old new) (sym (text_more so.replies reply)) (Appends-trans old mid new (text_of so.replies) (reply ++ 10 ∷ []) so.written wrote);
-  }
+write_ends : (input rest next : Option Bytes) (served : List Served) (one : Served) → IsBehind input rest served → IsNext rest next one → Answers input (Err Write) (served ++ one ∷ [])
+write_ends None rest next served one behind at = tt
+write_ends (Some input) None next served one behind at = absurd behind
+write_ends (Some input) (Some rest) None served one behind at = absurd at
+write_ends (Some input) (Some rest) (Some next) served one (answered, lines, asked) (line, first, asks) =
+    (answered ++ line ∷ [], lines_of next, lines ∙ ap (λ left. answered ++ left) first ∙ sym (append_assoc answered (line ∷ []) (lines_of next)), asks_more answered served line one asked asks, not_empty answered line [])
 
-  -- a beginning of its reply is written
-  breaks_off : AppendsBeginning mid new (reply ++ 10 ∷ []) → AnswersSome s input old new Write u
-  breaks_off wrote = record {
-    answered = so.answered ++ line ∷ [];
-    others = lines_of next;
-    lines = lines_on;
-    replies = so.replies ++ reply ∷ [];
-    run = runs_more s t u so.answered so.replies line reply so.run told;
-    stopped = (not_empty so.answered line [], (text_of so.replies ++ wrote.0, wrote.1, text_more so.replies reply ∙ ap (λ text. text_of so.replies ++ text) wrote.2 ∙ sym (append_assoc (text_of so.replies) wrote.0 wrote.1), Appends-trans old mid new (text_of so.replies) wrote.0 so.written wrote.3));
-  }
+-- a line that was kept is the next, and so is one that is too long
+kept_next : (E : Type 0) (rest next : Option Bytes) (line : Bytes) (one : Served) → ReadsLine {E = E} rest next (Ok read.Whole) line → AsksFor line one → IsNext rest next one
+kept_next E None next line one at asks = tt
+kept_next E (Some rest) None line one at asks = absurd at
+kept_next E (Some rest) (Some next) line one at asks = (line, at.1, asks)
 
--- a line that was kept is answered
-pub line_done : (E : Type 0) (s t u : State) (input rest next old mid new : Option Bytes) (kept : Bytes) → SoFar s input rest old mid t → ReadsLine {E = E} rest next (Ok read.Whole) kept → RepliesLine t kept mid new (Ok tt) u → SoFar s input next old new u
-line_done E s t u None rest next old mid new kept so at told = tt
-line_done E s t u (Some input) None next old mid new kept so at told = absurd so
-line_done E s t u (Some input) (Some rest) None old mid new kept so at told = absurd at
-line_done E s t u (Some input) (Some rest) (Some next) old mid new kept so at told = goes_on s t u input rest next old mid new kept told.0 so at.1 told.1 told.2
-
-pub line_stops : (E : Type 0) (s t u : State) (input rest next old mid new : Option Bytes) (kept : Bytes) (e : RunError) → SoFar s input rest old mid t → ReadsLine {E = E} rest next (Ok read.Whole) kept → RepliesLine t kept mid new (Err e) u → Serves s input old new (Err e) u
-line_stops E s t u None rest next old mid new kept e so at told = tt
-line_stops E s t u (Some input) None next old mid new kept e so at told = absurd so
-line_stops E s t u (Some input) (Some rest) None old mid new kept e so at told = absurd at
-line_stops E s t u (Some input) (Some rest) (Some next) old mid new kept Read so at told = absurd told
-line_stops E s t u (Some input) (Some rest) (Some next) old mid new kept Write so at (reply, told, wrote) = breaks_off s t u input rest next old mid new kept reply so at.1 told wrote
-line_stops E s t u (Some input) (Some rest) (Some next) old mid new kept Memory so at (same, none) =
-    let on : Answered s input rest old new u = record {
-      answered = so.answered;
-      lines = so.lines;
-      replies = so.replies;
-      run = subst (Runs s so.answered so.replies) (sym same) so.run;
-      written = subst (Appends old new) (append-nil (text_of so.replies)) (Appends-trans old mid new (text_of so.replies) [] so.written none);
-    } in
-    stops s u input rest old new Memory on (λ ended. let line = at.1 in absurd cc, on.written)
+long_next : (E : Type 0) (rest next : Option Bytes) (kept : Bytes) → ReadsLine {E = E} rest next (Ok read.TooLong) kept → IsNext rest next None
+long_next E None next kept at = tt
+long_next E (Some rest) None kept at = absurd at
+long_next E (Some rest) (Some next) kept at = (at.0, at.2, λ call spells. let long = at.1 in let short : length at.0 ≤ MAX_LINE = spells.0 in absurd (omega arith))
 
 -- what was written and not flushed stands
-pub stands : (mid new last : Option Bytes) (text : Bytes) → Appends mid new text → Keeps new last → AppendsBeginning mid last text
+stands : (mid new last : Option Bytes) (text : Bytes) → Appends mid new text → Keeps new last → AppendsBeginning mid last text
 stands mid new last text wrote kept = (text, [], sym (append-nil text), Appends-kept mid new last text wrote kept)
 
--- the reply is not flushed
-pub unflushed : (t u : State) (line : Bytes) (mid new last : Option Bytes) → RepliesLine t line mid new (Ok tt) u → Keeps new last → RepliesLine t line mid last (Err Write) u
-unflushed t u line mid new last (reply, told, wrote) kept = (reply, told, stands mid new last (reply ++ 10 ∷ []) wrote kept)
+module _ {L : Type 0} (g : Ghosts L) where
+  -- these lines were answered, by calls that are steps in a row, and just the replies were written
+  pub record SoFar (cache : Cache L) (input rest old new : Option Bytes) (after : Cache L) : Type 0 where
+    pub served : List Served
+    pub behind : IsBehind input rest served
+    pub made : AreMade g cache (calls_of served) after
+    pub row : StepInRow g cache (calls_of served) after
+    pub written : Appends old new (text_of served)
 
--- ---- a line that is too long
+  pub none_yet : (cache : Cache L) (input old : Option Bytes) → ((l : L) (pages : List Told) → g.left_since l (g.moment l) pages → IsLeft effect_of (told_state (g.state l)) [] pages) → SoFar cache input input old old cache
+  none_yet cache input old only_now = record { served = []; behind = here input; made = refl; row = row-none g cache only_now; written = Appends-nil old }
+    where
+      here : (input : Option Bytes) → IsBehind input input []
+      here None = tt
+      here (Some input) = ([], refl, tt)
 
-no_command : (t : State) (line : Bytes) → MAX_LINE < length line → Replies t line (codes "error line") t
-no_command t line long = inr (record { asks_none = λ call asks. absurd (let short : length line ≤ MAX_LINE = asks.0 in omega arith); told = refl; same = refl })
+  -- the calls with what was done for one more line
+  made_on : (cache mid after : Cache L) (served : List Served) (one : Served) → AreMade g cache (calls_of served) mid → Goes g mid one after → AreMade g cache (calls_of (served ++ one ∷ [])) after
+  made_on cache mid after served None made same =
+      subst (λ calls. AreMade g cache calls after) (sym (calls_more served None ∙ append-nil (calls_of served))) (subst (AreMade g cache (calls_of served)) (sym same) made)
+  made_on cache mid after served (Some last) made goes =
+      subst (λ calls. AreMade g cache calls after) (sym (calls_more served (Some last))) (made-more g cache mid after (calls_of served) last.0 last.1 made goes)
 
-pub long_done : (E : Type 0) (s t : State) (input rest next old mid new : Option Bytes) (kept : Bytes) → SoFar s input rest old mid t → ReadsLine {E = E} rest next (Ok read.TooLong) kept → Appends mid new (codes "error line" ++ 10 ∷ []) → SoFar s input next old new t
-long_done E s t None rest next old mid new kept so at wrote = tt
-long_done E s t (Some input) None next old mid new kept so at wrote = absurd so
-long_done E s t (Some input) (Some rest) None old mid new kept so at wrote = absurd at
-long_done E s t (Some input) (Some rest) (Some next) old mid new kept so at wrote = goes_on s t t input rest next old mid new at.0 (codes "error line") so at.2 (no_command t at.0 at.1) wrote
+  row_on : (cache mid after : Cache L) (served : List Served) (one : Served) → StepInRow g cache (calls_of served) mid → Goes g mid one after → StepInRow g cache (calls_of (served ++ one ∷ [])) after
+  row_on cache mid after served None row same =
+      subst (λ calls. StepInRow g cache calls after) (sym (calls_more served None ∙ append-nil (calls_of served))) (subst (StepInRow g cache (calls_of served)) (sym same) row)
+  row_on cache mid after served (Some last) row goes =
+      subst (λ calls. StepInRow g cache calls after) (sym (calls_more served (Some last)))
+      (row-then g cache mid after (calls_of served) ((last.0, last.1) ∷ []) row (row-one g mid after last.0 last.1 goes.step))
 
-pub long_stops : (E : Type 0) (s t : State) (input rest next old mid new : Option Bytes) (kept : Bytes) → SoFar s input rest old mid t → ReadsLine {E = E} rest next (Ok read.TooLong) kept → AppendsBeginning mid new (codes "error line" ++ 10 ∷ []) → Serves s input old new (Err Write) t
-long_stops E s t None rest next old mid new kept so at wrote = tt
-long_stops E s t (Some input) None next old mid new kept so at wrote = absurd so
-long_stops E s t (Some input) (Some rest) None old mid new kept so at wrote = absurd at
-long_stops E s t (Some input) (Some rest) (Some next) old mid new kept so at wrote = breaks_off s t t input rest next old mid new at.0 (codes "error line") so at.2 (no_command t at.0 at.1) wrote
+  -- the input is not read any more
+  pub gives_up : (cache after : Cache L) (input rest old new : Option Bytes) → SoFar cache input rest old new after → Serves g cache input old new (Err Read) after
+  gives_up cache after input rest old new so = record { served = so.served; answers = read_ends input rest so.served so.behind; made = so.made; row = so.row; written = so.written }
 
--- what is flushed stays
-pub flushed : (s t : State) (input rest old mid new : Option Bytes) → SoFar s input rest old mid t → Keeps mid new → SoFar s input rest old new t
-flushed s t None rest old mid new so kept = tt
-flushed s t (Some input) None old mid new so kept = absurd so
-flushed s t (Some input) (Some rest) old mid new so kept = record {
-  answered = so.answered;
-  lines = so.lines;
-  replies = so.replies;
-  run = so.run;
-  written = Appends-kept old mid new (text_of so.replies) so.written kept;
-}
+  -- the next line is not read
+  pub line_unread : (cache after : Cache L) (input rest next old new : Option Bytes) (kept : Bytes) (e : ReadError) → SoFar cache input rest old new after → IsUnread e rest next kept → Serves g cache input old new (Err (error_of e)) after
+  line_unread cache after input rest next old new kept unread.Read so why = gives_up cache after input rest old new so
+  line_unread cache after input rest next old new kept unread.Memory so why =
+      record { served = so.served; answers = ends input rest next so.behind why; made = so.made; row = so.row; written = so.written }
+    where
+      ends : (input rest next : Option Bytes) → IsBehind input rest so.served → IsUnread unread.Memory rest next kept → Answers input (Err Memory) so.served
+      ends None rest next behind why = tt
+      ends (Some input) None next behind why = absurd behind
+      ends (Some input) (Some rest) None behind why = absurd why.1
+      ends (Some input) (Some rest) (Some next) (answered, lines, asked) why =
+          (answered, lines_of rest, lines, asked, has_line rest (λ none. not_empty kept why.0 next (sym (append_assoc kept (why.0 ∷ []) next) ∙ sym why.1 ∙ none)))
+
+  -- the input is at its end
+  pub ends_here : (E : Type 0) (cache after : Cache L) (input rest next old new : Option Bytes) (kept : Bytes) → SoFar cache input rest old new after → ReadsLine {E = E} rest next (Ok read.End) kept → Serves g cache input old new (Ok tt) after
+  ends_here E cache after input rest next old new kept so at = record { served = so.served; answers = all input rest next so.behind at; made = so.made; row = so.row; written = so.written }
+    where
+      all : (input rest next : Option Bytes) → IsBehind input rest so.served → ReadsLine {E = E} rest next (Ok read.End) kept → Answers input (Ok tt) so.served
+      all None rest next behind at = tt
+      all (Some input) None next behind at = absurd behind
+      all (Some input) (Some rest) None behind at = absurd at
+      all (Some input) (Some rest) (Some next) (answered, lines, asked) at =
+          subst (λ (l : List Bytes). AllZip AsksFor l so.served) (sym (lines ∙ ap (λ left. answered ++ lines_of left) at.0 ∙ append-nil answered)) asked
+
+  module _ (cache mid after : Cache L) (input rest next old between new : Option Bytes) (so : SoFar cache input rest old between mid) where
+    -- the next line is answered
+    goes_on : (one : Served) → IsNext rest next one → Goes g mid one after → Appends between new (reply_to one ++ 10 ∷ []) → SoFar cache input next old new after
+    goes_on one at goes wrote = record {
+      served = so.served ++ one ∷ [];
+      behind = behind_more input rest next so.served one so.behind at;
+      made = made_on cache mid after so.served one so.made goes;
+      row = row_on cache mid after so.served one so.row goes;
+      written = subst (Appends old new) (sym (text_more so.served one)) (Appends-trans old between new (text_of so.served) (reply_to one ++ 10 ∷ []) so.written wrote);
+    }
+
+    -- a beginning of its reply is written
+    breaks_off : (one : Served) → IsNext rest next one → Goes g mid one after → AppendsBeginning between new (reply_to one ++ 10 ∷ []) → Serves g cache input old new (Err Write) after
+    breaks_off one at goes wrote = record {
+      served = so.served ++ one ∷ [];
+      answers = write_ends input rest next so.served one so.behind at;
+      made = made_on cache mid after so.served one so.made goes;
+      row = row_on cache mid after so.served one so.row goes;
+      written = (
+        text_of so.served ++ wrote.0,
+        wrote.1,
+        text_more so.served one ∙ ap (λ text. text_of so.served ++ text) wrote.2 ∙ sym (append_assoc (text_of so.served) wrote.0 wrote.1),
+        Appends-trans old between new (text_of so.served) wrote.0 so.written wrote.3,
+      );
+    }
+
+    -- a line that was kept is answered
+    pub line_done : (E : Type 0) (kept : Bytes) → ReadsLine {E = E} rest next (Ok read.Whole) kept → RepliesLine g mid kept between new (Ok tt) after → SoFar cache input next old new after
+    line_done E kept at (one, asks, goes, wrote) = goes_on one (kept_next E rest next kept one at asks) goes wrote
+
+    pub line_stops : (E : Type 0) (kept : Bytes) (e : RunError) → ReadsLine {E = E} rest next (Ok read.Whole) kept → RepliesLine g mid kept between new (Err e) after → Serves g cache input old new (Err e) after
+    line_stops E kept Read at told = absurd told
+    line_stops E kept Write at (one, asks, goes, wrote) = breaks_off one (kept_next E rest next kept one at asks) goes wrote
+    line_stops E kept Memory at (same, none) = record {
+      served = so.served;
+      answers = memory_ends input rest next so.served kept so.behind E at;
+      made = subst (AreMade g cache (calls_of so.served)) (sym same) so.made;
+      row = subst (StepInRow g cache (calls_of so.served)) (sym same) so.row;
+      written = subst (Appends old new) (append-nil (text_of so.served)) (Appends-trans old between new (text_of so.served) [] so.written none);
+    }
+
+    -- the reply is not flushed
+    pub unflushed : (E : Type 0) (kept : Bytes) (last : Option Bytes) → ReadsLine {E = E} rest next (Ok read.Whole) kept → RepliesLine g mid kept between last (Ok tt) after → Keeps last new → Serves g cache input old new (Err Write) after
+    unflushed E kept last at (one, asks, goes, wrote) keeps = breaks_off one (kept_next E rest next kept one at asks) goes (stands between last new (reply_to one ++ 10 ∷ []) wrote keeps)
+
+  -- ---- a line that is too long
+
+  module _ (cache mid : Cache L) (input rest next old between new : Option Bytes) (so : SoFar cache input rest old between mid) (E : Type 0) (kept : Bytes) (at : ReadsLine {E = E} rest next (Ok read.TooLong) kept) where
+    pub long_done : Appends between new (codes "error line" ++ 10 ∷ []) → SoFar cache input next old new mid
+    long_done wrote = goes_on cache mid mid input rest next old between new so None (long_next E rest next kept at) refl wrote
+
+    pub long_stops : AppendsBeginning between new (codes "error line" ++ 10 ∷ []) → Serves g cache input old new (Err Write) mid
+    long_stops wrote = breaks_off cache mid mid input rest next old between new so None (long_next E rest next kept at) refl wrote
+
+    pub long_unflushed : (last : Option Bytes) → Appends between last (codes "error line" ++ 10 ∷ []) → Keeps last new → Serves g cache input old new (Err Write) mid
+    long_unflushed last wrote keeps = long_stops (stands between last new (codes "error line" ++ 10 ∷ []) wrote keeps)
+
+  -- what is flushed stays
+  pub flushed : (cache after : Cache L) (input rest old mid new : Option Bytes) → SoFar cache input rest old mid after → Keeps mid new → SoFar cache input rest old new after
+  flushed cache after input rest old mid new so kept = record {
+    served = so.served;
+    behind = so.behind;
+    made = so.made;
+    row = so.row;
+    written = Appends-kept old mid new (text_of so.served) so.written kept;
+  }

@@ -1,5 +1,5 @@
 -- Which calls a name and the text behind it ask for.
-use Rattle.std.proofs.Common.{◌≡◌, ◌≢◌, ℕ, ◌<◌, ◌^◌, List, [], ◌∷◌, ◌++◌, map, length, get_or, Option, None, Some, IfNone, IfOk, IfSome, Result, Ok, Err, codes, sym, ap, ◌∙◌, subst, arith, rules, refl}
+use Rattle.std.proofs.Common.{◌≡◌, ◌≢◌, ℕ, ◌<◌, ◌^◌, ◌≤◌, List, [], ◌∷◌, ◌++◌, map, length, get_or, Option, None, Some, IfNone, IfOk, IfSome, Result, Ok, Err, codes, sym, ap, ◌∙◌, subst, arith, rules, refl}
 use Rattle.std.specs.Fmt.{decimal}
 use Rattle.std.specs.List.{join_with_byte}
 use Rattle.std.specs.Option.{SomeIff}
@@ -14,10 +14,11 @@ use Rattle.sled_node.specs.Node.{Value, WholeNode, leaf_of}
 use Rattle.sled_node.specs.Pairs.{IsWithinLimit, HasPairs}
 use Rattle.sled_pagecache.specs.Token.{Token, token, pid_of, stamp_of}
 use Rattle.sled_pagecache.specs.declared.pagecache.call.Call.{Call}
-use Rattle.sled_pagecache.specs.declared.pagecache.call.Call.TheVariants.{Allocate, Get, Link, Replace}
+use Rattle.sled_pagecache.specs.declared.pagecache.call.Call.TheVariants.{Allocate, Get, Link, Replace, Flush, SizeOnDisk}
 use Rattle.sledpc.specs.Asked.{AsksBehind, AreTwo, BeginsWithToken, SpellLeaf, at_the_end}
 use Rattle.sledpc.specs.Commands.{Asks, IsToken, Spells}
 use Rattle.sledpc.specs.Cut.{HasNo}
+use Rattle.sledpc.specs.declared.lines.TheConstants.{MAX_LINE}
 use Rattle.sledpc.specs.Words.{AreBytes, ArePairs, SpellPairs, bytes_word, pair_word, after_name, HasNoSpace, BeginsLine}
 use Rattle.sledpc.proofs.Cut.{cut_once, no_mark}
 use Rattle.sledpc.proofs.Words.{no_space, no_space_in_pair}
@@ -53,9 +54,12 @@ begins_itself : (word : Bytes) (words : List Bytes) → HasNoSpace word → Begi
 begins_itself word [] plain = (plain, refl)
 begins_itself word (next ∷ words) plain = (plain, refl)
 
--- the names differ in their first byte
+-- the names differ in their first byte, or in their second
 abbrev first_byte : List Bytes → ℕ
 first_byte words = get_or (get_or words 0 []) 0 0
+
+abbrev second_byte : List Bytes → ℕ
+second_byte words = get_or (get_or words 0 []) 1 0
 
 -- ---- the pairs of `alloc` and of `replace`
 
@@ -102,6 +106,8 @@ allocate_asked text (Link old (ParentMergeIntention page)) asked = absurd (asked
 allocate_asked text (Link old ParentMergeConfirm) asked = absurd (asked.1)
 allocate_asked text (Link old ChildMergeCap) asked = absurd (asked.1)
 allocate_asked text (Replace old node) asked = let e : ◌≡◌ {A = ℕ} 97 114 = ap first_byte asked.1.3 in absurd (omega arith)
+allocate_asked text Flush asked = let e : ◌≡◌ {A = ℕ} 97 102 = ap first_byte asked.1 in absurd (omega arith)
+allocate_asked text SizeOnDisk asked = let e : ◌≡◌ {A = ℕ} 97 115 = ap first_byte asked.1 in absurd (omega arith)
 
 -- ---- two words
 
@@ -227,6 +233,8 @@ set_asked text (Link old (ParentMergeIntention page)) asked = absurd (asked.1)
 set_asked text (Link old ParentMergeConfirm) asked = absurd (asked.1)
 set_asked text (Link old ChildMergeCap) asked = absurd (asked.1)
 set_asked text (Replace old node) asked = let e : ◌≡◌ {A = ℕ} 115 114 = ap first_byte asked.1.3 in absurd (omega arith)
+set_asked text Flush asked = let e : ◌≡◌ {A = ℕ} 115 102 = ap first_byte asked.1 in absurd (omega arith)
+set_asked text SizeOnDisk asked = let e : ◌≡◌ {A = ℕ} 101 105 = ap second_byte asked.1 in absurd (omega arith)
 
 -- what a text behind `del` spells
 pub record IsDel (text : Option Bytes) : Type 0 where
@@ -246,6 +254,8 @@ del_asked text (Link old (ParentMergeIntention page)) asked = absurd (asked.1)
 del_asked text (Link old ParentMergeConfirm) asked = absurd (asked.1)
 del_asked text (Link old ChildMergeCap) asked = absurd (asked.1)
 del_asked text (Replace old node) asked = let e : ◌≡◌ {A = ℕ} 100 114 = ap first_byte asked.1.3 in absurd (omega arith)
+del_asked text Flush asked = let e : ◌≡◌ {A = ℕ} 100 102 = ap first_byte asked.1 in absurd (omega arith)
+del_asked text SizeOnDisk asked = let e : ◌≡◌ {A = ℕ} 100 115 = ap first_byte asked.1 in absurd (omega arith)
 
 -- what a text behind `replace` spells
 pub record IsReplace (text : Option Bytes) : Type 0 where
@@ -267,10 +277,42 @@ replace_asked text (Replace old node) asked =
     let pairs = asked.1.1 in
     let e : asked.0 ≡ decimal (pid_of old) ∷ decimal (stamp_of old) ∷ map pair_word pairs = cc (asked.1.3) in
     record { old = old; node = node; rest = after_name (map pair_word pairs); leaf = (pairs, asked.1.2, refl); token = token_in_front text old asked.0 (map pair_word pairs) asked.1.0 asked.2 e }
+replace_asked text Flush asked = let e : ◌≡◌ {A = ℕ} 114 102 = ap first_byte asked.1 in absurd (omega arith)
+replace_asked text SizeOnDisk asked = let e : ◌≡◌ {A = ℕ} 114 115 = ap first_byte asked.1 in absurd (omega arith)
+
+-- ---- names without words
+
+pub flush_asked : (text : Option Bytes) (call : Call) → AsksBehind (codes "flush") text call → text ≡ None
+flush_asked text (Allocate node) asked = let e : ◌≡◌ {A = ℕ} 102 97 = ap first_byte asked.1.2 in absurd (omega arith)
+flush_asked text (Get pid) asked = let e : ◌≡◌ {A = ℕ} 102 103 = ap first_byte asked.1.1 in absurd (omega arith)
+flush_asked text (Link old (Set key value)) asked = let e : ◌≡◌ {A = ℕ} 102 115 = ap first_byte asked.1.3 in absurd (omega arith)
+flush_asked text (Link old (Del key)) asked = let e : ◌≡◌ {A = ℕ} 102 100 = ap first_byte asked.1.2 in absurd (omega arith)
+flush_asked text (Link old (ParentMergeIntention page)) asked = absurd (asked.1)
+flush_asked text (Link old ParentMergeConfirm) asked = absurd (asked.1)
+flush_asked text (Link old ChildMergeCap) asked = absurd (asked.1)
+flush_asked text (Replace old node) asked = let e : ◌≡◌ {A = ℕ} 102 114 = ap first_byte asked.1.3 in absurd (omega arith)
+flush_asked text Flush asked =
+    let e : asked.0 ≡ [] = cc (asked.1) in
+    asked.2 ∙ ap after_name e
+flush_asked text SizeOnDisk asked = let e : ◌≡◌ {A = ℕ} 102 115 = ap first_byte asked.1 in absurd (omega arith)
+
+pub size_asked : (text : Option Bytes) (call : Call) → AsksBehind (codes "size") text call → text ≡ None
+size_asked text (Allocate node) asked = let e : ◌≡◌ {A = ℕ} 115 97 = ap first_byte asked.1.2 in absurd (omega arith)
+size_asked text (Get pid) asked = let e : ◌≡◌ {A = ℕ} 115 103 = ap first_byte asked.1.1 in absurd (omega arith)
+size_asked text (Link old (Set key value)) asked = let e : ◌≡◌ {A = ℕ} 105 101 = ap second_byte asked.1.3 in absurd (omega arith)
+size_asked text (Link old (Del key)) asked = let e : ◌≡◌ {A = ℕ} 115 100 = ap first_byte asked.1.2 in absurd (omega arith)
+size_asked text (Link old (ParentMergeIntention page)) asked = absurd (asked.1)
+size_asked text (Link old ParentMergeConfirm) asked = absurd (asked.1)
+size_asked text (Link old ChildMergeCap) asked = absurd (asked.1)
+size_asked text (Replace old node) asked = let e : ◌≡◌ {A = ℕ} 115 114 = ap first_byte asked.1.3 in absurd (omega arith)
+size_asked text Flush asked = let e : ◌≡◌ {A = ℕ} 115 102 = ap first_byte asked.1 in absurd (omega arith)
+size_asked text SizeOnDisk asked =
+    let e : asked.0 ≡ [] = cc (asked.1) in
+    asked.2 ∙ ap after_name e
 
 -- ---- a line by its name
 
--- words that ask for a call begin with one of five names
+-- words that ask for a call begin with one of seven names
 record IsNamed (words : List Bytes) : Type 0 where
   name : Bytes
   rest : List Bytes
@@ -288,6 +330,8 @@ is_named words (Link old ParentMergeConfirm) asks = absurd asks
 is_named words (Link old ChildMergeCap) asks = absurd asks
 is_named words (Replace old node) asks =
     record { name = codes "replace"; rest = decimal (pid_of old) ∷ decimal (stamp_of old) ∷ map pair_word asks.1; plain = search rules; joined = asks.3 }
+is_named words Flush asks = record { name = codes "flush"; rest = []; plain = search rules; joined = asks }
+is_named words SizeOnDisk asks = record { name = codes "size"; rest = []; plain = search rules; joined = asks }
 
 -- a line that spells a call is its name and the text behind it
 pub spelled_behind : (line name : Bytes) (text : Option Bytes) (call : Call) → BeginsLine line name text → Spells line call → AsksBehind name text call
@@ -295,6 +339,16 @@ spelled_behind line name text call begins spells =
     let front = is_named spells.1.0 call spells.1.1 in
     let cut = named line name front.name text front.rest begins front.plain (spells.1.2 ∙ ap (join_with_byte 32) front.joined) in
     (front.rest, subst (λ words. Asks words call) (front.joined ∙ ap (λ first. first ∷ front.rest) (sym cut.0)) spells.1.1, cut.1)
+
+-- a name and the text behind it are a line that spells the call
+joined_line : (line name : Bytes) (text : Option Bytes) (words : List Bytes) → BeginsLine line name text → text ≡ after_name words → line ≡ join_with_byte 32 (name ∷ words)
+joined_line line name text [] begins e = (subst (BeginsLine line name) e begins).1
+joined_line line name text (word ∷ words) begins e = (subst (BeginsLine line name) e begins).1
+
+pub some_spelled_if_ok : {E : Type 0} (line name : Bytes) (text : Option Bytes) (result : Result (Option Call) E) → length line ≤ MAX_LINE → BeginsLine line name text → IfOk result (λ found. IfSome found (AsksBehind name text)) → IfOk result (λ found. IfSome found (Spells line))
+some_spelled_if_ok line name text (Ok None) short begins some = tt
+some_spelled_if_ok line name text (Ok (Some call)) short begins some = (short, (name ∷ some.0, some.1, joined_line line name text some.0 begins some.2))
+some_spelled_if_ok line name text (Err error) short begins some = tt
 
 -- a word of seven bytes, byte by byte
 pub seven_bytes : (word : Bytes) (a b c d e f g : ℕ) → length word ≡ 7 → get_or word 0 0 ≡ a → get_or word 1 0 ≡ b → get_or word 2 0 ≡ c → get_or word 3 0 ≡ d → get_or word 4 0 ≡ e → get_or word 5 0 ≡ f → get_or word 6 0 ≡ g → word ≡ a ∷ b ∷ c ∷ d ∷ e ∷ f ∷ g ∷ []
@@ -308,16 +362,18 @@ seven_bytes (x0 ∷ x1 ∷ x2 ∷ x3 ∷ x4 ∷ x5 ∷ []) a b c d e f g n p q r
 seven_bytes (x0 ∷ x1 ∷ x2 ∷ x3 ∷ x4 ∷ x5 ∷ x6 ∷ []) a b c d e f g n p q r s t u v = cc
 seven_bytes (x0 ∷ x1 ∷ x2 ∷ x3 ∷ x4 ∷ x5 ∷ x6 ∷ y ∷ more) a b c d e f g n p q r s t u v = absurd (omega (arith, n))
 
--- there are five names
-pub no_name : (name : Bytes) (text : Option Bytes) (call : Call) → name ≢ codes "alloc" → name ≢ codes "get" → name ≢ codes "set" → name ≢ codes "del" → name ≢ codes "replace" → AsksBehind name text call → ⊥
-no_name name text (Allocate node) alloc get set del replace asked = alloc (cc (asked.1.2))
-no_name name text (Get pid) alloc get set del replace asked = get (cc (asked.1.1))
-no_name name text (Link old (Set key value)) alloc get set del replace asked = set (cc (asked.1.3))
-no_name name text (Link old (Del key)) alloc get set del replace asked = del (cc (asked.1.2))
-no_name name text (Link old (ParentMergeIntention page)) alloc get set del replace asked = asked.1
-no_name name text (Link old ParentMergeConfirm) alloc get set del replace asked = asked.1
-no_name name text (Link old ChildMergeCap) alloc get set del replace asked = asked.1
-no_name name text (Replace old node) alloc get set del replace asked = replace (cc (asked.1.3))
+-- there are seven names
+pub no_name : (name : Bytes) (text : Option Bytes) (call : Call) → name ≢ codes "alloc" → name ≢ codes "get" → name ≢ codes "set" → name ≢ codes "del" → name ≢ codes "replace" → name ≢ codes "flush" → name ≢ codes "size" → AsksBehind name text call → ⊥
+no_name name text (Allocate node) alloc get set del replace flush size asked = alloc (cc (asked.1.2))
+no_name name text (Get pid) alloc get set del replace flush size asked = get (cc (asked.1.1))
+no_name name text (Link old (Set key value)) alloc get set del replace flush size asked = set (cc (asked.1.3))
+no_name name text (Link old (Del key)) alloc get set del replace flush size asked = del (cc (asked.1.2))
+no_name name text (Link old (ParentMergeIntention page)) alloc get set del replace flush size asked = asked.1
+no_name name text (Link old ParentMergeConfirm) alloc get set del replace flush size asked = asked.1
+no_name name text (Link old ChildMergeCap) alloc get set del replace flush size asked = asked.1
+no_name name text (Replace old node) alloc get set del replace flush size asked = replace (cc (asked.1.3))
+no_name name text Flush alloc get set del replace flush size asked = flush (cc (asked.1))
+no_name name text SizeOnDisk alloc get set del replace flush size asked = size (cc (asked.1))
 
 -- what no call is asked for behind the name, no call is spelled for by the line
 pub none_spelled : (line name : Bytes) (text : Option Bytes) (found : Option Call) → BeginsLine line name text → IfNone found ((call : Call) → AsksBehind name text call → ⊥) → IfNone found ((call : Call) → Spells line call → ⊥)

@@ -5,6 +5,7 @@ pub mod Written
 pub mod LinesOf
 pub mod Entries
 pub mod Answered
+pub mod Making
 pub mod Spelled
 pub mod Commands
 pub mod Leaves

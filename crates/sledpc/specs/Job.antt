@@ -1,8 +1,21 @@
--- What the words of the program ask for.
+-- What the words of the program ask for, and the cache that it opens.
 use Rattle.std.specs.Prelude.{◌≡◌, List, [], ◌∷◌, Option, None, Some, codes}
 use Rattle.sled_base.specs.Order.{Bytes}
+use Rattle.sled_log.specs.Memory.{state_of}
+use Rattle.sled_log.specs.declared.memory.MemLog.{MemLog}
+use Rattle.sled_pagecache.specs.Cache.{Cache, IsIn}
+use Rattle.sled_pagecache.specs.Logged.{Logged}
+use Rattle.sled_pagecache.specs.Opening.{opened}
+use Rattle.sled_pagecache.specs.declared.pagecache.config.Config.{Config}
 
 -- the script over a log in memory
 abbrev pub AskForMemory : Option (List Bytes) → Type 0
 AskForMemory None = ⊥
 AskForMemory (Some words) = words ≡ codes "mem" ∷ []
+
+-- The cache is new, with these settings: its pages are those that every cache has, and they are stable.
+pub record IsNew (config : Config) (cache : Cache MemLog) : Type 0 where
+  pub settings : cache.config ≡ config
+  pub held : Logged
+  pub is : IsIn state_of cache held (opened config [])
+  pub stable : held.pending ≡ []

@@ -1,9 +1,11 @@
--- What a run of the script writes.
-use Rattle.std.specs.Prelude.{◌≡◌, ◌≢◌, ◌⊎◌, List, [], ◌∷◌, ◌++◌, Option, None, Some, Result, Ok, Err, codes, flat_map, ⊤}
+-- What a run of the script does and writes.
+use Rattle.std.specs.Prelude.{◌≢◌, ℕ, List, [], ◌∷◌, ◌++◌, ◌≡◌, Option, None, Some, Result, Ok, Err, codes, flat_map, ⊤}
 use Rattle.std.specs.Io.KnownBytes.{Appends}
+use Rattle.std.specs.List.{AllZip}
 use Rattle.sled_base.specs.Order.{Bytes}
-use Rattle.sled_pagecache.specs.State.{State}
-use Rattle.sled_pagecache.specs.Step.{Step}
+use Rattle.sled_log.specs.declared.log.Log.{Ghosts}
+use Rattle.sled_pagecache.specs.Cache.{Cache}
+use Rattle.sled_pagecache.specs.Rows.{StepInRow, AreMade}
 use Rattle.sled_pagecache.specs.declared.pagecache.call.Answer.{Answer}
 use Rattle.sled_pagecache.specs.declared.pagecache.call.Call.{Call}
 use Rattle.sledpc.specs.Commands.{Spells}
@@ -15,61 +17,56 @@ use Rattle.sledpc.specs.declared.lines.ReadError.TheVariants as unread
 use Rattle.sledpc.specs.declared.script.run.RunError.{RunError}
 use Rattle.sledpc.specs.declared.script.run.RunError.TheVariants.{Read, Write, Memory}
 
--- the line asks for a call, and the reply is that of its answer
-pub record IsServed (s : State) (line : Bytes) (reply : Bytes) (t : State) : Type 0 where
-  pub call : Call
-  pub answer : Answer
-  pub asks : Spells line call
-  pub step : Step s call answer t
-  pub told : reply ≡ reply_of answer
+-- what was done for a line: a call was made, which answered so, or none was
+abbrev pub Served : Type 0
+Served = Option (Call × Answer)
 
--- the line asks for no call, and nothing changes
-pub record IsNoCommand (s : State) (line : Bytes) (reply : Bytes) (t : State) : Type 0 where
-  pub asks_none : (call : Call) → ¬ Spells line call
-  pub told : reply ≡ codes "error line"
-  pub same : t ≡ s
+-- the line asks for the call, or for none
+abbrev pub AsksFor : Bytes → Served → Type 0
+AsksFor line None = (call : Call) → ¬ Spells line call
+AsksFor line (Some made) = Spells line made.0
 
--- from s this reply may be given to the line, and t is left
-abbrev pub Replies : State → Bytes → Bytes → State → Type 0
-Replies s line reply t = IsServed s line reply t ⊎ IsNoCommand s line reply t
-
--- from s these replies may be given to these lines, one to each in their order, and t is left
-abbrev pub Runs : State → List Bytes → List Bytes → State → Type 0
-Runs s [] [] t = t ≡ s
-Runs s (line ∷ lines) (reply ∷ replies) t = (mid : State) × Replies s line reply mid × Runs mid lines replies t
-Runs s [] (reply ∷ replies) t = ⊥
-Runs s (line ∷ lines) [] t = ⊥
+abbrev pub reply_to : Served → Bytes
+reply_to None = codes "error line"
+reply_to (Some made) = reply_of made.1
 
 -- each reply is a line
-abbrev pub text_of : List Bytes → Bytes
-text_of replies = flat_map (λ reply. reply ++ 10 ∷ []) replies
+abbrev pub text_of : List Served → Bytes
+text_of served = flat_map (λ one. reply_to one ++ 10 ∷ []) served
 
--- all lines of the input were answered, and just the replies were written
-pub record AnswersAll (s : State) (input : Bytes) (old new : Option Bytes) (t : State) : Type 0 where
-  pub replies : List Bytes
-  pub run : Runs s (lines_of input) replies t
-  pub written : Appends old new (text_of replies)
+-- the calls that were made, in order
+abbrev pub calls_of : List Served → List (Call × Answer)
+calls_of [] = []
+calls_of (None ∷ served) = calls_of served
+calls_of (Some made ∷ served) = made ∷ calls_of served
 
--- How a run stopped behind the lines that were answered. The input was not read, and all replies stand; or memory was wanting for one more line, and all replies stand; or a reply was not written whole or not flushed, and a beginning of the replies stands.
-abbrev pub Stops : RunError → List Bytes → List Bytes → Option Bytes → Option Bytes → Bytes → Type 0
-Stops Read answered others old new text = Appends old new text
-Stops Memory answered others old new text = (others ≢ []) × Appends old new text
-Stops Write answered others old new text = (answered ≢ []) × AppendsBeginning old new text
+-- What ended a run behind the lines that were answered: the input was not read; memory was wanting for one more line; or a reply was not written.
+abbrev pub Ends : RunError → List Bytes → List Bytes → Type 0
+Ends Read answered others = ⊤
+Ends Memory answered others = others ≢ []
+Ends Write answered others = answered ≢ []
 
--- a beginning of the lines was answered
-pub record AnswersSome (s : State) (input : Bytes) (old new : Option Bytes) (e : RunError) (t : State) : Type 0 where
-  pub answered : List Bytes
-  pub others : List Bytes
-  pub lines : lines_of input ≡ answered ++ others
-  pub replies : List Bytes
-  pub run : Runs s answered replies t
-  pub stopped : Stops e answered others old new (text_of replies)
+-- Each line of a known input was answered, in their order; at an error a beginning of them was.
+abbrev pub Answers : Option Bytes → Result Unit RunError → List Served → Type 0
+Answers None result served = ⊤
+Answers (Some input) (Ok done) served = AllZip AsksFor (lines_of input) served
+Answers (Some input) (Err e) served = (answered others : List Bytes) × (lines_of input ≡ answered ++ others) × AllZip AsksFor answered served × Ends e answered others
 
--- what a run makes of an input that is known
-abbrev pub Serves : State → Option Bytes → Option Bytes → Option Bytes → Result Unit RunError → State → Type 0
-Serves s None old new result t = ⊤
-Serves s (Some input) old new (Ok done) t = AnswersAll s input old new t
-Serves s (Some input) old new (Err e) t = AnswersSome s input old new e t
+-- The text was written; where writing or flushing it failed, a beginning of it.
+abbrev pub IsWritten : Result Unit RunError → Option Bytes → Option Bytes → Bytes → Type 0
+IsWritten (Ok done) old new text = Appends old new text
+IsWritten (Err Read) old new text = Appends old new text
+IsWritten (Err Memory) old new text = Appends old new text
+IsWritten (Err Write) old new text = AppendsBeginning old new text
+
+-- What a run makes of an input: the calls that the lines ask for are made, and are steps in a row, and the replies to their
+-- answers are written, one line to each line.
+pub record Serves {L : Type 0} (g : Ghosts L) (cache : Cache L) (input old new : Option Bytes) (result : Result Unit RunError) (after : Cache L) : Type 0 where
+  pub served : List Served
+  pub answers : Answers input result served
+  pub made : AreMade g cache (calls_of served) after
+  pub row : StepInRow g cache (calls_of served) after
+  pub written : IsWritten result old new (text_of served)
 
 -- the error that ends a run where a line was not read
 abbrev pub error_of : ReadError → RunError

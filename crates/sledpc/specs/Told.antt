@@ -1,7 +1,7 @@
 -- An answer that lends a node, told as an answer.
 use Rattle.sled_pagecache.specs.Lending.{told}
 use Rattle.sled_pagecache.specs.declared.pagecache.call.Answer.{Answer}
-use Rattle.sled_pagecache.specs.declared.pagecache.call.Answer.TheVariants.{Allocated, Got, Linked, Replaced}
+use Rattle.sled_pagecache.specs.declared.pagecache.call.Answer.TheVariants.{Allocated, Got, Linked, Replaced, Flushed, Sized}
 use Rattle.sledpc.specs.declared.script.reply.Told.{Told}
 use Rattle.sledpc.specs.declared.script.reply.Told.TheVariants as lent
 
@@ -10,3 +10,5 @@ answer_of (lent.Allocated answer) = Allocated answer.now
 answer_of (lent.Got answer) = Got (told answer)
 answer_of (lent.Linked answer) = Linked answer.now
 answer_of (lent.Replaced answer) = Replaced answer.now
+answer_of (lent.Flushed answer) = Flushed answer.now
+answer_of (lent.Sized answer) = Sized answer.now

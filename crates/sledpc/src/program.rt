@@ -1,9 +1,9 @@
 //! The program: its words, its streams and its status.
 
-ghost use Rattle.std.specs.Prelude.{◌≡◌, ◌↔◌, map, IsSome, Some};
+ghost use Rattle.std.specs.Prelude.{◌≡◌, ◌↔◌, map, IsSome, Some, IfOk};
 ghost use Rattle.std.specs.Option.{option_map};
 ghost use Rattle.std.specs.String.{string_bytes};
-ghost use Rattle.sledpc.specs.Job.{AskForMemory};
+ghost use Rattle.sledpc.specs.Job.{AskForMemory, IsNew};
 
 use crate::script::run::{RunError, run};
 use sled_pagecache::{Config, Error, MemLog, PageCache};
@@ -88,17 +88,24 @@ fn job_of(words: &[String]) -> Option<Job>
     }
 }
 
+// Opens a cache over a new log in memory.
+fn open_memory(alloc: Global) -> Result<PageCache<MemLog>, Error>
+    ensures { IfOk result (IsNew CONFIG) }
+{
+    let log = MemLog::new(alloc, BLOB_LIMIT, CLEAN_EVERY);
+    match PageCache::start(alloc, CONFIG, log) {
+        Ok(cache) => Ok(cache),
+        Err((error, _)) => Err(error),
+    }
+}
+
 // Runs the script over a new log in memory.
 fn serve_memory<R: Read, W: Write>(
     alloc: Global,
     reader: &mut R,
     writer: &mut W,
 ) -> Result<(), Fault> {
-    let log = MemLog::new(alloc, BLOB_LIMIT, CLEAN_EVERY);
-    let mut cache = match PageCache::start(alloc, CONFIG, log) {
-        Ok(cache) => cache,
-        Err((error, _)) => return Err(Fault::Opening(error)),
-    };
+    let mut cache = open_memory(alloc).map_err(Fault::Opening)?;
     let Ok(mut input) = BufReader::new(alloc, reader) else {
         return Err(Fault::Run(RunError::Memory));
     };

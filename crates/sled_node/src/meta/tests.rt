@@ -36,36 +36,59 @@ fn names_have_pages(rt: HostRuntime) -> Result<(), Fail> {
     Ok(())
 }
 
-#[test]
-fn tenants_come_in_order(rt: HostRuntime) -> Result<(), Fail> {
-    let tenants = two_names(&rt, rt.alloc())?.tenants()?;
-    assert_eq!(rt; tenants.len(), 2);
-    match (tenants.first_key_value(), tenants.last_key_value()) {
-        (Some(first), Some(last)) => {
-            assert_eq!(rt; first.0.as_slice(), b"a".as_slice());
-            assert_eq!(rt; *first.1, 2);
-            assert_eq!(rt; last.0.as_slice(), b"b".as_slice());
-            assert_eq!(rt; *last.1, 3);
-        }
-        _ => assert!(rt; false),
+// Whether the entry is of this name, at this page.
+fn is_entry(entry: Option<(&Vec<u8>, &PageId)>, name: &[u8], root: PageId) -> bool {
+    match entry {
+        Some((found, page)) => found.as_slice() == name && *page == root,
+        None => false,
     }
+}
+
+fn expect_in_order(rt: &impl Abort, tenants: &BTreeMap<Vec<u8>, PageId>) {
+    assert_eq!(rt; tenants.len(), 2);
+    assert!(rt; is_entry(tenants.first_key_value(), b"a", 2));
+    assert!(rt; is_entry(tenants.last_key_value(), b"b", 3));
+}
+
+fn expect_tenants(rt: &impl Abort, meta: &Meta) -> Result<(), AllocError> {
+    let tenants = meta.tenants()?;
+    expect_in_order(rt, &tenants);
     Ok(())
 }
 
+fn let_go(_meta: Meta) {}
+
 #[test]
-fn names_are_set_and_taken_out(rt: HostRuntime) -> Result<(), Fail> {
-    let alloc = rt.alloc();
-    let mut meta = Meta::default(alloc);
+fn tenants_come_in_order(rt: HostRuntime) -> Result<(), Fail> {
+    let meta = two_names(&rt, rt.alloc())?;
+    let done = expect_tenants(&rt, &meta);
+    let_go(meta);
+    Ok(done?)
+}
+
+fn expect_set(rt: &impl Abort, alloc: Global, meta: &mut Meta) -> Result<(), AllocError> {
     assert!(rt; meta.is_empty());
-    assert_eq!(rt; set(&rt, alloc, &mut meta, b"a", 2)?, None);
-    assert_eq!(rt; set(&rt, alloc, &mut meta, b"a", 5)?, Some(2));
+    assert_eq!(rt; set(rt, alloc, meta, b"a", 2)?, None);
+    assert_eq!(rt; set(rt, alloc, meta, b"a", 5)?, Some(2));
     assert_eq!(rt; meta.get_root(b"a"), Some(5));
+    expect_taken_out(rt, meta);
+    Ok(())
+}
+
+fn expect_taken_out(rt: &impl Abort, meta: &mut Meta) {
     assert_eq!(rt; meta.del_root(b"b"), None);
     assert_eq!(rt; meta.len(), 1);
     assert_eq!(rt; meta.del_root(b"a"), Some(5));
     assert_eq!(rt; meta.get_root(b"a"), None);
     assert!(rt; meta.is_empty());
-    Ok(())
+}
+
+#[test]
+fn names_are_set_and_taken_out(rt: HostRuntime) -> Result<(), Fail> {
+    let mut meta = Meta::default(rt.alloc());
+    let done = expect_set(&rt, rt.alloc(), &mut meta);
+    let_go(meta);
+    Ok(done?)
 }
 
 #[test]
@@ -92,14 +115,20 @@ fn expect_read(
     Ok(())
 }
 
+fn expect_written(rt: &impl Abort, alloc: Global, meta: &Meta) -> Result<(), Error> {
+    assert_eq!(rt; meta.serialized_size(), 6);
+    let bytes = meta.serialize(alloc)?;
+    assert_eq!(rt; bytes.as_slice(), [1, 97, 2, 1, 98, 3].as_slice());
+    expect_read(rt, alloc, &bytes, Some(2), 2)
+}
+
 #[test]
 fn maps_are_written_and_read(rt: HostRuntime) -> Result<(), Fail> {
     let alloc = rt.alloc();
     let meta = two_names(&rt, alloc)?;
-    assert_eq!(rt; meta.serialized_size(), 6);
-    let bytes = meta.serialize(alloc)?;
-    assert_eq!(rt; bytes.as_slice(), [1, 97, 2, 1, 98, 3].as_slice());
-    expect_read(&rt, alloc, &bytes, Some(2), 2)?;
+    let done = expect_written(&rt, alloc, &meta);
+    let_go(meta);
+    done?;
     expect_read(&rt, alloc, &[1, 98, 3, 1, 97, 2], Some(2), 2)?;
     expect_read(&rt, alloc, &[1, 97, 2, 1, 97, 5], Some(5), 1)?;
     expect_read(&rt, alloc, &[], None, 0)?;

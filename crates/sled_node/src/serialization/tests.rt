@@ -18,6 +18,12 @@ fn read<T: Serialize>(alloc: Global, input: &mut &[u8]) -> Result<Option<T>, All
     }
 }
 
+// A test that may end early lets what was read go here, once, and not on each way out.
+
+fn let_data_go(_data: Data) {}
+
+fn let_node_go(_node: Node) {}
+
 // The bytes are a whole spelling of the value.
 fn expect_read<T: Serialize + PartialEq>(
     rt: &impl Abort,
@@ -82,18 +88,39 @@ fn expect_corruption<T: Serialize>(rt: &impl Abort, alloc: Global, bytes: &[u8])
     assert!(rt; rest.len() == bytes.len());
 }
 
+// As `expect_link`, of a link that is let go here.
+fn expect_written(
+    rt: &impl Abort,
+    alloc: Global,
+    link: Link,
+    bytes: &[u8],
+) -> Result<(), AllocError>
+    requires can_write { CanWriteLink link }
+    requires fits { length (written_link link) < 2 ^ 64 }
+{
+    expect_link(rt, alloc, &link, bytes)
+}
+
+fn expect_set(rt: &impl Abort, alloc: Global, bytes: &[u8]) -> Result<(), AllocError> {
+    let key = IVec::from_slice(alloc, &[1])?;
+    let value = IVec::from_slice(alloc, &[2])?;
+    expect_written(rt, alloc, Link::Set(key, value), bytes)
+}
+
+fn expect_del(rt: &impl Abort, alloc: Global, bytes: &[u8]) -> Result<(), AllocError> {
+    let key = IVec::from_slice(alloc, &[1])?;
+    expect_written(rt, alloc, Link::Del(key), bytes)
+}
+
 #[test]
 fn links(rt: HostRuntime) -> Result<(), Fail> {
-    let key = IVec::from_slice(rt.alloc(), &[1])?;
-    let value = IVec::from_slice(rt.alloc(), &[2])?;
-    let set = Link::Set(key.clone()?, value);
-    expect_link(&rt, rt.alloc(), &set, &[0, 1, 1, 1, 2])?;
-    expect_link(&rt, rt.alloc(), &Link::Del(key), &[1, 1, 1])?;
+    expect_set(&rt, rt.alloc(), &[0, 1, 1, 1, 2])?;
+    expect_del(&rt, rt.alloc(), &[1, 1, 1])?;
     for (page, bytes) in [(0, [2, 0].as_slice()), (241, &[2, 241, 1])] {
-        expect_link(&rt, rt.alloc(), &Link::ParentMergeIntention(page), bytes)?;
+        expect_written(&rt, rt.alloc(), Link::ParentMergeIntention(page), bytes)?;
     }
-    expect_link(&rt, rt.alloc(), &Link::ParentMergeConfirm, &[3])?;
-    expect_link(&rt, rt.alloc(), &Link::ChildMergeCap, &[4])?;
+    expect_written(&rt, rt.alloc(), Link::ParentMergeConfirm, &[3])?;
+    expect_written(&rt, rt.alloc(), Link::ChildMergeCap, &[4])?;
     Ok(())
 }
 
@@ -129,15 +156,20 @@ fn a_lie_about_a_length_takes_no_memory(rt: HostRuntime) {
     expect_corruption::<Node>(&rt, rt.alloc(), &[0, 0, 0, 0, 252, 0, 0, 0, 0, 1, 0, 0]);
 }
 
+fn expect_empty_leaf(rt: &impl Abort, alloc: Global) -> Result<(), AllocError> {
+    let empty = Data::Leaf(Leaf::default(alloc));
+    expect_data(rt, alloc, &empty, &[0, 0])
+}
+
 #[test]
 fn leaves(rt: HostRuntime) -> Result<(), Fail> {
-    let empty = Data::Leaf(Leaf::default(rt.alloc()));
-    expect_data(&rt, rt.alloc(), &empty, &[0, 0])?;
+    expect_empty_leaf(&rt, rt.alloc())?;
     let mut input: &[u8] = &[0, 250, 1, 0, 0, 1, 97, 1, 98, 7];
     let leaf = read::<Data>(rt.alloc(), &mut input)?.ok_or("a leaf")?;
     assert!(rt; input == [7].as_slice());
-    expect_data(&rt, rt.alloc(), &leaf, &[0, 1, 1, 97, 1, 98])?;
-    Ok(())
+    let done = expect_data(&rt, rt.alloc(), &leaf, &[0, 1, 1, 97, 1, 98]);
+    let_data_go(leaf);
+    Ok(done?)
 }
 
 #[test]
@@ -178,16 +210,29 @@ fn indexes(rt: HostRuntime) -> Result<(), Fail> {
     Ok(())
 }
 
+fn expect_empty_node(rt: &impl Abort, alloc: Global) -> Result<(), AllocError> {
+    let empty = Node::default(alloc);
+    expect_node(rt, alloc, &empty, &[0; 8])
+}
+
 #[test]
 fn nodes(rt: HostRuntime) -> Result<(), Fail> {
-    let empty = Node::default(rt.alloc());
-    expect_node(&rt, rt.alloc(), &empty, &[0; 8])?;
+    expect_empty_node(&rt, rt.alloc())?;
     let mut input: &[u8] = &[0, 0, 1, 0, 0, 0, 1, 0];
     let merging = read::<Node>(rt.alloc(), &mut input)?.ok_or("a node")?;
     assert!(rt; merging.merging());
     assert!(rt; merging.is_index());
-    expect_node(&rt, rt.alloc(), &merging, &[0, 0, 1, 0, 0, 0, 1, 0])?;
-    Ok(())
+    let done = expect_node(&rt, rt.alloc(), &merging, &[0, 0, 1, 0, 0, 0, 1, 0]);
+    let_node_go(merging);
+    Ok(done?)
+}
+
+fn expect_prefixed(rt: &impl Abort, node: &Node) {
+    assert!(rt; node.next() == NonZeroU64::new(7));
+    assert!(rt; node.merging_child() == NonZeroU64::new(5));
+    assert!(rt; node.prefix_len() == 1);
+    assert!(rt; node.len() == 1);
+    assert!(rt; node.contains_key(b"bb"));
 }
 
 #[test]
@@ -196,13 +241,10 @@ fn a_node_with_a_prefix(rt: HostRuntime) -> Result<(), Fail> {
     let bytes: &[u8] = &[7, 5, 0, 1, 2, 98, 97, 2, 98, 122, 0, 1, 1, 98, 1, 118];
     let mut input = bytes;
     let node = read::<Node>(rt.alloc(), &mut input)?.ok_or("a node")?;
-    assert!(rt; node.next() == NonZeroU64::new(7));
-    assert!(rt; node.merging_child() == NonZeroU64::new(5));
-    assert!(rt; node.prefix_len() == 1);
-    assert!(rt; node.len() == 1);
-    assert!(rt; node.contains_key(b"bb"));
-    expect_node(&rt, rt.alloc(), &node, bytes)?;
-    Ok(())
+    expect_prefixed(&rt, &node);
+    let done = expect_node(&rt, rt.alloc(), &node, bytes);
+    let_node_go(node);
+    Ok(done?)
 }
 
 #[test]

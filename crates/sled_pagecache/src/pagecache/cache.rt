@@ -1,86 +1,108 @@
 //! The cache. Each call is one step of a machine.
 
-ghost use Rattle.std.specs.Prelude.{◌≡◌, ◌<◌, map, Ok, Err, IfOk, IfErr, OnOk, OnErr, vec_len, vec_capacity};
+ghost use Rattle.std.specs.Prelude.{◌≡◌, ◌≢◌, ◌+◌, [], false, true, None, Some, Err, IfOk, IfErr, OnOk, OnErr, IsErrOf};
 ghost use Rattle.std.specs.Borrow.{sem};
-ghost use Rattle.sled_base.specs.Errors.{error_of};
-ghost use Rattle.sled_pagecache.specs.Kept.{IsReadable, page_of, content_of, as_message, log_of};
-ghost use Rattle.sled_pagecache.specs.Linking.{IsLinked, RefusesLink, begun_by};
-ghost use Rattle.sled_pagecache.specs.Lending.{told, Rests};
-ghost use Rattle.sled_pagecache.specs.Opening.{fault_of, Opens, system_pages, system_changes};
-ghost use Rattle.sled_pagecache.specs.State.{message_of, with_changes};
-ghost use Rattle.sled_pagecache.specs.State as changes;
-ghost use Rattle.sled_pagecache.specs.Step.{Step, begun, is_reserved};
+ghost use Rattle.sled_base.specs.declared.types.Device.TheVariants.{Write};
+ghost use Rattle.sled_base.specs.declared.types.Error.TheVariants.{Unsupported, Io};
+ghost use Rattle.sled_base.specs.declared.types.Refusal.TheVariants as refusal;
+ghost use Rattle.sled_base.specs.declared.types.Why.{Why};
+ghost use Rattle.sled_log.specs.Batches.{is_open};
+ghost use Rattle.sled_log.specs.Messages.{effect_of_entry};
+ghost use Rattle.sled_log.specs.State.{now, told_state};
+ghost use Rattle.sled_pagecache.specs.Cache.{IsResident, IsAway, chain_length};
+ghost use Rattle.sled_pagecache.specs.Calls.{Steps, IsBlamed};
+ghost use Rattle.sled_pagecache.specs.Lending.{EndsAsGot};
+ghost use Rattle.sled_pagecache.specs.Logged.{Logged, IsLogged};
+ghost use Rattle.sled_pagecache.specs.Opening.{fault_of};
+ghost use Rattle.sled_pagecache.specs.PagesIn.{BringsIn, IsNodeAt};
+ghost use Rattle.sled_pagecache.specs.Reads.{ReadsNothing, ReadsPage};
+ghost use Rattle.sled_pagecache.specs.Starts.{RefusesOpening, Opens, IsBlamedOpening, MayBeOpened, HoldsNoNode};
+ghost use Rattle.sled_pagecache.specs.Step.{is_reserved};
+ghost use Rattle.sled_pagecache.specs.Swaps.{linked_length};
 ghost use Rattle.sled_pagecache.specs.Token.{pid_of};
-ghost use Rattle.sled_pagecache.specs.declared.pagecache.call.Call.TheVariants.{Allocate, Get};
+ghost use Rattle.sled_pagecache.specs.declared.pagecache.call.Answer.TheVariants.{Allocated, Linked, Replaced, Flushed, Sized};
+ghost use Rattle.sled_pagecache.specs.declared.pagecache.call.Call.TheVariants.{Allocate, Flush, SizeOnDisk};
 ghost use Rattle.sled_pagecache.specs.declared.pagecache.call.Call.TheVariants as call;
-ghost use Rattle.sled_pagecache.specs.declared.pagecache.call.Answer.TheVariants.{Allocated, Got, Linked, Replaced};
 
+use super::add::add_page;
 use super::config::Config;
-use super::log::{MemLog, Message};
-use super::page::{Content, Page};
+use super::journal::Journal;
+use super::page::{Kept, Page};
+use super::pull::{pull, pull_and_link};
+use super::start::{fault_of, open};
+use super::swap::replace_page;
 use super::view::{NodeView, PageView};
-use super::{BATCH_MANIFEST_PID, COUNTER_PID, MAX_PID_BITS, META_PID};
-use sled_base::{Bug, Error, PageId, Refusal, Why};
+use super::{BATCH_MANIFEST_PID, COUNTER_PID, META_PID};
+use sled_base::{Device, Error, PageId, Refusal, Why};
+use sled_log::Log;
 use sled_node::{Link, Node};
-use std::alloc::{AllocError, Global};
+use std::alloc::Global;
 use std::marker::Model;
-
-/// The greatest number of pages.
-const MAX_PAGES: usize = 1 << MAX_PID_BITS;
 
 /// Stamped pages by their ids, over a log. Pages 0 and 1 are the cache's own.
 ///
-/// Contracts see the pages as a plain list, the config, whether the pages were found in the log, and the log.
+/// Contracts see the stamps, which pages lie in memory, the next generated id, whether a write fault is kept, the config,
+/// whether the system pages were found in the log, and the log.
 #[derive(Drop)]
-pub struct PageCache {
+pub struct PageCache<L: Log> {
+    alloc: Global,
     config: Config,
     pages: Vec<Page>,
+    // the ids of the free pages, the least first
+    free: Vec<PageId>,
+    next: u128,
     recovered: bool,
-    log: MemLog,
-    alloc: Global,
+    journal: Journal<L>,
 }
 
-impl Model for PageCache {
-    ghost use Rattle.std.specs.Prelude.{false, map};
-    ghost use Rattle.std.specs.Coded.{codes};
-    ghost use Rattle.sled_pagecache.specs.State.{Cache, names_code};
+impl<L: Log> Model for PageCache<L> {
+    ghost use Rattle.sled_pagecache.specs.Cache.{Cache};
 
-    ghost Value = { Cache };
+    ghost Value = { Cache L };
 
-    ghost coded = { Prim.hlevel (codes, names_code) };
+    ghost use Rattle.sled_pagecache.specs.Table.{stamps_in, resident_in, IsConsistent};
 
-    ghost use Rattle.sled_pagecache.specs.Kept.{page_of, log_of};
+    ghost view = { λ c. record { stamps = stamps_in c.pages.items; resident = resident_in c.pages.items; next = c.next; fault = c.journal.fault; config = c.config; recovered = c.recovered; log = c.journal.log } };
 
-    ghost view = { λ c. record { state = record { pages = map page_of c.pages.items; next = 0; batch = false; fault = false }; config = c.config; recovered = c.recovered; log = log_of c.log } };
+    ghost invariant = { λ c. IsConsistent L.state c.journal c.pages.items c.free.items };
 }
 
-impl PageCache {
-    /// Opens a cache over a log.
+impl<L: Log> PageCache<L> {
+    /// Opens a cache over a log, of which no node is read.
     ///
     /// The config is tested before the log is touched: `CapacityTooSmall` below a capacity of 256, `IntervalZero`, then
-    /// `SegmentZero`. At an error the log comes back as it was.
-    pub fn start(alloc: Global, config: Config, log: MemLog) -> Result<PageCache, (Error, MemLog)>
-        ensures { Opens (fault_of config) config (log_of log) result }
+    /// `SegmentZero`. The pages that the log recovers have stamp 0. A missing page 0, of no named roots, or page 1, the counter
+    /// 0, is made at stamp 1, and all is made stable; where none is missing nothing is written.
+    ///
+    /// `Corruption` comes without a pointer for more than 2^37 pages, and otherwise with the pointer of the first message of the
+    /// first page, by id, that no cache leaves so: one of more than 10 messages, a page 0 that doesn't hold named roots by one
+    /// message, or a page 1 that doesn't hold a counter so. At an error the log comes back, at most with missing system pages
+    /// added; unless a write failed, a cache can be opened over it again.
+    pub fn start(alloc: Global, config: Config, log: L) -> Result<PageCache<L>, (Error, L)>
+        requires usable { (L.state log).usable ≡ true }
+        requires closed { is_open (L.state log).pending ≡ false }
+        ensures settings { (why : Why) → fault_of config ≡ Some why → result ≡ Err (Unsupported why, log) }
+        ensures opens { fault_of config ≡ None → (held : Logged) → IsLogged (told_state (L.state log)) held → Opens L.Log log config held result }
+        ensures refused { IfErr result (λ e. RefusesOpening config (now effect_of_entry (L.state log)) e.0) }
+        ensures blame { IsBlamedOpening L.Log log result }
+        ensures again { IfErr result (λ e. e.0 ≢ Io Write → MayBeOpened L.Log e.1) }
+        ensures unread { IfOk result (HoldsNoNode L.Log) }
     {
-        if config.cache_capacity < 256 {
-            return Err((Error::Unsupported(Why::CapacityTooSmall), log));
+        if let Some(why) = fault_of(config) {
+            return Err((Error::Unsupported(why), log));
         }
-        if config.idgen_persist_interval == 0 {
-            return Err((Error::Unsupported(Why::IntervalZero), log));
-        }
-        if config.segment_size == 0 {
-            return Err((Error::Unsupported(Why::SegmentZero), log));
-        }
-        let mut log = log;
-        match system_pages(alloc, &mut log) {
-            Ok(pages) => Ok(PageCache {
-                config,
-                pages,
-                recovered: false,
-                log,
+        let mut journal = Journal { log, fault: false };
+        match open(alloc, config, &mut journal) {
+            Ok(opening) => Ok(PageCache {
                 alloc,
+                config,
+                pages: opening.pages,
+                free: opening.free,
+                next: opening.next,
+                recovered: opening.recovered,
+                journal,
             }),
-            Err(_) => Err((Error::OutOfMemory, log)),
+            Err(refusal) => Err((Error::from(refusal), journal.log)),
         }
     }
 
@@ -91,34 +113,39 @@ impl PageCache {
         self.recovered
     }
 
-    /// Puts a node on a page: the free page with the greatest id, or else a new one.
+    /// Puts a node on a page: the free page with the greatest id at its next stamp, or else a new one at stamp 1.
     ///
-    /// A new page has stamp 1. `PagesUsedUp` comes where there are 2^37 pages. An error leaves the cache as it was.
+    /// `PagesUsedUp` comes where there are 2^37 pages and none is free, `StampUsedUp` where the stamp of the free page is the
+    /// greatest, `LogFull` where the log has no room. These and `OutOfMemory` leave every page and message. A write fault is
+    /// kept: every later call answers it, until the log is opened again.
     pub fn allocate(&mut self, node: Node) -> Result<(PageId, PageView), Error>
-        ensures step { Step self.old.state (Allocate node) (Allocated result) self.new.state }
-        ensures logged { self.new.log ≡ with_changes self.old.log (begun (Allocate node) (Allocated result)) }
-        ensures config { self.new.config ≡ self.old.config }
-        ensures recovered { self.new.recovered ≡ self.old.recovered }
+        ensures step { Steps L.Log self.old (Allocate node) (Allocated result) self.new }
+        ensures blame { IsBlamed L.Log self.old self.new result }
+        ensures unread { ReadsNothing L.Log self.old self.new }
+        ensures resident { IfOk result (λ made. IsResident self.new made.0) }
     {
-        if self.pages.len() == MAX_PAGES {
-            return Err(Error::Unsupported(Why::PagesUsedUp));
+        let stuck = self.journal.fault;
+        if stuck {
+            return Err(Error::Io(Device::Write));
         }
-        let pid = self.pages.len() as PageId;
-        let content = Content::Node(node);
-        let message = prepare(self.alloc, &mut self.pages, &mut self.log, pid, &content)?;
-        self.log.add(message);
-        self.pages.push_reserved(Page { stamp: 1, content });
-        Ok((pid, PageView::new(pid, 1)))
+        let Some(pid) = self.free.last().copied() else {
+            let pid = add_page(self.alloc, &mut self.journal, &mut self.pages, node)?;
+            return Ok((pid, PageView::new(pid, 1)));
+        };
+        let page = &mut self.pages[pid as usize];
+        replace_page(self.alloc, &mut self.journal, pid, page, node)?;
+        self.free.pop();
+        Ok((pid, PageView::new(pid, page.stamp)))
     }
 
     /// The node of a page with the page's token, lent. None where the page is absent or free.
     ///
-    /// `ReservedId` comes for the cache's own pages.
+    /// A page that doesn't lie in memory is read from the log, by one read for each message that makes it, and then lies there.
+    /// `ReservedId` comes for the cache's own pages. `Io` and `OutOfMemory` leave every page.
     pub fn get(&mut self, pid: PageId) -> Result<Option<NodeView<'_>>, Refusal>
-        ensures step { Step self.old.state (Get pid) (Got (told result)) self.old.state }
-        ensures* rests { sem 𝓛 (Rests self.entry) }
+        ensures* got { sem 𝓛 (EndsAsGot L.row L.Log self.entry pid result) }
     {
-        self.check_kind(pid)?;
+        self.page_in(pid)?;
         let found = self.node_at(pid);
         Ok(found)
     }
@@ -126,8 +153,10 @@ impl PageCache {
     /// Applies a link to the node of a page that is still at the stamp of the token, and raises the stamp by one.
     ///
     /// At another stamp the page's present token comes back with the link; where the page is absent or free, nothing
-    /// does. In this order: `ReservedId` comes for the cache's own pages, `LinkRefused` where the node does not accept
-    /// the link, `StampUsedUp` where the stamp is the greatest. An error leaves the cache as it was.
+    /// does. In this order: `ReservedId` comes for the cache's own pages; a page that doesn't lie in memory is read;
+    /// `LinkRefused` comes where the node does not accept the link, `StampUsedUp` where the stamp is the greatest, `LogFull`
+    /// where the log has no room. These, `OutOfMemory` and a read that failed leave every page and message. A write fault is
+    /// kept: every later call answers it, until the log is opened again.
     pub fn link(
         &mut self,
         pid: PageId,
@@ -135,32 +164,44 @@ impl PageCache {
         link: Link,
     ) -> Result<Result<PageView, Option<(PageView, Link)>>, Error>
         requires { pid_of old ≡ pid }
-        ensures step { Step self.old.state (call.Link old link) (Linked result) self.new.state }
-        ensures logged { self.new.log ≡ with_changes self.old.log (begun (call.Link old link) (Linked result)) }
-        ensures config { self.new.config ≡ self.old.config }
-        ensures recovered { self.new.recovered ≡ self.old.recovered }
+        ensures step { Steps L.Log self.old (call.Link old link) (Linked result) self.new }
+        ensures blame { IsBlamed L.Log self.old self.new result }
+        ensures reads { ReadsPage L.Log self.old pid self.new }
+        ensures unread { IfOk result (λ swapped. OnErr swapped (ReadsNothing L.Log self.old self.new)) }
+        ensures length { IfOk result (λ swapped. OnOk swapped (chain_length L.state self.new pid ≡ linked_length (chain_length L.state self.old pid))) }
+        ensures resident { IfOk result (λ swapped. OnOk swapped (IsResident self.new pid)) }
+        ensures kept_out { OnErr result (IsAway self.old pid → IsAway self.new pid) }
     {
-        let count = self.pages.len() as PageId;
+        if self.journal.fault {
+            return Err(Error::Io(Device::Write));
+        }
         if is_reserved(pid) {
             return Err(Error::Unsupported(Why::ReservedId));
         }
+        let count = self.pages.len() as PageId;
         if pid >= count {
             return Ok(Err(None));
         }
         let page = &mut self.pages[pid as usize];
-        if page.stamp != old.ts() {
+        if page.is_free() {
+            return Ok(Err(None));
+        }
+        let is_stale = page.stamp != old.ts();
+        if is_stale {
             return Ok(Err(Some((PageView::new(pid, page.stamp), link))));
         }
-        link_page(self.alloc, page, pid, &link, &mut self.log)?;
-        Ok(Ok(PageView::new(pid, old.ts() + 1)))
+        pull_and_link(self.alloc, &mut self.journal, pid, page, &link)?;
+        let linked = PageView::new(pid, old.ts() + 1);
+        Ok(Ok(linked))
     }
 
     /// Puts a node on a page that is still at the stamp of the token, in place of what it held, and raises the stamp by
     /// one.
     ///
     /// At another stamp the page's present token comes back with the node; where the page is absent or free, nothing
-    /// does. `ReservedId` comes for the cache's own pages, `StampUsedUp` where the stamp is the greatest. An error leaves
-    /// the cache as it was.
+    /// does. `ReservedId` comes for the cache's own pages, `StampUsedUp` where the stamp is the greatest, `LogFull` where the
+    /// log has no room. These and `OutOfMemory` leave every page and message. A write fault is kept: every later call answers
+    /// it, until the log is opened again.
     pub fn replace(
         &mut self,
         pid: PageId,
@@ -168,60 +209,98 @@ impl PageCache {
         node: Node,
     ) -> Result<Result<PageView, Option<(PageView, Node)>>, Error>
         requires { pid_of old ≡ pid }
-        ensures step { Step self.old.state (call.Replace old node) (Replaced result) self.new.state }
-        ensures logged { self.new.log ≡ with_changes self.old.log (begun (call.Replace old node) (Replaced result)) }
-        ensures config { self.new.config ≡ self.old.config }
-        ensures recovered { self.new.recovered ≡ self.old.recovered }
+        ensures step { Steps L.Log self.old (call.Replace old node) (Replaced result) self.new }
+        ensures blame { IsBlamed L.Log self.old self.new result }
+        ensures unread { ReadsNothing L.Log self.old self.new }
+        ensures length { IfOk result (λ swapped. OnOk swapped (chain_length L.state self.new pid ≡ 1)) }
+        ensures resident { IfOk result (λ swapped. OnOk swapped (IsResident self.new pid)) }
     {
-        let count = self.pages.len() as PageId;
+        if self.journal.fault {
+            return Err(Error::Io(Device::Write));
+        }
         if is_reserved(pid) {
             return Err(Error::Unsupported(Why::ReservedId));
         }
+        let count = self.pages.len() as PageId;
         if pid >= count {
             return Ok(Err(None));
         }
         let page = &mut self.pages[pid as usize];
-        if old.ts() != page.stamp {
+        let gone = page.is_free();
+        if gone {
+            return Ok(Err(None));
+        }
+        let stale = page.stamp != old.ts();
+        if stale {
             return Ok(Err(Some((PageView::new(pid, page.stamp), node))));
         }
-        page.replace(self.alloc, pid, node, &mut self.log)?;
-        Ok(Ok(PageView::new(pid, old.ts() + 1)))
+        replace_page(self.alloc, &mut self.journal, pid, page, node)?;
+        Ok(Ok(PageView::new(pid, page.stamp)))
+    }
+
+    /// Makes all that is pending in the log stable, and answers how many bytes that wrote.
+    ///
+    /// It takes no memory. A write fault is kept: every later call answers it, until the log is opened again.
+    pub fn flush(&mut self) -> Result<usize, Error>
+        ensures step { Steps L.Log self.old Flush (Flushed result) self.new }
+        ensures blame { IsBlamed L.Log self.old self.new result }
+        ensures stable { OnOk result ((L.state self.new.log).pending ≡ []) }
+        ensures number { IfOk result (λ n. n ≡ L.to_write self.old.log) }
+    {
+        if self.journal.fault {
+            return Err(Error::Io(Device::Write));
+        }
+        Ok(self.journal.make_stable()?)
+    }
+
+    /// How many bytes the log has.
+    pub fn size_on_disk(&self) -> Result<u64, Error>
+        ensures step { Steps L.Log self.now SizeOnDisk (Sized result) self.now }
+        ensures size { IfOk result (λ size. size ≡ L.bytes self.now.log) }
+    {
+        if self.journal.fault {
+            return Err(Error::Io(Device::Write));
+        }
+        Ok(self.journal.log.size())
     }
 
     /// Ends the cache and hands its log back. Nothing is flushed.
-    pub fn into_log(self) -> MemLog
-        ensures { log_of result ≡ self.log }
+    ///
+    /// Unless a write fault was kept, a cache can be opened over the log again.
+    pub fn into_log(self) -> L
+        ensures log { result ≡ self.log }
+        ensures again { self.fault ≡ false → MayBeOpened L.Log result }
     {
-        self.log
+        self.journal.log
     }
 
-    // Refuses a page that is the cache's own, and one of another kind than a node.
-    fn check_kind(&self, pid: PageId) -> Result<(), Refusal>
-        ensures ok { OnOk result (IsReadable self.now.state pid) }
-        ensures err { IfErr result (λ e. Step self.now.state (Get pid) (Got (Err (error_of e))) self.now.state) }
+    // Refuses what can't be read, and reads the page from the log where it doesn't lie in memory.
+    fn page_in(&mut self, pid: PageId) -> Result<(), Refusal>
+        ensures stuck { self.old.fault ≡ true → IsErrOf result (refusal.Io Write) × (self.new ≡ self.old) }
+        ensures brings { self.old.fault ≡ false → BringsIn L.Log self.old pid result self.new }
+        ensures reads { ReadsPage L.Log self.old pid self.new }
+        ensures kept_out { OnErr result (IsAway self.old pid → IsAway self.new pid) }
     {
-        let page = self.pages.get(pid as usize);
+        if self.journal.fault {
+            return Err(Refusal::Io(Device::Write));
+        }
         if is_reserved(pid) {
             return Err(Refusal::Unsupported(Why::ReservedId));
         }
-        match page {
-            Some(
-                Page {
-                    content: Content::Counter(_) | Content::Roots,
-                    ..
-                },
-            ) => Err(Refusal::Corruption(None)),
-            _ => Ok(()),
+        let count = self.pages.len() as PageId;
+        if pid >= count {
+            return Ok(());
         }
+        let page = &mut self.pages[pid as usize];
+        pull(self.alloc, &mut self.journal, pid, page)
     }
 
-    // The node at an id, with the page's token.
+    // The node at an id that lies in memory, with the page's token.
     fn node_at(&self, pid: PageId) -> Option<NodeView<'_>>
-        requires { IsReadable self.now.state pid }
-        ensures { Step self.now.state (Get pid) (Got (told (Ok result))) self.now.state }
+        ensures { IsNodeAt L.state self.now pid result }
     {
         let page = self.pages.get(pid as usize)?;
-        let Content::Node(node) = &page.content else {
+        let Kept::Node(node) = &page.kept else {
             return None;
         };
         Some(NodeView::new(node, PageView::new(pid, page.stamp)))
@@ -233,77 +312,4 @@ fn is_reserved(pid: PageId) -> bool
     ensures { result ≡ is_reserved pid }
 {
     pid == META_PID || pid == COUNTER_PID || pid == BATCH_MANIFEST_PID
-}
-
-// The pages of the named roots and of the counter, at stamp 1, which are added to the log.
-fn system_pages(alloc: Global, log: &mut MemLog) -> Result<Vec<Page>, AllocError>
-    ensures ok { IfOk result (λ pages. map page_of pages.items ≡ system_pages) }
-    ensures logged { OnOk result (log_of log.new ≡ with_changes (log_of log.old) system_changes) }
-    ensures err { OnErr result (log_of log.new ≡ log_of log.old) }
-{
-    let (roots, counter) = (Content::Roots, Content::Counter(0));
-    let mut pages = Vec::with_capacity(alloc, 2)?;
-    let roots_message = Message::of_content(alloc, META_PID, &roots)?;
-    let counter_message = Message::of_content(alloc, COUNTER_PID, &counter)?;
-    log.make_room(2)?;
-    log.add(roots_message);
-    log.add(counter_message);
-    pages.push_reserved(Page {
-        stamp: 1,
-        content: roots,
-    });
-    pages.push_reserved(Page {
-        stamp: 1,
-        content: counter,
-    });
-    Ok(pages)
-}
-
-// Makes room for a page and for its message, which it makes too.
-fn prepare(
-    alloc: Global,
-    pages: &mut Vec<Page>,
-    log: &mut MemLog,
-    pid: PageId,
-    content: &Content,
-) -> Result<Message, AllocError>
-    ensures message { IfOk result (λ message. as_message message ≡ message_of (changes.Put pid (content_of content.now))) }
-    ensures pages { pages.new.items ≡ pages.old.items }
-    ensures room { OnOk result (vec_len pages.new < vec_capacity pages.new) }
-    ensures log { log_of log.new ≡ log_of log.old }
-    ensures log_room { OnOk result (vec_len log.new.messages < vec_capacity log.new.messages) }
-{
-    pages.reserve(1)?;
-    log.make_room(1)?;
-    Message::of_content(alloc, pid, content)
-}
-
-// Applies a link to the page with this id, and adds it to the log.
-fn link_page(
-    alloc: Global,
-    page: &mut Page,
-    pid: PageId,
-    link: &Link,
-    log: &mut MemLog,
-) -> Result<(), Error>
-    ensures ok { OnOk result (IsLinked page.old.stamp (content_of page.old.content) link.now (page_of page.new)) }
-    ensures refused { IfErr result (RefusesLink page.old.stamp (content_of page.old.content) link.now) }
-    ensures err { OnErr result (page_of page.new ≡ page_of page.old) }
-    ensures logged { log_of log.new ≡ with_changes (log_of log.old) (begun_by result (changes.Linked pid link.now)) }
-{
-    let Content::Node(node) = &mut page.content else {
-        return Err(Error::Corruption(None));
-    };
-    if !node.accepts(link) {
-        return Err(Error::ReportableBug(Bug::LinkRefused));
-    }
-    if page.stamp == u64::MAX {
-        return Err(Error::Unsupported(Why::StampUsedUp));
-    }
-    log.make_room(1)?;
-    let message = Message::of_link(alloc, pid, link)?;
-    node.apply(link)?;
-    page.stamp += 1;
-    log.add(message);
-    Ok(())
 }

@@ -11,6 +11,8 @@ pub enum Call {
     Get(PageId),
     Link(PageView, Link),
     Replace(PageView, Node),
+    Flush,
+    SizeOnDisk,
 }
 
 /// What a call answered.
@@ -20,4 +22,6 @@ pub enum Answer {
     Got(Result<Option<(PageView, Node)>, Error>),
     Linked(Result<Result<PageView, Option<(PageView, Link)>>, Error>),
     Replaced(Result<Result<PageView, Option<(PageView, Node)>>, Error>),
+    Flushed(Result<usize, Error>),
+    Sized(Result<u64, Error>),
 }

@@ -1,83 +1,131 @@
 //! Pages as the cache keeps them.
 
-ghost use Rattle.std.specs.Prelude.{◌≡◌, IfOk, IfErr, OnOk, OnErr};
-ghost use Rattle.sled_pagecache.specs.Kept.{content_of, page_of, log_of};
-ghost use Rattle.sled_pagecache.specs.Linking.{IsReplaced, RefusesChange, begun_by};
-ghost use Rattle.sled_pagecache.specs.State.{kind_of_content, payload_of, with_changes};
-ghost use Rattle.sled_pagecache.specs.State as changes;
+ghost use Rattle.std.specs.Prelude.{◌≡◌, ◌<◌, ◌^◌, vec_len, map, IfOk};
+ghost use Rattle.std.specs.List.{sum_by};
+ghost use Rattle.sled_pagecache.specs.ChainReads.{place_of};
 
-use super::log::{MemLog, Message};
-use sled_base::{Error, MessageKind, PageId, Why};
-use sled_node::{Meta, Node, Serialize};
+use super::chain::CacheInfo;
+use sled_base::{DiskPtr, Lsn, PageState};
+use sled_node::{Meta, Node};
 use std::alloc::{AllocError, Global};
 
-/// A page: its stamp, and what it holds.
+/// A page of the cache: its stamp, where the log keeps the messages that make it, and what it holds, where that lies in
+/// memory.
+///
+/// The cache alone makes one.
 #[derive(Debug, Drop)]
-pub(super) struct Page {
+pub struct Page {
     pub(super) stamp: u64,
-    pub(super) content: Content,
-}
-
-impl Page {
-    // Puts a node on the page, which has this id, and adds it to the log.
-    pub(super) fn replace(
-        &mut self,
-        alloc: Global,
-        pid: PageId,
-        node: Node,
-        log: &mut MemLog,
-    ) -> Result<(), Error>
-        ensures ok { OnOk result (IsReplaced self.old.stamp node (page_of self.new)) }
-        ensures refused { IfErr result (RefusesChange self.old.stamp) }
-        ensures err { OnErr result (page_of self.new ≡ page_of self.old) }
-        ensures logged { log_of log.new ≡ with_changes (log_of log.old) (begun_by result (changes.Put pid (changes.Node node))) }
-    {
-        if self.stamp == u64::MAX {
-            return Err(Error::Unsupported(Why::StampUsedUp));
-        }
-        let content = Content::Node(node);
-        log.make_room(1)?;
-        let message = Message::of_content(alloc, pid, &content)?;
-        self.content = content;
-        self.stamp += 1;
-        log.add(message);
-        Ok(())
-    }
+    // in the order of its chain
+    pub(super) infos: Vec<CacheInfo>,
+    pub(super) kept: Kept,
+    ghost some: { 0 < vec_len infos },
+    ghost sized: { sum_by (λ info. info.log_size) infos.items < 2 ^ 63 },
 }
 
 /// What a page holds.
 #[derive(Debug, Drop)]
-pub(super) enum Content {
-    /// The counter of generated ids.
+pub(super) enum Kept {
+    Free,
+    /// A content that doesn't lie in memory.
+    Away,
     Counter(u64),
-    /// The named roots, of which there are none yet.
-    Roots,
+    Roots(Meta),
     Node(Node),
 }
 
-impl Content {
-    // The kind of a message that puts it on a page.
-    pub(super) fn kind(&self) -> MessageKind
-        ensures { result ≡ kind_of_content (content_of self.now) }
+impl Page {
+    ghost use Rattle.sled_pagecache.specs.Pages.{is_free, IsLast, IsSaidBy};
+
+    /// Where the log keeps the messages that make the page, in the order of its chain.
+    pub fn cache_infos(&self) -> &[CacheInfo]
+        ensures { result.now ≡ self.now.infos.items }
     {
-        match self {
-            Content::Counter(_) => MessageKind::Counter,
-            Content::Roots => MessageKind::InlineMeta,
-            Content::Node(_) => MessageKind::InlineNode,
-        }
+        &self.infos
     }
 
-    // The payload of that message.
-    pub(super) fn payload(&self, alloc: Global) -> Result<Vec<u8>, AllocError>
-        ensures { IfOk result (λ bytes. bytes.items ≡ payload_of (content_of self.now)) }
+    /// How much of the log these messages take up together, in bytes.
+    pub fn log_size(&self) -> u64
+        ensures { result ≡ sum_by (λ info. info.log_size) self.now.infos.items }
     {
-        match self {
-            Content::Counter(n) => {
-                let n = *n;
-                n.serialize(alloc)
-            }
-            Content::Roots => Meta::default(alloc).serialize(alloc),
-            Content::Node(node) => node.serialize(alloc),
+        self.infos.iter().map(|info| info.log_size).sum()
+    }
+
+    /// The lsn of the last of these messages.
+    pub fn last_lsn(&self) -> Lsn
+        ensures { IsLast self.now.infos.items result }
+    {
+        self.infos[self.infos.len() - 1].lsn
+    }
+
+    /// Whether the page is free.
+    pub fn is_free(&self) -> bool
+        ensures { result ≡ is_free self.now.kept }
+    {
+        matches!(self.kept, Kept::Free)
+    }
+
+    /// The page as a log says it: by the places of its messages.
+    pub fn to_page_state(&self, alloc: Global) -> Result<PageState, AllocError>
+        ensures { IfOk result (IsSaidBy self.now) }
+    {
+        let first = self.infos[0];
+        if self.is_free() {
+            return Ok(PageState::Free(first.lsn, first.pointer));
         }
+        let frags = places(alloc, &self.infos[1..])?;
+        Ok(PageState::Present {
+            base: place(first),
+            frags,
+        })
     }
 }
+
+impl Clone for Page {
+    ghost use Rattle.sled_pagecache.specs.Pages.{IsSame};
+
+    ghost is_clone = { IsSame };
+
+    fn clone(&self) -> Result<Page, AllocError> {
+        Ok(Page {
+            stamp: self.stamp,
+            infos: self.infos.clone()?,
+            kept: self.kept.clone()?,
+        })
+    }
+}
+
+impl Clone for Kept {
+    ghost is_clone = { λ v w. w ≡ v };
+
+    fn clone(&self) -> Result<Kept, AllocError> {
+        Ok(match self {
+            Kept::Free => Kept::Free,
+            Kept::Away => Kept::Away,
+            Kept::Counter(n) => Kept::Counter(*n),
+            Kept::Roots(roots) => Kept::Roots(roots.clone()?),
+            Kept::Node(node) => Kept::Node(node.clone()?),
+        })
+    }
+}
+
+// The places of messages, as a log says them.
+fn places(alloc: Global, infos: &[CacheInfo]) -> Result<Vec<(Lsn, DiskPtr, u64)>, AllocError>
+    ensures { IfOk result (λ places. places.items ≡ map place_of infos.now) }
+{
+    let mut places = Vec::new(alloc);
+    for info in infos {
+        places.push(place(*info))?;
+    }
+    Ok(places)
+}
+
+// The place of a message, as a log says it.
+fn place(info: CacheInfo) -> (Lsn, DiskPtr, u64)
+    ensures { result ≡ place_of info }
+{
+    (info.lsn, info.pointer, info.log_size)
+}
+
+#[cfg(test)]
+mod tests;

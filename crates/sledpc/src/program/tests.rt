@@ -101,8 +101,8 @@ fn a_first_script(rt: HostRuntime) -> Result<(), Fail> {
     assert!(rt;
         replies(
             rt.alloc(),
-            b"alloc\nset 2 1 62 76\nget 2\nset 2 1 63 77\n",
-            b"page 2 1\nok 2\nleaf 2 62=76\nstale 2\n"
+            b"alloc\nset 2 1 62 76\nget 2\nset 2 1 63 77\nflush\n",
+            b"page 2 1\nok 2\nleaf 2 62=76\nstale 2\nflushed 47\n"
         )?
     );
     Ok(())
@@ -147,7 +147,15 @@ fn replies_to_lines(rt: HostRuntime) -> Result<(), Fail> {
             "page 2 1\nerror line\nerror line\nerror line\nerror line\nerror line\nerror line\nleaf 1\n",
         ),
         (
-            "free 2 1\nopen 74\nflush\nid\npin\nseal\nsize\n",
+            "free 2 1\nopen 74\nroot 74\nid\npin\nseal\namp\n",
+            "error line\nerror line\nerror line\nerror line\nerror line\nerror line\nerror line\n",
+        ),
+        (
+            "size\nalloc\nset 2 1 62 76\nsize\nflush\nflush\nsize\n",
+            "size 35\npage 2 1\nok 2\nsize 82\nflushed 47\nflushed 0\nsize 82\n",
+        ),
+        (
+            "flush \nflush 1\nFLUSH\nflushed\nsize \nsize 1\nsizes\n",
             "error line\nerror line\nerror line\nerror line\nerror line\nerror line\nerror line\n",
         ),
         (

@@ -28,6 +28,8 @@ pub fn call_of(alloc: Global, line: &[u8]) -> Result<Option<Call>, AllocError>
         b"set" => set_of(alloc, arguments),
         b"del" => del_of(alloc, arguments),
         b"replace" => replace_of(alloc, arguments),
+        b"flush" => Ok(flush_of(arguments)),
+        b"size" => Ok(size_of(arguments)),
         _ => Ok(None),
     }
 }
@@ -124,6 +126,28 @@ fn replace_of(alloc: Global, arguments: Option<&[u8]>) -> Result<Option<Call>, A
         return Ok(None);
     };
     Ok(Some(Call::Replace(old, node)))
+}
+
+// `flush`
+fn flush_of(arguments: Option<&[u8]>) -> Option<Call>
+    ensures some { IfSome result (AsksBehind (codes "flush") (option_map (λ rest. rest.now) arguments.entry)) }
+    ensures none { IfNone result ((call : Call) → ¬ AsksBehind (codes "flush") (option_map (λ rest. rest.now) arguments.entry) call) }
+{
+    match arguments {
+        None => Some(Call::Flush),
+        Some(_) => None,
+    }
+}
+
+// `size`
+fn size_of(arguments: Option<&[u8]>) -> Option<Call>
+    ensures some { IfSome result (AsksBehind (codes "size") (option_map (λ rest. rest.now) arguments.entry)) }
+    ensures none { IfNone result ((call : Call) → ¬ AsksBehind (codes "size") (option_map (λ rest. rest.now) arguments.entry) call) }
+{
+    match arguments {
+        None => Some(Call::SizeOnDisk),
+        Some(_) => None,
+    }
 }
 
 // The token whose words stand in front, and what follows the space behind them, if a space is there.

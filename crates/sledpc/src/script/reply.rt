@@ -20,6 +20,8 @@ pub enum Told<'a> {
     Got(Result<Option<NodeView<'a>>, Refusal>),
     Linked(&'a Result<Result<PageView, Option<(PageView, Link)>>, Error>),
     Replaced(&'a Result<Result<PageView, Option<(PageView, Node)>>, Error>),
+    Flushed(&'a Result<usize, Error>),
+    Sized(&'a Result<u64, Error>),
 }
 
 /// Writes the reply to an answer as a line.
@@ -45,9 +47,13 @@ fn write_reply<W: Write>(writer: &mut W, told: Told<'_>) -> io::Result<()>
             write_labelled(writer, b"stale ", token.ts())
         }
         Told::Linked(Ok(Err(None))) | Told::Replaced(Ok(Err(None))) => write_text(writer, b"gone"),
-        Told::Allocated(Err(error)) | Told::Linked(Err(error)) | Told::Replaced(Err(error)) => {
-            write_error(writer, error)
-        }
+        Told::Flushed(Ok(written)) => write_labelled(writer, b"flushed ", *written as u64),
+        Told::Sized(Ok(bytes)) => write_labelled(writer, b"size ", *bytes),
+        Told::Allocated(Err(error))
+        | Told::Linked(Err(error))
+        | Told::Replaced(Err(error))
+        | Told::Flushed(Err(error))
+        | Told::Sized(Err(error)) => write_error(writer, error),
         Told::Got(Err(refusal)) => write_error(writer, &Error::from(refusal)),
     }
 }

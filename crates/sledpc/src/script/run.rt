@@ -11,7 +11,7 @@ use super::command::call_of;
 use super::reply::{Told, write_line};
 use crate::lines::{Line, MAX_LINE, ReadError, read_line};
 use crate::output::write_text;
-use sled_pagecache::{Call, PageCache};
+use sled_pagecache::{Call, Log, PageCache};
 use std::alloc::{AllocError, Global};
 use std::io;
 use std::io::{BufRead, Write};
@@ -64,18 +64,19 @@ impl From<io::Error> for RunError {
 
 /// Makes the calls that the lines of the input ask for, and writes one reply line for each line.
 ///
-/// A line that is no command, or is longer than 65,536 bytes, is answered by `error line` and changes nothing. Apart
-/// from the pages and the log, at most one line is held in memory.
+/// A line that is no command, or is longer than 65,536 bytes, is answered by `error line` and changes nothing. The calls are
+/// steps in a row: what they write is added to the log in order, and a stop at any moment leaves what the log held and a
+/// beginning of that, up to a fair cut. Apart from the pages and the log, at most one line is held in memory.
 ///
 /// At an error a beginning of the lines was answered. At [`RunError::Read`] and [`RunError::Memory`] the replies to them
 /// were written, and at [`RunError::Write`] a beginning of these replies.
-pub fn run<R: BufRead, W: Write>(
+pub fn run<L: Log, R: BufRead, W: Write>(
     alloc: Global,
-    cache: &mut PageCache,
+    cache: &mut PageCache<L>,
     reader: &mut R,
     writer: &mut W,
 ) -> Result<(), RunError>
-    ensures { Serves cache.old.state (R.remaining reader.old) (W.contents writer.old) (W.contents writer.new) result cache.new.state }
+    ensures { Serves L.Log cache.old (R.remaining reader.old) (W.contents writer.old) (W.contents writer.new) result cache.new }
 {
     let mut line = Vec::new(alloc);
     for _ in 0..u64::MAX {
@@ -90,14 +91,14 @@ pub fn run<R: BufRead, W: Write>(
 }
 
 // Serves one line: its reply is written as a line.
-fn serve_line<W: Write>(
+fn serve_line<L: Log, W: Write>(
     alloc: Global,
-    cache: &mut PageCache,
+    cache: &mut PageCache<L>,
     line: &[u8],
     writer: &mut W,
 ) -> Result<(), RunError>
     requires { length line.now ≤ MAX_LINE }
-    ensures { RepliesLine cache.old.state line.now (W.contents writer.old) (W.contents writer.new) result cache.new.state }
+    ensures { RepliesLine L.Log cache.old line.now (W.contents writer.old) (W.contents writer.new) result cache.new }
 {
     let Some(call) = call_of(alloc, line)? else {
         write_text(writer, b"error line\n")?;
@@ -108,8 +109,12 @@ fn serve_line<W: Write>(
 }
 
 // Makes a call, and writes the reply to its answer as a line.
-fn serve_call<W: Write>(cache: &mut PageCache, call: Call, writer: &mut W) -> io::Result<()>
-    ensures { RepliesTo cache.old.state call (W.contents writer.old) (W.contents writer.new) result cache.new.state }
+fn serve_call<L: Log, W: Write>(
+    cache: &mut PageCache<L>,
+    call: Call,
+    writer: &mut W,
+) -> io::Result<()>
+    ensures { RepliesTo L.Log cache.old call (W.contents writer.old) (W.contents writer.new) result cache.new }
 {
     match call {
         Call::Allocate(node) => {
@@ -124,6 +129,14 @@ fn serve_call<W: Write>(cache: &mut PageCache, call: Call, writer: &mut W) -> io
         Call::Replace(old, node) => {
             let answer = cache.replace(old.pid(), old, node);
             write_line(writer, Told::Replaced(&answer))
+        }
+        Call::Flush => {
+            let answer = cache.flush();
+            write_line(writer, Told::Flushed(&answer))
+        }
+        Call::SizeOnDisk => {
+            let answer = cache.size_on_disk();
+            write_line(writer, Told::Sized(&answer))
         }
     }
 }

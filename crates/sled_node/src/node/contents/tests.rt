@@ -1,6 +1,7 @@
 use super::*;
 use crate::serialization::Serialize;
 use std::alloc::Global;
+use std::process::Abort;
 use std::test::Fail;
 
 // An index of "a" to page 2, "b" to page 3 and "c" to page 2.
@@ -33,17 +34,24 @@ fn first_page(data: &Data) -> Option<PageId> {
     Some(index.pair(0).1)
 }
 
-#[test]
-fn data_is_a_leaf_or_an_index(rt: HostRuntime) -> Result<(), Fail> {
-    let alloc = rt.alloc();
+fn expect_empty_leaf(rt: &impl Abort, alloc: Global) {
     let leaf = Data::Leaf(Leaf::default(alloc));
     assert!(rt; !leaf.is_index());
     assert!(rt; leaf.len() == 0);
     assert!(rt; counts(&leaf) == (Some(0), None));
-    let index = index(alloc)?;
+}
+
+fn expect_index(rt: &impl Abort, index: &Data) {
     assert!(rt; index.is_index());
     assert!(rt; index.len() == 3);
-    assert!(rt; counts(&index) == (None, Some(3)));
+    assert!(rt; counts(index) == (None, Some(3)));
+}
+
+#[test]
+fn data_is_a_leaf_or_an_index(rt: HostRuntime) -> Result<(), Fail> {
+    expect_empty_leaf(&rt, rt.alloc());
+    let index = index(rt.alloc())?;
+    expect_index(&rt, &index);
     Ok(())
 }
 

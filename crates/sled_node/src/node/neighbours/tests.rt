@@ -12,6 +12,9 @@ const THREE_PAIRS: &[u8] = &[
     0, 0, 0, 1, 2, 98, 97, 2, 98, 122, 0, 3, 1, 98, 1, 100, 1, 102, 1, 49, 1, 50, 1, 51,
 ];
 
+// A test that may end early lends its node to a step, and lets it go here, once.
+fn let_go(_node: Node) {}
+
 fn leaf(alloc: Global, payload: &[u8]) -> Result<Node, Error> {
     let mut input = payload;
     Node::deserialize(alloc, &mut input)
@@ -64,37 +67,89 @@ fn values_near(alloc: Global, node: &Node, key: &[u8]) -> Result<[u8; 4], AllocE
     ])
 }
 
-// Whether "bb" to "v" is the pair behind the first bound, and the one before the second.
-fn is_between(
-    alloc: Global,
-    node: &Node,
-    low: Bound<IVec>,
-    high: Bound<IVec>,
-) -> Result<bool, AllocError> {
+// Whether "bb" to "v" is the pair behind the bound.
+fn is_behind(alloc: Global, node: &Node, low: &Bound<IVec>) -> Result<bool, AllocError> {
     if node.is_index() {
         return Ok(false);
     }
-    let behind = is_pair(node.successor(alloc, &low)?, b"bb", b"v");
-    let before = is_pair(node.predecessor(alloc, &high)?, b"bb", b"v");
+    Ok(is_pair(node.successor(alloc, low)?, b"bb", b"v"))
+}
+
+// Whether it is the pair before the bound.
+fn is_before(alloc: Global, node: &Node, high: &Bound<IVec>) -> Result<bool, AllocError> {
+    if node.is_index() {
+        return Ok(false);
+    }
+    Ok(is_pair(node.predecessor(alloc, high)?, b"bb", b"v"))
+}
+
+// Whether it is the pair behind the one bound, and before the other.
+fn is_between(
+    alloc: Global,
+    node: &Node,
+    low: &Bound<IVec>,
+    high: &Bound<IVec>,
+) -> Result<bool, AllocError> {
+    let behind = is_behind(alloc, node, low)?;
+    let before = is_before(alloc, node, high)?;
     Ok(behind && before)
+}
+
+// Whether it is the pair above the key, and before the end.
+fn is_above(alloc: Global, node: &Node, key: &[u8]) -> Result<bool, AllocError> {
+    let low = excluded(alloc, key)?;
+    is_between(alloc, node, &low, &Bound::Unbounded)
+}
+
+// Whether it is the pair behind the beginning, and at or below the key.
+fn is_up_to(alloc: Global, node: &Node, key: &[u8]) -> Result<bool, AllocError> {
+    let high = included(alloc, key)?;
+    is_between(alloc, node, &Bound::Unbounded, &high)
+}
+
+fn value_at_least(alloc: Global, node: &Node, key: &[u8]) -> Result<u8, AllocError> {
+    value_behind(alloc, node, included(alloc, key)?)
+}
+
+fn value_below(alloc: Global, node: &Node, key: &[u8]) -> Result<u8, AllocError> {
+    value_before(alloc, node, excluded(alloc, key)?)
+}
+
+fn expect_whole_keys(rt: &impl Abort, alloc: Global, node: &Node) -> Result<(), AllocError> {
+    assert!(rt; is_above(alloc, node, b"ab")?);
+    assert!(rt; is_up_to(alloc, node, b"c")?);
+    assert!(rt; value_at_least(alloc, node, b"c")? == b'-');
+    assert!(rt; value_below(alloc, node, b"ab")? == b'-');
+    Ok(())
 }
 
 #[test]
 fn neighbours_have_whole_keys(rt: HostRuntime) -> Result<(), Fail> {
-    let alloc = rt.alloc();
-    let node = leaf(alloc, ONE_PAIR)?;
-    assert!(rt; is_between(alloc, &node, excluded(alloc, b"ab")?, Bound::Unbounded)?);
-    assert!(rt; is_between(alloc, &node, Bound::Unbounded, included(alloc, b"c")?)?);
-    assert!(rt; value_behind(alloc, &node, included(alloc, b"c")?)? == b'-');
-    assert!(rt; value_before(alloc, &node, excluded(alloc, b"ab")?)? == b'-');
+    let node = leaf(rt.alloc(), ONE_PAIR)?;
+    let done = expect_whole_keys(&rt, rt.alloc(), &node);
+    let_go(node);
+    Ok(done?)
+}
+
+// The values of the nearest pairs are found for each key, and the least and the greatest where there is no bound.
+fn expect_near(
+    rt: &impl Abort,
+    alloc: Global,
+    node: &Node,
+    near: &[(&[u8], &[u8; 4])],
+    ends: [u8; 2],
+) -> Result<(), AllocError> {
+    for (key, values) in near {
+        assert!(rt; values_near(alloc, node, key)? == **values);
+    }
+    assert!(rt; value_behind(alloc, node, Bound::Unbounded)? == ends[0]);
+    assert!(rt; value_before(alloc, node, Bound::Unbounded)? == ends[1]);
     Ok(())
 }
 
 #[test]
 fn the_nearest_pair_is_found(rt: HostRuntime) -> Result<(), Fail> {
-    let alloc = rt.alloc();
-    let node = leaf(alloc, THREE_PAIRS)?;
-    for (key, values) in [
+    let near = [
         (b"".as_slice(), b"11--"),
         (b"a", b"11--"),
         (b"azz", b"11--"),
@@ -109,20 +164,18 @@ fn the_nearest_pair_is_found(rt: HostRuntime) -> Result<(), Fail> {
         (b"bz", b"--33"),
         (b"c", b"--33"),
         (b"d", b"--33"),
-    ] {
-        assert!(rt; values_near(alloc, &node, key)? == *values);
-    }
-    assert!(rt; value_behind(alloc, &node, Bound::Unbounded)? == b'1');
-    assert!(rt; value_before(alloc, &node, Bound::Unbounded)? == b'3');
-    Ok(())
+    ];
+    let node = leaf(rt.alloc(), THREE_PAIRS)?;
+    let done = expect_near(&rt, rt.alloc(), &node, &near, *b"13");
+    let_go(node);
+    Ok(done?)
 }
 
 #[test]
 fn an_empty_leaf_has_no_neighbours(rt: HostRuntime) -> Result<(), Fail> {
-    let alloc = rt.alloc();
-    let node = Node::default(alloc);
-    assert!(rt; values_near(alloc, &node, b"a")? == *b"----");
-    assert!(rt; value_behind(alloc, &node, Bound::Unbounded)? == b'-');
-    assert!(rt; value_before(alloc, &node, Bound::Unbounded)? == b'-');
-    Ok(())
+    let near = [(b"a".as_slice(), b"----")];
+    let node = Node::default(rt.alloc());
+    let done = expect_near(&rt, rt.alloc(), &node, &near, *b"--");
+    let_go(node);
+    Ok(done?)
 }

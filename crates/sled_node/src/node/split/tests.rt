@@ -1,6 +1,7 @@
 use super::*;
 use crate::node::Item;
 use std::num::NonZeroU64;
+use std::process::Abort;
 use std::test::Fail;
 
 // What a node is to be: its bounds, and its stored keys, which lack so many bytes.
@@ -31,14 +32,18 @@ fn has_keys(node: &Node, keys: &[&[u8]]) -> bool {
     true
 }
 
+fn push(alloc: Global, pairs: &mut Vec<(IVec, IVec)>, key: &[u8]) -> Result<(), AllocError> {
+    let key = IVec::from_slice(alloc, key)?;
+    let value = IVec::from_slice(alloc, b"v")?;
+    pairs.push((key, value))?;
+    Ok(())
+}
+
 // A leaf of this shape, with the marks.
 fn leaf(alloc: Global, shape: &Shape<'_>) -> Result<Option<Node>, AllocError> {
     let mut pairs = Vec::new(alloc);
     for key in shape.keys {
-        pairs.push((
-            IVec::from_slice(alloc, key)?,
-            IVec::from_slice(alloc, b"v")?,
-        ))?;
+        push(alloc, &mut pairs, key)?;
     }
     let Some(leaf) = Leaf::from_pairs(alloc, pairs)? else {
         return Ok(None);
@@ -46,12 +51,22 @@ fn leaf(alloc: Global, shape: &Shape<'_>) -> Result<Option<Node>, AllocError> {
     node(alloc, shape, Data::Leaf(leaf))
 }
 
+fn push_page(
+    alloc: Global,
+    pairs: &mut Vec<(IVec, u64)>,
+    key: &[u8],
+    page: u64,
+) -> Result<(), AllocError> {
+    pairs.push((IVec::from_slice(alloc, key)?, page))?;
+    Ok(())
+}
+
 // An index of this shape, with the marks, whose keys lead to the pages from 2 on.
 fn index(alloc: Global, shape: &Shape<'_>) -> Result<Option<Node>, AllocError> {
     let mut pairs = Vec::new(alloc);
     let mut page = 2u64;
     for key in shape.keys {
-        pairs.push((IVec::from_slice(alloc, key)?, page))?;
+        push_page(alloc, &mut pairs, key, page)?;
         page = page.wrapping_add(1);
     }
     let Some(index) = Index::from_pairs(alloc, pairs)? else {
@@ -69,6 +84,8 @@ fn node(alloc: Global, shape: &Shape<'_>, contents: Data) -> Result<Option<Node>
     let (next, child) = (NonZeroU64::new(7), NonZeroU64::new(5));
     Ok(Node::from_parts(shape.prefix_len, next, child, true, lo, hi, contents))
 }
+
+fn let_go(_node: Node) {}
 
 fn has_marks(node: &Node, next: u64, child: u64, merging: bool) -> bool {
     node.next() == NonZeroU64::new(next)
@@ -92,7 +109,10 @@ fn splits(
         && has_marks(&low, 0, 5, true)
         && has_shape(&high, right)
         && has_marks(&high, 7, 0, false);
-    Ok(parted && merges(alloc, &low, &high, again)?)
+    let merged = merges(alloc, &low, &high, again);
+    let_go(low);
+    let_go(high);
+    Ok(parted && merged?)
 }
 
 // Whether the left node takes in the right one, and is then of this shape.
@@ -102,6 +122,18 @@ fn merges(alloc: Global, left: &Node, right: &Node, shape: &Shape<'_>) -> Result
     }
     let merged = left.receive_merge(alloc, right)?;
     Ok(has_shape(&merged, shape) && has_marks(&merged, 7, 5, true))
+}
+
+// Whether the parts of a leaf of the first shape are of the next two, and the two merged again of the last.
+fn leaf_splits(
+    alloc: Global,
+    whole: &Shape<'_>,
+    left: &Shape<'_>,
+    right: &Shape<'_>,
+    again: &Shape<'_>,
+) -> Result<bool, Fail> {
+    let node = leaf(alloc, whole)?.ok_or("well-formed")?;
+    Ok(splits(alloc, node, left, right, again)?)
 }
 
 fn leads_to(node: &Node, i: usize, page: u64) -> bool {
@@ -128,8 +160,7 @@ fn a_leaf_without_an_end_splits(rt: HostRuntime) -> Result<(), Fail> {
         hi: b"",
         keys: &[b"aad".as_slice()],
     };
-    let node = leaf(rt.alloc(), &whole)?.ok_or("well-formed")?;
-    assert!(rt; splits(rt.alloc(), node, &left, &right, &whole)?);
+    assert!(rt; leaf_splits(rt.alloc(), &whole, &left, &right, &whole)?);
     Ok(())
 }
 
@@ -153,9 +184,21 @@ fn an_index_splits_at_the_least_right_key(rt: HostRuntime) -> Result<(), Fail> {
         hi: b"",
         keys: &[b"c".as_slice()],
     };
-    let node = index(rt.alloc(), &whole)?.ok_or("well-formed")?;
+    expect_index_splits(&rt, rt.alloc(), &whole, &left, &right)
+}
+
+// The third key of an index of the first shape leads to page 4, its parts are of the other two, and the two merged again of
+// the first.
+fn expect_index_splits(
+    rt: &impl Abort,
+    alloc: Global,
+    whole: &Shape<'_>,
+    left: &Shape<'_>,
+    right: &Shape<'_>,
+) -> Result<(), Fail> {
+    let node = index(alloc, whole)?.ok_or("well-formed")?;
     assert!(rt; leads_to(&node, 2, 4));
-    assert!(rt; splits(rt.alloc(), node, &left, &right, &whole)?);
+    assert!(rt; splits(alloc, node, left, right, whole)?);
     Ok(())
 }
 
@@ -179,10 +222,17 @@ fn parts_lead_to(alloc: Global, node: Node) -> Result<bool, AllocError> {
     }
     let (left, right) = node.split(alloc)?;
     let parted = leads_to(&left, 0, 2) && leads_to(&left, 1, 3) && leads_to(&right, 0, 4);
-    if !parted || !left.can_receive(&right) {
+    let merged = merged_lead_to(alloc, &left, &right);
+    let_go(left);
+    let_go(right);
+    Ok(parted && merged?)
+}
+
+fn merged_lead_to(alloc: Global, left: &Node, right: &Node) -> Result<bool, AllocError> {
+    if !left.can_receive(right) {
         return Ok(false);
     }
-    let merged = left.receive_merge(alloc, &right)?;
+    let merged = left.receive_merge(alloc, right)?;
     Ok(leads_to(&merged, 0, 2) && leads_to(&merged, 1, 3) && leads_to(&merged, 2, 4))
 }
 
@@ -206,8 +256,7 @@ fn a_leaf_splits_at_the_shortest_string(rt: HostRuntime) -> Result<(), Fail> {
         hi: b"",
         keys: &[b"abc".as_slice()],
     };
-    let node = leaf(rt.alloc(), &whole)?.ok_or("well-formed")?;
-    assert!(rt; splits(rt.alloc(), node, &left, &right, &whole)?);
+    assert!(rt; leaf_splits(rt.alloc(), &whole, &left, &right, &whole)?);
     Ok(())
 }
 
@@ -231,8 +280,7 @@ fn parts_have_the_prefix_of_the_whole(rt: HostRuntime) -> Result<(), Fail> {
         hi: b"bz",
         keys: &[b"d".as_slice()],
     };
-    let node = leaf(rt.alloc(), &whole)?.ok_or("well-formed")?;
-    assert!(rt; splits(rt.alloc(), node, &left, &right, &whole)?);
+    assert!(rt; leaf_splits(rt.alloc(), &whole, &left, &right, &whole)?);
     Ok(())
 }
 
@@ -263,8 +311,7 @@ fn a_short_prefix_is_made_up_for(rt: HostRuntime) -> Result<(), Fail> {
         hi: b"bz",
         keys: &[b"b".as_slice(), b"c", b"dx"],
     };
-    let node = leaf(rt.alloc(), &whole)?.ok_or("well-formed")?;
-    assert!(rt; splits(rt.alloc(), node, &left, &right, &again)?);
+    assert!(rt; leaf_splits(rt.alloc(), &whole, &left, &right, &again)?);
     Ok(())
 }
 
@@ -278,65 +325,54 @@ fn long(alloc: Global, count: usize, last: &[u8]) -> Result<Vec<u8>, AllocError>
     Ok(bytes)
 }
 
-#[test]
-fn a_prefix_ends_at_255_bytes(rt: HostRuntime) -> Result<(), Fail> {
-    let alloc = rt.alloc();
-    let (lo, mid, hi) = (
-        long(alloc, 255, b"a")?,
-        long(alloc, 255, b"d")?,
-        long(alloc, 255, b"z")?,
-    );
+// Whether a leaf between the bounds, whose stored keys lack 255 bytes, splits at the middle bound, where its third key is.
+fn splits_between(
+    alloc: Global,
+    lo: &[u8],
+    mid: &[u8],
+    hi: &[u8],
+    keys: [&[u8]; 3],
+) -> Result<bool, Fail> {
     let whole = Shape {
         prefix_len: 255,
-        lo: &lo,
-        hi: &hi,
-        keys: &[b"b".as_slice(), b"c", b"d"],
+        lo,
+        hi,
+        keys: &keys,
     };
     let left = Shape {
         prefix_len: 255,
-        lo: &lo,
-        hi: &mid,
-        keys: &[b"b".as_slice(), b"c"],
+        lo,
+        hi: mid,
+        keys: &keys[..2],
     };
     let right = Shape {
         prefix_len: 255,
-        lo: &mid,
-        hi: &hi,
-        keys: &[b"d".as_slice()],
+        lo: mid,
+        hi,
+        keys: &keys[2..],
     };
-    let node = leaf(alloc, &whole)?.ok_or("well-formed")?;
-    assert!(rt; splits(alloc, node, &left, &right, &whole)?);
+    leaf_splits(alloc, &whole, &left, &right, &whole)
+}
+
+// Whether it does so where the bounds are so many bytes "a" and one more.
+fn splits_behind(alloc: Global, count: usize, keys: [&[u8]; 3]) -> Result<bool, Fail> {
+    let lo = long(alloc, count, b"a")?;
+    let mid = long(alloc, count, b"d")?;
+    let hi = long(alloc, count, b"z")?;
+    splits_between(alloc, &lo, &mid, &hi, keys)
+}
+
+#[test]
+fn a_prefix_ends_at_255_bytes(rt: HostRuntime) -> Result<(), Fail> {
+    let keys = [b"b".as_slice(), b"c", b"d"];
+    assert!(rt; splits_behind(rt.alloc(), 255, keys)?);
     Ok(())
 }
 
 #[test]
 fn no_prefix_is_longer(rt: HostRuntime) -> Result<(), Fail> {
-    let alloc = rt.alloc();
-    let (lo, mid, hi) = (
-        long(alloc, 256, b"a")?,
-        long(alloc, 256, b"d")?,
-        long(alloc, 256, b"z")?,
-    );
-    let whole = Shape {
-        prefix_len: 255,
-        lo: &lo,
-        hi: &hi,
-        keys: &[b"ab".as_slice(), b"ac", b"ad"],
-    };
-    let left = Shape {
-        prefix_len: 255,
-        lo: &lo,
-        hi: &mid,
-        keys: &[b"ab".as_slice(), b"ac"],
-    };
-    let right = Shape {
-        prefix_len: 255,
-        lo: &mid,
-        hi: &hi,
-        keys: &[b"ad".as_slice()],
-    };
-    let node = leaf(alloc, &whole)?.ok_or("well-formed")?;
-    assert!(rt; splits(alloc, node, &left, &right, &whole)?);
+    let keys = [b"ab".as_slice(), b"ac", b"ad"];
+    assert!(rt; splits_behind(rt.alloc(), 256, keys)?);
     Ok(())
 }
 

@@ -111,6 +111,20 @@ fn asks_for_replacement(
     }
 }
 
+fn asks_for_flush(alloc: Global, line: &[u8]) -> Result<bool, Fail> {
+    match asked(alloc, line)? {
+        Some(Call::Flush) => Ok(true),
+        _ => Ok(false),
+    }
+}
+
+fn asks_for_size(alloc: Global, line: &[u8]) -> Result<bool, Fail> {
+    match asked(alloc, line)? {
+        Some(Call::SizeOnDisk) => Ok(true),
+        _ => Ok(false),
+    }
+}
+
 fn is_bytes(bytes: &IVec, want: &[u8]) -> bool {
     bytes.as_slice() == want
 }
@@ -154,6 +168,13 @@ fn asks_for_replacements(rt: HostRuntime) -> Result<(), Fail> {
 }
 
 #[test]
+fn asks_without_words(rt: HostRuntime) -> Result<(), Fail> {
+    assert!(rt; asks_for_flush(rt.alloc(), b"flush")?);
+    assert!(rt; asks_for_size(rt.alloc(), b"size")?);
+    Ok(())
+}
+
+#[test]
 fn asks_for_nothing(rt: HostRuntime) -> Result<(), Fail> {
     for line in [
         "",
@@ -179,6 +200,10 @@ fn asks_for_nothing(rt: HostRuntime) -> Result<(), Fail> {
         "replace 2",
         "replace 2 1 ",
         "replace 2 1 62=76 61=77",
+        "flush ",
+        "flush 2",
+        "size ",
+        "size 2",
     ] {
         assert!(rt; asks_for_none(rt.alloc(), line.as_bytes())?, "at {line}");
     }

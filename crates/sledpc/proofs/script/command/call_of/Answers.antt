@@ -1,7 +1,7 @@
 -- A line's name is its first word.
 use Rattle.std.proofs.Common.{◌≡◌, codes, length, get_or, arith}
 use Rattle.std.proofs.lemmas.Grind.{common_steps}
-use Rattle.sledpc.proofs.Commands.{none_spelled, none_spelled_if_ok, no_name, seven_bytes, spelled_behind}
+use Rattle.sledpc.proofs.Commands.{none_spelled, none_spelled_if_ok, some_spelled_if_ok, no_name, seven_bytes, spelled_behind}
 use Rattle.sledpc.proofs.script.command.call_of.Goals as goal
 
 pub returns-in-get-clause-none : goal.returns-in-get-clause-none
@@ -33,10 +33,34 @@ returns-in-replace-clause-none c =
     let name : word ≡ codes "replace" = seven_bytes word _ _ _ _ _ _ _ count first second third fourth fifth sixth seventh in
     none_spelled_if_ok _ _ _ _ c.first_word.ensures (rw name c.replace_of.ensures.none)
 
+pub returns-in-replace-clause-some : goal.returns-in-replace-clause-some
+returns-in-replace-clause-some c =
+    let word = c.first_word.result.0.now in
+    let count : length word ≡ 7 = grind (arith, common_steps) in
+    let first : get_or word 0 0 ≡ 114 = grind (arith, common_steps) in
+    let second : get_or word 1 0 ≡ 101 = grind (arith, common_steps) in
+    let third : get_or word 2 0 ≡ 112 = grind (arith, common_steps) in
+    let fourth : get_or word 3 0 ≡ 108 = grind (arith, common_steps) in
+    let fifth : get_or word 4 0 ≡ 97 = grind (arith, common_steps) in
+    let sixth : get_or word 5 0 ≡ 99 = grind (arith, common_steps) in
+    let seventh : get_or word 6 0 ≡ 101 = grind (arith, common_steps) in
+    let name : word ≡ codes "replace" = seven_bytes word _ _ _ _ _ _ _ count first second third fourth fifth sixth seventh in
+    some_spelled_if_ok _ _ _ _ c.requires c.first_word.ensures (rw name c.replace_of.ensures.some)
+
 pub returns-in-alloc-clause-none : goal.returns-in-alloc-clause-none
 returns-in-alloc-clause-none c =
     let name : c.first_word.result.0.now ≡ codes "alloc" = grind (arith, common_steps) in
     none_spelled_if_ok _ _ _ _ c.first_word.ensures (rw name c.allocate_of.ensures.none)
 
 pub returns-in_default-clause-none : goal.returns-in_default-clause-none
-returns-in_default-clause-none c = λ call spells. no_name _ _ call (λ e. grind (arith, common_steps)) (λ e. grind (arith, common_steps)) (λ e. grind (arith, common_steps)) (λ e. grind (arith, common_steps)) (λ e. grind (arith, common_steps)) (spelled_behind _ _ _ call c.first_word.ensures spells)
+returns-in_default-clause-none c = λ call spells. no_name _ _ call (λ e. grind (arith, common_steps)) (λ e. grind (arith, common_steps)) (λ e. grind (arith, common_steps)) (λ e. grind (arith, common_steps)) (λ e. grind (arith, common_steps)) (λ e. grind (arith, common_steps)) (λ e. grind (arith, common_steps)) (spelled_behind _ _ _ call c.first_word.ensures spells)
+
+pub returns-in-flush-clause-none : goal.returns-in-flush-clause-none
+returns-in-flush-clause-none c =
+    let name : c.first_word.result.0.now ≡ codes "flush" = grind (arith, common_steps) in
+    none_spelled _ _ _ _ c.first_word.ensures (rw name c.flush_of.ensures.none)
+
+pub returns-in-size-clause-none : goal.returns-in-size-clause-none
+returns-in-size-clause-none c =
+    let name : c.first_word.result.0.now ≡ codes "size" = grind (arith, common_steps) in
+    none_spelled _ _ _ _ c.first_word.ensures (rw name c.size_of.ensures.none)

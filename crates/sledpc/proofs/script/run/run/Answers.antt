@@ -4,18 +4,18 @@ use Rattle.sledpc.specs.declared.lines.ReadError.{ReadError}
 use Rattle.sledpc.specs.declared.script.run.RunError.TheVariants.{Write}
 use Rattle.sledpc.specs.Runs.{Serves}
 use Rattle.sledpc.specs.Served.{RepliesLine}
-use Rattle.sledpc.proofs.Answered.{SoFar, none_yet, gives_up, line_unread, ends_here, line_done, line_stops, unflushed, long_done, long_stops, stands, flushed}
+use Rattle.sledpc.proofs.Answered.{SoFar, none_yet, gives_up, line_unread, ends_here, line_done, line_stops, unflushed, long_done, long_stops, long_unflushed, flushed}
 use Rattle.sledpc.proofs.script.run.run.Goals as goal
 use Rattle.sledpc.proofs.script.run.run.Goals.{in-Whole+in_ok-serve_line-in-Whole, in-TooLong+in_ok-write_text-in-TooLong}
 
 pub loop-init : goal.loop-init
-loop-init g c = none_yet c.args.cache.now.state (g.R.Read.remaining c.args.reader.now) (g.W.Write.contents c.args.writer.now)
+loop-init g c = none_yet g.L.Log c.args.cache.now (g.R.Read.remaining c.args.reader.now) (g.W.Write.contents c.args.writer.now) g.met.L.Log.only_now
 
 -- the input was not read
 pub returns-in_err-read_line : goal.returns-in_err-read_line
 returns-in_err-read_line g c =
     let told = err_from_is_err_and c.from_residual.result c.from_residual.ensures.1 in
-    rw (told.1, told.2) (line_unread c.args.cache.now.state c.loop.cache.state (g.R.Read.remaining c.args.reader.now) (g.R.Read.remaining c.loop.reader) (g.R.Read.remaining c.read_line.new.reader) (g.W.Write.contents c.args.writer.now) (g.W.Write.contents c.loop.writer) c.read_line.new.kept.items c.in_err-read_line.field-0.0 c.loop.invariant c.in_err-read_line.ensures.unread)
+    rw (told.1, told.2) (line_unread g.L.Log c.args.cache.now c.loop.cache (g.R.Read.remaining c.args.reader.now) (g.R.Read.remaining c.loop.reader) (g.R.Read.remaining c.read_line.new.reader) (g.W.Write.contents c.args.writer.now) (g.W.Write.contents c.loop.writer) c.read_line.new.kept.items c.in_err-read_line.field-0.0 c.loop.invariant c.in_err-read_line.ensures.unread)
 
 -- the input is at its end
 pub returns-in-End : goal.returns-in-End
@@ -23,7 +23,7 @@ returns-in-End g c =
     let read = g.R.Read.remaining in
     let contents = g.W.Write.contents in
     let at = rw (c.in-End.is) at c.in_ok-read_line.ensures.reads in
-    ends_here ReadError c.args.cache.now.state c.loop.cache.state (read c.args.reader.now) (read c.loop.reader) (read c.read_line.new.reader) (contents c.args.writer.now) (contents c.loop.writer) c.read_line.new.kept.items c.loop.invariant at
+    ends_here g.L.Log ReadError c.args.cache.now c.loop.cache (read c.args.reader.now) (read c.loop.reader) (read c.read_line.new.reader) (contents c.args.writer.now) (contents c.loop.writer) c.read_line.new.kept.items c.loop.invariant at
 
 pub serve_line-requires : goal.serve_line-requires
 serve_line-requires g c = rw c.deref.ensures.value (c.in_ok-read_line.ensures.whole (ap Ok c.in-Whole.is))
@@ -33,9 +33,9 @@ returns-in_err-serve_line-in-Whole g c =
     let read = g.R.Read.remaining in
     let contents = g.W.Write.contents in
     let at = rw (c.in-Whole.is) at c.in_ok-read_line.ensures.reads in
-    let replied = subst (λ line. RepliesLine c.loop.cache.state line (contents c.loop.writer) (contents c.serve_line.new.writer) (Err c.in_err-serve_line-in-Whole.field-0.0) c.serve_line.new.cache.state) c.deref.ensures.value c.in_err-serve_line-in-Whole.ensures in
+    let replied = subst (λ line. RepliesLine g.L.Log c.loop.cache line (contents c.loop.writer) (contents c.serve_line.new.writer) (Err c.in_err-serve_line-in-Whole.field-0.0) c.serve_line.new.cache) c.deref.ensures.value c.in_err-serve_line-in-Whole.ensures in
     let told = err_from_is_err_and c.from_residual-in_err-serve_line-in-Whole.result c.from_residual-in_err-serve_line-in-Whole.ensures.1 in
-    rw (told.1, told.2) (line_stops ReadError c.args.cache.now.state c.loop.cache.state c.serve_line.new.cache.state (read c.args.reader.now) (read c.loop.reader) (read c.read_line.new.reader) (contents c.args.writer.now) (contents c.loop.writer) (contents c.serve_line.new.writer) c.read_line.new.kept.items c.in_err-serve_line-in-Whole.field-0.0 c.loop.invariant at replied)
+    rw (told.1, told.2) (line_stops g.L.Log c.args.cache.now c.loop.cache c.serve_line.new.cache (read c.args.reader.now) (read c.loop.reader) (read c.read_line.new.reader) (contents c.args.writer.now) (contents c.loop.writer) (contents c.serve_line.new.writer) c.loop.invariant ReadError c.read_line.new.kept.items c.in_err-serve_line-in-Whole.field-0.0 at replied)
 
 pub returns-in_err-write_text-in-TooLong : goal.returns-in_err-write_text-in-TooLong
 returns-in_err-write_text-in-TooLong g c =
@@ -43,26 +43,24 @@ returns-in_err-write_text-in-TooLong g c =
     let contents = g.W.Write.contents in
     let at = rw (c.in-TooLong.is) at c.in_ok-read_line.ensures.reads in
     let told = err_from_is_err_and c.from_residual-in_err-write_text-in-TooLong.result c.from_residual-in_err-write_text-in-TooLong.ensures.1 in
-    rw (told.1, told.2) (long_stops ReadError c.args.cache.now.state c.loop.cache.state (read c.args.reader.now) (read c.loop.reader) (read c.read_line.new.reader) (contents c.args.writer.now) (contents c.loop.writer) (contents c.write_text.new.writer) c.read_line.new.kept.items c.loop.invariant at c.in_err-write_text-in-TooLong.ensures)
+    rw (told.1, told.2) (long_stops g.L.Log c.args.cache.now c.loop.cache (read c.args.reader.now) (read c.loop.reader) (read c.read_line.new.reader) (contents c.args.writer.now) (contents c.loop.writer) (contents c.write_text.new.writer) c.loop.invariant ReadError c.read_line.new.kept.items at c.in_err-write_text-in-TooLong.ensures)
 
 -- the reply is written, whichever line it was, and not flushed
 pub returns-in_err-flush : goal.returns-in_err-flush
 returns-in_err-flush g c =
     let read = g.R.Read.remaining in
     let contents = g.W.Write.contents in
-    let stopped : Serves c.args.cache.now.state (read c.args.reader.now) (contents c.args.writer.now) (contents c.flush.new.self) (Err Write) c.match-branch-2.cache.state =
+    let stopped : Serves g.L.Log c.args.cache.now (read c.args.reader.now) (contents c.args.writer.now) (contents c.flush.new.self) (Err Write) c.match-branch-2.cache =
     elim c.match-branch-2.branch [
       | in-Whole+in_ok-serve_line-in-Whole w ↦
           let at = rw (w.in-Whole.is) at c.in_ok-read_line.ensures.reads in
           let replied = rw (w.deref.ensures.value) at w.in_ok-serve_line-in-Whole.ensures in
           let kept = rw (w.writer-is) at c.flush.ensures.bytes in
-          rw (w.cache-is) (line_stops ReadError c.args.cache.now.state c.loop.cache.state w.serve_line.new.cache.state (read c.args.reader.now) (read c.loop.reader) (read c.read_line.new.reader) (contents c.args.writer.now) (contents c.loop.writer) (contents c.flush.new.self) c.read_line.new.kept.items Write c.loop.invariant at
-          (unflushed c.loop.cache.state w.serve_line.new.cache.state c.read_line.new.kept.items (contents c.loop.writer) (contents w.serve_line.new.writer) (contents c.flush.new.self) replied kept))
+          rw (w.cache-is) (unflushed g.L.Log c.args.cache.now c.loop.cache w.serve_line.new.cache (read c.args.reader.now) (read c.loop.reader) (read c.read_line.new.reader) (contents c.args.writer.now) (contents c.loop.writer) (contents c.flush.new.self) c.loop.invariant ReadError c.read_line.new.kept.items (contents w.serve_line.new.writer) at replied kept)
       | in-TooLong+in_ok-write_text-in-TooLong w ↦
           let at = rw (w.in-TooLong.is) at c.in_ok-read_line.ensures.reads in
           let kept = rw (w.writer-is) at c.flush.ensures.bytes in
-          rw (w.cache-is) (long_stops ReadError c.args.cache.now.state c.loop.cache.state (read c.args.reader.now) (read c.loop.reader) (read c.read_line.new.reader) (contents c.args.writer.now) (contents c.loop.writer) (contents c.flush.new.self) c.read_line.new.kept.items c.loop.invariant at
-          (stands (contents c.loop.writer) (contents w.write_text.new.writer) (contents c.flush.new.self) _ w.in_ok-write_text-in-TooLong.ensures kept))
+          rw (w.cache-is) (long_unflushed g.L.Log c.args.cache.now c.loop.cache (read c.args.reader.now) (read c.loop.reader) (read c.read_line.new.reader) (contents c.args.writer.now) (contents c.loop.writer) (contents c.flush.new.self) c.loop.invariant ReadError c.read_line.new.kept.items at (contents w.write_text.new.writer) w.in_ok-write_text-in-TooLong.ensures kept)
     ] in
     let told = err_from_is_err_and c.from_residual-in_err-flush.result c.from_residual-in_err-flush.ensures.1 in
     rw (told.1, told.2) stopped
@@ -71,19 +69,19 @@ pub loop-preserved : goal.loop-preserved
 loop-preserved g c =
     let read = g.R.Read.remaining in
     let contents = g.W.Write.contents in
-    let so : SoFar c.args.cache.now.state (read c.args.reader.now) (read c.read_line.new.reader) (contents c.args.writer.now) (contents c.match-branch-2.writer) c.match-branch-2.cache.state =
+    let so : SoFar g.L.Log c.args.cache.now (read c.args.reader.now) (read c.read_line.new.reader) (contents c.args.writer.now) (contents c.match-branch-2.writer) c.match-branch-2.cache =
     elim c.match-branch-2.branch [
       | in-Whole+in_ok-serve_line-in-Whole w ↦
           let at = rw (w.in-Whole.is) at c.in_ok-read_line.ensures.reads in
           let replied = rw (w.deref.ensures.value) at w.in_ok-serve_line-in-Whole.ensures in
-          rw (w.writer-is, w.cache-is) (line_done ReadError c.args.cache.now.state c.loop.cache.state w.serve_line.new.cache.state (read c.args.reader.now) (read c.loop.reader) (read c.read_line.new.reader) (contents c.args.writer.now) (contents c.loop.writer) (contents w.serve_line.new.writer) c.read_line.new.kept.items c.loop.invariant at replied)
+          rw (w.writer-is, w.cache-is) (line_done g.L.Log c.args.cache.now c.loop.cache w.serve_line.new.cache (read c.args.reader.now) (read c.loop.reader) (read c.read_line.new.reader) (contents c.args.writer.now) (contents c.loop.writer) (contents w.serve_line.new.writer) c.loop.invariant ReadError c.read_line.new.kept.items at replied)
       | in-TooLong+in_ok-write_text-in-TooLong w ↦
           let at = rw (w.in-TooLong.is) at c.in_ok-read_line.ensures.reads in
-          rw (w.writer-is, w.cache-is) (long_done ReadError c.args.cache.now.state c.loop.cache.state (read c.args.reader.now) (read c.loop.reader) (read c.read_line.new.reader) (contents c.args.writer.now) (contents c.loop.writer) (contents w.write_text.new.writer) c.read_line.new.kept.items c.loop.invariant at w.in_ok-write_text-in-TooLong.ensures)
+          rw (w.writer-is, w.cache-is) (long_done g.L.Log c.args.cache.now c.loop.cache (read c.args.reader.now) (read c.loop.reader) (read c.read_line.new.reader) (contents c.args.writer.now) (contents c.loop.writer) (contents w.write_text.new.writer) c.loop.invariant ReadError c.read_line.new.kept.items at w.in_ok-write_text-in-TooLong.ensures)
     ] in
-    flushed c.args.cache.now.state c.match-branch-2.cache.state (read c.args.reader.now) (read c.read_line.new.reader) (contents c.args.writer.now) (contents c.match-branch-2.writer) (contents c.flush.new.self) so c.flush.ensures.bytes
+    flushed g.L.Log c.args.cache.now c.match-branch-2.cache (read c.args.reader.now) (read c.read_line.new.reader) (contents c.args.writer.now) (contents c.match-branch-2.writer) (contents c.flush.new.self) so c.flush.ensures.bytes
 
 -- the loop gives up
 pub returns : goal.returns
 returns g c =
-    gives_up c.args.cache.now.state c.loop.cache.state (g.R.Read.remaining c.args.reader.now) (g.R.Read.remaining c.loop.reader) (g.W.Write.contents c.args.writer.now) (g.W.Write.contents c.loop.writer) c.loop.invariant
+    gives_up g.L.Log c.args.cache.now c.loop.cache (g.R.Read.remaining c.args.reader.now) (g.R.Read.remaining c.loop.reader) (g.W.Write.contents c.args.writer.now) (g.W.Write.contents c.loop.writer) c.loop.invariant

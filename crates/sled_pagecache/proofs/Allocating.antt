@@ -1,0 +1,298 @@
+-- Allocating a page, as a step of the machine.
+use Rattle.std.proofs.Common.{◌≡◌, ◌≢◌, inl, inr, ◌≤◌, ◌<◌, ◌+◌, ◌-◌, ◌^◌, ℕ, zero, suc, Bool, true, false, cond, List, [], ◌∷◌, ◌++◌, length, take, Option, Some, None, Result, Ok, Err, slice_get, slice_set, refl, sym, ◌∙◌, ap, subst, arith, eq-eqb}
+use Rattle.std.proofs.lemmas.Bool.{ne_eqb, false≢true}
+use Rattle.std.proofs.lemmas.Option.{none-some, same_Some, slice_get-get_or, slice_get_within}
+use Rattle.sled_base.specs.Errors.{error_of as error_by}
+use Rattle.sled_base.specs.declared.types.Error.{Error}
+use Rattle.sled_base.specs.declared.types.Error.TheVariants.{Unsupported}
+use Rattle.sled_base.specs.declared.types.Refusal.{Refusal}
+use Rattle.sled_base.specs.declared.types.Why.TheVariants.{PagesUsedUp, StampUsedUp}
+use Rattle.sled_log.specs.Contents.{Node, Put}
+use Rattle.sled_log.specs.Events.{Change}
+use Rattle.sled_log.specs.Reading.{IsUpdate}
+use Rattle.sled_log.specs.Writing.{message_of}
+use Rattle.sled_log.specs.declared.log.Log.{Ghosts}
+use Rattle.sled_node.specs.Node.{WholeNode}
+use Rattle.sled_pagecache.proofs.Putting.{unless-clear, does-err, MayPut, seen, may-set, may-add, nothing-told, put-refused, put-set, put-added}
+use Rattle.sled_pagecache.proofs.Standing.{AreKnown, known-length}
+use Rattle.sled_pagecache.specs.Adding.{RefusesPage}
+use Rattle.sled_pagecache.specs.Cache.{Cache, chain_length, IsIn}
+use Rattle.sled_pagecache.specs.Calls.{Steps}
+use Rattle.sled_pagecache.specs.Changes.{written}
+use Rattle.sled_pagecache.specs.Journal.{Went, IsCaused, begun_by}
+use Rattle.sled_pagecache.specs.Logged.{Logged}
+use Rattle.sled_pagecache.specs.Pages.{free_ids}
+use Rattle.sled_pagecache.specs.Pages as shown
+use Rattle.sled_pagecache.specs.State.{Page, page, State, with_page, free_token, later, greatest_free}
+use Rattle.sled_pagecache.specs.Step.{Does, Allocates}
+use Rattle.sled_pagecache.specs.Swaps.{RefusesSwap}
+use Rattle.sled_pagecache.specs.Table.{IsRoots, IsCounter, AreOwn, IsBeside, IsConsistent}
+use Rattle.sled_pagecache.specs.Token.{Token, token}
+use Rattle.sled_pagecache.specs.declared.pagecache.call.Answer.TheVariants.{Allocated}
+use Rattle.sled_pagecache.specs.declared.pagecache.call.Call.TheVariants.{Allocate}
+use Rattle.sled_pagecache.specs.declared.pagecache.config.Config.{Config}
+use Rattle.sled_pagecache.specs.declared.pagecache.journal.Journal.{Journal}
+use Rattle.sled_pagecache.specs.declared.pagecache.page.Kept.{Kept}
+use Rattle.sled_pagecache.specs.declared.pagecache.page.Kept.TheVariants as held
+use Rattle.sled_pagecache.specs.declared.pagecache.page.Page.{Page as KeptPage}
+
+-- ---- the last of a list
+
+ends : (n : ℕ) (xs : List ℕ) (x : ℕ) → length xs ≡ n + 1 → slice_get xs n ≡ Some x → xs ≡ take n xs ++ x ∷ []
+ends n [] x long at = absurd (omega (arith, long))
+ends zero (y ∷ []) x long at = ap (λ z. z ∷ []) (same_Some y x at)
+ends zero (y ∷ z ∷ xs) x long at = absurd (omega (arith, long))
+ends (suc n) (y ∷ xs) x long at = ap (λ (l : List ℕ). y ∷ l) (ends n xs x (omega (arith, long)) at)
+
+pub ends-with : (xs : List ℕ) (x : ℕ) → slice_get xs (length xs - 1) ≡ Some x → xs ≡ take (length xs - 1) xs ++ x ∷ []
+ends-with [] x at = absurd (none-some x at)
+ends-with (y ∷ xs) x at = ends (length (y ∷ xs) - 1) (y ∷ xs) x (omega arith) at
+
+pub ends-nowhere : (xs : List ℕ) → slice_get xs (length xs - 1) ≡ None → xs ≡ []
+ends-nowhere [] at = refl
+ends-nowhere (y ∷ xs) at = absurd (none-some _ (sym at ∙ slice_get-get_or (y ∷ xs) (length (y ∷ xs) - 1) y (omega arith)))
+
+-- what was read at the end
+pub read-last : (seen free : List ℕ) (read last answer : Option ℕ) → seen ≡ free → last ≡ slice_get seen (length seen - 1) → read ≡ last → read ≡ answer → slice_get free (length free - 1) ≡ answer
+read-last seen free read last answer same at copied is = ap (λ (l : List ℕ). slice_get l (length l - 1)) (sym same) ∙ sym at ∙ sym copied ∙ is
+
+-- ---- the free page with the greatest id
+
+no-end : (before : List ℕ) (x : ℕ) → [] ≡ before ++ x ∷ [] → ⊥
+no-end [] x is = cc
+no-end (y ∷ before) x is = cc
+
+-- no page is free
+pub none-free : (first : ℕ) (table : List KeptPage) → free_ids first table ≡ [] → (pages : List Page) → AreKnown pages table → greatest_free first pages ≡ None
+none-free first [] none [] known = refl
+none-free first [] none (p ∷ pages) known = absurd known
+none-free first (q ∷ table) none [] known = absurd known
+none-free first (q ∷ table) none (p ∷ pages) known = by (shown.is_free q.kept) refl none (λ rest. none-free (first + 1) table rest pages known.1)
+  where
+    by : (b : Bool) → shown.is_free q.kept ≡ b → cond b (first ∷ free_ids (first + 1) table) (free_ids (first + 1) table) ≡ []
+        → (free_ids (first + 1) table ≡ [] → greatest_free (first + 1) pages ≡ None) → greatest_free first (p ∷ pages) ≡ None
+    by true free some others = absurd cc
+    by false full none others =
+        ap (λ o. later o (free_token first p)) (others none)
+        ∙ ap (λ b. cond b (Some (token first p.stamp)) None) (known.0.free ∙ full)
+
+-- the last free id, and its page
+pub record IsLastFree (first : ℕ) (table : List KeptPage) (before : List ℕ) (pid : ℕ) : Type 0 where
+  pub place : ℕ
+  pub is : pid ≡ first + place
+  pub page : KeptPage
+  pub at : slice_get table place ≡ Some page
+  pub free : shown.is_free page.kept ≡ true
+  pub taken : (other : KeptPage) → shown.is_free other.kept ≡ false → free_ids first (slice_set table place other) ≡ before
+  pub greatest : (pages : List Page) → AreKnown pages table → greatest_free first pages ≡ Some (token pid page.stamp)
+
+module _ (first : ℕ) (q : KeptPage) (table : List KeptPage) (pid : ℕ) where
+  -- one of the others is the last
+  behind : (before : List ℕ) → shown.is_free q.kept ≡ false → IsLastFree (first + 1) table before pid → IsLastFree first (q ∷ table) before pid
+  behind before full rest = record {
+    place = suc rest.place;
+    is = let is = rest.is in omega arith;
+    page = rest.page;
+    at = rest.at;
+    free = rest.free;
+    taken = λ other no.
+        let others = free_ids (first + 1) (slice_set table rest.place other) in
+        ap (λ b. cond b (first ∷ others) others) full ∙ rest.taken other no;
+    greatest = elim [ [] ↦ λ known. absurd known | p ∷ pages ↦ λ known. ap (λ o. later o (free_token first p)) (rest.greatest pages known.1) ];
+  }
+
+  behind-free : (n : ℕ) (before : List ℕ) → first ≡ n → shown.is_free q.kept ≡ true → IsLastFree (first + 1) table before pid → IsLastFree first (q ∷ table) (n ∷ before) pid
+  behind-free n before same free rest = record {
+    place = suc rest.place;
+    is = let is = rest.is in omega arith;
+    page = rest.page;
+    at = rest.at;
+    free = rest.free;
+    taken = λ other no.
+        let others = free_ids (first + 1) (slice_set table rest.place other) in
+        ap (λ b. cond b (first ∷ others) others) free ∙ ap (λ (l : List ℕ). first ∷ l) (rest.taken other no) ∙ ap (λ m. m ∷ before) same;
+    greatest = elim [ [] ↦ λ known. absurd known | p ∷ pages ↦ λ known. ap (λ o. later o (free_token first p)) (rest.greatest pages known.1) ];
+  }
+
+  -- this one is
+  here : first ≡ pid → shown.is_free q.kept ≡ true → free_ids (first + 1) table ≡ [] → IsLastFree first (q ∷ table) [] pid
+  here same free none = record {
+    place = 0;
+    is = omega arith;
+    page = q;
+    at = refl;
+    free = free;
+    taken = λ other no. ap (λ b. cond b (first ∷ free_ids (first + 1) table) (free_ids (first + 1) table)) no ∙ none;
+    greatest = elim [
+      | [] ↦ λ known. absurd known
+      | p ∷ pages ↦ λ known.
+          ap (λ o. later o (free_token first p)) (none-free (first + 1) table none pages known.1)
+          ∙ ap (λ b. cond b (Some (token first p.stamp)) None) (known.0.free ∙ free)
+          ∙ ap (λ n. Some (token n p.stamp)) same
+          ∙ ap (λ n. Some (token pid n)) known.0.stamp
+    ];
+  }
+
+pub last-free : (first : ℕ) (table : List KeptPage) (before : List ℕ) (pid : ℕ) → free_ids first table ≡ before ++ pid ∷ [] → IsLastFree first table before pid
+last-free first [] before pid is = absurd (no-end before pid is)
+last-free first (q ∷ table) before pid is = by (shown.is_free q.kept) refl before is (λ rest. last-free (first + 1) table rest pid)
+  where
+    by : (b : Bool) → shown.is_free q.kept ≡ b → (before : List ℕ) → cond b (first ∷ free_ids (first + 1) table) (free_ids (first + 1) table) ≡ before ++ pid ∷ []
+        → ((rest : List ℕ) → free_ids (first + 1) table ≡ rest ++ pid ∷ [] → IsLastFree (first + 1) table rest pid) → IsLastFree first (q ∷ table) before pid
+    by false full before is others = behind first q table pid before full (others before is)
+    by true free [] is others = here first q table pid (cc) free (cc)
+    by true free (n ∷ before) is others = behind-free first q table pid n before (cc) free (others before (cc))
+
+pub last-at : (table : List KeptPage) (front : List ℕ) (pid : ℕ) (last : IsLastFree 0 table front pid) → slice_get table pid ≡ Some last.page
+last-at table front pid last = ap (slice_get table) (let is = last.is in let place : pid ≡ last.place = omega arith in place) ∙ last.at
+
+-- the last of the ids that are kept is such a one
+pub last-kept : (table : List KeptPage) (free : List ℕ) (pid : ℕ) → free ≡ free_ids 0 table → slice_get free (length free - 1) ≡ Some pid → IsLastFree 0 table (take (length free - 1) free) pid
+last-kept table free pid is at = last-free 0 table (take (length free - 1) free) pid (sym is ∙ ends-with free pid at)
+
+-- it is free no more
+pub taken-last : (table : List KeptPage) (front : List ℕ) (pid : ℕ) (last : IsLastFree 0 table front pid) (changed : KeptPage) → shown.is_free changed.kept ≡ false → front ≡ free_ids 0 (slice_set table pid changed)
+taken-last table front pid last changed full =
+    sym (last.taken changed full) ∙ ap (λ n. free_ids 0 (slice_set table n changed)) (let is = last.is in let place : last.place ≡ pid = omega arith in place)
+
+-- it isn't one of the cache's own
+roots-full : (k : Kept) → IsRoots k → shown.is_free k ≡ false
+roots-full (held.Roots roots) own = refl
+roots-full k own = absurd own
+
+counter-full : (k : Kept) → IsCounter k → shown.is_free k ≡ false
+counter-full (held.Counter n) own = refl
+counter-full k own = absurd own
+
+pub free-from : (table : List KeptPage) (pid : ℕ) (q : KeptPage) → AreOwn table → slice_get table pid ≡ Some q → shown.is_free q.kept ≡ true → 2 ≤ pid
+free-from [] pid q own at free = absurd own
+free-from (roots ∷ []) pid q own at free = absurd own
+free-from (roots ∷ counter ∷ table) zero q own at free =
+    absurd (false≢true (sym (roots-full roots.kept own.0) ∙ ap (λ (k : KeptPage). shown.is_free k.kept) (same_Some roots q at) ∙ free))
+free-from (roots ∷ counter ∷ table) (suc zero) q own at free =
+    absurd (false≢true (sym (counter-full counter.kept own.1) ∙ ap (λ (k : KeptPage). shown.is_free k.kept) (same_Some counter q at) ∙ free))
+free-from (roots ∷ counter ∷ table) (suc (suc pid)) q own at free = omega arith
+
+pub own-long : (table : List KeptPage) → AreOwn table → 2 ≤ length table
+own-long [] own = absurd own
+own-long (roots ∷ []) own = absurd own
+own-long (roots ∷ counter ∷ table) own = omega arith
+
+-- ---- what the machine tests
+
+module _ (s : State) (node : WholeNode) (clear : s.fault ≡ false) where
+  module _ (none : greatest_free 0 s.pages ≡ None) where
+    pub allocate_full : length s.pages ≡ 2 ^ 37 → Allocates s node (Err (Unsupported PagesUsedUp)) s
+    allocate_full many = rw (clear, none, eq-eqb (length s.pages) (2 ^ 37) many) (refl, refl)
+
+    pub allocate_adds : length s.pages ≢ 2 ^ 37 → (answer : Result (ℕ × Token) Error) (t : State)
+        → Does s answer t (λ made. (made.0 ≡ length s.pages) × (made.1 ≡ token (length s.pages) 1) × (t ≡ record s { pages = s.pages ++ page 1 (Node node) ∷ [] })) → Allocates s node answer t
+    allocate_adds room answer t done = unless-clear s answer t _ clear (rw (none, ne_eqb (length s.pages) (2 ^ 37) room) done)
+
+  module _ (free : Token) (some : greatest_free 0 s.pages ≡ Some free) where
+    pub allocate_last : free.stamp ≡ 2 ^ 64 - 1 → Allocates s node (Err (Unsupported StampUsedUp)) s
+    allocate_last last = rw (clear, some, eq-eqb free.stamp (2 ^ 64 - 1) last) (refl, refl)
+
+    pub allocate_reuses : free.stamp ≢ 2 ^ 64 - 1 → (answer : Result (ℕ × Token) Error) (t : State)
+        → Does s answer t (λ made. (made.0 ≡ free.pid) × (made.1 ≡ token free.pid (free.stamp + 1)) × (t ≡ with_page s free.pid (page (free.stamp + 1) (Node node)))) → Allocates s node answer t
+    allocate_reuses below answer t done = unless-clear s answer t _ clear (rw (some, ne_eqb free.stamp (2 ^ 64 - 1) below) done)
+
+-- ---- the call, told of the table
+
+module _ {L : Type 0} (g : Ghosts L) (next : ℕ) (config : Config) (recovered : Bool) (before : Journal L) (table : List KeptPage) (free : List ℕ) (ready : before.fault ≡ false) (kept : IsConsistent g.state before table free)
+    (node : WholeNode) (after : Journal L) (pages : List KeptPage) (reads : IsUpdate (message_of (Put (Node node))) (Put (Node node))) where
+  abbrev cache : Journal L → List KeptPage → Cache L
+  cache journal now = seen g next config recovered journal now
+
+  beside : IsBeside g.state before.log table
+  beside = kept.beside ready
+
+  -- no page is free
+  module _ (none : free ≡ []) where
+    none_in : (s : State) → AreKnown s.pages table → greatest_free 0 s.pages ≡ None
+    none_in s are = none-free 0 table (sym kept.free ∙ none) s.pages are
+
+    adds : length table ≢ 2 ^ 37 → (s : State) → s.fault ≡ false → AreKnown s.pages table → (answer : Result (ℕ × Token) Error) (t : State)
+        → Does s answer t (λ made. (made.0 ≡ length s.pages) × (made.1 ≡ token (length s.pages) 1) × (t ≡ record s { pages = s.pages ++ page 1 (Node node) ∷ [] })) → Allocates s node answer t
+    adds room s clear are answer t done = allocate_adds s node clear (none_in s are) (λ many. room (sym (known-length s.pages table are) ∙ many)) answer t done
+
+    writes-new : (s : State) → AreKnown s.pages table → written (chain_length g.state (cache before table)) s (Allocate node) ≡ Change (length table) (Put (Node node)) ∷ []
+    writes-new s are = rw (none_in s are) (ap (λ n. Change n (Put (Node node)) ∷ []) (known-length s.pages table are))
+
+    may-new : length table ≢ 2 ^ 37 → (held : Logged) (s : State) → IsIn g.state (cache before table) held s → s.fault ≡ false → MayPut g before.log held (length table) node
+    may-new room held s is clear = may-add g next config recovered before table ready beside held s is clear node (own-long table kept.own) (let few = kept.few in omega (arith, few, room))
+
+    all-used : length table ≡ 2 ^ 37 → pages ≡ table → Went g.state g.moment g.left_since g.counts before after [] → after.fault ≡ false
+        → Steps g (cache before table) (Allocate node) (Allocated (Err (Unsupported PagesUsedUp))) (cache after pages)
+    all-used many back went clear_after =
+        nothing-told g next config recovered before table ready beside after (Allocate node) pages back (Allocated (Err (Unsupported PagesUsedUp))) went clear_after refl
+        (λ s clear are. allocate_full s node clear (none_in s are) (known-length s.pages table are ∙ many))
+        (λ s are said. absurd cc)
+
+    pub adds-refused : pages ≡ table → (refusal : Refusal) → RefusesPage (length table) refusal
+        → (let told : Result ℕ Refusal = Err refusal in Went g.state g.moment g.left_since g.counts before after (begun_by told (Change (length table) (message_of (Put (Node node))) ∷ [])))
+        → (let told : Result ℕ Refusal = Err refusal in IsCaused g.state g.moment g.left_since g.counts before after (g.is_full before.log (length (message_of (Put (Node node))).payload)) told)
+        → Steps g (cache before table) (Allocate node) (Allocated (Err (error_by refusal))) (cache after pages)
+    adds-refused back refusal (inl (many, is)) = rw is (λ went cause. all-used many back went cause.fault)
+    adds-refused back refusal (inr (room, of)) =
+        put-refused g next config recovered before table ready beside after (Allocate node) (length table) node reads (may-new room) writes-new
+        ℕ pages back (λ e. Allocated (Err e)) (record { memory = refl; read = refl; write = refl; full = refl; error = λ e. refl })
+        (λ s clear are e t hindered. adds room s clear are (Err e) t (does-err s e t (λ _. ⊥) _ hindered))
+        refusal of
+
+    pub adds-done : length table ≢ 2 ^ 37 → Went g.state g.moment g.left_since g.counts before after (Change (length table) (message_of (Put (Node node))) ∷ []) → after.fault ≡ false
+        → (added : KeptPage) → added.stamp ≡ 1 → pages ≡ table ++ added ∷ [] → (pid : ℕ) → pid ≡ length table → (made : Token) → made ≡ token pid 1
+        → Steps g (cache before table) (Allocate node) (Allocated (Ok (pid, made))) (cache after pages)
+    adds-done room went clear_after added first behind pid last made is =
+        subst (λ (l : List KeptPage). Steps g (cache before table) (Allocate node) (Allocated (Ok (pid, made))) (cache after l)) (sym behind)
+        (put-added g next config recovered before table ready beside after (Allocate node) (length table) node reads (may-new room) writes-new
+        went clear_after (Allocated (Ok (pid, made))) refl (λ said. cc) 1 added first refl
+        (λ s clear are.
+        let many = known-length s.pages table are in
+        adds room s clear are (Ok (pid, made)) (record s { pages = s.pages ++ page 1 (Node node) ∷ [] })
+        (last ∙ sym many, is ∙ ap (λ n. token n 1) (last ∙ sym many), refl)))
+
+  -- the greatest free page is taken
+  module _ (front : List ℕ) (pid : ℕ) (last : IsLastFree 0 table front pid) where
+    from : 2 ≤ pid
+    from = free-from table pid last.page kept.own (last-at table front pid last) last.free
+
+    there : pid < length table
+    there = slice_get_within table pid last.page (last-at table front pid last)
+
+    may-reuse : (held : Logged) (s : State) → IsIn g.state (cache before table) held s → s.fault ≡ false → MayPut g before.log held pid node
+    may-reuse held s is clear = may-set g next config recovered before table ready beside held s is clear pid node from there
+
+    writes-reused : (s : State) → AreKnown s.pages table → written (chain_length g.state (cache before table)) s (Allocate node) ≡ Change pid (Put (Node node)) ∷ []
+    writes-reused s are = rw (last.greatest s.pages are) refl
+
+    reuses : last.page.stamp ≢ 2 ^ 64 - 1 → (s : State) → s.fault ≡ false → AreKnown s.pages table → (answer : Result (ℕ × Token) Error) (t : State)
+        → Does s answer t (λ made. (made.0 ≡ pid) × (made.1 ≡ token pid (last.page.stamp + 1)) × (t ≡ with_page s pid (page (last.page.stamp + 1) (Node node)))) → Allocates s node answer t
+    reuses below s clear are answer t done = allocate_reuses s node clear (token pid last.page.stamp) (last.greatest s.pages are) below answer t done
+
+    stamp-used : last.page.stamp ≡ 2 ^ 64 - 1 → pages ≡ table → Went g.state g.moment g.left_since g.counts before after [] → after.fault ≡ false
+        → Steps g (cache before table) (Allocate node) (Allocated (Err (Unsupported StampUsedUp))) (cache after pages)
+    stamp-used greatest back went clear_after =
+        nothing-told g next config recovered before table ready beside after (Allocate node) pages back (Allocated (Err (Unsupported StampUsedUp))) went clear_after refl
+        (λ s clear are. allocate_last s node clear (token pid last.page.stamp) (last.greatest s.pages are) greatest)
+        (λ s are said. absurd cc)
+
+    pub reuses-refused : pages ≡ table → (refusal : Refusal) → RefusesSwap last.page.stamp refusal
+        → (let told : Result (Unit {0}) Refusal = Err refusal in Went g.state g.moment g.left_since g.counts before after (begun_by told (Change pid (message_of (Put (Node node))) ∷ [])))
+        → (let told : Result (Unit {0}) Refusal = Err refusal in IsCaused g.state g.moment g.left_since g.counts before after (g.is_full before.log (length (message_of (Put (Node node))).payload)) told)
+        → Steps g (cache before table) (Allocate node) (Allocated (Err (error_by refusal))) (cache after pages)
+    reuses-refused back refusal (inl (greatest, is)) = rw is (λ went cause. stamp-used greatest back went cause.fault)
+    reuses-refused back refusal (inr (below, of)) =
+        put-refused g next config recovered before table ready beside after (Allocate node) pid node reads may-reuse writes-reused
+        (Unit {0}) pages back (λ e. Allocated (Err e)) (record { memory = refl; read = refl; write = refl; full = refl; error = λ e. refl })
+        (λ s clear are e t hindered. reuses below s clear are (Err e) t (does-err s e t (λ _. ⊥) _ hindered))
+        refusal of
+
+    pub reuses-done : last.page.stamp ≢ 2 ^ 64 - 1 → Went g.state g.moment g.left_since g.counts before after (Change pid (message_of (Put (Node node))) ∷ []) → after.fault ≡ false
+        → (changed : KeptPage) → changed.stamp ≡ last.page.stamp + 1 → pages ≡ slice_set table pid changed → (made : Token) → made ≡ token pid changed.stamp
+        → Steps g (cache before table) (Allocate node) (Allocated (Ok (pid, made))) (cache after pages)
+    reuses-done below went clear_after changed risen back made is =
+        subst (λ (l : List KeptPage). Steps g (cache before table) (Allocate node) (Allocated (Ok (pid, made))) (cache after l)) (sym back)
+        (put-set g next config recovered before table ready beside after (Allocate node) pid node reads may-reuse writes-reused
+        went clear_after (Allocated (Ok (pid, made))) refl (λ said. cc) (last.page.stamp + 1) changed risen there
+        (λ s clear are. reuses below s clear are (Ok (pid, made)) (with_page s pid (page (last.page.stamp + 1) (Node node))) (refl, is ∙ ap (λ n. token pid n) risen, refl)))

@@ -1,0 +1,69 @@
+-- The chain of a page whose places are kept, and what reading it found.
+use Rattle.std.proofs.Common.{◌≡◌, ◌+◌, ◌<◌, ◌≤◌, ℕ, zero, suc, ℤ, List, [], ◌∷◌, ◌++◌, length, map, take, get_or, sym, ◌∙◌, ap, subst, arith, add-one, zero-add, pos}
+use Rattle.std.proofs.Math.ListN.{get_or-map}
+use Rattle.std.proofs.lemmas.List.{length-map, take_more, take_all, get_or_default}
+use Rattle.std.specs.List.{AllZip, Any}
+use Rattle.sled_base.specs.declared.kinds.MessageKind.TheVariants as kinds
+use Rattle.sled_base.specs.declared.types.DiskPtr.{DiskPtr}
+use Rattle.sled_base.specs.declared.types.DiskPtr.TheVariants.{Inline}
+use Rattle.sled_log.specs.Calls.{one_more}
+use Rattle.sled_log.specs.Messages.{Entry, message}
+use Rattle.sled_log.specs.Pages.{said_of, IsAt}
+use Rattle.sled_pagecache.specs.ChainReads.{IsFoundAs, place_of, more}
+use Rattle.sled_pagecache.specs.declared.pagecache.chain.CacheInfo.{CacheInfo}
+use Rattle.sled_pagecache.specs.declared.pagecache.reading.Found.{Found}
+
+-- one more after so many more
+pub more-next : (times count : ℕ) → one_more (more times count) ≡ more (times + 1) count
+more-next times count = ap (λ n. more n count) (sym (add-one times))
+
+-- so many more, and so many more
+pub more-add : (times before count : ℕ) → more times (more before count) ≡ more (times + before) count
+more-add zero before count = ap (λ n. more n count) (sym (zero-add before))
+more-add (suc times) before count =
+    let next : suc (times + before) ≡ suc times + before = omega arith in
+    ap one_more (more-add times before count) ∙ ap (λ n. more n count) next
+
+-- an info that says nothing
+abbrev pub no_info : CacheInfo
+no_info = record { ts = 0; lsn = pos 0; pointer = Inline 0; log_size = 0 }
+
+-- some entry that is kept there
+abbrev pub entry_at : CacheInfo → Entry
+entry_at info = record { message = message kinds.Free []; place = record { lsn = info.lsn; pointer = info.pointer; log_size = info.log_size } }
+
+module _ (chain : List Entry) (infos : List CacheInfo) (known : map said_of chain ≡ map place_of infos) where
+  pub length-known : length chain ≡ length infos
+  length-known = sym (length-map chain said_of) ∙ ap length known ∙ length-map infos place_of
+
+  said_at : (i : ℕ) (info : CacheInfo) → said_of (get_or chain i (entry_at info)) ≡ place_of (get_or infos i info)
+  said_at i info =
+      sym (get_or-map said_of chain i (entry_at info)) ∙ ap (λ (places : List (ℤ × DiskPtr × ℕ)). get_or places i (place_of info)) known ∙ get_or-map place_of infos i info
+
+  -- the entry stands where its page keeps it
+  pub is_at : (i : ℕ) (info : CacheInfo) (lsn : ℤ) → lsn ≡ (get_or infos i info).lsn → IsAt lsn (get_or infos i info).pointer (get_or chain i (entry_at info))
+  is_at i info lsn is = (ap (λ (place : ℤ × DiskPtr × ℕ). place.0) (said_at i info) ∙ sym is, ap (λ (place : ℤ × DiskPtr × ℕ). place.1) (said_at i info))
+
+  pub any_at : (i : ℕ) (info : CacheInfo) (lsn : ℤ) → lsn ≡ (get_or infos i info).lsn → i < length infos → Any (IsAt lsn (get_or infos i info).pointer) chain
+  any_at i info lsn is lt =
+      let same = length-known in
+      let within : i < length chain = omega arith in
+      let entry = get_or chain i (entry_at info) in
+      (i, entry, within, get_or_default chain i entry (entry_at info) within, is_at i info lsn is)
+
+found-push : (chain : List Entry) (all : List Found) (entry : Entry) (found : Found)
+    → AllZip IsFoundAs chain all → IsFoundAs entry found → AllZip IsFoundAs (chain ++ entry ∷ []) (all ++ found ∷ [])
+found-push [] [] entry found zip is = (is, tt)
+found-push [] (x ∷ all) entry found zip is = absurd zip
+found-push (e ∷ chain) [] entry found zip is = absurd zip
+found-push (e ∷ chain) (x ∷ all) entry found zip is = (zip.0, found-push chain all entry found zip.1 is)
+
+-- what was found so far, and one more
+pub found-more : (chain : List Entry) (all : List Found) (i : ℕ) (entry : Entry) (found : Found)
+    → i < length chain → AllZip IsFoundAs (take i chain) all → IsFoundAs (get_or chain i entry) found → AllZip IsFoundAs (take (i + 1) chain) (all ++ found ∷ [])
+found-more chain all i entry found lt zip is =
+    subst (λ (l : List Entry). AllZip IsFoundAs l (all ++ found ∷ [])) (sym (take_more chain i entry lt)) (found-push (take i chain) all (get_or chain i entry) found zip is)
+
+-- all was found
+pub found-all : (chain : List Entry) (all : List Found) (i : ℕ) → length chain ≤ i → AllZip IsFoundAs (take i chain) all → AllZip IsFoundAs chain all
+found-all chain all i le zip = subst (λ (l : List Entry). AllZip IsFoundAs l all) (take_all i chain le) zip

@@ -1,0 +1,185 @@
+-- The messages of a page make one content, and each beginning of them makes a node.
+use Rattle.std.proofs.Common.{◌≡◌, ℕ, ◌+◌, ◌-◌, ◌<◌, ◌≤◌, List, [], ◌∷◌, ◌++◌, length, map, take, drop, get_or, Option, None, Some, Result, IfErr, IsErrOf, refl, sym, ap, subst, ◌∙◌, inl, inr, arith}
+use Rattle.std.proofs.lemmas.Grind.{get_or_after_one}
+use Rattle.std.proofs.lemmas.List.{take_all, take_more, drop_more, length-drop, take-append-drop, map-append}
+use Rattle.std.proofs.lemmas.Result.{IfErr-at_err}
+use Rattle.sled_base.specs.declared.kinds.MessageKind.{MessageKind}
+use Rattle.sled_base.specs.declared.kinds.MessageKind.TheVariants as kinds
+use Rattle.sled_base.specs.declared.types.DiskPtr.{DiskPtr}
+use Rattle.sled_base.specs.declared.types.Refusal.{Refusal}
+use Rattle.sled_base.specs.declared.types.Refusal.TheVariants.{Unsupported, ReportableBug, Io, Corruption, OutOfMemory}
+use Rattle.sled_log.specs.Contents.{Content, Node, Put, Link}
+use Rattle.sled_log.specs.Messages.{Message, Told}
+use Rattle.sled_log.specs.Reading.{Reads, IsUpdate, LeadTo, Makes}
+use Rattle.sled_log.specs.ReadingLaws.{one_update}
+use Rattle.sled_node.specs.Links.{Accepts, applied}
+use Rattle.sled_node.specs.Node.{WholeNode}
+use Rattle.sled_node.specs.Payloads.Nodes.{ReadsNode}
+use Rattle.sled_node.specs.declared.node.link.Link.{Link as NodeLink}
+use Rattle.sled_pagecache.specs.declared.pagecache.reading.Found.{Found}
+use Rattle.sled_pagecache.specs.Reading.{told_of, MakesNode, Leads, RefusesMessage, RefusesNode}
+
+-- ---- one more link
+
+lead-more : (content : Content) (told : Told) (before : WholeNode) (m : Message) (after : WholeNode)
+    → LeadTo content told (Node before) → Leads before m after → LeadTo content (told ++ m ∷ []) (Node after)
+lead-more content [] before m after h l = (before, l.0, h, l.1, l.2, ap Node (sym l.3))
+lead-more content (x ∷ told) before m after h l = (h.0, h.1, h.2, h.3, h.4, lead-more (Node (applied h.1 h.0)) told before m after h.5 l)
+
+pub makes-more : (told : Told) (before : WholeNode) (m : Message) (after : WholeNode)
+    → Makes told (Node before) → Leads before m after → Makes (told ++ m ∷ []) (Node after)
+makes-more [] before m after h l = absurd h
+makes-more (x ∷ told) before m after h l = (h.0, h.1, lead-more h.0 told before m after h.2 l)
+
+-- ---- one content
+
+lead-one : (content : Content) (told : Told) (u v : Content) → LeadTo content told u → LeadTo content told v → u ≡ v
+lead-one content [] u v h k = sym h ∙ k
+lead-one content (m ∷ told) u v h k =
+    let n : h.0 ≡ k.0 = (let e : Node h.0 ≡ Node k.0 = sym h.2 ∙ k.2 in cc) in
+    let l : h.1 ≡ k.1 = (let e : Link h.1 ≡ Link k.1 = one_update m (Link h.1) (Link k.1) h.3 k.3 in cc) in
+    let e : Node (applied h.1 h.0) ≡ Node (applied k.1 k.0) = ap (λ (w : WholeNode). Node (applied h.1 w)) n ∙ ap (λ (w : NodeLink). Node (applied w k.0)) l in
+    lead-one (Node (applied k.1 k.0)) told u v (subst (λ (c : Content). LeadTo c told u) e h.5) k.5
+
+pub makes-one : (told : Told) (u v : Content) → Makes told u → Makes told v → u ≡ v
+makes-one [] u v h k = absurd h
+makes-one (m ∷ told) u v h k =
+    let e : h.0 ≡ k.0 = (let e : Put h.0 ≡ Put k.0 = one_update m (Put h.0) (Put k.0) h.1 k.1 in cc) in
+    lead-one k.0 told u v (subst (λ (c : Content). LeadTo c told u) e h.2) k.2
+
+-- ---- the last link, and a beginning
+
+lead-last : (content : Content) (told : Told) (m : Message) (after : WholeNode)
+    → LeadTo content (told ++ m ∷ []) (Node after) → (before : WholeNode) × LeadTo content told (Node before) × Leads before m after
+lead-last content [] m after h = (h.0, h.2, (h.1, h.3, h.4, (let e : Node (applied h.1 h.0) ≡ Node after = h.5 in cc)))
+lead-last content (x ∷ told) m after h =
+    let r = lead-last (Node (applied h.1 h.0)) told m after h.5 in (r.0, (h.0, h.1, h.2, h.3, h.4, r.1), r.2)
+
+-- A message behind those that make a node makes another with them only where the one leads to the other.
+makes-last : (told : Told) (before : WholeNode) (m : Message) (after : WholeNode)
+    → Makes told (Node before) → Makes (told ++ m ∷ []) (Node after) → Leads before m after
+makes-last [] before m after h k = absurd h
+makes-last (x ∷ told) before m after h k =
+    let r = lead-last k.0 told m after k.2 in
+    let e : r.0 ≡ before = (let e : Node r.0 ≡ Node before = makes-one (x ∷ told) (Node r.0) (Node before) (k.0, k.1, r.1) h in cc) in
+    subst (λ (n : WholeNode). Leads n m after) e r.2
+
+lead-front : (content : Content) (told : Told) (m : Message) (more : Told) (after : WholeNode)
+    → LeadTo content (told ++ m ∷ more) (Node after) → (node : WholeNode) × LeadTo content (told ++ m ∷ []) (Node node)
+lead-front content [] m [] after h = (after, h)
+lead-front content [] m (y ∷ more) after h = (applied h.1 h.0, (h.0, h.1, h.2, h.3, h.4, refl))
+lead-front content (x ∷ told) m more after h =
+    let r = lead-front (Node (applied h.1 h.0)) told m more after h.5 in (r.0, (h.0, h.1, h.2, h.3, h.4, r.1))
+
+-- what makes a node makes one up to each of its messages
+makes-front : (told : Told) (m : Message) (more : Told) (after : WholeNode)
+    → Makes (told ++ m ∷ more) (Node after) → (node : WholeNode) × Makes (told ++ m ∷ []) (Node node)
+makes-front [] m [] after h = (after, h)
+makes-front [] m (y ∷ more) after h = (h.2.0, (h.0, h.1, h.2.2))
+makes-front (x ∷ told) m more after h =
+    let r = lead-front h.0 told m more after h.2 in (r.0, (h.0, h.1, r.1))
+
+-- ---- one message, refused
+
+pub refuses_so : (pointer : DiskPtr) (a b : Type 0) → (a → b) → (e : Refusal) → RefusesMessage pointer a e → RefusesMessage pointer b e
+refuses_so pointer a b f OutOfMemory h = tt
+refuses_so pointer a b f (Corruption (Some place)) h = (h.0, f h.1)
+refuses_so pointer a b f (Corruption None) h = absurd h
+refuses_so pointer a b f (Unsupported why) h = absurd h
+refuses_so pointer a b f (ReportableBug bug) h = absurd h
+refuses_so pointer a b f (Io device) h = absurd h
+
+-- a node is put on a page by a payload that is one
+pub node_spelled : (kind : MessageKind) (payload : List ℕ) (node : WholeNode) → Reads kind payload (Put (Node node)) → ReadsNode payload node []
+node_spelled kinds.InlineNode payload node h = h
+node_spelled kinds.BlobNode payload node h = h
+node_spelled kind payload node h = absurd h
+
+-- a link that isn't accepted leads to no node
+pub leads_nowhere : (m : Message) (link : NodeLink) (before : WholeNode) → IsUpdate m (Link link) → ¬ Accepts before link → (after : WholeNode) → ¬ Leads before m after
+leads_nowhere m link before reads refuses after leads =
+    let e : leads.0 ≡ link = (let e : Link leads.0 ≡ Link link = one_update m (Link leads.0) (Link link) leads.1 reads in cc) in
+    refuses (subst (λ (l : NodeLink). Accepts before l) e leads.2)
+
+-- ---- the messages so far
+
+-- the message behind the first i + 1
+pub at_rest : (found : List Found) (i : ℕ) (m : Found) → i < length (take (length found - 1) (drop 1 found)) → m ≡ get_or (take (length found - 1) (drop 1 found)) i m
+    → (i + 1 < length found) × (m ≡ get_or found (i + 1) m)
+at_rest found i m h e =
+    let d : length (drop 1 found) ≡ length found - 1 = length-drop 1 found in
+    let r : take (length found - 1) (drop 1 found) ≡ drop 1 found = take_all (length found - 1) (drop 1 found) (omega arith) in
+    let l : length (take (length found - 1) (drop 1 found)) ≡ length (drop 1 found) = ap (λ (l : List Found). length l) r in
+    (omega arith, e ∙ ap (λ (l : List Found). get_or l i m) r ∙ get_or_after_one found i m ∙ ap (λ (n : ℕ). get_or found n m) (omega arith))
+
+pub made-first : (found : List Found) (m : Found) (node : WholeNode) → 0 < length found → m ≡ get_or found 0 m
+    → IsUpdate (told_of m) (Put (Node node)) → Makes (map told_of (take (0 + 1) found)) (Node node)
+made-first [] m node h e reads = absurd (omega arith)
+made-first (first ∷ found) m node h e reads = subst (λ (f : Found). Makes (told_of f ∷ []) (Node node)) e (Node node, reads, refl)
+
+told-more : (found : List Found) (i : ℕ) (m : Found) → i < length found → m ≡ get_or found i m → map told_of (take (i + 1) found) ≡ map told_of (take i found) ++ told_of m ∷ []
+told-more found i m h e =
+    ap (map told_of) (take_more found i m h ∙ ap (λ (f : Found). take i found ++ f ∷ []) (sym e)) ∙ map-append told_of (take i found) (m ∷ [])
+
+pub made-more : (found : List Found) (i : ℕ) (m : Found) (before after : WholeNode) → i < length found → m ≡ get_or found i m
+    → Makes (map told_of (take i found)) (Node before) → Leads before (told_of m) after → Makes (map told_of (take (i + 1) found)) (Node after)
+made-more found i m before after h e made leads =
+    subst (λ (told : Told). Makes told (Node after)) (sym (told-more found i m h e)) (makes-more (map told_of (take i found)) before (told_of m) after made leads)
+
+pub made-all : (found : List Found) (i : ℕ) (node : WholeNode) → length found ≤ i → Makes (map told_of (take i found)) (Node node) → Makes (map told_of found) (Node node)
+made-all found i node h made = subst (λ (l : List Found). Makes (map told_of l) (Node node)) (take_all i found h) made
+
+-- ---- all messages, refused
+
+split_at : (found : List Found) (i : ℕ) (m : Found) → i < length found → m ≡ get_or found i m → found ≡ take i found ++ m ∷ drop (i + 1) found
+split_at found i m h e =
+    sym (ap (λ (l : List Found). take i found ++ l) (ap (λ (f : Found). f ∷ drop (i + 1) found) e ∙ sym (drop_more found i m h)) ∙ take-append-drop i found)
+
+pub refused-first : (found : List Found) (m : Found) (e : Refusal) → 0 < length found → m ≡ get_or found 0 m
+    → RefusesMessage m.pointer ((node : WholeNode) → ¬ IsUpdate (told_of m) (Put (Node node))) e → RefusesNode found e
+refused-first found m OutOfMemory h is r = tt
+refused-first found m (Corruption (Some place)) h is r = record {
+  before = [];
+  first = m;
+  after = drop (0 + 1) found;
+  is = split_at found 0 m h is;
+  kept = sym r.0;
+  sound = inl refl;
+  amiss = λ (node, made). r.1 node (subst (λ (c : Content). IsUpdate (told_of m) (Put c)) made.2 made.1);
+}
+refused-first found m (Corruption None) h is r = absurd r
+refused-first found m (Unsupported why) h is r = absurd r
+refused-first found m (ReportableBug bug) h is r = absurd r
+refused-first found m (Io device) h is r = absurd r
+
+pub refused-more : (found : List Found) (i : ℕ) (m : Found) (before : WholeNode) (e : Refusal) → i < length found → m ≡ get_or found i m
+    → Makes (map told_of (take i found)) (Node before)
+    → RefusesMessage m.pointer ((after : WholeNode) → ¬ Leads before (told_of m) after) e → RefusesNode found e
+refused-more found i m before OutOfMemory h is made r = tt
+refused-more found i m before (Corruption (Some place)) h is made r = record {
+  before = take i found;
+  first = m;
+  after = drop (i + 1) found;
+  is = split_at found i m h is;
+  kept = sym r.0;
+  sound = inr (before, made);
+  amiss = λ (after, makes).
+      r.1 after (makes-last (map told_of (take i found)) before (told_of m) after made (subst (λ (told : Told). Makes told (Node after)) (map-append told_of (take i found) (m ∷ [])) makes));
+}
+refused-more found i m before (Corruption None) h is made r = absurd r
+refused-more found i m before (Unsupported why) h is made r = absurd r
+refused-more found i m before (ReportableBug bug) h is made r = absurd r
+refused-more found i m before (Io device) h is made r = absurd r
+
+no-node : (found : List Found) (pointer : Option DiskPtr) → RefusesNode found (Corruption pointer) → ¬ MakesNode found
+no-node found None r makes = absurd r
+no-node found (Some pointer) r (node, makes) =
+    let all : Makes (map told_of r.before ++ told_of r.first ∷ map told_of r.after) (Node node) =
+    subst (λ (told : Told). Makes told (Node node)) (ap (map told_of) r.is ∙ map-append told_of r.before (r.first ∷ r.after)) makes in
+    let some = makes-front (map told_of r.before) (told_of r.first) (map told_of r.after) node all in
+    r.amiss (some.0, subst (λ (told : Told). Makes told (Node some.0)) (sym (map-append told_of r.before (r.first ∷ []))) some.1)
+
+-- messages of which one is amiss make no node
+pub corrupt_makes_none : (found : List Found) (result : Result WholeNode Refusal) → IfErr result (RefusesNode found)
+    → (pointer : Option DiskPtr) → IsErrOf result (Corruption pointer) → ¬ MakesNode found
+corrupt_makes_none found result r pointer is = no-node found pointer (IfErr-at_err (RefusesNode found) is r)

@@ -1,0 +1,198 @@
+-- The cache's own pages, as they are read from a log, and as they are made.
+use Rattle.std.proofs.Common.{◌≡◌, ◌≤◌, ◌<◌, ◌&&◌, ◌||◌, ℤ, ℕ, zero, suc, Bool, true, false, List, [], ◌∷◌, length, map, get_or, ltb, None, Some, refl, sym, ◌∙◌, ap, subst, arith}
+use Rattle.std.proofs.lemmas.Bool.{false≢true, ltb-true, ltb-false, le-ltb}
+use Rattle.std.proofs.lemmas.List.{length-map}
+use Rattle.std.proofs.lemmas.Slice.Zip.{AllZip-long}
+use Rattle.std.specs.List.{AllZip, slice_get}
+use Rattle.sled_base.specs.declared.kinds.MessageKind.{MessageKind}
+use Rattle.sled_base.specs.declared.kinds.MessageKind.TheVariants as kinds
+use Rattle.sled_base.specs.declared.types.DiskPtr.{DiskPtr}
+use Rattle.sled_base.specs.declared.types.Refusal.{Refusal}
+use Rattle.sled_base.specs.declared.types.Refusal.TheVariants.{Unsupported, ReportableBug, Io, Corruption, OutOfMemory}
+use Rattle.sled_base.specs.Payloads.Numbers.{ReadsU64}
+use Rattle.sled_log.specs.Chains.{is_freeing, is_empty}
+use Rattle.sled_log.specs.Contents.{Content, Free, Counter, Roots, Node, Put, effect_of_update}
+use Rattle.sled_log.specs.Messages.{Entry, Chain, Told, told, effect_of_entry}
+use Rattle.sled_log.specs.Pages.{freed_of}
+use Rattle.sled_log.specs.Reading.{Reads, IsUpdate, LeadTo, Makes}
+use Rattle.sled_log.specs.ReadingLaws.{reads_effect}
+use Rattle.sled_node.specs.Links.{applied}
+use Rattle.sled_node.specs.Meta as meta
+use Rattle.sled_node.specs.Node.{WholeNode}
+use Rattle.sled_node.specs.Payloads.Roots.{ReadsRoots}
+use Rattle.sled_pagecache.proofs.Linked.{full-free}
+use Rattle.sled_pagecache.proofs.Pulls.{makes-found, found-makes, begins-full}
+use Rattle.sled_pagecache.specs.ChainReads.{IsFoundAs}
+use Rattle.sled_pagecache.specs.Loading.{IsLoaded, IsUnread, RefusesOwn}
+use Rattle.sled_pagecache.specs.Pages.{HoldsChain, is_free, freed_at}
+use Rattle.sled_pagecache.specs.Reading.{told_of, BeginsFree, RefusesMessage}
+use Rattle.sled_pagecache.specs.Recovered.{is_misfit}
+use Rattle.sled_pagecache.specs.Starts.{IsFit}
+use Rattle.sled_pagecache.specs.declared.pagecache.chain.CacheInfo.{CacheInfo}
+use Rattle.sled_pagecache.specs.declared.pagecache.page.Kept.{Kept}
+use Rattle.sled_pagecache.specs.declared.pagecache.page.Kept.TheVariants as kept
+use Rattle.sled_pagecache.specs.declared.pagecache.page.Page.{Page}
+use Rattle.sled_pagecache.specs.declared.pagecache.reading.Found.{Found}
+
+-- ---- what makes the named roots or the counter is one message
+
+abbrev pub IsOwn : Content → Type 0
+IsOwn (Roots roots) = Unit {0}
+IsOwn (Counter n) = Unit {0}
+IsOwn other = ⊥
+
+own-effect : (content : Content) → IsOwn content → is_freeing (effect_of_update (Put content)) ≡ false
+own-effect (Roots roots) own = refl
+own-effect (Counter n) own = refl
+own-effect Free own = absurd own
+own-effect (Node node) own = absurd own
+
+-- what leads from a node leads to a node
+node-leads : (node : WholeNode) (messages : Told) (content : Content) → IsOwn content → LeadTo (Node node) messages content → ⊥
+node-leads node [] content own h = subst IsOwn (sym h) own
+node-leads node (m ∷ messages) content own h = node-leads (applied h.1 h.0) messages content own h.5
+
+pub own-one : (chain : Chain) (content : Content) → IsOwn content → Makes (told chain) content → (length chain ≡ 1) × (is_empty effect_of_entry chain ≡ false)
+own-one [] content own h = absurd h
+own-one (entry ∷ []) content own h =
+    (refl, ap is_freeing (reads_effect entry.message.kind entry.message.payload (Put h.0) h.1) ∙ ap (λ (c : Content). is_freeing (effect_of_update (Put c))) h.2 ∙ own-effect content own)
+own-one (entry ∷ next ∷ chain) content own h = absurd (node-leads (applied h.2.1 h.2.0) (told chain) content own h.2.5)
+
+-- ---- which pages are so
+
+pub lengths : (chain : Chain) (infos : List CacheInfo) → map freed_of chain ≡ map freed_at infos → length chain ≡ length infos
+lengths chain infos at = sym (length-map chain freed_of) ∙ ap length at ∙ length-map infos freed_at
+
+abbrev misfit_by : ℕ → ℕ → Bool → Bool
+misfit_by pid len free = ltb 10 len || (ltb pid 2 && (free || ltb 1 len))
+
+sole-fits : (pid len : ℕ) (free : Bool) → len ≡ 1 → free ≡ false → misfit_by pid len free ≡ false
+sole-fits pid len free one full = ap (λ n. misfit_by pid n free) one ∙ ap (λ b. misfit_by pid 1 b) full ∙ none (ltb pid 2)
+  where
+    none : (b : Bool) → (b && false) ≡ false
+    none true = refl
+    none false = refl
+
+own-fits : (pid : ℕ) (chain : Chain) (page : Page) (content : Content) → IsLoaded chain page → IsOwn content → Makes (told chain) content → is_misfit pid page ≡ false
+own-fits pid chain page content is own makes =
+    let one = own-one chain content own makes in
+    sole-fits pid (length page.infos.items) (is_free page.kept) (sym (lengths chain page.infos.items is.at) ∙ one.0) (full-free chain page.kept one.1 is.kept.holds)
+
+long-misfit : (pid len : ℕ) (free : Bool) → 2 ≤ pid → misfit_by pid len free ≡ true → 10 < len
+long-misfit pid len free from misfit = by (ltb 10 len) refl
+  where
+    by : (b : Bool) → ltb 10 len ≡ b → 10 < len
+    by true is = ltb-true 10 len is
+    by false is =
+        absurd (false≢true (sym (ap (λ b. b || (ltb pid 2 && (free || ltb 1 len))) is ∙ ap (λ b. b && (free || ltb 1 len)) (le-ltb pid 2 from)) ∙ misfit))
+
+-- a page that no cache leaves so isn't fit
+pub misfit-unfit : (pid : ℕ) (chain : Chain) (page : Page) → IsLoaded chain page → is_misfit pid page ≡ true → ¬ IsFit pid chain
+misfit-unfit zero chain page is misfit fit = false≢true (sym (own-fits 0 chain page (Roots fit.0) is tt fit.1) ∙ misfit)
+misfit-unfit (suc zero) chain page is misfit fit = false≢true (sym (own-fits 1 chain page (Counter fit.0) is tt fit.1) ∙ misfit)
+misfit-unfit (suc (suc pid)) chain page is misfit fit =
+    let long = long-misfit (suc (suc pid)) (length page.infos.items) (is_free page.kept) (omega arith) misfit in
+    let same = lengths chain page.infos.items is.at in
+    let short : length chain ≤ 10 = fit in
+    absurd (omega (arith, long, same, short))
+
+-- a system page that is fit has one message, and isn't free
+pub fits-one : (pid len : ℕ) (free : Bool) → pid < 2 → 0 < len → misfit_by pid len free ≡ false → (len ≡ 1) × (free ≡ false)
+fits-one pid len free own some fits = by (ltb pid 2) (ltb 10 len) free (ltb 1 len) refl refl refl refl fits
+  where
+    by : (small long f more : Bool) → ltb pid 2 ≡ small → ltb 10 len ≡ long → free ≡ f → ltb 1 len ≡ more → (long || (small && (f || more))) ≡ false → (len ≡ 1) × (free ≡ false)
+    by true false false false s l is m fits = ((let le = ltb-false 1 len m in omega (arith, le, some)), is)
+    by true true f more s l is m fits = absurd (false≢true (sym fits))
+    by true false true more s l is m fits = absurd (false≢true (sym fits))
+    by true false false true s l is m fits = absurd (false≢true (sym fits))
+    by false long f more s l is m fits = (let le = ltb-false pid 2 s in absurd (omega (arith, le, own)))
+
+-- and what was found of it is one message
+pub found-one : (pid : ℕ) (chain : Chain) (page : Page) (found : List Found) → pid < 2 → 0 < length page.infos.items → IsLoaded chain page → is_misfit pid page ≡ false → AllZip IsFoundAs chain found → length found ≡ 1
+found-one pid chain page found own some is fits zip =
+    let long : length found ≡ length chain = AllZip-long IsFoundAs chain found zip in
+    long ∙ lengths chain page.infos.items is.at ∙ (fits-one pid (length page.infos.items) (is_free page.kept) own some fits).0
+
+unread-full : (chain : Chain) (held : Kept) → IsUnread held → is_free held ≡ false → HoldsChain chain held → is_empty effect_of_entry chain ≡ false
+unread-full chain kept.Away unread full holds = holds
+unread-full chain kept.Free unread full holds = absurd (false≢true (sym full))
+unread-full chain (kept.Counter n) unread full holds = absurd unread
+unread-full chain (kept.Roots roots) unread full holds = absurd unread
+unread-full chain (kept.Node node) unread full holds = absurd unread
+
+begins-so : (found : List Found) (first : Found) → length found ≡ 1 → first ≡ get_or found 0 first → first.kind ≡ kinds.Free → BeginsFree found
+begins-so [] first one is frees = absurd (omega (arith, one))
+begins-so (x ∷ found) first one is frees = ap (λ (f : Found). f.kind) (sym is) ∙ frees
+
+-- it doesn't say that the page is free
+pub found-full : (pid : ℕ) (chain : Chain) (page : Page) (found : List Found) (first : Found)
+    → pid < 2 → 0 < length page.infos.items → IsLoaded chain page → IsUnread page.kept → is_misfit pid page ≡ false → AllZip IsFoundAs chain found
+    → first ≡ get_or found 0 first → ¬ (first.kind ≡ kinds.Free)
+found-full pid chain page found first own some is unread fits zip first-is frees =
+    let full = (fits-one pid (length page.infos.items) (is_free page.kept) own some fits).1 in
+    begins-full chain found zip (unread-full chain page.kept unread full is.kept.holds)
+    (begins-so found first (found-one pid chain page found own some is fits zip) first-is frees)
+
+-- ---- the pointer of the first message
+
+pointer_of : Entry → DiskPtr
+pointer_of entry = entry.place.pointer
+
+pub begins-at : (chain : Chain) (infos : List CacheInfo) (info : CacheInfo) → map freed_of chain ≡ map freed_at infos → 0 < length infos → info ≡ get_or infos 0 info
+    → slice_get (map (λ (entry : Entry). entry.place.pointer) chain) 0 ≡ Some info.pointer
+begins-at chain [] info at some is = absurd (omega (arith, some))
+begins-at [] (first ∷ infos) info at some is = (let e = at in cc)
+begins-at (entry ∷ chain) (first ∷ infos) info at some is =
+    let same : freed_of entry ≡ freed_at first = (let e = at in cc) in
+    ap (λ (p : DiskPtr). Some p) (ap (λ (at : ℤ × DiskPtr). at.1) same ∙ sym (ap (λ (i : CacheInfo). i.pointer) is))
+
+pub found-at : (chain : Chain) (found : List Found) (first : Found) → AllZip IsFoundAs chain found → length found ≡ 1 → first ≡ get_or found 0 first
+    → slice_get (map (λ (entry : Entry). entry.place.pointer) chain) 0 ≡ Some first.pointer
+found-at chain [] first zip one is = absurd (omega (arith, one))
+found-at [] (x ∷ found) first zip one is = absurd zip
+found-at (entry ∷ chain) (x ∷ found) first zip one is = ap (λ (p : DiskPtr). Some p) (sym zip.0.1 ∙ sym (ap (λ (f : Found). f.pointer) is))
+
+-- ---- what one message makes
+
+pub made-one : (chain : Chain) (found : List Found) (first : Found) (content : Content) → AllZip IsFoundAs chain found → length found ≡ 1 → first ≡ get_or found 0 first
+    → IsUpdate (told_of first) (Put content) → Makes (told chain) content
+made-one chain [] first content zip one is reads = absurd (omega (arith, one))
+made-one chain (x ∷ y ∷ found) first content zip one is reads = absurd (omega (arith, one))
+made-one chain (x ∷ []) first content zip one is reads =
+    makes-found chain (x ∷ []) content zip (content, subst (λ (f : Found). IsUpdate (told_of f) (Put content)) is reads, refl)
+
+one-made : (chain : Chain) (found : List Found) (first : Found) (content : Content) → AllZip IsFoundAs chain found → length found ≡ 1 → first ≡ get_or found 0 first
+    → Makes (told chain) content → IsUpdate (told_of first) (Put content)
+one-made chain [] first content zip one is makes = absurd (omega (arith, one))
+one-made chain (x ∷ y ∷ found) first content zip one is makes = absurd (omega (arith, one))
+one-made chain (x ∷ []) first content zip one is makes =
+    let made = found-makes chain (x ∷ []) content zip makes in
+    subst (λ (f : Found). IsUpdate (told_of f) (Put content)) (sym is) (subst (λ (c : Content). IsUpdate (told_of x) (Put c)) made.2 made.1)
+
+-- ---- why the one message was refused
+
+module _ (chain : Chain) (found : List Found) (first : Found) (zip : AllZip IsFoundAs chain found) (one : length found ≡ 1) (is : first ≡ get_or found 0 first) where
+  refuses-at : (pid : ℕ) (amiss : Type 0) → (amiss → ¬ IsFit pid chain) → (e : Refusal) → RefusesMessage first.pointer amiss e → RefusesOwn pid chain e
+  refuses-at pid amiss unfit OutOfMemory r = tt
+  refuses-at pid amiss unfit (Corruption (Some pointer)) r = (unfit r.1, found-at chain found first zip one is ∙ ap (λ (p : DiskPtr). Some p) (sym r.0))
+  refuses-at pid amiss unfit (Corruption None) r = absurd r
+  refuses-at pid amiss unfit (Unsupported why) r = absurd r
+  refuses-at pid amiss unfit (ReportableBug bug) r = absurd r
+  refuses-at pid amiss unfit (Io device) r = absurd r
+
+  pub refuses-roots : (e : Refusal) → RefusesMessage first.pointer ((roots : meta.Roots) → ¬ IsUpdate (told_of first) (Put (Roots roots))) e → RefusesOwn 0 chain e
+  refuses-roots e r = refuses-at 0 _ (λ amiss fit. amiss fit.0 (one-made chain found first (Roots fit.0) zip one is fit.1)) e r
+
+  pub refuses-counter : (e : Refusal) → RefusesMessage first.pointer ((n : ℕ) → ¬ IsUpdate (told_of first) (Put (Counter n))) e → RefusesOwn 1 chain e
+  refuses-counter e r = refuses-at 1 _ (λ amiss fit. amiss fit.0 (one-made chain found first (Counter fit.0) zip one is fit.1)) e r
+
+-- ---- what a payload spells
+
+pub roots_spelled : (kind : MessageKind) (payload : List ℕ) (roots : meta.Roots) → Reads kind payload (Put (Roots roots)) → ReadsRoots payload roots []
+roots_spelled kinds.InlineMeta payload roots h = h
+roots_spelled kinds.BlobMeta payload roots h = h
+roots_spelled kind payload roots h = absurd h
+
+pub counter_spelled : (kind : MessageKind) (payload : List ℕ) (n : ℕ) → Reads kind payload (Put (Counter n)) → ReadsU64 payload n []
+counter_spelled kinds.Counter payload n h = h
+counter_spelled kind payload n h = absurd h

@@ -1,0 +1,95 @@
+-- What a change of a page from 2 on makes of pages as a cache leaves them.
+use Rattle.std.proofs.Common.{◌≡◌, ◌≤◌, ◌<◌, ◌+◌, ◌^◌, ℕ, zero, suc, Bool, true, false, cond, ◌==◌, List, [], ◌∷◌, ◌++◌, length, set, Some, slice_get, slice_set, slice_index_or, refl, sym, ◌∙◌, ap, subst, arith, eq-eqb}
+use Rattle.std.proofs.lemmas.Bool.{ne_eqb}
+use Rattle.std.proofs.lemmas.List.{length-append, length-set}
+use Rattle.std.proofs.lemmas.Option.{get_or_from_slice_get, slice_get_within}
+use Rattle.std.proofs.lemmas.Slice.Zip.{AllZip-long}
+use Rattle.std.specs.List.{AllByRecursion}
+use Rattle.sled_node.specs.Links.{applied}
+use Rattle.sled_node.specs.Node.{WholeNode}
+use Rattle.sled_node.specs.declared.node.link.Link.{Link as NodeLink}
+use Rattle.sled_log.specs.Chains.{is_empty, linked, chains_from}
+use Rattle.sled_log.specs.Contents.{Content, Free, Node, Put, Link, after_link, contents_from}
+use Rattle.sled_log.specs.Events.{Change}
+use Rattle.sled_log.specs.Messages.{Message, Told, effect_of}
+use Rattle.sled_log.specs.Reading.{Makes, Hold}
+use Rattle.sled_log.specs.Writing.{message_of}
+use Rattle.sled_pagecache.specs.Proper.{IsFreeOrNode, AreOwn, IsProper}
+
+-- ---- lists
+
+pub all-set : {X : Type 0} (P : X → Type 0) (i : ℕ) (xs : List X) (x : X) → AllByRecursion P xs → P x → AllByRecursion P (set xs i x)
+all-set P i [] x h p = tt
+all-set P zero (y ∷ xs) x h p = (p, h.1)
+all-set P (suc i) (y ∷ xs) x h p = (h.0, all-set P i xs x h.1 p)
+
+pub all-append : {X : Type 0} (P : X → Type 0) (xs ys : List X) → AllByRecursion P xs → AllByRecursion P ys → AllByRecursion P (xs ++ ys)
+all-append P [] ys h i = i
+all-append P (x ∷ xs) ys h i = (h.0, all-append P xs ys h.1 i)
+
+-- ---- the system pages stay
+
+own-set : (contents : List Content) (pid : ℕ) (content : Content) → AreOwn contents → 2 ≤ pid → pid < length contents → IsFreeOrNode content → AreOwn (slice_set contents pid content)
+own-set [] pid content own from lt node = absurd (omega (arith, lt))
+own-set (roots ∷ []) pid content own from lt node = absurd (omega (arith, from, lt))
+own-set (roots ∷ counter ∷ rest) zero content own from lt node = absurd (omega (arith, from))
+own-set (roots ∷ counter ∷ rest) (suc zero) content own from lt node = absurd (omega (arith, from))
+own-set (roots ∷ counter ∷ rest) (suc (suc pid)) content own from lt node = (own.0, own.1, all-set IsFreeOrNode pid rest content own.2 node)
+
+own-add : (contents : List Content) (content : Content) → AreOwn contents → 2 ≤ length contents → IsFreeOrNode content → AreOwn (contents ++ content ∷ [])
+own-add [] content own from node = absurd (omega (arith, from))
+own-add (roots ∷ []) content own from node = absurd (omega (arith, from))
+own-add (roots ∷ counter ∷ rest) content own from node = (own.0, own.1, all-append IsFreeOrNode rest (content ∷ []) own.2 (node, tt))
+
+-- ---- a page changes, or is added
+
+pub proper-set : (pages : List Told) (contents : List Content) (pid : ℕ) (told : Told) (content : Content)
+    → IsProper pages contents → 2 ≤ pid → pid < length contents → length told ≤ 10 → IsFreeOrNode content
+    → IsProper (slice_set pages pid told) (slice_set contents pid content)
+proper-set pages contents pid told content proper from lt fits node = record {
+  own = own-set contents pid content proper.own from lt node;
+  short = all-set _ pid pages told proper.short fits;
+  few = subst (λ n. n ≤ 2 ^ 37) (sym (length-set contents pid content)) proper.few;
+}
+
+pub proper-add : (pages : List Told) (contents : List Content) (told : Told) (content : Content)
+    → IsProper pages contents → 2 ≤ length contents → length contents < 2 ^ 37 → length told ≤ 10 → IsFreeOrNode content
+    → IsProper (pages ++ told ∷ []) (contents ++ content ∷ [])
+proper-add pages contents told content proper from room fits node = record {
+  own = own-add contents content proper.own from node;
+  short = all-append _ pages (told ∷ []) proper.short (fits, tt);
+  few = let l = length-append contents (content ∷ []) in omega (arith, l, room);
+}
+
+module _ (pages : List Told) (contents : List Content) (hold : Hold pages contents) (proper : IsProper pages contents) (pid : ℕ) (from : 2 ≤ pid) where
+  -- a node in place of what the page held
+  pub put-proper : (node : WholeNode) → pid < length contents
+      → IsProper (chains_from effect_of pages (Change pid (message_of (Put (Node node))))) (contents_from contents (Change pid (Put (Node node))))
+  put-proper node lt =
+      let long = AllZip-long Makes pages contents hold in
+      rw (ne_eqb pid (length pages) (λ same. omega (arith, same, lt, long)), ne_eqb pid (length contents) (λ same. omega (arith, same, lt)))
+      (proper-set pages contents pid (message_of (Put (Node node)) ∷ []) (Node node) proper from lt (omega arith) tt)
+
+  -- a node on a new page
+  pub add-proper : (node : WholeNode) → pid ≡ length contents → length contents < 2 ^ 37
+      → IsProper (chains_from effect_of pages (Change pid (message_of (Put (Node node))))) (contents_from contents (Change pid (Put (Node node))))
+  add-proper node last room =
+      let long = AllZip-long Makes pages contents hold in
+      rw (eq-eqb pid (length pages) (omega (arith, last, long)), eq-eqb pid (length contents) last)
+      (proper-add pages contents (message_of (Put (Node node)) ∷ []) (Node node) proper (omega (arith, from, last)) room (omega arith) tt)
+
+  linked-fits : (told : Told) (m : Message) → length told < 10 → length (linked effect_of told m) ≤ 10
+  linked-fits told m short = by (is_empty effect_of told)
+    where
+      by : (b : Bool) → length (cond b told (told ++ m ∷ [])) ≤ 10
+      by true = omega (arith, short)
+      by false = let l = length-append told (m ∷ []) in omega (arith, l, short)
+
+  -- a link on a page of fewer than ten messages
+  pub link-proper : (link : NodeLink) (node : WholeNode) → slice_get contents pid ≡ Some (Node node) → length (slice_index_or pages pid []) < 10
+      → IsProper (chains_from effect_of pages (Change pid (message_of (Link link)))) (contents_from contents (Change pid (Link link)))
+  link-proper link node at short =
+      subst (λ content. IsProper (chains_from effect_of pages (Change pid (message_of (Link link)))) (slice_set contents pid (after_link link content)))
+      (sym (get_or_from_slice_get contents pid (Node node) Free at))
+      (proper-set pages contents pid (linked effect_of (slice_index_or pages pid []) (message_of (Link link))) (Node (applied link node)) proper from
+      (slice_get_within contents pid (Node node) at) (linked-fits (slice_index_or pages pid []) (message_of (Link link)) short) tt)

@@ -1,0 +1,6 @@
+use Rattle.std.proofs.Common.{◌≡◌, map, take}
+use Rattle.sled_pagecache.specs.ChainReads.{place_of}
+use Rattle.sled_pagecache.proofs.pagecache.page.places.Given as goal
+
+abbrev pub invariant-loop-info : goal.invariant-loop-info
+invariant-loop-info l = l.places.items ≡ map place_of (take l.info-index l.infos)

@@ -1,0 +1,8 @@
+use Rattle.std.proofs.Common.{◌+◌, map, take}
+use Rattle.sled_log.specs.Contents.{Node}
+use Rattle.sled_log.specs.Reading.{Makes}
+use Rattle.sled_pagecache.specs.Reading.{told_of}
+use Rattle.sled_pagecache.proofs.pagecache.reading.node_of.Given as goal
+
+abbrev pub invariant-loop-found : goal.invariant-loop-found
+invariant-loop-found l = Makes (map told_of (take (l.found-index + 1) l.messages)) (Node l.node)

@@ -1,0 +1,6 @@
+use Rattle.std.proofs.Common.{◌≡◌, ◌++◌, drop}
+use Rattle.sled_pagecache.specs.Pages.{free_ids}
+use Rattle.sled_pagecache.proofs.pagecache.recovered.free_of.Given as goal
+
+abbrev pub invariant-loop-pid : goal.invariant-loop-pid
+invariant-loop-pid l = l.ids.items ++ free_ids l.pid (drop l.pid l.pages) ≡ free_ids 0 l.pages

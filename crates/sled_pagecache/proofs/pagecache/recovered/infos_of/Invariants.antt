@@ -1,0 +1,6 @@
+use Rattle.std.proofs.Common.{◌≡◌, ◌∷◌, map, take}
+use Rattle.sled_pagecache.specs.Recovered.{info_at}
+use Rattle.sled_pagecache.proofs.pagecache.recovered.infos_of.Given as goal
+
+abbrev pub invariant-loop-frag : goal.invariant-loop-frag
+invariant-loop-frag l = l.infos.items ≡ info_at l.fn.base ∷ map info_at (take l.frag-index l.frags)

@@ -1,0 +1,32 @@
+use Rattle.std.proofs.Common.{◌+◌, List, take, sym, subst, rules}
+use Rattle.std.proofs.lemmas.List.{take_all}
+use Rattle.std.specs.List.{AllZip}
+use Rattle.sled_base.specs.declared.types.page_state.PageState.{PageState}
+use Rattle.sled_pagecache.specs.Recovered.{IsRecovered}
+use Rattle.sled_pagecache.specs.declared.pagecache.page.Page.{Page}
+use Rattle.sled_pagecache.proofs.RecoveredPages.{all-loaded, all-unread, recovered-more}
+use Rattle.sled_pagecache.proofs.pagecache.recovered.pages_of.Goals as goal
+
+pub loop-state-preserved : goal.loop-state-preserved
+loop-state-preserved c =
+    let states = c.args.states.now in
+    let i = c.loop-state.state-index in
+    record {
+      recovered = subst (λ (l : List Page). AllZip IsRecovered (take (i + 1) states) l) (sym c.push_reserved.ensures.items)
+          (recovered-more states i c.state-item.result c.loop-state.pages.items c.in_ok-page_of.field-0 c.loop-state-test.true c.state-item.is c.loop-state.invariant.recovered c.in_ok-page_of.ensures);
+      len = search rules;
+      room = search rules;
+    }
+
+pub returns-clause-loaded : goal.returns-clause-loaded
+returns-clause-loaded c =
+    let states = c.args.states.now in
+    let pages = c.loop-state.pages.items in
+    let all = subst (λ (l : List PageState). AllZip IsRecovered l pages) (take_all c.loop-state.state-index states c.loop-state-test.false) c.loop-state.invariant.recovered in
+    λ chains are. all-loaded chains states pages all are
+
+pub returns-clause-unread : goal.returns-clause-unread
+returns-clause-unread c =
+    let states = c.args.states.now in
+    let pages = c.loop-state.pages.items in
+    all-unread states pages (subst (λ (l : List PageState). AllZip IsRecovered l pages) (take_all c.loop-state.state-index states c.loop-state-test.false) c.loop-state.invariant.recovered)

@@ -1,0 +1,45 @@
+use Rattle.std.proofs.Common.{length, not, ap, arith}
+use Rattle.std.proofs.lemmas.Bool.{lt-ltb, le-ltb, le-leb}
+use Rattle.sled_log.specs.Messages.{effect_of_entry}
+use Rattle.sled_log.specs.State.{now}
+use Rattle.sled_pagecache.proofs.pagecache.swap.write_linked.Goals as goal
+
+pub write_link-requires-clause-tells : goal.write_link-requires-clause-tells
+write_link-requires-clause-tells g c = ap not c.requires.full
+
+pub write_node-requires-clause-tells : goal.write_node-requires-clause-tells
+write_node-requires-clause-tells g c = le-leb c.args.pid (length (now effect_of_entry (g.L.Log.state c.args.journal.now.log))) (let there = c.requires.there in omega (arith, there))
+
+pub returns-then-messages-lt-PAGE_CONSOLIDATION_THRESHOLD : goal.returns-then-messages-lt-PAGE_CONSOLIDATION_THRESHOLD
+returns-then-messages-lt-PAGE_CONSOLIDATION_THRESHOLD g c =
+    let wrote = c.write_link.ensures in
+    rw (lt-ltb c.args.messages 10 c.if-messages-lt-PAGE_CONSOLIDATION_THRESHOLD.true)
+    (record {
+      is = wrote.is;
+      went = wrote.went;
+      cause = wrote.cause;
+      of_log = wrote.of_log;
+      reads = wrote.reads;
+      at = wrote.stamp;
+      size = wrote.size;
+      chains = wrote.chains;
+      same = wrote.same;
+      sized = wrote.sized;
+    })
+
+pub returns : goal.returns
+returns g c =
+    let wrote = c.write_node.ensures in
+    rw (le-ltb c.args.messages 10 c.if-messages-lt-PAGE_CONSOLIDATION_THRESHOLD.false)
+    (record {
+      is = wrote.is;
+      went = wrote.went;
+      cause = wrote.cause;
+      of_log = wrote.of_log;
+      reads = wrote.reads;
+      at = wrote.stamp;
+      size = wrote.size;
+      chains = wrote.chains;
+      same = wrote.same;
+      sized = wrote.sized;
+    })

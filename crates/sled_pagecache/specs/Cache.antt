@@ -1,0 +1,40 @@
+-- What contracts see of a page cache over a log, and which state it is in.
+use Rattle.std.specs.Prelude.{◌≡◌, ℕ, Bool, true, false, List, [], length, Some, slice_get, slice_index_or}
+use Rattle.sled_log.specs.Batches.{is_open}
+use Rattle.sled_log.specs.Messages.{Entry, effect_of_entry}
+use Rattle.sled_log.specs.State as log
+use Rattle.sled_pagecache.specs.Logged.{Logged, IsLogged, now}
+use Rattle.sled_pagecache.specs.State.{State, contents_of, stamps_of}
+use Rattle.sled_pagecache.specs.declared.pagecache.config.Config.{Config}
+
+-- The stamps of the pages, which of them lie in memory, the next generated id, whether a write fault is kept, the settings,
+-- whether both system pages were found in the log, and the log.
+pub record Cache (L : Type 0) : Type 0 where
+  pub stamps : List ℕ
+  pub resident : List Bool
+  pub next : ℕ
+  pub fault : Bool
+  pub config : Config
+  pub recovered : Bool
+  pub log : L
+
+-- the page lies in memory, or doesn't; a free one does
+abbrev pub IsResident : {L : Type 0} → Cache L → ℕ → Type 0
+IsResident cache pid = slice_get cache.resident pid ≡ Some true
+
+abbrev pub IsAway : {L : Type 0} → Cache L → ℕ → Type 0
+IsAway cache pid = slice_get cache.resident pid ≡ Some false
+
+module _ {L : Type 0} (state : L → log.State Entry) where
+  -- how many messages make a page
+  abbrev pub chain_length : Cache L → ℕ → ℕ
+  chain_length cache pid = length (slice_index_or (log.now effect_of_entry (state cache.log)) pid [])
+
+  -- The cache is in this state, and its log holds that. After a write fault nothing is known of the log.
+  pub record IsIn (cache : Cache L) (held : Logged) (s : State) : Type 0 where
+    pub stamps : stamps_of s ≡ cache.stamps
+    pub next : s.next ≡ cache.next
+    pub fault : s.fault ≡ cache.fault
+    pub batch : s.batch ≡ is_open held.pending
+    pub logged : s.fault ≡ false → IsLogged (log.told_state (state cache.log)) held
+    pub contents : s.fault ≡ false → contents_of s ≡ now held

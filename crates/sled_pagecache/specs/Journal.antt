@@ -1,0 +1,63 @@
+-- What the calls of a cache make of its log.
+use Rattle.std.specs.Prelude.{◌≡◌, ◌≤◌, ℕ, Bool, true, false, List, [], None, Result, Ok, Err, IsErrOf, ⊤}
+use Rattle.sled_base.specs.declared.types.Device.TheVariants.{Read, Write}
+use Rattle.sled_base.specs.declared.types.Refusal.{Refusal}
+use Rattle.sled_base.specs.declared.types.Refusal.TheVariants.{Unsupported, Io, Corruption, OutOfMemory}
+use Rattle.sled_base.specs.declared.types.Why.TheVariants.{LogFull}
+use Rattle.sled_log.specs.Calls.{Counts, HasGrown}
+use Rattle.sled_log.specs.Events.{Event}
+use Rattle.sled_log.specs.Messages.{Message, Entry, Told, effect_of}
+use Rattle.sled_log.specs.State.{State, Adds, IsLeft, StopsLeave, told_state}
+use Rattle.sled_log.specs.declared.log.LogError.{LogError}
+use Rattle.sled_log.specs.declared.log.LogError.TheVariants as unlogged
+use Rattle.sled_pagecache.specs.declared.pagecache.journal.Journal.{Journal}
+
+-- what a cache answers where its log refuses a call
+abbrev pub refusal_of : LogError → Refusal
+refusal_of unlogged.Memory = OutOfMemory
+refusal_of unlogged.Full = Unsupported LogFull
+refusal_of unlogged.ReadFault = Io Read
+refusal_of unlogged.WriteFault = Io Write
+refusal_of unlogged.Corruption = Corruption None
+
+-- what a cache answers to what its log answered
+abbrev pub told_by : {T : Type 0} → Result T LogError → Result T Refusal
+told_by (Ok answer) = Ok answer
+told_by (Err error) = Err (refusal_of error)
+
+-- whether a write fault was met
+abbrev pub is_write_fault : {T : Type 0} → Result T Refusal → Bool
+is_write_fault (Ok answer) = false
+is_write_fault (Err (Io Write)) = true
+is_write_fault (Err other) = false
+
+-- the events that a stop may find of a call: none where it was refused, but for a write fault
+abbrev pub begun_by : {T : Type 0} → Result T Refusal → List (Event Message) → List (Event Message)
+begun_by (Ok answer) events = events
+begun_by (Err (Io Write)) events = events
+begun_by (Err other) events = []
+
+-- a refusal that a log makes a cache answer
+abbrev pub IsOfLog : Refusal → Type 0
+IsOfLog OutOfMemory = ⊤
+IsOfLog (Io device) = ⊤
+IsOfLog (Unsupported LogFull) = ⊤
+IsOfLog other = ⊥
+
+module _ {L : Type 0} (state : L → State Entry) (moment : L → ℕ) (left_since : L → ℕ → List Told → Type 0) (counts : L → Counts) where
+  -- These events were added, if no write fault is kept, and a stop at any moment since `old` leaves what was stable and pending
+  -- then and a beginning of the events, up to a fair cut.
+  pub record Went (old new : Journal L) (events : List (Event Message)) : Type 0 where
+    pub usable : new.fault ≡ false → (state new.log).usable ≡ true
+    pub added : new.fault ≡ false → Adds effect_of (told_state (state old.log)) events (told_state (state new.log))
+    pub stop : StopsLeave moment left_since old.log new.log (IsLeft effect_of (told_state (state old.log)) events)
+    pub failed_reads : (counts old.log).failed_reads ≤ (counts new.log).failed_reads
+    pub write_faults : (counts old.log).write_faults ≤ (counts new.log).write_faults
+
+  -- Each refusal has its cause: a read or a write failed in the call, memory was wanting, or the log had no room. A write fault
+  -- is kept.
+  pub record IsCaused {T : Type 0} (old new : Journal L) (no_room : Type 0) (result : Result T Refusal) : Type 0 where
+    pub fault : new.fault ≡ is_write_fault result
+    pub read : IsErrOf result (Io Read) → HasGrown (counts old.log).failed_reads (counts new.log).failed_reads
+    pub write : IsErrOf result (Io Write) → HasGrown (counts old.log).write_faults (counts new.log).write_faults
+    pub full : IsErrOf result (Unsupported LogFull) → no_room

@@ -1,0 +1,126 @@
+-- What the opening of a cache makes of the pages that its log recovers.
+use Rattle.std.specs.Prelude.{◌≡◌, ◌+◌, ◌*◌, ◌<◌, ◌≤◌, ◌^◌, ℕ, Bool, true, List, [], ◌∷◌, length, map, slice_get, Option, None, Some, ⊤}
+use Rattle.std.specs.List.{AllByRecursion, AllZip}
+use Rattle.sled_base.specs.declared.types.Refusal.{Refusal}
+use Rattle.sled_base.specs.declared.types.Refusal.TheVariants.{Io, Corruption, OutOfMemory}
+use Rattle.sled_log.specs.Chains.{is_chain}
+use Rattle.sled_log.specs.Contents as contents
+use Rattle.sled_log.specs.Contents.{Content, Put}
+use Rattle.sled_log.specs.Events.{Event, Change}
+use Rattle.sled_log.specs.Messages.{Message, Chain, effect_of_entry}
+use Rattle.sled_log.specs.Pages.{IsSized, freed_of}
+use Rattle.sled_log.specs.Writing.{message_of}
+use Rattle.sled_pagecache.specs.Opening.{opened, first_id}
+use Rattle.sled_pagecache.specs.Pages.{IsKept, freed_at}
+use Rattle.sled_pagecache.specs.Starts.{IsFit, BeginsAmiss, has_own}
+use Rattle.sled_pagecache.specs.State.{stamps_of}
+use Rattle.sled_pagecache.specs.Table.{IsRoots, AreOwn}
+use Rattle.sled_pagecache.specs.declared.pagecache.TheConstants.{PAGE_CONSOLIDATION_THRESHOLD, MAX_PID_BITS}
+use Rattle.sled_pagecache.specs.declared.pagecache.config.Config.{Config}
+use Rattle.sled_pagecache.specs.declared.pagecache.page.Kept.{Kept}
+use Rattle.sled_pagecache.specs.declared.pagecache.page.Kept.TheVariants.{Free, Away, Counter}
+use Rattle.sled_pagecache.specs.declared.pagecache.page.Page.{Page}
+
+-- a page that was recovered, with the places of its messages
+pub record IsLoaded (chain : Chain) (page : Page) : Type 0 where
+  pub kept : IsKept chain page
+  pub at : map freed_of chain ≡ map freed_at page.infos.items
+  pub stamp : page.stamp ≡ 0
+
+-- no content was read yet
+abbrev pub IsUnread : Kept → Type 0
+IsUnread Free = Unit {0}
+IsUnread Away = Unit {0}
+IsUnread other = ⊥
+
+-- The named roots and the counter were read, as far as their pages are there, and no other content.
+abbrev pub AreFound : List Page → Option ℕ → Type 0
+AreFound [] counter = counter ≡ None
+AreFound (roots ∷ []) counter = IsRoots roots.kept × (counter ≡ None)
+AreFound (roots ∷ own ∷ pages) counter = IsRoots roots.kept × (n : ℕ) × (own.kept ≡ Counter n) × (counter ≡ Some n) × AllByRecursion (λ page. IsUnread page.kept) pages
+
+-- pages as they were recovered, of which no content was read yet
+pub record AreRecovered (chains : List Chain) (pages : List Page) : Type 0 where
+  pub loaded : AllZip IsLoaded chains pages
+  pub unread : AllByRecursion (λ page. IsUnread page.kept) pages
+  pub few : length pages ≤ 2 ^ MAX_PID_BITS
+  pub chains_are : AllByRecursion (λ chain. is_chain effect_of_entry chain ≡ true) chains
+  pub sized : AllByRecursion IsSized chains
+
+-- and then those of the system pages were
+pub record AreRead (chains : List Chain) (pages : List Page) (counter : Option ℕ) : Type 0 where
+  pub loaded : AllZip IsLoaded chains pages
+  pub found : AreFound pages counter
+  pub few : length pages ≤ 2 ^ MAX_PID_BITS
+  pub chains_are : AllByRecursion (λ chain. is_chain effect_of_entry chain ≡ true) chains
+  pub sized : AllByRecursion IsSized chains
+
+-- the system pages are kept so, as far as they are there
+abbrev pub AreOwnSoFar : List Page → Type 0
+AreOwnSoFar [] = Unit {0}
+AreOwnSoFar (roots ∷ []) = IsRoots roots.kept
+AreOwnSoFar (roots ∷ counter ∷ pages) = AreOwn (roots ∷ counter ∷ pages)
+
+-- a table of pages beside the chains of a log
+pub record IsTable (chains : List Chain) (pages : List Page) : Type 0 where
+  pub kept : AllZip IsKept chains pages
+  pub own : AreOwnSoFar pages
+  pub short : AllByRecursion (λ page. length page.infos.items ≤ PAGE_CONSOLIDATION_THRESHOLD) pages
+  pub few : length pages ≤ 2 ^ MAX_PID_BITS
+  pub chains_are : AllByRecursion (λ chain. is_chain effect_of_entry chain ≡ true) chains
+  pub sized : AllByRecursion IsSized chains
+
+-- ---- why pages are refused
+
+-- why the content of a system page wasn't read
+abbrev pub RefusesOwn : ℕ → Chain → Refusal → Type 0
+RefusesOwn pid chain OutOfMemory = ⊤
+RefusesOwn pid chain (Io device) = ⊤
+RefusesOwn pid chain (Corruption (Some pointer)) = (¬ IsFit pid chain) × (slice_get (map (λ entry. entry.place.pointer) chain) 0 ≡ Some pointer)
+-- there is no other reason
+RefusesOwn pid chain refusal = ⊥
+
+-- why the pages of a log that holds such chains aren't taken
+abbrev pub RefusesPages : List Chain → Refusal → Type 0
+RefusesPages chains OutOfMemory = ⊤
+RefusesPages chains (Io device) = ⊤
+RefusesPages chains (Corruption None) = 2 ^ MAX_PID_BITS < length chains
+RefusesPages chains (Corruption (Some pointer)) = (length chains ≤ 2 ^ MAX_PID_BITS) × BeginsAmiss chains pointer
+-- there is no other reason
+RefusesPages chains refusal = ⊥
+
+-- ---- what is told of the system pages that are missing
+
+abbrev pub roots_told : Event Message
+roots_told = Change 0 (message_of (Put (contents.Roots [])))
+
+abbrev pub counter_told : Event Message
+counter_told = Change 1 (message_of (Put (contents.Counter 0)))
+
+module _ {X : Type 0} where
+  -- by the pages, or the contents of pages, that are there
+  abbrev pub told_of_roots : List X → List (Event Message)
+  told_of_roots [] = roots_told ∷ []
+  told_of_roots (page ∷ pages) = []
+
+  abbrev pub told_at_start : List X → List (Event Message)
+  told_at_start [] = roots_told ∷ counter_told ∷ []
+  told_at_start (roots ∷ []) = counter_told ∷ []
+  told_at_start (roots ∷ counter ∷ pages) = []
+
+  -- the stamps of the pages then
+  abbrev pub stamps_at_start : List X → List ℕ
+  stamps_at_start [] = 1 ∷ 1 ∷ []
+  stamps_at_start (roots ∷ []) = 0 ∷ 1 ∷ []
+  stamps_at_start (roots ∷ counter ∷ pages) = map (λ _. 0) (roots ∷ counter ∷ pages)
+
+-- the first generated id, by the counter that was found
+abbrev pub next_id : ℕ → Option ℕ → ℕ
+next_id interval None = 0
+next_id interval (Some n) = n + 2 * interval
+
+-- What a cache over contents is opened with: the stamps of its pages, its next id, and whether the system pages were there.
+pub record IsOpenedWith (config : Config) (held : List Content) (stamps : List ℕ) (next : ℕ) (recovered : Bool) : Type 0 where
+  pub stamps_are : stamps ≡ stamps_of (opened config held)
+  pub next_is : next ≡ first_id config.idgen_persist_interval held
+  pub recovered_is : recovered ≡ has_own held

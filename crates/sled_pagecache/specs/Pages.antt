@@ -1,0 +1,68 @@
+-- How the cache keeps a page, beside the chain that the log has of it.
+use Rattle.std.specs.Prelude.{◌≡◌, ◌+◌, ◌-◌, ℕ, ℤ, Bool, true, false, List, [], ◌∷◌, length, map, slice_get, Some, if◌then◌else◌}
+use Rattle.sled_base.specs.declared.types.DiskPtr.{DiskPtr}
+use Rattle.sled_base.specs.declared.types.page_state.PageState.{PageState}
+use Rattle.sled_base.specs.declared.types.page_state.PageState.TheVariants as said
+use Rattle.sled_log.specs.Chains.{is_empty}
+use Rattle.sled_log.specs.Contents as content
+use Rattle.sled_log.specs.Messages.{Chain, told, effect_of_entry}
+use Rattle.sled_log.specs.Pages.{said_of}
+use Rattle.sled_log.specs.Reading.{Makes}
+use Rattle.sled_pagecache.specs.ChainReads.{place_of}
+use Rattle.sled_pagecache.specs.declared.pagecache.chain.CacheInfo.{CacheInfo}
+use Rattle.sled_pagecache.specs.declared.pagecache.page.Kept.{Kept}
+use Rattle.sled_pagecache.specs.declared.pagecache.page.Kept.TheVariants.{Free, Away, Counter, Roots, Node}
+use Rattle.sled_pagecache.specs.declared.pagecache.page.Page.{Page}
+
+-- What lies in memory is what the chain makes. A page that the chain leaves free is kept so, and no other one.
+abbrev pub HoldsChain : Chain → Kept → Type 0
+HoldsChain chain Free = is_empty effect_of_entry chain ≡ true
+HoldsChain chain Away = is_empty effect_of_entry chain ≡ false
+HoldsChain chain (Counter n) = Makes (told chain) (content.Counter n)
+HoldsChain chain (Roots roots) = Makes (told chain) (content.Roots roots)
+HoldsChain chain (Node node) = Makes (told chain) (content.Node node)
+
+-- whether the content lies in memory
+abbrev pub is_resident : Kept → Bool
+is_resident Free = true
+is_resident Away = false
+is_resident (Counter n) = true
+is_resident (Roots roots) = true
+is_resident (Node node) = true
+
+abbrev pub is_free : Kept → Bool
+is_free Free = true
+is_free Away = false
+is_free (Counter n) = false
+is_free (Roots roots) = false
+is_free (Node node) = false
+
+-- The page is kept as its chain says, with the places of its messages. How much the message of a free page takes up isn't known.
+pub record IsKept (chain : Chain) (page : Page) : Type 0 where
+  pub places : is_free page.kept ≡ false → map said_of chain ≡ map place_of page.infos.items
+  pub long : length chain ≡ length page.infos.items
+  pub holds : HoldsChain chain page.kept
+
+-- the ids of the free pages, the least first, of pages of which the first has this id
+abbrev pub free_ids : ℕ → List Page → List ℕ
+free_ids pid [] = []
+free_ids pid (page ∷ pages) = if is_free page.kept then pid ∷ free_ids (pid + 1) pages else free_ids (pid + 1) pages
+
+-- the lsn of the last of a page's messages
+abbrev pub IsLast : List CacheInfo → ℤ → Type 0
+IsLast infos lsn = slice_get (map (λ info. info.lsn) infos) (length infos - 1) ≡ Some lsn
+
+-- where a message is kept that frees a page
+abbrev pub freed_at : CacheInfo → ℤ × DiskPtr
+freed_at info = (info.lsn, info.pointer)
+
+-- A free page is said by the place of the first of its messages, which freed it, and another by the places of all of them.
+abbrev pub IsSaidBy : Page → PageState → Type 0
+IsSaidBy page (said.Present base frags) = (is_free page.kept ≡ false) × (map place_of page.infos.items ≡ base ∷ frags.items)
+IsSaidBy page (said.Free lsn pointer) = (is_free page.kept ≡ true) × (slice_get (map freed_at page.infos.items) 0 ≡ Some (lsn, pointer))
+
+-- the two are of one stamp, one chain and one content
+pub record IsSame (page other : Page) : Type 0 where
+  pub stamp : other.stamp ≡ page.stamp
+  pub infos : other.infos.items ≡ page.infos.items
+  pub kept : other.kept ≡ page.kept

@@ -1,0 +1,51 @@
+-- What bringing a page into memory makes of a cache, as one sees it who knows the cache by its model.
+use Rattle.std.specs.Prelude.{◌≡◌, ◌⊎◌, ℕ, false, true, [], Option, Some, None, Result, OnOk, IfErr, slice_get}
+use Rattle.sled_base.specs.declared.types.Refusal.{Refusal}
+use Rattle.sled_base.specs.declared.types.Refusal.TheVariants.{Unsupported}
+use Rattle.sled_base.specs.declared.types.Why.TheVariants.{ReservedId}
+use Rattle.sled_log.specs.Chains.{is_empty}
+use Rattle.sled_log.specs.Contents.{Node}
+use Rattle.sled_log.specs.Messages.{Entry, Chain, told, effect_of_entry}
+use Rattle.sled_log.specs.Reading.{Makes}
+use Rattle.sled_log.specs.State as log
+use Rattle.sled_log.specs.declared.log.Log.{Ghosts}
+use Rattle.sled_node.specs.Node.{WholeNode}
+use Rattle.sled_pagecache.specs.Cache.{Cache, IsResident, IsAway}
+use Rattle.sled_pagecache.specs.Calls.{IsSameOpening}
+use Rattle.sled_pagecache.specs.ChainReads.{chain_at}
+use Rattle.sled_pagecache.specs.Journal.{Went, IsCaused}
+use Rattle.sled_pagecache.specs.Pulling.{RefusesPull}
+use Rattle.sled_pagecache.specs.Step.{is_reserved}
+use Rattle.sled_pagecache.specs.Token.{token}
+use Rattle.sled_pagecache.specs.declared.pagecache.journal.Journal.{Journal}
+use Rattle.sled_pagecache.specs.declared.pagecache.view.NodeView.{NodeView}
+
+-- the log of a cache, and the write fault that is kept of it
+abbrev pub journal_of : {L : Type 0} → Cache L → Journal L
+journal_of cache = record { log = cache.log; fault = cache.fault }
+
+-- Why a page isn't read: it is the cache's own, or it isn't free, and its log doesn't give its node.
+abbrev pub RefusesReading : Chain → ℕ → Refusal → Type 0
+RefusesReading chain pid refusal =
+    ((is_reserved pid ≡ true) × (refusal ≡ Unsupported ReservedId))
+    ⊎ ((is_reserved pid ≡ false) × (is_empty effect_of_entry chain ≡ false) × RefusesPull (told chain) refusal)
+
+-- The page was read where it didn't lie in memory. No page changes, and nothing is told to the log.
+pub record BringsIn {L : Type 0} (g : Ghosts L) (old : Cache L) (pid : ℕ) (result : Result (Unit {0}) Refusal) (new : Cache L) : Type 0 where
+  pub opening : IsSameOpening old new
+  pub stamps : new.stamps ≡ old.stamps
+  pub next : new.next ≡ old.next
+  pub went : Went g.state g.moment g.left_since g.counts (journal_of old) (journal_of new) []
+  pub cause : IsCaused g.state g.moment g.left_since g.counts (journal_of old) (journal_of new) ⊥ result
+  pub same : new.fault ≡ false → log.now effect_of_entry (g.state new.log) ≡ log.now effect_of_entry (g.state old.log)
+  pub in_memory : OnOk result ((is_reserved pid ≡ false) × ¬ IsAway new pid)
+  pub refused : IfErr result (RefusesReading (chain_at (g.state old.log) pid) pid)
+
+-- The node is the one that the chain of the page makes. There is none where the page doesn't lie in memory, or the chain makes
+-- none. With a write fault kept nothing is known of the chain.
+abbrev pub IsNodeAt : {L : Type 0} → (L → log.State Entry) → Cache L → ℕ → Option NodeView → Type 0
+IsNodeAt state cache pid (Some view) =
+    (view.token ≡ token pid view.token.stamp) × (slice_get cache.stamps pid ≡ Some view.token.stamp) × IsResident cache pid
+    × (cache.fault ≡ false → Makes (told (chain_at (state cache.log) pid)) (Node view.node.now))
+IsNodeAt state cache pid None =
+    IsAway cache pid ⊎ (cache.fault ≡ false → (node : WholeNode) → ¬ Makes (told (chain_at (state cache.log) pid)) (Node node))

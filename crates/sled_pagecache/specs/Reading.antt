@@ -1,0 +1,63 @@
+-- What messages make that a log gave back of a page, and the first of them that doesn't belong there.
+use Rattle.std.specs.Prelude.{◌≡◌, ℕ, List, [], ◌∷◌, ◌++◌, ◌⊎◌, map, Some, ⊤}
+use Rattle.sled_base.specs.declared.kinds.MessageKind.TheVariants as kinds
+use Rattle.sled_base.specs.declared.types.Bug.TheVariants.{FreeInPull}
+use Rattle.sled_base.specs.declared.types.DiskPtr.{DiskPtr}
+use Rattle.sled_base.specs.declared.types.Refusal.{Refusal}
+use Rattle.sled_base.specs.declared.types.Refusal.TheVariants.{ReportableBug, Corruption, OutOfMemory}
+use Rattle.sled_log.specs.Contents.{Node, Link}
+use Rattle.sled_log.specs.Messages.{Message, message}
+use Rattle.sled_log.specs.Reading.{IsUpdate, Makes}
+use Rattle.sled_node.specs.Links.{Accepts, applied}
+use Rattle.sled_node.specs.Node.{WholeNode}
+use Rattle.sled_node.specs.declared.node.link.Link.{Link as NodeLink}
+use Rattle.sled_pagecache.specs.declared.pagecache.reading.Found.{Found}
+
+-- a message that was found, without its place
+abbrev pub told_of : Found → Message
+told_of found = message found.kind found.payload.items
+
+-- the messages make some node
+abbrev pub MakesNode : List Found → Type 0
+MakesNode found = (node : WholeNode) × Makes (map told_of found) (Node node)
+
+-- The message kept there is the first that doesn't belong where it stands: those before it make a node, where there are any,
+-- and with it they make none.
+pub record IsAmiss (found : List Found) (pointer : DiskPtr) : Type 0 where
+  pub before : List Found
+  pub first : Found
+  pub after : List Found
+  pub is : found ≡ before ++ first ∷ after
+  pub kept : first.pointer ≡ pointer
+  pub sound : (before ≡ []) ⊎ MakesNode before
+  pub amiss : ¬ MakesNode (before ++ first ∷ [])
+
+-- the first message says that the page is free
+abbrev pub BeginsFree : List Found → Type 0
+BeginsFree [] = ⊥
+BeginsFree (first ∷ found) = first.kind ≡ kinds.Free
+
+-- why messages give no node: memory was wanting, one of them doesn't belong there, or the page is free
+abbrev pub RefusesNode : List Found → Refusal → Type 0
+RefusesNode found OutOfMemory = ⊤
+RefusesNode found (Corruption (Some pointer)) = IsAmiss found pointer
+RefusesNode found (ReportableBug FreeInPull) = BeginsFree found
+-- there is no other reason
+RefusesNode found refusal = ⊥
+
+-- ---- one message
+
+-- no value is spelled by the payload from its beginning to its end
+abbrev pub SpellsNothing : {V : Type 0} → (List ℕ → V → List ℕ → Type 0) → List ℕ → Type 0
+SpellsNothing {V} reads payload = (value : V) → reads payload value [] → ⊥
+
+-- the message is a link which the node accepts, and with which it is the other
+abbrev pub Leads : WholeNode → Message → WholeNode → Type 0
+Leads before message after = (link : NodeLink) × IsUpdate message (Link link) × Accepts before link × (after ≡ applied link before)
+
+-- why a message that is kept at the pointer was refused: memory was wanting, or it is amiss
+abbrev pub RefusesMessage : DiskPtr → Type 0 → Refusal → Type 0
+RefusesMessage pointer amiss OutOfMemory = ⊤
+RefusesMessage pointer amiss (Corruption (Some place)) = (place ≡ pointer) × amiss
+-- there is no other reason
+RefusesMessage pointer amiss refusal = ⊥

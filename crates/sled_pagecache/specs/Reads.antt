@@ -1,0 +1,20 @@
+-- How often a call of the page cache reads its log.
+use Rattle.std.specs.Prelude.{◌≡◌, ◌≤◌, ℕ}
+use Rattle.sled_log.specs.declared.log.Log.{Ghosts}
+use Rattle.sled_pagecache.specs.Cache.{Cache, chain_length, IsResident, IsAway}
+use Rattle.sled_pagecache.specs.ChainReads.{more}
+use Rattle.sled_pagecache.specs.declared.pagecache.TheConstants.{PAGE_CONSOLIDATION_THRESHOLD}
+
+-- not at all
+abbrev pub ReadsNothing : {L : Type 0} → Ghosts L → Cache L → Cache L → Type 0
+ReadsNothing g old new = (g.counts new.log).reads ≡ (g.counts old.log).reads
+
+module _ {L : Type 0} (g : Ghosts L) where
+  -- Once for each message that makes the page, and at most ten times, where the page wasn't in memory and is then; fewer times
+  -- where the call is refused; and else not at all.
+  pub record ReadsPage (old : Cache L) (pid : ℕ) (new : Cache L) : Type 0 where
+    pub in_memory : ¬ IsAway old pid → ReadsNothing g old new
+    pub whole : IsAway old pid → IsResident new pid → (g.counts new.log).reads ≡ more (chain_length g.state old pid) (g.counts old.log).reads
+    pub times : ℕ
+    pub most : times ≤ PAGE_CONSOLIDATION_THRESHOLD
+    pub is : (g.counts new.log).reads ≡ more times (g.counts old.log).reads

@@ -1,0 +1,271 @@
+-- What follows for calls of the page cache in a row: no call and one call are rows, and a row behind another makes a longer one.
+use Rattle.std.proofs.Common.{◌≡◌, inl, inr, ⊎_elim, ◌+◌, ℕ, Bool, true, false, List, [], ◌∷◌, ◌++◌, take, drop, refl, sym, ◌∙◌, ap, subst, arith}
+use Rattle.std.specs.Prelude.{MatchBool}
+use Rattle.std.proofs.lemmas.Bool.{false≢true}
+use Rattle.std.proofs.lemmas.List.{append_assoc, append-nil, take-append-le, drop-append-le, drop-drop}
+use Rattle.std.proofs.Math.Seq.{take-add}
+use Rattle.sled_log.specs.Batches.{IsFair}
+use Rattle.sled_log.specs.Chains.{chains_after}
+use Rattle.sled_log.specs.Contents.{Update, contents_after}
+use Rattle.sled_log.specs.Events.{Event}
+use Rattle.sled_log.specs.HoldingLaws.{holds-after}
+use Rattle.sled_log.specs.Laws.{IsFair-none, IsFair-more, IsFair-add, IsBeginning-more, IsBeginning-behind, StopsLeave-none}
+use Rattle.sled_log.specs.Messages.{Message, Told, effect_of}
+use Rattle.sled_log.specs.Reading.{Hold}
+use Rattle.sled_log.specs.ReadingLaws.{contents_after-append, told-take, reads-fair}
+use Rattle.sled_log.specs.RunLaws.{StopsLeave-weaker}
+use Rattle.sled_log.specs.State as log
+use Rattle.sled_log.specs.State.{IsBeginning, StopsLeave}
+use Rattle.sled_log.specs.declared.log.Log.{Ghosts}
+use Rattle.sled_pagecache.specs.Cache.{Cache, chain_length}
+use Rattle.sled_pagecache.specs.Calls.{Steps}
+use Rattle.sled_pagecache.specs.Changes.{changes_of}
+use Rattle.sled_pagecache.specs.Logged.{Logged, IsLogged, Adds, IsLeft}
+use Rattle.sled_pagecache.specs.Proper.{IsProper}
+use Rattle.sled_pagecache.specs.Rows.{AreSteps, IsRow, StepInRow, IsMade, AreMade}
+use Rattle.sled_pagecache.specs.State.{State}
+use Rattle.sled_pagecache.specs.Step.{Step}
+use Rattle.sled_pagecache.specs.declared.pagecache.call.Answer.{Answer}
+use Rattle.sled_pagecache.specs.declared.pagecache.call.Answer.TheVariants.{Allocated, Got, Linked, Replaced, Flushed, Sized}
+use Rattle.sled_pagecache.specs.declared.pagecache.call.Call.{Call}
+use Rattle.sled_pagecache.specs.declared.pagecache.call.Call.TheVariants.{Allocate, Get, Link, Replace, Flush, SizeOnDisk}
+
+-- ---- changes that come behind others
+
+-- nothing was added, and nothing moved
+adds-none : (held : Logged) → Adds held [] held
+adds-none held = record { cut = 0; fair = IsFair-none (held.pending ++ []); stable = refl; pending = sym (append-nil held.pending) }
+
+-- what is behind a cut of the changes so far, when more come
+module _ (held mid : Logged) (first second : List (Event Update)) (a : Adds held first mid) where
+  whole : (held.pending ++ first) ++ second ≡ held.pending ++ (first ++ second)
+  whole = append_assoc held.pending first second
+
+  rest : mid.pending ++ second ≡ drop a.cut ((held.pending ++ first) ++ second)
+  rest = let w = a.fair.within in ap (λ (l : List (Event Update)). l ++ second) a.pending ∙ sym (drop-append-le a.cut (held.pending ++ first) second w)
+
+  cut_behind : (n : ℕ) → IsFair (mid.pending ++ second) n → IsFair (held.pending ++ (first ++ second)) (a.cut + n)
+  cut_behind n fair =
+      subst (λ (l : List (Event Update)). IsFair l (a.cut + n)) whole
+      (IsFair-add ((held.pending ++ first) ++ second) a.cut n (IsFair-more (held.pending ++ first) second a.cut a.fair) (subst (λ (l : List (Event Update)). IsFair l n) rest fair))
+
+  stable_behind : (n : ℕ) → contents_after mid.stable (take n (mid.pending ++ second)) ≡ contents_after held.stable (take (a.cut + n) (held.pending ++ (first ++ second)))
+  stable_behind n =
+      let xs = (held.pending ++ first) ++ second in
+      let w = a.fair.within in
+      ap (λ l. contents_after l (take n (mid.pending ++ second))) (a.stable ∙ ap (contents_after held.stable) (sym (take-append-le a.cut (held.pending ++ first) second w)))
+      ∙ ap (λ (l : List (Event Update)). contents_after (contents_after held.stable (take a.cut xs)) (take n l)) rest
+      ∙ sym (contents_after-append held.stable (take a.cut xs) (take n (drop a.cut xs)))
+      ∙ ap (contents_after held.stable) (sym (take-add a.cut n xs))
+      ∙ ap (λ (l : List (Event Update)). contents_after held.stable (take (a.cut + n) l)) whole
+
+  pending_behind : (n : ℕ) → drop n (mid.pending ++ second) ≡ drop (a.cut + n) (held.pending ++ (first ++ second))
+  pending_behind n =
+      ap (λ (l : List (Event Update)). drop n l) rest ∙ drop-drop n a.cut ((held.pending ++ first) ++ second) ∙ ap (λ (l : List (Event Update)). drop (a.cut + n) l) whole
+
+-- changes behind others
+adds-then : (held mid new : Logged) (first second : List (Event Update)) → Adds held first mid → Adds mid second new → Adds held (first ++ second) new
+adds-then held mid new first second a b = record {
+  cut = a.cut + b.cut;
+  fair = cut_behind held mid first second a b.cut b.fair;
+  stable = b.stable ∙ stable_behind held mid first second a b.cut;
+  pending = b.pending ∙ pending_behind held mid first second a b.cut;
+}
+
+-- what a stop leaves of the second
+left-behind : (held mid : Logged) (first second : List (Event Update)) (pages : List Told) → Adds held first mid → IsLeft mid second pages → IsLeft held (first ++ second) pages
+left-behind held mid first second pages a of_second =
+    let left = of_second.left in
+    record {
+      left = record {
+        came = first ++ left.came;
+        beginning = IsBeginning-behind first left.came second left.beginning;
+        cut = a.cut + left.cut;
+        fair = cut_behind held mid first left.came a left.cut left.fair;
+        is = subst (Hold pages) (stable_behind held mid first left.came a left.cut) left.is;
+      };
+      proper = subst (IsProper pages) (stable_behind held mid first left.came a left.cut) of_second.proper;
+    }
+
+-- what a stop leaves of the first
+left-more : (held : Logged) (first second : List (Event Update)) (pages : List Told) → IsLeft held first pages → IsLeft held (first ++ second) pages
+left-more held first second pages left = record {
+  left = record {
+    came = left.left.came;
+    beginning = IsBeginning-more left.left.came first second left.left.beginning;
+    cut = left.left.cut;
+    fair = left.left.fair;
+    is = left.left.is;
+  };
+  proper = left.proper;
+}
+
+-- ---- stops
+
+-- what has come of nothing
+none-came : {E : Type 0} (came : List (Event E)) → IsBeginning came [] → came ≡ []
+none-came [] b = refl
+none-came (event ∷ came) b = let e = b.1 in absurd cc
+
+-- what a stop leaves of a log between two calls
+left-now : (state : log.State Message) (held : Logged) (pages : List Told) → IsLogged state held → log.IsLeft effect_of state [] pages → IsLeft held [] pages
+left-now state held pages logged left =
+    let all : state.pending ++ left.came ≡ state.pending = ap (λ (l : List (Event Message)). state.pending ++ l) (none-came left.came left.beginning) ∙ append-nil state.pending in
+    let fair : IsFair state.pending left.cut = subst (λ (l : List (Event Message)). IsFair l left.cut) all left.fair in
+    let is : pages ≡ chains_after effect_of state.stable (take left.cut state.pending) = left.is ∙ ap (λ (l : List (Event Message)). chains_after effect_of state.stable (take left.cut l)) all in
+    let known : held.pending ≡ held.pending ++ [] = sym (append-nil held.pending) in
+    record {
+      left = record {
+        came = [];
+        beginning = ([], refl);
+        cut = left.cut;
+        fair = subst (λ (l : List (Event Update)). IsFair l left.cut) known (reads-fair held.stable state.pending held.pending left.cut logged.pending fair);
+        is =
+            subst (λ (l : List (Event Update)). Hold pages (contents_after held.stable (take left.cut l))) known
+            (subst (λ (l : List Told). Hold l (contents_after held.stable (take left.cut held.pending))) (sym is)
+            (holds-after state.stable held.stable (take left.cut state.pending) (take left.cut held.pending) logged.stable (told-take held.stable left.cut state.pending held.pending logged.pending)));
+      };
+      proper =
+          subst (λ (l : List (Event Update)). IsProper pages (contents_after held.stable (take left.cut l))) known
+          (subst (λ (l : List Told). IsProper l (contents_after held.stable (take left.cut held.pending))) (sym is) (logged.proper left.cut));
+    }
+
+module _ {L : Type 0} (moment : L → ℕ) (left_since : L → ℕ → List Told → Type 0) where
+  -- what stops leave of two calls is what they leave of one of them
+  stops-then : (old mid new : L) (P Q R : List Told → Type 0) → ((pages : List Told) → P pages → R pages) → ((pages : List Told) → Q pages → R pages)
+      → StopsLeave moment left_since old mid P → StopsLeave moment left_since mid new Q → StopsLeave moment left_since old new R
+  stops-then old mid new P Q R of_one of_two one two = record {
+    later = omega (arith, one.later, two.later);
+    each = λ c left. ⊎_elim (λ l. of_one c (one.each c l)) (of_two c) (two.before (moment old) c one.later left);
+    before = λ t c le left. ⊎_elim (λ l. ⊎_elim (λ m. inl m) (λ m. inr (of_one c m)) (one.before t c le l)) (λ l. inr (of_two c l)) (two.before t c (omega (arith, le, one.later)) left);
+    kept = λ t c le left. two.kept t c (omega (arith, le, one.later)) (one.kept t c le left);
+  }
+
+-- ---- steps in a row
+
+taken : (A B : Type 0) (test : Bool) → test ≡ true → MatchBool test A B → A
+taken A B true is h = h
+taken A B false is h = absurd (false≢true is)
+
+-- with a write fault kept a call changes nothing
+step-stuck : (s t : State) (call : Call) (answer : Answer) → Step s call answer t → s.fault ≡ true → t ≡ s
+step-stuck s t (Allocate node) (Allocated answer) step kept = (taken _ _ s.fault kept step).1
+step-stuck s t (Get pid) (Got answer) step kept = (taken _ _ s.fault kept step).1
+step-stuck s t (Link old link) (Linked answer) step kept = (taken _ _ s.fault kept step).1
+step-stuck s t (Replace old node) (Replaced answer) step kept = (taken _ _ s.fault kept step).1
+step-stuck s t Flush (Flushed answer) step kept = (taken _ _ s.fault kept step).1
+step-stuck s t SizeOnDisk (Sized answer) step kept = (taken _ _ s.fault kept step).1
+step-stuck s t call answer step kept = absurd step
+
+steps-stuck : (s t : State) (calls : List (Call × Answer)) (changes : List (Event Update)) → AreSteps s calls changes t → s.fault ≡ true → t ≡ s
+steps-stuck s t [] changes steps kept = steps.1
+steps-stuck s t (made ∷ calls) changes (messages, mid, others, step, are, steps) kept =
+    let same = step-stuck s mid made.0 made.1 step kept in
+    steps-stuck mid t calls others steps (ap (λ u. u.fault) same ∙ kept) ∙ same
+
+-- steps behind others
+steps-then : (s mid t : State) (calls others : List (Call × Answer)) (changes more : List (Event Update))
+    → AreSteps s calls changes mid → AreSteps mid others more t → AreSteps s (calls ++ others) (changes ++ more) t
+steps-then s mid t [] others changes more none steps =
+    subst (λ (l : List (Event Update)). AreSteps s others (l ++ more) t) (sym none.0) (subst (λ from. AreSteps from others more t) none.1 steps)
+steps-then s mid t (made ∷ calls) others changes more (messages, next, behind, step, are, steps) later = (
+  messages,
+  next,
+  behind ++ more,
+  step,
+  ap (λ (l : List (Event Update)). l ++ more) are ∙ append_assoc (changes_of messages s made.0 made.1) behind more,
+  steps-then next mid t calls others behind more steps later,
+)
+
+-- ---- calls in a row
+
+module _ {L : Type 0} (g : Ghosts L) where
+  module _ (old mid new : Cache L) (calls others : List (Call × Answer)) (held : Logged) (s : State) (row : IsRow g old calls mid held s) (next : IsRow g mid others new row.held_then row.t) where
+    -- no write fault is kept before calls that leave none
+    clear_before : next.t.fault ≡ false → row.t.fault ≡ false
+    clear_before free = by row.t.fault refl
+      where
+        by : (fault : Bool) → row.t.fault ≡ fault → row.t.fault ≡ false
+        by false clear = clear
+        by true kept = ap (λ u. u.fault) (sym (steps-stuck row.t next.t others next.changes next.steps kept)) ∙ free
+
+    stop : s.fault ≡ false → StopsLeave g.moment g.left_since old.log new.log (IsLeft held (row.changes ++ next.changes))
+    stop free = by row.t.fault refl
+      where
+        of_first : (pages : List Told) → IsLeft held row.changes pages → IsLeft held (row.changes ++ next.changes) pages
+        of_first pages left = left-more held row.changes next.changes pages left
+
+        by : (fault : Bool) → row.t.fault ≡ fault → StopsLeave g.moment g.left_since old.log new.log (IsLeft held (row.changes ++ next.changes))
+        by true kept =
+            subst (λ l. StopsLeave g.moment g.left_since old.log l (IsLeft held (row.changes ++ next.changes))) (sym (next.stuck kept))
+            (StopsLeave-weaker g.state g.moment g.left_since g.counts old.log mid.log (IsLeft held row.changes) (IsLeft held (row.changes ++ next.changes)) of_first (row.stop free))
+        by false clear =
+            stops-then g.moment g.left_since old.log mid.log new.log (IsLeft held row.changes) (IsLeft row.held_then next.changes) (IsLeft held (row.changes ++ next.changes)) of_first
+            (λ pages left. left-behind held row.held_then row.changes next.changes pages (row.added clear) left)
+            (row.stop free) (next.stop clear)
+
+    longer : IsRow g old (calls ++ others) new held s
+    longer = record {
+      held_then = next.held_then;
+      t = next.t;
+      is = next.is;
+      changes = row.changes ++ next.changes;
+      steps = steps-then s row.t next.t calls others row.changes next.changes row.steps next.steps;
+      added = λ free. adds-then held row.held_then next.held_then row.changes next.changes (row.added (clear_before free)) (next.added free);
+      stop = stop;
+      stuck = λ kept. next.stuck (ap (λ u. u.fault) (steps-stuck s row.t calls row.changes row.steps kept) ∙ kept) ∙ row.stuck kept;
+    }
+
+  -- no call
+  pub row-none : (cache : Cache L) → ((l : L) (pages : List Told) → g.left_since l (g.moment l) pages → log.IsLeft effect_of (log.told_state (g.state l)) [] pages) → StepInRow g cache [] cache
+  row-none cache only_now = record {
+    opening = record { config = refl; recovered = refl };
+    from_each = λ held s is. record {
+      held_then = held;
+      t = s;
+      is = is;
+      changes = [];
+      steps = (refl, refl);
+      added = λ _. adds-none held;
+      stop = λ free. StopsLeave-none g.moment g.left_since cache.log (IsLeft held []) (λ pages left. left-now (log.told_state (g.state cache.log)) held pages (is.logged free) (only_now cache.log pages left));
+      stuck = λ _. refl;
+    };
+  }
+
+  -- one call
+  pub row-one : (old new : Cache L) (call : Call) (answer : Answer) → Steps g old call answer new → StepInRow g old ((call, answer) ∷ []) new
+  row-one old new call answer steps = record {
+    opening = steps.opening;
+    from_each = λ held s is.
+        let next = steps.from_each held s is in
+        let changes = changes_of (chain_length g.state old) s call answer in
+        record {
+          held_then = next.held_then;
+          t = next.t;
+          is = next.is;
+          changes = changes;
+          steps = (chain_length g.state old, next.t, [], next.step, sym (append-nil changes), (refl, refl));
+          added = next.added;
+          stop = next.stop;
+          stuck = next.stuck;
+        };
+  }
+
+  -- calls behind others
+  pub row-then : (old mid new : Cache L) (calls others : List (Call × Answer)) → StepInRow g old calls mid → StepInRow g mid others new → StepInRow g old (calls ++ others) new
+  row-then old mid new calls others row next = record {
+    opening = record { config = next.opening.config ∙ row.opening.config; recovered = next.opening.recovered ∙ row.opening.recovered };
+    from_each = λ held s is.
+        let so = row.from_each held s is in
+        longer old mid new calls others held s so (next.from_each so.held_then so.t so.is);
+  }
+
+  -- calls that were made one after another
+  pub made-row : (old new : Cache L) (calls : List (Call × Answer)) → ((l : L) (pages : List Told) → g.left_since l (g.moment l) pages → log.IsLeft effect_of (log.told_state (g.state l)) [] pages) → AreMade g old calls new → StepInRow g old calls new
+  made-row old new [] only_now same = subst (StepInRow g old []) (sym same) (row-none old only_now)
+  made-row old new (made ∷ calls) only_now (mid, first, others) = row-then old mid new (made ∷ []) calls (row-one old mid made.0 made.1 first.step) (made-row mid new calls only_now others)
+
+  -- one call more was made
+  pub made-more : (old mid new : Cache L) (calls : List (Call × Answer)) (call : Call) (answer : Answer) → AreMade g old calls mid → IsMade g mid call answer new → AreMade g old (calls ++ (call, answer) ∷ []) new
+  made-more old mid new [] call answer same last = (new, subst (λ from. IsMade g from call answer new) same last, refl)
+  made-more old mid new (made ∷ calls) call answer (next, first, others) last = (next, first, made-more next mid new calls call answer others last)

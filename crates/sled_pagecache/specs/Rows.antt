@@ -1,0 +1,66 @@
+-- Calls of the page cache in a row.
+use Rattle.std.specs.Prelude.{◌≡◌, ℕ, true, false, List, [], ◌∷◌, ◌++◌, Ok, ⊤}
+use Rattle.sled_log.specs.Contents.{Update}
+use Rattle.sled_log.specs.Events.{Event}
+use Rattle.sled_log.specs.State as log
+use Rattle.sled_log.specs.declared.log.Log.{Ghosts}
+use Rattle.sled_pagecache.specs.Cache.{Cache, IsIn}
+use Rattle.sled_pagecache.specs.Calls.{IsSameOpening, Steps, IsBlamed}
+use Rattle.sled_pagecache.specs.Changes.{changes_of}
+use Rattle.sled_pagecache.specs.Logged.{Logged, Adds, IsLeft}
+use Rattle.sled_pagecache.specs.State.{State}
+use Rattle.sled_pagecache.specs.Step.{Step}
+use Rattle.sled_pagecache.specs.declared.pagecache.call.Answer.{Answer}
+use Rattle.sled_pagecache.specs.declared.pagecache.call.Answer.TheVariants.{Allocated, Got, Linked, Replaced, Flushed, Sized}
+use Rattle.sled_pagecache.specs.declared.pagecache.call.Call.{Call}
+
+-- The calls, each with its answer, are steps from one state to another, and write these changes, however many messages make
+-- each page.
+abbrev pub AreSteps : State → List (Call × Answer) → List (Event Update) → State → Type 0
+AreSteps s [] changes t = (changes ≡ []) × (t ≡ s)
+AreSteps s (made ∷ calls) changes t =
+    (messages : ℕ → ℕ) × (mid : State) × (rest : List (Event Update)) × Step s made.0 made.1 mid × (changes ≡ changes_of messages s made.0 made.1 ++ rest) × AreSteps mid calls rest t
+
+module _ {L : Type 0} (g : Ghosts L) where
+  -- From this state, over a log that holds this, the calls are steps to another state. What they write is added to the log, and
+  -- a stop at any moment of them leaves what the log held and a beginning of that, up to a fair cut.
+  pub record IsRow (old : Cache L) (calls : List (Call × Answer)) (new : Cache L) (held : Logged) (s : State) : Type 0 where
+    pub held_then : Logged
+    pub t : State
+    pub is : IsIn g.state new held_then t
+    pub changes : List (Event Update)
+    pub steps : AreSteps s calls changes t
+    pub added : t.fault ≡ false → Adds held changes held_then
+    pub stop : s.fault ≡ false → log.StopsLeave g.moment g.left_since old.log new.log (IsLeft held changes)
+    pub stuck : s.fault ≡ true → new.log ≡ old.log
+
+  -- The calls are steps in a row, in whatever state the cache is.
+  pub record StepInRow (old : Cache L) (calls : List (Call × Answer)) (new : Cache L) : Type 0 where
+    pub opening : IsSameOpening old new
+    pub from_each : (held : Logged) (s : State) → IsIn g.state old held s → IsRow old calls new held s
+
+  -- A flush that was made tells how many bytes were to be written, and nothing is pending behind it; a size is that of the log.
+  abbrev pub TellsBytes : Cache L → Answer → Cache L → Type 0
+  TellsBytes old (Flushed (Ok written)) new = (written ≡ g.to_write old.log) × ((g.state new.log).pending ≡ [])
+  TellsBytes old (Sized (Ok bytes)) new = bytes ≡ g.bytes old.log
+  TellsBytes old answer new = ⊤
+
+  -- A fault is told only where one was met. The size of a log asks no device.
+  abbrev pub TellsFaults : Cache L → Answer → Cache L → Type 0
+  TellsFaults old (Allocated result) new = IsBlamed g old new result
+  TellsFaults old (Got result) new = IsBlamed g old new result
+  TellsFaults old (Linked result) new = IsBlamed g old new result
+  TellsFaults old (Replaced result) new = IsBlamed g old new result
+  TellsFaults old (Flushed result) new = IsBlamed g old new result
+  TellsFaults old (Sized result) new = ⊤
+
+  -- the call was made of a cache: it is a step, and what its answer tells of the log is so
+  pub record IsMade (old : Cache L) (call : Call) (answer : Answer) (new : Cache L) : Type 0 where
+    pub step : Steps g old call answer new
+    pub bytes : TellsBytes old answer new
+    pub faults : TellsFaults old answer new
+
+  -- the calls were made one after another, each of the cache that the one before it left
+  abbrev pub AreMade : Cache L → List (Call × Answer) → Cache L → Type 0
+  AreMade old [] new = new ≡ old
+  AreMade old (made ∷ calls) new = (mid : Cache L) × IsMade old made.0 made.1 mid × AreMade mid calls new

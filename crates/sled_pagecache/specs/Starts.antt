@@ -1,0 +1,128 @@
+-- What opening a page cache over a log does.
+use Rattle.std.specs.Prelude.{◌≡◌, ◌≢◌, ◌<◌, ◌≤◌, ◌^◌, ℕ, zero, suc, Bool, true, false, List, [], ◌∷◌, ◌++◌, length, map, slice_get, Some, None, Result, Ok, Err, IfOk, IfErr, IfSome, ⊤}
+use Rattle.sled_base.specs.declared.types.Device.TheVariants.{Read, Write}
+use Rattle.sled_base.specs.declared.types.DiskPtr.{DiskPtr}
+use Rattle.sled_base.specs.declared.types.Error.{Error}
+use Rattle.sled_base.specs.declared.types.Error.TheVariants.{Unsupported, Io, Corruption, OutOfMemory}
+use Rattle.sled_base.specs.declared.types.Why.TheVariants.{LogFull}
+use Rattle.sled_node.specs.Meta as meta
+use Rattle.sled_log.specs.Batches.{is_open}
+use Rattle.sled_log.specs.Calls.{HasGrown}
+use Rattle.sled_log.specs.Chains.{is_empty}
+use Rattle.sled_log.specs.Contents.{Update}
+use Rattle.sled_log.specs.Contents as content
+use Rattle.sled_log.specs.Events.{Event}
+use Rattle.sled_log.specs.Messages.{Message, Chain, Told, told, effect_of_entry}
+use Rattle.sled_log.specs.Reading.{Makes}
+use Rattle.sled_log.specs.State.{State, IsBeginning, StopsLeave, told_state}
+use Rattle.sled_log.specs.declared.log.Log.{Ghosts}
+use Rattle.sled_pagecache.specs.Cache.{Cache, IsResident, IsIn}
+use Rattle.sled_pagecache.specs.Calls.{HasNoRoom}
+use Rattle.sled_pagecache.specs.ChainReads.{chain_at}
+use Rattle.sled_pagecache.specs.Logged.{Logged, IsLogged, Adds, IsLeft, now}
+use Rattle.sled_pagecache.specs.Opening.{fault_of, missing, changes_of_start, opened}
+use Rattle.sled_pagecache.specs.declared.pagecache.TheConstants.{PAGE_CONSOLIDATION_THRESHOLD, MAX_PID_BITS}
+use Rattle.sled_pagecache.specs.declared.pagecache.config.Config.{Config}
+
+-- the log that is left, in the cache or beside the error
+abbrev pub log_after : {L : Type 0} → Result (Cache L) (Error × L) → L
+log_after (Ok cache) = cache.log
+log_after (Err refused) = refused.1
+
+-- a log that holds these pages, of which nothing is pending, and what it holds
+abbrev pub only_stable : List Told → Bool → State Message
+only_stable pages usable = record { stable = pages; pending = []; usable = usable }
+
+abbrev pub only_stable_contents : List content.Content → Logged
+only_stable_contents contents = record { stable = contents; pending = [] }
+
+-- whether both system pages are there
+abbrev pub has_own : List content.Content → Bool
+has_own [] = false
+has_own (roots ∷ []) = false
+has_own (roots ∷ counter ∷ contents) = true
+
+-- the chain is that of a page as a cache leaves it at this id
+abbrev pub IsFit : ℕ → Chain → Type 0
+IsFit zero chain = (roots : meta.Roots) × Makes (told chain) (content.Roots roots)
+IsFit (suc zero) chain = (n : ℕ) × Makes (told chain) (content.Counter n)
+IsFit (suc (suc pid)) chain = length chain ≤ PAGE_CONSOLIDATION_THRESHOLD
+
+-- the pointer is that of the first message of the first page, by id, that isn't so
+pub record BeginsAmiss (chains : List Chain) (pointer : DiskPtr) : Type 0 where
+  pub pid : ℕ
+  pub chain : Chain
+  pub is : slice_get chains pid ≡ Some chain
+  pub amiss : ¬ IsFit pid chain
+  pub first : (before : ℕ) → before < pid → IfSome (slice_get chains before) (IsFit before)
+  pub begins : slice_get (map (λ entry. entry.place.pointer) chain) 0 ≡ Some pointer
+
+-- Why no cache is opened over a log that holds such chains.
+abbrev pub RefusesOpening : Config → List Chain → Error → Type 0
+RefusesOpening config chains OutOfMemory = ⊤
+RefusesOpening config chains (Io device) = ⊤
+RefusesOpening config chains (Unsupported LogFull) = ⊤
+RefusesOpening config chains (Unsupported why) = fault_of config ≡ Some why
+RefusesOpening config chains (Corruption None) = 2 ^ MAX_PID_BITS < length chains
+RefusesOpening config chains (Corruption (Some pointer)) = (length chains ≤ 2 ^ MAX_PID_BITS) × BeginsAmiss chains pointer
+-- there is no other reason
+RefusesOpening config chains other = ⊥
+
+-- memory was wanting, the device failed, or the log was full
+abbrev pub IsHindrance : Error → Type 0
+IsHindrance OutOfMemory = ⊤
+IsHindrance (Io device) = ⊤
+IsHindrance (Unsupported LogFull) = ⊤
+IsHindrance other = ⊥
+
+module _ {L : Type 0} (g : Ghosts L) where
+  -- A cache was opened over a log that held this: the missing system pages were added, and where one was, nothing is pending.
+  pub record IsOpened (config : Config) (held : Logged) (cache : Cache L) : Type 0 where
+    pub held_then : Logged
+    pub is : IsIn g.state cache held_then (opened config (now held))
+    pub added : Adds held (changes_of_start (now held)) held_then
+    pub stable : missing (now held) ≢ [] → held_then.pending ≡ []
+    pub config_is : cache.config ≡ config
+    pub recovered : cache.recovered ≡ has_own (now held)
+
+  -- It was hindered, and the log comes back, to which a beginning of what is missing was added. After a write fault no more is
+  -- known of it than what a stop leaves.
+  pub record IsUnopened (held : Logged) (refused : Error × L) : Type 0 where
+    pub why : IsHindrance refused.0
+    pub came : List (Event Update)
+    pub beginning : IsBeginning came (changes_of_start (now held))
+    pub held_then : Logged
+    pub added : refused.0 ≢ Io Write → IsLogged (told_state (g.state refused.1)) held_then × Adds held came held_then
+
+  -- The log had no room for a message of those that are missing.
+  pub record IsFullAt (held : Logged) : Type 0 where
+    pub at : L
+    pub came : List (Event Update)
+    pub next : Event Update
+    pub rest : List (Event Update)
+    pub is : came ++ next ∷ rest ≡ changes_of_start (now held)
+    pub held_then : Logged
+    pub logged : IsLogged (told_state (g.state at)) held_then
+    pub added : Adds held came held_then
+    pub full : HasNoRoom g at next
+
+  -- What opening a cache over a log that holds this makes of it. A stop at any moment of it leaves what the log held, and a
+  -- beginning of what is missing.
+  pub record Opens (log : L) (config : Config) (held : Logged) (result : Result (Cache L) (Error × L)) : Type 0 where
+    pub opened_so : IfOk result (IsOpened config held)
+    pub refused : IfErr result (IsUnopened held)
+    pub full : IfErr result (λ e. e.0 ≡ Unsupported LogFull → IsFullAt held)
+    pub stop : StopsLeave g.moment g.left_since log (log_after result) (IsLeft held (changes_of_start (now held)))
+
+  -- A fault is told only where its count grew.
+  pub record IsBlamedOpening (log : L) (result : Result (Cache L) (Error × L)) : Type 0 where
+    pub read : IfErr result (λ e. e.0 ≡ Io Read → HasGrown (g.counts log).failed_reads (g.counts e.1).failed_reads)
+    pub write : IfErr result (λ e. e.0 ≡ Io Write → HasGrown (g.counts log).write_faults (g.counts e.1).write_faults)
+
+  -- A log that comes back may be opened again, but after a write fault.
+  abbrev pub MayBeOpened : L → Type 0
+  MayBeOpened log = ((g.state log).usable ≡ true) × (is_open (g.state log).pending ≡ false)
+
+  -- No node lies in memory: of the pages that aren't the cache's own only those do that are free.
+  abbrev pub HoldsNoNode : Cache L → Type 0
+  HoldsNoNode cache = (pid : ℕ) → 2 ≤ pid → IsResident cache pid → is_empty effect_of_entry (chain_at (g.state cache.log) pid) ≡ true

@@ -1,0 +1,68 @@
+//! The making of a page.
+
+ghost use Rattle.std.specs.Prelude.{◌≡◌, ◌≢◌, ◌++◌, [], ◌∷◌, false, true, length, IfOk, IfErr, OnOk, OnErr};
+ghost use Rattle.std.specs.List.{AllByRecursion};
+ghost use Rattle.sled_log.specs.Contents as contents;
+ghost use Rattle.sled_log.specs.Events.{Change};
+ghost use Rattle.sled_log.specs.Messages.{effect_of_entry};
+ghost use Rattle.sled_log.specs.Pages.{IsSized};
+ghost use Rattle.sled_log.specs.Reading.{IsUpdate};
+ghost use Rattle.sled_log.specs.State.{now};
+ghost use Rattle.sled_log.specs.Writing.{message_of};
+ghost use Rattle.sled_pagecache.specs.Adding.{HasOneMore, RefusesPage};
+ghost use Rattle.sled_pagecache.specs.ChainReads.{chain_at};
+ghost use Rattle.sled_pagecache.specs.Journal.{Went, IsCaused, begun_by};
+
+use super::MAX_PAGES;
+use super::journal::Journal;
+use super::page::{Kept, Page};
+use super::write::write_node;
+use sled_base::{PageId, Refusal, Why};
+use sled_log::Log;
+use sled_node::Node;
+use std::alloc::Global;
+
+// Puts a node on a new page, at stamp 1, and answers its id. A refusal leaves the pages.
+pub(super) fn add_page<L: Log>(
+    alloc: Global,
+    journal: &mut Journal<L>,
+    pages: &mut Vec<Page>,
+    node: Node,
+) -> Result<PageId, Refusal>
+    requires ready { journal.old.fault ≡ false }
+    requires usable { (L.state journal.old.log).usable ≡ true }
+    requires there { length pages.old.items ≡ length (now effect_of_entry (L.state journal.old.log)) }
+    ensures pid { IfOk result (λ pid. pid ≡ length pages.old.items) }
+    ensures page { OnOk result (HasOneMore pages.old.items pages.new.items (chain_at (L.state journal.new.log) (length pages.old.items)) node) }
+    ensures others { OnOk result (now effect_of_entry (L.state journal.new.log) ≡ now effect_of_entry (L.state journal.old.log) ++ chain_at (L.state journal.new.log) (length pages.old.items) ∷ []) }
+    ensures room { OnOk result (length pages.old.items ≢ MAX_PAGES) }
+    ensures left { OnErr result (pages.new.items ≡ pages.old.items) }
+    ensures same { OnErr result (journal.new.fault ≡ false → now effect_of_entry (L.state journal.new.log) ≡ now effect_of_entry (L.state journal.old.log)) }
+    ensures refused { IfErr result (RefusesPage (length pages.old.items)) }
+    ensures is { IsUpdate (message_of (contents.Put (contents.Node node))) (contents.Put (contents.Node node)) }
+    ensures went { Went L.state L.moment L.left_since L.counts journal.old journal.new (begun_by result (Change (length pages.old.items) (message_of (contents.Put (contents.Node node))) ∷ [])) }
+    ensures cause { IsCaused L.state L.moment L.left_since L.counts journal.old journal.new (L.is_full journal.old.log (length (message_of (contents.Put (contents.Node node))).payload)) result }
+    ensures reads { (L.counts journal.new.log).reads ≡ (L.counts journal.old.log).reads }
+    ensures sized { OnOk result (AllByRecursion IsSized (now effect_of_entry (L.state journal.new.log))) }
+{
+    // Every node is well-formed.
+    let _ = node.data();
+    if pages.len() == MAX_PAGES {
+        return Err(Refusal::Unsupported(Why::PagesUsedUp));
+    }
+    let pid = pages.len() as PageId;
+    let Ok(()) = pages.reserve(1) else {
+        return Err(Refusal::OutOfMemory);
+    };
+    let Ok(mut infos) = Vec::with_capacity(alloc, 1) else {
+        return Err(Refusal::OutOfMemory);
+    };
+    let info = write_node(alloc, journal, pid, &node, 1)?;
+    infos.push_reserved(info);
+    pages.push_reserved(Page {
+        stamp: 1,
+        infos,
+        kept: Kept::Node(node),
+    });
+    Ok(pid)
+}

@@ -1,0 +1,58 @@
+//! The reading of a page's chain.
+
+ghost use Rattle.std.specs.Prelude.{◌≡◌, ℕ, ◌≤◌, [], false, true, length, map, IfOk, IfErr, OnOk, OnErr};
+ghost use Rattle.std.specs.List.{AllZip};
+ghost use Rattle.sled_log.specs.Messages.{effect_of_entry};
+ghost use Rattle.sled_log.specs.Pages.{said_of};
+ghost use Rattle.sled_log.specs.State.{now};
+ghost use Rattle.sled_pagecache.specs.ChainReads.{IsFoundAs, chain_at, place_of, more};
+ghost use Rattle.sled_pagecache.specs.Journal.{Went, IsCaused, IsOfLog};
+
+use super::journal::Journal;
+use super::reading::Found;
+use sled_base::{DiskPtr, Lsn, PageId, Refusal};
+use sled_log::Log;
+use std::alloc::Global;
+
+/// How a log keeps one message of a page: the stamp of the page once the message stood, or 0 where it was recovered, its
+/// place, and its log size in bytes.
+#[derive(Clone, Copy, Debug, PartialEq, Eq)]
+pub struct CacheInfo {
+    pub ts: u64,
+    pub lsn: Lsn,
+    pub pointer: DiskPtr,
+    pub log_size: u64,
+}
+
+// Reads all messages of a page, one read of the log for each, in the order of its chain. Memory is taken before the first
+// read, but for that of the payloads.
+pub(super) fn read_chain<L: Log>(
+    alloc: Global,
+    journal: &mut Journal<L>,
+    pid: PageId,
+    infos: &[CacheInfo],
+) -> Result<Vec<Found>, Refusal>
+    requires ready { journal.old.fault ≡ false }
+    requires usable { (L.state journal.old.log).usable ≡ true }
+    requires known { map said_of (chain_at (L.state journal.old.log) pid) ≡ map place_of infos.now }
+    ensures found { IfOk result (λ found. AllZip IsFoundAs (chain_at (L.state journal.old.log) pid) found.items) }
+    ensures went { Went L.state L.moment L.left_since L.counts journal.old journal.new [] }
+    ensures cause { IsCaused L.state L.moment L.left_since L.counts journal.old journal.new ⊥ result }
+    ensures sound { IfErr result IsOfLog }
+    ensures same { journal.new.fault ≡ false → now effect_of_entry (L.state journal.new.log) ≡ now effect_of_entry (L.state journal.old.log) }
+    ensures reads { OnOk result ((L.counts journal.new.log).reads ≡ more (length infos.now) (L.counts journal.old.log).reads) }
+    ensures at_most { OnErr result ((times : ℕ) × (times ≤ length infos.now) × ((L.counts journal.new.log).reads ≡ more times (L.counts journal.old.log).reads)) }
+{
+    let Ok(mut found) = Vec::with_capacity(alloc, infos.len()) else {
+        return Err(Refusal::OutOfMemory);
+    };
+    for info in infos {
+        let (kind, payload) = journal.read(pid, info.lsn, info.pointer)?;
+        found.push_reserved(Found {
+            kind,
+            payload,
+            pointer: info.pointer,
+        });
+    }
+    Ok(found)
+}

@@ -1,0 +1,178 @@
+//! The cache's own pages: that of the named roots, and that of the counter.
+
+ghost use Rattle.std.specs.Prelude.{◌≡◌, ◌<◌, ℕ, [], ◌∷◌, ◌++◌, false, true, length, map, IfOk, IfErr, OnOk};
+ghost use Rattle.std.specs.List.{AllZip};
+ghost use Rattle.sled_log.specs.Contents as contents;
+ghost use Rattle.sled_log.specs.Messages.{effect_of_entry, told};
+ghost use Rattle.sled_log.specs.Reading.{IsUpdate, Makes};
+ghost use Rattle.sled_log.specs.State.{now};
+ghost use Rattle.sled_node.specs.Meta as meta;
+ghost use Rattle.sled_pagecache.specs.ChainReads.{IsFoundAs, chain_at};
+ghost use Rattle.sled_pagecache.specs.Journal.{IsOfLog};
+ghost use Rattle.sled_pagecache.specs.Loading.{IsLoaded, IsUnread, IsTable, RefusesOwn, told_of_roots, counter_told, stamps_at_start};
+ghost use Rattle.sled_pagecache.specs.Proceeding.{Proceeds, refusal_in};
+ghost use Rattle.sled_pagecache.specs.Reading.{told_of, RefusesMessage};
+ghost use Rattle.sled_pagecache.specs.Table.{stamps_in};
+
+use super::chain::read_chain;
+use super::journal::Journal;
+use super::page::{Kept, Page};
+use super::reading::{Found, whole};
+use super::recovered::is_misfit;
+use super::write::{write_counter, write_roots};
+use super::{COUNTER_PID, META_PID};
+use sled_base::{Bug, MessageKind, PageId, Refusal};
+use sled_log::Log;
+use sled_node::Meta;
+use std::alloc::Global;
+
+// Reads the named roots.
+pub(super) fn read_roots<L: Log>(
+    alloc: Global,
+    journal: &mut Journal<L>,
+    page: &Page,
+) -> Result<Meta, Refusal>
+    requires ready { journal.old.fault ≡ false }
+    requires usable { (L.state journal.old.log).usable ≡ true }
+    requires loaded { IsLoaded (chain_at (L.state journal.old.log) 0) page.now }
+    requires unread { IsUnread page.now.kept }
+    ensures proceeds { Proceeds L.Log journal.old journal.new [] (refusal_in result) }
+    ensures same { journal.new.fault ≡ false → now effect_of_entry (L.state journal.new.log) ≡ now effect_of_entry (L.state journal.old.log) }
+    ensures read { IfOk result (λ roots. Makes (told (chain_at (L.state journal.old.log) 0)) (contents.Roots roots)) }
+    ensures refused { IfErr result (RefusesOwn 0 (chain_at (L.state journal.old.log) 0)) }
+{
+    let found = read_own(alloc, journal, META_PID, page)?;
+    roots_of(&found[0], alloc)
+}
+
+// Reads the counter.
+pub(super) fn read_counter<L: Log>(
+    alloc: Global,
+    journal: &mut Journal<L>,
+    page: &Page,
+) -> Result<u64, Refusal>
+    requires ready { journal.old.fault ≡ false }
+    requires usable { (L.state journal.old.log).usable ≡ true }
+    requires loaded { IsLoaded (chain_at (L.state journal.old.log) 1) page.now }
+    requires unread { IsUnread page.now.kept }
+    ensures proceeds { Proceeds L.Log journal.old journal.new [] (refusal_in result) }
+    ensures same { journal.new.fault ≡ false → now effect_of_entry (L.state journal.new.log) ≡ now effect_of_entry (L.state journal.old.log) }
+    ensures read { IfOk result (λ n. Makes (told (chain_at (L.state journal.old.log) 1)) (contents.Counter n)) }
+    ensures refused { IfErr result (RefusesOwn 1 (chain_at (L.state journal.old.log) 1)) }
+{
+    let found = read_own(alloc, journal, COUNTER_PID, page)?;
+    counter_of(&found[0], alloc)
+}
+
+// Reads the one message of a system page. A page that is free, or has more, is refused before.
+fn read_own<L: Log>(
+    alloc: Global,
+    journal: &mut Journal<L>,
+    pid: PageId,
+    page: &Page,
+) -> Result<Vec<Found>, Refusal>
+    requires ready { journal.old.fault ≡ false }
+    requires usable { (L.state journal.old.log).usable ≡ true }
+    requires own { pid < 2 }
+    requires loaded { IsLoaded (chain_at (L.state journal.old.log) pid) page.now }
+    requires unread { IsUnread page.now.kept }
+    ensures proceeds { Proceeds L.Log journal.old journal.new [] (refusal_in result) }
+    ensures same { journal.new.fault ≡ false → now effect_of_entry (L.state journal.new.log) ≡ now effect_of_entry (L.state journal.old.log) }
+    ensures found { IfOk result (λ found. AllZip IsFoundAs (chain_at (L.state journal.old.log) pid) found.items) }
+    ensures one { IfOk result (λ found. length found.items ≡ 1) }
+    ensures refused { IfErr result (RefusesOwn pid (chain_at (L.state journal.old.log) pid)) }
+{
+    if is_misfit(pid as usize, page) {
+        return Err(Refusal::Corruption(Some(page.infos[0].pointer)));
+    }
+    let found = read_chain(alloc, journal, pid, &page.infos)?;
+    if found[0].kind == MessageKind::Free {
+        return Err(Refusal::ReportableBug(Bug::FreeInPull));
+    }
+    Ok(found)
+}
+
+// The root map that a message puts on its page.
+fn roots_of(found: &Found, alloc: Global) -> Result<Meta, Refusal>
+    ensures read { IfOk result (λ roots. IsUpdate (told_of found.now) (contents.Put (contents.Roots roots))) }
+    ensures refused { IfErr result (RefusesMessage found.now.pointer ((roots : meta.Roots) → ¬ IsUpdate (told_of found.now) (contents.Put (contents.Roots roots)))) }
+{
+    match found.kind {
+        MessageKind::InlineMeta | MessageKind::BlobMeta => whole::<Meta>(found, alloc),
+        _ => Err(Refusal::Corruption(Some(found.pointer))),
+    }
+}
+
+// The counter that a message puts on its page.
+fn counter_of(found: &Found, alloc: Global) -> Result<u64, Refusal>
+    ensures read { IfOk result (λ n. IsUpdate (told_of found.now) (contents.Put (contents.Counter n))) }
+    ensures refused { IfErr result (RefusesMessage found.now.pointer ((n : ℕ) → ¬ IsUpdate (told_of found.now) (contents.Put (contents.Counter n)))) }
+{
+    match found.kind {
+        MessageKind::Counter => whole::<u64>(found, alloc),
+        _ => Err(Refusal::Corruption(Some(found.pointer))),
+    }
+}
+
+// Makes the page of the named roots, of which there are none, at stamp 1, unless it is there.
+pub(super) fn add_roots<L: Log>(
+    alloc: Global,
+    journal: &mut Journal<L>,
+    pages: &mut Vec<Page>,
+) -> Result<(), Refusal>
+    requires ready { journal.old.fault ≡ false }
+    requires usable { (L.state journal.old.log).usable ≡ true }
+    requires table { IsTable (now effect_of_entry (L.state journal.old.log)) pages.old.items }
+    requires some { length pages.old.items < 2 }
+    requires fresh { stamps_in pages.old.items ≡ map (λ _. 0) pages.old.items }
+    ensures proceeds { Proceeds L.Log journal.old journal.new (told_of_roots pages.old.items) (refusal_in result) }
+    ensures of_log { IfErr result IsOfLog }
+    ensures table { OnOk result (IsTable (now effect_of_entry (L.state journal.new.log)) pages.new.items) }
+    ensures one { OnOk result (length pages.new.items ≡ 1) }
+    ensures stamps { OnOk result (stamps_in pages.new.items ++ 1 ∷ [] ≡ stamps_at_start pages.old.items) }
+{
+    if !pages.is_empty() {
+        return Ok(());
+    }
+    let (Ok(()), Ok(mut infos)) = (pages.reserve(1), Vec::with_capacity(alloc, 1)) else {
+        return Err(Refusal::OutOfMemory);
+    };
+    let roots = Meta::default(alloc);
+    let info = write_roots(alloc, journal, META_PID, &roots, 1)?;
+    infos.push_reserved(info);
+    pages.push_reserved(Page {
+        stamp: 1,
+        infos,
+        kept: Kept::Roots(roots),
+    });
+    Ok(())
+}
+
+// Makes the page of the counter, which is 0, at stamp 1.
+pub(super) fn add_counter<L: Log>(
+    alloc: Global,
+    journal: &mut Journal<L>,
+    pages: &mut Vec<Page>,
+) -> Result<(), Refusal>
+    requires ready { journal.old.fault ≡ false }
+    requires usable { (L.state journal.old.log).usable ≡ true }
+    requires table { IsTable (now effect_of_entry (L.state journal.old.log)) pages.old.items }
+    requires one { length pages.old.items ≡ 1 }
+    ensures proceeds { Proceeds L.Log journal.old journal.new (counter_told ∷ []) (refusal_in result) }
+    ensures of_log { IfErr result IsOfLog }
+    ensures table { OnOk result (IsTable (now effect_of_entry (L.state journal.new.log)) pages.new.items) }
+    ensures stamps { OnOk result (stamps_in pages.new.items ≡ stamps_in pages.old.items ++ 1 ∷ []) }
+    ensures two { OnOk result (length pages.new.items ≡ 2) }
+{
+    let (Ok(()), Ok(mut infos)) = (pages.reserve(1), Vec::with_capacity(alloc, 1)) else {
+        return Err(Refusal::OutOfMemory);
+    };
+    let info = write_counter(alloc, journal, COUNTER_PID, 0, 1)?;
+    infos.push_reserved(info);
+    pages.push_reserved(Page {
+        stamp: 1,
+        infos,
+        kept: Kept::Counter(0),
+    });
+    Ok(())
+}

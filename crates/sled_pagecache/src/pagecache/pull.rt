@@ -1,0 +1,92 @@
+//! The reading of a page that doesn't lie in memory.
+
+ghost use Rattle.std.specs.Prelude.{◌≡◌, ℕ, ◌≤◌, ◌<◌, [], false, true, length, IfErr, IsOk, OnOk, OnErr};
+ghost use Rattle.sled_log.specs.Messages.{effect_of_entry, told};
+ghost use Rattle.sled_log.specs.State.{now};
+ghost use Rattle.sled_pagecache.specs.ChainReads.{chain_at, more};
+ghost use Rattle.sled_pagecache.specs.Journal.{Went, IsCaused};
+ghost use Rattle.sled_pagecache.specs.LinkedPages.{TakesLink, RefusesTold, WasFull};
+ghost use Rattle.sled_pagecache.specs.Pages.{IsKept, is_free, is_resident};
+ghost use Rattle.sled_pagecache.specs.Pulling.{RefusesPull};
+ghost use Rattle.sled_pagecache.specs.Table.{IsFreeOrNode};
+
+use super::chain::read_chain;
+use super::journal::Journal;
+use super::page::{Kept, Page};
+use super::reading::node_of;
+use super::swap::link_page;
+use sled_base::{PageId, Refusal};
+use sled_log::Log;
+use sled_node::Link;
+use std::alloc::Global;
+
+// Reads the node of a page from the log, unless what the page holds lies in memory. A refusal leaves the page.
+pub(super) fn pull<L: Log>(
+    alloc: Global,
+    journal: &mut Journal<L>,
+    pid: PageId,
+    page: &mut Page,
+) -> Result<(), Refusal>
+    requires ready { journal.old.fault ≡ false }
+    requires usable { (L.state journal.old.log).usable ≡ true }
+    requires kept { IsKept (chain_at (L.state journal.old.log) pid) page.old }
+    ensures kept { IsKept (chain_at (L.state journal.old.log) pid) page.new }
+    ensures same { journal.new.fault ≡ false → now effect_of_entry (L.state journal.new.log) ≡ now effect_of_entry (L.state journal.old.log) }
+    ensures stamp { page.new.stamp ≡ page.old.stamp }
+    ensures infos { page.new.infos.items ≡ page.old.infos.items }
+    ensures resident { OnOk result (is_resident page.new.kept ≡ true) }
+    ensures err { OnErr result (page.new.kept ≡ page.old.kept) }
+    ensures free { is_free page.new.kept ≡ is_free page.old.kept }
+    ensures own { IsFreeOrNode page.old.kept → IsFreeOrNode page.new.kept }
+    ensures is_there { is_resident page.old.kept ≡ true → IsOk result }
+    ensures stays { is_resident page.old.kept ≡ true → page.new.kept ≡ page.old.kept }
+    ensures unread { is_resident page.old.kept ≡ true → journal.new ≡ journal.old }
+    ensures went { Went L.state L.moment L.left_since L.counts journal.old journal.new [] }
+    ensures cause { IsCaused L.state L.moment L.left_since L.counts journal.old journal.new ⊥ result }
+    ensures reads { is_resident page.old.kept ≡ false → OnOk result ((L.counts journal.new.log).reads ≡ more (length page.old.infos.items) (L.counts journal.old.log).reads) }
+    ensures at_most { OnErr result ((times : ℕ) × (times ≤ length page.old.infos.items) × ((L.counts journal.new.log).reads ≡ more times (L.counts journal.old.log).reads)) }
+    ensures refused { IfErr result (RefusesPull (told (chain_at (L.state journal.old.log) pid))) }
+{
+    if let Kept::Away = page.kept {
+        let found = read_chain(alloc, journal, pid, &page.infos)?;
+        page.kept = Kept::Node(node_of(&found, alloc)?);
+    }
+    Ok(())
+}
+
+// Applies a link to the node of a page, which is read where it doesn't lie in memory. What a refused link has read isn't kept.
+pub(super) fn pull_and_link<L: Log>(
+    alloc: Global,
+    journal: &mut Journal<L>,
+    pid: PageId,
+    page: &mut Page,
+    link: &Link,
+) -> Result<(), Refusal>
+    requires ready { journal.old.fault ≡ false }
+    requires usable { (L.state journal.old.log).usable ≡ true }
+    requires there { pid < length (now effect_of_entry (L.state journal.old.log)) }
+    requires kept { IsKept (chain_at (L.state journal.old.log) pid) page.old }
+    ensures taken { OnOk result (TakesLink L.Log journal.old pid page.old link.now journal.new page.new) }
+    ensures refused { IfErr result (RefusesTold L.Log journal.old pid page.old link.now journal.new) }
+    ensures cause { IsCaused L.state L.moment L.left_since L.counts journal.old journal.new (WasFull L.Log journal.old pid page.old link.now) result }
+    ensures left { OnErr result ((page.new.stamp ≡ page.old.stamp) × (page.new.infos.items ≡ page.old.infos.items)) }
+    ensures same { OnErr result (journal.new.fault ≡ false → now effect_of_entry (L.state journal.new.log) ≡ now effect_of_entry (L.state journal.old.log)) }
+    ensures still { OnErr result (journal.new.fault ≡ false → IsKept (chain_at (L.state journal.old.log) pid) page.new) }
+    ensures free { is_free page.new.kept ≡ is_free page.old.kept }
+    ensures own { IsFreeOrNode page.old.kept → IsFreeOrNode page.new.kept }
+    ensures unread { is_resident page.old.kept ≡ true → (L.counts journal.new.log).reads ≡ (L.counts journal.old.log).reads }
+    ensures reads { is_resident page.old.kept ≡ false → OnOk result ((L.counts journal.new.log).reads ≡ more (length page.old.infos.items) (L.counts journal.old.log).reads) }
+    ensures kept_out { is_resident page.old.kept ≡ false → OnErr result (is_resident page.new.kept ≡ false) }
+    ensures at_most { OnErr result ((times : ℕ) × (times ≤ length page.old.infos.items) × ((L.counts journal.new.log).reads ≡ more times (L.counts journal.old.log).reads)) }
+{
+    let was_away = matches!(page.kept, Kept::Away);
+    pull(alloc, journal, pid, page)?;
+    let outcome = link_page(alloc, journal, pid, page, link);
+    if was_away && outcome.is_err() {
+        page.kept = Kept::Away;
+    }
+    outcome
+}
+
+#[cfg(test)]
+mod tests;

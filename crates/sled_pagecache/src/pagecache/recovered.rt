@@ -1,0 +1,121 @@
+//! The pages that a log recovers.
+
+ghost use Rattle.std.specs.Prelude.{◌≡◌, ◌∷◌, List, IfOk, MatchOption, map};
+ghost use Rattle.std.specs.List.{AllByRecursion, AllZip};
+ghost use Rattle.sled_log.specs.Messages.{Chain};
+ghost use Rattle.sled_log.specs.Pages.{IsPageState};
+ghost use Rattle.sled_pagecache.specs.Loading.{IsLoaded, IsUnread};
+ghost use Rattle.sled_pagecache.specs.Pages.{free_ids};
+ghost use Rattle.sled_pagecache.specs.Recovered.{HasRoom, IsRecovered, info_at, is_misfit, AllFit, BeginsMisfit};
+
+use super::chain::CacheInfo;
+use super::page::{Kept, Page};
+use super::{COUNTER_PID, PAGE_CONSOLIDATION_THRESHOLD};
+use sled_base::{DiskPtr, Lsn, PageId, PageState};
+use std::alloc::{AllocError, Global};
+
+// The log size of a message that frees a page.
+const MAX_MSG_HEADER_LEN: u64 = 17;
+
+// The pages of a table, of which no content lies in memory, and each is at stamp 0.
+pub(super) fn pages_of(alloc: Global, states: &[PageState]) -> Result<Vec<Page>, AllocError>
+    requires { AllByRecursion HasRoom states.now }
+    ensures recovered { IfOk result (λ pages. AllZip IsRecovered states.now pages.items) }
+    ensures loaded { IfOk result (λ pages. (chains : List Chain) → AllZip IsPageState chains states.now → AllZip IsLoaded chains pages.items) }
+    ensures unread { IfOk result (λ pages. AllByRecursion (λ page. IsUnread page.kept) pages.items) }
+{
+    let mut pages = Vec::with_capacity(alloc, states.len())?;
+    for state in states {
+        pages.push_reserved(page_of(alloc, state)?);
+    }
+    Ok(pages)
+}
+
+// A page of which the content doesn't lie in memory, at stamp 0.
+pub(super) fn page_of(alloc: Global, state: &PageState) -> Result<Page, AllocError>
+    requires { HasRoom state.now }
+    ensures { IfOk result (IsRecovered state.now) }
+{
+    match state {
+        PageState::Free(lsn, pointer) => {
+            let mut infos = Vec::with_capacity(alloc, 1)?;
+            infos.push_reserved(info_at((*lsn, *pointer, MAX_MSG_HEADER_LEN)));
+            Ok(Page {
+                stamp: 0,
+                infos,
+                kept: Kept::Free,
+            })
+        }
+        PageState::Present { base, frags } => Ok(Page {
+            stamp: 0,
+            infos: infos_of(alloc, *base, frags)?,
+            kept: Kept::Away,
+        }),
+    }
+}
+
+// The places of a chain, as a page keeps them.
+fn infos_of(
+    alloc: Global,
+    base: (Lsn, DiskPtr, u64),
+    frags: &[(Lsn, DiskPtr, u64)],
+) -> Result<Vec<CacheInfo>, AllocError>
+    ensures { IfOk result (λ infos. infos.items ≡ map info_at (base ∷ frags.now)) }
+{
+    let mut infos = Vec::new(alloc);
+    infos.push(info_at(base))?;
+    for frag in frags {
+        infos.push(info_at(*frag))?;
+    }
+    Ok(infos)
+}
+
+// The place of a recovered message, as its page keeps it.
+fn info_at(place: (Lsn, DiskPtr, u64)) -> CacheInfo
+    ensures { result ≡ info_at place }
+{
+    let (lsn, pointer, log_size) = place;
+    CacheInfo {
+        ts: 0,
+        lsn,
+        pointer,
+        log_size,
+    }
+}
+
+// The pointer of the first message of the first page, by id, that no cache leaves so, if there is one.
+pub(super) fn misfit(pages: &[Page]) -> Option<DiskPtr>
+    ensures { MatchOption result (AllFit pages.now) (BeginsMisfit pages.now) }
+{
+    for (pid, page) in pages.iter().enumerate() {
+        if is_misfit(pid, page) {
+            return Some(page.infos[0].pointer);
+        }
+    }
+    None
+}
+
+// Whether no cache leaves a page so at this id.
+pub(super) fn is_misfit(pid: usize, page: &Page) -> bool
+    ensures { result ≡ is_misfit pid page.now }
+{
+    let len = page.infos.len();
+    len > PAGE_CONSOLIDATION_THRESHOLD
+        || pid as PageId <= COUNTER_PID && (page.is_free() || len > 1)
+}
+
+// The ids of the free pages, the least first.
+pub(super) fn free_of(alloc: Global, pages: &[Page]) -> Result<Vec<PageId>, AllocError>
+    ensures { IfOk result (λ ids. ids.items ≡ free_ids 0 pages.now) }
+{
+    let mut ids = Vec::new(alloc);
+    for (pid, page) in pages.iter().enumerate() {
+        if page.is_free() {
+            ids.push(pid as PageId)?;
+        }
+    }
+    Ok(ids)
+}
+
+#[cfg(test)]
+mod tests;

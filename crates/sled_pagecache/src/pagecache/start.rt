@@ -1,0 +1,168 @@
+//! The opening of a cache: the pages that its log recovers, and the system pages that are missing.
+
+ghost use Rattle.std.specs.Prelude.{◌≡◌, ◌<◌, ◌≤◌, ℕ, [], List, false, true, length, map, slice_get, IfOk, IfErr, IfSome, OnOk};
+ghost use Rattle.sled_base.specs.Errors.{error_of};
+ghost use Rattle.sled_log.specs.Batches.{is_open};
+ghost use Rattle.sled_log.specs.Contents.{Content};
+ghost use Rattle.sled_log.specs.Messages.{effect_of_entry, told};
+ghost use Rattle.sled_log.specs.Reading.{Hold};
+ghost use Rattle.sled_log.specs.State.{now};
+ghost use Rattle.sled_pagecache.specs.Journal.{IsOfLog};
+ghost use Rattle.sled_pagecache.specs.Loading.{AreRecovered, AreRead, IsTable, IsUnread, IsOpenedWith, RefusesPages, next_id, told_at_start, stamps_at_start};
+ghost use Rattle.sled_pagecache.specs.Opening.{fault_of};
+ghost use Rattle.sled_pagecache.specs.Proceeding.{Proceeds, refusal_in};
+ghost use Rattle.sled_pagecache.specs.Starts.{RefusesOpening};
+ghost use Rattle.sled_pagecache.specs.Table.{IsConsistent, stamps_in};
+
+use super::MAX_PAGES;
+use super::config::Config;
+use super::journal::Journal;
+use super::own::{add_counter, add_roots, read_counter, read_roots};
+use super::page::{Kept, Page};
+use super::recovered::{free_of, misfit, pages_of};
+use sled_base::{PageId, Refusal, Why};
+use sled_log::Log;
+use std::alloc::Global;
+
+/// What a cache is opened with: its pages, the ids of the free ones, the next generated id, and whether both system pages were
+/// found in the log.
+#[derive(Drop)]
+pub(super) struct Opening {
+    pub(super) pages: Vec<Page>,
+    pub(super) free: Vec<PageId>,
+    pub(super) next: u128,
+    pub(super) recovered: bool,
+}
+
+// What is wrong with a config, by the first of its faults.
+pub(super) fn fault_of(config: Config) -> Option<Why>
+    ensures { result ≡ fault_of config }
+{
+    if config.cache_capacity < 256 {
+        return Some(Why::CapacityTooSmall);
+    }
+    if config.idgen_persist_interval == 0 {
+        return Some(Why::IntervalZero);
+    }
+    if config.segment_size == 0 {
+        return Some(Why::SegmentZero);
+    }
+    None
+}
+
+// Reads what a log holds for a cache, and makes what is missing.
+pub(super) fn open<L: Log>(
+    alloc: Global,
+    config: Config,
+    journal: &mut Journal<L>,
+) -> Result<Opening, Refusal>
+    requires ready { journal.old.fault ≡ false }
+    requires usable { (L.state journal.old.log).usable ≡ true }
+    requires closed { is_open (L.state journal.old.log).pending ≡ false }
+    ensures proceeds { Proceeds L.Log journal.old journal.new (told_at_start (now effect_of_entry (L.state journal.old.log))) (refusal_in result) }
+    ensures refused { IfErr result (λ refusal. RefusesOpening config (now effect_of_entry (L.state journal.old.log)) (error_of refusal)) }
+    ensures consistent { IfOk result (λ opening. IsConsistent L.state journal.new opening.pages.items opening.free.items) }
+    ensures opened { IfOk result (λ opening. (held : List Content) → Hold (map told (now effect_of_entry (L.state journal.old.log))) held → IsOpenedWith config held (stamps_in opening.pages.items) opening.next opening.recovered) }
+    ensures stable { OnOk result (length (now effect_of_entry (L.state journal.old.log)) < 2 → (L.state journal.new.log).pending ≡ []) }
+    ensures unread { IfOk result (λ opening. (pid : ℕ) → 2 ≤ pid → IfSome (slice_get opening.pages.items pid) (λ page. IsUnread page.kept)) }
+{
+    let mut pages = recover_pages(alloc, journal)?;
+    let counter = read_system_pages(alloc, journal, &mut pages)?;
+    if let Some(pointer) = misfit(&pages) {
+        return Err(Refusal::Corruption(Some(pointer)));
+    }
+    add_missing(alloc, journal, &mut pages)?;
+    let Ok(free) = free_of(alloc, &pages) else {
+        return Err(Refusal::OutOfMemory);
+    };
+    Ok(Opening {
+        pages,
+        free,
+        next: next_id(config, counter),
+        recovered: counter.is_some(),
+    })
+}
+
+// The first generated id, where the counter was found or not.
+fn next_id(config: Config, counter: Option<u64>) -> u128
+    ensures { result ≡ next_id config.idgen_persist_interval counter }
+{
+    match counter {
+        Some(n) => n as u128 + 2 * config.idgen_persist_interval as u128,
+        None => 0,
+    }
+}
+
+// The pages that the log holds, of which none was read yet.
+fn recover_pages<L: Log>(alloc: Global, journal: &mut Journal<L>) -> Result<Vec<Page>, Refusal>
+    requires ready { journal.old.fault ≡ false }
+    requires usable { (L.state journal.old.log).usable ≡ true }
+    ensures proceeds { Proceeds L.Log journal.old journal.new [] (refusal_in result) }
+    ensures same { journal.new.fault ≡ false → now effect_of_entry (L.state journal.new.log) ≡ now effect_of_entry (L.state journal.old.log) }
+    ensures pages { IfOk result (λ pages. AreRecovered (now effect_of_entry (L.state journal.old.log)) pages.items) }
+    ensures refused { IfErr result (RefusesPages (now effect_of_entry (L.state journal.old.log))) }
+{
+    let states = journal.recover()?;
+    if states.len() > MAX_PAGES {
+        return Err(Refusal::Corruption(None));
+    }
+    let Ok(pages) = pages_of(alloc, &states) else {
+        return Err(Refusal::OutOfMemory);
+    };
+    Ok(pages)
+}
+
+// Reads the contents of the system pages, and answers the counter, where its page is there.
+fn read_system_pages<L: Log>(
+    alloc: Global,
+    journal: &mut Journal<L>,
+    pages: &mut Vec<Page>,
+) -> Result<Option<u64>, Refusal>
+    requires ready { journal.old.fault ≡ false }
+    requires usable { (L.state journal.old.log).usable ≡ true }
+    requires recovered { AreRecovered (now effect_of_entry (L.state journal.old.log)) pages.old.items }
+    ensures proceeds { Proceeds L.Log journal.old journal.new [] (refusal_in result) }
+    ensures same { journal.new.fault ≡ false → now effect_of_entry (L.state journal.new.log) ≡ now effect_of_entry (L.state journal.old.log) }
+    ensures read { IfOk result (AreRead (now effect_of_entry (L.state journal.old.log)) pages.new.items) }
+    ensures refused { IfErr result (RefusesPages (now effect_of_entry (L.state journal.old.log))) }
+{
+    if pages.is_empty() {
+        return Ok(None);
+    }
+    let roots = read_roots(alloc, journal, &pages[0])?;
+    pages[0].kept = Kept::Roots(roots);
+    if pages.len() == 1 {
+        return Ok(None);
+    }
+    let n = read_counter(alloc, journal, &pages[1])?;
+    pages[1].kept = Kept::Counter(n);
+    Ok(Some(n))
+}
+
+// Makes the system pages that are missing, each at stamp 1, and makes them stable.
+fn add_missing<L: Log>(
+    alloc: Global,
+    journal: &mut Journal<L>,
+    pages: &mut Vec<Page>,
+) -> Result<(), Refusal>
+    requires ready { journal.old.fault ≡ false }
+    requires usable { (L.state journal.old.log).usable ≡ true }
+    requires closed { is_open (L.state journal.old.log).pending ≡ false }
+    requires table { IsTable (now effect_of_entry (L.state journal.old.log)) pages.old.items }
+    requires fresh { stamps_in pages.old.items ≡ map (λ _. 0) pages.old.items }
+    ensures proceeds { Proceeds L.Log journal.old journal.new (told_at_start pages.old.items) (refusal_in result) }
+    ensures of_log { IfErr result IsOfLog }
+    ensures table { OnOk result (IsTable (now effect_of_entry (L.state journal.new.log)) pages.new.items) }
+    ensures stamps { OnOk result (stamps_in pages.new.items ≡ stamps_at_start pages.old.items) }
+    ensures both { OnOk result (1 < length pages.new.items) }
+    ensures others { OnOk result ((pid : ℕ) → 2 ≤ pid → slice_get pages.new.items pid ≡ slice_get pages.old.items pid) }
+    ensures stable { OnOk result (length pages.old.items < 2 → (L.state journal.new.log).pending ≡ []) }
+{
+    if pages.len() > 1 {
+        return Ok(());
+    }
+    add_roots(alloc, journal, pages)?;
+    add_counter(alloc, journal, pages)?;
+    journal.make_stable()?;
+    Ok(())
+}

@@ -1,0 +1,221 @@
+//! The swaps of a page that stands and lies in memory.
+
+ghost use Rattle.std.specs.Prelude.{◌≡◌, ◌+◌, ◌-◌, ◌<◌, ◌^◌, ◌↔◌, ◌++◌, [], ◌∷◌, false, true, length, map, slice_set, vec_len, vec_capacity, IfErr, OnOk, OnErr, IsErrOf, IsTrue};
+ghost use Rattle.std.specs.List.{AllByRecursion, sum_by};
+ghost use Rattle.sled_base.specs.declared.types.Device.TheVariants.{Write};
+ghost use Rattle.sled_base.specs.declared.types.Refusal.TheVariants.{Io};
+ghost use Rattle.sled_log.specs.Chains.{is_empty};
+ghost use Rattle.sled_log.specs.Contents as contents;
+ghost use Rattle.sled_log.specs.Events.{Change};
+ghost use Rattle.sled_log.specs.Messages.{effect_of_entry};
+ghost use Rattle.sled_log.specs.Pages.{IsSized};
+ghost use Rattle.sled_log.specs.Reading.{IsUpdate};
+ghost use Rattle.sled_log.specs.State.{now};
+ghost use Rattle.sled_log.specs.Writing.{message_of};
+ghost use Rattle.sled_node.specs.Links.{Accepts, applied};
+ghost use Rattle.sled_node.specs.Payloads.Links.{CanWriteLink};
+ghost use Rattle.sled_pagecache.specs.ChainReads.{chain_at};
+ghost use Rattle.sled_pagecache.specs.Journal.{Went, IsCaused, begun_by};
+ghost use Rattle.sled_pagecache.specs.Pages.{IsKept, is_free};
+ghost use Rattle.sled_pagecache.specs.Swaps.{IsRaised, IsLinked, RefusesSwap, RefusesLink, Wrote, infos_after, linked_length, update_of, written_by};
+ghost use Rattle.sled_pagecache.specs.Table.{IsFreeOrNode};
+ghost use Rattle.sled_pagecache.specs.declared.pagecache.page.Kept.TheVariants as kept;
+
+use super::PAGE_CONSOLIDATION_THRESHOLD;
+use super::chain::CacheInfo;
+use super::journal::Journal;
+use super::page::{Kept, Page};
+use super::write::{write_link, write_node};
+use sled_base::{Bug, PageId, Refusal, Why};
+use sled_log::Log;
+use sled_node::{Link, Node};
+use std::alloc::{AllocError, Global};
+
+// Puts a node on a page in place of what it held. A refusal leaves the page.
+pub(super) fn replace_page<L: Log>(
+    alloc: Global,
+    journal: &mut Journal<L>,
+    pid: PageId,
+    page: &mut Page,
+    node: Node,
+) -> Result<(), Refusal>
+    requires ready { journal.old.fault ≡ false }
+    requires usable { (L.state journal.old.log).usable ≡ true }
+    requires there { pid < length (now effect_of_entry (L.state journal.old.log)) }
+    ensures stamp { OnOk result (IsRaised page.old.stamp page.new.stamp) }
+    ensures holds { OnOk result (page.new.kept ≡ kept.Node node) }
+    ensures kept { OnOk result (IsKept (chain_at (L.state journal.new.log) pid) page.new) }
+    ensures stamps { OnOk result (map (λ info. info.ts) page.new.infos.items ≡ page.new.stamp ∷ []) }
+    ensures others { OnOk result (now effect_of_entry (L.state journal.new.log) ≡ slice_set (now effect_of_entry (L.state journal.old.log)) pid (chain_at (L.state journal.new.log) pid)) }
+    ensures left { OnErr result (page.new ≡ page.old) }
+    ensures same { OnErr result (journal.new.fault ≡ false → now effect_of_entry (L.state journal.new.log) ≡ now effect_of_entry (L.state journal.old.log)) }
+    ensures refused { IfErr result (RefusesSwap page.old.stamp) }
+    ensures is { IsUpdate (message_of (contents.Put (contents.Node node))) (contents.Put (contents.Node node)) }
+    ensures went { Went L.state L.moment L.left_since L.counts journal.old journal.new (begun_by result (Change pid (message_of (contents.Put (contents.Node node))) ∷ [])) }
+    ensures cause { IsCaused L.state L.moment L.left_since L.counts journal.old journal.new (L.is_full journal.old.log (length (message_of (contents.Put (contents.Node node))).payload)) result }
+    ensures reads { (L.counts journal.new.log).reads ≡ (L.counts journal.old.log).reads }
+    ensures sized { OnOk result (AllByRecursion IsSized (now effect_of_entry (L.state journal.new.log))) }
+{
+    // Every node is well-formed.
+    let _ = node.data();
+    if page.stamp == u64::MAX {
+        return Err(Refusal::Unsupported(Why::StampUsedUp));
+    }
+    let info = write_node(alloc, journal, pid, &node, page.stamp + 1)?;
+    page.kept = Kept::Node(node);
+    keep_alone(page, info);
+    Ok(())
+}
+
+// Keeps how a message is kept as the only one of a page, at the next stamp.
+fn keep_alone(page: &mut Page, info: CacheInfo)
+    requires below { page.old.stamp < 2 ^ 64 - 1 }
+    requires sized { sum_by (λ info. info.log_size) (info ∷ []) < 2 ^ 63 }
+    ensures stamp { page.new.stamp ≡ page.old.stamp + 1 }
+    ensures infos { page.new.infos.items ≡ info ∷ [] }
+    ensures kept { page.new.kept ≡ page.old.kept }
+{
+    page.infos.clear();
+    page.infos.push_reserved(info);
+    page.stamp += 1;
+}
+
+// Applies a link to the node of a page and writes it to the log: the link itself, or the node that it makes where 10 messages
+// make the page. A refused append may leave the page out of memory.
+//
+// `Corruption` comes where no node of the page lies in memory, and `LinkRefused` where the node doesn't accept the link.
+pub(super) fn link_page<L: Log>(
+    alloc: Global,
+    journal: &mut Journal<L>,
+    pid: PageId,
+    page: &mut Page,
+    link: &Link,
+) -> Result<(), Refusal>
+    requires ready { journal.old.fault ≡ false }
+    requires usable { (L.state journal.old.log).usable ≡ true }
+    requires there { pid < length (now effect_of_entry (L.state journal.old.log)) }
+    requires kept { IsKept (chain_at (L.state journal.old.log) pid) page.old }
+    ensures stamp { OnOk result (IsRaised page.old.stamp page.new.stamp) }
+    ensures linked { OnOk result (IsLinked page.old.kept link.now page.new.kept) }
+    ensures kept { OnOk result (IsKept (chain_at (L.state journal.new.log) pid) page.new) }
+    ensures len { OnOk result (length page.new.infos.items ≡ linked_length (length page.old.infos.items)) }
+    ensures others { OnOk result (now effect_of_entry (L.state journal.new.log) ≡ slice_set (now effect_of_entry (L.state journal.old.log)) pid (chain_at (L.state journal.new.log) pid)) }
+    ensures left { OnErr result ((page.new.stamp ≡ page.old.stamp) × (page.new.infos.items ≡ page.old.infos.items)) }
+    ensures same { OnErr result (journal.new.fault ≡ false → now effect_of_entry (L.state journal.new.log) ≡ now effect_of_entry (L.state journal.old.log)) }
+    ensures still { OnErr result (journal.new.fault ≡ false → IsKept (chain_at (L.state journal.new.log) pid) page.new) }
+    ensures refused { IfErr result (RefusesLink page.old.stamp page.old.kept link.now) }
+    ensures went { Went L.state L.moment L.left_since L.counts journal.old journal.new (begun_by result (Change pid (message_of (update_of (length page.old.infos.items) link.now page.old.kept)) ∷ [])) }
+    ensures cause { IsCaused L.state L.moment L.left_since L.counts journal.old journal.new (L.is_full journal.old.log (length (message_of (update_of (length page.old.infos.items) link.now page.old.kept)).payload)) result }
+    ensures reads { (L.counts journal.new.log).reads ≡ (L.counts journal.old.log).reads }
+    ensures is { OnOk result (IsUpdate (message_of (update_of (length page.old.infos.items) link.now page.old.kept)) (update_of (length page.old.infos.items) link.now page.old.kept)) }
+    ensures is_begun { IsErrOf result (Io Write) → IsUpdate (message_of (update_of (length page.old.infos.items) link.now page.old.kept)) (update_of (length page.old.infos.items) link.now page.old.kept) }
+    ensures sized { OnOk result (AllByRecursion IsSized (now effect_of_entry (L.state journal.new.log))) }
+    ensures free { is_free page.new.kept ≡ is_free page.old.kept }
+    ensures own { IsFreeOrNode page.old.kept → IsFreeOrNode page.new.kept }
+{
+    let Kept::Node(node) = &mut page.kept else {
+        return Err(Refusal::Corruption(None));
+    };
+    if !accepts(node, link) {
+        return Err(Refusal::ReportableBug(Bug::LinkRefused));
+    }
+    if page.stamp == u64::MAX {
+        return Err(Refusal::Unsupported(Why::StampUsedUp));
+    }
+    let Ok(()) = prepare(&mut page.infos, node, link) else {
+        return Err(Refusal::OutOfMemory);
+    };
+    let messages = page.infos.len();
+    match write_linked(alloc, journal, pid, messages, node, link, page.stamp + 1) {
+        Ok(info) => {
+            keep_linked(page, info);
+            Ok(())
+        }
+        Err(refusal) => {
+            page.kept = Kept::Away;
+            Err(refusal)
+        }
+    }
+}
+
+// Whether the node accepts the link, which can be written then.
+fn accepts(node: &Node, link: &Link) -> bool
+    ensures accepted { IsTrue result ↔ Accepts node.now link.now }
+    ensures can_write { result ≡ true → CanWriteLink link.now }
+{
+    match link {
+        // It is read here, which shows that it has 64 bits.
+        Link::ParentMergeIntention(page) => {
+            let _page = *page;
+            node.accepts(link)
+        }
+        _ => node.accepts(link),
+    }
+}
+
+// Makes room for one more message, unless the node is to be written, and applies the link. A refusal leaves both.
+fn prepare(infos: &mut Vec<CacheInfo>, node: &mut Node, link: &Link) -> Result<(), AllocError>
+    requires { Accepts node.old link.now }
+    ensures infos { infos.new.items ≡ infos.old.items }
+    ensures len { vec_len infos.new ≡ vec_len infos.old }
+    ensures room { OnOk result (vec_len infos.new < PAGE_CONSOLIDATION_THRESHOLD → vec_len infos.new < vec_capacity infos.new) }
+    ensures applied { OnOk result (node.new ≡ applied link.now node.old) }
+    ensures err { OnErr result (node.new ≡ node.old) }
+{
+    if infos.len() < PAGE_CONSOLIDATION_THRESHOLD {
+        infos.reserve(1)?;
+    }
+    node.apply(link)
+}
+
+// Writes a link to the log, or the node that it made where so many messages make the page as may be.
+fn write_linked<L: Log>(
+    alloc: Global,
+    journal: &mut Journal<L>,
+    pid: PageId,
+    messages: usize,
+    node: &Node,
+    link: &Link,
+    stamp: u64,
+) -> Result<CacheInfo, Refusal>
+    requires can_write { CanWriteLink link.now }
+    requires ready { journal.old.fault ≡ false }
+    requires usable { (L.state journal.old.log).usable ≡ true }
+    requires there { pid < length (now effect_of_entry (L.state journal.old.log)) }
+    requires full { is_empty effect_of_entry (chain_at (L.state journal.old.log) pid) ≡ false }
+    ensures { Wrote L.state L.moment L.left_since L.counts L.is_full journal.old journal.new pid (written_by messages link.now node.now) stamp result }
+{
+    if messages < PAGE_CONSOLIDATION_THRESHOLD {
+        return write_link(alloc, journal, pid, link, stamp);
+    }
+    write_node(alloc, journal, pid, node, stamp)
+}
+
+// Keeps how the message of a link is kept, at the next stamp of the page.
+fn keep_linked(page: &mut Page, info: CacheInfo)
+    requires below { page.old.stamp < 2 ^ 64 - 1 }
+    requires room { vec_len page.old.infos < PAGE_CONSOLIDATION_THRESHOLD → vec_len page.old.infos < vec_capacity page.old.infos }
+    requires sized { sum_by (λ info. info.log_size) (infos_after page.old.infos.items info) < 2 ^ 63 }
+    ensures stamp { page.new.stamp ≡ page.old.stamp + 1 }
+    ensures infos { page.new.infos.items ≡ infos_after page.old.infos.items info }
+    ensures kept { page.new.kept ≡ page.old.kept }
+{
+    if page.infos.len() < PAGE_CONSOLIDATION_THRESHOLD {
+        keep_also(page, info);
+    } else {
+        keep_alone(page, info);
+    }
+}
+
+// Keeps how a message is kept behind the others of a page, at the next stamp.
+fn keep_also(page: &mut Page, info: CacheInfo)
+    requires below { page.old.stamp < 2 ^ 64 - 1 }
+    requires room { vec_len page.old.infos < vec_capacity page.old.infos }
+    requires sized { sum_by (λ info. info.log_size) (page.old.infos.items ++ info ∷ []) < 2 ^ 63 }
+    ensures stamp { page.new.stamp ≡ page.old.stamp + 1 }
+    ensures infos { page.new.infos.items ≡ page.old.infos.items ++ info ∷ [] }
+    ensures kept { page.new.kept ≡ page.old.kept }
+{
+    page.infos.push_reserved(info);
+    page.stamp += 1;
+}

@@ -1,0 +1,21 @@
+//! What calls of the page cache in a row do.
+
+ghost use Rattle.std.specs.Prelude.{List, [], ◌∷◌, ◌++◌};
+ghost use Rattle.sled_pagecache.specs.Cache.{Cache};
+ghost use Rattle.sled_pagecache.specs.Calls.{Steps};
+ghost use Rattle.sled_pagecache.specs.Rows.{StepInRow, AreMade};
+ghost use Rattle.sled_pagecache.specs.declared.pagecache.call.Answer.{Answer};
+ghost use Rattle.sled_pagecache.specs.declared.pagecache.call.Call.{Call};
+
+use sled_log::Log;
+
+/// No call and one call are steps in a row, and so are calls behind others, and calls that were made one after another.
+///
+/// What they write is added to the log in order, and a stop at any moment of them leaves what the log held and a beginning of
+/// what all of them write, up to a fair cut.
+pub fn calls_in_a_row_are_steps<L: Log>()
+    ensures none { (cache : Cache L) → StepInRow L.Log cache [] cache }
+    ensures one { (old new : Cache L) (call : Call) (answer : Answer) → Steps L.Log old call answer new → StepInRow L.Log old ((call, answer) ∷ []) new }
+    ensures then { (old mid new : Cache L) (calls others : List (Call × Answer)) → StepInRow L.Log old calls mid → StepInRow L.Log mid others new → StepInRow L.Log old (calls ++ others) new }
+    ensures made { (old new : Cache L) (calls : List (Call × Answer)) → AreMade L.Log old calls new → StepInRow L.Log old calls new }
+{}

@@ -1,0 +1,129 @@
+// A log in memory of which one read fails.
+
+ghost use Rattle.std.specs.Prelude.{◌≡◌, ℕ, ◌+◌, ◌≤◌, ◌^◌, pos, [], true};
+ghost use Rattle.sled_log.specs.Calls.{one_more};
+ghost use Rattle.sled_log.specs.Items.{left_now, stable_left};
+ghost use Rattle.sled_log.specs.Memory.{state_of, clock_of, might_have_left, size_of, stable_size_of, pending_size_of};
+
+use super::*;
+use sled_base::Lsn;
+
+// A log in memory. The read with this number fails, the first being 1, and no other.
+#[derive(Drop)]
+pub(super) struct FailingLog {
+    log: MemLog,
+    fails_at: u64,
+    reads: u64,
+    failed: u64,
+}
+
+// One more, unless the count is the greatest.
+fn one_more(count: u64) -> u64
+    ensures { result ≡ one_more count }
+{
+    if count == u64::MAX { count } else { count + 1 }
+}
+
+impl FailingLog {
+    pub(super) fn new(log: MemLog, fails_at: u64) -> FailingLog
+        ensures { result.log ≡ log }
+    {
+        FailingLog {
+            log,
+            fails_at,
+            reads: 0,
+            failed: 0,
+        }
+    }
+}
+
+impl Log for FailingLog {
+    ghost state = { λ log. state_of log.log };
+
+    ghost moment = { λ log. clock_of log.log };
+
+    ghost left_since = { λ log t pages. might_have_left log.log t pages };
+
+    ghost counts = { λ log. record { reads = log.reads; failed_reads = log.failed; write_faults = 0 } };
+
+    ghost bytes = { λ log. size_of log.log };
+
+    ghost stable_bytes = { λ log. pos (stable_size_of log.log) };
+
+    ghost to_write = { λ log. pending_size_of log.log };
+
+    ghost is_full = { λ log n. 2 ^ 63 ≤ size_of log.log + 17 + n };
+
+    ghost is_full_for_batch = { λ _. ⊥ };
+
+    ghost keeps_stable = { λ log t le usable. stable_left log.log.clock log.log.items.items t le };
+
+    ghost only_now = { λ log pages left. left_now log.log.clock log.log.items.items pages left };
+
+    fn append(
+        &mut self,
+        kind: MessageKind,
+        pid: PageId,
+        payload: &[u8],
+    ) -> Result<(Lsn, DiskPtr, u64), LogError> {
+        self.log.append(kind, pid, payload)
+    }
+
+    fn read(
+        &mut self,
+        pid: PageId,
+        lsn: Lsn,
+        pointer: DiskPtr,
+    ) -> Result<(MessageKind, Vec<u8>), LogError> {
+        self.reads = one_more(self.reads);
+        if self.reads == self.fails_at {
+            self.failed = one_more(self.failed);
+            return Err(LogError::ReadFault);
+        }
+        self.log.read(pid, lsn, pointer)
+    }
+
+    fn make_stable(&mut self) -> Result<usize, LogError> {
+        self.log.make_stable()
+    }
+
+    fn pin(&mut self) -> Result<(), LogError> {
+        self.log.pin()
+    }
+
+    fn seal(&mut self) -> Result<(), LogError> {
+        self.log.seal()
+    }
+
+    fn cancel(&mut self) -> Result<(), LogError> {
+        self.log.cancel()
+    }
+
+    fn recover(&mut self) -> Result<Vec<PageState>, LogError> {
+        self.log.recover()
+    }
+
+    fn batch_open(&self) -> bool {
+        self.log.batch_open()
+    }
+
+    fn stable_offset(&self) -> Lsn {
+        self.log.stable_offset()
+    }
+
+    fn size(&self) -> u64 {
+        self.log.size()
+    }
+
+    fn reads(&self) -> u64 {
+        self.reads
+    }
+
+    fn failed_reads(&self) -> u64 {
+        self.failed
+    }
+
+    fn write_faults(&self) -> u64 {
+        self.log.write_faults()
+    }
+}

@@ -1,0 +1,177 @@
+// Caches that are opened over a log that another wrote.
+
+use super::*;
+
+// A log of a new cache with page 2, of which a link sets "b" to "v". Neither is flushed.
+fn page_and_link(alloc: Global) -> Result<Option<MemLog>, Fail> {
+    let mut cache = opened(alloc)?;
+    let link = set(alloc, b"b", b"v")?;
+    let written = adds_leaf(alloc, &mut cache, 2) && takes(&mut cache, link);
+    Ok(written.then(|| cache.into_log()))
+}
+
+// A cache over what a stop leaves of it that keeps so many of the changes, if it may.
+fn left_by(alloc: Global, n: usize) -> Result<Option<Cache>, Fail> {
+    let Some(log) = page_and_link(alloc)? else {
+        return Ok(None);
+    };
+    if !log.is_fair(n) {
+        return Ok(None);
+    }
+    Ok(reopened(alloc, log.stop(n)))
+}
+
+#[test]
+fn a_stop_leaves_the_first_changes(rt: HostRuntime) -> Result<(), Fail> {
+    let alloc = rt.alloc();
+    let mut neither = left_by(alloc, 0)?.ok_or("none of the changes")?;
+    assert!(rt; neither.was_recovered());
+    assert!(rt; is_absent(&mut neither, 2));
+    assert!(rt; adds_leaf(alloc, &mut neither, 2));
+    let mut page = left_by(alloc, 1)?.ok_or("the page")?;
+    assert!(rt; is_empty(&mut page, 2, 0));
+    let mut both = left_by(alloc, 2)?.ok_or("the page and the link")?;
+    assert!(rt; has_pair(&mut both, 2, 0, b"b", b"v"));
+    assert!(rt; left_by(alloc, 3)?.is_none());
+    Ok(())
+}
+
+#[test]
+fn stamps_begin_again_at_0(rt: HostRuntime) -> Result<(), Fail> {
+    let alloc = rt.alloc();
+    let mut cache = left_by(alloc, 2)?.ok_or("the page and the link")?;
+    let (link, same) = (set(alloc, b"c", b"w")?, set(alloc, b"c", b"w")?);
+    assert!(rt; is_stale(&mut cache, 1, link, PageView::new(2, 0), same));
+    Ok(())
+}
+
+// Whether page 2, at stamp 1, takes so many links, one after another.
+pub(super) fn takes_links(alloc: Global, cache: &mut Cache, links: u32) -> Result<bool, Fail> {
+    for before in 0..links {
+        let link = set(alloc, b"b", b"v")?;
+        let old = u64::from(before) + 1;
+        if !answers(cache, 2, old, link, Ok(Ok(PageView::new(2, old + 1)))) {
+            return Ok(false);
+        }
+    }
+    Ok(true)
+}
+
+// The log of a new cache with page 2 and so many links on it, all flushed.
+fn flushed(alloc: Global, links: u32) -> Result<Option<MemLog>, Fail> {
+    let mut cache = opened(alloc)?;
+    let written = adds_leaf(alloc, &mut cache, 2) && takes_links(alloc, &mut cache, links)?;
+    let _ = cache.flush()?;
+    Ok(written.then(|| cache.into_log()))
+}
+
+// How often the log of a page with three links was read, once it was opened again and page 2 was asked for so often.
+fn reads_after(alloc: Global, gets: usize) -> Result<Option<u64>, Fail> {
+    let Some(log) = flushed(alloc, 3)? else {
+        return Ok(None);
+    };
+    let Some(mut cache) = reopened(alloc, log) else {
+        return Ok(None);
+    };
+    for _ in 0..gets {
+        if !has_pair(&mut cache, 2, 0, b"b", b"v") {
+            return Ok(None);
+        }
+    }
+    Ok(Some(cache.into_log().reads()))
+}
+
+#[test]
+fn a_page_is_read_once(rt: HostRuntime) -> Result<(), Fail> {
+    let alloc = rt.alloc();
+    // the two system pages
+    assert_eq!(rt; reads_after(alloc, 0)?, Some(2));
+    assert_eq!(rt; reads_after(alloc, 1)?, Some(6));
+    assert_eq!(rt; reads_after(alloc, 2)?, Some(6));
+    Ok(())
+}
+
+// How many links the log keeps of page 2.
+fn links_kept(mut log: MemLog) -> Option<usize> {
+    match log.recover() {
+        Ok(pages) => links_of(&pages),
+        Err(_) => None,
+    }
+}
+
+fn links_of(pages: &[PageState]) -> Option<usize> {
+    match pages.get(2)? {
+        PageState::Present { frags, .. } => Some(frags.len()),
+        PageState::Free(..) => None,
+    }
+}
+
+#[test]
+fn the_tenth_link_is_a_replacement(rt: HostRuntime) -> Result<(), Fail> {
+    let alloc = rt.alloc();
+    for (links, kept) in [(0, 0), (9, 9), (10, 0), (11, 1), (19, 9), (20, 0)] {
+        let log = flushed(alloc, links)?.ok_or("links")?;
+        assert_eq!(rt; links_kept(log), Some(kept), "{links} links");
+    }
+    Ok(())
+}
+
+#[test]
+fn a_page_of_links_is_read_whole(rt: HostRuntime) -> Result<(), Fail> {
+    let alloc = rt.alloc();
+    for links in [9, 10, 11] {
+        let log = flushed(alloc, links)?.ok_or("links")?;
+        let mut cache = reopened(alloc, log).ok_or("a cache")?;
+        assert!(rt; has_pair(&mut cache, 2, 0, b"b", b"v"), "{links} links");
+    }
+    Ok(())
+}
+
+// Where the log keeps the first message of a page: its lsn, the pointer to it, and its log size.
+fn base_of(pages: &[PageState], pid: usize) -> Option<(i64, DiskPtr, u64)> {
+    match pages.get(pid)? {
+        PageState::Present { base, .. } => Some(*base),
+        PageState::Free(..) => None,
+    }
+}
+
+#[test]
+fn long_payloads_are_blobs(rt: HostRuntime) -> Result<(), Fail> {
+    let alloc = rt.alloc();
+    let log = MemLog::new(alloc, 4, 0);
+    let Ok(mut cache) = PageCache::start(alloc, CONFIG, log) else {
+        return Err("a cache".into());
+    };
+    assert!(rt; adds_leaf(alloc, &mut cache, 2));
+    let mut log = cache.into_log();
+    let pages = log.recover()?;
+    assert_eq!(rt; base_of(&pages, 1), Some((17, DiskPtr::Inline(17), 18)));
+    assert_eq!(rt; base_of(&pages, 2), Some((35, DiskPtr::Blob(35, 35), 25)));
+    Ok(())
+}
+
+#[test]
+fn a_flush_tells_what_was_pending(rt: HostRuntime) -> Result<(), Fail> {
+    let alloc = rt.alloc();
+    let mut cache = opened(alloc)?;
+    assert!(rt; adds_leaf(alloc, &mut cache, 2));
+    assert!(rt; takes(&mut cache, set(alloc, b"b", b"v")?));
+    assert_eq!(rt; cache.size_on_disk()?, 82);
+    assert_eq!(rt; cache.flush()?, 47);
+    assert_eq!(rt; cache.flush()?, 0);
+    assert_eq!(rt; cache.size_on_disk()?, 82);
+    Ok(())
+}
+
+#[test]
+fn a_stale_link_writes_nothing(rt: HostRuntime) -> Result<(), Fail> {
+    let alloc = rt.alloc();
+    let mut cache = opened(alloc)?;
+    assert!(rt; adds_leaf(alloc, &mut cache, 2));
+    assert!(rt; takes(&mut cache, set(alloc, b"b", b"v")?));
+    let before = cache.size_on_disk()?;
+    let (link, same) = (set(alloc, b"c", b"w")?, set(alloc, b"c", b"w")?);
+    assert!(rt; is_stale(&mut cache, 1, link, PageView::new(2, 2), same));
+    assert_eq!(rt; cache.size_on_disk()?, before);
+    Ok(())
+}
