@@ -89,7 +89,7 @@ pub trait Log: Drop {
         ensures sized { OnOk result (AllByRecursion IsSized (now effect_of_entry (state self.new))) };
 
     /// Reads a message of a page by its place, which is one of the page's chain: its kind, or the kind of its blob, and its
-    /// payload. Memory and ReadFault add nothing.
+    /// payload. Memory and ReadFault add nothing, and a read takes up no room.
     fn read(
         &mut self,
         pid: PageId,
@@ -100,6 +100,7 @@ pub trait Log: Drop {
         requires known { Any (IsAt lsn pointer) (slice_index_or (now effect_of_entry (state self.old)) pid []) }
         ensures called { Called state moment left_since counts self.old self.new (one_more (counts self.old).reads) (λ _. []) [] result }
         ensures found { IfOk result (λ found. All (λ entry. IsAt lsn pointer entry → IsRead entry found) (slice_index_or (now effect_of_entry (state self.old)) pid [])) }
+        ensures room { (n : ℕ) → is_full self.new n → is_full self.old n }
         ensures not_full { IsErrOf result Full → ⊥ };
 
     /// Makes all that is pending stable, and answers how many bytes it wrote. It takes no memory.

@@ -1,25 +1,25 @@
 -- One call of the cache is one step of the machine.
-use Rattle.std.proofs.Common.{◌≡◌, ℕ, Bool, true, false, List, [], ◌++◌, drop, take, Some, refl, sym, ◌∙◌, ap, subst}
+use Rattle.std.proofs.Common.{◌≡◌, Bool, true, false, List, [], ◌++◌, Some, refl, sym, ◌∙◌, ap, subst}
 use Rattle.std.proofs.lemmas.Bool.{false≢true}
 use Rattle.std.proofs.lemmas.List.{append-nil, append_assoc}
+use Rattle.std.specs.List.{Any}
 use Rattle.sled_base.specs.declared.types.Error.TheVariants.{Unsupported}
 use Rattle.sled_base.specs.declared.types.Why.TheVariants.{LogFull}
-use Rattle.sled_log.specs.Batches.{is_open, open_after, IsFair}
-use Rattle.sled_log.specs.Calls.{Counts}
+use Rattle.sled_log.specs.Batches.{is_open, open_after}
 use Rattle.sled_log.specs.Contents.{Update, contents_after}
 use Rattle.sled_log.specs.Events.{Event}
 use Rattle.sled_log.specs.Laws.{open_after-append, is_open-drop, IsFair-none}
-use Rattle.sled_log.specs.Messages.{Message, Entry, Told, effect_of}
+use Rattle.sled_log.specs.Messages.{Message, Told, effect_of}
 use Rattle.sled_log.specs.Reading.{AreTold}
 use Rattle.sled_log.specs.RunLaws.{StopsLeave-weaker}
 use Rattle.sled_log.specs.State as log
 use Rattle.sled_log.specs.State.{IsBeginning}
 use Rattle.sled_log.specs.declared.log.Log.{Ghosts}
-use Rattle.sled_pagecache.proofs.Carrying.{Carries, carries, leaves, proper-now}
+use Rattle.sled_pagecache.proofs.Carrying.{carries, leaves, proper-now}
 use Rattle.sled_pagecache.proofs.Staying.{stay-none}
 use Rattle.sled_pagecache.specs.Cache.{Cache, chain_length, IsIn}
-use Rattle.sled_pagecache.specs.Calls.{IsSameOpening, WasFull, IsStep, Steps}
-use Rattle.sled_pagecache.specs.Changes.{begun, changes_of, error_of}
+use Rattle.sled_pagecache.specs.Calls.{IsSameOpening, HasNoRoom, IsStep, Steps}
+use Rattle.sled_pagecache.specs.Changes.{written, begun, changes_of, error_of}
 use Rattle.sled_pagecache.specs.Journal.{Went}
 use Rattle.sled_pagecache.specs.JournalLaws.{Went-none}
 use Rattle.sled_pagecache.specs.Logged.{Logged, IsLogged, now, Adds, IsLeft}
@@ -88,7 +88,7 @@ module _ {L : Type 0} (g : Ghosts L) where
     pub batch : t.batch ≡ s.batch
     pub marks : open_after s.batch came ≡ s.batch
     pub contents : new.fault ≡ false → contents_of t ≡ contents_after (now held) came
-    pub full : error_of answer ≡ Some (Unsupported LogFull) → WasFull g old call held s
+    pub full : error_of answer ≡ Some (Unsupported LogFull) → Any (HasNoRoom g old.log) (written (chain_length g.state old) s call)
 
   -- no message stays proper where the cache is in a state
   pub stays-none : (cache : Cache L) (held : Logged) (s : State) → IsIn g.state cache held s → s.fault ≡ false → StayProper (log.now effect_of (log.told_state (g.state cache.log))) (now held) [] []

@@ -1,15 +1,14 @@
 -- What a call leads to that changes one page at most.
-use Rattle.std.proofs.Common.{◌≡◌, inl, ◌<◌, ◌^◌, ℕ, true, false, ◌==◌, List, [], ◌∷◌, ◌++◌, length, map, Some, slice_set, refl, sym, ◌∙◌, ap, subst}
+use Rattle.std.proofs.Common.{◌≡◌, ℕ, true, false, List, [], ◌∷◌, ◌++◌, map, Some, slice_set, refl, sym, ◌∙◌, ap}
 use Rattle.std.proofs.lemmas.Bool.{false≢true}
 use Rattle.std.proofs.lemmas.List.{map-append, map-set}
 use Rattle.std.specs.List.{Any}
 use Rattle.sled_base.specs.declared.types.Error.TheVariants.{Unsupported}
 use Rattle.sled_base.specs.declared.types.Why.TheVariants.{LogFull}
-use Rattle.sled_log.specs.Calls.{Counts}
 use Rattle.sled_log.specs.Chains.{chains_from}
 use Rattle.sled_log.specs.Contents.{Content, Update, contents_from}
 use Rattle.sled_log.specs.Events.{Change}
-use Rattle.sled_log.specs.Messages.{Entry, Told, effect_of}
+use Rattle.sled_log.specs.Messages.{Told, effect_of}
 use Rattle.sled_log.specs.Reading.{IsUpdate, MayChange}
 use Rattle.sled_log.specs.State as log
 use Rattle.sled_log.specs.Writing.{message_of}
@@ -18,11 +17,11 @@ use Rattle.sled_pagecache.proofs.CacheSteps.{LeadsTo, stays-none}
 use Rattle.sled_pagecache.proofs.Carrying.{proper-now}
 use Rattle.sled_pagecache.proofs.Staying.{stay-one}
 use Rattle.sled_pagecache.specs.Cache.{Cache, chain_length, IsIn}
-use Rattle.sled_pagecache.specs.Calls.{HasNoRoom, WasFull}
+use Rattle.sled_pagecache.specs.Calls.{HasNoRoom}
 use Rattle.sled_pagecache.specs.Changes.{written, begun, error_of}
 use Rattle.sled_pagecache.specs.Logged.{Logged, now}
 use Rattle.sled_pagecache.specs.Proper.{IsProper}
-use Rattle.sled_pagecache.specs.State.{Page, page, State, contents_of, with_page}
+use Rattle.sled_pagecache.specs.State.{Page, page, State, with_page}
 use Rattle.sled_pagecache.specs.Step.{Step}
 use Rattle.sled_pagecache.specs.declared.pagecache.call.Answer.{Answer}
 use Rattle.sled_pagecache.specs.declared.pagecache.call.Call.{Call}
@@ -35,7 +34,7 @@ module _ {L : Type 0} (g : Ghosts L) where
 
     -- nothing was told, and nothing changes
     pub leads-left : Step s call answer s → begun (chain_length g.state old) s call answer ≡ [] → new.stamps ≡ old.stamps → new.fault ≡ false
-        → (error_of answer ≡ Some (Unsupported LogFull) → WasFull g old call held s)
+        → (error_of answer ≡ Some (Unsupported LogFull) → Any (HasNoRoom g old.log) (written (chain_length g.state old) s call))
         → LeadsTo g old new held s call answer []
     leads-left step none stamps free full = record {
       t = s;
@@ -58,7 +57,7 @@ module _ {L : Type 0} (g : Ghosts L) where
     pub leads-same : Step s call answer s → begun (chain_length g.state old) s call answer ≡ [] → new.stamps ≡ old.stamps → new.fault ≡ false
         → (error_of answer ≡ Some (Unsupported LogFull) → Any (HasNoRoom g old.log) (written (chain_length g.state old) s call))
         → LeadsTo g old new held s call answer []
-    leads-same step none stamps free full = leads-left step none stamps free (λ said. inl (full said))
+    leads-same step none stamps free full = leads-left step none stamps free full
 
     -- a write fault came before anything was told
     pub leads-fault : Step s call answer (record s { fault = true }) → new.stamps ≡ old.stamps → new.fault ≡ true

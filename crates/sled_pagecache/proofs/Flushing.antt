@@ -1,11 +1,8 @@
 -- A flush, and the size of the log, as steps of the machine.
-use Rattle.std.proofs.Common.{◌≡◌, ℕ, Bool, true, false, List, [], Ok, Err, refl, sym, ◌∙◌, ap, subst}
-use Rattle.std.specs.Prelude.{MatchBool}
+use Rattle.std.proofs.Common.{◌≡◌, ℕ, Bool, true, false, List, [], Ok, Err, refl, sym, ◌∙◌, subst}
 use Rattle.sled_base.specs.declared.types.Device.TheVariants.{Write}
 use Rattle.sled_base.specs.declared.types.Error.TheVariants.{Io}
 use Rattle.sled_log.specs.Batches.{is_open}
-use Rattle.sled_log.specs.Calls.{Counts}
-use Rattle.sled_log.specs.Messages.{Entry, Told}
 use Rattle.sled_log.specs.ReadingLaws.{reads-open}
 use Rattle.sled_log.specs.State as log
 use Rattle.sled_log.specs.TellingLaws.{is_open-told}

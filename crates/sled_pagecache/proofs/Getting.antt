@@ -2,7 +2,7 @@
 use Rattle.std.proofs.Common.{◌≡◌, inl, inr, ℕ, Bool, true, false, List, [], Option, Some, None, Result, Ok, Err, slice_get, slice_index_or, refl, sym, ◌∙◌, ap, subst}
 use Rattle.std.proofs.lemmas.Bool.{false≢true, false_from_ne_true}
 use Rattle.sled_base.specs.Errors.{error_of}
-use Rattle.std.specs.Prelude.{IsErrOf, IfSome}
+use Rattle.std.specs.Prelude.{IsOk, IsErrOf, IfSome}
 use Rattle.sled_base.specs.declared.types.Device.{Device}
 use Rattle.sled_base.specs.declared.types.Device.TheVariants.{Read, Write}
 use Rattle.sled_base.specs.declared.types.Error.{Error}
@@ -163,6 +163,7 @@ module _ {L : Type 0} (g : Ghosts L) (old new : Cache L) (pid : ℕ) where
         reads = reads;
         once = resident found at;
         kept_out = tt;
+        always = λ _ _ _. refl;
       }
     where
       unblamed : (found : Option NodeView) → IsBlamed g old new (answered (Ok found))
@@ -176,8 +177,8 @@ module _ {L : Type 0} (g : Ghosts L) (old new : Cache L) (pid : ℕ) where
   pub got-refused : (refusal : Refusal)
       → (let err : Result (Unit {0}) Refusal = Err refusal in old.fault ≡ true → IsErrOf err (Io Write) × (new ≡ old))
       → (let err : Result (Unit {0}) Refusal = Err refusal in old.fault ≡ false → BringsIn g old pid err new)
-      → ReadsPage g old pid new → (IsAway old pid → IsAway new pid) → IsGot g old pid (Err refusal) new
-  got-refused refusal stuck brings reads kept_out = by old.fault refl
+      → ReadsPage g old pid new → (IsAway old pid → IsAway new pid) → (old.fault ≡ false → is_reserved pid ≡ false → IsResident old pid → (let err : Result (Unit {0}) Refusal = Err refusal in IsOk err)) → IsGot g old pid (Err refusal) new
+  got-refused refusal stuck brings reads kept_out always = by old.fault refl
     where
       is_write : (let err : Result (Unit {0}) Refusal = Err refusal in IsErrOf err (Io Write)) → refusal ≡ Io Write
       is_write h = let of : Result (Unit {0}) Refusal → Refusal = elim [ Ok answer ↦ refusal | Err other ↦ other ] in ap of h
@@ -196,6 +197,7 @@ module _ {L : Type 0} (g : Ghosts L) (old new : Cache L) (pid : ℕ) where
             reads = reads;
             once = tt;
             kept_out = kept_out;
+            always = always;
           }
       by false ready =
           let done = brings ready in
@@ -209,4 +211,5 @@ module _ {L : Type 0} (g : Ghosts L) (old new : Cache L) (pid : ℕ) where
             reads = reads;
             once = tt;
             kept_out = kept_out;
+            always = always;
           }

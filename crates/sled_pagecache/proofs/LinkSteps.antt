@@ -29,18 +29,17 @@ use Rattle.sled_node.specs.Links.{Accepts, applied}
 use Rattle.sled_node.specs.Node.{WholeNode}
 use Rattle.sled_node.specs.declared.node.link.Link.{Link as NodeLink}
 use Rattle.sled_pagecache.proofs.CacheSteps.{LeadsTo, steps-stuck, steps-went}
-use Rattle.sled_pagecache.proofs.Carrying.{carries, proper-now}
+use Rattle.sled_pagecache.proofs.Carrying.{proper-now}
 use Rattle.sled_pagecache.proofs.Changing.{leads-same, leads-left, leads-fault, leads-begun, leads-set}
 use Rattle.sled_pagecache.proofs.Held.{NodeStands, state-own, state-makes, node-stands}
 use Rattle.sled_pagecache.proofs.Lookups.{map-at, behind-own, node-full}
 use Rattle.sled_pagecache.proofs.PagesAt.{holds_now}
-use Rattle.sled_pagecache.proofs.PagingIn.{page-kept-at, page-own-at, before-away, places-length, length-before, stamps-same}
+use Rattle.sled_pagecache.proofs.PagingIn.{page-kept-at, page-own-at, places-length, length-before, stamps-same}
 use Rattle.sled_pagecache.proofs.Passing.{passes, stuck-passes, reserved-passes}
 use Rattle.sled_pagecache.proofs.ProperPages.{link-proper, put-proper}
-use Rattle.sled_pagecache.proofs.Staying.{stay-none}
 use Rattle.sled_pagecache.proofs.TableNodes.{view}
-use Rattle.sled_pagecache.specs.Cache.{Cache, chain_length, IsIn, IsAway}
-use Rattle.sled_pagecache.specs.Calls.{HasNoRoom, WasFull, Steps}
+use Rattle.sled_pagecache.specs.Cache.{Cache, chain_length, IsIn}
+use Rattle.sled_pagecache.specs.Calls.{HasNoRoom, Steps}
 use Rattle.sled_pagecache.specs.Changes.{written, begun, link_update, link_update_at}
 use Rattle.sled_pagecache.specs.Changes.{error_of as answered_error}
 use Rattle.sled_pagecache.specs.ChainReads.{chain_at}
@@ -49,7 +48,7 @@ use Rattle.sled_pagecache.specs.JournalLaws.{Went-none}
 use Rattle.sled_pagecache.specs.LinkedPages.{RefusesUntold, update_by, TellsLink, TakesLink, RefusesTold}
 use Rattle.sled_pagecache.specs.LinkedPages as linked
 use Rattle.sled_pagecache.specs.Logged.{Logged, now}
-use Rattle.sled_pagecache.specs.Pages.{HoldsChain, is_free, is_resident}
+use Rattle.sled_pagecache.specs.Pages.{HoldsChain, is_free}
 use Rattle.sled_pagecache.specs.Proper as proper
 use Rattle.sled_pagecache.specs.Proper.{IsProper}
 use Rattle.sled_pagecache.specs.State.{Page, page, State, page_at, with_page}
@@ -303,30 +302,13 @@ module _ {L : Type 0} (g : Ghosts L) where
 
             -- ---- nothing was told
 
-            was-full : (held : Logged) (s : State) (is : IsIn g.state old held s) (clear : s.fault ≡ false) → linked.WasFull g before pid q link → WasFull g old (call.Link t link) held s
-            was-full held s is clear full = by (is_resident q.kept) refl
-              where
-                by : (b : Bool) → is_resident q.kept ≡ b → WasFull g old (call.Link t link) held s
-                by true resident =
-                    inl (no-room held s is clear full.node full.made before.log
-                    (subst (λ (j : Journal L). g.is_full j.log (length (message_of (update_by q link full.node)).payload)) (full.in_memory resident) full.full))
-                by false away =
-                    let carried = carries g.state g.moment g.left_since g.counts before full.mid held [] [] (is.logged clear) tt
-                    (stay-none (log.now effect_of (log.told_state (g.state before.log))) (now held) (is-proper held s is clear full.node full.made)) full.went full.clear in
-                    inr (
-                      subst (λ (n : ℕ). IsAway old n) (sym same) (before-away g next config recovered before before pages free pid q q c ready behind at away),
-                      full.mid.log,
-                      record { held_then = carried.held_then; logged = carried.logged; added = carried.added },
-                      no-room held s is clear full.node full.made full.mid.log full.full,
-                    )
-
             module _ (stamp : page_then.stamp ≡ q.stamp) (held : Logged) (s : State) (is : IsIn g.state old held s) (clear : s.fault ≡ false) where
               stamps : new.stamps ≡ old.stamps
               stamps = stamps-same g next config recovered before after pages free pid q page_then c ready behind at stamp
 
               untold : (refusal : Refusal) → RefusesUntold (told chain) q.stamp link refusal
                   → (let err : Result (Unit {0}) Refusal = Err refusal in after.fault ≡ is_write_fault err)
-                  → (refusal ≡ Unsupported LogFull → linked.WasFull g before pid q link)
+                  → (refusal ≡ Unsupported LogFull → linked.HadNoRoom g before pid q link)
                   → LeadsTo g old new held s (call.Link t link) (Linked (Err (error_of refusal))) []
               untold OutOfMemory why fault full =
                   let found = stands held s is clear in
@@ -352,7 +334,7 @@ module _ {L : Type 0} (g : Ghosts L) where
                   leads-left g old new held s is clear (call.Link t link) (Linked (Err (error.Unsupported LogFull))) refl
                   (does s t pid same link clear behind (stands held s is clear).stamp node (there held s is clear node made) (Err (error.Unsupported LogFull)) s (at_stamp held s is clear node made) accepts
                   (λ most. below (is_fresh ∙ most)) refl)
-                  refl stamps fault (λ said. was-full held s is clear (full refl))
+                  refl stamps fault (λ said. (let had = full refl in no-room held s is clear had.node had.made before.log had.full))
               untold refusal why fault full = absurd why
 
             -- ---- an update was told
@@ -397,7 +379,7 @@ module _ {L : Type 0} (g : Ghosts L) where
 
             -- it was refused
             pub link-refused : (refusal : Refusal) → RefusesTold g before pid q link after refusal
-                → (let err : Result (Unit {0}) Refusal = Err refusal in IsCaused g.state g.moment g.left_since g.counts before after (linked.WasFull g before pid q link) err)
+                → (let err : Result (Unit {0}) Refusal = Err refusal in IsCaused g.state g.moment g.left_since g.counts before after (linked.HadNoRoom g before pid q link) err)
                 → page_then.stamp ≡ q.stamp → Steps g old (call.Link t link) (Linked (Err (error_of refusal))) new
             link-refused refusal (inl (went, why)) cause stamp =
                 let again : Refusal → Result (Unit {0}) Refusal = λ r. Err r in

@@ -24,7 +24,7 @@ use Rattle.sled_pagecache.proofs.Lookups.{node-full}
 use Rattle.sled_pagecache.specs.ChainReads.{chain_at, more}
 use Rattle.sled_pagecache.specs.Journal.{Went, IsCaused, IsOfLog, begun_by}
 use Rattle.sled_pagecache.specs.JournalLaws.{Went-then, IsCaused-since}
-use Rattle.sled_pagecache.specs.LinkedPages.{RefusesUntold, TellsLink, TakesLink, RefusesTold, WasFull}
+use Rattle.sled_pagecache.specs.LinkedPages.{RefusesUntold, TellsLink, TakesLink, RefusesTold, HadNoRoom}
 use Rattle.sled_pagecache.specs.Pages.{HoldsChain, IsKept, is_resident}
 use Rattle.sled_pagecache.specs.Swaps.{IsRaised, IsLinked, RefusesLink, update_of, written_by, linked_length}
 use Rattle.sled_pagecache.specs.declared.pagecache.journal.Journal.{Journal}
@@ -147,32 +147,28 @@ module _ {L : Type 0} (g : Ghosts L) (old mid new : Journal L) (pid : ℕ) (q pa
 
   -- ---- its cause
 
-  full-by : (k : Kept) → HoldsChain chain k → RefusesLink page.stamp k link (Unsupported LogFull) → (is_resident q.kept ≡ true → mid ≡ old)
-      → g.is_full mid.log (length (message_of (update k)).payload) → WasFull g old pid q link
-  full-by (kept.Node node) holds why unread full = record {
+  full-by : (k : Kept) → HoldsChain chain k → RefusesLink page.stamp k link (Unsupported LogFull) → ((n : ℕ) → g.is_full mid.log n → g.is_full old.log n)
+      → g.is_full mid.log (length (message_of (update k)).payload) → HadNoRoom g old pid q link
+  full-by (kept.Node node) holds why room full = record {
     node = node;
     made = holds;
-    mid = mid;
-    went = went;
-    clear = clear;
-    in_memory = unread;
-    full = subst (λ (k : ℕ). g.is_full mid.log (length (message_of (written_by k link (applied link node))).payload)) (ap length infos) full;
+    full = room _ (subst (λ (k : ℕ). g.is_full mid.log (length (message_of (written_by k link (applied link node))).payload)) (ap length infos) full);
   }
-  full-by kept.Free holds why unread full = absurd cc
-  full-by kept.Away holds why unread full = absurd cc
-  full-by (kept.Counter n) holds why unread full = absurd cc
-  full-by (kept.Roots roots) holds why unread full = absurd cc
+  full-by kept.Free holds why room full = absurd cc
+  full-by kept.Away holds why room full = absurd cc
+  full-by (kept.Counter n) holds why room full = absurd cc
+  full-by (kept.Roots roots) holds why room full = absurd cc
 
-  pub caused : (result : Result (Unit {0}) Refusal) → IfErr result (RefusesLink page.stamp page.kept link) → (is_resident q.kept ≡ true → mid ≡ old)
+  pub caused : (result : Result (Unit {0}) Refusal) → IfErr result (RefusesLink page.stamp page.kept link) → ((n : ℕ) → g.is_full mid.log n → g.is_full old.log n)
       → IsCaused g.state g.moment g.left_since g.counts mid new (g.is_full mid.log (length (message_of (update page.kept)).payload)) result
-      → IsCaused g.state g.moment g.left_since g.counts old new (WasFull g old pid q link) result
-  caused result why unread cause =
+      → IsCaused g.state g.moment g.left_since g.counts old new (HadNoRoom g old pid q link) result
+  caused result why room cause =
       let since = IsCaused-since g.state g.moment g.left_since g.counts old mid new [] (g.is_full mid.log (length (message_of (update page.kept)).payload)) result went cause in
       record {
         fault = since.fault;
         read = since.read;
         write = since.write;
-        full = λ said. full-by page.kept is.holds (subst (λ (r : Result (Unit {0}) Refusal). IfErr r (RefusesLink page.stamp page.kept link)) said why) unread (since.full said);
+        full = λ said. full-by page.kept is.holds (subst (λ (r : Result (Unit {0}) Refusal). IfErr r (RefusesLink page.stamp page.kept link)) said why) room (since.full said);
       }
 
   -- ---- how often the log was read

@@ -1,16 +1,14 @@
 -- The page of a state at an id is the one that the table keeps there.
-use Rattle.std.proofs.Common.{rules, ◌≡◌, ℕ, zero, suc, List, [], ◌∷◌, map, Option, Some, None, refl, sym, ◌∙◌, ap, subst, slice_get, slice_index_or}
-use Rattle.std.specs.List.{AllZip}
+use Rattle.std.proofs.Common.{rules, ◌≡◌, ℕ, zero, suc, List, [], ◌∷◌, map, Some, sym, subst, slice_get, slice_index_or}
 use Rattle.std.proofs.lemmas.Option.{none-some}
-use Rattle.sled_log.specs.Contents.{Content, Node}
+use Rattle.sled_log.specs.Contents.{Content}
 use Rattle.sled_log.specs.HoldingLaws.{holds-after}
-use Rattle.sled_log.specs.Messages.{Chain, Entry, told, effect_of, effect_of_entry}
+use Rattle.sled_log.specs.Messages.{Chain, Entry, told, effect_of_entry}
 use Rattle.sled_log.specs.Reading.{Makes, Hold}
 use Rattle.sled_log.specs.State as log
 use Rattle.sled_log.specs.TellingLaws.{now-told}
-use Rattle.sled_pagecache.specs.Cache.{Cache, IsIn}
 use Rattle.sled_pagecache.specs.Logged.{Logged, IsLogged, now}
-use Rattle.sled_pagecache.specs.State.{Page, page, State, contents_of, stamps_of, page_at}
+use Rattle.sled_pagecache.specs.State.{Page, page}
 use Rattle.sled_pagecache.specs.Table.{stamps_in}
 use Rattle.sled_pagecache.specs.declared.pagecache.page.Page.{Page as KeptPage}
 

@@ -10,7 +10,7 @@ use Rattle.sled_log.specs.Batches.{is_open, open_after}
 use Rattle.sled_log.specs.Chains.{is_empty, is_chain}
 use Rattle.sled_log.specs.Events.{Event}
 use Rattle.sled_log.specs.Messages.{Message, Chain, told, effect_of, effect_of_entry}
-use Rattle.sled_log.specs.Pages.{IsSized, said_of}
+use Rattle.sled_log.specs.Pages.{IsSized}
 use Rattle.sled_log.specs.State as log
 use Rattle.sled_log.specs.TellingLaws.{is_open-told}
 use Rattle.sled_log.specs.declared.log.Log.{Ghosts}
@@ -19,7 +19,7 @@ use Rattle.sled_pagecache.proofs.ReadCounts.{reads-none, reads-whole, reads-part
 use Rattle.sled_pagecache.proofs.TableNodes.{view}
 use Rattle.sled_pagecache.proofs.Tables.{IsSet, consistent-set, free-same}
 use Rattle.sled_pagecache.specs.Cache.{Cache, chain_length, IsResident, IsAway}
-use Rattle.sled_pagecache.specs.ChainReads.{chain_at, place_of, more}
+use Rattle.sled_pagecache.specs.ChainReads.{chain_at, more}
 use Rattle.sled_pagecache.specs.Journal.{Went, IsCaused}
 use Rattle.sled_pagecache.specs.JournalLaws.{Went-none, is_open-Went}
 use Rattle.sled_pagecache.specs.Pages.{HoldsChain, IsKept, is_free, is_resident}
@@ -120,6 +120,10 @@ module _ {L : Type 0} (g : Ghosts L) (next : ℕ) (config : Config) (recovered :
 
     pub away-before : IsAway (cache before pages) pid → is_resident q.kept ≡ false
     away-before away = same_Some (is_resident q.kept) false (sym old_resident ∙ away)
+
+    -- what lies in memory isn't refused
+    pub always-pulled : (result : Result (Unit {0}) Refusal) → (is_resident q.kept ≡ true → IsOk result) → IsResident (cache before pages) pid → IsOk result
+    always-pulled result is_there resident = is_there (same_Some (is_resident q.kept) true (sym old_resident ∙ resident))
 
     pub before-away : is_resident q.kept ≡ false → IsAway (cache before pages) pid
     before-away away = old_resident ∙ ap (λ (b : Bool). Some b) away

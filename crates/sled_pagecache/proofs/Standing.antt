@@ -7,7 +7,6 @@ use Rattle.std.specs.List.{AllZip}
 use Rattle.sled_log.specs.Chains.{is_freeing, is_empty}
 use Rattle.sled_log.specs.Contents.{Content, Free, Counter, Roots, Node, Put, effect_of_update}
 use Rattle.sled_log.specs.Messages.{Chain, Entry, Told, told, effect_of_entry}
-use Rattle.sled_log.specs.Pages.{said_of}
 use Rattle.sled_log.specs.Reading.{LeadTo, Makes, Hold}
 use Rattle.sled_log.specs.ReadingLaws.{reads_effect}
 use Rattle.sled_log.specs.State as log
@@ -15,7 +14,6 @@ use Rattle.sled_node.specs.Links.{applied}
 use Rattle.sled_node.specs.Node.{WholeNode}
 use Rattle.sled_pagecache.proofs.PagesAt.{holds_now}
 use Rattle.sled_pagecache.specs.Cache.{Cache, IsIn}
-use Rattle.sled_pagecache.specs.ChainReads.{place_of}
 use Rattle.sled_pagecache.specs.Logged.{Logged}
 use Rattle.sled_pagecache.specs.Pages.{HoldsChain, IsKept}
 use Rattle.sled_pagecache.specs.Pages as kept

@@ -1,6 +1,6 @@
 -- What a call of the page cache does: it is one step of the machine, and a stop at any moment of it leaves a beginning of
 -- what it writes.
-use Rattle.std.specs.Prelude.{◌≡◌, ◌⊎◌, true, false, List, [], length, Some, Result, IsErrOf}
+use Rattle.std.specs.Prelude.{◌≡◌, true, false, length, Some, Result, IsErrOf}
 use Rattle.std.specs.List.{Any}
 use Rattle.sled_base.specs.declared.types.Device.TheVariants.{Read, Write}
 use Rattle.sled_base.specs.declared.types.Error.{Error}
@@ -12,24 +12,18 @@ use Rattle.sled_log.specs.Events.{Event, Change, Pin, Seal, Cancel}
 use Rattle.sled_log.specs.State as log
 use Rattle.sled_log.specs.Writing.{message_of}
 use Rattle.sled_log.specs.declared.log.Log.{Ghosts}
-use Rattle.sled_pagecache.specs.Cache.{Cache, chain_length, IsIn, IsAway}
+use Rattle.sled_pagecache.specs.Cache.{Cache, chain_length, IsIn}
 use Rattle.sled_pagecache.specs.Changes.{written, changes_of, error_of}
-use Rattle.sled_pagecache.specs.Logged.{Logged, IsLogged, Adds, IsLeft}
+use Rattle.sled_pagecache.specs.Logged.{Logged, Adds, IsLeft}
 use Rattle.sled_pagecache.specs.State.{State}
 use Rattle.sled_pagecache.specs.Step.{Step}
 use Rattle.sled_pagecache.specs.declared.pagecache.call.Answer.{Answer}
 use Rattle.sled_pagecache.specs.declared.pagecache.call.Call.{Call}
-use Rattle.sled_pagecache.specs.declared.pagecache.call.Call.TheVariants.{Link}
 
 -- what stays while a cache is open: its settings, and whether the system pages were found
 pub record IsSameOpening {L : Type 0} (old new : Cache L) : Type 0 where
   pub config : new.config ≡ old.config
   pub recovered : new.recovered ≡ old.recovered
-
--- the call reads its page before it writes, since that doesn't lie in memory
-abbrev pub ReadsFirst : {L : Type 0} → Cache L → Call → Type 0
-ReadsFirst cache (Link old link) = IsAway cache old.pid
-ReadsFirst cache call = ⊥
 
 module _ {L : Type 0} (g : Ghosts L) where
   -- the log had no room for the message of the change
@@ -38,18 +32,6 @@ module _ {L : Type 0} (g : Ghosts L) where
   HasNoRoom log Pin = ⊥
   HasNoRoom log Seal = ⊥
   HasNoRoom log Cancel = ⊥
-
-  -- a log that the call came to, which holds what the log held when it began
-  pub record IsReached (held : Logged) (at : L) : Type 0 where
-    pub held_then : Logged
-    pub logged : IsLogged (log.told_state (g.state at)) held_then
-    pub added : Adds held [] held_then
-
-  -- The log had no room for what the call would write: as the call found it, or, where the call read a page first, as it was then.
-  abbrev pub WasFull : Cache L → Call → Logged → State → Type 0
-  WasFull old call held s =
-      Any (HasNoRoom old.log) (written (chain_length g.state old) s call)
-      ⊎ (ReadsFirst old call × (at : L) × IsReached held at × Any (HasNoRoom at) (written (chain_length g.state old) s call))
 
   -- From this state, over a log that holds this, the call is one step to another state. What it writes is added to the log,
   -- and a stop at any moment of it leaves what the log held and a beginning of that, up to a fair cut. It is refused for a
@@ -61,7 +43,7 @@ module _ {L : Type 0} (g : Ghosts L) where
     pub step : Step s call answer t
     pub added : t.fault ≡ false → Adds held (changes_of (chain_length g.state old) s call answer) held_then
     pub stop : s.fault ≡ false → log.StopsLeave g.moment g.left_since old.log new.log (IsLeft held (changes_of (chain_length g.state old) s call answer))
-    pub full : error_of answer ≡ Some (Unsupported LogFull) → WasFull old call held s
+    pub full : error_of answer ≡ Some (Unsupported LogFull) → Any (HasNoRoom old.log) (written (chain_length g.state old) s call)
     pub stuck : s.fault ≡ true → new.log ≡ old.log
 
   -- The call is one step, in whatever state the cache is.

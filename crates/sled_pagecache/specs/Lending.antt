@@ -1,5 +1,5 @@
 -- What a page cache lends, and what it is once the loan is over.
-use Rattle.std.specs.Prelude.{ℕ, ⊤, Option, Some, None, Result, Ok, Err, OnErr, IfOk, IfSome}
+use Rattle.std.specs.Prelude.{◌≡◌, ℕ, false, ⊤, Option, Some, None, Result, Ok, Err, IsOk, OnErr, IfOk, IfSome}
 use Rattle.std.specs.Borrow.{Fml, RattleType, MutBor, follows_so}
 use mathlib.Core.Option.{none}
 use Rattle.sled_base.specs.Errors.{error_of}
@@ -10,6 +10,7 @@ use Rattle.sled_node.specs.Node.{WholeNode}
 use Rattle.sled_pagecache.specs.Cache.{Cache, IsResident, IsAway}
 use Rattle.sled_pagecache.specs.Calls.{Steps, IsBlamed}
 use Rattle.sled_pagecache.specs.Reads.{ReadsPage}
+use Rattle.sled_pagecache.specs.Step.{is_reserved}
 use Rattle.sled_pagecache.specs.Token.{Token}
 use Rattle.sled_pagecache.specs.declared.pagecache.call.Answer.TheVariants.{Got}
 use Rattle.sled_pagecache.specs.declared.pagecache.call.Call.TheVariants.{Get}
@@ -30,6 +31,8 @@ pub record IsGot {L : Type 0} (g : Ghosts L) (old : Cache L) (pid : ℕ) (result
   pub reads : ReadsPage g old pid new
   pub once : IfOk result (λ found. IfSome found (λ view. IsResident new pid))
   pub kept_out : OnErr result (IsAway old pid → IsAway new pid)
+  -- a page that lies in memory is lent without memory and without the device
+  pub always : old.fault ≡ false → is_reserved pid ≡ false → IsResident old pid → IsOk result
 
 -- what the cache is at the end of the loan
 abbrev pub EndsAsGot : (L : RattleType) (g : Ghosts L.Denot) → MutBor (Cache L.Denot) → ℕ → Result (Option NodeView) Refusal → Fml

@@ -13,6 +13,7 @@ pub mod RowLaws
 pub mod Journal
 pub mod JournalLaws
 pub mod ChainReads
+pub mod Stamps
 pub mod Reads
 pub mod Reading
 pub mod Pages

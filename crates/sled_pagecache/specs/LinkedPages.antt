@@ -1,5 +1,5 @@
 -- What a link makes of a page, which is read where it doesn't lie in memory.
-use Rattle.std.specs.Prelude.{◌≡◌, ◌≢◌, ◌⊎◌, ◌-◌, ◌^◌, ℕ, true, false, [], ◌∷◌, length, slice_set, ⊤}
+use Rattle.std.specs.Prelude.{◌≡◌, ◌≢◌, ◌⊎◌, ◌-◌, ◌^◌, ℕ, [], ◌∷◌, length, slice_set, ⊤}
 use Rattle.std.specs.List.{AllByRecursion}
 use Rattle.sled_base.specs.declared.types.Bug.TheVariants.{LinkRefused}
 use Rattle.sled_base.specs.declared.types.Device.TheVariants.{Write}
@@ -20,7 +20,7 @@ use Rattle.sled_node.specs.Node.{WholeNode}
 use Rattle.sled_node.specs.declared.node.link.Link.{Link as NodeLink}
 use Rattle.sled_pagecache.specs.ChainReads.{chain_at}
 use Rattle.sled_pagecache.specs.Journal.{Went}
-use Rattle.sled_pagecache.specs.Pages.{IsKept, is_resident}
+use Rattle.sled_pagecache.specs.Pages.{IsKept}
 use Rattle.sled_pagecache.specs.Swaps.{IsRaised, written_by, linked_length}
 use Rattle.sled_pagecache.specs.declared.pagecache.journal.Journal.{Journal}
 use Rattle.sled_pagecache.specs.declared.pagecache.page.Kept.TheVariants as kept
@@ -66,12 +66,8 @@ module _ {L : Type 0} (g : Ghosts L) (old : Journal L) (pid : ℕ) (page : Page)
       (Went g.state g.moment g.left_since g.counts old new [] × RefusesUntold (told (chain_at (g.state old.log) pid)) page.stamp link refusal)
       ⊎ ((refusal ≡ Io Write) × TellsLink new)
 
-  -- The log had no room for the update, once the page was read where it didn't lie in memory.
-  pub record WasFull : Type 0 where
+  -- The log had no room for the update.
+  pub record HadNoRoom : Type 0 where
     pub node : WholeNode
     pub made : Makes (told (chain_at (g.state old.log) pid)) (content.Node node)
-    pub mid : Journal L
-    pub went : Went g.state g.moment g.left_since g.counts old mid []
-    pub clear : mid.fault ≡ false
-    pub in_memory : is_resident page.kept ≡ true → mid ≡ old
-    pub full : g.is_full mid.log (length (message_of (update_by page link node)).payload)
+    pub full : g.is_full old.log (length (message_of (update_by page link node)).payload)

@@ -1,5 +1,6 @@
 -- How often a call of the page cache reads its log.
-use Rattle.std.specs.Prelude.{◌≡◌, ◌≤◌, ℕ}
+use Rattle.std.specs.Prelude.{◌≡◌, ◌≤◌, ℕ, zero, suc, Result, OnOk, OnErr}
+use Rattle.sled_log.specs.Calls.{Counts}
 use Rattle.sled_log.specs.declared.log.Log.{Ghosts}
 use Rattle.sled_pagecache.specs.Cache.{Cache, chain_length, IsResident, IsAway}
 use Rattle.sled_pagecache.specs.ChainReads.{more}
@@ -18,3 +19,14 @@ module _ {L : Type 0} (g : Ghosts L) where
     pub times : ℕ
     pub most : times ≤ PAGE_CONSOLIDATION_THRESHOLD
     pub is : (g.counts new.log).reads ≡ more times (g.counts old.log).reads
+
+-- how many of so many pages are the cache's own
+abbrev pub own_among : ℕ → ℕ
+own_among zero = 0
+own_among (suc zero) = 1
+own_among (suc (suc pages)) = 2
+
+-- the log was read so often, or, where the call is refused, at most so often
+pub record HasRead {L T E : Type 0} (counts : L → Counts) (old new : L) (n : ℕ) (result : Result T E) : Type 0 where
+  pub whole : OnOk result ((counts new).reads ≡ more n (counts old).reads)
+  pub part : OnErr result ((times : ℕ) × (times ≤ n) × ((counts new).reads ≡ more times (counts old).reads))

@@ -1,5 +1,5 @@
 -- What always holds of a page cache: its table of pages beside what its log holds.
-use Rattle.std.specs.Prelude.{◌≡◌, ◌≤◌, ◌<◌, ◌^◌, ℕ, Bool, false, true, List, ◌∷◌, length, map}
+use Rattle.std.specs.Prelude.{◌≡◌, ◌≤◌, ◌^◌, ℕ, Bool, false, true, List, ◌∷◌, length, map}
 use Rattle.std.specs.List.{AllByRecursion, AllZip}
 use Rattle.sled_log.specs.Batches.{is_open}
 use Rattle.sled_log.specs.Chains.{is_chain}

@@ -1,7 +1,9 @@
 mod failing;
+mod memory;
 mod reads;
 mod recovery;
 mod stops;
+mod writes;
 
 use super::*;
 use std::alloc::{AllocError, Global};

@@ -1,6 +1,6 @@
 // The log in memory as a log.
 
-ghost use Rattle.std.specs.Prelude.{◌≡◌, ◌+◌, ◌≤◌, ◌<◌, ◌^◌, ◌↔◌, pos, [], ◌∷◌, length, true, false, slice_index_or, IfOk, IfErr, OnOk, IsOk, IsErrOf};
+ghost use Rattle.std.specs.Prelude.{◌≡◌, ℕ, ◌+◌, ◌≤◌, ◌<◌, ◌^◌, ◌↔◌, pos, [], ◌∷◌, length, true, false, slice_index_or, IfOk, IfErr, OnOk, IsOk, IsErrOf};
 ghost use Rattle.std.specs.List.{All, AllByRecursion, AllZip, Any};
 ghost use Rattle.sled_log.specs.Batches.{is_open};
 ghost use Rattle.sled_log.specs.Calls.{Called, one_more};
@@ -104,6 +104,7 @@ impl Log for MemLog {
         requires known { Any (IsAt lsn pointer) (slice_index_or (now effect_of_entry (state_of self.old)) pid []) }
         ensures called { Called state_of clock_of might_have_left counts_of self.old self.new (one_more (counts_of self.old).reads) (λ _. []) [] result }
         ensures found { IfOk result (λ found. All (λ entry. IsAt lsn pointer entry → IsRead entry found) (slice_index_or (now effect_of_entry (state_of self.old)) pid [])) }
+        ensures room { (n : ℕ) → 2 ^ 63 ≤ size_of self.new + 17 + n → 2 ^ 63 ≤ size_of self.old + 17 + n }
         ensures moves { MovesNothing self.old self.new (λ _. []) result }
         ensures only { IfErr result (λ e. e ≡ Memory) }
         ensures past { Remembers self.old self.new }
@@ -121,6 +122,7 @@ impl Log for MemLog {
         ensures called { Called state_of clock_of might_have_left counts_of self.old self.new (counts_of self.old).reads (λ _. []) [] result }
         ensures stable { OnOk result ((state_of self.new).pending ≡ []) }
         ensures number { IfOk result (λ n. n ≡ pending_size_of self.old) }
+        ensures size { size_of self.new ≡ size_of self.old }
         ensures settings { settings_of self.new ≡ settings_of self.old }
         ensures always { IsOk result }
         ensures past { Remembers self.old self.new }

@@ -1,6 +1,6 @@
 //! The cache. Each call is one step of a machine.
 
-ghost use Rattle.std.specs.Prelude.{◌≡◌, ◌≢◌, ◌+◌, [], false, true, None, Some, Err, IfOk, IfErr, OnOk, OnErr, IsErrOf};
+ghost use Rattle.std.specs.Prelude.{◌≡◌, ◌≢◌, ◌+◌, [], false, true, length, None, Some, Err, IfOk, IfErr, IsOk, OnOk, OnErr, IsErrOf};
 ghost use Rattle.std.specs.Borrow.{sem};
 ghost use Rattle.sled_base.specs.declared.types.Device.TheVariants.{Write};
 ghost use Rattle.sled_base.specs.declared.types.Error.TheVariants.{Unsupported, Io};
@@ -15,8 +15,8 @@ ghost use Rattle.sled_pagecache.specs.Lending.{EndsAsGot};
 ghost use Rattle.sled_pagecache.specs.Logged.{Logged, IsLogged};
 ghost use Rattle.sled_pagecache.specs.Opening.{fault_of};
 ghost use Rattle.sled_pagecache.specs.PagesIn.{BringsIn, IsNodeAt};
-ghost use Rattle.sled_pagecache.specs.Reads.{ReadsNothing, ReadsPage};
-ghost use Rattle.sled_pagecache.specs.Starts.{RefusesOpening, Opens, IsBlamedOpening, MayBeOpened, HoldsNoNode};
+ghost use Rattle.sled_pagecache.specs.Reads.{ReadsNothing, ReadsPage, HasRead, own_among};
+ghost use Rattle.sled_pagecache.specs.Starts.{RefusesOpening, Opens, IsBlamedOpening, MayBeOpened, HoldsNoNode, log_after};
 ghost use Rattle.sled_pagecache.specs.Step.{is_reserved};
 ghost use Rattle.sled_pagecache.specs.Swaps.{linked_length};
 ghost use Rattle.sled_pagecache.specs.Token.{pid_of};
@@ -68,7 +68,7 @@ impl<L: Log> Model for PageCache<L> {
 }
 
 impl<L: Log> PageCache<L> {
-    /// Opens a cache over a log, of which no node is read.
+    /// Opens a cache over a log, of which the system pages are read, each by one read, and no node.
     ///
     /// The config is tested before the log is touched: `CapacityTooSmall` below a capacity of 256, `IntervalZero`, then
     /// `SegmentZero`. The pages that the log recovers have stamp 0. A missing page 0, of no named roots, or page 1, the counter
@@ -87,6 +87,7 @@ impl<L: Log> PageCache<L> {
         ensures blame { IsBlamedOpening L.Log log result }
         ensures again { IfErr result (λ e. e.0 ≢ Io Write → MayBeOpened L.Log e.1) }
         ensures unread { IfOk result (HoldsNoNode L.Log) }
+        ensures reads { HasRead L.counts log (log_after result) (own_among (length (now effect_of_entry (L.state log)))) result }
     {
         if let Some(why) = fault_of(config) {
             return Err((Error::Unsupported(why), log));
@@ -244,6 +245,7 @@ impl<L: Log> PageCache<L> {
     pub fn flush(&mut self) -> Result<usize, Error>
         ensures step { Steps L.Log self.old Flush (Flushed result) self.new }
         ensures blame { IsBlamed L.Log self.old self.new result }
+        ensures unread { ReadsNothing L.Log self.old self.new }
         ensures stable { OnOk result ((L.state self.new.log).pending ≡ []) }
         ensures number { IfOk result (λ n. n ≡ L.to_write self.old.log) }
     {
@@ -278,6 +280,7 @@ impl<L: Log> PageCache<L> {
     fn page_in(&mut self, pid: PageId) -> Result<(), Refusal>
         ensures stuck { self.old.fault ≡ true → IsErrOf result (refusal.Io Write) × (self.new ≡ self.old) }
         ensures brings { self.old.fault ≡ false → BringsIn L.Log self.old pid result self.new }
+        ensures always { self.old.fault ≡ false → is_reserved pid ≡ false → IsResident self.old pid → IsOk result }
         ensures reads { ReadsPage L.Log self.old pid self.new }
         ensures kept_out { OnErr result (IsAway self.old pid → IsAway self.new pid) }
     {

@@ -40,6 +40,7 @@ pub(super) fn read_chain<L: Log>(
     ensures cause { IsCaused L.state L.moment L.left_since L.counts journal.old journal.new ⊥ result }
     ensures sound { IfErr result IsOfLog }
     ensures same { journal.new.fault ≡ false → now effect_of_entry (L.state journal.new.log) ≡ now effect_of_entry (L.state journal.old.log) }
+    ensures room { (n : ℕ) → L.is_full journal.new.log n → L.is_full journal.old.log n }
     ensures reads { OnOk result ((L.counts journal.new.log).reads ≡ more (length infos.now) (L.counts journal.old.log).reads) }
     ensures at_most { OnErr result ((times : ℕ) × (times ≤ length infos.now) × ((L.counts journal.new.log).reads ≡ more times (L.counts journal.old.log).reads)) }
 {

@@ -1,6 +1,6 @@
 //! The log of a cache, and the write fault that is kept of it.
 
-ghost use Rattle.std.specs.Prelude.{◌≡◌, ◌+◌, ◌||◌, [], ◌∷◌, false, true, length, slice_index_or, IfOk, IfErr, OnOk, OnErr};
+ghost use Rattle.std.specs.Prelude.{◌≡◌, ℕ, ◌+◌, ◌||◌, [], ◌∷◌, false, true, length, slice_index_or, IfOk, IfErr, OnOk, OnErr};
 ghost use Rattle.std.specs.List.{All, AllByRecursion, AllZip, Any};
 ghost use Rattle.sled_base.specs.declared.types.Device.TheVariants.{Write};
 ghost use Rattle.sled_base.specs.declared.types.Refusal.TheVariants.{Io};
@@ -64,6 +64,7 @@ impl<L: Log> Journal<L> {
         ensures sound { IfErr result IsOfLog }
         ensures reads { (L.counts self.new.log).reads ≡ one_more (L.counts self.old.log).reads }
         ensures found { IfOk result (λ found. All (λ entry. IsAt lsn pointer entry → IsRead entry found) (slice_index_or (now effect_of_entry (L.state self.old.log)) pid [])) }
+        ensures room { (n : ℕ) → L.is_full self.new.log n → L.is_full self.old.log n }
         ensures same { self.new.fault ≡ false → now effect_of_entry (L.state self.new.log) ≡ now effect_of_entry (L.state self.old.log) }
     {
         let outcome = self.log.read(pid, lsn, pointer);
@@ -95,6 +96,7 @@ impl<L: Log> Journal<L> {
         ensures went { Went L.state L.moment L.left_since L.counts self.old self.new [] }
         ensures cause { IsCaused L.state L.moment L.left_since L.counts self.old self.new ⊥ result }
         ensures sound { IfErr result IsOfLog }
+        ensures reads { (L.counts self.new.log).reads ≡ (L.counts self.old.log).reads }
         ensures pages { IfOk result (λ pages. AllZip IsPageState (now effect_of_entry (L.state self.old.log)) pages.items) }
         ensures sized { OnOk result (AllByRecursion IsSized (now effect_of_entry (L.state self.old.log))) }
         ensures chains { OnOk result (AllByRecursion (λ chain. is_chain effect_of_entry chain ≡ true) (now effect_of_entry (L.state self.old.log))) }

@@ -12,6 +12,7 @@ ghost use Rattle.sled_pagecache.specs.Journal.{IsOfLog};
 ghost use Rattle.sled_pagecache.specs.Loading.{IsLoaded, IsUnread, IsTable, RefusesOwn, told_of_roots, counter_told, stamps_at_start};
 ghost use Rattle.sled_pagecache.specs.Proceeding.{Proceeds, refusal_in};
 ghost use Rattle.sled_pagecache.specs.Reading.{told_of, RefusesMessage};
+ghost use Rattle.sled_pagecache.specs.Reads.{HasRead};
 ghost use Rattle.sled_pagecache.specs.Table.{stamps_in};
 
 use super::chain::read_chain;
@@ -40,6 +41,7 @@ pub(super) fn read_roots<L: Log>(
     ensures same { journal.new.fault ≡ false → now effect_of_entry (L.state journal.new.log) ≡ now effect_of_entry (L.state journal.old.log) }
     ensures read { IfOk result (λ roots. Makes (told (chain_at (L.state journal.old.log) 0)) (contents.Roots roots)) }
     ensures refused { IfErr result (RefusesOwn 0 (chain_at (L.state journal.old.log) 0)) }
+    ensures reads { HasRead L.counts journal.old.log journal.new.log 1 result }
 {
     let found = read_own(alloc, journal, META_PID, page)?;
     roots_of(&found[0], alloc)
@@ -59,6 +61,7 @@ pub(super) fn read_counter<L: Log>(
     ensures same { journal.new.fault ≡ false → now effect_of_entry (L.state journal.new.log) ≡ now effect_of_entry (L.state journal.old.log) }
     ensures read { IfOk result (λ n. Makes (told (chain_at (L.state journal.old.log) 1)) (contents.Counter n)) }
     ensures refused { IfErr result (RefusesOwn 1 (chain_at (L.state journal.old.log) 1)) }
+    ensures reads { HasRead L.counts journal.old.log journal.new.log 1 result }
 {
     let found = read_own(alloc, journal, COUNTER_PID, page)?;
     counter_of(&found[0], alloc)
@@ -81,6 +84,7 @@ fn read_own<L: Log>(
     ensures found { IfOk result (λ found. AllZip IsFoundAs (chain_at (L.state journal.old.log) pid) found.items) }
     ensures one { IfOk result (λ found. length found.items ≡ 1) }
     ensures refused { IfErr result (RefusesOwn pid (chain_at (L.state journal.old.log) pid)) }
+    ensures reads { HasRead L.counts journal.old.log journal.new.log 1 result }
 {
     if is_misfit(pid as usize, page) {
         return Err(Refusal::Corruption(Some(page.infos[0].pointer)));
@@ -130,6 +134,7 @@ pub(super) fn add_roots<L: Log>(
     ensures table { OnOk result (IsTable (now effect_of_entry (L.state journal.new.log)) pages.new.items) }
     ensures one { OnOk result (length pages.new.items ≡ 1) }
     ensures stamps { OnOk result (stamps_in pages.new.items ++ 1 ∷ [] ≡ stamps_at_start pages.old.items) }
+    ensures unread { (L.counts journal.new.log).reads ≡ (L.counts journal.old.log).reads }
 {
     if !pages.is_empty() {
         return Ok(());
@@ -162,6 +167,7 @@ pub(super) fn add_counter<L: Log>(
     ensures of_log { IfErr result IsOfLog }
     ensures table { OnOk result (IsTable (now effect_of_entry (L.state journal.new.log)) pages.new.items) }
     ensures stamps { OnOk result (stamps_in pages.new.items ≡ stamps_in pages.old.items ++ 1 ∷ []) }
+    ensures unread { (L.counts journal.new.log).reads ≡ (L.counts journal.old.log).reads }
     ensures two { OnOk result (length pages.new.items ≡ 2) }
 {
     let (Ok(()), Ok(mut infos)) = (pages.reserve(1), Vec::with_capacity(alloc, 1)) else {

@@ -1,8 +1,9 @@
 //! Pages as the cache keeps them.
 
-ghost use Rattle.std.specs.Prelude.{◌≡◌, ◌<◌, ◌^◌, vec_len, map, IfOk};
+ghost use Rattle.std.specs.Prelude.{◌≡◌, ◌<◌, ◌^◌, length, vec_len, map, IfOk};
 ghost use Rattle.std.specs.List.{sum_by};
 ghost use Rattle.sled_pagecache.specs.ChainReads.{place_of};
+ghost use Rattle.sled_pagecache.specs.Stamps.{stamps_to};
 
 use super::chain::CacheInfo;
 use sled_base::{DiskPtr, Lsn, PageState};
@@ -21,6 +22,7 @@ pub struct Page {
     pub(super) kept: Kept,
     ghost some: { 0 < vec_len infos },
     ghost sized: { sum_by (λ info. info.log_size) infos.items < 2 ^ 63 },
+    ghost stamped: { map (λ info. info.ts) infos.items ≡ stamps_to stamp (length infos.items) },
 }
 
 /// What a page holds.

@@ -5,7 +5,7 @@ ghost use Rattle.sled_log.specs.Messages.{effect_of_entry, told};
 ghost use Rattle.sled_log.specs.State.{now};
 ghost use Rattle.sled_pagecache.specs.ChainReads.{chain_at, more};
 ghost use Rattle.sled_pagecache.specs.Journal.{Went, IsCaused};
-ghost use Rattle.sled_pagecache.specs.LinkedPages.{TakesLink, RefusesTold, WasFull};
+ghost use Rattle.sled_pagecache.specs.LinkedPages.{TakesLink, RefusesTold, HadNoRoom};
 ghost use Rattle.sled_pagecache.specs.Pages.{IsKept, is_free, is_resident};
 ghost use Rattle.sled_pagecache.specs.Pulling.{RefusesPull};
 ghost use Rattle.sled_pagecache.specs.Table.{IsFreeOrNode};
@@ -43,6 +43,7 @@ pub(super) fn pull<L: Log>(
     ensures unread { is_resident page.old.kept ≡ true → journal.new ≡ journal.old }
     ensures went { Went L.state L.moment L.left_since L.counts journal.old journal.new [] }
     ensures cause { IsCaused L.state L.moment L.left_since L.counts journal.old journal.new ⊥ result }
+    ensures room { (n : ℕ) → L.is_full journal.new.log n → L.is_full journal.old.log n }
     ensures reads { is_resident page.old.kept ≡ false → OnOk result ((L.counts journal.new.log).reads ≡ more (length page.old.infos.items) (L.counts journal.old.log).reads) }
     ensures at_most { OnErr result ((times : ℕ) × (times ≤ length page.old.infos.items) × ((L.counts journal.new.log).reads ≡ more times (L.counts journal.old.log).reads)) }
     ensures refused { IfErr result (RefusesPull (told (chain_at (L.state journal.old.log) pid))) }
@@ -68,7 +69,7 @@ pub(super) fn pull_and_link<L: Log>(
     requires kept { IsKept (chain_at (L.state journal.old.log) pid) page.old }
     ensures taken { OnOk result (TakesLink L.Log journal.old pid page.old link.now journal.new page.new) }
     ensures refused { IfErr result (RefusesTold L.Log journal.old pid page.old link.now journal.new) }
-    ensures cause { IsCaused L.state L.moment L.left_since L.counts journal.old journal.new (WasFull L.Log journal.old pid page.old link.now) result }
+    ensures cause { IsCaused L.state L.moment L.left_since L.counts journal.old journal.new (HadNoRoom L.Log journal.old pid page.old link.now) result }
     ensures left { OnErr result ((page.new.stamp ≡ page.old.stamp) × (page.new.infos.items ≡ page.old.infos.items)) }
     ensures same { OnErr result (journal.new.fault ≡ false → now effect_of_entry (L.state journal.new.log) ≡ now effect_of_entry (L.state journal.old.log)) }
     ensures still { OnErr result (journal.new.fault ≡ false → IsKept (chain_at (L.state journal.old.log) pid) page.new) }

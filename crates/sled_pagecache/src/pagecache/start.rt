@@ -11,6 +11,7 @@ ghost use Rattle.sled_pagecache.specs.Journal.{IsOfLog};
 ghost use Rattle.sled_pagecache.specs.Loading.{AreRecovered, AreRead, IsTable, IsUnread, IsOpenedWith, RefusesPages, next_id, told_at_start, stamps_at_start};
 ghost use Rattle.sled_pagecache.specs.Opening.{fault_of};
 ghost use Rattle.sled_pagecache.specs.Proceeding.{Proceeds, refusal_in};
+ghost use Rattle.sled_pagecache.specs.Reads.{HasRead, own_among};
 ghost use Rattle.sled_pagecache.specs.Starts.{RefusesOpening};
 ghost use Rattle.sled_pagecache.specs.Table.{IsConsistent, stamps_in};
 
@@ -65,6 +66,7 @@ pub(super) fn open<L: Log>(
     ensures opened { IfOk result (λ opening. (held : List Content) → Hold (map told (now effect_of_entry (L.state journal.old.log))) held → IsOpenedWith config held (stamps_in opening.pages.items) opening.next opening.recovered) }
     ensures stable { OnOk result (length (now effect_of_entry (L.state journal.old.log)) < 2 → (L.state journal.new.log).pending ≡ []) }
     ensures unread { IfOk result (λ opening. (pid : ℕ) → 2 ≤ pid → IfSome (slice_get opening.pages.items pid) (λ page. IsUnread page.kept)) }
+    ensures reads { HasRead L.counts journal.old.log journal.new.log (own_among (length (now effect_of_entry (L.state journal.old.log)))) result }
 {
     let mut pages = recover_pages(alloc, journal)?;
     let counter = read_system_pages(alloc, journal, &mut pages)?;
@@ -101,6 +103,7 @@ fn recover_pages<L: Log>(alloc: Global, journal: &mut Journal<L>) -> Result<Vec<
     ensures same { journal.new.fault ≡ false → now effect_of_entry (L.state journal.new.log) ≡ now effect_of_entry (L.state journal.old.log) }
     ensures pages { IfOk result (λ pages. AreRecovered (now effect_of_entry (L.state journal.old.log)) pages.items) }
     ensures refused { IfErr result (RefusesPages (now effect_of_entry (L.state journal.old.log))) }
+    ensures unread { (L.counts journal.new.log).reads ≡ (L.counts journal.old.log).reads }
 {
     let states = journal.recover()?;
     if states.len() > MAX_PAGES {
@@ -125,6 +128,7 @@ fn read_system_pages<L: Log>(
     ensures same { journal.new.fault ≡ false → now effect_of_entry (L.state journal.new.log) ≡ now effect_of_entry (L.state journal.old.log) }
     ensures read { IfOk result (AreRead (now effect_of_entry (L.state journal.old.log)) pages.new.items) }
     ensures refused { IfErr result (RefusesPages (now effect_of_entry (L.state journal.old.log))) }
+    ensures reads { HasRead L.counts journal.old.log journal.new.log (own_among (length pages.old.items)) result }
 {
     if pages.is_empty() {
         return Ok(None);
@@ -157,6 +161,7 @@ fn add_missing<L: Log>(
     ensures both { OnOk result (1 < length pages.new.items) }
     ensures others { OnOk result ((pid : ℕ) → 2 ≤ pid → slice_get pages.new.items pid ≡ slice_get pages.old.items pid) }
     ensures stable { OnOk result (length pages.old.items < 2 → (L.state journal.new.log).pending ≡ []) }
+    ensures unread { (L.counts journal.new.log).reads ≡ (L.counts journal.old.log).reads }
 {
     if pages.len() > 1 {
         return Ok(());

@@ -71,6 +71,7 @@ pub(super) fn replace_page<L: Log>(
 fn keep_alone(page: &mut Page, info: CacheInfo)
     requires below { page.old.stamp < 2 ^ 64 - 1 }
     requires sized { sum_by (λ info. info.log_size) (info ∷ []) < 2 ^ 63 }
+    requires stamped { info.ts ≡ page.old.stamp + 1 }
     ensures stamp { page.new.stamp ≡ page.old.stamp + 1 }
     ensures infos { page.new.infos.items ≡ info ∷ [] }
     ensures kept { page.new.kept ≡ page.old.kept }
@@ -196,6 +197,7 @@ fn keep_linked(page: &mut Page, info: CacheInfo)
     requires below { page.old.stamp < 2 ^ 64 - 1 }
     requires room { vec_len page.old.infos < PAGE_CONSOLIDATION_THRESHOLD → vec_len page.old.infos < vec_capacity page.old.infos }
     requires sized { sum_by (λ info. info.log_size) (infos_after page.old.infos.items info) < 2 ^ 63 }
+    requires stamped { info.ts ≡ page.old.stamp + 1 }
     ensures stamp { page.new.stamp ≡ page.old.stamp + 1 }
     ensures infos { page.new.infos.items ≡ infos_after page.old.infos.items info }
     ensures kept { page.new.kept ≡ page.old.kept }
@@ -212,6 +214,7 @@ fn keep_also(page: &mut Page, info: CacheInfo)
     requires below { page.old.stamp < 2 ^ 64 - 1 }
     requires room { vec_len page.old.infos < vec_capacity page.old.infos }
     requires sized { sum_by (λ info. info.log_size) (page.old.infos.items ++ info ∷ []) < 2 ^ 63 }
+    requires stamped { info.ts ≡ page.old.stamp + 1 }
     ensures stamp { page.new.stamp ≡ page.old.stamp + 1 }
     ensures infos { page.new.infos.items ≡ page.old.infos.items ++ info ∷ [] }
     ensures kept { page.new.kept ≡ page.old.kept }

@@ -1,6 +1,6 @@
-// A log in memory of which one read fails.
+// A log in memory of which one read and one write fail.
 
-ghost use Rattle.std.specs.Prelude.{◌≡◌, ℕ, ◌+◌, ◌≤◌, ◌^◌, pos, [], true};
+ghost use Rattle.std.specs.Prelude.{◌≡◌, ◌==◌, ℕ, ◌+◌, ◌≤◌, ◌^◌, pos, [], true};
 ghost use Rattle.sled_log.specs.Calls.{one_more};
 ghost use Rattle.sled_log.specs.Items.{left_now, stable_left};
 ghost use Rattle.sled_log.specs.Memory.{state_of, clock_of, might_have_left, size_of, stable_size_of, pending_size_of};
@@ -8,13 +8,17 @@ ghost use Rattle.sled_log.specs.Memory.{state_of, clock_of, might_have_left, siz
 use super::*;
 use sled_base::Lsn;
 
-// A log in memory. The read with this number fails, the first being 1, and no other.
+// A log in memory. The read with one number fails, and the write with the other, each counted from 1, and no other. A write that
+// fails writes nothing.
 #[derive(Drop)]
 pub(super) struct FailingLog {
     log: MemLog,
-    fails_at: u64,
+    fails_to_read: u64,
+    fails_to_write: u64,
     reads: u64,
+    writes: u64,
     failed: u64,
+    faults: u64,
 }
 
 // One more, unless the count is the greatest.
@@ -24,27 +28,46 @@ fn one_more(count: u64) -> u64
     if count == u64::MAX { count } else { count + 1 }
 }
 
+// Counts one more, and tells whether it has this number.
+fn is_next(count: &mut u64, number: u64) -> bool
+    ensures { count.new ≡ one_more count.old }
+{
+    *count = one_more(*count);
+    *count == number
+}
+
 impl FailingLog {
-    pub(super) fn new(log: MemLog, fails_at: u64) -> FailingLog
-        ensures { result.log ≡ log }
+    pub(super) fn new(log: MemLog, fails_to_read: u64, fails_to_write: u64) -> FailingLog
+        ensures log { result.log ≡ log }
+        ensures usable { result.faults ≡ 0 }
     {
         FailingLog {
             log,
-            fails_at,
+            fails_to_read,
+            fails_to_write,
             reads: 0,
+            writes: 0,
             failed: 0,
+            faults: 0,
         }
+    }
+
+    // What is left of it.
+    pub(super) fn into_log(self) -> MemLog
+        ensures { result ≡ self.log }
+    {
+        self.log
     }
 }
 
 impl Log for FailingLog {
-    ghost state = { λ log. state_of log.log };
+    ghost state = { λ log. record { stable = (state_of log.log).stable; pending = (state_of log.log).pending; usable = log.faults == 0 } };
 
     ghost moment = { λ log. clock_of log.log };
 
     ghost left_since = { λ log t pages. might_have_left log.log t pages };
 
-    ghost counts = { λ log. record { reads = log.reads; failed_reads = log.failed; write_faults = 0 } };
+    ghost counts = { λ log. record { reads = log.reads; failed_reads = log.failed; write_faults = log.faults } };
 
     ghost bytes = { λ log. size_of log.log };
 
@@ -58,7 +81,7 @@ impl Log for FailingLog {
 
     ghost keeps_stable = { λ log t le usable. stable_left log.log.clock log.log.items.items t le };
 
-    ghost only_now = { λ log pages left. left_now log.log.clock log.log.items.items pages left };
+    ghost only_now = { λ log pages left. (let l = left_now log.log.clock log.log.items.items pages left in record { came = l.came; beginning = l.beginning; cut = l.cut; fair = l.fair; is = l.is }) };
 
     fn append(
         &mut self,
@@ -66,6 +89,10 @@ impl Log for FailingLog {
         pid: PageId,
         payload: &[u8],
     ) -> Result<(Lsn, DiskPtr, u64), LogError> {
+        if is_next(&mut self.writes, self.fails_to_write) {
+            self.faults = one_more(self.faults);
+            return Err(LogError::WriteFault);
+        }
         self.log.append(kind, pid, payload)
     }
 
@@ -75,8 +102,7 @@ impl Log for FailingLog {
         lsn: Lsn,
         pointer: DiskPtr,
     ) -> Result<(MessageKind, Vec<u8>), LogError> {
-        self.reads = one_more(self.reads);
-        if self.reads == self.fails_at {
+        if is_next(&mut self.reads, self.fails_to_read) {
             self.failed = one_more(self.failed);
             return Err(LogError::ReadFault);
         }
@@ -84,6 +110,10 @@ impl Log for FailingLog {
     }
 
     fn make_stable(&mut self) -> Result<usize, LogError> {
+        if is_next(&mut self.writes, self.fails_to_write) {
+            self.faults = one_more(self.faults);
+            return Err(LogError::WriteFault);
+        }
         self.log.make_stable()
     }
 
@@ -124,6 +154,6 @@ impl Log for FailingLog {
     }
 
     fn write_faults(&self) -> u64 {
-        self.log.write_faults()
+        self.faults
     }
 }

@@ -41,7 +41,7 @@ fn asked_twice(cache: &mut PageCache<FailingLog>) -> [Outcome; 4] {
 
 // What is answered where the read with this number fails: whether the cache was opened at once, and the outcomes.
 fn outcomes(alloc: Global, log: MemLog, fails_at: u64) -> Option<(bool, [Outcome; 4])> {
-    let log = FailingLog::new(log, fails_at);
+    let log = FailingLog::new(log, fails_at, 0);
     if log.batch_open() {
         return None;
     }

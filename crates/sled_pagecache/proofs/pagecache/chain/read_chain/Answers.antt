@@ -64,6 +64,7 @@ loop-info-preserved g c =
       reads = made.reads ∙ ap one_more so_far.reads ∙ more-next i (g.L.Log.counts c.args.journal.now.log).reads;
       len = search rules;
       room = search rules;
+      as_full = λ n full. so_far.as_full n (made.room n full);
     }
 
 pub returns-clause-found : goal.returns-clause-found
@@ -73,3 +74,6 @@ returns-clause-found g c =
     let last = c.loop-info-test.false in
     let le : length chain ≤ c.loop-info.info-index = omega arith in
     found-all chain c.loop-info.found.items c.loop-info.info-index le c.loop-info.invariant.found
+
+pub returns-in_err-kind-clause-room : goal.returns-in_err-kind-clause-room
+returns-in_err-kind-clause-room g c = λ n full. c.loop-info.invariant.as_full n (c.in_err-kind.ensures.room n full)

@@ -1,4 +1,4 @@
-use Rattle.std.proofs.Common.{◌≡◌, ◌≤◌, false, [], take, length, vec_len, vec_capacity}
+use Rattle.std.proofs.Common.{◌≡◌, ◌≤◌, ℕ, false, [], take, length, vec_len, vec_capacity}
 use Rattle.std.specs.List.{AllZip}
 use Rattle.sled_log.specs.Messages.{effect_of_entry}
 use Rattle.sled_log.specs.State.{now}
@@ -16,4 +16,5 @@ invariant-loop-info g l = record {
   reads : (g.L.Log.counts l.journal.log).reads ≡ more l.info-index (g.L.Log.counts l.fn.journal.log).reads;
   len : vec_len l.found ≡ l.info-index;
   room : length l.infos ≤ vec_capacity l.found;
+  as_full : (n : ℕ) → g.L.Log.is_full l.journal.log n → g.L.Log.is_full l.fn.journal.log n;
 }

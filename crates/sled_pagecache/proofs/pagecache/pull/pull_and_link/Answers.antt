@@ -15,7 +15,7 @@ returns-then-is_err-clause-cause g c =
     let done = c.link_page-outcome.ensures in
     caused g.L.Log c.args.journal.now c.pull.new.journal c.link_page-outcome.new.journal c.args.pid c.args.page.now c.pull.new.page c.link_page-outcome.new.page c.args.link.now
     read.went read.cause.fault read.same read.kept read.stamp read.infos read.resident c.link_page-outcome.result
-    done.refused read.unread done.cause
+    done.refused read.room done.cause
 
 pub returns-then-is_err-clause-at_most : goal.returns-then-is_err-clause-at_most
 returns-then-is_err-clause-at_most g c =
@@ -47,7 +47,7 @@ returns-else-was_away-clause-cause g c =
     let done = c.link_page-outcome.ensures in
     caused g.L.Log c.args.journal.now c.pull.new.journal c.link_page-outcome.new.journal c.args.pid c.args.page.now c.pull.new.page c.link_page-outcome.new.page c.args.link.now
     read.went read.cause.fault read.same read.kept read.stamp read.infos read.resident c.link_page-outcome.result
-    done.refused read.unread done.cause
+    done.refused read.room done.cause
 
 pub returns-else-was_away-clause-at_most : goal.returns-else-was_away-clause-at_most
 returns-else-was_away-clause-at_most g c =

@@ -1,12 +1,15 @@
-use Rattle.std.proofs.Common.{◌≡◌, ◌∙◌, [], List, None, Some, refl, sym, subst, rules}
+use Rattle.std.proofs.Common.{◌≡◌, ◌+◌, ◌∙◌, ℕ, [], List, length, Option, None, Some, refl, sym, ap, subst, arith, rules}
 use Rattle.std.proofs.lemmas.Result.{err_from_is_err_and}
 use Rattle.sled_base.specs.declared.types.Refusal.TheVariants.{Corruption, OutOfMemory}
 use Rattle.sled_log.specs.Events.{Event}
 use Rattle.sled_log.specs.Messages.{Message, Chain, effect_of_entry}
 use Rattle.sled_log.specs.State.{now}
+use Rattle.sled_pagecache.specs.ChainReads.{more}
+use Rattle.sled_pagecache.specs.Reads.{own_among}
 use Rattle.sled_pagecache.specs.Loading.{AreRead, told_at_start}
 use Rattle.sled_pagecache.specs.Proceeding.{Proceeds}
 use Rattle.sled_pagecache.proofs.Proceeding.{proceeds-then, proceeds-first, proceeds-refused}
+use Rattle.sled_pagecache.proofs.ReadCounts.{loaded-length, read-done, read-part, read-handed, read-then}
 use Rattle.sled_pagecache.proofs.Starting.{begins-amiss, read-table, read-fresh, read-told, read-fewer, read-unread, stays-closed, start-closed, table-consistent, opened-with}
 use Rattle.sled_pagecache.proofs.pagecache.start.open.Goals as goal
 
@@ -135,3 +138,55 @@ returns-clause-unread g c =
     let pages = c.read_system_pages.new.pages.items in
     let are : AreRead chains pages c.in_ok-counter.counter = subst (λ (l : List Chain). AreRead l pages c.in_ok-counter.counter) same c.in_ok-counter.ensures.read in
     λ pid from. rw (c.in_ok-add_missing.ensures.others pid from) (read-unread chains pages c.in_ok-counter.counter are pid from)
+
+pub returns-in_err-pages-clause-reads : goal.returns-in_err-pages-clause-reads
+returns-in_err-pages-clause-reads g c =
+    let count = own_among (length (now effect_of_entry (g.L.Log.state c.args.journal.now.log))) in
+    let p = err_from_is_err_and c.from_residual.result c.from_residual.ensures.1 in
+    rw (p.1, p.2) (read-part g.L.Log.counts c.args.journal.now.log c.recover_pages.new.journal.log count 0 c.in_err-pages.field-0.0 (omega arith) c.in_err-pages.ensures.unread)
+
+pub returns-in_err-counter-clause-reads : goal.returns-in_err-counter-clause-reads
+returns-in_err-counter-clause-reads g c =
+    let chains = now effect_of_entry (g.L.Log.state c.args.journal.now.log) in
+    let pages = c.in_ok-pages.pages.items in
+    let same : own_among (length pages) ≡ own_among (length chains) = ap own_among (loaded-length chains pages c.in_ok-pages.ensures.pages.loaded) in
+    let p = err_from_is_err_and c.from_residual-in_err-counter.result c.from_residual-in_err-counter.ensures.1 in
+    rw (p.1, p.2)
+    (read-handed g.L.Log.counts c.args.journal.now.log c.read_system_pages.new.journal.log (own_among (length pages) + 0) (own_among (length chains)) c.in_err-counter.field-0.0 c.in_err-counter.field-0.0 (omega (arith, same))
+    (read-then g.L.Log.counts {U = Option ℕ} c.args.journal.now.log c.recover_pages.new.journal.log c.read_system_pages.new.journal.log 0 (own_among (length pages)) c.in_err-counter.field-0.0 c.in_ok-pages.ensures.unread c.in_err-counter.ensures.reads))
+
+pub returns-in-Some-clause-reads : goal.returns-in-Some-clause-reads
+returns-in-Some-clause-reads g c =
+    let chains = now effect_of_entry (g.L.Log.state c.args.journal.now.log) in
+    let count = own_among (length chains) in
+    let first = (g.L.Log.counts c.args.journal.now.log).reads in
+    let pages = c.in_ok-pages.pages.items in
+    let so_far = c.in_ok-counter.ensures.reads.whole ∙ ap (more (own_among (length pages))) c.in_ok-pages.ensures.unread ∙ ap (λ n. more (own_among n) first) (loaded-length chains pages c.in_ok-pages.ensures.pages.loaded) in
+    read-part g.L.Log.counts c.args.journal.now.log c.read_system_pages.new.journal.log count count _ (omega arith) so_far
+
+pub returns-in_err-add_missing-clause-reads : goal.returns-in_err-add_missing-clause-reads
+returns-in_err-add_missing-clause-reads g c =
+    let chains = now effect_of_entry (g.L.Log.state c.args.journal.now.log) in
+    let count = own_among (length chains) in
+    let first = (g.L.Log.counts c.args.journal.now.log).reads in
+    let pages = c.in_ok-pages.pages.items in
+    let so_far = c.in_ok-counter.ensures.reads.whole ∙ ap (more (own_among (length pages))) c.in_ok-pages.ensures.unread ∙ ap (λ n. more (own_among n) first) (loaded-length chains pages c.in_ok-pages.ensures.pages.loaded) in
+    let p = err_from_is_err_and c.from_residual-in_err-add_missing.result c.from_residual-in_err-add_missing.ensures.1 in
+    rw (p.1, p.2) (read-part g.L.Log.counts c.args.journal.now.log c.add_missing.new.journal.log count count c.in_err-add_missing.field-0.0 (omega arith) (c.in_err-add_missing.ensures.unread ∙ so_far))
+
+pub returns-in_default-free_of-clause-reads : goal.returns-in_default-free_of-clause-reads
+returns-in_default-free_of-clause-reads g c =
+    let chains = now effect_of_entry (g.L.Log.state c.args.journal.now.log) in
+    let count = own_among (length chains) in
+    let first = (g.L.Log.counts c.args.journal.now.log).reads in
+    let pages = c.in_ok-pages.pages.items in
+    let so_far = c.in_ok-counter.ensures.reads.whole ∙ ap (more (own_among (length pages))) c.in_ok-pages.ensures.unread ∙ ap (λ n. more (own_among n) first) (loaded-length chains pages c.in_ok-pages.ensures.pages.loaded) in
+    read-part g.L.Log.counts c.args.journal.now.log c.add_missing.new.journal.log count count _ (omega arith) (c.in_ok-add_missing.ensures.unread ∙ so_far)
+
+pub returns-clause-reads : goal.returns-clause-reads
+returns-clause-reads g c =
+    let chains = now effect_of_entry (g.L.Log.state c.args.journal.now.log) in
+    let first = (g.L.Log.counts c.args.journal.now.log).reads in
+    let pages = c.in_ok-pages.pages.items in
+    let so_far = c.in_ok-counter.ensures.reads.whole ∙ ap (more (own_among (length pages))) c.in_ok-pages.ensures.unread ∙ ap (λ n. more (own_among n) first) (loaded-length chains pages c.in_ok-pages.ensures.pages.loaded) in
+    read-done g.L.Log.counts c.args.journal.now.log c.add_missing.new.journal.log (own_among (length chains)) _ (c.in_ok-add_missing.ensures.unread ∙ so_far)

@@ -51,3 +51,8 @@ returns-else-self-len-clause-stable c =
     let few = c.if-self-len.false in
     let one = c.len.ensures in
     pending_events self.clock self.stable self.items.items self.in_order ∙ ap (map event_of) (drop_all self.stable self.items.items (omega arith))
+
+pub returns-then-self-len-clause-size : goal.returns-then-self-len-clause-size
+returns-then-self-len-clause-size c =
+    let self = c.args.self.now in
+    ap log_size c.settle_from.ensures ∙ log_size-all_settled (self.clock + 1) self.stable self.items.items

@@ -8,7 +8,7 @@ returns-in_err-page_in g c =
     let done = c.in_err-page_in.ensures in
     let p = err_from_is_err_and c.from_residual.result c.from_residual.ensures.1 in
     rw (p.1, p.2)
-    ((refl, (λ _. tt), got-refused g.L.Log c.args.self.now c.page_in.new.self c.args.pid c.in_err-page_in.field-0.0 done.stuck done.brings done.reads done.kept_out), record { got = tt })
+    ((refl, (λ _. tt), got-refused g.L.Log c.args.self.now c.page_in.new.self c.args.pid c.in_err-page_in.field-0.0 done.stuck done.brings done.reads done.kept_out done.always), record { got = tt })
 
 pub returns : goal.returns
 returns g c =

@@ -1,10 +1,10 @@
 use Rattle.std.proofs.Common.{◌≡◌, false, [], Some, Result, Ok, slice_get, slice_set, refl, sym, ◌∙◌, ap, subst, arith}
 use Rattle.std.proofs.lemmas.Option.{slice_get_read}
-use Rattle.std.specs.Prelude.{OnErr}
+use Rattle.std.specs.Prelude.{IsOk, OnErr}
 use Rattle.sled_base.specs.declared.types.Refusal.{Refusal}
-use Rattle.sled_pagecache.proofs.PagingIn.{page-kept-at, page-own-at, same-consistent, brings-none, brings-pulled, kept_out-pulled, reads-pulled, part-pulled}
+use Rattle.sled_pagecache.proofs.PagingIn.{page-kept-at, page-own-at, same-consistent, brings-none, brings-pulled, kept_out-pulled, reads-pulled, part-pulled, always-pulled}
 use Rattle.sled_pagecache.proofs.TableNodes.{view}
-use Rattle.sled_pagecache.specs.Cache.{Cache, IsAway}
+use Rattle.sled_pagecache.specs.Cache.{Cache, IsResident, IsAway}
 use Rattle.sled_pagecache.specs.PagesIn.{BringsIn}
 use Rattle.sled_pagecache.specs.Reads.{ReadsPage}
 use Rattle.sled_pagecache.specs.Step.{is_reserved}
@@ -75,3 +75,14 @@ returns-clause-reads g c =
     (reads-pulled g.L.Log inside.next inside.config inside.recovered inside.journal c.pull.new.journal inside.pages.items inside.free.items c.args.pid q c.pull.new.page c.self.invariant c.if-self.false behind at
     c.pull.result (λ held. ap (λ journal. (g.L.Log.counts journal.log).reads) (done.unread held)) done.reads
     (part-pulled q c.pull.new.page _ c.pull.result done.err done.at_most))
+
+pub returns-clause-always : goal.returns-clause-always
+returns-clause-always g c =
+    let inside = c.self.inside in
+    let q = c.index_mut-page.result.now in
+    let behind : is_reserved c.args.pid ≡ false = sym c.is_reserved.ensures ∙ c.if-is_reserved.false in
+    let at : slice_get inside.pages.items c.args.pid ≡ Some q = slice_get_read inside.pages.items _ c.args.pid q refl (omega (arith, c.if-pid-count.false, c.len-count.ensures)) c.index_mut-page.ensures.value in
+    let done = c.pull.ensures in
+    λ ready free.
+    subst (λ cache. IsResident cache c.args.pid → IsOk c.pull.result) c.self.view_is
+    (always-pulled g.L.Log inside.next inside.config inside.recovered inside.journal c.pull.new.journal inside.pages.items inside.free.items c.args.pid q c.pull.new.page c.self.invariant c.if-self.false behind at c.pull.result done.is_there)

@@ -1,7 +1,6 @@
-use Rattle.std.proofs.Common.{◌∙◌, refl, sym, ap, subst}
+use Rattle.std.proofs.Common.{◌∙◌, refl, sym, ap}
 use Rattle.sled_pagecache.proofs.CacheSteps.{steps-same}
 use Rattle.sled_pagecache.proofs.Flushing.{size_step}
-use Rattle.sled_pagecache.specs.Cache.{Cache}
 use Rattle.sled_pagecache.proofs.pagecache.cache.PageCache.size_on_disk.Goals as goal
 
 pub returns-clause-step : goal.returns-clause-step

@@ -1,6 +1,7 @@
-use Rattle.std.proofs.Common.{refl, arith}
+use Rattle.std.proofs.Common.{◌==◌, refl, arith}
+use Rattle.sled_pagecache.specs.declared.tests.failing.FailingLog.{FailingLog}
 use Rattle.sled_pagecache.proofs.Failing.{called_over}
 use Rattle.sled_pagecache.proofs.tests.failing.FailingLogLog.seal.Goals as goal
 
 pub returns-clause-called : goal.returns-clause-called
-returns-clause-called c = called_over (λ log. log.log) _ c.args.self.now _ _ _ _ _ c.seal.result c.seal.ensures.called (omega arith) (omega arith) refl
+returns-clause-called c = called_over (λ (log : FailingLog). log.log) (λ log. log.faults == 0) _ c.args.self.now _ _ _ _ _ c.seal.result c.requires.usable c.seal.ensures.called (omega arith) (omega arith) refl

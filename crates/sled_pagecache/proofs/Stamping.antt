@@ -1,0 +1,45 @@
+-- The stamps and the log sizes of a page's messages.
+use Rattle.std.proofs.Common.{◌≡◌, ◌+◌, ◌-◌, ℕ, zero, suc, ℤ, List, [], ◌∷◌, ◌++◌, length, map, refl, sym, ◌∙◌, ap, arith}
+use Rattle.std.proofs.lemmas.List.{length-append, map-append}
+use Rattle.std.proofs.lemmas.List.Sums.{sum_by-cons}
+use Rattle.std.specs.List.{sum_by}
+use Rattle.sled_base.specs.declared.types.DiskPtr.{DiskPtr}
+use Rattle.sled_pagecache.specs.Recovered.{info_at}
+use Rattle.sled_pagecache.specs.Stamps.{stamps_to}
+use Rattle.sled_pagecache.specs.declared.pagecache.chain.CacheInfo.{CacheInfo}
+
+-- one message more, at the next stamp
+pub stamps-more : (stamp n : ℕ) → stamps_to stamp n ++ (stamp + 1) ∷ [] ≡ stamps_to (stamp + 1) (suc n)
+stamps-more stamp zero =
+    let same : stamp + 1 ≡ (stamp + 1) - 0 = omega arith in
+    ap (λ (k : ℕ). k ∷ []) same
+stamps-more stamp (suc n) =
+    let less : stamp - n ≡ (stamp + 1) - suc n = omega arith in
+    ap (λ (k : ℕ). k ∷ (stamps_to stamp n ++ (stamp + 1) ∷ [])) less ∙ ap (λ (l : List ℕ). ((stamp + 1) - suc n) ∷ l) (stamps-more stamp n)
+
+-- the messages of a recovered page have none
+pub stamps-none : (places : List (ℤ × DiskPtr × ℕ)) → map (λ (info : CacheInfo). info.ts) (map info_at places) ≡ stamps_to 0 (length (map info_at places))
+stamps-none [] = refl
+stamps-none (place ∷ places) =
+    let none : 0 ≡ 0 - length (map info_at places) = omega arith in
+    ap (λ (k : ℕ). k ∷ map (λ (info : CacheInfo). info.ts) (map info_at places)) none ∙ ap (λ (l : List ℕ). (0 - length (map info_at places)) ∷ l) (stamps-none places)
+
+abbrev stamps_in : List CacheInfo → List ℕ
+stamps_in infos = map (λ (info : CacheInfo). info.ts) infos
+
+-- a message was kept behind others
+pub stamped-more : (stamp : ℕ) (infos after : List CacheInfo) (info : CacheInfo) → stamps_in infos ≡ stamps_to stamp (length infos) → info.ts ≡ stamp + 1 → after ≡ infos ++ info ∷ []
+    → stamps_in after ≡ stamps_to (stamp + 1) (length after)
+stamped-more stamp infos after info was at is =
+    let one = length-append infos (info ∷ []) in
+    let many : suc (length infos) ≡ length (infos ++ info ∷ []) = omega (arith, one) in
+    ap stamps_in is ∙ map-append (λ (info : CacheInfo). info.ts) infos (info ∷ []) ∙ ap (λ (l : List ℕ). l ++ info.ts ∷ []) was
+    ∙ ap (λ (k : ℕ). stamps_to stamp (length infos) ++ k ∷ []) at ∙ stamps-more stamp (length infos) ∙ ap (stamps_to (stamp + 1)) (many ∙ ap length (sym is))
+
+-- ---- the log sizes of a recovered page's messages
+
+pub sizes-kept : (places : List (ℤ × DiskPtr × ℕ)) → sum_by (λ (info : CacheInfo). info.log_size) (map info_at places) ≡ sum_by (λ (place : ℤ × DiskPtr × ℕ). place.2) places
+sizes-kept [] = refl
+sizes-kept (place ∷ places) =
+    sum_by-cons (λ (info : CacheInfo). info.log_size) (info_at place) (map info_at places) ∙ ap (λ (n : ℕ). place.2 + n) (sizes-kept places)
+    ∙ sym (sum_by-cons (λ (place : ℤ × DiskPtr × ℕ). place.2) place places)

@@ -1,0 +1,150 @@
+// A list of calls, each made a second time where memory was wanting. Run with one allocation refused, whichever it is, it gives
+// the same answers and as many bytes: what was refused had changed nothing.
+
+use super::*;
+
+// Whether a call did what it should, and none where memory was wanting.
+type Done = Option<bool>;
+
+fn opens(alloc: Global, log: MemLog) -> Option<Cache> {
+    if log.batch_open() {
+        return None;
+    }
+    match PageCache::start(alloc, CONFIG, log) {
+        Ok(cache) => Some(cache),
+        Err((Error::OutOfMemory, log)) => reopened(alloc, log),
+        Err(_) => None,
+    }
+}
+
+fn adds_once(alloc: Global, cache: &mut Cache, pid: PageId) -> Done {
+    match cache.allocate(Node::default(alloc)) {
+        Ok(made) => Some(made == (pid, PageView::new(pid, 1))),
+        Err(Error::OutOfMemory) => None,
+        Err(_) => Some(false),
+    }
+}
+
+fn adds_page(alloc: Global, cache: &mut Cache, pid: PageId) -> bool {
+    match adds_once(alloc, cache, pid) {
+        Some(done) => done,
+        None => adds_leaf(alloc, cache, pid),
+    }
+}
+
+// What a swap of a page answered: its token, that memory was wanting, or something else.
+fn has_token<R>(answer: &Result<Result<PageView, R>, Error>, token: PageView) -> Done {
+    match answer {
+        Ok(Ok(given)) => Some(*given == token),
+        Err(Error::OutOfMemory) => None,
+        _ => Some(false),
+    }
+}
+
+// Links page 2 at this stamp.
+fn links_once(alloc: Global, cache: &mut Cache, old: u32) -> Done {
+    let old = u64::from(old);
+    let Ok(link) = set(alloc, b"b", b"v") else {
+        return Some(false);
+    };
+    let answer = cache.link(2, PageView::new(2, old), link);
+    let done = has_token(&answer, PageView::new(2, old + 1));
+    let_go(answer);
+    done
+}
+
+fn links_page(alloc: Global, cache: &mut Cache, old: u32) -> bool {
+    match links_once(alloc, cache, old) {
+        Some(done) => done,
+        None => links_once(alloc, cache, old) == Some(true),
+    }
+}
+
+// Whether page 2 takes links at stamps 1 to 11, and the log has so many bytes then.
+fn takes_eleven_links(alloc: Global, cache: &mut Cache, bytes: u64) -> bool {
+    for old in 1..12 {
+        if !links_page(alloc, cache, old) {
+            return false;
+        }
+    }
+    has_bytes(cache, bytes)
+}
+
+// A leaf of one pair.
+fn leaf_once(alloc: Global) -> Option<Node> {
+    let mut node = Node::default(alloc);
+    let Ok(link) = set(alloc, b"k", b"v") else {
+        return None;
+    };
+    if !node.accepts(&link) || node.apply(&link).is_err() {
+        return None;
+    }
+    Some(node)
+}
+
+fn leaf(alloc: Global) -> Option<Node> {
+    match leaf_once(alloc) {
+        Some(node) => Some(node),
+        None => leaf_once(alloc),
+    }
+}
+
+fn replaces_once(alloc: Global, cache: &mut Cache) -> Done {
+    let Some(node) = leaf(alloc) else {
+        return Some(false);
+    };
+    let answer = cache.replace(3, PageView::new(3, 1), node);
+    let done = has_token(&answer, PageView::new(3, 2));
+    let_replaced_go(answer);
+    done
+}
+
+fn let_replaced_go(_answer: Replaced) {}
+
+fn replaces_page(alloc: Global, cache: &mut Cache) -> bool {
+    match replaces_once(alloc, cache) {
+        Some(done) => done,
+        None => replaces_once(alloc, cache) == Some(true),
+    }
+}
+
+fn holds_once(cache: &mut Cache, pid: PageId, key: &[u8], value: &[u8]) -> Done {
+    match cache.get(pid) {
+        Ok(Some(view)) => Some(
+            view.token() == PageView::new(pid, 0) && is_pair(view.node(), key, value),
+        ),
+        Err(Refusal::OutOfMemory) => None,
+        _ => Some(false),
+    }
+}
+
+fn holds_pair(cache: &mut Cache, pid: PageId, key: &[u8], value: &[u8]) -> bool {
+    match holds_once(cache, pid, key, value) {
+        Some(done) => done,
+        None => has_pair(cache, pid, 0, key, value),
+    }
+}
+
+fn has_bytes(cache: &Cache, bytes: u64) -> bool {
+    matches!(cache.size_on_disk(), Ok(size) if size == bytes)
+}
+
+#[test]
+fn refused_allocations_change_nothing(rt: HostRuntime) -> Result<(), Fail> {
+    let alloc = rt.alloc();
+    let mut cache = opens(alloc, MemLog::new(alloc, 512, 16)).ok_or("a new cache")?;
+    assert!(rt; has_bytes(&cache, 35));
+    assert!(rt; adds_page(alloc, &mut cache, 2) && adds_page(alloc, &mut cache, 3));
+    assert!(rt; has_bytes(&cache, 85));
+    // nine links, the node of one pair that the tenth makes, and a link
+    assert!(rt; takes_eleven_links(alloc, &mut cache, 85 + 9 * 22 + 29 + 22));
+    assert!(rt; replaces_page(alloc, &mut cache));
+    assert!(rt; has_bytes(&cache, 363));
+    assert_eq!(rt; cache.flush()?, 328);
+    let mut cache = opens(alloc, cache.into_log()).ok_or("the cache again")?;
+    assert!(rt; holds_pair(&mut cache, 2, b"b", b"v"));
+    assert!(rt; holds_pair(&mut cache, 3, b"k", b"v"));
+    assert!(rt; links_page(alloc, &mut cache, 0));
+    assert!(rt; has_bytes(&cache, 385));
+    Ok(())
+}
