@@ -1,7 +1,7 @@
 -- How a byte string is kept.
 use Rattle.std.specs.Prelude.{ℕ, ◌≤◌, List, length, take}
 use Rattle.sled_base.specs.Bases.{bytes_at}
-use Rattle.sled_base.specs.declared.ivec.TheConstants.{CUTOFF}
+use Rattle.sled_base.specs.Limits.{inline_limit}
 use Rattle.sled_base.specs.declared.kept.Short.{Short}
 use Rattle.sled_base.specs.declared.kept.Part.{Part}
 use Rattle.sled_base.specs.declared.kept.Kept.{Kept}
@@ -20,4 +20,4 @@ bytes_of (Shared part) = part_bytes part
 
 -- so short that a copy takes no memory
 abbrev pub IsShort : List ℕ → Type 0
-IsShort bytes = length bytes ≤ CUTOFF
+IsShort bytes = length bytes ≤ inline_limit

@@ -1,3 +1,4 @@
+pub mod Limits
 pub mod Errors
 pub mod Kinds
 pub mod Pointers

@@ -9,6 +9,7 @@ ghost use Rattle.std.specs.Cmp.Lexicographic.{slice_cmp, pointwise, nat_list_eq_
 ghost use Rattle.std.specs.Hash as fed;
 ghost use Rattle.std.specs.Ordering.{nat_cmp};
 ghost use Rattle.std.proofs.Common.{ap, sym};
+ghost use Rattle.sled_base.specs.Limits.{inline_limit};
 
 use crate::kept::{Kept, Part, Short, shared_copy};
 use std::alloc::{AllocError, Global};
@@ -44,7 +45,7 @@ impl IVec {
     /// A copy of the bytes. Up to [`CUTOFF`] of them take no memory.
     pub fn from_slice(alloc: Global, bytes: &[u8]) -> Result<IVec, AllocError>
         ensures ok { IfOk result (λ v. v ≡ bytes.now) }
-        ensures few { length bytes.now ≤ CUTOFF → IsOk result }
+        ensures few { length bytes.now ≤ inline_limit → IsOk result }
     {
         if bytes.len() <= CUTOFF {
             return Ok(IVec::inline(bytes));
@@ -58,7 +59,7 @@ impl IVec {
     /// Up to [`CUTOFF`] of them take no memory. An error means that memory is wanting, and the list is let go.
     pub fn from_vec(alloc: Global, bytes: Vec<u8>) -> Result<IVec, AllocError>
         ensures ok { IfOk result (λ v. v ≡ bytes.items) }
-        ensures few { length bytes.items ≤ CUTOFF → IsOk result }
+        ensures few { length bytes.items ≤ inline_limit → IsOk result }
     {
         if bytes.len() > CUTOFF {
             return Ok(IVec::shared(Arc::new(alloc, bytes)?));
@@ -69,7 +70,7 @@ impl IVec {
     /// The bytes of a boxed slice, which is taken as [`IVec::from_vec`] takes a list.
     pub fn from_box(alloc: Global, bytes: BoxedSlice<u8>) -> Result<IVec, AllocError>
         ensures ok { IfOk result (λ v. v ≡ boxed_slice_items bytes) }
-        ensures few { length (boxed_slice_items bytes) ≤ CUTOFF → IsOk result }
+        ensures few { length (boxed_slice_items bytes) ≤ inline_limit → IsOk result }
     {
         IVec::from_vec(alloc, bytes.into_vec())
     }
@@ -90,7 +91,7 @@ impl IVec {
     /// A copy of the bytes of a text. Up to [`CUTOFF`] of them take no memory.
     pub fn from_str(alloc: Global, text: &str) -> Result<IVec, AllocError>
         ensures ok { IfOk result (λ v. v ≡ text.now) }
-        ensures few { length text.now ≤ CUTOFF → IsOk result }
+        ensures few { length text.now ≤ inline_limit → IsOk result }
     {
         IVec::from_slice(alloc, text.as_bytes())
     }
@@ -98,7 +99,7 @@ impl IVec {
     /// The bytes of an array. Up to [`CUTOFF`] of them take no memory.
     pub fn from_array<const N: usize>(alloc: Global, bytes: [u8; N]) -> Result<IVec, AllocError>
         ensures ok { IfOk result (λ v. v ≡ bytes.entry) }
-        ensures few { N ≤ CUTOFF → IsOk result }
+        ensures few { N ≤ inline_limit → IsOk result }
     {
         IVec::from_slice(alloc, &bytes)
     }
@@ -110,7 +111,7 @@ impl IVec {
         requires start { offset ≤ length self.now }
         requires end { len ≤ length self.now - offset }
         ensures ok { IfOk result (λ v. v ≡ take len (drop offset self.now)) }
-        ensures few { len ≤ CUTOFF → IsOk result }
+        ensures few { len ≤ inline_limit → IsOk result }
     {
         if let Kept::Shared(part) = &self.kept
             && len > CUTOFF
@@ -158,7 +159,7 @@ impl IVec {
         requires { FnOnceTakesAtMut F.FnOnce f self.old }
         ensures written { IfOk result (λ answer. FnOnceReturnsAtMut F.FnOnce f self.old answer self.new) }
         ensures length { length self.new ≡ length self.old }
-        ensures few { length self.old ≤ CUTOFF → IsOk result }
+        ensures few { length self.old ≤ inline_limit → IsOk result }
         ensures stays { OnErr result (self.new ≡ self.old) }
     {
         match &mut self.kept {
@@ -189,7 +190,7 @@ impl IVec {
     }
 
     fn inline(bytes: &[u8]) -> IVec
-        requires { length bytes.now ≤ CUTOFF }
+        requires { length bytes.now ≤ inline_limit }
         ensures { result ≡ bytes.now }
     {
         IVec {
@@ -198,7 +199,7 @@ impl IVec {
     }
 
     fn shared(base: Arc<Vec<u8>>) -> IVec
-        requires { CUTOFF < length (arc_value base).items }
+        requires { inline_limit < length (arc_value base).items }
         ensures { result ≡ (arc_value base).items }
     {
         IVec {

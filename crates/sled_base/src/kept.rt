@@ -3,7 +3,7 @@
 ghost use Rattle.std.specs.Prelude.{◌≡◌, ◌+◌, ◌<◌, ◌≤◌, length, take, drop, IfOk, OnErr};
 ghost use Rattle.std.specs.Fn.{FnOnceTakesAtMut, FnOnceReturnsAtMut};
 ghost use Rattle.std.specs.Arc.{arc_value};
-ghost use Rattle.sled_base.specs.declared.ivec.TheConstants.{CUTOFF};
+ghost use Rattle.sled_base.specs.Limits.{inline_limit};
 ghost use Rattle.sled_base.specs.Bases.{bytes_at};
 
 use crate::ivec::CUTOFF;
@@ -21,7 +21,7 @@ pub(crate) enum Kept {
 pub(crate) struct Short {
     len: u8,
     bytes: [u8; CUTOFF],
-    ghost short: { len ≤ CUTOFF },
+    ghost short: { len ≤ inline_limit },
 }
 
 /// More than [`CUTOFF`] bytes: `len` of those that are shared, from `offset` on.
@@ -30,7 +30,7 @@ pub(crate) struct Part {
     base: Arc<Vec<u8>>,
     offset: usize,
     len: usize,
-    ghost long: { CUTOFF < len },
+    ghost long: { inline_limit < len },
     ghost within: { offset + len ≤ length (arc_value base).items },
 }
 
@@ -39,7 +39,7 @@ impl Short {
 
     /// A copy of the bytes.
     pub(crate) fn new(from: &[u8]) -> Short
-        requires { length from.now ≤ CUTOFF }
+        requires { length from.now ≤ inline_limit }
         ensures { short_bytes result ≡ from.now }
     {
         let mut bytes = [0u8; CUTOFF];
@@ -72,7 +72,7 @@ impl Part {
 
     /// All that is shared.
     pub(crate) fn whole(base: Arc<Vec<u8>>) -> Part
-        requires { CUTOFF < length (arc_value base).items }
+        requires { inline_limit < length (arc_value base).items }
         ensures { part_bytes result ≡ (arc_value base).items }
     {
         let len = base.len();
@@ -92,7 +92,7 @@ impl Part {
 
     /// `len` bytes from `offset` on, which are shared with these.
     pub(crate) fn part(&self, offset: usize, len: usize) -> Result<Part, AllocError>
-        requires long { CUTOFF < len }
+        requires long { inline_limit < len }
         requires within { offset + len ≤ length (part_bytes self.now) }
         ensures { IfOk result (λ p. part_bytes p ≡ take len (drop offset (part_bytes self.now))) }
     {
@@ -142,7 +142,7 @@ impl Part {
 
 // What `f` answers, which is lent the first `len` bytes of an array to write.
 fn write_front<R, F: FnOnce(&mut [u8]) -> R>(bytes: &mut [u8; CUTOFF], len: usize, f: F) -> R
-    requires within { len ≤ CUTOFF }
+    requires within { len ≤ inline_limit }
     requires callable { FnOnceTakesAtMut F.FnOnce f (take len bytes.old) }
     ensures written { FnOnceReturnsAtMut F.FnOnce f (take len bytes.old) result (take len bytes.new) }
     ensures length { length (take len bytes.new) ≡ length (take len bytes.old) }

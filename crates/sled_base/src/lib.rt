@@ -4,6 +4,7 @@
 pub mod ivec;
 mod kept;
 pub mod kinds;
+pub mod laws;
 pub mod prefix;
 pub mod search;
 pub mod serialization;

@@ -1,7 +1,7 @@
 //! Keys without the prefix that they share, and searches in sorted slices of keys.
 
 ghost use Rattle.std.specs.Prelude.{◌≡◌, ◌≢◌, ◌+◌, ◌≤◌, ◌++◌, [], length, drop, All, IfOk, IfErr, IfSome, IfNone, IsOk, OnErr};
-ghost use Rattle.sled_base.specs.declared.ivec.TheConstants.{CUTOFF};
+ghost use Rattle.sled_base.specs.Limits.{inline_limit};
 ghost use Rattle.sled_base.specs.Order.{bytes_cmp, IsBelow};
 ghost use Rattle.sled_base.specs.Searches.{IsSorted, IsLastAtMost, IsLastEqual, count_below};
 
@@ -20,7 +20,7 @@ pub fn empty() -> IVec
 /// The whole key: the prefix and then the key that is kept without it. Up to [`CUTOFF`] bytes take no memory.
 pub fn decode(alloc: Global, prefix: &[u8], key: &[u8]) -> Result<IVec, AllocError>
     ensures ok { IfOk result (λ whole. whole ≡ prefix.now ++ key.now) }
-    ensures few { length (prefix.now ++ key.now) ≤ CUTOFF → IsOk result }
+    ensures few { length (prefix.now ++ key.now) ≤ inline_limit → IsOk result }
 {
     let len = prefix.len() + key.len();
     if len <= CUTOFF {
@@ -34,7 +34,7 @@ pub fn decode(alloc: Global, prefix: &[u8], key: &[u8]) -> Result<IVec, AllocErr
 
 // The same for so few bytes that they take no memory.
 fn decode_few(alloc: Global, prefix: &[u8], key: &[u8]) -> Result<IVec, AllocError>
-    requires { length prefix.now + length key.now ≤ CUTOFF }
+    requires { length prefix.now + length key.now ≤ inline_limit }
     ensures ok { IfOk result (λ whole. whole ≡ prefix.now ++ key.now) }
     ensures few { IsOk result }
 {
@@ -50,7 +50,7 @@ fn decode_few(alloc: Global, prefix: &[u8], key: &[u8]) -> Result<IVec, AllocErr
 /// Up to [`CUTOFF`] bytes take no memory.
 pub fn reencode(alloc: Global, prefix: &[u8], key: &[u8], n: usize) -> Result<IVec, AllocError>
     ensures ok { IfOk result (λ rest. rest ≡ drop n (prefix.now ++ key.now)) }
-    ensures few { length (drop n (prefix.now ++ key.now)) ≤ CUTOFF → IsOk result }
+    ensures few { length (drop n (prefix.now ++ key.now)) ≤ inline_limit → IsOk result }
 {
     let front = n.min(prefix.len());
     let back = (n - front).min(key.len());

@@ -1,5 +1,5 @@
 ghost use Rattle.std.specs.Prelude.{◌≡◌, ◌<◌, ◌≤◌, length, slice_set, IsOk, OnOk, OnErr};
-ghost use Rattle.sled_base.specs.declared.ivec.TheConstants.{CUTOFF};
+ghost use Rattle.sled_base.specs.Limits.{inline_limit};
 
 use super::*;
 use std::alloc::{AllocError, Global};
@@ -324,7 +324,7 @@ fn assert_keeps(rt: &impl Abort, alloc: Global, bytes: &[u8], len: usize) -> Res
 fn set_first(string: &mut IVec, alloc: Global, byte: u8) -> Result<(), AllocError>
     requires { 0 < length string.old }
     ensures written { OnOk result (string.new ≡ slice_set string.old 0 byte) }
-    ensures few { length string.old ≤ CUTOFF → IsOk result }
+    ensures few { length string.old ≤ inline_limit → IsOk result }
     ensures stays { OnErr result (string.new ≡ string.old) }
 {
     string.write_with(alloc, |bytes| bytes[0] = byte)

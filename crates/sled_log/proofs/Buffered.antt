@@ -1,5 +1,6 @@
 -- A log with a buffer over the log in memory: a stop leaves what was stable, and nothing of what is pending.
 use Rattle.std.proofs.Common.{◌≡◌, inl, inr, ⊎_elim, ◌≤◌, ℕ, Result, Ok, Err, List, [], ◌++◌, refl, sym, ◌∙◌, ap, subst, arith}
+use Rattle.std.specs.Prelude.{⊤}
 use Rattle.std.proofs.lemmas.Bool.{cases_lt}
 use Rattle.sled_log.specs.Calls.{Called, begun_by}
 use Rattle.sled_log.specs.Events.{Event}
@@ -28,15 +29,15 @@ stable_after old new events added =
 
 module _ {T : Type 0} (old new : MemLog) (count : ℕ) (events : T → List (Event Entry)) (begun : List (Event Message)) (tells : (answer : T) → told_events (events answer) ≡ begun) where
   -- so it is for each answer: the log in memory meets no write fault
-  stable_called : (result : Result T LogError) → Called state_of clock_of might_have_left counts_of old new count events begun result
+  stable_called : (result : Result T LogError) → Called ⊤ state_of clock_of might_have_left counts_of old new count events begun result
       → IsLeft effect_of (told_state (state_of old)) (begun_by result begun) (stable_at (clock_of new) new)
   stable_called (Ok answer) called =
       subst (λ (l : List (Event Message)). IsLeft effect_of (told_state (state_of old)) l (stable_at (clock_of new) new)) (tells answer)
-      (stable_after (state_of old) (state_of new) (events answer) called.added)
-  stable_called (Err Memory) called = stable_after (state_of old) (state_of new) [] (called.refused refl)
-  stable_called (Err Full) called = stable_after (state_of old) (state_of new) [] (called.refused refl)
-  stable_called (Err ReadFault) called = stable_after (state_of old) (state_of new) [] (called.refused refl)
-  stable_called (Err Corruption) called = stable_after (state_of old) (state_of new) [] (called.refused refl)
+      (stable_after (state_of old) (state_of new) (events answer) (called.added tt))
+  stable_called (Err Memory) called = stable_after (state_of old) (state_of new) [] (called.refused tt refl)
+  stable_called (Err Full) called = stable_after (state_of old) (state_of new) [] (called.refused tt refl)
+  stable_called (Err ReadFault) called = stable_after (state_of old) (state_of new) [] (called.refused tt refl)
+  stable_called (Err Corruption) called = stable_after (state_of old) (state_of new) [] (called.refused tt refl)
   stable_called (Err WriteFault) called = absurd (⊎_elim (λ more. omega arith) (λ most. omega arith) (called.cause.write refl))
 
 -- what was stable and no event of what may have begun
@@ -75,9 +76,9 @@ stable_stops {L} log_of old new P before after past =
 -- What a call of the log in memory does, it does of a log with a buffer over it.
 pub called_buffered : {L T : Type 0} (log_of : L → MemLog) (old new : L) (count : ℕ) (events : T → List (Event Entry)) (begun : List (Event Message)) (result : Result T LogError)
     → ((answer : T) → told_events (events answer) ≡ begun)
-    → Called state_of clock_of might_have_left counts_of (log_of old) (log_of new) count events begun result
+    → Called ⊤ state_of clock_of might_have_left counts_of (log_of old) (log_of new) count events begun result
     → Remembers (log_of old) (log_of new)
-    → Called (λ log. state_of (log_of log)) (λ log. clock_of (log_of log)) (λ log t pages. might_have_kept (log_of log) t pages) (λ log. counts_of (log_of log)) old new count events begun result
+    → Called ⊤ (λ log. state_of (log_of log)) (λ log. clock_of (log_of log)) (λ log t pages. might_have_kept (log_of log) t pages) (λ log. counts_of (log_of log)) old new count events begun result
 called_buffered {L} {T} log_of old new count events begun result tells called past =
     let begins = begun_by result begun in
     let before = told_state (state_of (log_of old)) in
@@ -86,7 +87,9 @@ called_buffered {L} {T} log_of old new count events begun result tells called pa
       added = called.added;
       refused = called.refused;
       usable = called.usable;
-      stop = stable_stops log_of old new (IsLeft effect_of before begins) (stable_before before begins) after past;
+      opened = called.opened;
+      sound = called.sound;
+      stop = λ _. stable_stops log_of old new (IsLeft effect_of before begins) (stable_before before begins) after past;
       cause = called.cause;
       reads = called.reads;
     }

@@ -1,9 +1,11 @@
 -- A call of the log in memory, behind which all is made stable that may be, is the same call.
 use Rattle.std.proofs.Common.{◌≡◌, ℕ, false, Result, Ok, Err, List, [], refl, sym, ◌∙◌, ap, subst, arith}
+use Rattle.std.specs.Prelude.{⊤}
 use Rattle.std.proofs.lemmas.List.{append-nil}
+use Rattle.sled_log.specs.Batches.{is_open}
 use Rattle.sled_log.specs.Calls.{Called, HasCause, begun_by, is_write_fault}
 use Rattle.sled_log.specs.Events.{Event}
-use Rattle.sled_log.specs.Laws.{Adds-then, StopsLeave-then}
+use Rattle.sled_log.specs.Laws.{Adds-then, StopsLeave-then, is_open-Adds}
 use Rattle.sled_log.specs.Memory.{state_of, clock_of, might_have_left, counts_of}
 use Rattle.sled_log.specs.Messages.{Entry, Message, effect_of, effect_of_entry}
 use Rattle.sled_log.specs.State.{Adds, IsLeft, StopsLeave, told_state}
@@ -35,19 +37,24 @@ module _ (old mid new : MemLog)
   cause_settled : {T : Type 0} (result : Result T LogError) → HasCause (counts_of old) (counts_of mid) result → HasCause (counts_of old) (counts_of new) result
   cause_settled result cause = subst (λ c. HasCause (counts_of old) c result) (sym counts) cause
 
+  opened_settled : is_open (state_of new).pending ≡ is_open (state_of mid).pending
+  opened_settled = is_open-Adds effect_of_entry (state_of mid) (state_of new) [] adds
+
   reads_settled : (count : ℕ) → mid.reads ≡ count → new.reads ≡ count
   reads_settled count reads = ap (λ c. c.reads) counts ∙ reads
 
   -- a refusal that is no write fault, and so begins nothing
   refused_settled : {T : Type 0} (count : ℕ) (events : T → List (Event Entry)) (begun : List (Event Message)) (e : LogError)
       → (let result : Result T LogError = Err e in
-      (is_write_fault result ≡ false) × ([] ≡ begun_by result begun) × Called state_of clock_of might_have_left counts_of old mid count events begun result)
-      → (let result : Result T LogError = Err e in Called state_of clock_of might_have_left counts_of old new count events begun result)
+      (is_write_fault result ≡ false) × ([] ≡ begun_by result begun) × Called ⊤ state_of clock_of might_have_left counts_of old mid count events begun result)
+      → (let result : Result T LogError = Err e in Called ⊤ state_of clock_of might_have_left counts_of old new count events begun result)
   refused_settled count events begun e (clear, none, called) = record {
-    added = tt;
-    refused = λ _. adds_settled [] (called.refused clear);
+    added = λ _. tt;
+    refused = λ _ _. adds_settled [] (called.refused tt clear);
     usable = called.usable;
-    stop = stop_settled [] _ none (called.refused clear) called.stop;
+    opened = λ clear. opened_settled ∙ called.opened clear;
+    stop = λ _. stop_settled [] _ none (called.refused tt clear) (called.stop tt);
+    sound = called.sound;
     cause = cause_settled (Err e) called.cause;
     reads = reads_settled count called.reads;
   }
@@ -55,13 +62,15 @@ module _ (old mid new : MemLog)
   -- No device fails, so there is no write fault.
   called_settled : {T : Type 0} (count : ℕ) (events : T → List (Event Entry)) (begun : List (Event Message)) (result : Result T LogError)
       → ((answer : T) → told_events (events answer) ≡ begun)
-      → Called state_of clock_of might_have_left counts_of old mid count events begun result
-      → Called state_of clock_of might_have_left counts_of old new count events begun result
+      → Called ⊤ state_of clock_of might_have_left counts_of old mid count events begun result
+      → Called ⊤ state_of clock_of might_have_left counts_of old new count events begun result
   called_settled count events begun (Ok answer) tells called = record {
-    added = adds_settled (events answer) called.added;
-    refused = tt;
+    added = λ _. adds_settled (events answer) (called.added tt);
+    refused = λ _. tt;
     usable = refl;
-    stop = stop_settled (events answer) begun (tells answer) called.added called.stop;
+    opened = λ clear. opened_settled ∙ called.opened clear;
+    stop = λ _. stop_settled (events answer) begun (tells answer) (called.added tt) (called.stop tt);
+    sound = called.sound;
     cause = cause_settled (Ok answer) called.cause;
     reads = reads_settled count called.reads;
   }
@@ -78,15 +87,17 @@ pub called_eager : {L T : Type 0} (inner : L → MemLog) (old new : L) (mid : Me
     → StopsLeave clock_of might_have_left mid (inner new) (IsLeft effect_of (told_state (state_of mid)) [])
     → counts_of (inner new) ≡ counts_of mid
     → ((answer : T) → told_events (events answer) ≡ begun)
-    → Called state_of clock_of might_have_left counts_of (inner old) mid count events begun result
-    → Called (λ log. state_of (inner log)) (λ log. clock_of (inner log)) (λ log. might_have_left (inner log)) (λ log. counts_of (inner log)) old new count events begun result
+    → Called ⊤ state_of clock_of might_have_left counts_of (inner old) mid count events begun result
+    → Called ⊤ (λ log. state_of (inner log)) (λ log. clock_of (inner log)) (λ log. might_have_left (inner log)) (λ log. counts_of (inner log)) old new count events begun result
 called_eager inner old new mid count events begun result adds stop counts tells called =
     let settled = called_settled (inner old) mid (inner new) adds stop counts count events begun result tells called in
     record {
       added = settled.added;
       refused = settled.refused;
       usable = settled.usable;
-      stop = record { later = settled.stop.later; each = settled.stop.each; before = settled.stop.before; kept = settled.stop.kept };
+      opened = settled.opened;
+      stop = λ _. let stops = settled.stop tt in record { later = stops.later; each = stops.each; before = stops.before; kept = stops.kept };
+      sound = settled.sound;
       cause = settled.cause;
       reads = settled.reads;
     }

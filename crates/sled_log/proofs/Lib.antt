@@ -11,3 +11,4 @@ pub mod CallLists
 pub mod Sizes
 pub mod Eager
 pub mod Buffered
+pub mod Faulty

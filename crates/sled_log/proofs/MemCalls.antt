@@ -1,5 +1,6 @@
 -- What a call of the log in memory does, for each way in which it ends.
 use Rattle.std.proofs.Common.{◌≡◌, inl, inr, ⊎_elim, ◌≤◌, ◌+◌, ℕ, false, Result, Ok, Err, List, [], refl, sym, ◌∙◌, ap, subst, arith}
+use Rattle.std.specs.Prelude.{⊤}
 use Rattle.sled_log.specs.Batches.{is_open}
 use Rattle.sled_log.specs.Calls.{Called}
 use Rattle.sled_log.specs.Events.{Event}
@@ -8,7 +9,7 @@ use Rattle.sled_log.specs.Laws.{Adds-none}
 use Rattle.sled_log.specs.Memory.{state_of, clock_of, might_have_left, counts_of, Remembers}
 use Rattle.sled_log.specs.Messages.{Entry, Message, Told, effect_of, effect_of_entry}
 use Rattle.sled_log.specs.State.{State, Adds, IsLeft, StopsLeave, told_state}
-use Rattle.sled_log.specs.TellingLaws.{told_events}
+use Rattle.sled_log.specs.TellingLaws.{told_events, opened-Adds}
 use Rattle.sled_log.specs.declared.log.LogError.{LogError}
 use Rattle.sled_log.specs.declared.log.LogError.TheVariants.{Memory}
 use Rattle.sled_log.specs.declared.memory.MemLog.{MemLog}
@@ -17,16 +18,19 @@ use Rattle.sled_log.proofs.Moments.{pending_events, adds-settled, state_at-settl
 
 -- the events were added
 pub called_ok : {T : Type 0} (answer : T) (old new : MemLog) (count : ℕ) (events : T → List (Event Entry)) (begun : List (Event Message))
+    → told_events (events answer) ≡ begun
     → Adds effect_of_entry (state_of old) (events answer) (state_of new)
     → StopsLeave clock_of might_have_left old new (IsLeft effect_of (told_state (state_of old)) begun)
     → new.reads ≡ count
-    → Called state_of clock_of might_have_left counts_of old new count events begun (Ok answer)
-called_ok answer old new count events begun adds stop reads = record {
-  added = adds;
-  refused = tt;
+    → Called ⊤ state_of clock_of might_have_left counts_of old new count events begun (Ok answer)
+called_ok answer old new count events begun tells adds stop reads = record {
+  added = λ _. adds;
+  refused = λ _. tt;
   usable = refl;
-  stop = stop;
-  cause = record { failed_reads = omega arith; write_faults = omega arith; read = λ is. absurd cc; write = λ is. absurd cc; sound = λ is. absurd cc };
+  opened = λ _. opened-Adds (state_of old) (state_of new) (events answer) begun tells adds;
+  stop = λ _. stop;
+  sound = λ _ is. absurd cc;
+  cause = record { failed_reads = omega arith; write_faults = omega arith; read = λ is. absurd cc; write = λ is. absurd cc };
   reads = reads;
 }
 
@@ -48,21 +52,23 @@ adds_same old new clock items =
 
 -- nothing was added
 pub called_memory : {T : Type 0} (old new : MemLog) (count : ℕ) (events : T → List (Event Entry)) (begun : List (Event Message)) → new.clock ≡ old.clock → new.items.items ≡ old.items.items → new.reads ≡ count
-    → (let result : Result T LogError = Err Memory in Called state_of clock_of might_have_left counts_of old new count events begun result)
+    → (let result : Result T LogError = Err Memory in Called ⊤ state_of clock_of might_have_left counts_of old new count events begun result)
 called_memory old new count events begun clock items reads = record {
-  added = tt;
-  refused = λ clear. adds_same old new clock items;
+  added = λ _. tt;
+  refused = λ _ clear. adds_same old new clock items;
   usable = refl;
-  stop = stop_same old new clock items;
-  cause = record { failed_reads = omega arith; write_faults = omega arith; read = λ is. absurd cc; write = λ is. absurd cc; sound = λ is. absurd cc };
+  opened = λ _. opened-Adds (state_of old) (state_of new) [] [] refl (adds_same old new clock items);
+  stop = λ _. stop_same old new clock items;
+  sound = λ _ is. absurd cc;
+  cause = record { failed_reads = omega arith; write_faults = omega arith; read = λ is. absurd cc; write = λ is. absurd cc };
   reads = reads;
 }
 
 -- nothing was added, and the call was answered
 pub called_same : {T : Type 0} (answer : T) (old new : MemLog) (count : ℕ) → new.clock ≡ old.clock → new.items.items ≡ old.items.items → new.reads ≡ count
-    → Called state_of clock_of might_have_left counts_of old new count (λ _. []) [] (Ok answer)
+    → Called ⊤ state_of clock_of might_have_left counts_of old new count (λ _. []) [] (Ok answer)
 called_same answer old new count clock items reads =
-    called_ok answer old new count (λ _. []) [] (adds_same old new clock items) (stop_same old new clock items) reads
+    called_ok answer old new count (λ _. []) [] refl (adds_same old new clock items) (stop_same old new clock items) reads
 
 -- the events were added once room was made
 pub called_added : {T : Type 0} (answer : T) (old mid new : MemLog) (events : T → List (Event Entry)) (begun : List (Event Message)) (added : List (Event Entry))
@@ -71,9 +77,9 @@ pub called_added : {T : Type 0} (answer : T) (old mid new : MemLog) (events : T 
     → Adds effect_of_entry (state_of mid) added (state_of new)
     → StopsLeave clock_of might_have_left mid new (IsLeft effect_of (told_state (state_of mid)) (told_events added))
     → new.reads ≡ old.reads
-    → Called state_of clock_of might_have_left counts_of old new old.reads events begun (Ok answer)
+    → Called ⊤ state_of clock_of might_have_left counts_of old new old.reads events begun (Ok answer)
 called_added answer old mid new events begun added clock items are tells adds stop reads =
-    called_ok answer old new old.reads events begun
+    called_ok answer old new old.reads events begun (ap told_events (sym are) ∙ tells)
     (subst (λ (l : List (Event Entry)). Adds effect_of_entry (state_of old) l (state_of new)) are (same (λ s. Adds effect_of_entry s added (state_of new)) adds))
     (record {
       later = let l = stop.later in omega arith;
@@ -94,8 +100,8 @@ called_added answer old mid new events begun added clock items are tells adds st
 
 -- all that was pending became stable
 pub called_settled : {T : Type 0} (answer : T) (old new : MemLog) → new.clock ≡ old.clock + 1 → new.items.items ≡ all_settled (old.clock + 1) old.stable old.items.items
-    → is_open (state_of old).pending ≡ false → new.reads ≡ old.reads → Called state_of clock_of might_have_left counts_of old new old.reads (λ _. []) [] (Ok answer)
-called_settled answer old new clock items closed reads = called_ok answer old new old.reads (λ _. []) [] adds (stops clock_of (λ log. log.items.items) old new [] (omega arith) (omega arith) before adds) reads
+    → is_open (state_of old).pending ≡ false → new.reads ≡ old.reads → Called ⊤ state_of clock_of might_have_left counts_of old new old.reads (λ _. []) [] (Ok answer)
+called_settled answer old new clock items closed reads = called_ok answer old new old.reads (λ _. []) [] refl adds (stops clock_of (λ log. log.items.items) old new [] (omega arith) (omega arith) before adds) reads
   where
     adds : Adds effect_of_entry (state_of old) [] (state_of new)
     adds =

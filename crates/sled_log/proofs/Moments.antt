@@ -8,12 +8,13 @@ use Rattle.std.proofs.lemmas.List.Elements.{filter-append}
 use Rattle.std.proofs.lemmas.List.Folds.{list_all-append}
 use Rattle.std.proofs.lemmas.List.Sums.{sum_by-append, sum_by-take-drop, sum-map}
 use Rattle.sled_log.specs.declared.memory.item.Item.{Item}
-use Rattle.sled_log.specs.Batches.{is_open}
+use Rattle.sled_log.specs.Batches.{is_open, IsFair}
 use Rattle.sled_log.specs.Chains.{chains_after}
 use Rattle.sled_log.specs.Events.{Event}
 use Rattle.sled_log.specs.Items.{event_of, size_of_mark, log_size, was_by, was_stable, was_pending, is_waiting, settled_at, all_settled, restarted, state_at, IsInOrder, WasLeft}
-use Rattle.sled_log.specs.Laws.{chains_after-append, IsFair-none, IsLeft-behind, IsLeft-more}
-use Rattle.sled_log.specs.Messages.{Entry, Chain, Message, Told, effect_of, effect_of_entry}
+use Rattle.sled_log.specs.Laws.{chains_after-append, IsFair-none, IsLeft-behind, IsLeft-cut, IsLeft-more}
+use Rattle.sled_log.specs.Messages.{Entry, Chain, Message, Told, told, message_in, effect_of, effect_of_entry}
+use Rattle.sled_log.specs.SeenLaws.{IsLeft-seen}
 use Rattle.sled_log.specs.State.{State, now, Adds, IsLeft, StopsLeave, told_state}
 use Rattle.sled_log.specs.TellingLaws.{told_events, Adds-told}
 use Rattle.sled_log.proofs.Filters.{list_all-weaker, filter-all, filter-none, filter-map_same, map-map_same}
@@ -272,10 +273,15 @@ list_all-restarted : (xs : List Item) → list_all (was_stable 0) (map restarted
 list_all-restarted [] = refl
 list_all-restarted (x ∷ xs) = list_all-restarted xs
 
+pub size-restarted : (items : List Item) → log_size (map restarted items) ≡ log_size items
+size-restarted items =
+    let size : Item → ℕ = λ item. size_of_mark item.mark in
+    sym (sum-map size (map restarted items)) ∙ ap sum (map-map_same size restarted (λ x. refl) items) ∙ sum-map size items
+
 pub log_size-restarted : (count : ℕ) (items : List Item) → log_size (map restarted (take count items)) ≤ log_size items
 log_size-restarted count items =
     let size : Item → ℕ = λ item. size_of_mark item.mark in
-    let same : log_size (map restarted (take count items)) ≡ log_size (take count items) = sym (sum-map size (map restarted (take count items))) ∙ ap sum (map-map_same size restarted (λ x. refl) (take count items)) ∙ sum-map size (take count items) in
+    let same = size-restarted (take count items) in
     let parts : log_size (take count items) + log_size (drop count items) ≡ log_size items = sum_by-take-drop size items count in
     omega arith
 
@@ -293,7 +299,7 @@ pending-restarted xs =
     let kept = map restarted xs in
     pending_events 0 (length kept) kept (order-restarted xs) ∙ ap (map event_of) (drop_all (length kept) kept (omega arith))
 
--- a stop keeps what was stable and the first of the pending events
+-- a crash keeps what was durable and the first of the pending events
 pub stable-restarted : (clock stable n : ℕ) (items : List Item) → IsInOrder clock stable items
     → (state_at 0 (map restarted (take (stable + n) items))).stable ≡ chains_after effect_of_entry (state_at clock items).stable (take n (state_at clock items).pending)
 stable-restarted clock stable n items order =
@@ -304,3 +310,15 @@ stable-restarted clock stable n items order =
     ∙ chains_after-append effect_of_entry [] (map event_of (take stable items)) (map event_of (take n (drop stable items)))
     ∙ ap (λ (l : List Chain). chains_after effect_of_entry l (map event_of (take n (drop stable items)))) (sym (stable_chains clock stable items order))
     ∙ ap (chains_after effect_of_entry (state_at clock items).stable) (sym (take-map event_of n (drop stable items)) ∙ ap (take n) (sym (pending_events clock stable items order)))
+
+-- which is a crash state of this moment
+pub left-stopped : (clock n : ℕ) (items : List Item) (chains : List Chain)
+    → IsFair (state_at clock items).pending n
+    → chains ≡ chains_after effect_of_entry (state_at clock items).stable (take n (state_at clock items).pending)
+    → WasLeft clock items clock (map told chains)
+left-stopped clock n items chains fair is = record {
+  at = clock;
+  from = omega arith;
+  to = omega arith;
+  left = IsLeft-seen effect_of_entry effect_of message_in (λ entry. refl) (state_at clock items) [] chains (IsLeft-cut effect_of_entry (state_at clock items) n chains fair is);
+}

@@ -1,10 +1,11 @@
 -- The log sizes of the chains of the log in memory.
-use Rattle.std.proofs.Common.{◌≡◌, ◌<◌, ◌^◌, ℕ, List, [], ◌∷◌, map, refl, sym, subst, arith}
+use Rattle.std.proofs.Common.{◌≡◌, ◌<◌, ℕ, List, [], ◌∷◌, map, refl, sym, subst, arith}
 use Rattle.std.specs.List.{AllByRecursion}
 use Rattle.std.proofs.lemmas.List.Sums.{sum_by-cons}
 use Rattle.sled_log.proofs.ChainLaws.{Says, chains-all}
 use Rattle.sled_log.specs.Chains.{chains_after}
 use Rattle.sled_log.specs.Items.{event_of_mark, event_of, size_of_mark, log_size, state_at}
+use Rattle.sled_log.specs.Limits.{size_limit}
 use Rattle.sled_log.specs.Messages.{Entry, Chain, effect_of_entry}
 use Rattle.sled_log.specs.Messages as messages
 use Rattle.sled_log.specs.Pages.{IsSized}
@@ -44,7 +45,7 @@ items-exact : (items : List Item) → AllByRecursion (Says effect_of_entry IsExa
 items-exact [] = tt
 items-exact (item ∷ items) = (mark-exact item.mark, items-exact items)
 
-both : (chains : List Chain) → AllByRecursion (AllByRecursion IsExact) chains → AllByRecursion (λ chain. chain_size effect_of_entry place_size chain < 2 ^ 63) chains → AllByRecursion IsSized chains
+both : (chains : List Chain) → AllByRecursion (AllByRecursion IsExact) chains → AllByRecursion (λ chain. chain_size effect_of_entry place_size chain < size_limit) chains → AllByRecursion IsSized chains
 both [] each total = tt
 both (chain ∷ chains) each total = (record { each = each.0; total = total.0 }, both chains each.1 total.1)
 
@@ -53,7 +54,7 @@ pub chains-sized : (log : MemLog) → AllByRecursion IsSized (now effect_of_entr
 chains-sized log =
     let items = log.items.items in
     let chains : List Chain = chains_after effect_of_entry [] (map event_of items) in
-    let small : chains_size effect_of_entry place_size chains < 2 ^ 63 =
+    let small : chains_size effect_of_entry place_size chains < size_limit =
     (let most = chains_after-size effect_of_entry place_size [] (map event_of items) in let all = items-size items in let sized = log.sized in let fits = log.fits in omega (arith, most, all, sized, fits)) in
     subst (AllByRecursion IsSized) (sym (now_is log.clock log.stable items log.in_order))
-    (both chains (chains-all effect_of_entry IsExact [] (map event_of items) tt (items-exact items)) (each-below effect_of_entry place_size (2 ^ 63) chains small))
+    (both chains (chains-all effect_of_entry IsExact [] (map event_of items) tt (items-exact items)) (each-below effect_of_entry place_size (size_limit) chains small))

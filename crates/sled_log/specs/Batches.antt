@@ -1,4 +1,4 @@
--- Batches, and where a stop may cut a list of events.
+-- Batches, and where a crash may cut a list of events.
 use Rattle.std.specs.Prelude.{◌≡◌, ℕ, ◌≤◌, Bool, true, false, List, [], ◌∷◌, length, take, drop}
 use Rattle.sled_log.specs.Events.{Event, Change, Pin, Seal, Cancel}
 
@@ -23,7 +23,8 @@ module _ {E : Type 0} where
   is_cancelled (Seal ∷ events) = false
   is_cancelled (Cancel ∷ events) = true
 
-  -- A stop may keep the first `cut` of these events: no batch is open there, but for one that is cancelled behind it.
+  -- A crash may keep the first `cut` of these events, a prefix that splits no batch: none is open there, but for one that is
+  -- cancelled behind it.
   pub record IsFair (events : List (Event E)) (cut : ℕ) : Type 0 where
     pub within : cut ≤ length events
     pub no_part : is_open (take cut events) ≡ true → is_cancelled (drop cut events) ≡ true

@@ -1,10 +1,12 @@
 -- What a call of a log does.
-use Rattle.std.specs.Prelude.{◌≡◌, ◌⊎◌, ◌+◌, ◌-◌, ◌^◌, ◌<◌, ◌≤◌, ℕ, Bool, true, false, not, nat_lt, nat_le, ◌==◌, List, [], length, slice_index_or, Result, Ok, Err, IfOk, OnErr, IsErrOf, if◌then◌else◌}
+use Rattle.std.specs.Prelude.{◌≡◌, ◌⊎◌, ◌+◌, ◌<◌, ◌≤◌, ℕ, Bool, true, false, not, nat_lt, nat_le, ◌==◌, List, [], length, slice_index_or, Result, Ok, Err, IfOk, OnErr, IsErrOf, if◌then◌else◌}
 use Rattle.sled_base.specs.declared.kinds.LogKind.{LogKind}
 use Rattle.sled_base.specs.declared.kinds.MessageKind.{MessageKind}
 use Rattle.sled_base.specs.declared.kinds.MessageKind.TheVariants as kinds
+use Rattle.sled_log.specs.Batches.{is_open, open_after}
 use Rattle.sled_log.specs.Chains.{is_empty}
 use Rattle.sled_log.specs.Events.{Event}
+use Rattle.sled_log.specs.Limits.{most_count}
 use Rattle.sled_log.specs.Messages.{Message, Entry, Told, effect_of, effect_of_entry}
 use Rattle.sled_log.specs.State.{State, Adds, IsLeft, told_state, StopsLeave}
 use Rattle.sled_log.specs.declared.log.LogError.{LogError}
@@ -20,7 +22,7 @@ can_tell effect pages pid kinds.InlineNode = nat_le pid (length pages)
 can_tell effect pages pid kinds.InlineLink = not (is_empty effect (slice_index_or pages pid []))
 can_tell effect pages pid kind = false
 
--- The events of a call that a stop may find: a call that answers Memory, Full or ReadFault has none.
+-- The events of a call that a crash may find: a call that answers Memory, Full or ReadFault has none.
 abbrev pub begun_by : {T : Type 0} → Result T LogError → List (Event Message) → List (Event Message)
 begun_by (Ok _) events = events
 begun_by (Err WriteFault) events = events
@@ -37,19 +39,18 @@ pub record Counts : Type 0 where
 
 -- one more, or the greatest u64
 abbrev pub one_more : ℕ → ℕ
-one_more n = if n == 2 ^ 64 - 1 then n else n + 1
+one_more n = if n == most_count then n else n + 1
 
 -- the count grew, or stays where it counts as grown
 abbrev pub HasGrown : ℕ → ℕ → Type 0
-HasGrown old new = (old < new) ⊎ (new ≡ 2 ^ 64 - 1)
+HasGrown old new = (old < new) ⊎ (new ≡ most_count)
 
--- A fault is told only where its count grew, and no count falls. Corruption is never told of what the log was given.
+-- A fault is reported only where its count grew, and no count falls.
 pub record HasCause {T : Type 0} (old new : Counts) (result : Result T LogError) : Type 0 where
   pub failed_reads : old.failed_reads ≤ new.failed_reads
   pub write_faults : old.write_faults ≤ new.write_faults
   pub read : IsErrOf result ReadFault → HasGrown old.failed_reads new.failed_reads
   pub write : IsErrOf result WriteFault → HasGrown old.write_faults new.write_faults
-  pub sound : IsErrOf result Corruption → ⊥
 
 -- whether the call met a write fault
 abbrev pub is_write_fault : {T : Type 0} → Result T LogError → Bool
@@ -60,13 +61,18 @@ is_write_fault (Err ReadFault) = false
 is_write_fault (Err WriteFault) = true
 is_write_fault (Err Corruption) = false
 
--- What a call does that, by its answer, is to add these events, and has begun these messages and marks. At Ok the events
--- were added, at a refusal none was; a write fault makes the log unusable. A stop at any moment of it leaves what was
--- pending and what was begun, up to a fair cut. The log has read so often then.
-pub record Called {L T : Type 0} (state : L → State Entry) (moment : L → ℕ) (left_since : L → ℕ → List Told → Type 0) (counts : L → Counts) (old new : L) (count : ℕ) (events : T → List (Event Entry)) (begun : List (Event Message)) (result : Result T LogError) : Type 0 where
-  pub added : IfOk result (λ answer. Adds effect_of_entry (state old) (events answer) (state new))
-  pub refused : OnErr result (is_write_fault result ≡ false → Adds effect_of_entry (state old) [] (state new))
+-- What a call does that, by its answer, is to add these events, and has begun these messages and marks. Whatever the device: a
+-- write fault makes the log unusable, and else whether a batch is open is what the marks say that were begun; each fault has its
+-- cause, and the log has read so often then.
+--
+-- Where the device tells its bytes: at Ok the events were added, at another error than WriteFault none was, a crash at any moment
+-- of it leaves what was pending and what was begun, up to a fair cut, and Corruption is never reported of what the log was given.
+pub record Called {L T : Type 0} (tells : Type 0) (state : L → State Entry) (moment : L → ℕ) (left_since : L → ℕ → List Told → Type 0) (counts : L → Counts) (old new : L) (count : ℕ) (events : T → List (Event Entry)) (begun : List (Event Message)) (result : Result T LogError) : Type 0 where
   pub usable : (state new).usable ≡ not (is_write_fault result)
-  pub stop : StopsLeave moment left_since old new (IsLeft effect_of (told_state (state old)) (begun_by result begun))
+  pub opened : is_write_fault result ≡ false → is_open (state new).pending ≡ open_after (is_open (state old).pending) (begun_by result begun)
   pub cause : HasCause (counts old) (counts new) result
   pub reads : (counts new).reads ≡ count
+  pub added : tells → IfOk result (λ answer. Adds effect_of_entry (state old) (events answer) (state new))
+  pub refused : tells → OnErr result (is_write_fault result ≡ false → Adds effect_of_entry (state old) [] (state new))
+  pub stop : tells → StopsLeave moment left_since old new (IsLeft effect_of (told_state (state old)) (begun_by result begun))
+  pub sound : tells → IsErrOf result Corruption → ⊥

@@ -4,7 +4,7 @@ use Rattle.std.proofs.lemmas.List.{map-append, map-set, length-map}
 use Rattle.std.proofs.Math.ListN.{get_or-map}
 use Rattle.sled_node.specs.declared.node.link.Link.{Link as NodeLink}
 use Rattle.sled_log.specs.Chains.{linked, begun, changed, chains_from, chains_after}
-use Rattle.sled_log.specs.Contents.{Content, Free, Counter, Roots, Node, Update, Put, Link, after_link, updated, contents_after, effect_of_update, after_links, content_of}
+use Rattle.sled_log.specs.Contents.{Content, Free, Counter, Roots, Node, Damaged, Update, Put, Link, after_link, updated, contents_after, effect_of_update, after_links, content_of}
 use Rattle.sled_log.specs.Events.{Event, Change, Pin, Seal, Cancel}
 
 after_links-free : (updates : List Update) → after_links Free updates ≡ Free
@@ -23,6 +23,7 @@ content_of-linked (Put Free ∷ updates) link = after_links-free updates ∙ sym
 content_of-linked (Put (Counter n) ∷ updates) link = after_links-append (Counter n) updates link
 content_of-linked (Put (Roots roots) ∷ updates) link = after_links-append (Roots roots) updates link
 content_of-linked (Put (Node node) ∷ updates) link = after_links-append (Node node) updates link
+content_of-linked (Put Damaged ∷ updates) link = after_links-append Damaged updates link
 content_of-linked (Link other ∷ updates) link = refl
 
 begun-content : (chains : List (List Update)) (id : ℕ) (content : Content) → map content_of (begun effect_of_update chains id (Put content)) ≡ updated (map content_of chains) id (Put content)
@@ -37,6 +38,7 @@ changed-content chains id (Put Free) = begun-content chains id Free
 changed-content chains id (Put (Counter n)) = begun-content chains id (Counter n)
 changed-content chains id (Put (Roots roots)) = begun-content chains id (Roots roots)
 changed-content chains id (Put (Node node)) = begun-content chains id (Node node)
+changed-content chains id (Put Damaged) = begun-content chains id Damaged
 changed-content chains id (Link link) =
     map-set content_of chains id (linked effect_of_update (slice_index_or chains id []) (Link link))
     ∙ ap (slice_set (map content_of chains) id) (content_of-linked (slice_index_or chains id []) link ∙ ap (after_link link) (sym (get_or-map content_of chains id [])))

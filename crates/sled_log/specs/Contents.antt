@@ -8,12 +8,14 @@ use Rattle.sled_node.specs.Node.{WholeNode}
 use Rattle.sled_node.specs.declared.node.link.Link.{Link as NodeLink}
 use Rattle.sled_log.specs.Events.{Event, Change, Pin, Seal, Cancel}
 
--- what a page holds: nothing, the counter of generated ids, the named roots, or a node
+-- What a page holds: nothing, the counter of generated ids, the named roots, or a node; or it is damaged, where its messages make
+-- none of these.
 pub data Content : Type 0 where
   Free : Content
   Counter : (n : ℕ) → Content
   Roots : (roots : meta.Roots) → Content
   Node : (node : WholeNode) → Content
+  Damaged : Content
 
 -- what a change does to a page: it puts a content there, or applies a link to its node
 pub data Update : Type 0 where
@@ -26,6 +28,7 @@ after_link link Free = Free
 after_link link (Counter n) = Counter n
 after_link link (Roots roots) = Roots roots
 after_link link (Node node) = Node (applied link node)
+after_link link Damaged = Damaged
 
 -- The contents after one change. An id that is their number makes a new page; one above it changes nothing.
 abbrev pub updated : List Content → ℕ → Update → List Content
@@ -52,6 +55,7 @@ effect_of_update (Put Free) = kinds.Free
 effect_of_update (Put (Counter n)) = kinds.Replace
 effect_of_update (Put (Roots roots)) = kinds.Replace
 effect_of_update (Put (Node node)) = kinds.Replace
+effect_of_update (Put Damaged) = kinds.Replace
 effect_of_update (Link link) = kinds.Link
 
 -- a content after the links of these updates

@@ -5,16 +5,18 @@ use Rattle.std.proofs.lemmas.List.{take-append-drop}
 use Rattle.std.proofs.lemmas.Option.{slice_get_within, get_or_from_slice_get}
 use Rattle.std.proofs.lemmas.Slice.Zip.{AllZip-long}
 use Rattle.std.proofs.Math.Seq.{take-append_seam}
+use Rattle.sled_base.specs.declared.kinds.MessageKind.{MessageKind}
+use Rattle.sled_base.specs.declared.kinds.MessageKind.TheVariants as kinds
 use Rattle.sled_node.specs.Links.{Accepts, applied}
 use Rattle.sled_node.specs.Node.{WholeNode}
 use Rattle.sled_node.specs.declared.node.link.Link.{Link as NodeLink}
 use Rattle.sled_log.specs.Calls.{can_tell}
 use Rattle.sled_log.specs.Chains.{is_freeing, is_empty, linked, begun, changed, chains_from, chains_after}
-use Rattle.sled_log.specs.Contents.{Content, Free, Counter, Roots, Node, Update, Put, Link, after_link, updated, contents_from, contents_after, effect_of_update}
+use Rattle.sled_log.specs.Contents.{Content, Free, Counter, Roots, Node, Damaged, Update, Put, Link, after_link, updated, contents_from, contents_after, effect_of_update}
 use Rattle.sled_log.specs.Events.{Event, Change, Pin, Seal, Cancel}
 use Rattle.sled_log.specs.Messages.{Message, Told, effect_of}
-use Rattle.sled_log.specs.Reading.{IsUpdate, IsEvent, LeadTo, Makes, Hold, MayChange, MayCome, AreTold, AreLeft}
-use Rattle.sled_log.specs.ReadingLaws.{reads_effect, contents_after-append, told-append, told-take, told-drop, reads-fair}
+use Rattle.sled_log.specs.Reading.{Reads, IsUpdate, IsEvent, LeadTo, Makes, Holds, Hold, MayChange, MayCome, AreTold, AreLeft}
+use Rattle.sled_log.specs.ReadingLaws.{reads_effect, one_content, contents_after-append, told-append, told-take, told-drop, reads-fair}
 use Rattle.sled_log.specs.State.{State, Adds, IsLeft}
 use Rattle.sled_log.specs.Writing.{message_of}
 use Rattle.sled_log.specs.ZipLaws.{zip-append, zip-set, zip-at}
@@ -26,6 +28,11 @@ is_node Free = false
 is_node (Counter n) = false
 is_node (Roots roots) = false
 is_node (Node node) = true
+is_node Damaged = false
+
+abbrev is_damaged : Content → Bool
+is_damaged Damaged = true
+is_damaged content = false
 
 -- no node follows where a page was freed
 not_freed : (first : Content) (messages : Told) (node : WholeNode) → LeadTo first messages (Node node) → is_freeing (effect_of_update (Put first)) ≡ false
@@ -34,6 +41,7 @@ not_freed Free (m ∷ messages) node h = absurd (false≢true (ap is_node h.2))
 not_freed (Counter n) messages node h = refl
 not_freed (Roots roots) messages node h = refl
 not_freed (Node other) messages node h = refl
+not_freed Damaged messages node h = refl
 
 -- a page that holds a node isn't empty
 makes-full : (messages : Told) (node : WholeNode) → Makes messages (Node node) → is_empty effect_of messages ≡ false
@@ -57,24 +65,62 @@ makes-linked : (messages : Told) (node : WholeNode) (m : Message) (link : NodeLi
 makes-linked messages node m link h r accepts =
     subst (λ b. Makes (cond b messages (messages ++ m ∷ [])) (Node (applied link node))) (sym (makes-full messages node h)) (makes-more messages node m link h r accepts)
 
+-- messages never make what is damaged
+leads-sound : (first : Content) (messages : Told) → is_damaged first ≡ false → LeadTo first messages Damaged → ⊥
+leads-sound first [] sound h = false≢true (sym sound ∙ ap is_damaged h)
+leads-sound first (m ∷ messages) sound (node, link, is, reads, accepts, leads) = leads-sound (Node (applied link node)) messages refl leads
+
+puts-sound : (kind : MessageKind) (payload : List ℕ) (first : Content) → Reads kind payload (Put first) → is_damaged first ≡ false
+puts-sound kind payload Free reads = refl
+puts-sound kind payload (Counter n) reads = refl
+puts-sound kind payload (Roots roots) reads = refl
+puts-sound kind payload (Node node) reads = refl
+puts-sound kinds.Free payload Damaged reads = absurd reads
+puts-sound kinds.Counter payload Damaged reads = absurd reads
+puts-sound kinds.InlineMeta payload Damaged reads = absurd reads
+puts-sound kinds.BlobMeta payload Damaged reads = absurd reads
+puts-sound kinds.InlineNode payload Damaged reads = absurd reads
+puts-sound kinds.BlobNode payload Damaged reads = absurd reads
+puts-sound kind payload Damaged reads = absurd reads
+
+pub makes-sound : (messages : Told) → ¬ Makes messages Damaged
+makes-sound [] h = h
+makes-sound (m ∷ messages) (first, reads, leads) = leads-sound first messages (puts-sound m.kind m.payload first reads) leads
+
+-- what messages make, their page holds
+pub makes-holds : (messages : Told) (content : Content) → Makes messages content → Holds messages content
+makes-holds messages Free h = h
+makes-holds messages (Counter n) h = h
+makes-holds messages (Roots roots) h = h
+makes-holds messages (Node node) h = h
+makes-holds messages Damaged h = absurd (makes-sound messages h)
+
+-- what a page holds that messages make
+pub holds-made : (messages : Told) (content made : Content) → Holds messages content → Makes messages made → content ≡ made
+holds-made messages Free made h i = one_content messages Free made h i
+holds-made messages (Counter n) made h i = one_content messages (Counter n) made h i
+holds-made messages (Roots roots) made h i = one_content messages (Roots roots) made h i
+holds-made messages (Node node) made h i = one_content messages (Node node) made h i
+holds-made messages Damaged made h i = absurd (h.1 made i)
+
 -- ---- the pages after messages
 
 holds-begun : (pages : List Told) (contents : List Content) (id : ℕ) (m : Message) (content : Content)
     → Hold pages contents → IsUpdate m (Put content) → Hold (begun effect_of pages id m) (updated contents id (Put content))
 holds-begun pages contents id m content h r =
-    subst (λ n. Hold (begun effect_of pages id m) (cond (id == n) (contents ++ content ∷ []) (slice_set contents id content))) (sym (AllZip-long Makes pages contents h))
+    subst (λ n. Hold (begun effect_of pages id m) (cond (id == n) (contents ++ content ∷ []) (slice_set contents id content))) (sym (AllZip-long Holds pages contents h))
     (by (id == length pages))
   where
     by : (b : Bool) → Hold (cond b (pages ++ (m ∷ []) ∷ []) (slice_set pages id (m ∷ []))) (cond b (contents ++ content ∷ []) (slice_set contents id content))
-    by true = zip-append Makes pages contents ((m ∷ []) ∷ []) (content ∷ []) h ((content, r, refl), tt)
-    by false = zip-set Makes id pages contents (m ∷ []) content h (content, r, refl)
+    by true = zip-append Holds pages contents ((m ∷ []) ∷ []) (content ∷ []) h (makes-holds (m ∷ []) content (content, r, refl), tt)
+    by false = zip-set Holds id pages contents (m ∷ []) content h (makes-holds (m ∷ []) content (content, r, refl))
 
 -- the page of a node that is there
 held-node : (pages : List Told) (contents : List Content) (id : ℕ) (node : WholeNode)
     → Hold pages contents → slice_get contents id ≡ Some (Node node) → Makes (slice_index_or pages id []) (Node node)
 held-node pages contents id node h at =
-    subst (Makes (slice_index_or pages id [])) (get_or_from_slice_get contents id (Node node) Free at)
-    (zip-at Makes id pages contents [] Free h (slice_get_within contents id (Node node) at))
+    subst (Holds (slice_index_or pages id [])) (get_or_from_slice_get contents id (Node node) Free at)
+    (zip-at Holds id pages contents [] Free h (slice_get_within contents id (Node node) at))
 
 holds-changed : (pages : List Told) (contents : List Content) (id : ℕ) (m : Message) (u : Update)
     → Hold pages contents → IsUpdate m u → MayChange contents id u → Hold (changed effect_of (effect_of_update u) pages id m) (updated contents id u)
@@ -82,10 +128,11 @@ holds-changed pages contents id m (Put Free) h r may = holds-begun pages content
 holds-changed pages contents id m (Put (Counter n)) h r may = holds-begun pages contents id m (Counter n) h r
 holds-changed pages contents id m (Put (Roots roots)) h r may = holds-begun pages contents id m (Roots roots) h r
 holds-changed pages contents id m (Put (Node node)) h r may = holds-begun pages contents id m (Node node) h r
+holds-changed pages contents id m (Put Damaged) h r may = absurd may
 holds-changed pages contents id m (Link link) h r (node, at, accepts) =
     subst (λ content. Hold (changed effect_of (effect_of_update (Link link)) pages id m) (slice_set contents id (after_link link content)))
     (sym (get_or_from_slice_get contents id (Node node) Free at))
-    (zip-set Makes id pages contents _ (Node (applied link node)) h (makes-linked (slice_index_or pages id []) node m link (held-node pages contents id node h at) r accepts))
+    (zip-set Holds id pages contents _ (Node (applied link node)) h (makes-linked (slice_index_or pages id []) node m link (held-node pages contents id node h at) r accepts))
 
 holds-from : (pages : List Told) (contents : List Content) (m : Event Message) (u : Event Update)
     → Hold pages contents → IsEvent m u → MayCome contents u → Hold (chains_from effect_of pages m) (contents_from contents u)
@@ -162,8 +209,9 @@ holds-added old new begun stable pending events held waits comes added =
 -- a log may be told a change that may be made of what its pages hold
 pub may-tell : (pages : List Told) (contents : List Content) (id : ℕ) (update : Update)
     → Hold pages contents → MayChange contents id update → can_tell effect_of pages id (message_of update).kind ≡ true
-may-tell pages contents id (Put Free) h may = lt-ltb id (length pages) (let l = AllZip-long Makes pages contents h in omega (arith, may))
-may-tell pages contents id (Put (Counter n)) h may = le-leb id (length pages) (let l = AllZip-long Makes pages contents h in omega (arith, may))
-may-tell pages contents id (Put (Roots roots)) h may = le-leb id (length pages) (let l = AllZip-long Makes pages contents h in omega (arith, may))
-may-tell pages contents id (Put (Node node)) h may = le-leb id (length pages) (let l = AllZip-long Makes pages contents h in omega (arith, may))
+may-tell pages contents id (Put Free) h may = lt-ltb id (length pages) (let l = AllZip-long Holds pages contents h in omega (arith, may))
+may-tell pages contents id (Put (Counter n)) h may = le-leb id (length pages) (let l = AllZip-long Holds pages contents h in omega (arith, may))
+may-tell pages contents id (Put (Roots roots)) h may = le-leb id (length pages) (let l = AllZip-long Holds pages contents h in omega (arith, may))
+may-tell pages contents id (Put (Node node)) h may = le-leb id (length pages) (let l = AllZip-long Holds pages contents h in omega (arith, may))
+may-tell pages contents id (Put Damaged) h may = absurd may
 may-tell pages contents id (Link link) h (node, at, accepts) = ap not (makes-full (slice_index_or pages id []) node (held-node pages contents id node h at))

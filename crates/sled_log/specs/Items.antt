@@ -12,6 +12,7 @@ use Rattle.sled_log.specs.declared.memory.item.Mark.TheVariants as kept
 use Rattle.sled_log.specs.Chains.{chains_after}
 use Rattle.sled_log.specs.Events.{Event, Change, Pin, Seal, Cancel}
 use Rattle.sled_log.specs.Laws.{IsFair-none}
+use Rattle.sled_log.specs.Limits.{head_size}
 use Rattle.sled_log.specs.Messages.{Entry, Told, effect_of, effect_of_entry}
 use Rattle.sled_log.specs.State.{State, IsLeft, told_state}
 
@@ -19,7 +20,7 @@ use Rattle.sled_log.specs.State.{State, IsLeft, told_state}
 abbrev pub entry_of : KeptChange → Entry
 entry_of change = record {
   message = record { kind = change.kind; payload = change.payload.items };
-  place = record { lsn = change.lsn; pointer = change.pointer; log_size = 17 + length change.payload.items };
+  place = record { lsn = change.lsn; pointer = change.pointer; log_size = head_size + length change.payload.items };
 }
 
 abbrev pub event_of_mark : Mark → Event Entry
@@ -31,9 +32,9 @@ event_of_mark kept.Cancel = Cancel
 abbrev pub event_of : Item → Event Entry
 event_of item = event_of_mark item.mark
 
--- the log size of what is kept: 17 and the payload's length for a change, none for a mark
+-- the log size of what is kept: a head and the payload for a change, none for a mark
 abbrev pub size_of_mark : Mark → ℕ
-size_of_mark (kept.Change change) = 17 + length change.payload.items
+size_of_mark (kept.Change change) = head_size + length change.payload.items
 size_of_mark kept.Pin = 0
 size_of_mark kept.Seal = 0
 size_of_mark kept.Cancel = 0
@@ -123,12 +124,16 @@ left_now clock items pages left =
     subst (λ at. IsLeft effect_of (told_state (state_at at items)) [] pages) (omega arith) left.left
 
 -- what is stable is left
-pub stable_left : (clock : ℕ) (items : List Item) (since : ℕ) → since ≤ clock → WasLeft clock items since (told_state (state_at clock items)).stable
-stable_left clock items since le =
+pub stable_left : (clock : ℕ) (items : List Item) → WasLeft clock items clock (told_state (state_at clock items)).stable
+stable_left clock items =
     let state = told_state (state_at clock items) in
     record {
       at = clock;
-      from = le;
+      from = omega arith;
       to = omega arith;
       left = record { came = []; beginning = ([], refl); cut = 0; fair = IsFair-none (state.pending ++ []); is = refl };
     }
+
+-- what was left since a moment was left since an earlier one
+pub left_earlier : (clock : ℕ) (items : List Item) (t u : ℕ) (pages : List Told) → t ≤ u → WasLeft clock items u pages → WasLeft clock items t pages
+left_earlier clock items t u pages le left = let from = left.from in record { at = left.at; from = omega (arith, le, from); to = left.to; left = left.left }

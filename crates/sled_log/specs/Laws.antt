@@ -8,7 +8,7 @@ use Rattle.sled_log.specs.Events.{Event, Change, Pin, Seal, Cancel}
 use Rattle.sled_log.specs.Chains.{chains_from, chains_after}
 use Rattle.sled_log.specs.Batches.{open_after, is_open, is_cancelled, IsFair}
 use Rattle.sled_log.specs.Messages.{Message, Told, effect_of}
-use Rattle.sled_log.specs.State.{State, now, IsBeginning, Adds, IsLeft, StopsLeave}
+use Rattle.sled_log.specs.State.{AddsEvents, CrashKeeps, State, now, IsBeginning, Adds, IsLeft, StopsLeave}
 
 -- ---- batches and fair cuts
 
@@ -92,77 +92,107 @@ module _ {E : Type 0} where
   pub IsBeginning-behind : (xs part ys : List (Event E)) → IsBeginning part ys → IsBeginning (xs ++ part) (xs ++ ys)
   IsBeginning-behind xs part ys b = (b.0, append_assoc xs part b.0 ∙ ap (λ (l : List (Event E)). xs ++ l) b.1)
 
--- ---- calls one after another
+  pub IsBeginning-then : (part first all : List (Event E)) → IsBeginning part first → IsBeginning first all → IsBeginning part all
+  IsBeginning-then part first all b c = (b.0 ++ c.0, sym (append_assoc part b.0 c.0) ∙ ap (λ (l : List (Event E)). l ++ c.0) b.1 ∙ c.1)
+
+-- ---- calls one after another, whatever it is that events are made of
+
+module _ {E S : Type 0} (after : S → List (Event E) → S) (splits : (s : S) (xs ys : List (Event E)) → after s (xs ++ ys) ≡ after (after s xs) ys) where
+  -- nothing was added, and nothing moved
+  pub AddsEvents-none : (durable : S) (waiting : List (Event E)) → after durable [] ≡ durable → AddsEvents after durable waiting [] durable waiting
+  AddsEvents-none durable waiting still = record { cut = 0; fair = IsFair-none (waiting ++ []); stable = sym still; pending = sym (append-nil waiting) }
+
+  -- what is behind a cut of the events so far, when more come
+  module _ (durable durable_mid : S) (waiting waiting_mid first second : List (Event E)) (a : AddsEvents after durable waiting first durable_mid waiting_mid) where
+    whole : (waiting ++ first) ++ second ≡ waiting ++ (first ++ second)
+    whole = append_assoc waiting first second
+
+    rest : waiting_mid ++ second ≡ drop a.cut ((waiting ++ first) ++ second)
+    rest = let w = a.fair.within in ap (λ (l : List (Event E)). l ++ second) a.pending ∙ sym (drop-append-le a.cut (waiting ++ first) second w)
+
+    cut_behind : (n : ℕ) → IsFair (waiting_mid ++ second) n → IsFair (waiting ++ (first ++ second)) (a.cut + n)
+    cut_behind n fair =
+        subst (λ (l : List (Event E)). IsFair l (a.cut + n)) whole
+        (IsFair-add ((waiting ++ first) ++ second) a.cut n (IsFair-more (waiting ++ first) second a.cut a.fair) (subst (λ (l : List (Event E)). IsFair l n) rest fair))
+
+    stable_behind : (n : ℕ) → after durable_mid (take n (waiting_mid ++ second)) ≡ after durable (take (a.cut + n) (waiting ++ (first ++ second)))
+    stable_behind n =
+        let xs = (waiting ++ first) ++ second in
+        let w = a.fair.within in
+        ap (λ (s : S). after s (take n (waiting_mid ++ second))) (a.stable ∙ ap (after durable) (sym (take-append-le a.cut (waiting ++ first) second w)))
+        ∙ ap (λ (l : List (Event E)). after (after durable (take a.cut xs)) (take n l)) rest
+        ∙ sym (splits durable (take a.cut xs) (take n (drop a.cut xs)))
+        ∙ ap (after durable) (sym (take-add a.cut n xs))
+        ∙ ap (λ (l : List (Event E)). after durable (take (a.cut + n) l)) whole
+
+    pending_behind : (n : ℕ) → drop n (waiting_mid ++ second) ≡ drop (a.cut + n) (waiting ++ (first ++ second))
+    pending_behind n =
+        ap (λ (l : List (Event E)). drop n l) rest ∙ drop-drop n a.cut ((waiting ++ first) ++ second) ∙ ap (λ (l : List (Event E)). drop (a.cut + n) l) whole
+
+  -- one call after another
+  pub AddsEvents-then : (durable durable_mid durable_then : S) (waiting waiting_mid waiting_then first second : List (Event E))
+      → AddsEvents after durable waiting first durable_mid waiting_mid → AddsEvents after durable_mid waiting_mid second durable_then waiting_then
+      → AddsEvents after durable waiting (first ++ second) durable_then waiting_then
+  AddsEvents-then durable durable_mid durable_then waiting waiting_mid waiting_then first second a b = record {
+    cut = a.cut + b.cut;
+    fair = cut_behind durable durable_mid waiting waiting_mid first second a b.cut b.fair;
+    stable = b.stable ∙ stable_behind durable durable_mid waiting waiting_mid first second a b.cut;
+    pending = b.pending ∙ pending_behind durable durable_mid waiting waiting_mid first second a b.cut;
+  }
+
+  -- what a crash keeps in the second call
+  pub CrashKeeps-behind : (durable durable_mid : S) (waiting waiting_mid first second : List (Event E)) (Is : S → Type 0)
+      → AddsEvents after durable waiting first durable_mid waiting_mid → CrashKeeps after durable_mid waiting_mid second Is → CrashKeeps after durable waiting (first ++ second) Is
+  CrashKeeps-behind durable durable_mid waiting waiting_mid first second Is a left = record {
+    came = first ++ left.came;
+    beginning = IsBeginning-behind first left.came second left.beginning;
+    cut = a.cut + left.cut;
+    fair = cut_behind durable durable_mid waiting waiting_mid first left.came a left.cut left.fair;
+    is = subst Is (stable_behind durable durable_mid waiting waiting_mid first left.came a left.cut) left.is;
+  }
+
+  -- what it keeps where more events come
+  pub CrashKeeps-more : (durable : S) (waiting first all : List (Event E)) (Is : S → Type 0) → IsBeginning first all → CrashKeeps after durable waiting first Is → CrashKeeps after durable waiting all Is
+  CrashKeeps-more durable waiting first all Is begins left = record {
+    came = left.came;
+    beginning = IsBeginning-then left.came first all left.beginning begins;
+    cut = left.cut;
+    fair = left.fair;
+    is = left.is;
+  }
+
+-- ---- calls of a log one after another
 
 module _ {E : Type 0} (effect : E → LogKind) where
   pub chains_after-append : (chains : List (List E)) (xs ys : List (Event E)) → chains_after effect chains (xs ++ ys) ≡ chains_after effect (chains_after effect chains xs) ys
   chains_after-append chains [] ys = refl
   chains_after-append chains (x ∷ xs) ys = chains_after-append (chains_from effect chains x) xs ys
 
-  -- nothing was added, and nothing moved
   pub Adds-none : (state : State E) → Adds effect state [] state
-  Adds-none state = record {
-    cut = 0;
-    fair = IsFair-none (state.pending ++ []);
-    stable = refl;
-    pending = sym (append-nil state.pending);
-  }
+  Adds-none state = AddsEvents-none (chains_after effect) chains_after-append state.stable state.pending refl
 
-  -- what is behind a cut of the events so far, when more come
-  module _ (old mid : State E) (first second : List (Event E)) (a : Adds effect old first mid) where
-    whole : (old.pending ++ first) ++ second ≡ old.pending ++ (first ++ second)
-    whole = append_assoc old.pending first second
-
-    rest : mid.pending ++ second ≡ drop a.cut ((old.pending ++ first) ++ second)
-    rest = let w = a.fair.within in ap (λ (l : List (Event E)). l ++ second) a.pending ∙ sym (drop-append-le a.cut (old.pending ++ first) second w)
-
-    cut_behind : (n : ℕ) → IsFair (mid.pending ++ second) n → IsFair (old.pending ++ (first ++ second)) (a.cut + n)
-    cut_behind n fair =
-        subst (λ (l : List (Event E)). IsFair l (a.cut + n)) whole
-        (IsFair-add ((old.pending ++ first) ++ second) a.cut n (IsFair-more (old.pending ++ first) second a.cut a.fair) (subst (λ (l : List (Event E)). IsFair l n) rest fair))
-
-    stable_behind : (n : ℕ) → chains_after effect mid.stable (take n (mid.pending ++ second)) ≡ chains_after effect old.stable (take (a.cut + n) (old.pending ++ (first ++ second)))
-    stable_behind n =
-        let xs = (old.pending ++ first) ++ second in
-        let w = a.fair.within in
-        ap (λ (l : List (List E)). chains_after effect l (take n (mid.pending ++ second))) (a.stable ∙ ap (chains_after effect old.stable) (sym (take-append-le a.cut (old.pending ++ first) second w)))
-        ∙ ap (λ (l : List (Event E)). chains_after effect (chains_after effect old.stable (take a.cut xs)) (take n l)) rest
-        ∙ sym (chains_after-append old.stable (take a.cut xs) (take n (drop a.cut xs)))
-        ∙ ap (chains_after effect old.stable) (sym (take-add a.cut n xs))
-        ∙ ap (λ (l : List (Event E)). chains_after effect old.stable (take (a.cut + n) l)) whole
-
-    pending_behind : (n : ℕ) → drop n (mid.pending ++ second) ≡ drop (a.cut + n) (old.pending ++ (first ++ second))
-    pending_behind n =
-        ap (λ (l : List (Event E)). drop n l) rest ∙ drop-drop n a.cut ((old.pending ++ first) ++ second) ∙ ap (λ (l : List (Event E)). drop (a.cut + n) l) whole
-
-  -- one call after another
   pub Adds-then : (old mid new : State E) (first second : List (Event E)) → Adds effect old first mid → Adds effect mid second new → Adds effect old (first ++ second) new
-  Adds-then old mid new first second a b = record {
-    cut = a.cut + b.cut;
-    fair = cut_behind old mid first second a b.cut b.fair;
-    stable = b.stable ∙ stable_behind old mid first second a b.cut;
-    pending = b.pending ∙ pending_behind old mid first second a b.cut;
-  }
+  Adds-then old mid new first second = AddsEvents-then (chains_after effect) chains_after-append old.stable mid.stable new.stable old.pending mid.pending new.pending first second
 
-  -- what a stop leaves of the second call
+  -- a crash between two calls
+  pub IsLeft-cut : (state : State E) (cut : ℕ) (pages : List (List E)) → IsFair state.pending cut → pages ≡ chains_after effect state.stable (take cut state.pending) → IsLeft effect state [] pages
+  IsLeft-cut state cut pages fair is =
+      let all : state.pending ≡ state.pending ++ [] = sym (append-nil state.pending) in
+      record {
+        came = [];
+        beginning = ([], refl);
+        cut = cut;
+        fair = subst (λ (l : List (Event E)). IsFair l cut) all fair;
+        is = is ∙ ap (λ (l : List (Event E)). chains_after effect state.stable (take cut l)) all;
+      }
+
+  -- what a crash leaves in the second call
   pub IsLeft-behind : (old mid : State E) (first second : List (Event E)) (pages : List (List E)) → Adds effect old first mid → IsLeft effect mid second pages → IsLeft effect old (first ++ second) pages
-  IsLeft-behind old mid first second pages a left = record {
-    came = first ++ left.came;
-    beginning = IsBeginning-behind first left.came second left.beginning;
-    cut = a.cut + left.cut;
-    fair = cut_behind old mid first left.came a left.cut left.fair;
-    is = left.is ∙ stable_behind old mid first left.came a left.cut;
-  }
+  IsLeft-behind old mid first second pages = CrashKeeps-behind (chains_after effect) chains_after-append old.stable mid.stable old.pending mid.pending first second (λ kept. pages ≡ kept)
 
-  -- what a stop leaves of the first call
+  -- what it leaves in the first
   pub IsLeft-more : (old : State E) (first second : List (Event E)) (pages : List (List E)) → IsLeft effect old first pages → IsLeft effect old (first ++ second) pages
-  IsLeft-more old first second pages left = record {
-    came = left.came;
-    beginning = IsBeginning-more left.came first second left.beginning;
-    cut = left.cut;
-    fair = left.fair;
-    is = left.is;
-  }
+  IsLeft-more old first second pages = CrashKeeps-more (chains_after effect) chains_after-append old.stable old.pending first (first ++ second) (λ kept. pages ≡ kept) (second, refl)
 
   -- what the log holds after the events were added
   pub now-Adds : (old new : State E) (events : List (Event E)) → Adds effect old events new → now effect new ≡ chains_after effect (now effect old) events

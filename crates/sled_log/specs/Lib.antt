@@ -1,3 +1,4 @@
+pub mod Limits
 pub mod Events
 pub mod Batches
 pub mod Chains
@@ -8,6 +9,7 @@ pub mod State
 pub mod Calls
 pub mod Pages
 pub mod Laws
+pub mod SeenLaws
 pub mod TellingLaws
 pub mod ShapeLaws
 pub mod ContentLaws
@@ -20,3 +22,6 @@ pub mod Items
 pub mod Memory
 pub mod Runs
 pub mod RunLaws
+pub mod Marks
+pub mod Hostile
+pub mod Walks

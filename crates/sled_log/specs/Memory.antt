@@ -24,11 +24,11 @@ pub record Remembers (old new : MemLog) : Type 0 where
   pub one : clock_of new ≤ clock_of old + 1
   pub past : (moment : ℕ) → moment ≤ clock_of old → was_at moment new ≡ was_at moment old
 
--- what a stop from that moment on might have left
+-- the crash states from that moment on
 abbrev pub might_have_left : MemLog → ℕ → List Told → Type 0
 might_have_left log since pages = WasLeft log.clock log.items.items since pages
 
--- the log sizes of all messages, of the stable ones, and of the pending ones
+-- the log sizes of all messages, of the durable ones, and of the pending ones
 abbrev pub size_of : MemLog → ℕ
 size_of log = log_size log.items.items
 
@@ -37,6 +37,10 @@ stable_size_of log = log_size (take log.stable log.items.items)
 
 abbrev pub pending_size_of : MemLog → ℕ
 pending_size_of log = log_size (drop log.stable log.items.items)
+
+-- the log sizes of what a crash keeps: all that is durable, and so many of the pending events
+abbrev pub kept_size_of : MemLog → ℕ → ℕ
+kept_size_of log n = log_size (take (log.stable + n) log.items.items)
 
 -- no device fails
 abbrev pub counts_of : MemLog → Counts

@@ -6,6 +6,7 @@ use Rattle.sled_base.specs.declared.kinds.MessageKind.{MessageKind}
 use Rattle.sled_base.specs.declared.kinds.MessageKind.TheVariants as kinds
 use Rattle.sled_base.specs.declared.types.DiskPtr.{DiskPtr}
 use Rattle.sled_base.specs.declared.types.DiskPtr.TheVariants.{Inline, Blob}
+use Rattle.sled_log.specs.Limits.{head_size}
 
 -- the kind of a message, and the bytes of its payload
 pub record Message : Type 0 where
@@ -33,8 +34,11 @@ Chain = List Entry
 abbrev pub Told : Type 0
 Told = List Message
 
+abbrev pub message_in : Entry → Message
+message_in entry = entry.message
+
 abbrev pub told : Chain → Told
-told chain = map (λ entry. entry.message) chain
+told chain = map message_in chain
 
 -- what a message does to its page
 abbrev pub effect_of : Message → LogKind
@@ -43,9 +47,9 @@ effect_of message = log_kind_of message.kind
 abbrev pub effect_of_entry : Entry → LogKind
 effect_of_entry entry = effect_of entry.message
 
--- how much of a log a message takes up: 17 bytes, and its payload
+-- how much of a log a message takes up: a head, and its payload
 abbrev pub size_of : Message → ℕ
-size_of message = 17 + length message.payload
+size_of message = head_size + length message.payload
 
 -- the kind under which a payload of a kind is kept as a blob, if it has one
 abbrev pub blob_kind : MessageKind → MessageKind

@@ -1,10 +1,11 @@
 -- How a log answers what it keeps of pages.
-use Rattle.std.specs.Prelude.{◌≡◌, ℕ, ℤ, ◌<◌, ◌^◌, true, false, [], ◌∷◌, map, sum_by}
+use Rattle.std.specs.Prelude.{◌≡◌, ℕ, ℤ, ◌<◌, true, false, [], ◌∷◌, map, sum_by}
 use Rattle.std.specs.Global.{Vec}
 use Rattle.std.specs.List.{AllByRecursion}
 use Rattle.sled_base.specs.declared.kinds.MessageKind.{MessageKind}
 use Rattle.sled_base.specs.declared.types.DiskPtr.{DiskPtr}
 use Rattle.sled_log.specs.Chains.{is_empty}
+use Rattle.sled_log.specs.Limits.{size_limit}
 use Rattle.sled_log.specs.Messages.{Entry, Chain, effect_of_entry, kind_at, size_of}
 use Rattle.sled_base.specs.declared.types.page_state.PageState.{PageState}
 use Rattle.sled_base.specs.declared.types.page_state.PageState.TheVariants.{Present, Free}
@@ -22,10 +23,10 @@ abbrev pub IsPageState : Chain → PageState → Type 0
 IsPageState chain (Present base frags) = (is_empty effect_of_entry chain ≡ false) × (map said_of chain ≡ base ∷ frags.items)
 IsPageState chain (Free lsn pointer) = (is_empty effect_of_entry chain ≡ true) × (map freed_of chain ≡ (lsn, pointer) ∷ [])
 
--- Each log size of a chain is that of its message, and together they are at most the greatest i64.
+-- Each log size of a chain is that of its message, and together they are at most `i64::MAX`.
 pub record IsSized (chain : Chain) : Type 0 where
   pub each : AllByRecursion (λ entry. entry.place.log_size ≡ size_of entry.message) chain
-  pub total : sum_by (λ entry. entry.place.log_size) chain < 2 ^ 63
+  pub total : sum_by (λ entry. entry.place.log_size) chain < size_limit
 
 -- an entry that is kept there
 abbrev pub IsAt : ℤ → DiskPtr → Entry → Type 0

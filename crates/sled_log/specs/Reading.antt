@@ -1,5 +1,5 @@
 -- Which change of a page a message is: the one that its payload reads.
-use Rattle.std.specs.Prelude.{◌≡◌, ◌<◌, ◌≤◌, ℕ, List, [], ◌∷◌, ◌++◌, length, take, slice_get, Some}
+use Rattle.std.specs.Prelude.{◌≡◌, ◌<◌, ◌≤◌, ℕ, false, List, [], ◌∷◌, ◌++◌, length, take, slice_get, Some}
 use Rattle.std.specs.List.{AllZip}
 use Rattle.sled_base.specs.Payloads.Numbers.{ReadsU64}
 use Rattle.sled_base.specs.declared.kinds.MessageKind.{MessageKind}
@@ -10,11 +10,11 @@ use Rattle.sled_node.specs.Payloads.Links.{ReadsLink}
 use Rattle.sled_node.specs.Payloads.Nodes.{ReadsNode}
 use Rattle.sled_node.specs.Payloads.Roots.{ReadsRoots}
 use Rattle.sled_node.specs.declared.node.link.Link.{Link as NodeLink}
-use Rattle.sled_log.specs.Batches.{IsFair}
-use Rattle.sled_log.specs.Contents.{contents_from, contents_after, Content, Free, Counter, Roots, Node, Update, Put, Link}
+use Rattle.sled_log.specs.Chains.{is_empty}
+use Rattle.sled_log.specs.Contents.{contents_from, contents_after, Content, Free, Counter, Roots, Node, Damaged, Update, Put, Link}
 use Rattle.sled_log.specs.Events.{Event, Change, Pin, Seal, Cancel}
-use Rattle.sled_log.specs.Messages.{Message, Told}
-use Rattle.sled_log.specs.State.{IsBeginning}
+use Rattle.sled_log.specs.Messages.{Message, Told, effect_of}
+use Rattle.sled_log.specs.State.{CrashKeeps}
 
 -- The payload of such a kind reads the update, up to the payload's end.
 abbrev pub Reads : MessageKind → List ℕ → Update → Type 0
@@ -52,9 +52,17 @@ abbrev pub Makes : Told → Content → Type 0
 Makes [] content = ⊥
 Makes (message ∷ messages) content = (first : Content) × IsUpdate message (Put first) × LeadTo first messages content
 
+-- The page holds the content that its messages make. It is damaged where they make none and don't leave it free.
+abbrev pub Holds : Told → Content → Type 0
+Holds messages Damaged = (is_empty effect_of messages ≡ false) × ((content : Content) → ¬ Makes messages content)
+Holds messages Free = Makes messages Free
+Holds messages (Counter n) = Makes messages (Counter n)
+Holds messages (Roots roots) = Makes messages (Roots roots)
+Holds messages (Node node) = Makes messages (Node node)
+
 -- pages of which these messages were told hold such contents
 abbrev pub Hold : List Told → List Content → Type 0
-Hold = AllZip Makes
+Hold = AllZip Holds
 
 -- The change may be made of pages that hold such contents: one puts a content on a page that is there, or on the next new
 -- one, which isn't left free, and a link is accepted by the page's node.
@@ -63,6 +71,7 @@ MayChange contents id (Put Free) = id < length contents
 MayChange contents id (Put (Counter n)) = id ≤ length contents
 MayChange contents id (Put (Roots roots)) = id ≤ length contents
 MayChange contents id (Put (Node node)) = id ≤ length contents
+MayChange contents id (Put Damaged) = ⊥
 MayChange contents id (Link link) = (node : WholeNode) × (slice_get contents id ≡ Some (Node node)) × Accepts node link
 
 abbrev pub MayCome : List Content → Event Update → Type 0
@@ -78,11 +87,6 @@ AreTold contents (message ∷ messages) (event ∷ events) = IsEvent message eve
 AreTold contents [] (event ∷ events) = ⊥
 AreTold contents (message ∷ messages) [] = ⊥
 
--- What a stop leaves of stable contents, pending events, and others that began to come: some beginning of these had come,
--- and the pages hold what was stable, and then the pending events up to a fair cut.
-pub record AreLeft (stable : List Content) (pending begun : List (Event Update)) (pages : List Told) : Type 0 where
-  pub came : List (Event Update)
-  pub beginning : IsBeginning came begun
-  pub cut : ℕ
-  pub fair : IsFair (pending ++ came) cut
-  pub is : Hold pages (contents_after stable (take cut (pending ++ came)))
+-- a crash state where these contents were durable, these events pending, and others began to come
+abbrev pub AreLeft : List Content → List (Event Update) → List (Event Update) → List Told → Type 0
+AreLeft stable pending begun pages = CrashKeeps contents_after stable pending begun (Hold pages)

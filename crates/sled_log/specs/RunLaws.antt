@@ -49,17 +49,17 @@ module _ {L : Type 0} (state : L → State Entry) (moment : L → ℕ) (left_sin
   }
 
   -- a call, without its places
-  Called-stop : {T : Type 0} (old new : L) (count : ℕ) (events : T → List (Event Entry)) (begun : List (Event Message)) (result : Result T LogError)
-      → Called state moment left_since counts old new count events begun result
+  pub Called-stop : {T tells : Type 0} (old new : L) (count : ℕ) (events : T → List (Event Entry)) (begun : List (Event Message)) (result : Result T LogError)
+      → tells → Called tells state moment left_since counts old new count events begun result
       → StopsLeave moment left_since old new (IsLeft effect_of (told_state (state old)) begun)
-  Called-stop old new count events begun result called =
-      StopsLeave-weaker old new (IsLeft effect_of (told_state (state old)) (begun_by result begun)) (IsLeft effect_of (told_state (state old)) begun) (IsLeft-begun (told_state (state old)) result begun) called.stop
+  Called-stop old new count events begun result told called =
+      StopsLeave-weaker old new (IsLeft effect_of (told_state (state old)) (begun_by result begun)) (IsLeft effect_of (told_state (state old)) begun) (IsLeft-begun (told_state (state old)) result begun) (called.stop told)
 
-  pub call-stop : {T : Type 0} (old new : L) (call : LogCall) (count : ℕ) (events : T → List (Event Entry)) (begun : List (Event Message)) (result : Result T LogError) → events_of call ≡ begun
-      → Called state moment left_since counts old new count events begun result
+  pub call-stop : {T tells : Type 0} (old new : L) (call : LogCall) (count : ℕ) (events : T → List (Event Entry)) (begun : List (Event Message)) (result : Result T LogError) → events_of call ≡ begun
+      → tells → Called tells state moment left_since counts old new count events begun result
       → StopsLeave moment left_since old new (IsLeft effect_of (told_state (state old)) (events_of call))
-  call-stop old new call count events begun result is called =
-      subst (λ (l : List (Event Message)). StopsLeave moment left_since old new (IsLeft effect_of (told_state (state old)) l)) (sym is) (Called-stop old new count events begun result called)
+  call-stop old new call count events begun result is told called =
+      subst (λ (l : List (Event Message)). StopsLeave moment left_since old new (IsLeft effect_of (told_state (state old)) l)) (sym is) (Called-stop old new count events begun result told called)
 
   pub call-added : (old new : L) (call : LogCall) (events : List (Event Entry)) → events_of call ≡ told_events events → Adds effect_of_entry (state old) events (state new) → Adds effect_of (told_state (state old)) (events_of call) (told_state (state new))
   call-added old new call events is added =

@@ -7,7 +7,7 @@ use Rattle.sled_node.specs.Node.{IsWellFormed}
 use Rattle.sled_node.specs.Payloads.Links.{written_link, CanWriteLink}
 use Rattle.sled_node.specs.Payloads.Nodes.{written_node}
 use Rattle.sled_node.specs.Payloads.Roots.{written_roots}
-use Rattle.sled_log.specs.Contents.{Free, Counter, Roots, Node, Update, Put, Link}
+use Rattle.sled_log.specs.Contents.{Free, Counter, Roots, Node, Damaged, Update, Put, Link}
 use Rattle.sled_log.specs.Messages.{Message, message}
 
 abbrev pub message_of : Update → Message
@@ -15,6 +15,7 @@ message_of (Put Free) = message kinds.Free []
 message_of (Put (Counter n)) = message kinds.Counter (written_u64 n)
 message_of (Put (Roots roots)) = message kinds.InlineMeta (written_roots roots)
 message_of (Put (Node node)) = message kinds.InlineNode (written_node node)
+message_of (Put Damaged) = message kinds.Corrupted []
 message_of (Link link) = message kinds.InlineLink (written_link link)
 
 -- the limits of what is written
@@ -23,4 +24,5 @@ CanWrite (Put Free) = ⊤
 CanWrite (Put (Counter n)) = n < 2 ^ 64
 CanWrite (Put (Roots roots)) = IsRootMap roots
 CanWrite (Put (Node node)) = IsWellFormed node
+CanWrite (Put Damaged) = ⊥
 CanWrite (Link link) = CanWriteLink link

@@ -1,5 +1,4 @@
-//! The log of the page cache: what is told of pages, in order, of which a stop at any moment keeps a beginning that
-//! holds no batch in part.
+//! The log of the page cache: messages of pages, in order. A crash at any moment keeps a prefix of them that splits no batch.
 #![tactic(auto)]
 
 pub mod laws;

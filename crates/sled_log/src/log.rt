@@ -1,12 +1,12 @@
-//! The log as a contract: what is told of pages, in order, of which a stop at any moment keeps a beginning that holds
-//! no batch in part.
+//! The log as a contract: messages of pages, in order. A crash at any moment keeps a prefix of them that splits no batch.
 
-ghost use Rattle.std.specs.Prelude.{◌≡◌, ℕ, ℤ, ◌+◌, ◌≤◌, List, [], ◌∷◌, true, false, length, slice_index_or, IfOk, IfErr, OnOk, IsErrOf};
+ghost use Rattle.std.specs.Prelude.{◌≡◌, ℕ, ℤ, ◌+◌, ◌≤◌, ◌<◌, List, [], ◌∷◌, true, false, length, slice_index_or, IfOk, IfErr, OnOk, IsErrOf};
 ghost use Rattle.std.specs.List.{All, AllByRecursion, Any, AllZip};
 ghost use Rattle.sled_log.specs.Batches.{is_open};
 ghost use Rattle.sled_log.specs.Calls.{Called, Counts, can_tell, one_more};
 ghost use Rattle.sled_log.specs.Chains.{is_chain};
 ghost use Rattle.sled_log.specs.Events.{Change, Pin, Seal, Cancel};
+ghost use Rattle.sled_log.specs.Limits.{head_size, size_limit};
 ghost use Rattle.sled_log.specs.Messages.{Entry, Told, message, placed, effect_of, effect_of_entry};
 ghost use Rattle.sled_log.specs.Pages.{IsPageState, IsSized, IsAt, IsRead};
 ghost use Rattle.sled_log.specs.State.{State, now, IsLeft, told_state};
@@ -14,18 +14,18 @@ ghost use Rattle.sled_log.specs.declared.log.LogError.TheVariants.{Memory, Full,
 
 use crate::PageState;
 use sled_base::{DiskPtr, Lsn, MessageKind, PageId};
-use std::alloc::AllocError;
+use std::alloc::{AllocError, AllocFailed};
 
-/// Why a call of a log was refused.
+/// Why a call of a log failed.
 #[derive(Clone, Copy, Debug, PartialEq, Eq)]
 pub enum LogError {
-    /// Memory was wanting.
+    /// An allocation failed.
     Memory,
     /// The log has no room for the message.
     Full,
     /// The device failed to read in this call.
     ReadFault,
-    /// The device failed to write, or to make what was written stable, in this call.
+    /// The device failed to write, or to make durable what was written, in this call.
     WriteFault,
     /// The log holds what no cache wrote.
     Corruption,
@@ -39,26 +39,41 @@ impl From<AllocError> for LogError {
     }
 }
 
-/// A log of the messages of pages, which are pending until they are stable.
+impl<T: Drop> From<AllocFailed<T>> for LogError {
+    ghost from_gives = { λ _ e. e ≡ Memory };
+
+    fn from(_e: AllocFailed<T>) -> LogError {
+        LogError::Memory
+    }
+}
+
+/// A log of the messages of pages, which are pending until they are durable: the log calls that stable.
 ///
-/// A refusal other than WriteFault adds nothing; any call may make a beginning of what is pending stable that ends
-/// inside no batch. After a WriteFault no call is made, since each requires a usable log, and what was begun may be there
-/// or not. A stop at any moment, inside a call too, leaves what is stable, and then a beginning of what is pending and
-/// begun that holds no batch in part; a batch that is cancelled may stand in part.
+/// An error other than WriteFault adds nothing. Any call may make a prefix of what is pending durable that ends inside no
+/// batch. After a WriteFault no call is made, since each requires a usable log, and what was begun may be there or not. A crash
+/// at any moment, inside a call too, leaves a crash state: what is durable, and then a prefix of what is pending and begun that
+/// splits no batch, but for one that is cancelled.
+///
+/// What is said of contents, of crash states and of Corruption holds where the device tells its bytes: where a read gives what
+/// was written there, and a crash leaves what was synced. A log over a file whose reads may give any bytes is a log too, of
+/// which the rest holds.
 pub trait Log: Drop {
-    /// The chains that are stable, the events that are pending, and whether it may be called.
+    /// That the device tells its bytes.
+    ghost tells: { Type 0 };
+
+    /// The chains that are durable, the events that are pending, and whether the log may be called.
     ghost state: { Self → State Entry };
 
     /// The moment, as a number that doesn't fall.
     ghost moment: { Self → ℕ };
 
-    /// The pages that a stop at some moment from that one on might have left, during a call or between two.
+    /// The crash states: the pages that a crash at some moment from that one on might have left, during a call or between two.
     ghost left_since: { Self → ℕ → List Told → Type 0 };
 
     /// How often it was read, and how often the device has failed.
     ghost counts: { Self → Counts };
 
-    /// How many bytes it has, how many of them are stable, and how many `make_stable` would write.
+    /// How many bytes it has, how many of them are durable, and how many `make_stable` would write.
     ghost bytes: { Self → ℕ };
 
     ghost stable_bytes: { Self → ℤ };
@@ -74,7 +89,7 @@ pub trait Log: Drop {
     ///
     /// A page is told a content where it is there or is the next new one, that it is free where it is there, and a link
     /// where it has a content. The log sizes of one chain are together at most `i64::MAX`. Full: the log has no room for the
-    /// message.
+    /// message. An error other than WriteFault leaves the log's contents unchanged.
     fn append(
         &mut self,
         kind: MessageKind,
@@ -82,14 +97,14 @@ pub trait Log: Drop {
         payload: &[u8],
     ) -> Result<(Lsn, DiskPtr, u64), LogError>
         requires usable { (state self.old).usable ≡ true }
-        requires tells { can_tell effect_of_entry (now effect_of_entry (state self.old)) pid kind ≡ true }
-        ensures called { Called state moment left_since counts self.old self.new (counts self.old).reads (λ said. Change pid (placed (message kind payload.now) said) ∷ []) (Change pid (message kind payload.now) ∷ []) result }
-        ensures size { IfOk result (λ said. said.2 ≡ 17 + length payload.now) }
+        requires can { tells → can_tell effect_of_entry (now effect_of_entry (state self.old)) pid kind ≡ true }
+        ensures called { Called tells state moment left_since counts self.old self.new (counts self.old).reads (λ said. Change pid (placed (message kind payload.now) said) ∷ []) (Change pid (message kind payload.now) ∷ []) result }
+        ensures size { IfOk result (λ said. (said.2 ≡ head_size + length payload.now) × (said.2 < size_limit)) }
         ensures full { IsErrOf result Full → is_full self.old (length payload.now) }
-        ensures sized { OnOk result (AllByRecursion IsSized (now effect_of_entry (state self.new))) };
+        ensures sized { tells → OnOk result (AllByRecursion IsSized (now effect_of_entry (state self.new))) };
 
     /// Reads a message of a page by its place, which is one of the page's chain: its kind, or the kind of its blob, and its
-    /// payload. Memory and ReadFault add nothing, and a read takes up no room.
+    /// payload. It adds nothing, and takes up no room of the log.
     fn read(
         &mut self,
         pid: PageId,
@@ -97,17 +112,17 @@ pub trait Log: Drop {
         pointer: DiskPtr,
     ) -> Result<(MessageKind, Vec<u8>), LogError>
         requires usable { (state self.old).usable ≡ true }
-        requires known { Any (IsAt lsn pointer) (slice_index_or (now effect_of_entry (state self.old)) pid []) }
-        ensures called { Called state moment left_since counts self.old self.new (one_more (counts self.old).reads) (λ _. []) [] result }
-        ensures found { IfOk result (λ found. All (λ entry. IsAt lsn pointer entry → IsRead entry found) (slice_index_or (now effect_of_entry (state self.old)) pid [])) }
+        requires known { tells → Any (IsAt lsn pointer) (slice_index_or (now effect_of_entry (state self.old)) pid []) }
+        ensures called { Called tells state moment left_since counts self.old self.new (one_more (counts self.old).reads) (λ _. []) [] result }
+        ensures found { tells → IfOk result (λ found. All (λ entry. IsAt lsn pointer entry → IsRead entry found) (slice_index_or (now effect_of_entry (state self.old)) pid [])) }
         ensures room { (n : ℕ) → is_full self.new n → is_full self.old n }
         ensures not_full { IsErrOf result Full → ⊥ };
 
-    /// Makes all that is pending stable, and answers how many bytes it wrote. It takes no memory.
+    /// Makes all that is pending durable, and answers how many bytes it wrote. It allocates nothing.
     fn make_stable(&mut self) -> Result<usize, LogError>
         requires usable { (state self.old).usable ≡ true }
         requires closed { is_open (state self.old).pending ≡ false }
-        ensures called { Called state moment left_since counts self.old self.new (counts self.old).reads (λ _. []) [] result }
+        ensures called { Called tells state moment left_since counts self.old self.new (counts self.old).reads (λ _. []) [] result }
         ensures stable { OnOk result ((state self.new).pending ≡ []) }
         ensures number { IfOk result (λ n. n ≡ to_write self.old) }
         ensures only { IfErr result (λ e. e ≡ WriteFault) };
@@ -116,37 +131,38 @@ pub trait Log: Drop {
     fn pin(&mut self) -> Result<(), LogError>
         requires usable { (state self.old).usable ≡ true }
         requires closed { is_open (state self.old).pending ≡ false }
-        ensures called { Called state moment left_since counts self.old self.new (counts self.old).reads (λ _. Pin ∷ []) (Pin ∷ []) result }
+        ensures called { Called tells state moment left_since counts self.old self.new (counts self.old).reads (λ _. Pin ∷ []) (Pin ∷ []) result }
         ensures full { IsErrOf result Full → is_full_for_batch self.old };
 
-    /// Closes the batch: a stop leaves all of it or nothing. It takes no memory.
+    /// Closes the batch: a crash leaves all of it or nothing. It allocates nothing.
     fn seal(&mut self) -> Result<(), LogError>
         requires usable { (state self.old).usable ≡ true }
         requires opened { is_open (state self.old).pending ≡ true }
-        ensures called { Called state moment left_since counts self.old self.new (counts self.old).reads (λ _. Seal ∷ []) (Seal ∷ []) result }
+        ensures called { Called tells state moment left_since counts self.old self.new (counts self.old).reads (λ _. Seal ∷ []) (Seal ∷ []) result }
         ensures only { IfErr result (λ e. e ≡ WriteFault) };
 
-    /// Closes the batch: a stop may leave it in part. It takes no memory.
+    /// Closes the batch: a crash may leave a part of it. It allocates nothing.
     fn cancel(&mut self) -> Result<(), LogError>
         requires usable { (state self.old).usable ≡ true }
         requires opened { is_open (state self.old).pending ≡ true }
-        ensures called { Called state moment left_since counts self.old self.new (counts self.old).reads (λ _. Cancel ∷ []) (Cancel ∷ []) result }
+        ensures called { Called tells state moment left_since counts self.old self.new (counts self.old).reads (λ _. Cancel ∷ []) (Cancel ∷ []) result }
         ensures only { IfErr result (λ e. e ≡ WriteFault) };
 
-    /// The pages, by id, with the places of their chains. Memory and ReadFault add nothing.
+    /// The pages, by id, with the places of their chains. It adds nothing, and takes up no room.
     fn recover(&mut self) -> Result<Vec<PageState>, LogError>
         requires usable { (state self.old).usable ≡ true }
-        ensures called { Called state moment left_since counts self.old self.new (counts self.old).reads (λ _. []) [] result }
-        ensures pages { IfOk result (λ pages. AllZip IsPageState (now effect_of_entry (state self.old)) pages.items) }
-        ensures sized { OnOk result (AllByRecursion IsSized (now effect_of_entry (state self.old))) }
-        ensures chains { OnOk result (AllByRecursion (λ chain. is_chain effect_of_entry chain ≡ true) (now effect_of_entry (state self.old))) }
+        ensures called { Called tells state moment left_since counts self.old self.new (counts self.old).reads (λ _. []) [] result }
+        ensures pages { tells → IfOk result (λ pages. AllZip IsPageState (now effect_of_entry (state self.old)) pages.items) }
+        ensures sized { tells → OnOk result (AllByRecursion IsSized (now effect_of_entry (state self.old))) }
+        ensures chains { tells → OnOk result (AllByRecursion (λ chain. is_chain effect_of_entry chain ≡ true) (now effect_of_entry (state self.old))) }
+        ensures room { (n : ℕ) → is_full self.new n → is_full self.old n }
         ensures not_full { IsErrOf result Full → ⊥ };
 
     /// Whether a batch is open.
     fn batch_open(&self) -> bool
         ensures { result ≡ is_open (state self.now).pending };
 
-    /// How far the log is stable.
+    /// How far the log is durable.
     fn stable_offset(&self) -> Lsn
         ensures { result ≡ stable_bytes self.now };
 
@@ -162,13 +178,16 @@ pub trait Log: Drop {
     fn failed_reads(&self) -> u64
         ensures { result ≡ (counts self.now).failed_reads };
 
-    /// How often the device failed to write, or to make what was written stable.
+    /// How often the device failed to write, or to make durable what was written.
     fn write_faults(&self) -> u64
         ensures { result ≡ (counts self.now).write_faults };
 
-    /// A stop at this moment, which is one of those since an earlier one, may leave what is stable and no more.
-    ghost keeps_stable: { (log : Self) (t : ℕ) → t ≤ moment log → (state log).usable ≡ true → left_since log t (told_state (state log)).stable };
+    /// A crash at this moment may leave what is durable and no more.
+    ghost keeps_stable: { (log : Self) → tells → (state log).usable ≡ true → left_since log (moment log) (told_state (state log)).stable };
 
-    /// It leaves what is stable, and what is pending up to a fair cut.
-    ghost only_now: { (log : Self) (pages : List Told) → left_since log (moment log) pages → IsLeft effect_of (told_state (state log)) [] pages };
+    /// It leaves what is durable, and a prefix of what is pending that splits no batch.
+    ghost only_now: { (log : Self) (pages : List Told) → tells → (state log).usable ≡ true → left_since log (moment log) pages → IsLeft effect_of (told_state (state log)) [] pages };
+
+    /// What a crash since some moment might have left, it might have left since an earlier one.
+    ghost since_earlier: { (log : Self) (t u : ℕ) (pages : List Told) → tells → t ≤ u → left_since log u pages → left_since log t pages };
 }

@@ -1,10 +1,11 @@
 //! The log in memory.
 
-ghost use Rattle.std.specs.Prelude.{◌≡◌, ◌+◌, ◌≤◌, ◌<◌, ◌^◌, ◌↔◌, [], ◌∷◌, ◌++◌, length, take, drop, map, true, false, IsTrue, vec_len, vec_capacity};
+ghost use Rattle.std.specs.Prelude.{◌≡◌, ◌+◌, ◌≤◌, ◌<◌, ◌↔◌, [], ◌∷◌, ◌++◌, length, take, drop, map, true, false, IsTrue, vec_len, vec_capacity};
 ghost use Rattle.sled_log.specs.Batches.{is_open, open_after, IsFair};
 ghost use Rattle.sled_log.specs.Calls.{one_more};
 ghost use Rattle.sled_log.specs.Chains.{chains_after};
 ghost use Rattle.sled_log.specs.Items.{event_of, event_of_mark, size_of_mark, log_size, IsInOrder, are_placed, stands_at};
+ghost use Rattle.sled_log.specs.Limits.{size_limit};
 ghost use Rattle.sled_log.specs.Messages.{effect_of, effect_of_entry};
 ghost use Rattle.sled_log.specs.State.{State, Adds, IsLeft, StopsLeave, told_state};
 ghost use Rattle.sled_log.specs.TellingLaws.{told_events};
@@ -21,8 +22,8 @@ use item::{Item, Mark};
 use keeping::{keep_first, total_size};
 use std::alloc::Global;
 
-/// A log in memory. Each item keeps when it came and when it became stable, so what a stop at any moment might have
-/// left is known from what is stored.
+/// A log in memory. Each item keeps when it came and when it became durable, so the crash states of each moment are known
+/// from what is stored.
 #[derive(Drop)]
 pub struct MemLog {
     alloc: Global,
@@ -43,7 +44,7 @@ pub struct MemLog {
     ghost counted: { clock ≤ length items.items + stable },
     ghost sized: { size ≡ log_size items.items },
     ghost stable_sized: { stable_size ≡ log_size (take stable items.items) },
-    ghost fits: { size < 2 ^ 63 },
+    ghost fits: { size < size_limit },
     ghost placed: { IsTrue (are_placed 0 items.items) },
     ghost batch_is: { batch ≡ is_open (map event_of (drop stable items.items)) },
     // a batch that is open has room for its closing mark
@@ -51,7 +52,7 @@ pub struct MemLog {
 }
 
 impl MemLog {
-    ghost use Rattle.sled_log.specs.Memory.{state_of, clock_of, might_have_left, counts_of, settings_of, size_of, Remembers};
+    ghost use Rattle.sled_log.specs.Memory.{state_of, clock_of, might_have_left, counts_of, settings_of, size_of, stable_size_of, kept_size_of, Remembers};
 
     /// An empty log. It takes no memory.
     ///
@@ -77,18 +78,22 @@ impl MemLog {
         }
     }
 
-    /// Whether a stop may keep `n` of the pending events.
+    /// Whether a crash may keep `n` of the pending events.
     pub fn is_fair(&self, n: usize) -> bool
         ensures { IsTrue result ↔ IsFair (state_of self.now).pending n }
     {
         is_fair_cut(&self.items[self.stable..], n)
     }
 
-    /// The log after a stop that kept `n` of the pending events.
+    /// A crash now that keeps `n` of the pending events: the log that it leaves, which is new and has counted nothing.
     pub fn stop(self, n: usize) -> MemLog
         requires { IsFair (state_of self).pending n }
+        ensures left { might_have_left self (clock_of self) (told_state (state_of result)).stable }
         ensures stable { (state_of result).stable ≡ chains_after effect_of_entry (state_of self).stable (take n (state_of self).pending) }
         ensures pending { (state_of result).pending ≡ [] }
+        ensures size { size_of result ≡ kept_size_of self n }
+        ensures durable { stable_size_of result ≡ kept_size_of self n }
+        ensures counts { counts_of result ≡ record { reads = 0; failed_reads = 0; write_faults = 0 } }
         ensures moment { clock_of result ≡ 0 }
         ensures settings { settings_of result ≡ settings_of self }
     {
@@ -102,7 +107,7 @@ impl MemLog {
             size: _,
             clock: _,
             batch: _,
-            reads,
+            reads: _,
         } = self;
         let kept = stable + n;
         keep_first(&mut items, kept);
@@ -118,7 +123,7 @@ impl MemLog {
             size,
             clock: 0,
             batch: false,
-            reads,
+            reads: 0, // no call has read the new log
         }
     }
 
@@ -126,7 +131,7 @@ impl MemLog {
     fn add(&mut self, mark: Mark, batch: bool)
         requires room { vec_len self.old.items < vec_capacity self.old.items }
         requires more_room { batch ≡ true → vec_len self.old.items + 1 < vec_capacity self.old.items }
-        requires fits { self.old.size + size_of_mark mark < 2 ^ 63 }
+        requires fits { self.old.size + size_of_mark mark < size_limit }
         requires stands { IsTrue (stands_at self.old.size mark) }
         requires batch { batch ≡ open_after self.old.batch (event_of_mark mark ∷ []) }
         ensures adds { Adds effect_of_entry (state_of self.old) (event_of_mark mark ∷ []) (state_of self.new) }

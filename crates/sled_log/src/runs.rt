@@ -1,11 +1,12 @@
 //! Calls of a log in a row.
 
-ghost use Rattle.std.specs.Prelude.{◌≡◌, ℕ, ◌<◌, ◌++◌, true, false, not, IsTrue, List, [], length, take, OnOk, OnErr};
+ghost use Rattle.std.specs.Prelude.{◌≡◌, ℕ, ◌<◌, ◌++◌, true, false, not, IsTrue, List, [], length, take, OnOk, OnErr, IsErrOf};
 ghost use Rattle.sled_log.specs.Batches.{is_open};
 ghost use Rattle.sled_log.specs.Calls.{HasCause, is_write_fault};
 ghost use Rattle.sled_log.specs.Events.{Event};
 ghost use Rattle.sled_log.specs.Messages.{Message, effect_of};
 ghost use Rattle.sled_log.specs.Runs.{events_of, events_of_all, can_make, can_make_all};
+ghost use Rattle.sled_log.specs.declared.log.LogError.TheVariants.{Corruption};
 ghost use Rattle.sled_log.specs.State.{State, now, Adds, IsLeft, StopsLeave, told_state};
 
 use crate::{Log, LogError};
@@ -29,6 +30,7 @@ pub fn parts_make_the_whole<L: Log>()
 
 /// Makes one call.
 fn make_call<L: Log>(log: &mut L, call: &LogCall) -> Result<(), LogError>
+    requires tells { L.tells }
     requires usable { (L.state log.old).usable ≡ true }
     requires can { IsTrue (can_make (now effect_of (told_state (L.state log.old))) (is_open (L.state log.old).pending) call.now) }
     ensures added { OnOk result (Adds effect_of (told_state (L.state log.old)) (events_of call.now) (told_state (L.state log.new))) }
@@ -36,6 +38,7 @@ fn make_call<L: Log>(log: &mut L, call: &LogCall) -> Result<(), LogError>
     ensures usable { (L.state log.new).usable ≡ not (is_write_fault result) }
     ensures stop { StopsLeave L.moment L.left_since log.old log.new (IsLeft effect_of (told_state (L.state log.old)) (events_of call.now)) }
     ensures cause { HasCause (L.counts log.old) (L.counts log.new) result }
+    ensures sound { IsErrOf result Corruption → ⊥ }
 {
     match call {
         LogCall::Append(kind, pid, payload) => {
@@ -56,6 +59,7 @@ fn make_call<L: Log>(log: &mut L, call: &LogCall) -> Result<(), LogError>
 /// A stop at any moment of it leaves what was stable and pending, and a beginning of what all calls add, up to a fair
 /// cut.
 pub fn make_calls<L: Log>(log: &mut L, calls: &[LogCall]) -> Result<(), LogError>
+    requires tells { L.tells }
     requires usable { (L.state log.old).usable ≡ true }
     requires can { IsTrue (can_make_all (now effect_of (told_state (L.state log.old))) (is_open (L.state log.old).pending) calls.now) }
     ensures added { OnOk result (Adds effect_of (told_state (L.state log.old)) (events_of_all calls.now) (told_state (L.state log.new))) }
@@ -63,6 +67,7 @@ pub fn make_calls<L: Log>(log: &mut L, calls: &[LogCall]) -> Result<(), LogError
     ensures usable { (L.state log.new).usable ≡ not (is_write_fault result) }
     ensures stop { StopsLeave L.moment L.left_since log.old log.new (IsLeft effect_of (told_state (L.state log.old)) (events_of_all calls.now)) }
     ensures cause { HasCause (L.counts log.old) (L.counts log.new) result }
+    ensures sound { IsErrOf result Corruption → ⊥ }
 {
     for call in calls {
         make_call(log, call)?;

@@ -1,12 +1,18 @@
 ghost use Rattle.std.specs.Prelude.{◌≡◌, [], true};
 
+mod blind;
 mod buffered;
 mod eager;
+mod faulty;
+mod hostile;
+mod rows;
+mod walks;
 
 use super::*;
+use blind::{BlindLog, Device};
 use buffered::BufferedLog;
 use eager::EagerLog;
-use sled_base::{DiskPtr, Lsn, MessageKind};
+use sled_base::{DiskPtr, Lsn, MessageKind, PageId};
 use std::alloc::Global;
 use std::test::Fail;
 
@@ -48,6 +54,23 @@ fn a_message_stands_where_the_others_end(rt: HostRuntime) -> Result<(), Fail> {
     assert!(rt; is_at(leaf, 35, DiskPtr::Blob(35, 35), 25));
     assert_eq!(rt; log.size(), 60);
     assert_eq!(rt; log.stable_offset(), 0);
+    Ok(())
+}
+
+// Where a leaf is put by a log with this limit of payloads that are no blobs.
+fn leaf_at(alloc: Global, blob_limit: usize) -> Option<DiskPtr> {
+    let mut log = MemLog::new(alloc, blob_limit, 0);
+    match log.append(MessageKind::InlineNode, 0, &LEAF) {
+        Ok((_, pointer, _)) => Some(pointer),
+        Err(_) => None,
+    }
+}
+
+#[test]
+fn a_payload_above_the_limit_is_a_blob(rt: HostRuntime) -> Result<(), Fail> {
+    let alloc = rt.alloc();
+    assert_eq!(rt; leaf_at(alloc, 8), Some(DiskPtr::Inline(0)));
+    assert_eq!(rt; leaf_at(alloc, 7), Some(DiskPtr::Blob(0, 0)));
     Ok(())
 }
 
@@ -116,7 +139,8 @@ fn a_blob_is_read_with_its_kind(rt: HostRuntime) -> Result<(), Fail> {
 
 // Makes a batch of two pages by calls in a row.
 fn batch<L: Log>(alloc: Global, log: &mut L) -> Result<(), LogError>
-    requires { L.state log.old ≡ record { stable = []; pending = []; usable = true } }
+    requires tells { L.tells }
+    requires empty { L.state log.old ≡ record { stable = []; pending = []; usable = true } }
 {
     let calls = [
         LogCall::Pin,
@@ -221,4 +245,24 @@ fn an_eager_log_takes_calls_in_a_row(rt: HostRuntime) -> Result<(), Fail> {
     assert_eq!(rt; log.stable_offset(), 43);
     assert_eq!(rt; log.recover()?.len(), 2);
     Ok(())
+}
+
+// A device that keeps nothing, and gives the same message wherever it is read.
+#[derive(Drop)]
+struct Forgetful {
+    alloc: Global,
+}
+
+impl Device for Forgetful {
+    fn put(&mut self, _at: u64, _kind: MessageKind, _pid: PageId, _payload: &[u8]) -> bool {
+        true
+    }
+
+    fn get(&mut self, _at: u64) -> Option<(MessageKind, PageId, Vec<u8>)> {
+        Some((MessageKind::Counter, 0, Vec::new(self.alloc)))
+    }
+
+    fn sync(&mut self) -> bool {
+        true
+    }
 }

@@ -1,10 +1,11 @@
 -- The node of stored pairs within its bounds is well-formed.
-use Rattle.std.proofs.Common.{ℕ, ◌-◌, ◌<◌, ◌^◌, Bool, List, [], ◌∷◌, ◌++◌, map, take, Option, sym, ◌∙◌, arith}
+use Rattle.std.proofs.Common.{ℕ, ◌-◌, ◌≤◌, Bool, List, [], ◌∷◌, ◌++◌, map, take, Option, sym, ◌∙◌, arith}
 use Rattle.std.specs.Prelude.{IfSome}
 use Rattle.std.specs.List.{AllByRecursion}
 use Rattle.std.proofs.lemmas.List.{length-map}
 use Rattle.sled_base.specs.Order.{Bytes, IsBelow}
 use Rattle.sled_base.specs.OrderLaws.{under_one_front}
+use Rattle.sled_node.specs.Limits.{bytes_limit, prefix_limit}
 use Rattle.sled_node.specs.declared.node.data.Data.{Data}
 use Rattle.sled_node.specs.declared.node.data.Data.TheVariants.{Leaf, Index}
 use Rattle.sled_node.specs.Pairs.{IsWithinLimit, IsRising}
@@ -30,9 +31,9 @@ rising_under front make [] rising = tt
 rising_under front make (pair ∷ pairs) rising =
     (all_map (λ later. IsBelow (front ++ pair.0) later.0) (made front make) (λ later lt. under_one_front front pair.0 later.0 ∙ lt) pairs rising.0, rising_under front make pairs rising.1)
 
-module _ (n : WholeNode) (bounds : AreBounds n.prefix_len n.lo n.hi) (byte : n.prefix_len < 256) (stored : Bytes) where
+module _ (n : WholeNode) (bounds : AreBounds n.prefix_len n.lo n.hi) (byte : n.prefix_len ≤ prefix_limit) (stored : Bytes) where
   abbrev IsWithin : Type 0
-  IsWithin = IsStoredWithin (rest n.prefix_len n.lo) (rest n.prefix_len n.hi) (2 ^ 31 - 1 - n.prefix_len) stored
+  IsWithin = IsStoredWithin (rest n.prefix_len n.lo) (rest n.prefix_len n.hi) (bytes_limit - n.prefix_len) stored
 
   whole_in_range : IsWithin → IsInRange n (whole n stored)
   whole_in_range within =
@@ -47,11 +48,11 @@ module _ (n : WholeNode) (bounds : AreBounds n.prefix_len n.lo n.hi) (byte : n.p
 
 -- ---- the node
 
-module _ (p : ℕ) (next child : Option ℕ) (capped : Bool) (lo hi : Bytes) (byte : p < 256) (bounds : AreBounds p lo hi) where
+module _ (p : ℕ) (next child : Option ℕ) (capped : Bool) (lo hi : Bytes) (byte : p ≤ prefix_limit) (bounds : AreBounds p lo hi) where
   abbrev parts_node : Data → WholeNode
   parts_node parts = node_of p next child capped lo hi parts
 
-  pub parts_formed : IfSome next IsPage × IfSome child IsPage → (parts : Data) → HasStored parts → AreStoredWithin (rest p lo) (rest p hi) (2 ^ 31 - 1 - p) parts → IsWellFormed (parts_node parts)
+  pub parts_formed : IfSome next IsPage × IfSome child IsPage → (parts : Data) → HasStored parts → AreStoredWithin (rest p lo) (rest p hi) (bytes_limit - p) parts → IsWellFormed (parts_node parts)
   parts_formed pages (Leaf pairs) has within =
       let n = parts_node (Leaf pairs) in
       let make = made (take p lo) (λ v. Value v) in
@@ -85,6 +86,6 @@ module _ (p : ℕ) (next child : Option ℕ) (capped : Bool) (lo hi : Bytes) (by
         pages = pages;
       }
 
-  pub parts_within : (parts : Data) → IsWellFormed (parts_node parts) → AreStoredWithin (rest p lo) (rest p hi) (2 ^ 31 - 1 - p) parts
+  pub parts_within : (parts : Data) → IsWellFormed (parts_node parts) → AreStoredWithin (rest p lo) (rest p hi) (bytes_limit - p) parts
   parts_within (Leaf pairs) formed = let n = parts_node (Leaf pairs) in all_back (λ pair. IsInRange n pair.0) (λ pair. IsWithinLimit pair.0) (made (take p lo) (λ v. Value v)) (λ pair inside fits. stored_within n bounds byte pair.0 inside fits) pairs formed.in_range formed.keys
   parts_within (Index pairs) formed = let n = parts_node (Index pairs) in all_back (λ pair. IsInRange n pair.0) (λ pair. IsWithinLimit pair.0) (made (take p lo) (λ page. Child page)) (λ pair inside fits. stored_within n bounds byte pair.0 inside fits) pairs formed.in_range formed.keys

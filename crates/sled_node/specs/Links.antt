@@ -1,10 +1,11 @@
 -- Which links a node accepts, and what they make of it.
-use Rattle.std.specs.Prelude.{◌≡◌, ℕ, ◌<◌, ◌≤◌, ◌^◌, true, false, ◌==◌, List, [], ◌∷◌, length, Option, Some, None, Any, ⊤, if◌then◌else◌}
+use Rattle.std.specs.Prelude.{◌≡◌, ℕ, ◌<◌, ◌≤◌, true, false, ◌==◌, List, [], ◌∷◌, length, Option, Some, None, Any, ⊤, if◌then◌else◌}
 use Rattle.sled_base.specs.Order.{Bytes}
 use Rattle.sled_node.specs.declared.node.link.Link.{Link}
 use Rattle.sled_node.specs.declared.node.link.Link.TheVariants.{Set, Del, ParentMergeIntention, ParentMergeConfirm, ChildMergeCap}
 use Rattle.sled_node.specs.Pairs.{IsWithinLimit, set_pair, del_pair}
 use Rattle.sled_node.specs.Node.{Item, Value, Child, WholeNode, whole, IsInRange}
+use Rattle.sled_node.specs.Limits.{pairs_limit}
 
 -- an index that leads to the child that is being merged
 abbrev pub LeadsToMerging : Option ℕ → List (Bytes × Item) → Type 0
@@ -13,7 +14,7 @@ LeadsToMerging (Some page) pairs = Any (λ pair. pair.1 ≡ Child page) pairs
 
 -- whether a node accepts the link, its own mark aside
 abbrev pub AcceptsHere : WholeNode → Link → Type 0
-AcceptsHere n (Set key value) = (n.is_index ≡ false) × IsInRange n (whole n key) × IsWithinLimit (whole n key) × IsWithinLimit value × (length (set_pair (whole n key) (Value value) n.pairs) ≤ 2 ^ 24)
+AcceptsHere n (Set key value) = (n.is_index ≡ false) × IsInRange n (whole n key) × IsWithinLimit (whole n key) × IsWithinLimit value × (length (set_pair (whole n key) (Value value) n.pairs) ≤ pairs_limit)
 AcceptsHere n (Del key) = (n.is_index ≡ false) × IsWithinLimit (whole n key)
 AcceptsHere n (ParentMergeIntention page) = (0 < page) × (n.child ≡ None)
 AcceptsHere n ParentMergeConfirm = (n.is_index ≡ true) × LeadsToMerging n.child n.pairs

@@ -7,6 +7,7 @@ use Rattle.std.specs.Map.{lookup}
 use Rattle.std.specs.Ordering.{is_eq}
 use Rattle.sled_base.specs.Order.{Bytes, bytes_cmp}
 use Rattle.sled_node.specs.Pairs.{set_pair, del_pair, HasPairs}
+use Rattle.sled_node.specs.Limits.{names_limit, page_bytes}
 
 abbrev pub Roots : Type 0
 Roots = List (Bytes × ℕ)
@@ -37,14 +38,14 @@ without_root name roots = del_pair name roots
 abbrev pub with_roots : List (Bytes × ℕ) → Roots → Roots
 with_roots pairs roots = fold (λ so_far pair. with_root pair.0 pair.1 so_far) roots pairs
 
--- strictly rising names within the limit, at most 2^24 of them, and pages of 64 bits
+-- strictly rising names within the limit, as many at most as a node has pairs, and pages of 64 bits
 abbrev pub IsRootMap : Roots → Type 0
 IsRootMap roots = HasPairs (λ page. page < 2 ^ 64) roots
 
 -- a name that is missing finds room
 abbrev pub HasRoom : Bytes → Roots → Type 0
-HasRoom name roots = root_of name roots ≡ None → length roots < 2 ^ 24
+HasRoom name roots = root_of name roots ≡ None → length roots < names_limit
 
--- for each name its length, and 8 for the root
+-- for each name its length, and what counts for its root
 abbrev pub roots_size : Roots → ℕ
-roots_size roots = sum_by (λ pair. length pair.0 + 8) roots
+roots_size roots = sum_by (λ pair. length pair.0 + page_bytes) roots

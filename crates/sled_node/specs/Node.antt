@@ -3,6 +3,7 @@ use Rattle.std.specs.Prelude.{◌≡◌, ◌≢◌, ℕ, ◌<◌, ◌≤◌, ◌
 use Rattle.std.specs.List.{AllByRecursion}
 use Rattle.sled_base.specs.Order.{Bytes, IsBelow, IsAtMost}
 use Rattle.sled_node.specs.Pairs.{IsWithinLimit, IsRising}
+use Rattle.sled_node.specs.Limits.{pairs_limit, prefix_limit}
 
 -- what stands behind a key: a leaf's value, or an index's page
 pub data Item : Type 0 where
@@ -45,14 +46,14 @@ pub record IsWellFormed (n : WholeNode) : Type 0 where
   -- lo < hi, or hi is empty
   pub range : n.hi ≢ [] → IsBelow n.lo n.hi
   -- the first prefix_len bytes of lo and hi are the same; there are none where hi is empty
-  pub prefix_byte : n.prefix_len < 256
+  pub prefix_byte : n.prefix_len ≤ prefix_limit
   pub prefix_open : n.hi ≡ [] → n.prefix_len ≡ 0
   pub prefix_common : take n.prefix_len n.lo ≡ take n.prefix_len n.hi
   -- the keys rise and are in the range
   pub rising : IsRising n.pairs
   pub in_range : AllByRecursion (λ pair. IsInRange n pair.0) n.pairs
   -- the limits
-  pub few : length n.pairs ≤ 2 ^ 24
+  pub few : length n.pairs ≤ pairs_limit
   pub bounds : IsWithinLimit n.lo × IsWithinLimit n.hi
   pub keys : AllByRecursion (λ pair. IsWithinLimit pair.0) n.pairs
   pub items : AllByRecursion (λ pair. ItemFits n.is_index pair.1) n.pairs

@@ -1,11 +1,12 @@
 -- Pairs of a key and an item, in the order of their keys.
-use Rattle.std.specs.Prelude.{◌≡◌, ℕ, ◌+◌, ◌<◌, ◌≤◌, ◌^◌, List, [], ◌∷◌, ◌++◌, length, take, drop, filter, ⊤}
+use Rattle.std.specs.Prelude.{◌≡◌, ℕ, ◌+◌, ◌<◌, ◌≤◌, List, [], ◌∷◌, ◌++◌, length, take, drop, filter, ⊤}
 use Rattle.std.specs.List.{AllByRecursion}
 use Rattle.sled_base.specs.Order.{Bytes, is_below, IsBelow}
+use Rattle.sled_node.specs.Limits.{bytes_limit, pairs_limit}
 
 -- the limit of a key, a value, a bound and a name
 abbrev pub IsWithinLimit : Bytes → Type 0
-IsWithinLimit bytes = length bytes < 2 ^ 31
+IsWithinLimit bytes = length bytes ≤ bytes_limit
 
 -- each key is below those after it
 abbrev pub IsRising : {V : Type 0} → List (Bytes × V) → Type 0
@@ -40,7 +41,7 @@ pub record IsGap {V : Type 0} (pairs : List (Bytes × V)) (key : Bytes) (i : ℕ
 
 -- the stored pairs of a leaf or an index, whose items are to fit
 pub record HasPairs {V : Type 0} (fits : V → Type 0) (pairs : List (Bytes × V)) : Type 0 where
-  pub few : length pairs ≤ 2 ^ 24
+  pub few : length pairs ≤ pairs_limit
   pub rising : IsRising pairs
   pub keys : AllByRecursion (λ pair. IsWithinLimit pair.0) pairs
   pub items : AllByRecursion (λ pair. fits pair.1) pairs

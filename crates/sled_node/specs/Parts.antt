@@ -8,6 +8,7 @@ use Rattle.sled_node.specs.declared.node.data.Item.{Item as Lent}
 use Rattle.sled_node.specs.declared.node.data.Item.TheVariants as lent
 use Rattle.sled_node.specs.Pairs.{IsWithinLimit, set_pair, del_pair, HasPairs}
 use Rattle.sled_node.specs.Node.{Item, Value, Child, WholeNode}
+use Rattle.sled_node.specs.Limits.{pairs_limit}
 
 abbrev pub is_index : Data → Bool
 is_index (Leaf pairs) = false
@@ -52,7 +53,7 @@ del_stored key (Index pairs) = Index pairs
 
 -- a leaf with room for the pair, which is within the limits
 abbrev pub CanSet : Bytes → Bytes → Data → Type 0
-CanSet key value (Leaf pairs) = IsWithinLimit key × IsWithinLimit value × (length (set_pair key value pairs) ≤ 2 ^ 24)
+CanSet key value (Leaf pairs) = IsWithinLimit key × IsWithinLimit value × (length (set_pair key value pairs) ≤ pairs_limit)
 CanSet key value (Index pairs) = ⊤
 
 -- the stored pairs without the first that leads to the page

@@ -1,7 +1,8 @@
 -- How a node is parted in two, and how it takes in its right neighbour.
-use Rattle.std.specs.Prelude.{◌≡◌, ◌≢◌, ℕ, ◌+◌, ◌/◌, ◌≤◌, ◌^◌, ◌==◌, min, Bool, true, false, List, [], ◌∷◌, ◌++◌, length, Option, Some, None, if◌then◌else◌}
+use Rattle.std.specs.Prelude.{◌≡◌, ◌≢◌, ℕ, ◌+◌, ◌/◌, ◌≤◌, ◌==◌, min, Bool, true, false, List, [], ◌∷◌, ◌++◌, length, Option, Some, None, if◌then◌else◌}
 use Rattle.sled_base.specs.Order.{Bytes, IsBelow, IsAtMost}
 use Rattle.sled_node.specs.Node.{Item, WholeNode}
+use Rattle.sled_node.specs.Limits.{pairs_limit, prefix_limit}
 
 -- how many first bytes two strings have in common
 abbrev pub common_length : Bytes → Bytes → ℕ
@@ -11,7 +12,7 @@ common_length (x ∷ a) (y ∷ b) = if x == y then 1 + common_length a b else 0
 
 -- the prefix length of a part with these bounds: what they have in common, and nothing where hi is empty
 abbrev pub own_prefix : Bytes → Bytes → ℕ
-own_prefix lo hi = min 255 (common_length lo hi)
+own_prefix lo hi = min prefix_limit (common_length lo hi)
 
 -- a shortest string that parts two keys, a beginning of the right one
 pub record IsSeparator (left right s : Bytes) : Type 0 where
@@ -66,7 +67,7 @@ pub record CanReceive (l r : WholeNode) : Type 0 where
   pub kind : l.is_index ≡ r.is_index
   pub bounded : l.hi ≢ []
   pub meet : l.hi ≡ r.lo
-  pub few : length l.pairs + length r.pairs ≤ 2 ^ 24
+  pub few : length l.pairs + length r.pairs ≤ pairs_limit
 
 -- a node that has taken in its right neighbour
 abbrev pub merged : WholeNode → WholeNode → WholeNode

@@ -1,6 +1,7 @@
 //! What a page holds: nodes of a tree, and the links that change them.
 #![tactic(auto)]
 
+pub mod laws;
 pub mod meta;
 pub mod node;
 pub mod serialization;

@@ -1,38 +1,11 @@
 -- Allocating a page, as a step of the machine.
-use Rattle.std.proofs.Common.{◌≡◌, ◌≢◌, inl, inr, ◌≤◌, ◌<◌, ◌+◌, ◌-◌, ◌^◌, ℕ, zero, suc, Bool, true, false, cond, List, [], ◌∷◌, ◌++◌, length, take, Option, Some, None, Result, Ok, Err, slice_get, slice_set, refl, sym, ◌∙◌, ap, subst, arith, eq-eqb}
-use Rattle.std.proofs.lemmas.Bool.{ne_eqb, false≢true}
-use Rattle.std.proofs.lemmas.Option.{none-some, same_Some, slice_get-get_or, slice_get_within}
+use Rattle.sled_pagecache.proofs.Names.{◌≡◌, ◌≢◌, inl, inr, ◌≤◌, ◌<◌, ◌+◌, ◌-◌, ◌^◌, ℕ, zero, suc, Bool, true, false, cond, List, [], ◌∷◌, ◌++◌, length, take, Option, Some, None, Result, Ok, Err, slice_get, slice_set, get_or, refl, sym, ◌∙◌, ap, subst, arith, eq-eqb, ne_eqb, false≢true, none-some, same_Some, slice_get-get_or, slice_get_within, slice_get_read, Error, Unsupported, Refusal, PagesUsedUp, StampUsedUp, Node, Put, Change, IsUpdate, message_of, Ghosts, WholeNode, RefusesPage, Cache, chain_length, IsIn, Steps, written, Went, IsCaused, begun_by, Logged, free_ids, page, State, with_page, free_token, later, greatest_free, Does, Allocates, RefusesSwap, IsRoots, IsCounter, AreOwn, IsBeside, IsConsistent, Token, token, Allocated, Allocate, Config, Journal, Kept}
 use Rattle.sled_base.specs.Errors.{error_of as error_by}
-use Rattle.sled_base.specs.declared.types.Error.{Error}
-use Rattle.sled_base.specs.declared.types.Error.TheVariants.{Unsupported}
-use Rattle.sled_base.specs.declared.types.Refusal.{Refusal}
-use Rattle.sled_base.specs.declared.types.Why.TheVariants.{PagesUsedUp, StampUsedUp}
-use Rattle.sled_log.specs.Contents.{Node, Put}
-use Rattle.sled_log.specs.Events.{Change}
-use Rattle.sled_log.specs.Reading.{IsUpdate}
-use Rattle.sled_log.specs.Writing.{message_of}
-use Rattle.sled_log.specs.declared.log.Log.{Ghosts}
-use Rattle.sled_node.specs.Node.{WholeNode}
-use Rattle.sled_pagecache.proofs.Putting.{unless-clear, does-err, MayPut, seen, may-set, may-add, nothing-told, put-refused, put-set, put-added}
+use Rattle.sled_pagecache.proofs.Putting.{unless-clear, does-err, MayPut, may-set, may-add, nothing-told, put-refused, put-set, put-added}
 use Rattle.sled_pagecache.proofs.Standing.{AreKnown, known-length}
-use Rattle.sled_pagecache.specs.Adding.{RefusesPage}
-use Rattle.sled_pagecache.specs.Cache.{Cache, chain_length, IsIn}
-use Rattle.sled_pagecache.specs.Calls.{Steps}
-use Rattle.sled_pagecache.specs.Changes.{written}
-use Rattle.sled_pagecache.specs.Journal.{Went, IsCaused, begun_by}
-use Rattle.sled_pagecache.specs.Logged.{Logged}
-use Rattle.sled_pagecache.specs.Pages.{free_ids}
+use Rattle.sled_pagecache.proofs.TableNodes.{view}
 use Rattle.sled_pagecache.specs.Pages as shown
-use Rattle.sled_pagecache.specs.State.{Page, page, State, with_page, free_token, later, greatest_free}
-use Rattle.sled_pagecache.specs.Step.{Does, Allocates}
-use Rattle.sled_pagecache.specs.Swaps.{RefusesSwap}
-use Rattle.sled_pagecache.specs.Table.{IsRoots, IsCounter, AreOwn, IsBeside, IsConsistent}
-use Rattle.sled_pagecache.specs.Token.{Token, token}
-use Rattle.sled_pagecache.specs.declared.pagecache.call.Answer.TheVariants.{Allocated}
-use Rattle.sled_pagecache.specs.declared.pagecache.call.Call.TheVariants.{Allocate}
-use Rattle.sled_pagecache.specs.declared.pagecache.config.Config.{Config}
-use Rattle.sled_pagecache.specs.declared.pagecache.journal.Journal.{Journal}
-use Rattle.sled_pagecache.specs.declared.pagecache.page.Kept.{Kept}
+use Rattle.sled_pagecache.specs.State.{Page}
 use Rattle.sled_pagecache.specs.declared.pagecache.page.Kept.TheVariants as held
 use Rattle.sled_pagecache.specs.declared.pagecache.page.Page.{Page as KeptPage}
 
@@ -88,8 +61,8 @@ pub record IsLastFree (first : ℕ) (table : List KeptPage) (before : List ℕ) 
 
 module _ (first : ℕ) (q : KeptPage) (table : List KeptPage) (pid : ℕ) where
   -- one of the others is the last
-  behind : (before : List ℕ) → shown.is_free q.kept ≡ false → IsLastFree (first + 1) table before pid → IsLastFree first (q ∷ table) before pid
-  behind before full rest = record {
+  behind : (b : Bool) (before : List ℕ) → shown.is_free q.kept ≡ b → IsLastFree (first + 1) table before pid → IsLastFree first (q ∷ table) (cond b (first ∷ before) before) pid
+  behind b before is_b rest = record {
     place = suc rest.place;
     is = let is = rest.is in omega arith;
     page = rest.page;
@@ -97,20 +70,7 @@ module _ (first : ℕ) (q : KeptPage) (table : List KeptPage) (pid : ℕ) where
     free = rest.free;
     taken = λ other no.
         let others = free_ids (first + 1) (slice_set table rest.place other) in
-        ap (λ b. cond b (first ∷ others) others) full ∙ rest.taken other no;
-    greatest = elim [ [] ↦ λ known. absurd known | p ∷ pages ↦ λ known. ap (λ o. later o (free_token first p)) (rest.greatest pages known.1) ];
-  }
-
-  behind-free : (n : ℕ) (before : List ℕ) → first ≡ n → shown.is_free q.kept ≡ true → IsLastFree (first + 1) table before pid → IsLastFree first (q ∷ table) (n ∷ before) pid
-  behind-free n before same free rest = record {
-    place = suc rest.place;
-    is = let is = rest.is in omega arith;
-    page = rest.page;
-    at = rest.at;
-    free = rest.free;
-    taken = λ other no.
-        let others = free_ids (first + 1) (slice_set table rest.place other) in
-        ap (λ b. cond b (first ∷ others) others) free ∙ ap (λ (l : List ℕ). first ∷ l) (rest.taken other no) ∙ ap (λ m. m ∷ before) same;
+        ap (λ b. cond b (first ∷ others) others) is_b ∙ ap (λ (l : List ℕ). cond b (first ∷ l) l) (rest.taken other no);
     greatest = elim [ [] ↦ λ known. absurd known | p ∷ pages ↦ λ known. ap (λ o. later o (free_token first p)) (rest.greatest pages known.1) ];
   }
 
@@ -139,16 +99,25 @@ last-free first (q ∷ table) before pid is = by (shown.is_free q.kept) refl bef
   where
     by : (b : Bool) → shown.is_free q.kept ≡ b → (before : List ℕ) → cond b (first ∷ free_ids (first + 1) table) (free_ids (first + 1) table) ≡ before ++ pid ∷ []
         → ((rest : List ℕ) → free_ids (first + 1) table ≡ rest ++ pid ∷ [] → IsLastFree (first + 1) table rest pid) → IsLastFree first (q ∷ table) before pid
-    by false full before is others = behind first q table pid before full (others before is)
+    by false full before is others = behind first q table pid false before full (others before is)
     by true free [] is others = here first q table pid (cc) free (cc)
-    by true free (n ∷ before) is others = behind-free first q table pid n before (cc) free (others before (cc))
+    by true free (n ∷ before) is others = subst (λ (m : ℕ). IsLastFree first (q ∷ table) (m ∷ before) pid) (cc) (behind first q table pid true before free (others before (cc)))
 
 pub last-at : (table : List KeptPage) (front : List ℕ) (pid : ℕ) (last : IsLastFree 0 table front pid) → slice_get table pid ≡ Some last.page
 last-at table front pid last = ap (slice_get table) (let is = last.is in let place : pid ≡ last.place = omega arith in place) ∙ last.at
 
--- the last of the ids that are kept is such a one
-pub last-kept : (table : List KeptPage) (free : List ℕ) (pid : ℕ) → free ≡ free_ids 0 table → slice_get free (length free - 1) ≡ Some pid → IsLastFree 0 table (take (length free - 1) free) pid
-last-kept table free pid is at = last-free 0 table (take (length free - 1) free) pid (sym is ∙ ends-with free pid at)
+-- the last of the ids that are kept, which was read, is such a one
+pub last-read : (table : List KeptPage) (seen free : List ℕ) (read last : Option ℕ) (pid : ℕ) → free ≡ free_ids 0 table
+    → seen ≡ free → last ≡ slice_get seen (length seen - 1) → read ≡ last → read ≡ Some pid → IsLastFree 0 table (take (length free - 1) free) pid
+last-read table seen free read last pid kept same at copied is =
+    last-free 0 table (take (length free - 1) free) pid (sym kept ∙ ends-with free pid (read-last seen free read last (Some pid) same at copied is))
+
+-- and this is its page
+pub last-found : (table : List KeptPage) (front : List ℕ) (pid : ℕ) (last : IsLastFree 0 table front pid) (q : KeptPage) → q ≡ get_or table pid q → slice_get table pid ≡ Some q
+last-found table front pid last q read = slice_get_read table (length table) pid q refl (slice_get_within table pid last.page (last-at table front pid last)) read
+
+pub last-same : (table : List KeptPage) (front : List ℕ) (pid : ℕ) (last : IsLastFree 0 table front pid) (q : KeptPage) → q ≡ get_or table pid q → last.page ≡ q
+last-same table front pid last q read = same_Some last.page q (sym (last-at table front pid last) ∙ last-found table front pid last q read)
 
 -- it is free no more
 pub taken-last : (table : List KeptPage) (front : List ℕ) (pid : ℕ) (last : IsLastFree 0 table front pid) (changed : KeptPage) → shown.is_free changed.kept ≡ false → front ≡ free_ids 0 (slice_set table pid changed)
@@ -199,12 +168,12 @@ module _ (s : State) (node : WholeNode) (clear : s.fault ≡ false) where
 
 -- ---- the call, told of the table
 
-module _ {L : Type 0} (g : Ghosts L) (next : ℕ) (config : Config) (recovered : Bool) (before : Journal L) (table : List KeptPage) (free : List ℕ) (ready : before.fault ≡ false) (kept : IsConsistent g.state before table free)
+module _ {L : Type 0} (g : Ghosts L) (next : ℕ) (config : Config) (recovered : Bool) (before : Journal L) (table : List KeptPage) (free : List ℕ) (ready : before.fault ≡ false) (kept : IsConsistent g.tells g.state before table free)
     (node : WholeNode) (after : Journal L) (pages : List KeptPage) (reads : IsUpdate (message_of (Put (Node node))) (Put (Node node))) where
   abbrev cache : Journal L → List KeptPage → Cache L
-  cache journal now = seen g next config recovered journal now
+  cache journal now = view next config recovered journal now
 
-  beside : IsBeside g.state before.log table
+  beside : IsBeside g.tells g.state before.log table
   beside = kept.beside ready
 
   -- no page is free
@@ -219,10 +188,10 @@ module _ {L : Type 0} (g : Ghosts L) (next : ℕ) (config : Config) (recovered :
     writes-new : (s : State) → AreKnown s.pages table → written (chain_length g.state (cache before table)) s (Allocate node) ≡ Change (length table) (Put (Node node)) ∷ []
     writes-new s are = rw (none_in s are) (ap (λ n. Change n (Put (Node node)) ∷ []) (known-length s.pages table are))
 
-    may-new : length table ≢ 2 ^ 37 → (held : Logged) (s : State) → IsIn g.state (cache before table) held s → s.fault ≡ false → MayPut g before.log held (length table) node
+    may-new : length table ≢ 2 ^ 37 → (held : Logged) (s : State) → IsIn g (cache before table) held s → s.fault ≡ false → MayPut g before.log held (length table) node
     may-new room held s is clear = may-add g next config recovered before table ready beside held s is clear node (own-long table kept.own) (let few = kept.few in omega (arith, few, room))
 
-    all-used : length table ≡ 2 ^ 37 → pages ≡ table → Went g.state g.moment g.left_since g.counts before after [] → after.fault ≡ false
+    all-used : length table ≡ 2 ^ 37 → pages ≡ table → Went g.tells g.state g.moment g.left_since g.counts before after [] → after.fault ≡ false
         → Steps g (cache before table) (Allocate node) (Allocated (Err (Unsupported PagesUsedUp))) (cache after pages)
     all-used many back went clear_after =
         nothing-told g next config recovered before table ready beside after (Allocate node) pages back (Allocated (Err (Unsupported PagesUsedUp))) went clear_after refl
@@ -230,8 +199,8 @@ module _ {L : Type 0} (g : Ghosts L) (next : ℕ) (config : Config) (recovered :
         (λ s are said. absurd cc)
 
     pub adds-refused : pages ≡ table → (refusal : Refusal) → RefusesPage (length table) refusal
-        → (let told : Result ℕ Refusal = Err refusal in Went g.state g.moment g.left_since g.counts before after (begun_by told (Change (length table) (message_of (Put (Node node))) ∷ [])))
-        → (let told : Result ℕ Refusal = Err refusal in IsCaused g.state g.moment g.left_since g.counts before after (g.is_full before.log (length (message_of (Put (Node node))).payload)) told)
+        → (let told : Result ℕ Refusal = Err refusal in Went g.tells g.state g.moment g.left_since g.counts before after (begun_by told (Change (length table) (message_of (Put (Node node))) ∷ [])))
+        → (let told : Result ℕ Refusal = Err refusal in IsCaused g.tells g.state g.moment g.left_since g.counts before after (g.is_full before.log (length (message_of (Put (Node node))).payload)) told)
         → Steps g (cache before table) (Allocate node) (Allocated (Err (error_by refusal))) (cache after pages)
     adds-refused back refusal (inl (many, is)) = rw is (λ went cause. all-used many back went cause.fault)
     adds-refused back refusal (inr (room, of)) =
@@ -240,7 +209,7 @@ module _ {L : Type 0} (g : Ghosts L) (next : ℕ) (config : Config) (recovered :
         (λ s clear are e t hindered. adds room s clear are (Err e) t (does-err s e t (λ _. ⊥) _ hindered))
         refusal of
 
-    pub adds-done : length table ≢ 2 ^ 37 → Went g.state g.moment g.left_since g.counts before after (Change (length table) (message_of (Put (Node node))) ∷ []) → after.fault ≡ false
+    pub adds-done : length table ≢ 2 ^ 37 → Went g.tells g.state g.moment g.left_since g.counts before after (Change (length table) (message_of (Put (Node node))) ∷ []) → after.fault ≡ false
         → (added : KeptPage) → added.stamp ≡ 1 → pages ≡ table ++ added ∷ [] → (pid : ℕ) → pid ≡ length table → (made : Token) → made ≡ token pid 1
         → Steps g (cache before table) (Allocate node) (Allocated (Ok (pid, made))) (cache after pages)
     adds-done room went clear_after added first behind pid last made is =
@@ -260,7 +229,7 @@ module _ {L : Type 0} (g : Ghosts L) (next : ℕ) (config : Config) (recovered :
     there : pid < length table
     there = slice_get_within table pid last.page (last-at table front pid last)
 
-    may-reuse : (held : Logged) (s : State) → IsIn g.state (cache before table) held s → s.fault ≡ false → MayPut g before.log held pid node
+    may-reuse : (held : Logged) (s : State) → IsIn g (cache before table) held s → s.fault ≡ false → MayPut g before.log held pid node
     may-reuse held s is clear = may-set g next config recovered before table ready beside held s is clear pid node from there
 
     writes-reused : (s : State) → AreKnown s.pages table → written (chain_length g.state (cache before table)) s (Allocate node) ≡ Change pid (Put (Node node)) ∷ []
@@ -270,7 +239,7 @@ module _ {L : Type 0} (g : Ghosts L) (next : ℕ) (config : Config) (recovered :
         → Does s answer t (λ made. (made.0 ≡ pid) × (made.1 ≡ token pid (last.page.stamp + 1)) × (t ≡ with_page s pid (page (last.page.stamp + 1) (Node node)))) → Allocates s node answer t
     reuses below s clear are answer t done = allocate_reuses s node clear (token pid last.page.stamp) (last.greatest s.pages are) below answer t done
 
-    stamp-used : last.page.stamp ≡ 2 ^ 64 - 1 → pages ≡ table → Went g.state g.moment g.left_since g.counts before after [] → after.fault ≡ false
+    stamp-used : last.page.stamp ≡ 2 ^ 64 - 1 → pages ≡ table → Went g.tells g.state g.moment g.left_since g.counts before after [] → after.fault ≡ false
         → Steps g (cache before table) (Allocate node) (Allocated (Err (Unsupported StampUsedUp))) (cache after pages)
     stamp-used greatest back went clear_after =
         nothing-told g next config recovered before table ready beside after (Allocate node) pages back (Allocated (Err (Unsupported StampUsedUp))) went clear_after refl
@@ -278,8 +247,8 @@ module _ {L : Type 0} (g : Ghosts L) (next : ℕ) (config : Config) (recovered :
         (λ s are said. absurd cc)
 
     pub reuses-refused : pages ≡ table → (refusal : Refusal) → RefusesSwap last.page.stamp refusal
-        → (let told : Result (Unit {0}) Refusal = Err refusal in Went g.state g.moment g.left_since g.counts before after (begun_by told (Change pid (message_of (Put (Node node))) ∷ [])))
-        → (let told : Result (Unit {0}) Refusal = Err refusal in IsCaused g.state g.moment g.left_since g.counts before after (g.is_full before.log (length (message_of (Put (Node node))).payload)) told)
+        → (let told : Result (Unit {0}) Refusal = Err refusal in Went g.tells g.state g.moment g.left_since g.counts before after (begun_by told (Change pid (message_of (Put (Node node))) ∷ [])))
+        → (let told : Result (Unit {0}) Refusal = Err refusal in IsCaused g.tells g.state g.moment g.left_since g.counts before after (g.is_full before.log (length (message_of (Put (Node node))).payload)) told)
         → Steps g (cache before table) (Allocate node) (Allocated (Err (error_by refusal))) (cache after pages)
     reuses-refused back refusal (inl (greatest, is)) = rw is (λ went cause. stamp-used greatest back went cause.fault)
     reuses-refused back refusal (inr (below, of)) =
@@ -288,7 +257,7 @@ module _ {L : Type 0} (g : Ghosts L) (next : ℕ) (config : Config) (recovered :
         (λ s clear are e t hindered. reuses below s clear are (Err e) t (does-err s e t (λ _. ⊥) _ hindered))
         refusal of
 
-    pub reuses-done : last.page.stamp ≢ 2 ^ 64 - 1 → Went g.state g.moment g.left_since g.counts before after (Change pid (message_of (Put (Node node))) ∷ []) → after.fault ≡ false
+    pub reuses-done : last.page.stamp ≢ 2 ^ 64 - 1 → Went g.tells g.state g.moment g.left_since g.counts before after (Change pid (message_of (Put (Node node))) ∷ []) → after.fault ≡ false
         → (changed : KeptPage) → changed.stamp ≡ last.page.stamp + 1 → pages ≡ slice_set table pid changed → (made : Token) → made ≡ token pid changed.stamp
         → Steps g (cache before table) (Allocate node) (Allocated (Ok (pid, made))) (cache after pages)
     reuses-done below went clear_after changed risen back made is =

@@ -1,22 +1,8 @@
 -- What a cache tells its log, as one sees it who knows contents and no messages.
-use Rattle.std.proofs.Common.{◌≡◌, ℕ, false, List, ◌++◌, length, take, drop, refl, sym, ◌∙◌, ap, subst}
-use Rattle.std.proofs.lemmas.List.{take-append-drop}
-use Rattle.std.proofs.Math.Seq.{take-append_seam}
-use Rattle.sled_log.specs.Calls.{Counts}
-use Rattle.sled_log.specs.Chains.{chains_after}
-use Rattle.sled_log.specs.Contents.{Update, contents_after}
-use Rattle.sled_log.specs.Events.{Event}
-use Rattle.sled_log.specs.HoldingLaws.{holds-after, holds-added}
-use Rattle.sled_log.specs.Messages.{Message, Entry, Told, effect_of}
-use Rattle.sled_log.specs.Reading.{Hold, AreTold}
-use Rattle.sled_log.specs.ReadingLaws.{told-append, told-take, reads-fair}
-use Rattle.sled_log.specs.RunLaws.{StopsLeave-weaker}
+use Rattle.sled_pagecache.proofs.Names.{◌≡◌, ℕ, false, List, ◌++◌, length, take, drop, refl, sym, ◌∙◌, ap, subst, take-append-drop, take-append_seam, Counts, chains_after, Update, contents_after, Event, holds-after, holds-added, Message, Entry, Told, effect_of, AreTold, told-append, told-take, reads-fair, StopsLeave-weaker, Went, Logged, IsLogged, Adds, AreKept, IsProper, StayProper, Journal}
 use Rattle.sled_log.specs.State as log
 use Rattle.sled_pagecache.proofs.Staying.{stay-append, stay-take, stay-drop, stay-all}
-use Rattle.sled_pagecache.specs.Journal.{Went}
-use Rattle.sled_pagecache.specs.Logged.{Logged, IsLogged, now, Adds, IsLeft}
-use Rattle.sled_pagecache.specs.Proper.{IsProper, StayProper}
-use Rattle.sled_pagecache.specs.declared.pagecache.journal.Journal.{Journal}
+use Rattle.sled_pagecache.specs.Logged.{now, IsLeft}
 
 -- what the log holds once the changes were added, up to a cut
 abbrev pub cut_at : Logged → List (Event Update) → ℕ → Logged
@@ -80,30 +66,26 @@ module _ (before : log.State Message) (held : Logged) (messages : List (Event Me
       let known : List (Event Update) = held.pending ++ some in
       let all : AreTold held.stable kept known = told-append held.stable before.pending left.came held.pending some logged.pending came in
       record {
-        left = record {
-          came = some;
-          beginning = (drop n changes, take-append-drop n changes);
-          cut = left.cut;
-          fair = reads-fair held.stable kept known left.cut all left.fair;
-          is =
-              subst (λ (l : List Told). Hold l (contents_after held.stable (take left.cut known))) (sym left.is)
-              (holds-after before.stable held.stable (take left.cut kept) (take left.cut known) logged.stable (told-take held.stable left.cut kept known all));
-        };
-        proper =
-            subst (λ (l : List Told). IsProper l (contents_after held.stable (take left.cut (held.pending ++ some)))) (sym left.is)
-            (stay-append before.stable held.stable before.pending left.came held.pending some logged.pending logged.proper some_stay left.cut);
+        came = some;
+        beginning = (drop n changes, take-append-drop n changes);
+        cut = left.cut;
+        fair = reads-fair held.stable kept known left.cut all left.fair;
+        is = subst (λ (l : List Told). AreKept l (contents_after held.stable (take left.cut known))) (sym left.is) (record {
+          holds = holds-after before.stable held.stable (take left.cut kept) (take left.cut known) logged.stable (told-take held.stable left.cut kept known all);
+          proper = stay-append before.stable held.stable before.pending left.came held.pending some logged.pending logged.proper some_stay left.cut;
+        });
       }
 
-module _ {L : Type 0} (state : L → log.State Entry) (moment : L → ℕ) (left_since : L → ℕ → List Told → Type 0) (counts : L → Counts) where
+module _ {L : Type 0} (tells : Type 0) (state : L → log.State Entry) (moment : L → ℕ) (left_since : L → ℕ → List Told → Type 0) (counts : L → Counts) where
   module _ (old new : Journal L) (held : Logged) (messages : List (Event Message)) (changes : List (Event Update))
       (logged : IsLogged (log.told_state (state old.log)) held) (told : AreTold (now held) messages changes)
       (stays : StayProper (log.now effect_of (log.told_state (state old.log))) (now held) messages changes)
-      (went : Went state moment left_since counts old new messages) where
+      (went : Went tells state moment left_since counts old new messages) (known : tells) where
     pub carries : new.fault ≡ false → Carries (log.told_state (state new.log)) held changes
-    carries clear = adds-carry (log.told_state (state old.log)) held messages changes logged told stays (log.told_state (state new.log)) (went.added clear)
+    carries clear = adds-carry (log.told_state (state old.log)) held messages changes logged told stays (log.told_state (state new.log)) (went.added known clear)
 
     pub leaves : log.StopsLeave moment left_since old.log new.log (IsLeft held changes)
     leaves =
         StopsLeave-weaker state moment left_since counts old.log new.log (log.IsLeft effect_of (log.told_state (state old.log)) messages) (IsLeft held changes)
         (stop-leaves (log.told_state (state old.log)) held messages changes logged told stays)
-        went.stop
+        (went.stop known)

@@ -1,17 +1,6 @@
 -- The chain of a page whose places are kept, and what reading it found.
-use Rattle.std.proofs.Common.{◌≡◌, ◌+◌, ◌<◌, ◌≤◌, ℕ, zero, suc, ℤ, List, [], ◌∷◌, ◌++◌, length, map, take, get_or, sym, ◌∙◌, ap, subst, arith, add-one, zero-add, pos}
-use Rattle.std.proofs.Math.ListN.{get_or-map}
-use Rattle.std.proofs.lemmas.List.{length-map, take_more, take_all, get_or_default}
-use Rattle.std.specs.List.{AllZip, Any}
+use Rattle.sled_pagecache.proofs.Names.{◌≡◌, ◌+◌, ◌<◌, ◌≤◌, ℕ, zero, suc, ℤ, List, [], ◌∷◌, ◌++◌, length, map, take, get_or, sym, ◌∙◌, ap, subst, arith, add-one, zero-add, pos, get_or-map, length-map, take_more, take_all, get_or_default, AllZip, Any, DiskPtr, Inline, one_more, Entry, message, said_of, IsAt, IsFoundAs, place_of, more, CacheInfo, Found}
 use Rattle.sled_base.specs.declared.kinds.MessageKind.TheVariants as kinds
-use Rattle.sled_base.specs.declared.types.DiskPtr.{DiskPtr}
-use Rattle.sled_base.specs.declared.types.DiskPtr.TheVariants.{Inline}
-use Rattle.sled_log.specs.Calls.{one_more}
-use Rattle.sled_log.specs.Messages.{Entry, message}
-use Rattle.sled_log.specs.Pages.{said_of, IsAt}
-use Rattle.sled_pagecache.specs.ChainReads.{IsFoundAs, place_of, more}
-use Rattle.sled_pagecache.specs.declared.pagecache.chain.CacheInfo.{CacheInfo}
-use Rattle.sled_pagecache.specs.declared.pagecache.reading.Found.{Found}
 
 -- one more after so many more
 pub more-next : (times count : ℕ) → one_more (more times count) ≡ more (times + 1) count

@@ -1,23 +1,7 @@
 -- The messages of a page make one content, and each beginning of them makes a node.
-use Rattle.std.proofs.Common.{◌≡◌, ℕ, ◌+◌, ◌-◌, ◌<◌, ◌≤◌, List, [], ◌∷◌, ◌++◌, length, map, take, drop, get_or, Option, None, Some, Result, IfErr, IsErrOf, refl, sym, ap, subst, ◌∙◌, inl, inr, arith}
-use Rattle.std.proofs.lemmas.Grind.{get_or_after_one}
-use Rattle.std.proofs.lemmas.List.{take_all, take_more, drop_more, length-drop, take-append-drop, map-append}
-use Rattle.std.proofs.lemmas.Result.{IfErr-at_err}
-use Rattle.sled_base.specs.declared.kinds.MessageKind.{MessageKind}
+use Rattle.sled_pagecache.proofs.Names.{◌≡◌, ℕ, ◌+◌, ◌-◌, ◌<◌, ◌≤◌, List, [], ◌∷◌, ◌++◌, length, map, take, drop, get_or, Some, refl, sym, ap, subst, ◌∙◌, inl, inr, arith, get_or_after_one, take_all, take_more, drop_more, length-drop, take-append-drop, map-append, MessageKind, DiskPtr, Refusal, Corruption, OutOfMemory, Content, Node, Put, Link, Message, Told, Reads, IsUpdate, LeadTo, Makes, one_update, Accepts, applied, WholeNode, ReadsNode, Found, told_of, MakesNode, IsFirstWrong, Leads, RefusesMessage, RefusesNode}
 use Rattle.sled_base.specs.declared.kinds.MessageKind.TheVariants as kinds
-use Rattle.sled_base.specs.declared.types.DiskPtr.{DiskPtr}
-use Rattle.sled_base.specs.declared.types.Refusal.{Refusal}
-use Rattle.sled_base.specs.declared.types.Refusal.TheVariants.{Unsupported, ReportableBug, Io, Corruption, OutOfMemory}
-use Rattle.sled_log.specs.Contents.{Content, Node, Put, Link}
-use Rattle.sled_log.specs.Messages.{Message, Told}
-use Rattle.sled_log.specs.Reading.{Reads, IsUpdate, LeadTo, Makes}
-use Rattle.sled_log.specs.ReadingLaws.{one_update}
-use Rattle.sled_node.specs.Links.{Accepts, applied}
-use Rattle.sled_node.specs.Node.{WholeNode}
-use Rattle.sled_node.specs.Payloads.Nodes.{ReadsNode}
 use Rattle.sled_node.specs.declared.node.link.Link.{Link as NodeLink}
-use Rattle.sled_pagecache.specs.declared.pagecache.reading.Found.{Found}
-use Rattle.sled_pagecache.specs.Reading.{told_of, MakesNode, Leads, RefusesMessage, RefusesNode}
 
 -- ---- one more link
 
@@ -84,10 +68,7 @@ makes-front (x ∷ told) m more after h =
 pub refuses_so : (pointer : DiskPtr) (a b : Type 0) → (a → b) → (e : Refusal) → RefusesMessage pointer a e → RefusesMessage pointer b e
 refuses_so pointer a b f OutOfMemory h = tt
 refuses_so pointer a b f (Corruption (Some place)) h = (h.0, f h.1)
-refuses_so pointer a b f (Corruption None) h = absurd h
-refuses_so pointer a b f (Unsupported why) h = absurd h
-refuses_so pointer a b f (ReportableBug bug) h = absurd h
-refuses_so pointer a b f (Io device) h = absurd h
+refuses_so pointer a b f e h = absurd h
 
 -- a node is put on a page by a payload that is one
 pub node_spelled : (kind : MessageKind) (payload : List ℕ) (node : WholeNode) → Reads kind payload (Put (Node node)) → ReadsNode payload node []
@@ -145,12 +126,9 @@ refused-first found m (Corruption (Some place)) h is r = record {
   is = split_at found 0 m h is;
   kept = sym r.0;
   sound = inl refl;
-  amiss = λ (node, made). r.1 node (subst (λ (c : Content). IsUpdate (told_of m) (Put c)) made.2 made.1);
+  wrong = λ (node, made). r.1 node (subst (λ (c : Content). IsUpdate (told_of m) (Put c)) made.2 made.1);
 }
-refused-first found m (Corruption None) h is r = absurd r
-refused-first found m (Unsupported why) h is r = absurd r
-refused-first found m (ReportableBug bug) h is r = absurd r
-refused-first found m (Io device) h is r = absurd r
+refused-first found m e h is r = absurd r
 
 pub refused-more : (found : List Found) (i : ℕ) (m : Found) (before : WholeNode) (e : Refusal) → i < length found → m ≡ get_or found i m
     → Makes (map told_of (take i found)) (Node before)
@@ -163,23 +141,15 @@ refused-more found i m before (Corruption (Some place)) h is made r = record {
   is = split_at found i m h is;
   kept = sym r.0;
   sound = inr (before, made);
-  amiss = λ (after, makes).
+  wrong = λ (after, makes).
       r.1 after (makes-last (map told_of (take i found)) before (told_of m) after made (subst (λ (told : Told). Makes told (Node after)) (map-append told_of (take i found) (m ∷ [])) makes));
 }
-refused-more found i m before (Corruption None) h is made r = absurd r
-refused-more found i m before (Unsupported why) h is made r = absurd r
-refused-more found i m before (ReportableBug bug) h is made r = absurd r
-refused-more found i m before (Io device) h is made r = absurd r
+refused-more found i m before e h is made r = absurd r
 
-no-node : (found : List Found) (pointer : Option DiskPtr) → RefusesNode found (Corruption pointer) → ¬ MakesNode found
-no-node found None r makes = absurd r
-no-node found (Some pointer) r (node, makes) =
-    let all : Makes (map told_of r.before ++ told_of r.first ∷ map told_of r.after) (Node node) =
-    subst (λ (told : Told). Makes told (Node node)) (ap (map told_of) r.is ∙ map-append told_of r.before (r.first ∷ r.after)) makes in
-    let some = makes-front (map told_of r.before) (told_of r.first) (map told_of r.after) node all in
-    r.amiss (some.0, subst (λ (told : Told). Makes told (Node some.0)) (sym (map-append told_of r.before (r.first ∷ []))) some.1)
-
--- messages of which one is amiss make no node
-pub corrupt_makes_none : (found : List Found) (result : Result WholeNode Refusal) → IfErr result (RefusesNode found)
-    → (pointer : Option DiskPtr) → IsErrOf result (Corruption pointer) → ¬ MakesNode found
-corrupt_makes_none found result r pointer is = no-node found pointer (IfErr-at_err (RefusesNode found) is r)
+-- messages of which one is wrong make no node
+pub wrong-none : {M : Type 0} (message : M → Message) (kept_at : M → DiskPtr) (messages : List M) (pointer : DiskPtr) → IsFirstWrong message kept_at messages pointer → ¬ MakesNode (map message messages)
+wrong-none message kept_at messages pointer r (node, makes) =
+    let all : Makes (map message r.before ++ message r.first ∷ map message r.after) (Node node) =
+    subst (λ (told : Told). Makes told (Node node)) (ap (map message) r.is ∙ map-append message r.before (r.first ∷ r.after)) makes in
+    let some = makes-front (map message r.before) (message r.first) (map message r.after) node all in
+    r.wrong (some.0, subst (λ (told : Told). Makes told (Node some.0)) (sym (map-append message r.before (r.first ∷ []))) some.1)

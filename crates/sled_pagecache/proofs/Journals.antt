@@ -1,35 +1,26 @@
 -- What one call of a log makes of the journal that makes it.
-use Rattle.std.proofs.Common.{◌≡◌, ◌||◌, ℕ, Bool, false, not, List, [], Result, Ok, Err, refl, sym, ◌∙◌, ap, subst}
-use Rattle.std.proofs.lemmas.Bool.{false≢true}
-use Rattle.std.specs.Prelude.{IfOk, OnErr}
-use Rattle.sled_log.specs.Calls.{Called, Counts}
+use Rattle.sled_pagecache.proofs.Names.{◌≡◌, ◌||◌, ℕ, Bool, false, not, List, [], Result, Ok, Err, refl, sym, ◌∙◌, ap, subst, false≢true, IfOk, OnErr, is_open, open_after, Called, Counts, chains_after, Event, now-Adds, Message, Entry, Told, effect_of, effect_of_entry, now, IsLeft, StopsLeave, told_state, told_events, Adds-told, LogError, WriteFault, Went, told_by, begun_by, Journal}
+use Rattle.sled_log.specs.Calls.{begun_by as begun_of}
 use Rattle.sled_log.specs.Calls.{is_write_fault as log_met_fault}
-use Rattle.sled_log.specs.Chains.{chains_after}
-use Rattle.sled_log.specs.Events.{Event}
-use Rattle.sled_log.specs.Laws.{now-Adds}
-use Rattle.sled_log.specs.Messages.{Message, Entry, Told, effect_of, effect_of_entry}
-use Rattle.sled_log.specs.State.{State, now, Adds, IsLeft, StopsLeave, told_state}
-use Rattle.sled_log.specs.TellingLaws.{told_events, Adds-told}
-use Rattle.sled_log.specs.declared.log.LogError.{LogError}
-use Rattle.sled_log.specs.declared.log.LogError.TheVariants.{Memory, Full, ReadFault, WriteFault, Corruption}
-use Rattle.sled_pagecache.specs.Journal.{Went, told_by, begun_by}
-use Rattle.sled_pagecache.specs.declared.pagecache.journal.Journal.{Journal}
+use Rattle.sled_log.specs.State.{State, Adds}
 
 -- a fault is kept where there was none before
 pub met : (old new fault : Bool) → old ≡ false → new ≡ (old || fault) → new ≡ fault
 met old new fault clear kept = kept ∙ ap (λ b. b || fault) clear
 
-module _ {L : Type 0} (state : L → State Entry) (moment : L → ℕ) (left_since : L → ℕ → List Told → Type 0) (counts : L → Counts) where
+module _ {L : Type 0} (tells : Type 0) (state : L → State Entry) (moment : L → ℕ) (left_since : L → ℕ → List Told → Type 0) (counts : L → Counts) where
   -- the events that came were added, and a stop leaves a beginning of them
   with_events : {T : Type 0} (old new : Journal L) (count : ℕ) (events : T → List (Event Entry)) (begun came : List (Event Message)) (outcome : Result T LogError)
-      → Called state moment left_since counts old.log new.log count events begun outcome
+      → Called tells state moment left_since counts old.log new.log count events begun outcome
       → new.fault ≡ log_met_fault outcome
-      → (log_met_fault outcome ≡ false → Adds effect_of (told_state (state old.log)) came (told_state (state new.log)))
-      → StopsLeave moment left_since old.log new.log (IsLeft effect_of (told_state (state old.log)) came)
-      → Went state moment left_since counts old new came
-  with_events old new count events begun came outcome called kept added stop = record {
+      → begun_of outcome begun ≡ came
+      → (tells → log_met_fault outcome ≡ false → Adds effect_of (told_state (state old.log)) came (told_state (state new.log)))
+      → (tells → StopsLeave moment left_since old.log new.log (IsLeft effect_of (told_state (state old.log)) came))
+      → Went tells state moment left_since counts old new came
+  with_events old new count events begun came outcome called kept same added stop = record {
     usable = λ clear. called.usable ∙ ap not (sym kept ∙ clear);
-    added = λ clear. added (sym kept ∙ clear);
+    opened = λ clear. called.opened (sym kept ∙ clear) ∙ ap (open_after (is_open (state old.log).pending)) same;
+    added = λ told clear. added told (sym kept ∙ clear);
     stop = stop;
     failed_reads = called.cause.failed_reads;
     write_faults = called.cause.write_faults;
@@ -37,61 +28,55 @@ module _ {L : Type 0} (state : L → State Entry) (moment : L → ℕ) (left_sin
 
   pub Went-called : {T : Type 0} (old new : Journal L) (count : ℕ) (events : T → List (Event Entry)) (begun : List (Event Message)) (outcome : Result T LogError)
       → ((answer : T) → told_events (events answer) ≡ begun)
-      → Called state moment left_since counts old.log new.log count events begun outcome
+      → Called tells state moment left_since counts old.log new.log count events begun outcome
       → new.fault ≡ log_met_fault outcome
-      → Went state moment left_since counts old new (begun_by (told_by outcome) begun)
+      → Went tells state moment left_since counts old new (begun_by (told_by outcome) begun)
   Went-called old new count events begun (Ok answer) are called kept =
-      with_events old new count events begun begun (Ok answer) called kept
-      (λ clear.
+      with_events old new count events begun begun (Ok answer) called kept refl
+      (λ told clear.
       subst (λ (l : List (Event Message)). Adds effect_of (told_state (state old.log)) l (told_state (state new.log))) (are answer)
-      (Adds-told (state old.log) (state new.log) (events answer) called.added))
+      (Adds-told (state old.log) (state new.log) (events answer) (called.added told)))
       called.stop
   Went-called old new count events begun (Err WriteFault) are called kept =
-      with_events old new count events begun begun (Err WriteFault) called kept (λ clear. absurd (false≢true (sym clear))) called.stop
-  Went-called old new count events begun (Err Memory) are called kept =
-      with_events old new count events begun [] (Err Memory) called kept (λ clear. Adds-told (state old.log) (state new.log) [] (called.refused clear)) called.stop
-  Went-called old new count events begun (Err Full) are called kept =
-      with_events old new count events begun [] (Err Full) called kept (λ clear. Adds-told (state old.log) (state new.log) [] (called.refused clear)) called.stop
-  Went-called old new count events begun (Err ReadFault) are called kept =
-      with_events old new count events begun [] (Err ReadFault) called kept (λ clear. Adds-told (state old.log) (state new.log) [] (called.refused clear)) called.stop
-  Went-called old new count events begun (Err Corruption) are called kept =
-      with_events old new count events begun [] (Err Corruption) called kept (λ clear. Adds-told (state old.log) (state new.log) [] (called.refused clear)) called.stop
+      with_events old new count events begun begun (Err WriteFault) called kept refl (λ told clear. absurd (false≢true (sym clear))) called.stop
+  Went-called old new count events begun (Err error) are called kept =
+      with_events old new count events begun [] (Err error) called kept refl (λ told clear. Adds-told (state old.log) (state new.log) [] (called.refused told clear)) called.stop
 
   -- a call that tells no events adds none, whatever it answers
   pub Went-quiet : {T : Type 0} (old new : Journal L) (count : ℕ) (outcome : Result T LogError)
-      → Called state moment left_since counts old.log new.log count (λ _. []) [] outcome
+      → Called tells state moment left_since counts old.log new.log count (λ _. []) [] outcome
       → new.fault ≡ log_met_fault outcome
-      → Went state moment left_since counts old new []
+      → Went tells state moment left_since counts old new []
   Went-quiet old new count outcome called kept =
-      subst (Went state moment left_since counts old new) (none outcome) (Went-called old new count (λ _. []) [] outcome (λ _. refl) called kept)
+      subst (Went tells state moment left_since counts old new) (none outcome) (Went-called old new count (λ _. []) [] outcome (λ _. refl) called kept)
     where
       none : {T : Type 0} (outcome : Result T LogError) → begun_by (told_by outcome) [] ≡ []
       none (Ok answer) = refl
       none (Err WriteFault) = refl
-      none (Err Memory) = refl
-      none (Err Full) = refl
-      none (Err ReadFault) = refl
-      none (Err Corruption) = refl
+      none (Err error) = refl
 
   -- and the chains stay
   pub stays : {T : Type 0} (old new : Journal L) (count : ℕ) (outcome : Result T LogError)
-      → Called state moment left_since counts old.log new.log count (λ _. []) [] outcome
+      → Called tells state moment left_since counts old.log new.log count (λ _. []) [] outcome
       → new.fault ≡ log_met_fault outcome
+      → tells
       → new.fault ≡ false
       → now effect_of_entry (state new.log) ≡ now effect_of_entry (state old.log)
-  stays old new count (Ok answer) called kept clear = now-Adds effect_of_entry (state old.log) (state new.log) [] called.added
-  stays old new count (Err error) called kept clear = now-Adds effect_of_entry (state old.log) (state new.log) [] (called.refused (sym kept ∙ clear))
+  stays old new count (Ok answer) called kept told clear = now-Adds effect_of_entry (state old.log) (state new.log) [] (called.added told)
+  stays old new count (Err error) called kept told clear = now-Adds effect_of_entry (state old.log) (state new.log) [] (called.refused told (sym kept ∙ clear))
 
   -- what a call that adds something makes of the chains, and that a refusal leaves them
   pub chains-called : {T : Type 0} (old new : L) (count : ℕ) (events : T → List (Event Entry)) (begun : List (Event Message)) (outcome : Result T LogError)
-      → Called state moment left_since counts old new count events begun outcome
+      → Called tells state moment left_since counts old new count events begun outcome
+      → tells
       → IfOk (told_by outcome) (λ said. now effect_of_entry (state new) ≡ chains_after effect_of_entry (now effect_of_entry (state old)) (events said))
-  chains-called old new count events begun (Ok answer) called = now-Adds effect_of_entry (state old) (state new) (events answer) called.added
-  chains-called old new count events begun (Err error) called = tt
+  chains-called old new count events begun (Ok answer) called told = now-Adds effect_of_entry (state old) (state new) (events answer) (called.added told)
+  chains-called old new count events begun (Err error) called told = tt
 
   pub same-called : {T : Type 0} (old new : Journal L) (count : ℕ) (events : T → List (Event Entry)) (begun : List (Event Message)) (outcome : Result T LogError)
-      → Called state moment left_since counts old.log new.log count events begun outcome
+      → Called tells state moment left_since counts old.log new.log count events begun outcome
       → new.fault ≡ log_met_fault outcome
+      → tells
       → OnErr (told_by outcome) (new.fault ≡ false → now effect_of_entry (state new.log) ≡ now effect_of_entry (state old.log))
-  same-called old new count events begun (Ok answer) called kept = tt
-  same-called old new count events begun (Err error) called kept = λ clear. now-Adds effect_of_entry (state old.log) (state new.log) [] (called.refused (sym kept ∙ clear))
+  same-called old new count events begun (Ok answer) called kept told = tt
+  same-called old new count events begun (Err error) called kept told = λ clear. now-Adds effect_of_entry (state old.log) (state new.log) [] (called.refused told (sym kept ∙ clear))

@@ -1,29 +1,11 @@
 -- The table of a cache after a link, and what one sees of it who knows the cache by its model.
-use Rattle.std.proofs.Common.{◌≡◌, ◌≤◌, ◌+◌, inl, inr, ℕ, Bool, true, false, cond, ltb, List, [], ◌∷◌, length, Some, slice_get, slice_set, refl, sym, ◌∙◌, ap, subst, arith}
-use Rattle.std.proofs.lemmas.Bool.{ltb-true}
-use Rattle.sled_base.specs.declared.types.Refusal.{Refusal}
-use Rattle.sled_log.specs.Events.{Change}
-use Rattle.sled_log.specs.Messages.{effect_of_entry}
+use Rattle.sled_pagecache.proofs.Names.{◌≡◌, ◌≤◌, ◌+◌, ℕ, Bool, true, false, cond, ltb, List, [], ◌∷◌, length, Some, slice_get, slice_set, refl, sym, ◌∙◌, ap, subst, arith, ltb-true, is_open, Change, effect_of_entry, message_of, Ghosts, Cache, chain_length, IsResident, IsAway, chain_at, update_by, TakesLink, WasBegun, IsKept, is_free, is_resident, is_reserved, linked_length, IsFreeOrNode, IsConsistent, Config, Journal, Page}
 use Rattle.sled_log.specs.State as log
-use Rattle.sled_log.specs.TellingLaws.{is_open-told}
-use Rattle.sled_log.specs.Writing.{message_of}
-use Rattle.sled_log.specs.declared.log.Log.{Ghosts}
 use Rattle.sled_node.specs.declared.node.link.Link.{Link as NodeLink}
 use Rattle.sled_pagecache.proofs.Lookups.{behind-own}
-use Rattle.sled_pagecache.proofs.PagingIn.{page-short-at, places-length, length-before, same-consistent, away-before, after-away, after-resident}
+use Rattle.sled_pagecache.proofs.PagingIn.{page-short-at, places-length, length-before, same-consistent, before-is, is-after}
 use Rattle.sled_pagecache.proofs.TableNodes.{view}
 use Rattle.sled_pagecache.proofs.Tables.{consistent-set, went-chains, free-same}
-use Rattle.sled_pagecache.specs.Cache.{Cache, chain_length, IsResident, IsAway}
-use Rattle.sled_pagecache.specs.ChainReads.{chain_at}
-use Rattle.sled_pagecache.specs.JournalLaws.{is_open-Went}
-use Rattle.sled_pagecache.specs.LinkedPages.{update_by, TakesLink, RefusesTold}
-use Rattle.sled_pagecache.specs.Pages.{IsKept, is_free, is_resident}
-use Rattle.sled_pagecache.specs.Step.{is_reserved}
-use Rattle.sled_pagecache.specs.Swaps.{linked_length}
-use Rattle.sled_pagecache.specs.Table.{IsFreeOrNode, IsConsistent}
-use Rattle.sled_pagecache.specs.declared.pagecache.config.Config.{Config}
-use Rattle.sled_pagecache.specs.declared.pagecache.journal.Journal.{Journal}
-use Rattle.sled_pagecache.specs.declared.pagecache.page.Page.{Page}
 
 -- at most ten messages make a page after a link
 linked-short : (n : ℕ) → n ≤ 10 → linked_length n ≤ 10
@@ -34,30 +16,25 @@ linked-short n short = by (ltb n 10) refl
     by false above = omega arith
 
 module _ {L : Type 0} (g : Ghosts L) (before after : Journal L) (pages : List Page) (free : List ℕ) (pid : ℕ) (q page : Page)
-    (c : IsConsistent g.state before pages free) (ready : before.fault ≡ false) (behind : is_reserved pid ≡ false) (at : slice_get pages pid ≡ Some q) (link : NodeLink) where
-  pub refused-consistent : (refusal : Refusal) → RefusesTold g before pid q link after refusal
-      → (after.fault ≡ false → log.now effect_of_entry (g.state after.log) ≡ log.now effect_of_entry (g.state before.log))
-      → (after.fault ≡ false → IsKept (chain_at (g.state before.log) pid) page) → page.infos.items ≡ q.infos.items → is_free page.kept ≡ is_free q.kept → IsFreeOrNode page.kept
-      → IsConsistent g.state after (slice_set pages pid page) free
-  refused-consistent refusal (inl (went, why)) same is infos freed own = same-consistent g before after pages free pid q page c ready behind at [] went refl same is infos freed own
-  refused-consistent refusal (inr (write, tells)) same is infos freed own =
-      same-consistent g before after pages free pid q page c ready behind at (Change pid (message_of (update_by q link tells.node)) ∷ []) tells.went refl same is infos freed own
+    (c : IsConsistent g.tells g.state before pages free) (ready : before.fault ≡ false) (behind : is_reserved pid ≡ false) (at : slice_get pages pid ≡ Some q) (link : NodeLink) where
+  pub refused-consistent : WasBegun g before after
+      → (g.tells → after.fault ≡ false → log.now effect_of_entry (g.state after.log) ≡ log.now effect_of_entry (g.state before.log))
+      → (g.tells → after.fault ≡ false → IsKept (chain_at (g.state before.log) pid) page) → page.infos.items ≡ q.infos.items → is_free page.kept ≡ is_free q.kept → IsFreeOrNode page.kept
+      → IsConsistent g.tells g.state after (slice_set pages pid page) free
+  refused-consistent begun same is infos freed own = same-consistent g before after pages free pid q page c ready behind at begun.came begun.went (begun.marks (is_open (g.state before.log).pending)) same is infos freed own
 
-  pub taken-consistent : TakesLink g before pid q link after page → is_free page.kept ≡ is_free q.kept → IsConsistent g.state after (slice_set pages pid page) free
+  pub taken-consistent : TakesLink g before pid q link after page → is_free page.kept ≡ is_free q.kept → IsConsistent g.tells g.state after (slice_set pages pid page) free
   taken-consistent takes freed =
       let went = takes.tells.went in
       let beside = c.beside ready in
-      consistent-set g.state before after pages free free c ready pid page (behind-own pid behind) (subst IsFreeOrNode (sym takes.holds) tt)
+      consistent-set g.tells g.state before after pages free free c ready pid page (behind-own pid behind) (subst IsFreeOrNode (sym takes.holds) tt)
       (subst (λ (n : ℕ). n ≤ 10) (sym takes.len) (linked-short (length q.infos.items) (page-short-at g before after pages free pid q page c ready behind at)))
       (λ clear. record {
         usable = went.usable clear;
-        closed =
-            sym (is_open-told (g.state after.log).pending)
-            ∙ is_open-Went g.state g.moment g.left_since g.counts before after (Change pid (message_of (update_by q link takes.tells.node)) ∷ []) went clear
-            ∙ is_open-told (g.state before.log).pending ∙ beside.closed;
+        closed = went.opened clear ∙ beside.closed;
         kept = takes.kept;
         others = takes.others;
-        chains = went-chains g.state g.moment g.left_since g.counts before after (Change pid (message_of (update_by q link takes.tells.node)) ∷ []) went clear beside.chains;
+        chains = λ known. went-chains g.tells g.state g.moment g.left_since g.counts before after (Change pid (message_of (update_by q link takes.tells.node)) ∷ []) went known clear (beside.chains known);
         sized = takes.sized;
       })
       (c.free ∙ sym (free-same 0 pages pid page q at freed))
@@ -69,13 +46,13 @@ module _ {L : Type 0} (g : Ghosts L) (before after : Journal L) (pages : List Pa
     abbrev new : Cache L
     new = view next config recovered after (slice_set pages pid page)
 
-    pub taken-length : TakesLink g before pid q link after page → chain_length g.state new pid ≡ linked_length (chain_length g.state old pid)
-    taken-length takes =
-        places-length (chain_at (g.state after.log) pid) page takes.kept ∙ takes.len ∙ ap linked_length (length-before g next config recovered before after pages free pid q page c ready behind at)
+    pub taken-length : g.tells → TakesLink g before pid q link after page → chain_length g.state new pid ≡ linked_length (chain_length g.state old pid)
+    taken-length known takes =
+        places-length (chain_at (g.state after.log) pid) page (takes.kept known) ∙ takes.len ∙ ap linked_length (length-before g next config recovered before after pages free pid q page c ready behind at known)
 
     pub taken-resident : TakesLink g before pid q link after page → IsResident new pid
-    taken-resident takes = after-resident g next config recovered before after pages free pid q page c ready behind at (ap is_resident takes.holds)
+    taken-resident takes = is-after g next config recovered before after pages free pid q page c ready behind at true (ap is_resident takes.holds)
 
     pub refused-out : (is_resident q.kept ≡ false → is_resident page.kept ≡ false) → IsAway old pid → IsAway new pid
     refused-out out away =
-        after-away g next config recovered before after pages free pid q page c ready behind at (out (away-before g next config recovered before after pages free pid q page c ready behind at away))
+        is-after g next config recovered before after pages free pid q page c ready behind at false (out (before-is g next config recovered before after pages free pid q page c ready behind at false away))

@@ -1,38 +1,12 @@
 -- The cache's own pages, as they are read from a log, and as they are made.
-use Rattle.std.proofs.Common.{◌≡◌, ◌≤◌, ◌<◌, ◌&&◌, ◌||◌, ℤ, ℕ, zero, suc, Bool, true, false, List, [], ◌∷◌, length, map, get_or, ltb, None, Some, refl, sym, ◌∙◌, ap, subst, arith}
-use Rattle.std.proofs.lemmas.Bool.{false≢true, ltb-true, ltb-false, le-ltb}
-use Rattle.std.proofs.lemmas.List.{length-map}
-use Rattle.std.proofs.lemmas.Slice.Zip.{AllZip-long}
-use Rattle.std.specs.List.{AllZip, slice_get}
-use Rattle.sled_base.specs.declared.kinds.MessageKind.{MessageKind}
+use Rattle.sled_pagecache.proofs.Names.{◌≡◌, ◌≤◌, ◌<◌, ◌&&◌, ◌||◌, ℤ, ℕ, zero, suc, Bool, true, false, List, [], ◌∷◌, length, map, get_or, ltb, Some, refl, sym, ◌∙◌, ap, subst, arith, false≢true, nat_tests, length-map, none-some, AllZip-long, AllZip, MessageKind, DiskPtr, Refusal, Corruption, OutOfMemory, ReadsU64, is_freeing, is_empty, Content, Counter, Roots, Node, Put, effect_of_update, Entry, Chain, Told, told, effect_of_entry, freed_of, Reads, IsUpdate, LeadTo, Makes, reads_effect, applied, WholeNode, ReadsRoots, IsFoundAs, IsLoaded, IsUnread, RefusesOwn, HoldsChain, is_free, freed_at, told_of, BeginsFree, RefusesMessage, is_misfit, IsFit, CacheInfo, Kept, Page, Found}
+use Rattle.std.specs.List.{slice_get}
 use Rattle.sled_base.specs.declared.kinds.MessageKind.TheVariants as kinds
-use Rattle.sled_base.specs.declared.types.DiskPtr.{DiskPtr}
-use Rattle.sled_base.specs.declared.types.Refusal.{Refusal}
-use Rattle.sled_base.specs.declared.types.Refusal.TheVariants.{Unsupported, ReportableBug, Io, Corruption, OutOfMemory}
-use Rattle.sled_base.specs.Payloads.Numbers.{ReadsU64}
-use Rattle.sled_log.specs.Chains.{is_freeing, is_empty}
-use Rattle.sled_log.specs.Contents.{Content, Free, Counter, Roots, Node, Put, effect_of_update}
-use Rattle.sled_log.specs.Messages.{Entry, Chain, Told, told, effect_of_entry}
-use Rattle.sled_log.specs.Pages.{freed_of}
-use Rattle.sled_log.specs.Reading.{Reads, IsUpdate, LeadTo, Makes}
-use Rattle.sled_log.specs.ReadingLaws.{reads_effect}
-use Rattle.sled_node.specs.Links.{applied}
 use Rattle.sled_node.specs.Meta as meta
-use Rattle.sled_node.specs.Node.{WholeNode}
-use Rattle.sled_node.specs.Payloads.Roots.{ReadsRoots}
 use Rattle.sled_pagecache.proofs.Linked.{full-free}
 use Rattle.sled_pagecache.proofs.Pulls.{makes-found, found-makes, begins-full}
-use Rattle.sled_pagecache.specs.ChainReads.{IsFoundAs}
-use Rattle.sled_pagecache.specs.Loading.{IsLoaded, IsUnread, RefusesOwn}
-use Rattle.sled_pagecache.specs.Pages.{HoldsChain, is_free, freed_at}
-use Rattle.sled_pagecache.specs.Reading.{told_of, BeginsFree, RefusesMessage}
-use Rattle.sled_pagecache.specs.Recovered.{is_misfit}
-use Rattle.sled_pagecache.specs.Starts.{IsFit}
-use Rattle.sled_pagecache.specs.declared.pagecache.chain.CacheInfo.{CacheInfo}
-use Rattle.sled_pagecache.specs.declared.pagecache.page.Kept.{Kept}
+use Rattle.sled_pagecache.proofs.RecoveredPages.{first-place}
 use Rattle.sled_pagecache.specs.declared.pagecache.page.Kept.TheVariants as kept
-use Rattle.sled_pagecache.specs.declared.pagecache.page.Page.{Page}
-use Rattle.sled_pagecache.specs.declared.pagecache.reading.Found.{Found}
 
 -- ---- what makes the named roots or the counter is one message
 
@@ -44,8 +18,7 @@ IsOwn other = ⊥
 own-effect : (content : Content) → IsOwn content → is_freeing (effect_of_update (Put content)) ≡ false
 own-effect (Roots roots) own = refl
 own-effect (Counter n) own = refl
-own-effect Free own = absurd own
-own-effect (Node node) own = absurd own
+own-effect content own = absurd own
 
 -- what leads from a node leads to a node
 node-leads : (node : WholeNode) (messages : Told) (content : Content) → IsOwn content → LeadTo (Node node) messages content → ⊥
@@ -66,25 +39,15 @@ lengths chain infos at = sym (length-map chain freed_of) ∙ ap length at ∙ le
 abbrev misfit_by : ℕ → ℕ → Bool → Bool
 misfit_by pid len free = ltb 10 len || (ltb pid 2 && (free || ltb 1 len))
 
-sole-fits : (pid len : ℕ) (free : Bool) → len ≡ 1 → free ≡ false → misfit_by pid len free ≡ false
-sole-fits pid len free one full = ap (λ n. misfit_by pid n free) one ∙ ap (λ b. misfit_by pid 1 b) full ∙ none (ltb pid 2)
-  where
-    none : (b : Bool) → (b && false) ≡ false
-    none true = refl
-    none false = refl
-
 own-fits : (pid : ℕ) (chain : Chain) (page : Page) (content : Content) → IsLoaded chain page → IsOwn content → Makes (told chain) content → is_misfit pid page ≡ false
 own-fits pid chain page content is own makes =
     let one = own-one chain content own makes in
-    sole-fits pid (length page.infos.items) (is_free page.kept) (sym (lengths chain page.infos.items is.at) ∙ one.0) (full-free chain page.kept one.1 is.kept.holds)
+    let sole = lengths chain page.infos.items is.at in
+    let full = full-free chain page.kept one.1 is.kept.holds in
+    grind (arith, nat_tests, one.0, sole, full)
 
 long-misfit : (pid len : ℕ) (free : Bool) → 2 ≤ pid → misfit_by pid len free ≡ true → 10 < len
-long-misfit pid len free from misfit = by (ltb 10 len) refl
-  where
-    by : (b : Bool) → ltb 10 len ≡ b → 10 < len
-    by true is = ltb-true 10 len is
-    by false is =
-        absurd (false≢true (sym (ap (λ b. b || (ltb pid 2 && (free || ltb 1 len))) is ∙ ap (λ b. b && (free || ltb 1 len)) (le-ltb pid 2 from)) ∙ misfit))
+long-misfit pid len free from misfit = grind (arith, nat_tests)
 
 -- a page that no cache leaves so isn't fit
 pub misfit-unfit : (pid : ℕ) (chain : Chain) (page : Page) → IsLoaded chain page → is_misfit pid page ≡ true → ¬ IsFit pid chain
@@ -98,14 +61,7 @@ misfit-unfit (suc (suc pid)) chain page is misfit fit =
 
 -- a system page that is fit has one message, and isn't free
 pub fits-one : (pid len : ℕ) (free : Bool) → pid < 2 → 0 < len → misfit_by pid len free ≡ false → (len ≡ 1) × (free ≡ false)
-fits-one pid len free own some fits = by (ltb pid 2) (ltb 10 len) free (ltb 1 len) refl refl refl refl fits
-  where
-    by : (small long f more : Bool) → ltb pid 2 ≡ small → ltb 10 len ≡ long → free ≡ f → ltb 1 len ≡ more → (long || (small && (f || more))) ≡ false → (len ≡ 1) × (free ≡ false)
-    by true false false false s l is m fits = ((let le = ltb-false 1 len m in omega (arith, le, some)), is)
-    by true true f more s l is m fits = absurd (false≢true (sym fits))
-    by true false true more s l is m fits = absurd (false≢true (sym fits))
-    by true false false true s l is m fits = absurd (false≢true (sym fits))
-    by false long f more s l is m fits = (let le = ltb-false pid 2 s in absurd (omega (arith, le, own)))
+fits-one pid len free own some fits = (grind (arith, nat_tests), grind (arith, nat_tests))
 
 -- and what was found of it is one message
 pub found-one : (pid : ℕ) (chain : Chain) (page : Page) (found : List Found) → pid < 2 → 0 < length page.infos.items → IsLoaded chain page → is_misfit pid page ≡ false → AllZip IsFoundAs chain found → length found ≡ 1
@@ -116,9 +72,7 @@ found-one pid chain page found own some is fits zip =
 unread-full : (chain : Chain) (held : Kept) → IsUnread held → is_free held ≡ false → HoldsChain chain held → is_empty effect_of_entry chain ≡ false
 unread-full chain kept.Away unread full holds = holds
 unread-full chain kept.Free unread full holds = absurd (false≢true (sym full))
-unread-full chain (kept.Counter n) unread full holds = absurd unread
-unread-full chain (kept.Roots roots) unread full holds = absurd unread
-unread-full chain (kept.Node node) unread full holds = absurd unread
+unread-full chain held unread full holds = absurd unread
 
 begins-so : (found : List Found) (first : Found) → length found ≡ 1 → first ≡ get_or found 0 first → first.kind ≡ kinds.Free → BeginsFree found
 begins-so [] first one is frees = absurd (omega (arith, one))
@@ -135,16 +89,17 @@ found-full pid chain page found first own some is unread fits zip first-is frees
 
 -- ---- the pointer of the first message
 
-pointer_of : Entry → DiskPtr
-pointer_of entry = entry.place.pointer
+pub first-pointer : (chain : Chain) (infos : List CacheInfo) (pointer : DiskPtr) → map freed_of chain ≡ map freed_at infos
+    → slice_get (map (λ (info : CacheInfo). info.pointer) infos) 0 ≡ Some pointer → slice_get (map (λ (entry : Entry). entry.place.pointer) chain) 0 ≡ Some pointer
+first-pointer chain [] pointer at is = absurd (none-some pointer is)
+first-pointer [] (info ∷ infos) pointer at is = (let e = at in cc)
+first-pointer (entry ∷ chain) (info ∷ infos) pointer at is =
+    let same : freed_of entry ≡ freed_at info = (let e = at in cc) in
+    ap (λ (at : ℤ × DiskPtr). Some at.1) same ∙ is
 
 pub begins-at : (chain : Chain) (infos : List CacheInfo) (info : CacheInfo) → map freed_of chain ≡ map freed_at infos → 0 < length infos → info ≡ get_or infos 0 info
     → slice_get (map (λ (entry : Entry). entry.place.pointer) chain) 0 ≡ Some info.pointer
-begins-at chain [] info at some is = absurd (omega (arith, some))
-begins-at [] (first ∷ infos) info at some is = (let e = at in cc)
-begins-at (entry ∷ chain) (first ∷ infos) info at some is =
-    let same : freed_of entry ≡ freed_at first = (let e = at in cc) in
-    ap (λ (p : DiskPtr). Some p) (ap (λ (at : ℤ × DiskPtr). at.1) same ∙ sym (ap (λ (i : CacheInfo). i.pointer) is))
+begins-at chain infos info at some is = first-pointer chain infos info.pointer at (first-place infos info some is)
 
 pub found-at : (chain : Chain) (found : List Found) (first : Found) → AllZip IsFoundAs chain found → length found ≡ 1 → first ≡ get_or found 0 first
     → slice_get (map (λ (entry : Entry). entry.place.pointer) chain) 0 ≡ Some first.pointer
@@ -156,18 +111,16 @@ found-at (entry ∷ chain) (x ∷ found) first zip one is = ap (λ (p : DiskPtr)
 
 pub made-one : (chain : Chain) (found : List Found) (first : Found) (content : Content) → AllZip IsFoundAs chain found → length found ≡ 1 → first ≡ get_or found 0 first
     → IsUpdate (told_of first) (Put content) → Makes (told chain) content
-made-one chain [] first content zip one is reads = absurd (omega (arith, one))
-made-one chain (x ∷ y ∷ found) first content zip one is reads = absurd (omega (arith, one))
 made-one chain (x ∷ []) first content zip one is reads =
     makes-found chain (x ∷ []) content zip (content, subst (λ (f : Found). IsUpdate (told_of f) (Put content)) is reads, refl)
+made-one chain found first content zip one is reads = absurd (omega (arith, one))
 
 one-made : (chain : Chain) (found : List Found) (first : Found) (content : Content) → AllZip IsFoundAs chain found → length found ≡ 1 → first ≡ get_or found 0 first
     → Makes (told chain) content → IsUpdate (told_of first) (Put content)
-one-made chain [] first content zip one is makes = absurd (omega (arith, one))
-one-made chain (x ∷ y ∷ found) first content zip one is makes = absurd (omega (arith, one))
 one-made chain (x ∷ []) first content zip one is makes =
     let made = found-makes chain (x ∷ []) content zip makes in
     subst (λ (f : Found). IsUpdate (told_of f) (Put content)) (sym is) (subst (λ (c : Content). IsUpdate (told_of x) (Put c)) made.2 made.1)
+one-made chain found first content zip one is makes = absurd (omega (arith, one))
 
 -- ---- why the one message was refused
 
@@ -175,10 +128,7 @@ module _ (chain : Chain) (found : List Found) (first : Found) (zip : AllZip IsFo
   refuses-at : (pid : ℕ) (amiss : Type 0) → (amiss → ¬ IsFit pid chain) → (e : Refusal) → RefusesMessage first.pointer amiss e → RefusesOwn pid chain e
   refuses-at pid amiss unfit OutOfMemory r = tt
   refuses-at pid amiss unfit (Corruption (Some pointer)) r = (unfit r.1, found-at chain found first zip one is ∙ ap (λ (p : DiskPtr). Some p) (sym r.0))
-  refuses-at pid amiss unfit (Corruption None) r = absurd r
-  refuses-at pid amiss unfit (Unsupported why) r = absurd r
-  refuses-at pid amiss unfit (ReportableBug bug) r = absurd r
-  refuses-at pid amiss unfit (Io device) r = absurd r
+  refuses-at pid amiss unfit e r = absurd r
 
   pub refuses-roots : (e : Refusal) → RefusesMessage first.pointer ((roots : meta.Roots) → ¬ IsUpdate (told_of first) (Put (Roots roots))) e → RefusesOwn 0 chain e
   refuses-roots e r = refuses-at 0 _ (λ amiss fit. amiss fit.0 (one-made chain found first (Roots fit.0) zip one is fit.1)) e r

@@ -1,46 +1,22 @@
 -- A page that is brought into memory: the table beside its log, and what one sees who knows the cache by its model.
-use Rattle.std.proofs.Common.{◌≡◌, ◌≤◌, inr, ℕ, Bool, true, false, List, [], length, Some, Result, Ok, Err, slice_get, slice_set, slice_index_or, refl, sym, ◌∙◌, ap, subst, arith}
-use Rattle.std.proofs.lemmas.Bool.{false≢true, false_from_ne_true}
-use Rattle.std.proofs.lemmas.List.{map-set, set-get_or, length-map}
-use Rattle.std.proofs.lemmas.Option.{none-some, same_Some, slice_get_past, get_or_from_slice_get}
-use Rattle.std.specs.List.{AllByRecursion}
-use Rattle.std.specs.Prelude.{IfErr, OnOk, OnErr, IsOk}
-use Rattle.sled_base.specs.declared.types.Refusal.{Refusal}
-use Rattle.sled_log.specs.Batches.{is_open, open_after}
-use Rattle.sled_log.specs.Chains.{is_empty, is_chain}
-use Rattle.sled_log.specs.Events.{Event}
-use Rattle.sled_log.specs.Messages.{Message, Chain, told, effect_of, effect_of_entry}
-use Rattle.sled_log.specs.Pages.{IsSized}
+use Rattle.sled_pagecache.proofs.Names.{◌≡◌, ◌≤◌, inr, ℕ, Bool, true, false, List, [], length, Some, Result, Ok, Err, slice_get, slice_set, slice_index_or, refl, sym, ◌∙◌, ap, subst, arith, false≢true, false_from_ne_true, map-set, set-get_or, length-map, get_or_past, none-some, same_Some, slice_get_past, AllZip-long, AllByRecursion, IfErr, OnOk, OnErr, IsOk, Refusal, is_open, open_after, is_empty, is_chain, Event, Message, Chain, effect_of, effect_of_entry, IsSized, Ghosts, Cache, chain_length, IsResident, IsAway, chain_at, more, Went, IsCaused, Went-none, HoldsChain, IsKept, is_free, is_resident, RefusesReading, BringsIn, RefusesPull, IsDamaged, ReadsPage, is_reserved, stamps_in, resident_in, IsFreeOrNode, IsConsistent, Config, Journal, Kept, Page}
 use Rattle.sled_log.specs.State as log
-use Rattle.sled_log.specs.TellingLaws.{is_open-told}
-use Rattle.sled_log.specs.declared.log.Log.{Ghosts}
-use Rattle.sled_pagecache.proofs.Lookups.{map-at, set-at, all-at, behind-own, kept-at, own-at}
+use Rattle.sled_pagecache.proofs.Lookups.{map-at, set-at, put-back, all-at, behind-own, kept-at, own-at}
 use Rattle.sled_pagecache.proofs.ReadCounts.{reads-none, reads-whole, reads-part}
 use Rattle.sled_pagecache.proofs.TableNodes.{view}
 use Rattle.sled_pagecache.proofs.Tables.{IsSet, consistent-set, free-same}
-use Rattle.sled_pagecache.specs.Cache.{Cache, chain_length, IsResident, IsAway}
-use Rattle.sled_pagecache.specs.ChainReads.{chain_at, more}
-use Rattle.sled_pagecache.specs.Journal.{Went, IsCaused}
-use Rattle.sled_pagecache.specs.JournalLaws.{Went-none, is_open-Went}
-use Rattle.sled_pagecache.specs.Pages.{HoldsChain, IsKept, is_free, is_resident}
-use Rattle.sled_pagecache.specs.PagesIn.{RefusesReading, BringsIn}
-use Rattle.sled_pagecache.specs.Pulling.{RefusesPull}
-use Rattle.sled_pagecache.specs.Reads.{ReadsPage}
-use Rattle.sled_pagecache.specs.Step.{is_reserved}
-use Rattle.sled_pagecache.specs.Table.{stamps_in, resident_in, IsFreeOrNode, IsConsistent}
-use Rattle.sled_pagecache.specs.declared.pagecache.config.Config.{Config}
-use Rattle.sled_pagecache.specs.declared.pagecache.journal.Journal.{Journal}
-use Rattle.sled_pagecache.specs.declared.pagecache.page.Kept.{Kept}
 use Rattle.sled_pagecache.specs.declared.pagecache.page.Kept.TheVariants as kept
-use Rattle.sled_pagecache.specs.declared.pagecache.page.Page.{Page}
-
--- what is set again where it is
-pub set-same : {A : Type 0} (xs : List A) (i : ℕ) (x : A) → slice_get xs i ≡ Some x → slice_set xs i x ≡ xs
-set-same xs i x at = ap (λ y. slice_set xs i y) (sym (get_or_from_slice_get xs i x x at)) ∙ set-get_or xs i x
 
 -- how many messages make a page
 pub places-length : (chain : Chain) (page : Page) → IsKept chain page → length chain ≡ length page.infos.items
 places-length chain page is = is.long
+
+-- a page that lies in memory isn't damaged
+pub undamaged : (chain : Chain) (k : Kept) → is_resident k ≡ true → IsFreeOrNode k → HoldsChain chain k → ¬ IsDamaged chain
+undamaged chain kept.Free resident own holds damaged = false≢true (sym damaged.0 ∙ holds)
+undamaged chain kept.Away resident own holds damaged = false≢true resident
+undamaged chain (kept.Node node) resident own holds damaged = damaged.1 (node, holds)
+undamaged chain k resident own holds damaged = own
 
 -- a page that a refused pull leaves doesn't lie in memory
 pub part-pulled : (q page : Page) (P : ℕ → Type 0) (result : Result (Unit {0}) Refusal) → OnErr result (page.kept ≡ q.kept) → OnErr result ((times : ℕ) × (times ≤ length q.infos.items) × P times)
@@ -49,12 +25,12 @@ part-pulled q page P (Ok done) err part held = tt
 part-pulled q page P (Err refusal) err part held = (ap is_resident err ∙ held, part.0, part.1, part.2)
 
 module _ {L : Type 0} (g : Ghosts L) (before after : Journal L) (pages : List Page) (free : List ℕ) (pid : ℕ) (q page : Page)
-    (c : IsConsistent g.state before pages free) (ready : before.fault ≡ false) (behind : is_reserved pid ≡ false) (at : slice_get pages pid ≡ Some q) where
+    (c : IsConsistent g.tells g.state before pages free) (ready : before.fault ≡ false) (behind : is_reserved pid ≡ false) (at : slice_get pages pid ≡ Some q) where
   abbrev chain : Chain
   chain = chain_at (g.state before.log) pid
 
-  pub page-kept-at : IsKept chain q
-  page-kept-at = kept-at (log.now effect_of_entry (g.state before.log)) pages pid q (c.beside ready).kept at
+  pub page-kept-at : g.tells → IsKept chain q
+  page-kept-at known = kept-at (log.now effect_of_entry (g.state before.log)) pages pid q ((c.beside ready).kept known) at
 
   pub page-own-at : IsFreeOrNode q.kept
   page-own-at = own-at pages pid q c.own (behind-own pid behind) at
@@ -63,30 +39,28 @@ module _ {L : Type 0} (g : Ghosts L) (before after : Journal L) (pages : List Pa
   page-short-at = all-at (λ (p : Page). length p.infos.items ≤ 10) pages pid q c.short at
 
   -- the log holds what it held
-  same-set : (events : List (Event Message)) → Went g.state g.moment g.left_since g.counts before after events → open_after (is_open (log.told_state (g.state before.log)).pending) events ≡ is_open (log.told_state (g.state before.log)).pending
-      → after.fault ≡ false → log.now effect_of_entry (g.state after.log) ≡ log.now effect_of_entry (g.state before.log) → IsKept chain page → IsSet (g.state before.log) (g.state after.log) pid page
+  same-set : (events : List (Event Message)) → Went g.tells g.state g.moment g.left_since g.counts before after events → open_after (is_open (g.state before.log).pending) events ≡ is_open (g.state before.log).pending
+      → after.fault ≡ false → (g.tells → log.now effect_of_entry (g.state after.log) ≡ log.now effect_of_entry (g.state before.log)) → (g.tells → IsKept chain page) → IsSet g.tells (g.state before.log) (g.state after.log) pid page
   same-set events went marks clear same is =
       let beside = c.beside ready in
       record {
         usable = went.usable clear;
-        closed =
-            sym (is_open-told (g.state after.log).pending) ∙ is_open-Went g.state g.moment g.left_since g.counts before after events went clear ∙ marks
-            ∙ is_open-told (g.state before.log).pending ∙ beside.closed;
-        kept = subst (λ (l : List Chain). IsKept (slice_index_or l pid []) page) (sym same) is;
-        others = sym (set-get_or (log.now effect_of_entry (g.state after.log)) pid []) ∙ ap (λ (l : List Chain). slice_set l pid (chain_at (g.state after.log) pid)) same;
-        chains = subst (λ (l : List Chain). AllByRecursion (λ chain. is_chain effect_of_entry chain ≡ true) l) (sym same) beside.chains;
-        sized = subst (λ (l : List Chain). AllByRecursion IsSized l) (sym same) beside.sized;
+        closed = went.opened clear ∙ marks ∙ beside.closed;
+        kept = λ known. subst (λ (l : List Chain). IsKept (slice_index_or l pid []) page) (sym (same known)) (is known);
+        others = λ known. sym (set-get_or (log.now effect_of_entry (g.state after.log)) pid []) ∙ ap (λ (l : List Chain). slice_set l pid (chain_at (g.state after.log) pid)) (same known);
+        chains = λ known. subst (λ (l : List Chain). AllByRecursion (λ chain. is_chain effect_of_entry chain ≡ true) l) (sym (same known)) (beside.chains known);
+        sized = λ known. subst (λ (l : List Chain). AllByRecursion IsSized l) (sym (same known)) (beside.sized known);
       }
 
   -- the table stays as it always is, where no message was told, or none was added
-  pub same-consistent : (events : List (Event Message)) → Went g.state g.moment g.left_since g.counts before after events → open_after (is_open (log.told_state (g.state before.log)).pending) events ≡ is_open (log.told_state (g.state before.log)).pending
-      → (after.fault ≡ false → log.now effect_of_entry (g.state after.log) ≡ log.now effect_of_entry (g.state before.log))
-      → (after.fault ≡ false → IsKept chain page) → page.infos.items ≡ q.infos.items → is_free page.kept ≡ is_free q.kept → IsFreeOrNode page.kept
-      → IsConsistent g.state after (slice_set pages pid page) free
+  pub same-consistent : (events : List (Event Message)) → Went g.tells g.state g.moment g.left_since g.counts before after events → open_after (is_open (g.state before.log).pending) events ≡ is_open (g.state before.log).pending
+      → (g.tells → after.fault ≡ false → log.now effect_of_entry (g.state after.log) ≡ log.now effect_of_entry (g.state before.log))
+      → (g.tells → after.fault ≡ false → IsKept chain page) → page.infos.items ≡ q.infos.items → is_free page.kept ≡ is_free q.kept → IsFreeOrNode page.kept
+      → IsConsistent g.tells g.state after (slice_set pages pid page) free
   same-consistent events went marks same is infos freed own =
-      consistent-set g.state before after pages free free c ready pid page (behind-own pid behind) own
+      consistent-set g.tells g.state before after pages free free c ready pid page (behind-own pid behind) own
       (subst (λ n. n ≤ 10) (sym (ap length infos)) page-short-at)
-      (λ clear. same-set events went marks clear (same clear) (is clear))
+      (λ clear. same-set events went marks clear (λ known. same known clear) (λ known. is known clear))
       (c.free ∙ sym (free-same 0 pages pid page q at freed))
 
 -- ---- in the words of the model
@@ -96,21 +70,27 @@ module _ {L : Type 0} (g : Ghosts L) (next : ℕ) (config : Config) (recovered :
   cache journal pages = view next config recovered journal pages
 
   -- no page is there
-  pub brings-none : (journal : Journal L) (pages : List Page) (free : List ℕ) (pid : ℕ) → IsConsistent g.state journal pages free → is_reserved pid ≡ false → journal.fault ≡ false → length pages ≤ pid
-      → ((l : List _) → g.left_since journal.log (g.moment journal.log) l → log.IsLeft effect_of (log.told_state (g.state journal.log)) [] l)
+  pub brings-none : (journal : Journal L) (pages : List Page) (free : List ℕ) (pid : ℕ) → IsConsistent g.tells g.state journal pages free → is_reserved pid ≡ false → journal.fault ≡ false → length pages ≤ pid
+      → ((l : List _) → g.tells → (g.state journal.log).usable ≡ true → g.left_since journal.log (g.moment journal.log) l → log.IsLeft effect_of (log.told_state (g.state journal.log)) [] l)
       → (let ok : Result (Unit {0}) Refusal = Ok tt in BringsIn g (cache journal pages) pid ok (cache journal pages))
   brings-none journal pages free pid is behind ready past only = record {
-    opening = record { config = refl; recovered = refl };
-    stamps = refl;
-    next = refl;
-    went = Went-none g.state g.moment g.left_since g.counts journal (λ clear. (is.beside clear).usable) only;
+    left = record {
+      opening = record { config = refl; recovered = refl };
+      stamps = refl;
+      next = refl;
+      went = Went-none g.tells g.state g.moment g.left_since g.counts journal (is.beside ready).usable only;
+      same = λ _ _. refl;
+    };
     cause = record { fault = ready; read = λ h. cc; write = λ h. cc; full = λ h. cc };
-    same = λ _. refl;
+    sound = λ known damaged. absurd (false≢true (sym damaged.0 ∙ ap (is_empty effect_of_entry) (past-chain known)));
     in_memory = (behind, λ away. none-some false (sym (slice_get_past (resident_in pages) pid (let l = length-map pages (λ (page : Page). is_resident page.kept) in omega (arith, past, l))) ∙ away));
-    refused = tt;
+    refused = λ _. tt;
   }
+    where
+      past-chain : g.tells → chain_at (g.state journal.log) pid ≡ []
+      past-chain known = get_or_past (log.now effect_of_entry (g.state journal.log)) pid [] (let long = AllZip-long IsKept _ pages ((is.beside ready).kept known) in omega (arith, past, long))
 
-  module _ (before after : Journal L) (pages : List Page) (free : List ℕ) (pid : ℕ) (q page : Page) (c : IsConsistent g.state before pages free) (ready : before.fault ≡ false)
+  module _ (before after : Journal L) (pages : List Page) (free : List ℕ) (pid : ℕ) (q page : Page) (c : IsConsistent g.tells g.state before pages free) (ready : before.fault ≡ false)
       (behind : is_reserved pid ≡ false) (at : slice_get pages pid ≡ Some q) where
     old_resident : slice_get (resident_in pages) pid ≡ Some (is_resident q.kept)
     old_resident = map-at (λ (page : Page). is_resident page.kept) pages pid q at
@@ -118,81 +98,75 @@ module _ {L : Type 0} (g : Ghosts L) (next : ℕ) (config : Config) (recovered :
     new_resident : slice_get (resident_in (slice_set pages pid page)) pid ≡ Some (is_resident page.kept)
     new_resident = map-at (λ (page : Page). is_resident page.kept) (slice_set pages pid page) pid page (set-at pages pid q page at)
 
-    pub away-before : IsAway (cache before pages) pid → is_resident q.kept ≡ false
-    away-before away = same_Some (is_resident q.kept) false (sym old_resident ∙ away)
+    pub before-is : (b : Bool) → slice_get (resident_in pages) pid ≡ Some b → is_resident q.kept ≡ b
+    before-is b is = same_Some (is_resident q.kept) b (sym old_resident ∙ is)
 
     -- what lies in memory isn't refused
     pub always-pulled : (result : Result (Unit {0}) Refusal) → (is_resident q.kept ≡ true → IsOk result) → IsResident (cache before pages) pid → IsOk result
-    always-pulled result is_there resident = is_there (same_Some (is_resident q.kept) true (sym old_resident ∙ resident))
+    always-pulled result is_there resident = is_there (before-is true resident)
 
     pub before-away : is_resident q.kept ≡ false → IsAway (cache before pages) pid
     before-away away = old_resident ∙ ap (λ (b : Bool). Some b) away
 
-    pub away-after : IsAway (cache after (slice_set pages pid page)) pid → is_resident page.kept ≡ false
-    away-after away = same_Some (is_resident page.kept) false (sym new_resident ∙ away)
+    after-is : (b : Bool) → slice_get (resident_in (slice_set pages pid page)) pid ≡ Some b → is_resident page.kept ≡ b
+    after-is b is = same_Some (is_resident page.kept) b (sym new_resident ∙ is)
 
-    pub resident-after : IsResident (cache after (slice_set pages pid page)) pid → is_resident page.kept ≡ true
-    resident-after resident = same_Some (is_resident page.kept) true (sym new_resident ∙ resident)
-
-    pub after-away : is_resident page.kept ≡ false → IsAway (cache after (slice_set pages pid page)) pid
-    after-away away = new_resident ∙ ap (λ (b : Bool). Some b) away
-
-    pub after-resident : is_resident page.kept ≡ true → IsResident (cache after (slice_set pages pid page)) pid
-    after-resident resident = new_resident ∙ ap (λ (b : Bool). Some b) resident
+    pub is-after : (b : Bool) → is_resident page.kept ≡ b → slice_get (resident_in (slice_set pages pid page)) pid ≡ Some b
+    is-after b is = new_resident ∙ ap (λ (b : Bool). Some b) is
 
     pub stamps-same : page.stamp ≡ q.stamp → stamps_in (slice_set pages pid page) ≡ stamps_in pages
     stamps-same stamp =
-        map-set (λ (p : Page). p.stamp) pages pid page ∙ ap (λ (n : ℕ). slice_set (stamps_in pages) pid n) stamp ∙ set-same (stamps_in pages) pid q.stamp (map-at (λ (p : Page). p.stamp) pages pid q at)
+        map-set (λ (p : Page). p.stamp) pages pid page ∙ ap (λ (n : ℕ). slice_set (stamps_in pages) pid n) stamp ∙ put-back (stamps_in pages) pid q.stamp (map-at (λ (p : Page). p.stamp) pages pid q at)
 
     full-away : (k : Kept) → HoldsChain (chain_at (g.state before.log) pid) k → is_resident k ≡ false → is_empty effect_of_entry (chain_at (g.state before.log) pid) ≡ false
     full-away kept.Away holds away = holds
-    full-away kept.Free holds away = absurd (false≢true (sym away))
-    full-away (kept.Counter n) holds away = absurd (false≢true (sym away))
-    full-away (kept.Roots roots) holds away = absurd (false≢true (sym away))
-    full-away (kept.Node node) holds away = absurd (false≢true (sym away))
+    full-away k holds away = absurd (false≢true (sym away))
 
     -- a page that doesn't lie in memory has a chain that isn't empty
-    pub away-full : is_resident q.kept ≡ false → is_empty effect_of_entry (chain_at (g.state before.log) pid) ≡ false
-    away-full away = full-away q.kept (page-kept-at g before after pages free pid q page c ready behind at).holds away
+    pub away-full : g.tells → is_resident q.kept ≡ false → is_empty effect_of_entry (chain_at (g.state before.log) pid) ≡ false
+    away-full known away = full-away q.kept (page-kept-at g before after pages free pid q page c ready behind at known).holds away
 
-    pub length-before : length q.infos.items ≡ chain_length g.state (cache before pages) pid
-    length-before = sym (places-length (chain_at (g.state before.log) pid) q (page-kept-at g before after pages free pid q page c ready behind at))
+    pub length-before : g.tells → length q.infos.items ≡ chain_length g.state (cache before pages) pid
+    length-before known = sym (places-length (chain_at (g.state before.log) pid) q (page-kept-at g before after pages free pid q page c ready behind at known))
 
     module _ (result : Result (Unit {0}) Refusal)
-        (same : after.fault ≡ false → log.now effect_of_entry (g.state after.log) ≡ log.now effect_of_entry (g.state before.log))
+        (same : g.tells → after.fault ≡ false → log.now effect_of_entry (g.state after.log) ≡ log.now effect_of_entry (g.state before.log))
         (stamp : page.stamp ≡ q.stamp)
         (resident : OnOk result (is_resident page.kept ≡ true)) (err : OnErr result (page.kept ≡ q.kept))
         (is_there : is_resident q.kept ≡ true → IsOk result) where
       -- the page was pulled
-      pub brings-pulled : Went g.state g.moment g.left_since g.counts before after [] → IsCaused g.state g.moment g.left_since g.counts before after ⊥ result
-          → IfErr result (RefusesPull (told (chain_at (g.state before.log) pid)))
+      pub brings-pulled : Went g.tells g.state g.moment g.left_since g.counts before after [] → IsCaused g.tells g.state g.moment g.left_since g.counts before after ⊥ result
+          → (g.tells → IsKept (chain_at (g.state before.log) pid) page) → IsFreeOrNode page.kept → (g.tells → IfErr result (RefusesPull (chain_at (g.state before.log) pid)))
           → BringsIn g (cache before pages) pid result (cache after (slice_set pages pid page))
-      brings-pulled went cause refused = record {
-        opening = record { config = refl; recovered = refl };
-        stamps = stamps-same stamp;
-        next = refl;
-        went = went;
+      brings-pulled went cause is own refused = let seen = by result resident is_there refused in record {
+        left = record {
+          opening = record { config = refl; recovered = refl };
+          stamps = stamps-same stamp;
+          next = refl;
+          went = went;
+          same = same;
+        };
         cause = cause;
-        same = same;
-        in_memory = in_memory result resident;
-        refused = why result is_there refused;
+        in_memory = seen.0;
+        sound = seen.1;
+        refused = seen.2;
       }
         where
-          in_memory : (result : Result (Unit {0}) Refusal) → OnOk result (is_resident page.kept ≡ true) → OnOk result ((is_reserved pid ≡ false) × ¬ IsAway (cache after (slice_set pages pid page)) pid)
-          in_memory (Ok done) resident = (behind, λ away. false≢true (sym (away-after away) ∙ resident))
-          in_memory (Err refusal) resident = tt
-
-          why : (result : Result (Unit {0}) Refusal) → (is_resident q.kept ≡ true → IsOk result) → IfErr result (RefusesPull (told (chain_at (g.state before.log) pid)))
-              → IfErr result (RefusesReading (chain_at (g.state before.log) pid) pid)
-          why (Ok done) is_there refused = tt
-          why (Err refusal) is_there refused = inr (behind, away-full (false_from_ne_true (is_resident q.kept) (λ is. false≢true (is_there is))), refused)
+          by : (result : Result (Unit {0}) Refusal) → OnOk result (is_resident page.kept ≡ true) → (is_resident q.kept ≡ true → IsOk result)
+              → (g.tells → IfErr result (RefusesPull (chain_at (g.state before.log) pid)))
+              → OnOk result ((is_reserved pid ≡ false) × ¬ IsAway (cache after (slice_set pages pid page)) pid)
+              × (g.tells → OnOk result (¬ IsDamaged (chain_at (g.state before.log) pid))) × (g.tells → IfErr result (RefusesReading (chain_at (g.state before.log) pid) pid))
+          by (Ok done) resident is_there refused =
+              ((behind, λ away. false≢true (sym (after-is false away) ∙ resident)), λ known. undamaged (chain_at (g.state before.log) pid) page.kept resident own (is known).holds, λ known. tt)
+          by (Err refusal) resident is_there refused =
+              (tt, λ known. tt, λ known. inr (behind, away-full known (false_from_ne_true (is_resident q.kept) (λ is. false≢true (is_there is))), refused known))
 
       pub kept_out-pulled : OnErr result (IsAway (cache before pages) pid → IsAway (cache after (slice_set pages pid page)) pid)
       kept_out-pulled = by result err
         where
           by : (result : Result (Unit {0}) Refusal) → OnErr result (page.kept ≡ q.kept) → OnErr result (IsAway (cache before pages) pid → IsAway (cache after (slice_set pages pid page)) pid)
           by (Ok done) err = tt
-          by (Err refusal) err = λ away. after-away (ap is_resident err ∙ away-before away)
+          by (Err refusal) err = λ away. is-after false (ap is_resident err ∙ before-is false away)
 
     -- how often the log was read, where a page was pulled, and nothing is read then
     pub reads-pulled : (result : Result (Unit {0}) Refusal)
@@ -207,7 +181,7 @@ module _ {L : Type 0} (g : Ghosts L) (next : ℕ) (config : Config) (recovered :
             → (is_resident q.kept ≡ false → OnErr result ((is_resident page.kept ≡ false) × (times : ℕ) × (times ≤ length q.infos.items) × ((g.counts after.log).reads ≡ more times (g.counts before.log).reads)))
             → ReadsPage g (cache before pages) pid (cache after (slice_set pages pid page))
         by true held result whole part =
-            reads-none g (cache before pages) (cache after (slice_set pages pid page)) pid (unread held) (λ away _. false≢true (sym (away-before away) ∙ held))
+            reads-none g (cache before pages) (cache after (slice_set pages pid page)) pid (unread held) (λ away _. false≢true (sym (before-is false away) ∙ held))
         by false held (Ok done) whole part =
             reads-whole g (cache before pages) (cache after (slice_set pages pid page)) pid (length q.infos.items) (before-away held) length-before
             (page-short-at g before after pages free pid q page c ready behind at) (whole held)
@@ -216,4 +190,4 @@ module _ {L : Type 0} (g : Ghosts L) (next : ℕ) (config : Config) (recovered :
             let short = page-short-at g before after pages free pid q page c ready behind at in
             let few = some.2 in
             reads-part g (cache before pages) (cache after (slice_set pages pid page)) pid some.1 (before-away held)
-            (λ resident. false≢true (sym some.0 ∙ resident-after resident)) (omega (arith, short, few)) some.3
+            (λ resident. false≢true (sym some.0 ∙ after-is true resident)) (omega (arith, short, few)) some.3

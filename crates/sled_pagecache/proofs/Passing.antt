@@ -1,12 +1,6 @@
 -- The tests that a call of a page begins with: no write fault is kept, and the id isn't reserved.
-use Rattle.std.proofs.Common.{◌≡◌, ℕ, Bool, true, false, Result, Err, refl, sym, subst}
-use Rattle.std.specs.Prelude.{MatchBool}
-use Rattle.sled_base.specs.declared.types.Device.TheVariants.{Write}
-use Rattle.sled_base.specs.declared.types.Error.{Error}
-use Rattle.sled_base.specs.declared.types.Error.TheVariants.{Unsupported, Io}
-use Rattle.sled_base.specs.declared.types.Why.TheVariants.{ReservedId}
-use Rattle.sled_pagecache.specs.State.{State}
-use Rattle.sled_pagecache.specs.Step.{is_reserved, IsRefused, UnlessFaulty, UnlessReserved}
+use Rattle.sled_pagecache.proofs.Names.{◌≡◌, ℕ, Bool, true, false, Result, Err, refl, sym, subst, MatchBool, Write, Error, Unsupported, ReservedId, State, is_reserved, IsRefused, UnlessFaulty, UnlessReserved}
+use Rattle.sled_base.specs.declared.types.Error.TheVariants.{Io}
 
 module _ {T : Type 0} (s : State) (pid : ℕ) (P : (Result T Error) → State → Type 0) where
   -- a call of a page, that goes on so

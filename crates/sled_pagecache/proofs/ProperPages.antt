@@ -1,20 +1,7 @@
 -- What a change of a page from 2 on makes of pages as a cache leaves them.
-use Rattle.std.proofs.Common.{◌≡◌, ◌≤◌, ◌<◌, ◌^◌, ℕ, zero, suc, Bool, true, false, cond, List, [], ◌∷◌, ◌++◌, length, set, Some, slice_get, slice_set, slice_index_or, sym, subst, arith, eq-eqb}
-use Rattle.std.proofs.lemmas.Bool.{ne_eqb}
-use Rattle.std.proofs.lemmas.List.{length-append, length-set}
-use Rattle.std.proofs.lemmas.Option.{get_or_from_slice_get, slice_get_within}
-use Rattle.std.proofs.lemmas.Slice.Zip.{AllZip-long}
-use Rattle.std.specs.List.{AllByRecursion}
-use Rattle.sled_node.specs.Links.{applied}
-use Rattle.sled_node.specs.Node.{WholeNode}
+use Rattle.sled_pagecache.proofs.Names.{◌≡◌, ◌≤◌, ◌<◌, ◌^◌, ℕ, zero, suc, Bool, true, false, cond, List, [], ◌∷◌, ◌++◌, length, set, Some, slice_get, slice_set, slice_index_or, sym, subst, arith, eq-eqb, ne_eqb, length-append, length-set, get_or_from_slice_get, slice_get_within, AllZip-long, AllByRecursion, applied, WholeNode, is_empty, linked, chains_from, Content, Free, Node, Put, Link, after_link, contents_from, Change, Message, Told, effect_of, Holds, Hold, message_of, IsUsers, IsProper}
 use Rattle.sled_node.specs.declared.node.link.Link.{Link as NodeLink}
-use Rattle.sled_log.specs.Chains.{is_empty, linked, chains_from}
-use Rattle.sled_log.specs.Contents.{Content, Free, Node, Put, Link, after_link, contents_from}
-use Rattle.sled_log.specs.Events.{Change}
-use Rattle.sled_log.specs.Messages.{Message, Told, effect_of}
-use Rattle.sled_log.specs.Reading.{Makes, Hold}
-use Rattle.sled_log.specs.Writing.{message_of}
-use Rattle.sled_pagecache.specs.Proper.{IsFreeOrNode, AreOwn, IsProper}
+use Rattle.sled_pagecache.specs.Proper.{AreOwn}
 
 -- ---- lists
 
@@ -29,22 +16,20 @@ all-append P (x ∷ xs) ys h i = (h.0, all-append P xs ys h.1 i)
 
 -- ---- the system pages stay
 
-own-set : (contents : List Content) (pid : ℕ) (content : Content) → AreOwn contents → 2 ≤ pid → pid < length contents → IsFreeOrNode content → AreOwn (slice_set contents pid content)
+own-set : (contents : List Content) (pid : ℕ) (content : Content) → AreOwn contents → 2 ≤ pid → pid < length contents → IsUsers content → AreOwn (slice_set contents pid content)
 own-set [] pid content own from lt node = absurd (omega (arith, lt))
 own-set (roots ∷ []) pid content own from lt node = absurd (omega (arith, from, lt))
-own-set (roots ∷ counter ∷ rest) zero content own from lt node = absurd (omega (arith, from))
-own-set (roots ∷ counter ∷ rest) (suc zero) content own from lt node = absurd (omega (arith, from))
-own-set (roots ∷ counter ∷ rest) (suc (suc pid)) content own from lt node = (own.0, own.1, all-set IsFreeOrNode pid rest content own.2 node)
+own-set (roots ∷ counter ∷ rest) (suc (suc pid)) content own from lt node = (own.0, own.1, all-set IsUsers pid rest content own.2 node)
+own-set contents pid content own from lt node = absurd (omega (arith, from))
 
-own-add : (contents : List Content) (content : Content) → AreOwn contents → 2 ≤ length contents → IsFreeOrNode content → AreOwn (contents ++ content ∷ [])
-own-add [] content own from node = absurd (omega (arith, from))
-own-add (roots ∷ []) content own from node = absurd (omega (arith, from))
-own-add (roots ∷ counter ∷ rest) content own from node = (own.0, own.1, all-append IsFreeOrNode rest (content ∷ []) own.2 (node, tt))
+own-add : (contents : List Content) (content : Content) → AreOwn contents → 2 ≤ length contents → IsUsers content → AreOwn (contents ++ content ∷ [])
+own-add (roots ∷ counter ∷ rest) content own from node = (own.0, own.1, all-append IsUsers rest (content ∷ []) own.2 (node, tt))
+own-add contents content own from node = absurd (omega (arith, from))
 
 -- ---- a page changes, or is added
 
 pub proper-set : (pages : List Told) (contents : List Content) (pid : ℕ) (told : Told) (content : Content)
-    → IsProper pages contents → 2 ≤ pid → pid < length contents → length told ≤ 10 → IsFreeOrNode content
+    → IsProper pages contents → 2 ≤ pid → pid < length contents → length told ≤ 10 → IsUsers content
     → IsProper (slice_set pages pid told) (slice_set contents pid content)
 proper-set pages contents pid told content proper from lt fits node = record {
   own = own-set contents pid content proper.own from lt node;
@@ -53,7 +38,7 @@ proper-set pages contents pid told content proper from lt fits node = record {
 }
 
 pub proper-add : (pages : List Told) (contents : List Content) (told : Told) (content : Content)
-    → IsProper pages contents → 2 ≤ length contents → length contents < 2 ^ 37 → length told ≤ 10 → IsFreeOrNode content
+    → IsProper pages contents → 2 ≤ length contents → length contents < 2 ^ 37 → length told ≤ 10 → IsUsers content
     → IsProper (pages ++ told ∷ []) (contents ++ content ∷ [])
 proper-add pages contents told content proper from room fits node = record {
   own = own-add contents content proper.own from node;
@@ -66,7 +51,7 @@ module _ (pages : List Told) (contents : List Content) (hold : Hold pages conten
   pub put-proper : (node : WholeNode) → pid < length contents
       → IsProper (chains_from effect_of pages (Change pid (message_of (Put (Node node))))) (contents_from contents (Change pid (Put (Node node))))
   put-proper node lt =
-      let long = AllZip-long Makes pages contents hold in
+      let long = AllZip-long Holds pages contents hold in
       rw (ne_eqb pid (length pages) (λ same. omega (arith, same, lt, long)), ne_eqb pid (length contents) (λ same. omega (arith, same, lt)))
       (proper-set pages contents pid (message_of (Put (Node node)) ∷ []) (Node node) proper from lt (omega arith) tt)
 
@@ -74,7 +59,7 @@ module _ (pages : List Told) (contents : List Content) (hold : Hold pages conten
   pub add-proper : (node : WholeNode) → pid ≡ length contents → length contents < 2 ^ 37
       → IsProper (chains_from effect_of pages (Change pid (message_of (Put (Node node))))) (contents_from contents (Change pid (Put (Node node))))
   add-proper node last room =
-      let long = AllZip-long Makes pages contents hold in
+      let long = AllZip-long Holds pages contents hold in
       rw (eq-eqb pid (length pages) (omega (arith, last, long)), eq-eqb pid (length contents) last)
       (proper-add pages contents (message_of (Put (Node node)) ∷ []) (Node node) proper (omega (arith, from, last)) room (omega arith) tt)
 

@@ -1,50 +1,16 @@
 -- Pages as they are recovered are kept as their chains say, and the first of them that no cache leaves so.
-use Rattle.std.proofs.Common.{◌≡◌, ◌+◌, ◌<◌, ◌≤◌, ◌^◌, ℕ, ℤ, true, false, List, [], ◌∷◌, ◌++◌, length, map, take, drop, get_or, Option, Some, refl, sym, ◌∙◌, ap, subst, inl, inr, arith}
-use Rattle.std.proofs.lemmas.Bool.{false≢true}
-use Rattle.std.proofs.lemmas.List.{length-map, take_more}
-use Rattle.std.proofs.lemmas.List.Sums.{sum_by-cons}
-use Rattle.std.proofs.lemmas.Option.{slice_get_read, slice_get_cases}
-use Rattle.std.specs.List.{AllZip, AllByRecursion, slice_get, sum_by}
-use Rattle.std.specs.Option.{IfSome}
-use Rattle.sled_base.specs.declared.types.DiskPtr.{DiskPtr}
-use Rattle.sled_base.specs.declared.types.page_state.PageState.{PageState}
+use Rattle.sled_pagecache.proofs.Names.{◌≡◌, ◌+◌, ◌<◌, ◌≤◌, ℕ, ℤ, true, false, List, [], ◌∷◌, ◌++◌, length, map, take, drop, get_or, Option, Some, refl, sym, ◌∙◌, ap, subst, inl, inr, arith, false≢true, length-map, take_more, slice_get_read, slice_get_cases, AllZip, AllByRecursion, IfSome, DiskPtr, PageState, Chain, IsPageState, said_of, freed_of, place_of, IsLoaded, IsUnread, HoldsChain, IsKept, is_free, freed_at, info_at, kept_by, IsRecovered, is_misfit, AllFit, BeginsMisfit, CacheInfo, Kept, Page}
+use Rattle.std.specs.List.{slice_get}
 use Rattle.sled_base.specs.declared.types.page_state.PageState.TheVariants as said
-use Rattle.sled_log.specs.Messages.{Entry, Chain}
-use Rattle.sled_log.specs.Pages.{IsPageState, IsSized, said_of, freed_of}
-use Rattle.sled_pagecache.specs.ChainReads.{place_of}
-use Rattle.sled_pagecache.specs.Loading.{IsLoaded, IsUnread}
-use Rattle.sled_pagecache.specs.Pages.{HoldsChain, IsKept, is_free, freed_at}
-use Rattle.sled_pagecache.specs.Recovered.{info_at, kept_by, HasRoom, IsRecovered, is_misfit, AllFit, BeginsMisfit}
-use Rattle.sled_pagecache.specs.declared.pagecache.chain.CacheInfo.{CacheInfo}
-use Rattle.sled_pagecache.specs.declared.pagecache.page.Kept.{Kept}
-use Rattle.sled_pagecache.specs.declared.pagecache.page.Page.{Page}
 
 abbrev pub Place : Type 0
 Place = ℤ × DiskPtr × ℕ
 
--- ---- places and sizes
+-- ---- places
 
 places-same : (places : List Place) → map place_of (map info_at places) ≡ places
 places-same [] = refl
 places-same (place ∷ places) = ap (λ (l : List Place). place ∷ l) (places-same places)
-
-sizes-said : (chain : Chain) → sum_by (λ (place : Place). place.2) (map said_of chain) ≡ sum_by (λ (entry : Entry). entry.place.log_size) chain
-sizes-said [] = refl
-sizes-said (entry ∷ chain) =
-    sum_by-cons (λ (place : Place). place.2) (said_of entry) (map said_of chain) ∙ ap (λ (n : ℕ). entry.place.log_size + n) (sizes-said chain)
-    ∙ sym (sum_by-cons (λ (entry : Entry). entry.place.log_size) entry chain)
-
--- what a log says of its pages has room
-has-room : (chain : Chain) (state : PageState) → IsPageState chain state → IsSized chain → HasRoom state
-has-room chain (said.Present base frags) is sized =
-    subst (λ (n : ℕ). n < 2 ^ 63) (sym (sizes-said chain) ∙ ap (λ (l : List Place). sum_by (λ (place : Place). place.2) l) is.1) sized.total
-has-room chain (said.Free lsn pointer) is sized = omega arith
-
-pub all-room : (chains : List Chain) (states : List PageState) → AllZip IsPageState chains states → AllByRecursion IsSized chains → AllByRecursion HasRoom states
-all-room [] [] are sized = tt
-all-room [] (state ∷ states) are sized = absurd are
-all-room (chain ∷ chains) [] are sized = absurd are
-all-room (chain ∷ chains) (state ∷ states) are sized = (has-room chain state are.0 sized.0, all-room chains states are.1 sized.1)
 
 -- ---- a recovered page is kept as its chain says
 
@@ -86,25 +52,20 @@ is-loaded chain state page from is = record {
 
 pub all-loaded : (chains : List Chain) (states : List PageState) (pages : List Page) → AllZip IsRecovered states pages → AllZip IsPageState chains states → AllZip IsLoaded chains pages
 all-loaded [] [] [] from are = tt
-all-loaded [] [] (page ∷ pages) from are = absurd from
-all-loaded [] (state ∷ states) pages from are = absurd are
-all-loaded (chain ∷ chains) [] pages from are = absurd are
-all-loaded (chain ∷ chains) (state ∷ states) [] from are = absurd from
 all-loaded (chain ∷ chains) (state ∷ states) (page ∷ pages) from are =
     (is-loaded chain state page from.0 are.0, all-loaded chains states pages from.1 are.1)
+all-loaded chains states pages from are = absurd (assumption (from, are))
 
 pub all-unread : (states : List PageState) (pages : List Page) → AllZip IsRecovered states pages → AllByRecursion (λ page. IsUnread page.kept) pages
 all-unread [] [] from = tt
-all-unread [] (page ∷ pages) from = absurd from
-all-unread (state ∷ states) [] from = absurd from
 all-unread (state ∷ states) (page ∷ pages) from = (subst IsUnread (sym from.0.kept) (by-state state), all-unread states pages from.1)
+all-unread states pages from = absurd from
 
 recovered-push : (states : List PageState) (pages : List Page) (state : PageState) (page : Page)
     → AllZip IsRecovered states pages → IsRecovered state page → AllZip IsRecovered (states ++ state ∷ []) (pages ++ page ∷ [])
 recovered-push [] [] state page all is = (is, tt)
-recovered-push [] (x ∷ pages) state page all is = absurd all
-recovered-push (s ∷ states) [] state page all is = absurd all
 recovered-push (s ∷ states) (x ∷ pages) state page all is = (all.0, recovered-push states pages state page all.1 is)
+recovered-push states pages state page all is = absurd all
 
 -- the pages so far, and one more
 pub recovered-more : (states : List PageState) (i : ℕ) (state : PageState) (pages : List Page) (page : Page)
@@ -127,9 +88,9 @@ module _ (pages : List Page) where
         | inr w ↦ subst (λ (o : Option Page). IfSome o (λ (page : Page). is_misfit k page ≡ false)) (sym w.1) tt
       ]
 
-pub first-pointer : (infos : List CacheInfo) (info : CacheInfo) → 0 < length infos → info ≡ get_or infos 0 info → slice_get (map (λ (info : CacheInfo). info.pointer) infos) 0 ≡ Some info.pointer
-first-pointer [] info lt is = absurd (omega arith)
-first-pointer (x ∷ infos) info lt is = sym (ap (λ (info : CacheInfo). Some info.pointer) is)
+pub first-place : (infos : List CacheInfo) (info : CacheInfo) → 0 < length infos → info ≡ get_or infos 0 info → slice_get (map (λ (info : CacheInfo). info.pointer) infos) 0 ≡ Some info.pointer
+first-place [] info lt is = absurd (omega arith)
+first-place (x ∷ infos) info lt is = sym (ap (λ (info : CacheInfo). Some info.pointer) is)
 
 pub begins-misfit : (pages : List Page) (k : ℕ) (page : Page) (info : CacheInfo)
     → k < length pages → page ≡ get_or pages k page → is_misfit k page ≡ true → 0 < length page.infos.items → info ≡ get_or page.infos.items 0 info
@@ -140,7 +101,7 @@ begins-misfit pages k page info lt is misfit some first before = record {
   is = slice_get_read pages (length pages) k page refl lt is;
   misfit = misfit;
   first = before;
-  begins = first-pointer page.infos.items info some first;
+  begins = first-place page.infos.items info some first;
 }
 
 -- ---- a page as a log says it

@@ -1,12 +1,5 @@
 -- The stamps and the log sizes of a page's messages.
-use Rattle.std.proofs.Common.{◌≡◌, ◌+◌, ◌-◌, ℕ, zero, suc, ℤ, List, [], ◌∷◌, ◌++◌, length, map, refl, sym, ◌∙◌, ap, arith}
-use Rattle.std.proofs.lemmas.List.{length-append, map-append}
-use Rattle.std.proofs.lemmas.List.Sums.{sum_by-cons}
-use Rattle.std.specs.List.{sum_by}
-use Rattle.sled_base.specs.declared.types.DiskPtr.{DiskPtr}
-use Rattle.sled_pagecache.specs.Recovered.{info_at}
-use Rattle.sled_pagecache.specs.Stamps.{stamps_to}
-use Rattle.sled_pagecache.specs.declared.pagecache.chain.CacheInfo.{CacheInfo}
+use Rattle.sled_pagecache.proofs.Names.{◌≡◌, ◌+◌, ◌-◌, ℕ, zero, suc, ℤ, List, [], ◌∷◌, ◌++◌, length, map, refl, sym, ◌∙◌, ap, arith, length-append, map-append, DiskPtr, info_at, stamps_to, CacheInfo}
 
 -- one message more, at the next stamp
 pub stamps-more : (stamp n : ℕ) → stamps_to stamp n ++ (stamp + 1) ∷ [] ≡ stamps_to (stamp + 1) (suc n)
@@ -37,9 +30,3 @@ stamped-more stamp infos after info was at is =
     ∙ ap (λ (k : ℕ). stamps_to stamp (length infos) ++ k ∷ []) at ∙ stamps-more stamp (length infos) ∙ ap (stamps_to (stamp + 1)) (many ∙ ap length (sym is))
 
 -- ---- the log sizes of a recovered page's messages
-
-pub sizes-kept : (places : List (ℤ × DiskPtr × ℕ)) → sum_by (λ (info : CacheInfo). info.log_size) (map info_at places) ≡ sum_by (λ (place : ℤ × DiskPtr × ℕ). place.2) places
-sizes-kept [] = refl
-sizes-kept (place ∷ places) =
-    sum_by-cons (λ (info : CacheInfo). info.log_size) (info_at place) (map info_at places) ∙ ap (λ (n : ℕ). place.2 + n) (sizes-kept places)
-    ∙ sym (sum_by-cons (λ (place : ℤ × DiskPtr × ℕ). place.2) place places)

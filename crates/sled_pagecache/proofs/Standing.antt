@@ -1,26 +1,9 @@
 -- The pages of the state that a cache is in, beside those of its table.
-use Rattle.std.proofs.Common.{◌≡◌, ◌≤◌, ◌<◌, ℕ, zero, suc, true, false, List, [], ◌∷◌, ◌++◌, length, map, Some, None, slice_get, slice_set, refl, sym, ◌∙◌, ap, subst, arith}
-use Rattle.std.proofs.lemmas.List.{length-map}
-use Rattle.std.proofs.lemmas.Option.{none-some, same_Some}
-use Rattle.std.proofs.lemmas.Slice.Zip.{AllZip-long}
-use Rattle.std.specs.List.{AllZip}
-use Rattle.sled_log.specs.Chains.{is_freeing, is_empty}
-use Rattle.sled_log.specs.Contents.{Content, Free, Counter, Roots, Node, Put, effect_of_update}
-use Rattle.sled_log.specs.Messages.{Chain, Entry, Told, told, effect_of_entry}
-use Rattle.sled_log.specs.Reading.{LeadTo, Makes, Hold}
-use Rattle.sled_log.specs.ReadingLaws.{reads_effect}
+use Rattle.sled_pagecache.proofs.Names.{◌≡◌, ◌≤◌, ◌<◌, ℕ, zero, suc, true, false, List, [], ◌∷◌, ◌++◌, length, map, Some, None, slice_get, slice_set, refl, sym, ◌∙◌, ap, subst, arith, length-map, none-some, same_Some, AllZip-long, AllZip, is_freeing, is_empty, Content, Free, Counter, Roots, Node, Damaged, Put, effect_of_update, Chain, Entry, Told, told, effect_of, effect_of_entry, LeadTo, Makes, Holds, Hold, reads_effect, Ghosts, applied, WholeNode, Cache, IsIn, Logged, HoldsChain, IsKept, State, stamps_in, resident_in, IsBeside, CacheInfo, Kept}
 use Rattle.sled_log.specs.State as log
-use Rattle.sled_node.specs.Links.{applied}
-use Rattle.sled_node.specs.Node.{WholeNode}
 use Rattle.sled_pagecache.proofs.PagesAt.{holds_now}
-use Rattle.sled_pagecache.specs.Cache.{Cache, IsIn}
-use Rattle.sled_pagecache.specs.Logged.{Logged}
-use Rattle.sled_pagecache.specs.Pages.{HoldsChain, IsKept}
 use Rattle.sled_pagecache.specs.Pages as kept
-use Rattle.sled_pagecache.specs.State.{Page, State, is_free}
-use Rattle.sled_pagecache.specs.Table.{stamps_in, resident_in, IsBeside}
-use Rattle.sled_pagecache.specs.declared.pagecache.chain.CacheInfo.{CacheInfo}
-use Rattle.sled_pagecache.specs.declared.pagecache.page.Kept.{Kept}
+use Rattle.sled_pagecache.specs.State.{Page, is_free}
 use Rattle.sled_pagecache.specs.declared.pagecache.page.Kept.TheVariants as held
 use Rattle.sled_pagecache.specs.declared.pagecache.page.Page.{Page as KeptPage}
 
@@ -32,9 +15,7 @@ linked-full node (m ∷ messages) content (other, link, is, reads, accepts, lead
 
 put-free : (content : Content) → is_freeing (effect_of_update (Put content)) ≡ is_free content
 put-free Free = refl
-put-free (Counter n) = refl
-put-free (Roots roots) = refl
-put-free (Node node) = refl
+put-free content = refl
 
 lead-free : (first : Content) (messages : Told) (content : Content) → LeadTo first messages content → is_free first ≡ is_free content
 lead-free first [] content leads = ap is_free leads
@@ -45,12 +26,24 @@ chain-free [] content makes = absurd makes
 chain-free (entry ∷ chain) content (first, reads, leads) =
     ap is_freeing (reads_effect entry.message.kind entry.message.payload (Put first) reads) ∙ put-free first ∙ lead-free first (told chain) content leads
 
-kept-free : (chain : Chain) (page : Kept) → HoldsChain chain page → is_empty effect_of_entry chain ≡ kept.is_free page
-kept-free chain held.Free holds = holds
-kept-free chain held.Away holds = holds
+-- a chain that makes a node isn't
+pub node-full : (chain : Chain) (node : WholeNode) → Makes (told chain) (Node node) → is_empty effect_of_entry chain ≡ false
+node-full chain node makes = chain-free chain (Node node) makes
+
+pub full-told : (chain : Chain) → is_empty effect_of (told chain) ≡ is_empty effect_of_entry chain
+full-told [] = refl
+full-told (entry ∷ chain) = refl
+
+-- the same of what its page holds
+pub holds-free : (chain : Chain) (content : Content) → Holds (told chain) content → is_empty effect_of_entry chain ≡ is_free content
+holds-free chain Damaged (full, none) = sym (full-told chain) ∙ full
+holds-free chain content holds = chain-free chain content holds
+
+pub kept-free : (chain : Chain) (page : Kept) → HoldsChain chain page → is_empty effect_of_entry chain ≡ kept.is_free page
 kept-free chain (held.Counter n) holds = chain-free chain (Counter n) holds
 kept-free chain (held.Roots roots) holds = chain-free chain (Roots roots) holds
 kept-free chain (held.Node node) holds = chain-free chain (Node node) holds
+kept-free chain page holds = holds
 
 -- ---- the pages of the state are those of the table
 
@@ -69,18 +62,18 @@ are-known [] chains (q ∷ table) same holds beside = absurd cc
 are-known (p ∷ pages) chains [] same holds beside = absurd cc
 are-known (p ∷ pages) [] (q ∷ table) same holds beside = absurd beside
 are-known (p ∷ pages) (chain ∷ chains) (q ∷ table) same holds beside = (
-  record { stamp = cc; free = sym (chain-free chain p.content holds.0) ∙ kept-free chain q.kept beside.0.holds },
+  record { stamp = cc; free = sym (holds-free chain p.content holds.0) ∙ kept-free chain q.kept beside.0.holds },
   are-known pages chains table (cc) holds.1 beside.1,
 )
 
-module _ {L : Type 0} (state : L → log.State Entry) where
+module _ {L : Type 0} (g : Ghosts L) where
   -- in whatever state the cache is
   pub known-in : (cache : Cache L) (table : List KeptPage) (held_by : Logged) (s : State)
-      → IsIn state cache held_by s → s.fault ≡ false → cache.stamps ≡ stamps_in table → IsBeside state cache.log table → AreKnown s.pages table
+      → IsIn g cache held_by s → s.fault ≡ false → cache.stamps ≡ stamps_in table → IsBeside g.tells g.state cache.log table → AreKnown s.pages table
   known-in cache table held_by s is clear same beside =
-      are-known s.pages (log.now effect_of_entry (state cache.log)) table (is.stamps ∙ same)
-      (subst (λ (l : List Content). Hold (map told (log.now effect_of_entry (state cache.log))) l) (sym (is.contents clear)) (holds_now (state cache.log) held_by (is.logged clear)))
-      beside.kept
+      are-known s.pages (log.now effect_of_entry (g.state cache.log)) table (is.stamps ∙ same)
+      (subst (λ (l : List Content). Hold (map told (log.now effect_of_entry (g.state cache.log))) l) (sym (is.known clear).contents) (holds_now (g.state cache.log) held_by (is.known clear).logged))
+      (beside.kept is.tells)
 
 -- ---- one of them
 
@@ -109,15 +102,9 @@ found-none (p ∷ pages) (k ∷ table) (suc pid) known at = found-none pages tab
 
 -- ---- the table
 
--- a page that is put back leaves it
-pub put-back : (table : List KeptPage) (pid : ℕ) (q : KeptPage) → slice_get table pid ≡ Some q → slice_set table pid q ≡ table
-put-back [] pid q at = refl
-put-back (k ∷ table) zero q at = ap (λ (first : KeptPage). first ∷ table) (sym (same_Some k q at))
-put-back (k ∷ table) (suc pid) q at = ap (λ (l : List KeptPage). k ∷ l) (put-back table pid q at)
-
 -- it has a page for each chain
-pub beside-long : {L : Type 0} (state : L → log.State Entry) (l : L) (table : List KeptPage) → IsBeside state l table → length table ≡ length (log.now effect_of_entry (state l))
-beside-long state l table beside = AllZip-long IsKept (log.now effect_of_entry (state l)) table beside.kept
+pub beside-long : {L : Type 0} (tells : Type 0) (state : L → log.State Entry) (l : L) (table : List KeptPage) → IsBeside tells state l table → tells → length table ≡ length (log.now effect_of_entry (state l))
+beside-long tells state l table beside told = AllZip-long IsKept (log.now effect_of_entry (state l)) table (beside.kept told)
 
 -- a page that holds a node lies in memory
 pub resident-set : (table : List KeptPage) (pid : ℕ) (page : KeptPage) (node : WholeNode) → pid < length table → page.kept ≡ held.Node node → slice_get (resident_in (slice_set table pid page)) pid ≡ Some true

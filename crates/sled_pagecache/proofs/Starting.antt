@@ -1,54 +1,16 @@
 -- The pages that a cache is opened with.
-use Rattle.std.proofs.Common.{◌≡◌, ◌≤◌, ◌<◌, ◌+◌, ◌^◌, ℕ, zero, suc, ◌&&◌, ◌||◌, ltb, ℤ, Bool, true, false, cond, List, [], ◌∷◌, ◌++◌, length, map, set, get_or, slice_get, slice_index_or, Option, None, Some, is_some, Result, Ok, refl, sym, ◌∙◌, ap, subst, arith, eq-eqb}
-use Rattle.std.proofs.lemmas.Bool.{false≢true, ltb-false}
-use Rattle.std.proofs.lemmas.List.{length-append, length-map}
-use Rattle.std.proofs.lemmas.Slice.Zip.{AllZip-long}
-use Rattle.std.proofs.lemmas.Option.{slice_get-get_or, slice_get_past, none-some, same_Some}
-use Rattle.std.specs.List.{AllByRecursion, AllZip}
-use Rattle.std.specs.Option.{IfSome}
+use Rattle.sled_pagecache.proofs.Names.{◌≡◌, ◌≤◌, ◌<◌, ◌+◌, ℕ, zero, suc, Bool, true, false, cond, List, [], ◌∷◌, ◌++◌, length, map, take, drop, set, get_or, slice_get, slice_index_or, Option, None, Some, is_some, Result, Ok, refl, sym, ◌∙◌, ap, subst, arith, eq-eqb, drop-nil, take-nil, take-append_seam, false≢true, nat_tests, length-append, length-map, append-nil, AllZip-long, slice_get-get_or, slice_get_past, none-some, same_Some, AllByRecursion, AllZip, IfSome, DiskPtr, Refusal, Io, Corruption, OutOfMemory, PageState, is_open, open_after, is_chain, is_empty, changed, Content, Update, Put, Event, Change, Message, Entry, Chain, Told, told, placed, effect_of, effect_of_entry, holds-made, IsPageState, IsSized, Makes, Holds, Hold, IsLeft, now, told_state, message_of, zip-append, Ghosts, place_of, roots_told, IsLoaded, IsUnread, AreRecovered, AreRead, AreFound, AreOwnSoFar, IsTable, IsOpenedWith, RefusesOwn, RefusesPages, next_id, counter_told, told_of_roots, told_at_start, stamps_at_start, first_id, HoldsChain, IsKept, is_resident, freed_at, free_ids, Proceeds, refusal_in, is_misfit, AllFit, BeginsMisfit, IsFit, Wrote, IsRoots, IsCounter, IsFreeOrNode, AreOwn, IsConsistent, stamps_in, resident_in, CacheInfo, Config, Journal, Kept, Page}
 use Rattle.sled_base.specs.declared.kinds.LogKind.TheVariants as effects
-use Rattle.sled_base.specs.declared.types.DiskPtr.{DiskPtr}
-use Rattle.sled_base.specs.declared.types.Refusal.{Refusal}
-use Rattle.sled_base.specs.declared.types.Refusal.TheVariants.{Unsupported, ReportableBug, Io, Corruption, OutOfMemory}
-use Rattle.sled_base.specs.declared.types.page_state.PageState.{PageState}
-use Rattle.sled_log.specs.Batches.{is_open, open_after}
-use Rattle.sled_log.specs.Chains.{is_chain, is_empty, changed}
 use Rattle.sled_log.specs.Chains.{begun as begin_page}
 use Rattle.sled_log.specs.Contents as contents
-use Rattle.sled_log.specs.Contents.{Content, Update, Put}
-use Rattle.sled_log.specs.Events.{Event, Change}
-use Rattle.sled_log.specs.Messages.{Message, Entry, Chain, Told, told, placed, effect_of, effect_of_entry}
-use Rattle.sled_log.specs.Pages.{IsPageState, IsSized, freed_of}
-use Rattle.sled_log.specs.Reading.{Makes, Hold}
-use Rattle.sled_log.specs.State.{IsLeft, now, told_state}
-use Rattle.sled_log.specs.TellingLaws.{is_open-told}
-use Rattle.sled_log.specs.Writing.{message_of}
-use Rattle.sled_log.specs.ZipLaws.{zip-append}
 use Rattle.sled_node.specs.Meta as meta
-use Rattle.sled_log.specs.declared.log.Log.{Ghosts}
 use Rattle.sled_pagecache.proofs.ProperPages.{all-append}
-use Rattle.sled_pagecache.proofs.FoundMessages.{makes-one}
 use Rattle.sled_pagecache.proofs.Linked.{full-free}
-use Rattle.sled_pagecache.proofs.OwnPages.{IsOwn, own-one, lengths, misfit-unfit}
-use Rattle.sled_pagecache.proofs.Proceeding.{proceeds-told}
+use Rattle.sled_pagecache.proofs.OwnPages.{IsOwn, own-one, lengths, misfit-unfit, first-pointer}
+use Rattle.sled_pagecache.proofs.Proceeding.{nil-right, proceeds-told, proceeds-then, proceeds-first}
 use Rattle.sled_pagecache.proofs.Tables.{went-chains}
-use Rattle.sled_pagecache.specs.ChainReads.{place_of}
-use Rattle.sled_pagecache.specs.JournalLaws.{is_open-Went}
-use Rattle.sled_pagecache.specs.Loading.{IsLoaded, IsUnread, AreRecovered, AreRead, AreFound, AreOwnSoFar, IsTable, IsOpenedWith, RefusesOwn, RefusesPages, next_id, counter_told, told_of_roots, told_at_start, stamps_at_start}
-use Rattle.sled_pagecache.specs.Opening.{first_id}
-use Rattle.sled_pagecache.specs.Pages.{HoldsChain, IsKept, is_resident, is_free, freed_at, free_ids}
-use Rattle.sled_pagecache.specs.Proceeding.{Proceeds, refusal_in}
-use Rattle.sled_pagecache.specs.Recovered.{is_misfit, AllFit, BeginsMisfit}
-use Rattle.sled_pagecache.specs.Starts.{IsFit}
 use Rattle.sled_pagecache.specs.State as state
-use Rattle.sled_pagecache.specs.Swaps.{Wrote}
-use Rattle.sled_pagecache.specs.Table.{IsRoots, IsCounter, IsFreeOrNode, AreOwn, IsConsistent, stamps_in, resident_in}
-use Rattle.sled_pagecache.specs.declared.pagecache.chain.CacheInfo.{CacheInfo}
-use Rattle.sled_pagecache.specs.declared.pagecache.config.Config.{Config}
-use Rattle.sled_pagecache.specs.declared.pagecache.journal.Journal.{Journal}
-use Rattle.sled_pagecache.specs.declared.pagecache.page.Kept.{Kept}
 use Rattle.sled_pagecache.specs.declared.pagecache.page.Kept.TheVariants as kept
-use Rattle.sled_pagecache.specs.declared.pagecache.page.Page.{Page}
 
 -- ---- a system page that is made
 
@@ -56,52 +18,51 @@ new-chain : (held : List Chain) (pid : ℕ) (entry : Entry) → pid ≡ length h
 new-chain held pid entry is = ap (λ b. cond b (held ++ (entry ∷ []) ∷ []) (set held pid (entry ∷ []))) (eq-eqb pid (length held) is)
 
 pub own-two : (pages : List Page) (page : Page) → length pages ≡ 1 → AreOwnSoFar pages → IsCounter page.kept → AreOwnSoFar (pages ++ page ∷ [])
-own-two [] page one own is = absurd (omega (arith, one))
 own-two (roots ∷ []) page one own is = (own, is, tt)
-own-two (roots ∷ next ∷ pages) page one own is = absurd (omega (arith, one))
+own-two pages page one own is = absurd (omega (arith, one))
 
 module _ {L : Type 0} (g : Ghosts L) where
   pub wrote-proceeds : (old new : Journal L) (pid : ℕ) (update : Update) (stamp : ℕ) (result : Result CacheInfo Refusal)
-      → ((pages : List Told) → g.left_since old.log (g.moment old.log) pages → IsLeft effect_of (told_state (g.state old.log)) [] pages)
+      → ((pages : List Told) → g.tells → (g.state old.log).usable ≡ true → g.left_since old.log (g.moment old.log) pages → IsLeft effect_of (told_state (g.state old.log)) [] pages)
       → old.fault ≡ false → (g.state old.log).usable ≡ true
-      → Wrote g.state g.moment g.left_since g.counts g.is_full old new pid update stamp result
+      → Wrote g.tells g.state g.moment g.left_since g.counts g.is_full old new pid update stamp result
       → Proceeds g old new (Change pid (message_of update) ∷ []) (refusal_in result)
   wrote-proceeds old new pid update stamp result only clear usable wrote = proceeds-told g old new (Change pid (message_of update)) result only clear usable wrote.went wrote.cause
 
-  module _ (old new : Journal L) (pid stamp : ℕ) (content : Content) (info : CacheInfo) (wrote : Wrote g.state g.moment g.left_since g.counts g.is_full old new pid (Put content) stamp (Ok info)) where
+  module _ (old new : Journal L) (pid stamp : ℕ) (content : Content) (info : CacheInfo) (wrote : Wrote g.tells g.state g.moment g.left_since g.counts g.is_full old new pid (Put content) stamp (Ok info)) where
     abbrev entry : Entry
     entry = placed (message_of (Put content)) (place_of info)
 
-    pub own-table : (pages before after : List Page) (page : Page) → IsTable (now effect_of_entry (g.state old.log)) pages
+    pub own-table : (pages before after : List Page) (page : Page) → IsTable g.tells (now effect_of_entry (g.state old.log)) pages
         → after ≡ before ++ page ∷ [] → before ≡ pages
         → pid ≡ length pages → pid < 2
         → effect_of (message_of (Put content)) ≡ effects.Replace
         → page.infos.items ≡ info ∷ []
         → ((chain : Chain) → Makes (told chain) content → HoldsChain chain page.kept)
         → AreOwnSoFar (pages ++ page ∷ [])
-        → IsTable (now effect_of_entry (g.state new.log)) after
+        → IsTable g.tells (now effect_of_entry (g.state new.log)) after
     own-table pages before after page table more same last few effect infos holds own =
-        let held = now effect_of_entry (g.state old.log) in
-        let long : length pages ≡ length held = AllZip-long IsKept held pages table.kept in
-        let is : now effect_of_entry (g.state new.log) ≡ held ++ (entry ∷ []) ∷ [] =
-        wrote.chains ∙ ap (λ kind. changed effect_of_entry kind held pid entry) effect ∙ new-chain held pid entry (last ∙ long) in
-        let kept : IsKept (entry ∷ []) page = record { places = λ _. sym (ap (map place_of) infos); long = sym (ap length infos); holds = holds (entry ∷ []) (content, wrote.is, refl) } in
         let one = ap length infos in
-        subst (IsTable (now effect_of_entry (g.state new.log))) (sym (more ∙ ap (λ (l : List Page). l ++ page ∷ []) same))
+        subst (IsTable g.tells (now effect_of_entry (g.state new.log))) (sym (more ∙ ap (λ (l : List Page). l ++ page ∷ []) same))
         (record {
-          kept = subst (λ (l : List Chain). AllZip IsKept l (pages ++ page ∷ [])) (sym is) (zip-append IsKept held pages ((entry ∷ []) ∷ []) (page ∷ []) table.kept (kept, tt));
-          own = own;
-          short = all-append _ pages (page ∷ []) table.short ((omega (arith, one)), tt);
+          kept = λ known.
+              let held = now effect_of_entry (g.state old.log) in
+              let long : length pages ≡ length held = AllZip-long IsKept held pages (table.kept known) in
+              let is : now effect_of_entry (g.state new.log) ≡ held ++ (entry ∷ []) ∷ [] =
+              wrote.chains known ∙ ap (λ kind. changed effect_of_entry kind held pid entry) effect ∙ new-chain held pid entry (last ∙ long) in
+              let kept : IsKept (entry ∷ []) page = record { places = λ _. sym (ap (map place_of) infos); long = sym (ap length infos); holds = holds (entry ∷ []) (content, wrote.is, refl) } in
+              subst (λ (l : List Chain). AllZip IsKept l (pages ++ page ∷ [])) (sym is) (zip-append IsKept held pages ((entry ∷ []) ∷ []) (page ∷ []) (table.kept known) (kept, tt));
+          hold = (own, all-append _ pages (page ∷ []) table.hold.1 ((omega (arith, one)), tt));
           few = let l = length-append pages (page ∷ []) in omega (arith, l, last, few);
-          chains_are = went-chains g.state g.moment g.left_since g.counts old new (Change pid (message_of (Put content)) ∷ []) wrote.went wrote.cause.fault table.chains_are;
+          chains_are = λ known. went-chains g.tells g.state g.moment g.left_since g.counts old new (Change pid (message_of (Put content)) ∷ []) wrote.went known wrote.cause.fault (table.chains_are known);
           sized = wrote.sized;
         })
 
   -- the page of the named roots, of which there are none
   pub wrote-roots : (old new : Journal L) (stamp : ℕ) (result : Result CacheInfo Refusal) (roots : meta.Roots) (pages : List Page)
-      → ((pages : List Told) → g.left_since old.log (g.moment old.log) pages → IsLeft effect_of (told_state (g.state old.log)) [] pages)
+      → ((pages : List Told) → g.tells → (g.state old.log).usable ≡ true → g.left_since old.log (g.moment old.log) pages → IsLeft effect_of (told_state (g.state old.log)) [] pages)
       → old.fault ≡ false → (g.state old.log).usable ≡ true → roots ≡ [] → pages ≡ []
-      → Wrote g.state g.moment g.left_since g.counts g.is_full old new 0 (Put (contents.Roots roots)) stamp result
+      → Wrote g.tells g.state g.moment g.left_since g.counts g.is_full old new 0 (Put (contents.Roots roots)) stamp result
       → Proceeds g old new (told_of_roots pages) (refusal_in result)
   wrote-roots old new stamp result roots pages only clear usable none empty wrote =
       subst (λ (l : List Page). Proceeds g old new (told_of_roots l) (refusal_in result)) (sym empty)
@@ -116,18 +77,6 @@ own-first (other ∷ pages) page none is = (let e = none in cc)
 
 pub too-many : (held : List Chain) (states : List PageState) (most : ℕ) → AllZip IsPageState held states → most < length states → most < length held
 too-many held states most are more = let long : length states ≡ length held = AllZip-long IsPageState held states are in omega (arith, long, more)
-
-pub are-recovered : (held : List Chain) (states : List PageState) (pages : List Page) → AllZip IsPageState held states
-    → ((other : List Chain) → AllZip IsPageState other states → AllZip IsLoaded other pages)
-    → AllByRecursion (λ page. IsUnread page.kept) pages
-    → length states ≤ 2 ^ 37
-    → AllByRecursion (λ chain. is_chain effect_of_entry chain ≡ true) held → AllByRecursion IsSized held
-    → AreRecovered held pages
-are-recovered held states pages are loaded unread few chains_are sized =
-    let all = loaded held are in
-    let long : length states ≡ length held = AllZip-long IsPageState held states are in
-    let wide : length pages ≡ length held = AllZip-long IsLoaded held pages all in
-    record { loaded = all; unread = unread; few = omega (arith, long, wide, few); chains_are = chains_are; sized = sized }
 
 -- ---- the contents of the system pages
 
@@ -146,67 +95,44 @@ loaded-with chain page other content is own makes stamp infos holds = record {
 unread-node : (held : Kept) → IsUnread held → IsFreeOrNode held
 unread-node kept.Free unread = tt
 unread-node kept.Away unread = tt
-unread-node (kept.Counter n) unread = absurd unread
-unread-node (kept.Roots roots) unread = absurd unread
-unread-node (kept.Node node) unread = absurd unread
+unread-node held unread = absurd unread
 
 all-unread-nodes : (pages : List Page) → AllByRecursion (λ page. IsUnread page.kept) pages → AllByRecursion (λ page. IsFreeOrNode page.kept) pages
 all-unread-nodes [] all = tt
 all-unread-nodes (page ∷ pages) all = (unread-node page.kept all.0, all-unread-nodes pages all.1)
 
 -- the second page, where the first was read
-pub second-loaded : (held then : List Chain) (pages : List Page) (other page : Page) → AreRecovered held pages → then ≡ held → 1 < length pages → page ≡ get_or (set pages 0 other) 1 page
+pub second-loaded : {tells : Type 0} (held then : List Chain) (pages : List Page) (other page : Page) → AreRecovered tells held pages → tells → then ≡ held → 1 < length pages → page ≡ get_or (set pages 0 other) 1 page
     → IsLoaded (slice_index_or then 1 []) page
-second-loaded held then [] other page are same long is = absurd (omega (arith, long))
-second-loaded held then (p ∷ []) other page are same long is = absurd (omega (arith, long))
-second-loaded [] then (p ∷ q ∷ pages) other page are same long is = absurd are.loaded
-second-loaded (c ∷ []) then (p ∷ q ∷ pages) other page are same long is = absurd are.loaded.1
-second-loaded (c ∷ d ∷ held) then (p ∷ q ∷ pages) other page are same long is =
-    subst (λ (l : List Chain). IsLoaded (slice_index_or l 1 []) page) (sym same) (subst (IsLoaded d) (sym is) are.loaded.1.0)
+second-loaded [] then (p ∷ q ∷ pages) other page are known same long is = absurd (are.kept known)
+second-loaded (c ∷ []) then (p ∷ q ∷ pages) other page are known same long is = absurd (are.kept known).1
+second-loaded (c ∷ d ∷ held) then (p ∷ q ∷ pages) other page are known same long is =
+    subst (λ (l : List Chain). IsLoaded (slice_index_or l 1 []) page) (sym same) (subst (IsLoaded d) (sym is) (are.kept known).1.0)
+second-loaded held then pages other page are known same long is = absurd (omega (arith, long))
 
-module _ (held : List Chain) (roots : meta.Roots) (n : ℕ) (makes : Makes (told (slice_index_or held 0 [])) (contents.Roots roots)) where
-  pub read-both : (then : List Chain) (pages : List Page) (p q first second : Page) → then ≡ held → AreRecovered held pages → 1 < length pages
+module _ {tells : Type 0} (held : List Chain) (roots : meta.Roots) (n : ℕ) (makes : tells → Makes (told (slice_index_or held 0 [])) (contents.Roots roots)) where
+  pub read-both : (then : List Chain) (pages : List Page) (p q first second : Page) → (tells → then ≡ held) → AreRecovered tells held pages → 1 < length pages
       → p ≡ get_or pages 0 p → first.stamp ≡ p.stamp → first.infos.items ≡ p.infos.items → first.kept ≡ kept.Roots roots
       → q ≡ get_or (set pages 0 first) 1 q → second.stamp ≡ q.stamp → second.infos.items ≡ q.infos.items → second.kept ≡ kept.Counter n
-      → Makes (told (slice_index_or then 1 [])) (contents.Counter n)
-      → AreRead held (set (set pages 0 first) 1 second) (Some n)
-  read-both then [] p q first second same are long p-is p-stamp p-infos p-kept q-is q-stamp q-infos q-kept counts = absurd (omega (arith, long))
-  read-both then (x ∷ []) p q first second same are long p-is p-stamp p-infos p-kept q-is q-stamp q-infos q-kept counts = absurd (omega (arith, long))
-  read-both then (x ∷ y ∷ pages) p q first second same are long p-is p-stamp p-infos p-kept q-is q-stamp q-infos q-kept counts = by held makes same are
+      → (tells → Makes (told (slice_index_or then 1 [])) (contents.Counter n))
+      → AreRead tells held (set (set pages 0 first) 1 second) (Some n)
+  read-both then (x ∷ y ∷ pages) p q first second same are long p-is p-stamp p-infos p-kept q-is q-stamp q-infos q-kept counts = record {
+    kept = λ known. by held (makes known) (same known) (are.kept known) (counts known);
+    hold = (subst IsRoots (sym p-kept) tt, n, q-kept, refl, are.hold.1.1);
+    few = are.few;
+    chains_are = are.chains_are;
+    sized = are.sized;
+  }
     where
-      by : (held : List Chain) → Makes (told (slice_index_or held 0 [])) (contents.Roots roots) → then ≡ held → AreRecovered held (x ∷ y ∷ pages)
-          → AreRead held (set (set (x ∷ y ∷ pages) 0 first) 1 second) (Some n)
-      by [] makes same are = absurd are.loaded
-      by (c ∷ []) makes same are = absurd are.loaded.1
-      by (c ∷ d ∷ rest) makes same are =
-          let counted : Makes (told d) (contents.Counter n) = subst (λ (l : List Chain). Makes (told (slice_index_or l 1 [])) (contents.Counter n)) same counts in
-          record {
-            loaded = (
-              loaded-with c p first (contents.Roots roots) (subst (IsLoaded c) (sym p-is) are.loaded.0) tt makes p-stamp p-infos (subst (HoldsChain c) (sym p-kept) makes),
-              (loaded-with d q second (contents.Counter n) (subst (IsLoaded d) (sym q-is) are.loaded.1.0) tt counted q-stamp q-infos (subst (HoldsChain d) (sym q-kept) counted), are.loaded.1.1),
-            );
-            found = (subst IsRoots (sym p-kept) tt, n, q-kept, refl, are.unread.1.1);
-            few = are.few;
-            chains_are = are.chains_are;
-            sized = are.sized;
-          }
-
-  pub read-first : (pages : List Page) (p first : Page) → AreRecovered held pages → length pages ≡ 1
-      → p ≡ get_or pages 0 p → first.stamp ≡ p.stamp → first.infos.items ≡ p.infos.items → first.kept ≡ kept.Roots roots
-      → AreRead held (set pages 0 first) None
-  read-first [] p first are one p-is p-stamp p-infos p-kept = absurd (omega (arith, one))
-  read-first (x ∷ y ∷ pages) p first are one p-is p-stamp p-infos p-kept = absurd (omega (arith, one))
-  read-first (x ∷ []) p first are one p-is p-stamp p-infos p-kept = by held makes are
-    where
-      by : (held : List Chain) → Makes (told (slice_index_or held 0 [])) (contents.Roots roots) → AreRecovered held (x ∷ []) → AreRead held (set (x ∷ []) 0 first) None
-      by [] makes are = absurd are.loaded
-      by (c ∷ rest) makes are = record {
-        loaded = (loaded-with c p first (contents.Roots roots) (subst (IsLoaded c) (sym p-is) are.loaded.0) tt makes p-stamp p-infos (subst (HoldsChain c) (sym p-kept) makes), are.loaded.1);
-        found = (subst IsRoots (sym p-kept) tt, refl);
-        few = are.few;
-        chains_are = are.chains_are;
-        sized = are.sized;
-      }
+      by : (held : List Chain) → Makes (told (slice_index_or held 0 [])) (contents.Roots roots) → then ≡ held → AllZip IsLoaded held (x ∷ y ∷ pages) → Makes (told (slice_index_or then 1 [])) (contents.Counter n)
+          → AllZip IsLoaded held (set (set (x ∷ y ∷ pages) 0 first) 1 second)
+      by (c ∷ d ∷ rest) makes same loaded counts =
+          let counted : Makes (told d) (contents.Counter n) = subst (λ (l : List Chain). Makes (told (slice_index_or l 1 [])) (contents.Counter n)) same counts in (
+            loaded-with c p first (contents.Roots roots) (subst (IsLoaded c) (sym p-is) loaded.0) tt makes p-stamp p-infos (subst (HoldsChain c) (sym p-kept) makes),
+            (loaded-with d q second (contents.Counter n) (subst (IsLoaded d) (sym q-is) loaded.1.0) tt counted q-stamp q-infos (subst (HoldsChain d) (sym q-kept) counted), loaded.1.1),
+          )
+      by held makes same loaded counts = absurd (assumption loaded)
+  read-both then pages p q first second same are long p-is p-stamp p-infos p-kept q-is q-stamp q-infos q-kept counts = absurd (omega (arith, long))
 
 -- ---- why they weren't read
 
@@ -216,16 +142,13 @@ first-fits [] roots makes before lt = tt
 first-fits (c ∷ held) roots makes zero lt = (roots, makes)
 first-fits (c ∷ held) roots makes (suc before) lt = absurd (omega (arith, lt))
 
-pub own-refuses : (pid : ℕ) (held then : List Chain) (pages : List Page) (refusal : Refusal) → then ≡ held → AreRecovered held pages → pid < length pages
+pub own-refuses : {tells : Type 0} (pid : ℕ) (held then : List Chain) (pages : List Page) (refusal : Refusal) → then ≡ held → AreRecovered tells held pages → tells → pid < length pages
     → ((before : ℕ) → before < pid → IfSome (slice_get held before) (IsFit before))
     → RefusesOwn pid (slice_index_or then pid []) refusal → RefusesPages held refusal
-own-refuses pid held then pages OutOfMemory same are lt first r = tt
-own-refuses pid held then pages (Io device) same are lt first r = tt
-own-refuses pid held then pages (Corruption None) same are lt first r = absurd r
-own-refuses pid held then pages (Unsupported why) same are lt first r = absurd r
-own-refuses pid held then pages (ReportableBug bug) same are lt first r = absurd r
-own-refuses pid held then pages (Corruption (Some pointer)) same are lt first r =
-    let long : length pages ≡ length held = AllZip-long IsLoaded held pages are.loaded in
+own-refuses pid held then pages OutOfMemory same are known lt first r = tt
+own-refuses pid held then pages (Io device) same are known lt first r = tt
+own-refuses pid held then pages (Corruption (Some pointer)) same are known lt first r =
+    let long : length pages ≡ length held = AllZip-long IsLoaded held pages (are.kept known) in
     let few = are.few in
     let so : RefusesOwn pid (slice_index_or held pid []) (Corruption (Some pointer)) = subst (λ (l : List Chain). RefusesOwn pid (slice_index_or l pid []) (Corruption (Some pointer))) same r in (
       omega (arith, long, few),
@@ -238,44 +161,36 @@ own-refuses pid held then pages (Corruption (Some pointer)) same are lt first r 
         begins = so.1;
       },
     )
+own-refuses pid held then pages refusal same are known lt first r = absurd r
 
 -- ---- the first page that no cache leaves so
 
 roots-fit : (chain : Chain) (held : Kept) → IsRoots held → HoldsChain chain held → IsFit 0 chain
 roots-fit chain (kept.Roots roots) is holds = (roots, holds)
-roots-fit chain kept.Free is holds = absurd is
-roots-fit chain kept.Away is holds = absurd is
-roots-fit chain (kept.Counter n) is holds = absurd is
-roots-fit chain (kept.Node node) is holds = absurd is
+roots-fit chain held is holds = absurd is
 
 short-by : (pid : ℕ) (page : Page) → is_misfit pid page ≡ false → length page.infos.items ≤ 10
-short-by pid page fits = by (ltb 10 (length page.infos.items)) (ltb pid 2 && (is_free page.kept || ltb 1 (length page.infos.items))) refl fits
-  where
-    by : (long other : Bool) → ltb 10 (length page.infos.items) ≡ long → (long || other) ≡ false → length page.infos.items ≤ 10
-    by false other is none = ltb-false 10 (length page.infos.items) is
-    by true other is none = absurd (false≢true (sym none))
+short-by pid page fits = grind (arith, nat_tests)
 
 later-fit : (pid k : ℕ) (held : List Chain) (pages : List Page) → AllZip IsLoaded held pages
     → IfSome (slice_get pages k) (λ page. is_misfit pid page ≡ false) → IfSome (slice_get held k) (λ chain. length chain ≤ 10)
 later-fit pid k [] [] loaded fits = tt
-later-fit pid k [] (p ∷ pages) loaded fits = absurd loaded
-later-fit pid k (c ∷ held) [] loaded fits = absurd loaded
 later-fit pid zero (c ∷ held) (p ∷ pages) loaded fits =
     let short = short-by pid p fits in
     let same = lengths c p.infos.items loaded.0.at in
     omega (arith, short, same)
 later-fit pid (suc k) (c ∷ held) (p ∷ pages) loaded fits = later-fit pid k held pages loaded.1 fits
+later-fit pid k held pages loaded fits = absurd loaded
 
 fits-at : (held : List Chain) (pages : List Page) (counter : Option ℕ) → AllZip IsLoaded held pages → AreFound pages counter
     → (k : ℕ) → IfSome (slice_get pages k) (λ page. is_misfit k page ≡ false) → IfSome (slice_get held k) (IsFit k)
-fits-at [] pages counter loaded found k fits = tt
 fits-at (c ∷ held) [] counter loaded found k fits = absurd loaded
 fits-at (c ∷ held) (p ∷ []) counter loaded found zero fits = roots-fit c p.kept found.0 loaded.0.kept.holds
 fits-at (c ∷ held) (p ∷ q ∷ pages) counter loaded found zero fits = roots-fit c p.kept found.0 loaded.0.kept.holds
-fits-at (c ∷ []) (p ∷ pages) counter loaded found (suc k) fits = tt
 fits-at (c ∷ d ∷ held) (p ∷ []) counter loaded found (suc k) fits = absurd loaded.1
 fits-at (c ∷ d ∷ held) (p ∷ q ∷ pages) counter loaded found (suc zero) fits = (found.1, subst (HoldsChain d) found.2 loaded.1.0.kept.holds)
 fits-at (c ∷ d ∷ held) (p ∷ q ∷ pages) counter loaded found (suc (suc k)) fits = later-fit (suc (suc k)) k held pages loaded.1.1 fits
+fits-at held pages counter loaded found k fits = tt
 
 loaded-at : (held : List Chain) (pages : List Page) (k : ℕ) (page : Page) → AllZip IsLoaded held pages → slice_get pages k ≡ Some page
     → (chain : Chain) × (slice_get held k ≡ Some chain) × IsLoaded chain page
@@ -284,27 +199,19 @@ loaded-at [] (p ∷ pages) k page loaded is = absurd loaded
 loaded-at (c ∷ held) (p ∷ pages) zero page loaded is = (c, refl, subst (IsLoaded c) (same_Some p page is) loaded.0)
 loaded-at (c ∷ held) (p ∷ pages) (suc k) page loaded is = loaded-at held pages k page loaded.1 is
 
-first-pointer : (chain : Chain) (infos : List CacheInfo) (pointer : DiskPtr) → map freed_of chain ≡ map freed_at infos
-    → slice_get (map (λ (info : CacheInfo). info.pointer) infos) 0 ≡ Some pointer → slice_get (map (λ (entry : Entry). entry.place.pointer) chain) 0 ≡ Some pointer
-first-pointer chain [] pointer at is = absurd (none-some pointer is)
-first-pointer [] (info ∷ infos) pointer at is = (let e = at in cc)
-first-pointer (entry ∷ chain) (info ∷ infos) pointer at is =
-    let same : freed_of entry ≡ freed_at info = (let e = at in cc) in
-    ap (λ (at : ℤ × DiskPtr). Some at.1) same ∙ is
-
-pub begins-amiss : (held : List Chain) (pages : List Page) (counter : Option ℕ) (pointer : DiskPtr) → AreRead held pages counter → BeginsMisfit pages pointer
+pub begins-amiss : {tells : Type 0} (held : List Chain) (pages : List Page) (counter : Option ℕ) (pointer : DiskPtr) → AreRead tells held pages counter → tells → BeginsMisfit pages pointer
     → RefusesPages held (Corruption (Some pointer))
-begins-amiss held pages counter pointer are begins =
-    let long : length pages ≡ length held = AllZip-long IsLoaded held pages are.loaded in
+begins-amiss held pages counter pointer are known begins =
+    let long : length pages ≡ length held = AllZip-long IsLoaded held pages (are.kept known) in
     let few = are.few in
-    let at = loaded-at held pages begins.pid begins.page are.loaded begins.is in (
+    let at = loaded-at held pages begins.pid begins.page (are.kept known) begins.is in (
       omega (arith, long, few),
       record {
         pid = begins.pid;
         chain = at.0;
         is = at.1;
         amiss = misfit-unfit begins.pid at.0 begins.page at.2 begins.misfit;
-        first = λ before lt. fits-at held pages counter are.loaded are.found before (begins.first before lt);
+        first = λ before lt. fits-at held pages counter (are.kept known) are.hold before (begins.first before lt);
         begins = first-pointer at.0 begins.page.infos.items pointer at.2.at begins.begins;
       },
     )
@@ -313,9 +220,8 @@ begins-amiss held pages counter pointer are begins =
 
 all-kept : (held : List Chain) (pages : List Page) → AllZip IsLoaded held pages → AllZip IsKept held pages
 all-kept [] [] loaded = tt
-all-kept [] (p ∷ pages) loaded = absurd loaded
-all-kept (c ∷ held) [] loaded = absurd loaded
 all-kept (c ∷ held) (p ∷ pages) loaded = (loaded.0.kept, all-kept held pages loaded.1)
+all-kept held pages loaded = absurd loaded
 
 all-short : (n : ℕ) (pages : List Page) → ((k : ℕ) → IfSome (slice_get pages k) (λ page. is_misfit (n + k) page ≡ false)) → AllByRecursion (λ page. length page.infos.items ≤ 10) pages
 all-short n [] fit = tt
@@ -327,26 +233,32 @@ own-found [] counter found = tt
 own-found (p ∷ []) counter found = found.0
 own-found (p ∷ q ∷ pages) counter found = (found.0, subst IsCounter (sym found.2) tt, all-unread-nodes pages found.4)
 
-pub read-table : (held then : List Chain) (pages : List Page) (counter : Option ℕ) → then ≡ held → AreRead held pages counter → AllFit pages → IsTable then pages
-read-table held then pages counter same are fit =
-    subst (λ (l : List Chain). IsTable l pages) (sym same)
-    (record {
-      kept = all-kept held pages are.loaded;
-      own = own-found pages counter are.found;
-      short = all-short 0 pages (λ k. subst (λ m. IfSome (slice_get pages k) (λ (page : Page). is_misfit m page ≡ false)) (let e : k ≡ 0 + k = omega arith in e) (fit k));
-      few = are.few;
-      chains_are = are.chains_are;
-      sized = are.sized;
-    })
+pub read-table : (tells : Type 0) (held : List Chain) (pages : List Page) (counter : Option ℕ) → AreRead tells held pages counter → AllFit pages → IsTable tells held pages
+read-table tells held pages counter are fit = record {
+  kept = λ known. all-kept held pages (are.kept known);
+  hold = (own-found pages counter are.hold, all-short 0 pages (λ k. subst (λ m. IfSome (slice_get pages k) (λ (page : Page). is_misfit m page ≡ false)) (let e : k ≡ 0 + k = omega arith in e) (fit k)));
+  few = are.few;
+  chains_are = are.chains_are;
+  sized = are.sized;
+}
+
+-- where the chains are the same
+pub read-from : (tells : Type 0) {held then : List Chain} {pages : List Page} {counter : Option ℕ} → (tells → then ≡ held) → AreRead tells then pages counter → AreRead tells held pages counter
+read-from tells {held} {then} {pages} {counter} same are = record {
+  kept = λ known. subst (λ (l : List Chain). AllZip IsLoaded l pages) (same known) (are.kept known);
+  hold = are.hold;
+  few = are.few;
+  chains_are = λ known. subst (λ (l : List Chain). AllByRecursion (λ chain. is_chain effect_of_entry chain ≡ true) l) (same known) (are.chains_are known);
+  sized = λ known. subst (λ (l : List Chain). AllByRecursion IsSized l) (same known) (are.sized known);
+}
 
 all-fresh : (held : List Chain) (pages : List Page) → AllZip IsLoaded held pages → stamps_in pages ≡ map (λ _. 0) pages
 all-fresh [] [] loaded = refl
-all-fresh [] (p ∷ pages) loaded = absurd loaded
-all-fresh (c ∷ held) [] loaded = absurd loaded
 all-fresh (c ∷ held) (p ∷ pages) loaded = ap (λ n. n ∷ stamps_in pages) loaded.0.stamp ∙ ap (λ (l : List ℕ). 0 ∷ l) (all-fresh held pages loaded.1)
+all-fresh held pages loaded = absurd loaded
 
-pub read-fresh : (held : List Chain) (pages : List Page) (counter : Option ℕ) → AreRead held pages counter → stamps_in pages ≡ map (λ _. 0) pages
-read-fresh held pages counter are = all-fresh held pages are.loaded
+pub read-fresh : {tells : Type 0} (held : List Chain) (pages : List Page) (counter : Option ℕ) → AreRead tells held pages counter → tells → stamps_in pages ≡ map (λ _. 0) pages
+read-fresh held pages counter are known = all-fresh held pages (are.kept known)
 
 -- ---- which contents lie in memory
 
@@ -355,16 +267,14 @@ all-at [] k all = tt
 all-at (p ∷ pages) zero all = all.0
 all-at (p ∷ pages) (suc k) all = all-at pages k all.1
 
-pub read-unread : (held : List Chain) (pages : List Page) (counter : Option ℕ) → AreRead held pages counter → (pid : ℕ) → 2 ≤ pid → IfSome (slice_get pages pid) (λ page. IsUnread page.kept)
-read-unread held pages counter are = by pages are.found
+pub read-unread : {tells : Type 0} (held : List Chain) (pages : List Page) (counter : Option ℕ) → AreRead tells held pages counter → (pid : ℕ) → 2 ≤ pid → IfSome (slice_get pages pid) (λ page. IsUnread page.kept)
+read-unread held pages counter are = by pages are.hold
   where
     by : (pages : List Page) → AreFound pages counter → (pid : ℕ) → 2 ≤ pid → IfSome (slice_get pages pid) (λ page. IsUnread page.kept)
     by [] found pid from = tt
-    by (p ∷ []) found zero from = absurd (omega (arith, from))
     by (p ∷ []) found (suc pid) from = tt
-    by (p ∷ q ∷ pages) found zero from = absurd (omega (arith, from))
-    by (p ∷ q ∷ pages) found (suc zero) from = absurd (omega (arith, from))
     by (p ∷ q ∷ pages) found (suc (suc pid)) from = all-at pages pid found.4
+    by pages found pid from = absurd (omega (arith, from))
 
 -- no page is there
 pub past-both : (old new : List Page) → length old < 2 → length new ≡ 2 → (pid : ℕ) → 2 ≤ pid → slice_get new pid ≡ slice_get old pid
@@ -373,9 +283,7 @@ past-both old new few two pid from = slice_get_past new pid (omega (arith, two, 
 unread-empty : (chain : Chain) (held : Kept) → HoldsChain chain held → IsUnread held → is_resident held ≡ true → is_empty effect_of_entry chain ≡ true
 unread-empty chain kept.Free holds unread is = holds
 unread-empty chain kept.Away holds unread is = absurd (false≢true is)
-unread-empty chain (kept.Counter n) holds unread is = absurd unread
-unread-empty chain (kept.Roots roots) holds unread is = absurd unread
-unread-empty chain (kept.Node node) holds unread is = absurd unread
+unread-empty chain held holds unread is = absurd unread
 
 pub resident-empty : (held : List Chain) (pages : List Page) → AllZip IsKept held pages → (pid : ℕ) → IfSome (slice_get pages pid) (λ page. IsUnread page.kept)
     → slice_get (resident_in pages) pid ≡ Some true → is_empty effect_of_entry (slice_index_or held pid []) ≡ true
@@ -386,107 +294,102 @@ resident-empty (c ∷ held) (p ∷ pages) all (suc pid) unread is = resident-emp
 
 -- ---- what is told of the pages that are missing
 
-pub told-split : {X : Type 0} (pages : List X) → length pages < 2 → told_of_roots pages ++ counter_told ∷ [] ≡ told_at_start pages
-told-split [] few = refl
-told-split (p ∷ []) few = refl
+told-split : {X : Type 0} (pages : List X) → length pages < 2 → told_of_roots pages ++ counter_told ∷ [] ≡ told_at_start pages
 told-split (p ∷ q ∷ pages) few = absurd (omega (arith, few))
+told-split pages few = refl
 
 pub told-same : {X Y : Type 0} (pages : List X) (others : List Y) → length pages ≡ length others → told_at_start pages ≡ told_at_start others
-told-same [] [] long = refl
-told-same [] (y ∷ others) long = absurd (omega (arith, long))
-told-same (x ∷ pages) [] long = absurd (omega (arith, long))
-told-same (x ∷ []) (y ∷ []) long = refl
-told-same (x ∷ []) (y ∷ z ∷ others) long = absurd (omega (arith, long))
-told-same (x ∷ w ∷ pages) (y ∷ []) long = absurd (omega (arith, long))
-told-same (x ∷ w ∷ pages) (y ∷ z ∷ others) long = refl
+told-same pages others long = ap (λ n. drop n (roots_told ∷ counter_told ∷ [])) long
 
-pub read-told : (held : List Chain) (pages : List Page) (counter : Option ℕ) → AreRead held pages counter → told_at_start pages ≡ told_at_start held
-read-told held pages counter are = told-same pages held (AllZip-long IsLoaded held pages are.loaded)
+pub read-told : {tells : Type 0} (held : List Chain) (pages : List Page) (counter : Option ℕ) → AreRead tells held pages counter → tells → told_at_start pages ≡ told_at_start held
+read-told held pages counter are known = told-same pages held (AllZip-long IsLoaded held pages (are.kept known))
 
-pub read-fewer : (held : List Chain) (pages : List Page) (counter : Option ℕ) → AreRead held pages counter → length held < 2 → length pages < 2
-read-fewer held pages counter are few = let long : length pages ≡ length held = AllZip-long IsLoaded held pages are.loaded in omega (arith, long, few)
+pub read-fewer : {tells : Type 0} (held : List Chain) (pages : List Page) (counter : Option ℕ) → AreRead tells held pages counter → tells → length held < 2 → length pages < 2
+read-fewer held pages counter are known few = let long : length pages ≡ length held = AllZip-long IsLoaded held pages (are.kept known) in omega (arith, long, few)
 
-told-closed : {X : Type 0} (pages : List X) → open_after false (told_at_start pages) ≡ false
-told-closed [] = refl
-told-closed (p ∷ []) = refl
-told-closed (p ∷ q ∷ pages) = refl
+pub none-missing : {X : Type 0} (pages : List X) → 1 < length pages → told_at_start pages ≡ []
+none-missing (p ∷ q ∷ pages) both = drop-nil (length pages)
+none-missing pages both = absurd (omega (arith, both))
 
-roots-closed : {X : Type 0} (pages : List X) → open_after false (told_of_roots pages) ≡ false
-roots-closed [] = refl
-roots-closed (p ∷ pages) = refl
+-- however many of them came, no batch is open
+pub changes-closed : (n : ℕ) (came rest : List (Event Message)) → came ++ rest ≡ drop n (roots_told ∷ counter_told ∷ []) → open_after false came ≡ false
+changes-closed n came rest is = ap (open_after false) (sym (take-append_seam came rest) ∙ ap (take (length came)) is) ∙ by (length came) n
+  where
+    by : (k n : ℕ) → open_after false (take k (drop n (roots_told ∷ counter_told ∷ []))) ≡ false
+    by zero n = refl
+    by (suc zero) zero = refl
+    by (suc (suc k)) zero = rw (take-nil {A = Event Message} k) refl
+    by (suc k) (suc zero) = rw (take-nil {A = Event Message} k) refl
+    by (suc k) (suc (suc n)) = rw (drop-nil {A = Event Message} n) refl
+
+pub told-closed : {X : Type 0} (pages : List X) → open_after false (told_at_start pages) ≡ false
+told-closed pages = changes-closed (length pages) (told_at_start pages) [] (append-nil (told_at_start pages))
 
 module _ {L : Type 0} (g : Ghosts L) where
   -- no batch is open then
   pub stays-closed : (old new : Journal L) (events : List (Event Message)) → Proceeds g old new events None
       → is_open (g.state old.log).pending ≡ false → open_after false events ≡ false → is_open (g.state new.log).pending ≡ false
-  stays-closed old new events done closed marks =
-      sym (is_open-told (g.state new.log).pending) ∙ is_open-Went g.state g.moment g.left_since g.counts old new events done.reaches done.fault
-      ∙ ap (λ b. open_after b events) (is_open-told (g.state old.log).pending ∙ closed) ∙ marks
+  stays-closed old new events done closed marks = done.reaches.opened done.fault ∙ ap (λ b. open_after b events) closed ∙ marks
 
-  -- the pages that are missing were made
-  pub missing-closed : {X : Type 0} (old mid new : Journal L) (pages : List X) → Proceeds g old mid (told_of_roots pages) None → Proceeds g mid new (counter_told ∷ []) None
-      → is_open (g.state old.log).pending ≡ false → is_open (g.state new.log).pending ≡ false
-  missing-closed old mid new pages one two closed =
-      stays-closed mid new (counter_told ∷ []) two (stays-closed old mid (told_of_roots pages) one closed (roots-closed pages)) refl
+  -- the pages that are missing are made
+  module _ {X : Type 0} (old mid : Journal L) (pages : List X) (few : length pages < 2) where
+    pub missing-first : (refusal : Refusal) → Proceeds g old mid (told_of_roots pages) (Some refusal) → Proceeds g old mid (told_at_start pages) (Some refusal)
+    missing-first refusal one =
+        subst (λ (l : List (Event Message)). Proceeds g old mid l (Some refusal)) (told-split pages few) (proceeds-first g old mid (told_of_roots pages) (counter_told ∷ []) refusal one)
+
+    pub missing-both : (new : Journal L) (refusal : Option Refusal) → Proceeds g old mid (told_of_roots pages) None → Proceeds g mid new (counter_told ∷ []) refusal → Proceeds g old new (told_at_start pages) refusal
+    missing-both new refusal one two =
+        subst (λ (l : List (Event Message)). Proceeds g old new l refusal) (told-split pages few) (proceeds-then g old mid new (told_of_roots pages) (counter_told ∷ []) refusal one two)
+
+    pub missing-some : told_at_start pages ≡ [] → ⊥
+    missing-some none = (let e = nil-right (told_of_roots pages) (counter_told ∷ []) (told-split pages few ∙ none) in cc)
 
   -- what always holds of a cache
-  pub start-closed : {X : Type 0} (old new : Journal L) (pages : List X) → Proceeds g old new (told_at_start pages) None → is_open (g.state old.log).pending ≡ false → is_open (g.state new.log).pending ≡ false
-  start-closed old new pages done closed = stays-closed old new (told_at_start pages) done closed (told-closed pages)
-
-  pub table-consistent : (old new : Journal L) (events : List (Event Message)) (pages : List Page) (free : List ℕ)
-      → Proceeds g old new events None → is_open (g.state new.log).pending ≡ false
-      → IsTable (now effect_of_entry (g.state new.log)) pages → 1 < length pages → free ≡ free_ids 0 pages
-      → IsConsistent g.state new pages free
-  table-consistent old new events pages free done closed table both frees = record {
-    beside = λ clear. record { usable = done.reaches.usable clear; closed = closed; kept = table.kept; chains = table.chains_are; sized = table.sized };
-    own = whole pages both table.own;
-    short = table.short;
+  pub table-consistent : {X : Type 0} (old new : Journal L) (before : List X) (pages : List Page) (free : List ℕ)
+      → Proceeds g old new (told_at_start before) None → is_open (g.state old.log).pending ≡ false
+      → IsTable g.tells (now effect_of_entry (g.state new.log)) pages → 1 < length pages → free ≡ free_ids 0 pages
+      → IsConsistent g.tells g.state new pages free
+  table-consistent old new before pages free done closed table both frees = record {
+    beside = λ clear. record { usable = done.reaches.usable clear; closed = stays-closed old new (told_at_start before) done closed (told-closed before); kept = table.kept; chains = table.chains_are; sized = table.sized };
+    own = whole pages both table.hold.0;
+    short = table.hold.1;
     few = table.few;
     free = frees;
   }
     where
       whole : (pages : List Page) → 1 < length pages → AreOwnSoFar pages → AreOwn pages
-      whole [] both own = absurd (omega (arith, both))
-      whole (p ∷ []) both own = absurd (omega (arith, both))
       whole (p ∷ q ∷ pages) both own = own
+      whole pages both own = absurd (omega (arith, both))
 
 -- ---- what the cache is opened with
 
 zeros : (pages : List Page) (held : List Content) → length pages ≡ length held → map (λ (p : Page). 0) pages ≡ map (λ (p : state.Page). p.stamp) (map (state.page 0) held ++ [])
 zeros [] [] long = refl
-zeros [] (c ∷ held) long = absurd (omega (arith, long))
-zeros (p ∷ pages) [] long = absurd (omega (arith, long))
 zeros (p ∷ pages) (c ∷ held) long = ap (λ (l : List ℕ). 0 ∷ l) (zeros pages held (omega (arith, long)))
+zeros pages held long = absurd (omega (arith, long))
 
 counted : (interval n : ℕ) (own : Kept) (counter : Option ℕ) (chain : Chain) (roots content : Content) (held : List Content)
-    → own ≡ kept.Counter n → counter ≡ Some n → HoldsChain chain own → Makes (told chain) content → next_id interval counter ≡ first_id interval (roots ∷ content ∷ held)
+    → own ≡ kept.Counter n → counter ≡ Some n → HoldsChain chain own → Holds (told chain) content → next_id interval counter ≡ first_id interval (roots ∷ content ∷ held)
 counted interval n own counter chain roots content held is some holds makes =
-    let same : contents.Counter n ≡ content = makes-one (told chain) (contents.Counter n) content (subst (HoldsChain chain) is holds) makes in
+    let same : contents.Counter n ≡ content = sym (holds-made (told chain) content (contents.Counter n) makes (subst (HoldsChain chain) is holds)) in
     ap (next_id interval) some ∙ ap (λ (c : Content). first_id interval (roots ∷ c ∷ held)) same
 
-pub opened-with : (config : Config) (chains : List Chain) (pages : List Page) (counter : Option ℕ) (stamps : List ℕ) (next : ℕ) (recovered : Bool)
-    → AreRead chains pages counter → stamps ≡ stamps_at_start pages → next ≡ next_id config.idgen_persist_interval counter → recovered ≡ is_some counter
+pub opened-with : {tells : Type 0} (config : Config) (chains : List Chain) (pages : List Page) (counter : Option ℕ) (stamps : List ℕ) (next : ℕ) (recovered : Bool)
+    → AreRead tells chains pages counter → tells → stamps ≡ stamps_at_start pages → next ≡ next_id config.idgen_persist_interval counter → recovered ≡ is_some counter
     → (held : List Content) → Hold (map told chains) held → IsOpenedWith config held stamps next recovered
-opened-with config chains pages counter stamps next recovered are stamps-are next-is recovered-is = by chains pages are.loaded are.found stamps-are
+opened-with config chains pages counter stamps next recovered are known stamps-are next-is recovered-is = by chains pages (are.kept known) are.hold stamps-are
   where
     by : (chains : List Chain) (pages : List Page) → AllZip IsLoaded chains pages → AreFound pages counter → stamps ≡ stamps_at_start pages
         → (held : List Content) → Hold (map told chains) held → IsOpenedWith config held stamps next recovered
     by [] [] loaded found stamps-are [] hold = record { stamps_are = stamps-are; next_is = next-is ∙ ap (next_id config.idgen_persist_interval) found; recovered_is = recovered-is ∙ ap is_some found }
-    by [] (p ∷ pages) loaded found stamps-are held hold = absurd loaded
-    by (c ∷ chains) [] loaded found stamps-are held hold = absurd loaded
-    by [] [] loaded found stamps-are (x ∷ held) hold = absurd hold
-    by (c ∷ chains) (p ∷ pages) loaded found stamps-are [] hold = absurd hold
     by (c ∷ []) (p ∷ []) loaded found stamps-are (x ∷ []) hold = record { stamps_are = stamps-are; next_is = next-is ∙ ap (next_id config.idgen_persist_interval) found.1; recovered_is = recovered-is ∙ ap is_some found.1 }
-    by (c ∷ []) (p ∷ []) loaded found stamps-are (x ∷ y ∷ held) hold = absurd hold.1
-    by (c ∷ []) (p ∷ q ∷ pages) loaded found stamps-are held hold = absurd loaded.1
-    by (c ∷ d ∷ chains) (p ∷ []) loaded found stamps-are held hold = absurd loaded.1
-    by (c ∷ d ∷ chains) (p ∷ q ∷ pages) loaded found stamps-are (x ∷ []) hold = absurd hold.1
     by (c ∷ d ∷ chains) (p ∷ q ∷ pages) loaded found stamps-are (x ∷ y ∷ held) hold =
         let wide : length pages ≡ length chains = AllZip-long IsLoaded chains pages loaded.1.1 in
-        let long : length held ≡ length (map told chains) = AllZip-long Makes (map told chains) held hold.1.1 in
+        let long : length held ≡ length (map told chains) = AllZip-long Holds (map told chains) held hold.1.1 in
         let same = length-map chains told in
         record {
-          stamps_are = stamps-are ∙ zeros (p ∷ q ∷ pages) (x ∷ y ∷ held) (omega (arith, wide, long, same));
+          stamps_are = rw (drop-nil {A = Content} (length held)) (stamps-are ∙ zeros (p ∷ q ∷ pages) (x ∷ y ∷ held) (omega (arith, wide, long, same)));
           next_is = next-is ∙ counted config.idgen_persist_interval found.1 q.kept counter d x y held found.2 found.3 loaded.1.0.kept.holds hold.1.0;
           recovered_is = recovered-is ∙ ap is_some found.3;
         }
+    by chains pages loaded found stamps-are held hold = absurd (assumption (loaded, hold))

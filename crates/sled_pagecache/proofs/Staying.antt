@@ -1,11 +1,5 @@
 -- Pages that stay as a cache leaves them, while messages come.
-use Rattle.std.proofs.Common.{ℕ, zero, suc, List, [], ◌∷◌, ◌++◌, take, drop}
-use Rattle.sled_log.specs.Chains.{chains_from, chains_after}
-use Rattle.sled_log.specs.Contents.{Content, Update, contents_from, contents_after}
-use Rattle.sled_log.specs.Events.{Event}
-use Rattle.sled_log.specs.Messages.{Message, Told, effect_of}
-use Rattle.sled_log.specs.Reading.{AreTold}
-use Rattle.sled_pagecache.specs.Proper.{IsProper, StayProper}
+use Rattle.sled_pagecache.proofs.Names.{ℕ, zero, suc, List, [], ◌∷◌, ◌++◌, take, drop, chains_from, chains_after, Content, Update, contents_from, contents_after, Event, Message, Told, effect_of, AreTold, IsProper, StayProper}
 
 -- no message comes
 pub stay-none : (pages : List Told) (contents : List Content) → IsProper pages contents → StayProper pages contents [] []
@@ -27,8 +21,7 @@ stay-append pages contents [] ns [] vs h first second n = second n
 stay-append pages contents (m ∷ ms) ns (u ∷ us) vs h first second zero = first zero
 stay-append pages contents (m ∷ ms) ns (u ∷ us) vs h first second (suc n) =
     stay-append (chains_from effect_of pages m) (contents_from contents u) ms ns us vs h.2 (λ k. first (suc k)) second n
-stay-append pages contents [] ns (u ∷ us) vs h first second n = absurd h
-stay-append pages contents (m ∷ ms) ns [] vs h first second n = absurd h
+stay-append pages contents ms ns us vs h first second n = absurd h
 
 -- a beginning of them comes
 pub stay-take : (k : ℕ) (pages : List Told) (contents : List Content) (ms : List (Event Message)) (us : List (Event Update))
@@ -38,8 +31,7 @@ stay-take (suc k) pages contents [] [] h stays n = stay-none pages contents (sta
 stay-take (suc k) pages contents (m ∷ ms) (u ∷ us) h stays zero = stays zero
 stay-take (suc k) pages contents (m ∷ ms) (u ∷ us) h stays (suc n) =
     stay-take k (chains_from effect_of pages m) (contents_from contents u) ms us h.2 (λ j. stays (suc j)) n
-stay-take (suc k) pages contents [] (u ∷ us) h stays n = absurd h
-stay-take (suc k) pages contents (m ∷ ms) [] h stays n = absurd h
+stay-take k pages contents ms us h stays n = absurd h
 
 -- those behind a cut come
 pub stay-drop : (cut : ℕ) (pages : List Told) (contents : List Content) (ms : List (Event Message)) (us : List (Event Update))
@@ -48,13 +40,11 @@ pub stay-drop : (cut : ℕ) (pages : List Told) (contents : List Content) (ms : 
 stay-drop zero pages contents ms us h stays = stays
 stay-drop (suc cut) pages contents [] [] h stays = stays
 stay-drop (suc cut) pages contents (m ∷ ms) (u ∷ us) h stays = stay-drop cut (chains_from effect_of pages m) (contents_from contents u) ms us h.2 (λ k. stays (suc k))
-stay-drop (suc cut) pages contents [] (u ∷ us) h stays = absurd h
-stay-drop (suc cut) pages contents (m ∷ ms) [] h stays = absurd h
+stay-drop cut pages contents ms us h stays = absurd h
 
 -- all of them have come
 pub stay-all : (pages : List Told) (contents : List Content) (ms : List (Event Message)) (us : List (Event Update))
     → AreTold contents ms us → StayProper pages contents ms us → IsProper (chains_after effect_of pages ms) (contents_after contents us)
 stay-all pages contents [] [] h stays = stays zero
 stay-all pages contents (m ∷ ms) (u ∷ us) h stays = stay-all (chains_from effect_of pages m) (contents_from contents u) ms us h.2 (λ k. stays (suc k))
-stay-all pages contents [] (u ∷ us) h stays = absurd h
-stay-all pages contents (m ∷ ms) [] h stays = absurd h
+stay-all pages contents ms us h stays = absurd h

@@ -1,33 +1,9 @@
 -- What always holds of a cache's table stays so where a page from 2 on changes, or one is added.
-use Rattle.std.proofs.Common.{◌≡◌, ◌≤◌, ◌<◌, ◌+◌, ◌^◌, ℕ, zero, suc, Bool, true, false, cond, List, [], ◌∷◌, ◌++◌, length, map, Some, Result, Ok, Err, slice_get, slice_set, refl, sym, ◌∙◌, ap, subst, arith}
-use Rattle.std.proofs.lemmas.List.{length-append, length-set}
-use Rattle.std.proofs.lemmas.Option.{none-some, same_Some}
-use Rattle.std.specs.List.{AllByRecursion, AllZip, list_all}
-use Rattle.sled_base.specs.declared.kinds.LogKind.{LogKind}
+use Rattle.sled_pagecache.proofs.Names.{◌≡◌, ◌≤◌, ◌<◌, ◌+◌, ◌^◌, ℕ, zero, suc, Bool, true, false, cond, List, [], ◌∷◌, ◌++◌, length, map, Some, Result, Ok, Err, slice_get, slice_set, refl, sym, ◌∙◌, ap, subst, arith, length-append, length-set, none-some, same_Some, AllByRecursion, AllZip, list_all, LogKind, Read, Write, Refusal, Io, is_open, open_after, Counts, is_linking, may_follow, is_chain, Event, Change, Message, Entry, Chain, Told, told, effect_of, effect_of_entry, IsSized, AreChains, chains-are, now-told, zip-append, zip-set, WholeNode, chain_at, Went, begun_by, now-Went, IsKept, is_free, free_ids, IsFreeOrNode, AreOwn, IsConsistent, Journal, Page}
 use Rattle.sled_base.specs.declared.kinds.LogKind.TheVariants as kinds
-use Rattle.sled_base.specs.declared.types.Device.TheVariants.{Read, Write}
-use Rattle.sled_base.specs.declared.types.Refusal.{Refusal}
-use Rattle.sled_base.specs.declared.types.Refusal.TheVariants.{Unsupported, ReportableBug, Io, Corruption, OutOfMemory}
-use Rattle.sled_log.specs.Batches.{is_open, open_after}
-use Rattle.sled_log.specs.Calls.{Counts}
-use Rattle.sled_log.specs.Chains.{is_linking, may_follow, is_chain}
-use Rattle.sled_log.specs.Events.{Event, Change}
-use Rattle.sled_log.specs.Messages.{Message, Entry, Chain, Told, told, effect_of, effect_of_entry}
-use Rattle.sled_log.specs.Pages.{IsSized}
-use Rattle.sled_log.specs.ShapeLaws.{AreChains, chains-are}
 use Rattle.sled_log.specs.State as log
-use Rattle.sled_log.specs.TellingLaws.{now-told, is_open-told}
-use Rattle.sled_log.specs.ZipLaws.{zip-append, zip-set}
-use Rattle.sled_node.specs.Node.{WholeNode}
 use Rattle.sled_pagecache.proofs.ProperPages.{all-set, all-append}
-use Rattle.sled_pagecache.specs.ChainReads.{chain_at}
-use Rattle.sled_pagecache.specs.Journal.{Went, begun_by}
-use Rattle.sled_pagecache.specs.JournalLaws.{now-Went, is_open-Went}
-use Rattle.sled_pagecache.specs.Pages.{IsKept, is_free, free_ids}
-use Rattle.sled_pagecache.specs.Table.{IsFreeOrNode, AreOwn, IsConsistent}
-use Rattle.sled_pagecache.specs.declared.pagecache.journal.Journal.{Journal}
 use Rattle.sled_pagecache.specs.declared.pagecache.page.Kept.TheVariants as kept
-use Rattle.sled_pagecache.specs.declared.pagecache.page.Page.{Page}
 
 -- ---- chains, with their places and without
 
@@ -39,9 +15,7 @@ follow-told : (kind : LogKind) (chain : Chain) → may_follow effect_of kind (to
 follow-told kinds.Free [] = refl
 follow-told kinds.Free (entry ∷ chain) = refl
 follow-told kinds.Replace chain = links-told chain
-follow-told kinds.Link chain = refl
-follow-told kinds.Skip chain = refl
-follow-told kinds.Corrupted chain = refl
+follow-told kind chain = refl
 
 is_chain-told : (chain : Chain) → is_chain effect_of (told chain) ≡ is_chain effect_of_entry chain
 is_chain-told [] = refl
@@ -55,53 +29,39 @@ chains-told : (chains : List Chain) → AreChains effect_of (map told chains) �
 chains-told [] h = tt
 chains-told (chain ∷ chains) h = (sym (is_chain-told chain) ∙ h.0, chains-told chains h.1)
 
-module _ {L : Type 0} (state : L → log.State Entry) (moment : L → ℕ) (left_since : L → ℕ → List Told → Type 0) (counts : L → Counts) where
+module _ {L : Type 0} (tells : Type 0) (state : L → log.State Entry) (moment : L → ℕ) (left_since : L → ℕ → List Told → Type 0) (counts : L → Counts) where
   -- whatever messages a log was told, its chains are chains
-  pub went-chains : (old new : Journal L) (events : List (Event Message)) → Went state moment left_since counts old new events → new.fault ≡ false
+  pub went-chains : (old new : Journal L) (events : List (Event Message)) → Went tells state moment left_since counts old new events → tells → new.fault ≡ false
       → AreChains effect_of_entry (log.now effect_of_entry (state old.log)) → AreChains effect_of_entry (log.now effect_of_entry (state new.log))
-  went-chains old new events went clear h =
+  went-chains old new events went known clear h =
       chains-told (log.now effect_of_entry (state new.log))
-      (subst (AreChains effect_of) (sym (now-told (state new.log) ∙ now-Went state moment left_since counts old new events went clear))
+      (subst (AreChains effect_of) (sym (now-told (state new.log) ∙ now-Went tells state moment left_since counts old new events went known clear))
       (chains-are effect_of (log.now effect_of (log.told_state (state old.log))) events
       (subst (AreChains effect_of) (now-told (state old.log)) (told-chains (log.now effect_of_entry (state old.log)) h))))
 
   -- where the messages leave a batch open or closed, no batch is open
-  pub went-closed : (old new : Journal L) (events : List (Event Message)) → Went state moment left_since counts old new events → ((was : Bool) → open_after was events ≡ was) → new.fault ≡ false
+  pub went-closed : (old new : Journal L) (events : List (Event Message)) → Went tells state moment left_since counts old new events → ((was : Bool) → open_after was events ≡ was) → new.fault ≡ false
       → is_open (state old.log).pending ≡ false → is_open (state new.log).pending ≡ false
   went-closed old new events went marks clear closed =
-      sym (is_open-told (state new.log).pending) ∙ is_open-Went state moment left_since counts old new events went clear
-      ∙ marks (is_open (log.told_state (state old.log)).pending) ∙ is_open-told (state old.log).pending ∙ closed
+      went.opened clear ∙ marks (is_open (state old.log).pending) ∙ closed
 
 -- a change leaves a batch open or closed, told or not
 pub marks-begun : {T : Type 0} (result : Result T Refusal) (pid : ℕ) (m : Message) (was : Bool) → open_after was (begun_by result (Change pid m ∷ [])) ≡ was
 marks-begun (Ok answer) pid m was = refl
 marks-begun (Err (Io Read)) pid m was = refl
 marks-begun (Err (Io Write)) pid m was = refl
-marks-begun (Err (Unsupported why)) pid m was = refl
-marks-begun (Err (ReportableBug bug)) pid m was = refl
-marks-begun (Err (Corruption pointer)) pid m was = refl
-marks-begun (Err OutOfMemory) pid m was = refl
+marks-begun (Err refusal) pid m was = refl
 
 -- ---- the table
 
 -- the log holds the chain of a page in place of the one that it held
-pub record IsSet (old new : log.State Entry) (pid : ℕ) (page : Page) : Type 0 where
+pub record IsSet (tells : Type 0) (old new : log.State Entry) (pid : ℕ) (page : Page) : Type 0 where
   pub usable : new.usable ≡ true
   pub closed : is_open new.pending ≡ false
-  pub kept : IsKept (chain_at new pid) page
-  pub others : log.now effect_of_entry new ≡ slice_set (log.now effect_of_entry old) pid (chain_at new pid)
-  pub chains : AreChains effect_of_entry (log.now effect_of_entry new)
-  pub sized : AllByRecursion IsSized (log.now effect_of_entry new)
-
--- the log holds one chain more
-pub record IsAdded (old new : log.State Entry) (page : Page) : Type 0 where
-  pub chain : Chain
-  pub usable : new.usable ≡ true
-  pub closed : is_open new.pending ≡ false
-  pub kept : IsKept chain page
-  pub others : log.now effect_of_entry new ≡ log.now effect_of_entry old ++ chain ∷ []
-  pub chains : AreChains effect_of_entry (log.now effect_of_entry new)
-  pub sized : AllByRecursion IsSized (log.now effect_of_entry new)
+  pub kept : tells → IsKept (chain_at new pid) page
+  pub others : tells → log.now effect_of_entry new ≡ slice_set (log.now effect_of_entry old) pid (chain_at new pid)
+  pub chains : tells → AreChains effect_of_entry (log.now effect_of_entry new)
+  pub sized : tells → AllByRecursion IsSized (log.now effect_of_entry new)
 
 own-set : (pages : List Page) (pid : ℕ) (page : Page) → AreOwn pages → 2 ≤ pid → IsFreeOrNode page.kept → AreOwn (slice_set pages pid page)
 own-set [] pid page own from node = absurd own
@@ -115,11 +75,11 @@ own-add [] page own node = absurd own
 own-add (roots ∷ []) page own node = absurd own
 own-add (roots ∷ counter ∷ rest) page own node = (own.0, own.1, all-append _ rest (page ∷ []) own.2 (node, tt))
 
-module _ {L : Type 0} (state : L → log.State Entry) (old new : Journal L) (pages : List Page) (free free_then : List ℕ) (c : IsConsistent state old pages free) (ready : old.fault ≡ false) where
+module _ {L : Type 0} (tells : Type 0) (state : L → log.State Entry) (old new : Journal L) (pages : List Page) (free free_then : List ℕ) (c : IsConsistent tells state old pages free) (ready : old.fault ≡ false) where
   pub consistent-set : (pid : ℕ) (page : Page) → 2 ≤ pid → IsFreeOrNode page.kept → length page.infos.items ≤ 10
-      → (new.fault ≡ false → IsSet (state old.log) (state new.log) pid page)
+      → (new.fault ≡ false → IsSet tells (state old.log) (state new.log) pid page)
       → free_then ≡ free_ids 0 (slice_set pages pid page)
-      → IsConsistent state new (slice_set pages pid page) free_then
+      → IsConsistent tells state new (slice_set pages pid page) free_then
   consistent-set pid page from node short set frees = record {
     beside = λ clear.
         let done = set clear in
@@ -127,9 +87,9 @@ module _ {L : Type 0} (state : L → log.State Entry) (old new : Journal L) (pag
         record {
           usable = done.usable;
           closed = done.closed;
-          kept =
-              subst (λ (l : List Chain). AllZip IsKept l (slice_set pages pid page)) (sym done.others)
-              (zip-set IsKept pid (log.now effect_of_entry (state old.log)) pages (chain_at (state new.log) pid) page beside.kept done.kept);
+          kept = λ known.
+              subst (λ (l : List Chain). AllZip IsKept l (slice_set pages pid page)) (sym (done.others known))
+              (zip-set IsKept pid (log.now effect_of_entry (state old.log)) pages (chain_at (state new.log) pid) page (beside.kept known) (done.kept known));
           chains = done.chains;
           sized = done.sized;
         };
@@ -139,43 +99,20 @@ module _ {L : Type 0} (state : L → log.State Entry) (old new : Journal L) (pag
     free = frees;
   }
 
-  pub consistent-add : (page : Page) → IsFreeOrNode page.kept → length page.infos.items ≤ 10 → length pages < 2 ^ 37
-      → (new.fault ≡ false → IsAdded (state old.log) (state new.log) page)
-      → free_then ≡ free_ids 0 (pages ++ page ∷ [])
-      → IsConsistent state new (pages ++ page ∷ []) free_then
-  consistent-add page node short room added frees = record {
-    beside = λ clear.
-        let done = added clear in
-        let beside = c.beside ready in
-        record {
-          usable = done.usable;
-          closed = done.closed;
-          kept =
-              subst (λ (l : List Chain). AllZip IsKept l (pages ++ page ∷ [])) (sym done.others)
-              (zip-append IsKept (log.now effect_of_entry (state old.log)) pages (done.chain ∷ []) (page ∷ []) beside.kept (done.kept, tt));
-          chains = done.chains;
-          sized = done.sized;
-        };
-    own = own-add pages page c.own node;
-    short = all-append _ pages (page ∷ []) c.short (short, tt);
-    few = let l = length-append pages (page ∷ []) in omega (arith, l, room);
-    free = frees;
-  }
-
   -- nothing comes to the log, but where a write fault is kept
   pub consistent-same : (moment : L → ℕ) (left_since : L → ℕ → List Told → Type 0) (counts : L → Counts) (events : List (Event Message))
-      → Went state moment left_since counts old new events → ((was : Bool) → open_after was events ≡ was)
-      → (new.fault ≡ false → log.now effect_of_entry (state new.log) ≡ log.now effect_of_entry (state old.log))
-      → IsConsistent state new pages free
+      → Went tells state moment left_since counts old new events → ((was : Bool) → open_after was events ≡ was)
+      → (tells → new.fault ≡ false → log.now effect_of_entry (state new.log) ≡ log.now effect_of_entry (state old.log))
+      → IsConsistent tells state new pages free
   consistent-same moment left_since counts events went marks same = record {
     beside = λ clear.
         let beside = c.beside ready in
         record {
           usable = went.usable clear;
-          closed = went-closed state moment left_since counts old new events went marks clear beside.closed;
-          kept = subst (λ (l : List Chain). AllZip IsKept l pages) (sym (same clear)) beside.kept;
-          chains = subst (AreChains effect_of_entry) (sym (same clear)) beside.chains;
-          sized = subst (AllByRecursion IsSized) (sym (same clear)) beside.sized;
+          closed = went-closed tells state moment left_since counts old new events went marks clear beside.closed;
+          kept = λ known. subst (λ (l : List Chain). AllZip IsKept l pages) (sym (same known clear)) (beside.kept known);
+          chains = λ known. subst (AreChains effect_of_entry) (sym (same known clear)) (beside.chains known);
+          sized = λ known. subst (AllByRecursion IsSized) (sym (same known clear)) (beside.sized known);
         };
     own = c.own;
     short = c.short;
@@ -183,31 +120,43 @@ module _ {L : Type 0} (state : L → log.State Entry) (old new : Journal L) (pag
     free = c.free;
   }
 
-  module _ (moment : L → ℕ) (left_since : L → ℕ → List Told → Type 0) (counts : L → Counts) (pid : ℕ) (m : Message) (went : Went state moment left_since counts old new (Change pid m ∷ []))
-      (page : Page) (node : WholeNode) (holds : page.kept ≡ kept.Node node) (short : length page.infos.items ≤ 10) (is_kept : IsKept (chain_at (state new.log) pid) page)
-      (sized : AllByRecursion IsSized (log.now effect_of_entry (state new.log))) where
+  module _ (moment : L → ℕ) (left_since : L → ℕ → List Told → Type 0) (counts : L → Counts) (pid : ℕ) (m : Message) (went : Went tells state moment left_since counts old new (Change pid m ∷ []))
+      (page : Page) (node : WholeNode) (holds : page.kept ≡ kept.Node node) (short : length page.infos.items ≤ 10) (is_kept : tells → IsKept (chain_at (state new.log) pid) page)
+      (sized : tells → AllByRecursion IsSized (log.now effect_of_entry (state new.log))) where
     holds-node : IsFreeOrNode page.kept
     holds-node = subst IsFreeOrNode (sym holds) tt
 
     still-closed : new.fault ≡ false → is_open (state new.log).pending ≡ false
-    still-closed clear = went-closed state moment left_since counts old new (Change pid m ∷ []) went (λ was. refl) clear (c.beside ready).closed
+    still-closed clear = went-closed tells state moment left_since counts old new (Change pid m ∷ []) went (λ was. refl) clear (c.beside ready).closed
 
-    still-chains : new.fault ≡ false → AreChains effect_of_entry (log.now effect_of_entry (state new.log))
-    still-chains clear = went-chains state moment left_since counts old new (Change pid m ∷ []) went clear (c.beside ready).chains
+    still-chains : new.fault ≡ false → tells → AreChains effect_of_entry (log.now effect_of_entry (state new.log))
+    still-chains clear known = went-chains tells state moment left_since counts old new (Change pid m ∷ []) went known clear ((c.beside ready).chains known)
 
     -- a node was put on a page
-    pub consistent-put : 2 ≤ pid → log.now effect_of_entry (state new.log) ≡ slice_set (log.now effect_of_entry (state old.log)) pid (chain_at (state new.log) pid)
-        → free_then ≡ free_ids 0 (slice_set pages pid page) → IsConsistent state new (slice_set pages pid page) free_then
+    pub consistent-put : 2 ≤ pid → (tells → log.now effect_of_entry (state new.log) ≡ slice_set (log.now effect_of_entry (state old.log)) pid (chain_at (state new.log) pid))
+        → free_then ≡ free_ids 0 (slice_set pages pid page) → IsConsistent tells state new (slice_set pages pid page) free_then
     consistent-put from others frees =
         consistent-set pid page from holds-node short
         (λ clear. record { usable = went.usable clear; closed = still-closed clear; kept = is_kept; others = others; chains = still-chains clear; sized = sized }) frees
 
     -- a node was put on a new page
-    pub consistent-new : length pages < 2 ^ 37 → log.now effect_of_entry (state new.log) ≡ log.now effect_of_entry (state old.log) ++ chain_at (state new.log) pid ∷ []
-        → free_then ≡ free_ids 0 (pages ++ page ∷ []) → IsConsistent state new (pages ++ page ∷ []) free_then
-    consistent-new room others frees =
-        consistent-add page holds-node short room
-        (λ clear. record { chain = chain_at (state new.log) pid; usable = went.usable clear; closed = still-closed clear; kept = is_kept; others = others; chains = still-chains clear; sized = sized }) frees
+    pub consistent-new : length pages < 2 ^ 37 → (tells → log.now effect_of_entry (state new.log) ≡ log.now effect_of_entry (state old.log) ++ chain_at (state new.log) pid ∷ [])
+        → free_then ≡ free_ids 0 (pages ++ page ∷ []) → IsConsistent tells state new (pages ++ page ∷ []) free_then
+    consistent-new room others frees = record {
+      beside = λ clear. record {
+        usable = went.usable clear;
+        closed = still-closed clear;
+        kept = λ known.
+            subst (λ (l : List Chain). AllZip IsKept l (pages ++ page ∷ [])) (sym (others known))
+            (zip-append IsKept (log.now effect_of_entry (state old.log)) pages (chain_at (state new.log) pid ∷ []) (page ∷ []) ((c.beside ready).kept known) (is_kept known, tt));
+        chains = still-chains clear;
+        sized = sized;
+      };
+      own = own-add pages page c.own holds-node;
+      short = all-append _ pages (page ∷ []) c.short (short, tt);
+      few = let l = length-append pages (page ∷ []) in omega (arith, l, room);
+      free = frees;
+    }
 
 -- ---- the free pages
 

@@ -3,6 +3,7 @@ use Rattle.std.specs.Prelude.{◌≡◌, ℕ, Bool, true, false, List, [], lengt
 use Rattle.sled_log.specs.Batches.{is_open}
 use Rattle.sled_log.specs.Messages.{Entry, effect_of_entry}
 use Rattle.sled_log.specs.State as log
+use Rattle.sled_log.specs.declared.log.Log.{Ghosts}
 use Rattle.sled_pagecache.specs.Logged.{Logged, IsLogged, now}
 use Rattle.sled_pagecache.specs.State.{State, contents_of, stamps_of}
 use Rattle.sled_pagecache.specs.declared.pagecache.config.Config.{Config}
@@ -30,11 +31,18 @@ module _ {L : Type 0} (state : L → log.State Entry) where
   abbrev pub chain_length : Cache L → ℕ → ℕ
   chain_length cache pid = length (slice_index_or (log.now effect_of_entry (state cache.log)) pid [])
 
-  -- The cache is in this state, and its log holds that. After a write fault nothing is known of the log.
+module _ {L : Type 0} (g : Ghosts L) where
+  -- what is known of the log, which holds that
+  pub record KnowsLog (cache : Cache L) (held : Logged) (s : State) : Type 0 where
+    pub usable : (g.state cache.log).usable ≡ true
+    pub logged : IsLogged (log.told_state (g.state cache.log)) held
+    pub contents : contents_of s ≡ now held
+
+  -- The cache is in this state, and its log, which tells its bytes, holds that. After a write error nothing is known of the log.
   pub record IsIn (cache : Cache L) (held : Logged) (s : State) : Type 0 where
+    pub tells : g.tells
     pub stamps : stamps_of s ≡ cache.stamps
     pub next : s.next ≡ cache.next
     pub fault : s.fault ≡ cache.fault
     pub batch : s.batch ≡ is_open held.pending
-    pub logged : s.fault ≡ false → IsLogged (log.told_state (state cache.log)) held
-    pub contents : s.fault ≡ false → contents_of s ≡ now held
+    pub known : s.fault ≡ false → KnowsLog cache held s

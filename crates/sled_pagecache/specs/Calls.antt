@@ -39,7 +39,7 @@ module _ {L : Type 0} (g : Ghosts L) where
   pub record IsStep (old : Cache L) (call : Call) (answer : Answer) (new : Cache L) (held : Logged) (s : State) : Type 0 where
     pub held_then : Logged
     pub t : State
-    pub is : IsIn g.state new held_then t
+    pub is : IsIn g new held_then t
     pub step : Step s call answer t
     pub added : t.fault ≡ false → Adds held (changes_of (chain_length g.state old) s call answer) held_then
     pub stop : s.fault ≡ false → log.StopsLeave g.moment g.left_since old.log new.log (IsLeft held (changes_of (chain_length g.state old) s call answer))
@@ -49,7 +49,7 @@ module _ {L : Type 0} (g : Ghosts L) where
   -- The call is one step, in whatever state the cache is.
   pub record Steps (old : Cache L) (call : Call) (answer : Answer) (new : Cache L) : Type 0 where
     pub opening : IsSameOpening old new
-    pub from_each : (held : Logged) (s : State) → IsIn g.state old held s → IsStep old call answer new held s
+    pub from_each : (held : Logged) (s : State) → IsIn g old held s → IsStep old call answer new held s
 
 -- A fault is told only where its count grew in the call, or a write fault was kept.
 pub record IsBlamed {L T : Type 0} (g : Ghosts L) (old new : Cache L) (result : Result T Error) : Type 0 where

@@ -10,7 +10,7 @@ use Rattle.sled_node.specs.Links.{applied}
 use Rattle.sled_node.specs.declared.node.link.Link.{Link as NodeLink}
 use Rattle.sled_pagecache.specs.State.{State, Page, page_at, greatest_free}
 use Rattle.sled_pagecache.specs.Token.{Token}
-use Rattle.sled_pagecache.specs.declared.pagecache.TheConstants.{PAGE_CONSOLIDATION_THRESHOLD}
+use Rattle.sled_pagecache.specs.Limits.{most_messages}
 use Rattle.sled_pagecache.specs.declared.pagecache.call.Answer.{Answer}
 use Rattle.sled_pagecache.specs.declared.pagecache.call.Answer.TheVariants.{Allocated, Got, Linked, Replaced, Flushed, Sized}
 use Rattle.sled_pagecache.specs.declared.pagecache.call.Call.{Call}
@@ -26,7 +26,7 @@ new_pid s = of (greatest_free 0 s.pages)
 
 -- What a link writes to a page that so many messages make: itself, or the node that it makes where there are as many as may be.
 abbrev pub link_update : ℕ → NodeLink → Content → Update
-link_update messages link (Node node) = if nat_lt messages PAGE_CONSOLIDATION_THRESHOLD then update.Link link else Put (Node (applied link node))
+link_update messages link (Node node) = if nat_lt messages most_messages then update.Link link else Put (Node (applied link node))
 link_update messages link other = update.Link link
 
 abbrev pub link_update_at : ℕ → NodeLink → Option Page → Update

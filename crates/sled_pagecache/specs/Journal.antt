@@ -4,6 +4,7 @@ use Rattle.sled_base.specs.declared.types.Device.TheVariants.{Read, Write}
 use Rattle.sled_base.specs.declared.types.Refusal.{Refusal}
 use Rattle.sled_base.specs.declared.types.Refusal.TheVariants.{Unsupported, Io, Corruption, OutOfMemory}
 use Rattle.sled_base.specs.declared.types.Why.TheVariants.{LogFull}
+use Rattle.sled_log.specs.Batches.{is_open, open_after}
 use Rattle.sled_log.specs.Calls.{Counts, HasGrown}
 use Rattle.sled_log.specs.Events.{Event}
 use Rattle.sled_log.specs.Messages.{Message, Entry, Told, effect_of}
@@ -44,15 +45,17 @@ IsOfLog (Io device) = ⊤
 IsOfLog (Unsupported LogFull) = ⊤
 IsOfLog other = ⊥
 
-module _ {L : Type 0} (state : L → State Entry) (moment : L → ℕ) (left_since : L → ℕ → List Told → Type 0) (counts : L → Counts) where
-  -- These events were added, if no write fault is kept, and a stop at any moment since `old` leaves what was stable and pending
-  -- then and a beginning of the events, up to a fair cut.
+module _ {L : Type 0} (tells : Type 0) (state : L → State Entry) (moment : L → ℕ) (left_since : L → ℕ → List Told → Type 0) (counts : L → Counts) where
+  -- If no write fault is kept, the log may be called and a batch is open as these events say; no count falls. Where the device
+  -- tells its bytes, the events were added, and a stop at any moment since `old` leaves what was stable and pending then and a
+  -- beginning of the events, up to a fair cut.
   pub record Went (old new : Journal L) (events : List (Event Message)) : Type 0 where
     pub usable : new.fault ≡ false → (state new.log).usable ≡ true
-    pub added : new.fault ≡ false → Adds effect_of (told_state (state old.log)) events (told_state (state new.log))
-    pub stop : StopsLeave moment left_since old.log new.log (IsLeft effect_of (told_state (state old.log)) events)
+    pub opened : new.fault ≡ false → is_open (state new.log).pending ≡ open_after (is_open (state old.log).pending) events
     pub failed_reads : (counts old.log).failed_reads ≤ (counts new.log).failed_reads
     pub write_faults : (counts old.log).write_faults ≤ (counts new.log).write_faults
+    pub added : tells → new.fault ≡ false → Adds effect_of (told_state (state old.log)) events (told_state (state new.log))
+    pub stop : tells → StopsLeave moment left_since old.log new.log (IsLeft effect_of (told_state (state old.log)) events)
 
   -- Each refusal has its cause: a read or a write failed in the call, memory was wanting, or the log had no room. A write fault
   -- is kept.

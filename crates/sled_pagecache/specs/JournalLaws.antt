@@ -1,12 +1,12 @@
 -- What follows for the calls of a cache, one after another, of what they make of its log.
-use Rattle.std.proofs.Common.{◌≡◌, inl, inr, ⊎_elim, ◌<◌, ◌≤◌, ℕ, true, false, List, [], ◌++◌, Result, Ok, Err, ap, subst, arith}
+use Rattle.std.proofs.Common.{◌≡◌, inl, inr, ⊎_elim, ◌<◌, ◌≤◌, ℕ, true, false, List, [], ◌++◌, Result, Ok, Err, refl, sym, ◌∙◌, ap, subst, arith}
 use Rattle.std.proofs.lemmas.List.{append-nil}
 use Rattle.sled_base.specs.declared.types.Refusal.{Refusal}
 use Rattle.sled_log.specs.Batches.{is_open, open_after}
 use Rattle.sled_log.specs.Calls.{Counts, HasGrown}
 use Rattle.sled_log.specs.Chains.{chains_after}
 use Rattle.sled_log.specs.Events.{Event}
-use Rattle.sled_log.specs.Laws.{Adds-none, Adds-then, StopsLeave-none, StopsLeave-then, now-Adds, is_open-Adds}
+use Rattle.sled_log.specs.Laws.{Adds-none, Adds-then, StopsLeave-none, StopsLeave-then, now-Adds, open_after-append}
 use Rattle.sled_log.specs.Messages.{Message, Entry, Told, effect_of}
 use Rattle.sled_log.specs.State.{State, now, IsLeft, told_state}
 use Rattle.sled_pagecache.specs.Journal.{Went, IsCaused}
@@ -16,59 +16,57 @@ use Rattle.sled_pagecache.specs.declared.pagecache.journal.Journal.{Journal}
 pub HasGrown-since : (old mid new : ℕ) → old ≤ mid → HasGrown mid new → HasGrown old new
 HasGrown-since old mid new le grown = ⊎_elim (λ more. inl (let h : old < new = omega arith in h)) (λ most. inr most) grown
 
-module _ {L : Type 0} (state : L → State Entry) (moment : L → ℕ) (left_since : L → ℕ → List Told → Type 0) (counts : L → Counts) where
+module _ {L : Type 0} (tells : Type 0) (state : L → State Entry) (moment : L → ℕ) (left_since : L → ℕ → List Told → Type 0) (counts : L → Counts) where
   -- no call at all
-  pub Went-none : (journal : Journal L) → (journal.fault ≡ false → (state journal.log).usable ≡ true)
-      → ((pages : List Told) → left_since journal.log (moment journal.log) pages → IsLeft effect_of (told_state (state journal.log)) [] pages)
-      → Went state moment left_since counts journal journal []
+  pub Went-none : (journal : Journal L) → (state journal.log).usable ≡ true
+      → ((pages : List Told) → tells → (state journal.log).usable ≡ true → left_since journal.log (moment journal.log) pages → IsLeft effect_of (told_state (state journal.log)) [] pages)
+      → Went tells state moment left_since counts journal journal []
   Went-none journal usable only = record {
-    usable = usable;
-    added = λ clear. Adds-none effect_of (told_state (state journal.log));
-    stop = StopsLeave-none moment left_since journal.log (IsLeft effect_of (told_state (state journal.log)) []) only;
+    usable = λ _. usable;
+    opened = λ _. refl;
     failed_reads = omega arith;
     write_faults = omega arith;
+    added = λ _ clear. Adds-none effect_of (told_state (state journal.log));
+    stop = λ told. StopsLeave-none moment left_since journal.log (IsLeft effect_of (told_state (state journal.log)) []) (λ pages left. only pages told usable left);
   }
 
   -- one call after another, where the first kept no write fault
   pub Went-then : (old mid new : Journal L) (first second : List (Event Message))
-      → Went state moment left_since counts old mid first
+      → Went tells state moment left_since counts old mid first
       → mid.fault ≡ false
-      → Went state moment left_since counts mid new second
-      → Went state moment left_since counts old new (first ++ second)
+      → Went tells state moment left_since counts mid new second
+      → Went tells state moment left_since counts old new (first ++ second)
   Went-then old mid new first second one clear two =
       let before = told_state (state old.log) in
       let between = told_state (state mid.log) in
       record {
         usable = two.usable;
-        added = λ kept. Adds-then effect_of before between (told_state (state new.log)) first second (one.added clear) (two.added kept);
-        stop = StopsLeave-then moment left_since old.log mid.log new.log before between first second (one.added clear) one.stop two.stop;
+        opened = λ kept. two.opened kept ∙ ap (λ b. open_after b second) (one.opened clear) ∙ sym (open_after-append (is_open (state old.log).pending) first second);
         failed_reads = let a = one.failed_reads in let b = two.failed_reads in omega arith;
         write_faults = let a = one.write_faults in let b = two.write_faults in omega arith;
+        added = λ told kept. Adds-then effect_of before between (told_state (state new.log)) first second (one.added told clear) (two.added told kept);
+        stop = λ told. StopsLeave-then moment left_since old.log mid.log new.log before between first second (one.added told clear) (one.stop told) (two.stop told);
       }
 
   -- a call that adds nothing after one that did
   pub Went-last : (old mid new : Journal L) (events : List (Event Message))
-      → Went state moment left_since counts old mid events
+      → Went tells state moment left_since counts old mid events
       → mid.fault ≡ false
-      → Went state moment left_since counts mid new []
-      → Went state moment left_since counts old new events
+      → Went tells state moment left_since counts mid new []
+      → Went tells state moment left_since counts old new events
   Went-last old mid new events one clear two =
-      subst (Went state moment left_since counts old new) (append-nil events) (Went-then old mid new events [] one clear two)
+      subst (Went tells state moment left_since counts old new) (append-nil events) (Went-then old mid new events [] one clear two)
 
-  -- what the log holds then, and whether a batch is open
-  pub now-Went : (old new : Journal L) (events : List (Event Message)) → Went state moment left_since counts old new events → new.fault ≡ false
+  -- what the log holds then
+  pub now-Went : (old new : Journal L) (events : List (Event Message)) → Went tells state moment left_since counts old new events → tells → new.fault ≡ false
       → now effect_of (told_state (state new.log)) ≡ chains_after effect_of (now effect_of (told_state (state old.log))) events
-  now-Went old new events went clear = now-Adds effect_of (told_state (state old.log)) (told_state (state new.log)) events (went.added clear)
-
-  pub is_open-Went : (old new : Journal L) (events : List (Event Message)) → Went state moment left_since counts old new events → new.fault ≡ false
-      → is_open (told_state (state new.log)).pending ≡ open_after (is_open (told_state (state old.log)).pending) events
-  is_open-Went old new events went clear = is_open-Adds effect_of (told_state (state old.log)) (told_state (state new.log)) events (went.added clear)
+  now-Went old new events went told clear = now-Adds effect_of (told_state (state old.log)) (told_state (state new.log)) events (went.added told clear)
 
   -- the cause of the last call is that of all
   pub IsCaused-since : {T : Type 0} (old mid new : Journal L) (events : List (Event Message)) (no_room : Type 0) (result : Result T Refusal)
-      → Went state moment left_since counts old mid events
-      → IsCaused state moment left_since counts mid new no_room result
-      → IsCaused state moment left_since counts old new no_room result
+      → Went tells state moment left_since counts old mid events
+      → IsCaused tells state moment left_since counts mid new no_room result
+      → IsCaused tells state moment left_since counts old new no_room result
   IsCaused-since old mid new events no_room result went cause = record {
     fault = cause.fault;
     read = λ is. HasGrown-since (counts old.log).failed_reads (counts mid.log).failed_reads (counts new.log).failed_reads went.failed_reads (cause.read is);
@@ -78,8 +76,8 @@ module _ {L : Type 0} (state : L → State Entry) (moment : L → ℕ) (left_sin
 
   -- the cause of a refusal is that of a call that hands it on
   pub IsCaused-handed_on : {T U : Type 0} (old new : Journal L) (no_room : Type 0) (refusal : Refusal)
-      → (let result : Result T Refusal = Err refusal in IsCaused state moment left_since counts old new no_room result)
-      → (let result : Result U Refusal = Err refusal in IsCaused state moment left_since counts old new no_room result)
+      → (let result : Result T Refusal = Err refusal in IsCaused tells state moment left_since counts old new no_room result)
+      → (let result : Result U Refusal = Err refusal in IsCaused tells state moment left_since counts old new no_room result)
   IsCaused-handed_on {T} {U} old new no_room refusal cause =
       let said : Result U Refusal → Refusal = elim [ Ok answer ↦ refusal | Err other ↦ other ] in
       let again : Refusal → Result T Refusal = λ other. Err other in
@@ -89,14 +87,3 @@ module _ {L : Type 0} (state : L → State Entry) (moment : L → ℕ) (left_sin
         write = λ is. cause.write (ap again (ap said is));
         full = λ is. cause.full (ap again (ap said is));
       }
-
-  -- what a call without room says of the log, said in other words
-  pub IsCaused-weaker : {T : Type 0} (old new : Journal L) (no_room other : Type 0) (result : Result T Refusal) → (no_room → other)
-      → IsCaused state moment left_since counts old new no_room result
-      → IsCaused state moment left_since counts old new other result
-  IsCaused-weaker old new no_room other result weaker cause = record {
-    fault = cause.fault;
-    read = cause.read;
-    write = cause.write;
-    full = λ is. weaker (cause.full is);
-  }

@@ -7,8 +7,10 @@ use Rattle.sled_base.specs.declared.types.Error.{Error}
 use Rattle.sled_base.specs.declared.types.Refusal.{Refusal}
 use Rattle.sled_log.specs.declared.log.Log.{Ghosts}
 use Rattle.sled_node.specs.Node.{WholeNode}
+use Rattle.sled_pagecache.specs.Answers.{Keeps}
 use Rattle.sled_pagecache.specs.Cache.{Cache, IsResident, IsAway}
 use Rattle.sled_pagecache.specs.Calls.{Steps, IsBlamed}
+use Rattle.sled_pagecache.specs.Damage.{MeetsDamage, ReportsDamage}
 use Rattle.sled_pagecache.specs.Reads.{ReadsPage}
 use Rattle.sled_pagecache.specs.Step.{is_reserved}
 use Rattle.sled_pagecache.specs.Token.{Token}
@@ -28,12 +30,17 @@ told (Err refusal) = Err (error_of refusal)
 pub record IsGot {L : Type 0} (g : Ghosts L) (old : Cache L) (pid : ℕ) (result : Result (Option NodeView) Refusal) (new : Cache L) : Type 0 where
   pub step : Steps g old (Get pid) (Got (told result)) new
   pub blame : IsBlamed g old new (told result)
+  pub keeps : Keeps old new (told result) (λ _. old.stamps)
   pub reads : ReadsPage g old pid new
   pub once : IfOk result (λ found. IfSome found (λ view. IsResident new pid))
+  -- the token is that of the page that was asked for
+  pub token : IfOk result (λ found. IfSome found (λ view. view.token.pid ≡ pid))
   pub kept_out : OnErr result (IsAway old pid → IsAway new pid)
+  -- a page whose messages make no node is reported, whatever else the log holds
+  pub damaged : MeetsDamage g old pid → ReportsDamage g old pid (told result) new
   -- a page that lies in memory is lent without memory and without the device
   pub always : old.fault ≡ false → is_reserved pid ≡ false → IsResident old pid → IsOk result
 
--- what the cache is at the end of the loan
-abbrev pub EndsAsGot : (L : RattleType) (g : Ghosts L.Denot) → MutBor (Cache L.Denot) → ℕ → Result (Option NodeView) Refusal → Fml
-EndsAsGot L g cache pid result = follows_so (the_row L g) (the_row L g) cache.ghost_name none (λ _ _. ⊤) (IsGot g cache.now pid result)
+-- The cache is so once what it lent has come back. (`follows_so` is the toolchain's word for what a loan becomes at its end.)
+abbrev pub OnceGivenBack : (L : RattleType) (g : Ghosts L.Denot) → MutBor (Cache L.Denot) → (Cache L.Denot → Type 0) → Fml
+OnceGivenBack L g cache Is = follows_so (the_row L g) (the_row L g) cache.ghost_name none (λ _ _. ⊤) Is

@@ -1,3 +1,4 @@
+pub mod Limits
 pub mod Token
 pub mod State
 pub mod Step
@@ -6,10 +7,12 @@ pub mod Logged
 pub mod Cache
 pub mod Changes
 pub mod Calls
+pub mod Answers
 pub mod Opening
 pub mod Starts
 pub mod Rows
 pub mod RowLaws
+pub mod Reopening
 pub mod Journal
 pub mod JournalLaws
 pub mod ChainReads
@@ -21,9 +24,13 @@ pub mod Pulling
 pub mod Recovered
 pub mod Proceeding
 pub mod Loading
+pub mod Starting
+pub mod Judging
 pub mod Swaps
 pub mod Adding
 pub mod Table
 pub mod PagesIn
+pub mod Damage
+pub mod LinkTests
 pub mod LinkedPages
 pub mod Lending

@@ -1,5 +1,5 @@
 -- What a link makes of a page, which is read where it doesn't lie in memory.
-use Rattle.std.specs.Prelude.{◌≡◌, ◌≢◌, ◌⊎◌, ◌-◌, ◌^◌, ℕ, [], ◌∷◌, length, slice_set, ⊤}
+use Rattle.std.specs.Prelude.{◌≡◌, ◌≢◌, ◌⊎◌, ◌-◌, ◌^◌, ℕ, Bool, List, [], ◌∷◌, length, slice_set, Some, ⊤}
 use Rattle.std.specs.List.{AllByRecursion}
 use Rattle.sled_base.specs.declared.types.Bug.TheVariants.{LinkRefused}
 use Rattle.sled_base.specs.declared.types.Device.TheVariants.{Write}
@@ -8,8 +8,9 @@ use Rattle.sled_base.specs.declared.types.Refusal.TheVariants.{Unsupported, Repo
 use Rattle.sled_base.specs.declared.types.Why.TheVariants.{StampUsedUp, LogFull}
 use Rattle.sled_log.specs.Contents.{Update}
 use Rattle.sled_log.specs.Contents as content
-use Rattle.sled_log.specs.Events.{Change}
-use Rattle.sled_log.specs.Messages.{Told, told, effect_of_entry}
+use Rattle.sled_log.specs.Batches.{open_after}
+use Rattle.sled_log.specs.Events.{Event, Change}
+use Rattle.sled_log.specs.Messages.{Message, Chain, told, effect_of_entry}
 use Rattle.sled_log.specs.Pages.{IsSized}
 use Rattle.sled_log.specs.Reading.{IsUpdate, Makes}
 use Rattle.sled_log.specs.State.{now}
@@ -21,21 +22,22 @@ use Rattle.sled_node.specs.declared.node.link.Link.{Link as NodeLink}
 use Rattle.sled_pagecache.specs.ChainReads.{chain_at}
 use Rattle.sled_pagecache.specs.Journal.{Went}
 use Rattle.sled_pagecache.specs.Pages.{IsKept}
+use Rattle.sled_pagecache.specs.Reading.{IsWrongAt}
 use Rattle.sled_pagecache.specs.Swaps.{IsRaised, written_by, linked_length}
 use Rattle.sled_pagecache.specs.declared.pagecache.journal.Journal.{Journal}
 use Rattle.sled_pagecache.specs.declared.pagecache.page.Kept.TheVariants as kept
 use Rattle.sled_pagecache.specs.declared.pagecache.page.Page.{Page}
 
 -- why a link was refused of which nothing was told to the log
-abbrev pub RefusesUntold : Told → ℕ → NodeLink → Refusal → Type 0
-RefusesUntold told stamp link OutOfMemory = ⊤
-RefusesUntold told stamp link (Io device) = ⊤
-RefusesUntold told stamp link (Corruption pointer) = (node : WholeNode) → ¬ Makes told (content.Node node)
-RefusesUntold told stamp link (ReportableBug LinkRefused) = (node : WholeNode) × Makes told (content.Node node) × (¬ Accepts node link)
-RefusesUntold told stamp link (Unsupported StampUsedUp) = (node : WholeNode) × Makes told (content.Node node) × Accepts node link × (stamp ≡ 2 ^ 64 - 1)
-RefusesUntold told stamp link (Unsupported LogFull) = (node : WholeNode) × Makes told (content.Node node) × Accepts node link × (stamp ≢ 2 ^ 64 - 1)
+abbrev pub RefusesUntold : Chain → ℕ → NodeLink → Refusal → Type 0
+RefusesUntold chain stamp link OutOfMemory = ⊤
+RefusesUntold chain stamp link (Io device) = ⊤
+RefusesUntold chain stamp link (Corruption (Some pointer)) = IsWrongAt chain pointer
+RefusesUntold chain stamp link (ReportableBug LinkRefused) = (node : WholeNode) × Makes (told chain) (content.Node node) × (¬ Accepts node link)
+RefusesUntold chain stamp link (Unsupported StampUsedUp) = (node : WholeNode) × Makes (told chain) (content.Node node) × Accepts node link × (stamp ≡ 2 ^ 64 - 1)
+RefusesUntold chain stamp link (Unsupported LogFull) = (node : WholeNode) × Makes (told chain) (content.Node node) × Accepts node link × (stamp ≢ 2 ^ 64 - 1)
 -- there is no other reason
-RefusesUntold told stamp link refusal = ⊥
+RefusesUntold chain stamp link refusal = ⊥
 
 -- what is told to the log where this node of a page takes the link
 abbrev pub update_by : Page → NodeLink → WholeNode → Update
@@ -45,29 +47,35 @@ module _ {L : Type 0} (g : Ghosts L) (old : Journal L) (pid : ℕ) (page : Page)
   -- The update was told to the log, at most in part.
   pub record TellsLink (new : Journal L) : Type 0 where
     pub node : WholeNode
-    pub made : Makes (told (chain_at (g.state old.log) pid)) (content.Node node)
+    pub made : g.tells → Makes (told (chain_at (g.state old.log) pid)) (content.Node node)
     pub accepts : Accepts node link
     pub is : IsUpdate (message_of (update_by page link node)) (update_by page link node)
-    pub went : Went g.state g.moment g.left_since g.counts old new (Change pid (message_of (update_by page link node)) ∷ [])
+    pub went : Went g.tells g.state g.moment g.left_since g.counts old new (Change pid (message_of (update_by page link node)) ∷ [])
 
   -- The page holds the node that the link makes, at its next stamp.
   pub record TakesLink (new : Journal L) (page_then : Page) : Type 0 where
     pub tells : TellsLink new
     pub raised : IsRaised page.stamp page_then.stamp
     pub holds : page_then.kept ≡ kept.Node (applied link tells.node)
-    pub kept : IsKept (chain_at (g.state new.log) pid) page_then
+    pub kept : g.tells → IsKept (chain_at (g.state new.log) pid) page_then
     pub len : length page_then.infos.items ≡ linked_length (length page.infos.items)
-    pub others : now effect_of_entry (g.state new.log) ≡ slice_set (now effect_of_entry (g.state old.log)) pid (chain_at (g.state new.log) pid)
-    pub sized : AllByRecursion IsSized (now effect_of_entry (g.state new.log))
+    pub others : g.tells → now effect_of_entry (g.state new.log) ≡ slice_set (now effect_of_entry (g.state old.log)) pid (chain_at (g.state new.log) pid)
+    pub sized : g.tells → AllByRecursion IsSized (now effect_of_entry (g.state new.log))
 
   -- Nothing was told, or a write failed while the update was.
   abbrev pub RefusesTold : Journal L → Refusal → Type 0
   RefusesTold new refusal =
-      (Went g.state g.moment g.left_since g.counts old new [] × RefusesUntold (told (chain_at (g.state old.log) pid)) page.stamp link refusal)
+      (Went g.tells g.state g.moment g.left_since g.counts old new [] × RefusesUntold (chain_at (g.state old.log) pid) page.stamp link refusal)
       ⊎ ((refusal ≡ Io Write) × TellsLink new)
 
   -- The log had no room for the update.
   pub record HadNoRoom : Type 0 where
     pub node : WholeNode
-    pub made : Makes (told (chain_at (g.state old.log) pid)) (content.Node node)
+    pub made : g.tells → Makes (told (chain_at (g.state old.log) pid)) (content.Node node)
     pub full : g.is_full old.log (length (message_of (update_by page link node)).payload)
+
+-- something was begun, which leaves a batch open or closed as it was
+pub record WasBegun {L : Type 0} (g : Ghosts L) (old new : Journal L) : Type 0 where
+  pub came : List (Event Message)
+  pub marks : (was : Bool) → open_after was came ≡ was
+  pub went : Went g.tells g.state g.moment g.left_since g.counts old new came

@@ -1,5 +1,5 @@
 -- What the opening of a cache makes of the pages that its log recovers.
-use Rattle.std.specs.Prelude.{◌≡◌, ◌+◌, ◌*◌, ◌<◌, ◌≤◌, ◌^◌, ℕ, Bool, true, List, [], ◌∷◌, length, map, slice_get, Option, None, Some, ⊤}
+use Rattle.std.specs.Prelude.{◌≡◌, ◌+◌, ◌*◌, ◌<◌, ◌≤◌, ℕ, Bool, true, List, [], ◌∷◌, length, map, drop, slice_get, Option, None, Some, ⊤}
 use Rattle.std.specs.List.{AllByRecursion, AllZip}
 use Rattle.sled_base.specs.declared.types.Refusal.{Refusal}
 use Rattle.sled_base.specs.declared.types.Refusal.TheVariants.{Io, Corruption, OutOfMemory}
@@ -15,7 +15,7 @@ use Rattle.sled_pagecache.specs.Pages.{IsKept, freed_at}
 use Rattle.sled_pagecache.specs.Starts.{IsFit, BeginsAmiss, has_own}
 use Rattle.sled_pagecache.specs.State.{stamps_of}
 use Rattle.sled_pagecache.specs.Table.{IsRoots, AreOwn}
-use Rattle.sled_pagecache.specs.declared.pagecache.TheConstants.{PAGE_CONSOLIDATION_THRESHOLD, MAX_PID_BITS}
+use Rattle.sled_pagecache.specs.Limits.{most_messages, most_pages}
 use Rattle.sled_pagecache.specs.declared.pagecache.config.Config.{Config}
 use Rattle.sled_pagecache.specs.declared.pagecache.page.Kept.{Kept}
 use Rattle.sled_pagecache.specs.declared.pagecache.page.Kept.TheVariants.{Free, Away, Counter}
@@ -39,36 +39,31 @@ AreFound [] counter = counter ≡ None
 AreFound (roots ∷ []) counter = IsRoots roots.kept × (counter ≡ None)
 AreFound (roots ∷ own ∷ pages) counter = IsRoots roots.kept × (n : ℕ) × (own.kept ≡ Counter n) × (counter ≡ Some n) × AllByRecursion (λ page. IsUnread page.kept) pages
 
--- pages as they were recovered, of which no content was read yet
-pub record AreRecovered (chains : List Chain) (pages : List Page) : Type 0 where
-  pub loaded : AllZip IsLoaded chains pages
-  pub unread : AllByRecursion (λ page. IsUnread page.kept) pages
-  pub few : length pages ≤ 2 ^ MAX_PID_BITS
-  pub chains_are : AllByRecursion (λ chain. is_chain effect_of_entry chain ≡ true) chains
-  pub sized : AllByRecursion IsSized chains
-
--- and then those of the system pages were
-pub record AreRead (chains : List Chain) (pages : List Page) (counter : Option ℕ) : Type 0 where
-  pub loaded : AllZip IsLoaded chains pages
-  pub found : AreFound pages counter
-  pub few : length pages ≤ 2 ^ MAX_PID_BITS
-  pub chains_are : AllByRecursion (λ chain. is_chain effect_of_entry chain ≡ true) chains
-  pub sized : AllByRecursion IsSized chains
-
 -- the system pages are kept so, as far as they are there
 abbrev pub AreOwnSoFar : List Page → Type 0
 AreOwnSoFar [] = Unit {0}
 AreOwnSoFar (roots ∷ []) = IsRoots roots.kept
 AreOwnSoFar (roots ∷ counter ∷ pages) = AreOwn (roots ∷ counter ∷ pages)
 
--- a table of pages beside the chains of a log
-pub record IsTable (chains : List Chain) (pages : List Page) : Type 0 where
-  pub kept : AllZip IsKept chains pages
-  pub own : AreOwnSoFar pages
-  pub short : AllByRecursion (λ page. length page.infos.items ≤ PAGE_CONSOLIDATION_THRESHOLD) pages
-  pub few : length pages ≤ 2 ^ MAX_PID_BITS
-  pub chains_are : AllByRecursion (λ chain. is_chain effect_of_entry chain ≡ true) chains
-  pub sized : AllByRecursion IsSized chains
+-- Pages beside the chains of a log: each is so by its chain, and all of them together hold such contents.
+pub record AreBeside (tells : Type 0) (chains : List Chain) (pages : List Page) (Is : Chain → Page → Type 0) (Hold : List Page → Type 0) : Type 0 where
+  pub kept : tells → AllZip Is chains pages
+  pub hold : Hold pages
+  pub few : length pages ≤ most_pages
+  pub chains_are : tells → AllByRecursion (λ chain. is_chain effect_of_entry chain ≡ true) chains
+  pub sized : tells → AllByRecursion IsSized chains
+
+-- as they were recovered, of which no content was read yet
+abbrev pub AreRecovered : Type 0 → List Chain → List Page → Type 0
+AreRecovered tells chains pages = AreBeside tells chains pages IsLoaded (AllByRecursion (λ page. IsUnread page.kept))
+
+-- and then those of the system pages were
+abbrev pub AreRead : Type 0 → List Chain → List Page → Option ℕ → Type 0
+AreRead tells chains pages counter = AreBeside tells chains pages IsLoaded (λ read. AreFound read counter)
+
+-- the table of a cache
+abbrev pub IsTable : Type 0 → List Chain → List Page → Type 0
+IsTable tells chains pages = AreBeside tells chains pages IsKept (λ kept. AreOwnSoFar kept × AllByRecursion (λ page. length page.infos.items ≤ most_messages) kept)
 
 -- ---- why pages are refused
 
@@ -84,8 +79,8 @@ RefusesOwn pid chain refusal = ⊥
 abbrev pub RefusesPages : List Chain → Refusal → Type 0
 RefusesPages chains OutOfMemory = ⊤
 RefusesPages chains (Io device) = ⊤
-RefusesPages chains (Corruption None) = 2 ^ MAX_PID_BITS < length chains
-RefusesPages chains (Corruption (Some pointer)) = (length chains ≤ 2 ^ MAX_PID_BITS) × BeginsAmiss chains pointer
+RefusesPages chains (Corruption None) = most_pages < length chains
+RefusesPages chains (Corruption (Some pointer)) = (length chains ≤ most_pages) × BeginsAmiss chains pointer
 -- there is no other reason
 RefusesPages chains refusal = ⊥
 
@@ -104,9 +99,7 @@ module _ {X : Type 0} where
   told_of_roots (page ∷ pages) = []
 
   abbrev pub told_at_start : List X → List (Event Message)
-  told_at_start [] = roots_told ∷ counter_told ∷ []
-  told_at_start (roots ∷ []) = counter_told ∷ []
-  told_at_start (roots ∷ counter ∷ pages) = []
+  told_at_start pages = drop (length pages) (roots_told ∷ counter_told ∷ [])
 
   -- the stamps of the pages then
   abbrev pub stamps_at_start : List X → List ℕ

@@ -1,11 +1,11 @@
 -- What the log of a cache holds, as one knows it who knows contents and no messages.
-use Rattle.std.specs.Prelude.{◌≡◌, ℕ, List, ◌++◌, take, drop}
-use Rattle.sled_log.specs.Batches.{IsFair}
+use Rattle.std.specs.Prelude.{List}
 use Rattle.sled_log.specs.Contents.{Content, Update, contents_after}
 use Rattle.sled_log.specs.Events.{Event}
 use Rattle.sled_log.specs.Messages.{Message, Told}
-use Rattle.sled_log.specs.Reading.{Hold, AreTold, AreLeft}
+use Rattle.sled_log.specs.Reading.{Hold, AreTold}
 use Rattle.sled_log.specs.State as log
+use Rattle.sled_log.specs.State.{AddsEvents, CrashKeeps}
 use Rattle.sled_pagecache.specs.Proper.{IsProper, StayProper}
 
 -- the contents of the pages that are stable, and the changes that are pending
@@ -24,15 +24,15 @@ pub record IsLogged (state : log.State Message) (logged : Logged) : Type 0 where
   pub pending : AreTold logged.stable state.pending logged.pending
   pub proper : StayProper state.stable logged.stable state.pending logged.pending
 
--- The changes were added behind the pending ones. Up to a fair cut, what was pending then may have become stable.
-pub record Adds (old : Logged) (changes : List (Event Update)) (new : Logged) : Type 0 where
-  pub cut : ℕ
-  pub fair : IsFair (old.pending ++ changes) cut
-  pub stable : new.stable ≡ contents_after old.stable (take cut (old.pending ++ changes))
-  pub pending : new.pending ≡ drop cut (old.pending ++ changes)
+-- what a log holds to which these changes were added
+abbrev pub Adds : Logged → List (Event Update) → Logged → Type 0
+Adds old changes new = AddsEvents contents_after old.stable old.pending changes new.stable new.pending
 
--- What a stop leaves where these changes began to come: the stable contents, and then the pending changes and a beginning of
--- these, up to a fair cut. The pages are as a cache leaves them.
-pub record IsLeft (held : Logged) (changes : List (Event Update)) (pages : List Told) : Type 0 where
-  pub left : AreLeft held.stable held.pending changes pages
-  pub proper : IsProper pages (contents_after held.stable (take left.cut (held.pending ++ left.came)))
+-- pages of which these messages were told hold such contents, and are as a cache leaves them
+pub record AreKept (pages : List Told) (contents : List Content) : Type 0 where
+  pub holds : Hold pages contents
+  pub proper : IsProper pages contents
+
+-- what a crash leaves where these changes began to come
+abbrev pub IsLeft : Logged → List (Event Update) → List Told → Type 0
+IsLeft held changes pages = CrashKeeps contents_after held.stable held.pending changes (AreKept pages)

@@ -1,5 +1,5 @@
 -- What a page cache is when it is opened.
-use Rattle.std.specs.Prelude.{◌==◌, ◌+◌, ◌*◌, ℕ, false, List, [], ◌∷◌, ◌++◌, map, nat_lt, if◌then◌else◌, Option, Some, None}
+use Rattle.std.specs.Prelude.{◌==◌, ◌+◌, ◌*◌, ℕ, false, List, [], ◌∷◌, ◌++◌, length, map, drop, nat_lt, if◌then◌else◌, Option, Some, None}
 use Rattle.sled_base.specs.declared.types.Why.{Why}
 use Rattle.sled_base.specs.declared.types.Why.TheVariants.{CapacityTooSmall, IntervalZero, SegmentZero}
 use Rattle.sled_log.specs.Contents.{Content, Counter, Roots, Update, Put}
@@ -14,17 +14,14 @@ fault_of config =
     if config.idgen_persist_interval == 0 then Some IntervalZero else
     if config.segment_size == 0 then Some SegmentZero else None
 
--- the system pages that are missing: that of the named roots, of which there are none, and the counter of generated ids
+-- The system pages are that of the named roots, of which there are none at first, and the counter of generated ids. These are
+-- missing.
 abbrev pub missing : List Content → List Content
-missing [] = Roots [] ∷ Counter 0 ∷ []
-missing (roots ∷ []) = Counter 0 ∷ []
-missing (roots ∷ counter ∷ contents) = []
+missing contents = drop (length contents) (Roots [] ∷ Counter 0 ∷ [])
 
 -- the changes that put them there
 abbrev pub changes_of_start : List Content → List (Event Update)
-changes_of_start [] = Change 0 (Put (Roots [])) ∷ Change 1 (Put (Counter 0)) ∷ []
-changes_of_start (roots ∷ []) = Change 1 (Put (Counter 0)) ∷ []
-changes_of_start (roots ∷ counter ∷ contents) = []
+changes_of_start contents = drop (length contents) (Change 0 (Put (Roots [])) ∷ Change 1 (Put (Counter 0)) ∷ [])
 
 -- The first generated id: two intervals above the counter, since those below may have been answered. Where a system page was
 -- missing none was.

@@ -5,7 +5,7 @@ use Rattle.sled_base.specs.declared.types.Refusal.TheVariants.{Unsupported}
 use Rattle.sled_base.specs.declared.types.Why.TheVariants.{ReservedId}
 use Rattle.sled_log.specs.Chains.{is_empty}
 use Rattle.sled_log.specs.Contents.{Node}
-use Rattle.sled_log.specs.Messages.{Entry, Chain, told, effect_of_entry}
+use Rattle.sled_log.specs.Messages.{Chain, told, effect_of_entry}
 use Rattle.sled_log.specs.Reading.{Makes}
 use Rattle.sled_log.specs.State as log
 use Rattle.sled_log.specs.declared.log.Log.{Ghosts}
@@ -15,6 +15,7 @@ use Rattle.sled_pagecache.specs.Calls.{IsSameOpening}
 use Rattle.sled_pagecache.specs.ChainReads.{chain_at}
 use Rattle.sled_pagecache.specs.Journal.{Went, IsCaused}
 use Rattle.sled_pagecache.specs.Pulling.{RefusesPull}
+use Rattle.sled_pagecache.specs.Reading.{IsDamaged}
 use Rattle.sled_pagecache.specs.Step.{is_reserved}
 use Rattle.sled_pagecache.specs.Token.{token}
 use Rattle.sled_pagecache.specs.declared.pagecache.journal.Journal.{Journal}
@@ -28,24 +29,29 @@ journal_of cache = record { log = cache.log; fault = cache.fault }
 abbrev pub RefusesReading : Chain → ℕ → Refusal → Type 0
 RefusesReading chain pid refusal =
     ((is_reserved pid ≡ true) × (refusal ≡ Unsupported ReservedId))
-    ⊎ ((is_reserved pid ≡ false) × (is_empty effect_of_entry chain ≡ false) × RefusesPull (told chain) refusal)
+    ⊎ ((is_reserved pid ≡ false) × (is_empty effect_of_entry chain ≡ false) × RefusesPull chain refusal)
 
--- The page was read where it didn't lie in memory. No page changes, and nothing is told to the log.
-pub record BringsIn {L : Type 0} (g : Ghosts L) (old : Cache L) (pid : ℕ) (result : Result (Unit {0}) Refusal) (new : Cache L) : Type 0 where
+-- No page changes, and nothing is told to the log.
+pub record LeavesPages {L : Type 0} (g : Ghosts L) (old new : Cache L) : Type 0 where
   pub opening : IsSameOpening old new
   pub stamps : new.stamps ≡ old.stamps
   pub next : new.next ≡ old.next
-  pub went : Went g.state g.moment g.left_since g.counts (journal_of old) (journal_of new) []
-  pub cause : IsCaused g.state g.moment g.left_since g.counts (journal_of old) (journal_of new) ⊥ result
-  pub same : new.fault ≡ false → log.now effect_of_entry (g.state new.log) ≡ log.now effect_of_entry (g.state old.log)
+  pub went : Went g.tells g.state g.moment g.left_since g.counts (journal_of old) (journal_of new) []
+  pub same : g.tells → new.fault ≡ false → log.now effect_of_entry (g.state new.log) ≡ log.now effect_of_entry (g.state old.log)
+
+-- The page was read where it didn't lie in memory, and is free then or makes a node.
+pub record BringsIn {L : Type 0} (g : Ghosts L) (old : Cache L) (pid : ℕ) (result : Result (Unit {0}) Refusal) (new : Cache L) : Type 0 where
+  pub left : LeavesPages g old new
+  pub cause : IsCaused g.tells g.state g.moment g.left_since g.counts (journal_of old) (journal_of new) ⊥ result
   pub in_memory : OnOk result ((is_reserved pid ≡ false) × ¬ IsAway new pid)
-  pub refused : IfErr result (RefusesReading (chain_at (g.state old.log) pid) pid)
+  pub sound : g.tells → OnOk result (¬ IsDamaged (chain_at (g.state old.log) pid))
+  pub refused : g.tells → IfErr result (RefusesReading (chain_at (g.state old.log) pid) pid)
 
 -- The node is the one that the chain of the page makes. There is none where the page doesn't lie in memory, or the chain makes
 -- none. With a write fault kept nothing is known of the chain.
-abbrev pub IsNodeAt : {L : Type 0} → (L → log.State Entry) → Cache L → ℕ → Option NodeView → Type 0
-IsNodeAt state cache pid (Some view) =
+abbrev pub IsNodeAt : {L : Type 0} → Ghosts L → Cache L → ℕ → Option NodeView → Type 0
+IsNodeAt g cache pid (Some view) =
     (view.token ≡ token pid view.token.stamp) × (slice_get cache.stamps pid ≡ Some view.token.stamp) × IsResident cache pid
-    × (cache.fault ≡ false → Makes (told (chain_at (state cache.log) pid)) (Node view.node.now))
-IsNodeAt state cache pid None =
-    IsAway cache pid ⊎ (cache.fault ≡ false → (node : WholeNode) → ¬ Makes (told (chain_at (state cache.log) pid)) (Node node))
+    × (g.tells → cache.fault ≡ false → Makes (told (chain_at (g.state cache.log) pid)) (Node view.node.now))
+IsNodeAt g cache pid None =
+    IsAway cache pid ⊎ (g.tells → cache.fault ≡ false → (node : WholeNode) → ¬ Makes (told (chain_at (g.state cache.log) pid)) (Node node))

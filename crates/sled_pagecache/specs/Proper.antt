@@ -1,11 +1,11 @@
 -- Pages as a cache leaves them.
-use Rattle.std.specs.Prelude.{◌≤◌, ◌^◌, ℕ, List, [], ◌∷◌, length, take}
+use Rattle.std.specs.Prelude.{◌≤◌, ℕ, List, [], ◌∷◌, length, take}
 use Rattle.std.specs.List.{AllByRecursion}
 use Rattle.sled_log.specs.Chains.{chains_after}
-use Rattle.sled_log.specs.Contents.{Content, Free, Counter, Roots, Node, Update, contents_after}
+use Rattle.sled_log.specs.Contents.{Content, Free, Counter, Roots, Node, Damaged, Update, contents_after}
 use Rattle.sled_log.specs.Events.{Event}
 use Rattle.sled_log.specs.Messages.{Message, Told, effect_of}
-use Rattle.sled_pagecache.specs.declared.pagecache.TheConstants.{PAGE_CONSOLIDATION_THRESHOLD, MAX_PID_BITS}
+use Rattle.sled_pagecache.specs.Limits.{most_messages, most_pages}
 
 abbrev pub AreRoots : Content → Type 0
 AreRoots (Roots roots) = Unit {0}
@@ -15,22 +15,24 @@ abbrev pub IsCounter : Content → Type 0
 IsCounter (Counter n) = Unit {0}
 IsCounter other = ⊥
 
-abbrev pub IsFreeOrNode : Content → Type 0
-IsFreeOrNode Free = Unit {0}
-IsFreeOrNode (Node node) = Unit {0}
-IsFreeOrNode other = ⊥
+-- what a page of the callers holds: it is free, has a node, or is damaged
+abbrev pub IsUsers : Content → Type 0
+IsUsers Free = Unit {0}
+IsUsers (Node node) = Unit {0}
+IsUsers Damaged = Unit {0}
+IsUsers other = ⊥
 
 -- page 0 holds the named roots and page 1 the counter, as far as they are there, and no other page does
 abbrev pub AreOwn : List Content → Type 0
 AreOwn [] = Unit {0}
 AreOwn (roots ∷ []) = AreRoots roots
-AreOwn (roots ∷ counter ∷ contents) = AreRoots roots × IsCounter counter × AllByRecursion IsFreeOrNode contents
+AreOwn (roots ∷ counter ∷ contents) = AreRoots roots × IsCounter counter × AllByRecursion IsUsers contents
 
 -- at most 10 messages make a page, and there are at most 2^37 pages
 pub record IsProper (pages : List Told) (contents : List Content) : Type 0 where
   pub own : AreOwn contents
-  pub short : AllByRecursion (λ told. length told ≤ PAGE_CONSOLIDATION_THRESHOLD) pages
-  pub few : length contents ≤ 2 ^ MAX_PID_BITS
+  pub short : AllByRecursion (λ told. length told ≤ most_messages) pages
+  pub few : length contents ≤ most_pages
 
 -- however many of these messages have come, which are these changes, the pages are so
 abbrev pub StayProper : List Told → List Content → List (Event Message) → List (Event Update) → Type 0

@@ -2,15 +2,13 @@
 use Rattle.std.specs.Prelude.{Some, ⊤}
 use Rattle.sled_base.specs.declared.types.Refusal.{Refusal}
 use Rattle.sled_base.specs.declared.types.Refusal.TheVariants.{Io, Corruption, OutOfMemory}
-use Rattle.sled_log.specs.Contents.{Node}
-use Rattle.sled_log.specs.Messages.{Told}
-use Rattle.sled_log.specs.Reading.{Makes}
-use Rattle.sled_node.specs.Node.{WholeNode}
+use Rattle.sled_log.specs.Messages.{Chain}
+use Rattle.sled_pagecache.specs.Reading.{IsWrongAt}
 
--- Memory was wanting, the device failed, or a message doesn't belong there, and then the page's messages make no node.
-abbrev pub RefusesPull : Told → Refusal → Type 0
-RefusesPull told OutOfMemory = ⊤
-RefusesPull told (Io device) = ⊤
-RefusesPull told (Corruption (Some pointer)) = (node : WholeNode) → ¬ Makes told (Node node)
+-- Memory was wanting, the device failed, or a message doesn't belong there, and the first such one is reported.
+abbrev pub RefusesPull : Chain → Refusal → Type 0
+RefusesPull chain OutOfMemory = ⊤
+RefusesPull chain (Io device) = ⊤
+RefusesPull chain (Corruption (Some pointer)) = IsWrongAt chain pointer
 -- there is no other reason, since a page that is free lies in memory
-RefusesPull told refusal = ⊥
+RefusesPull chain refusal = ⊥

@@ -1,12 +1,13 @@
 -- What messages make that a log gave back of a page, and the first of them that doesn't belong there.
-use Rattle.std.specs.Prelude.{◌≡◌, ℕ, List, [], ◌∷◌, ◌++◌, ◌⊎◌, map, Some, ⊤}
+use Rattle.std.specs.Prelude.{◌≡◌, ℕ, List, [], ◌∷◌, ◌++◌, ◌⊎◌, map, false, Some, ⊤}
 use Rattle.sled_base.specs.declared.kinds.MessageKind.TheVariants as kinds
 use Rattle.sled_base.specs.declared.types.Bug.TheVariants.{FreeInPull}
 use Rattle.sled_base.specs.declared.types.DiskPtr.{DiskPtr}
 use Rattle.sled_base.specs.declared.types.Refusal.{Refusal}
 use Rattle.sled_base.specs.declared.types.Refusal.TheVariants.{ReportableBug, Corruption, OutOfMemory}
+use Rattle.sled_log.specs.Chains.{is_empty}
 use Rattle.sled_log.specs.Contents.{Node, Link}
-use Rattle.sled_log.specs.Messages.{Message, message}
+use Rattle.sled_log.specs.Messages.{Message, Chain, Told, told, message, effect_of_entry}
 use Rattle.sled_log.specs.Reading.{IsUpdate, Makes}
 use Rattle.sled_node.specs.Links.{Accepts, applied}
 use Rattle.sled_node.specs.Node.{WholeNode}
@@ -18,19 +19,30 @@ abbrev pub told_of : Found → Message
 told_of found = message found.kind found.payload.items
 
 -- the messages make some node
-abbrev pub MakesNode : List Found → Type 0
-MakesNode found = (node : WholeNode) × Makes (map told_of found) (Node node)
+abbrev pub MakesNode : Told → Type 0
+MakesNode told = (node : WholeNode) × Makes told (Node node)
 
 -- The message kept there is the first that doesn't belong where it stands: those before it make a node, where there are any,
 -- and with it they make none.
-pub record IsAmiss (found : List Found) (pointer : DiskPtr) : Type 0 where
-  pub before : List Found
-  pub first : Found
-  pub after : List Found
-  pub is : found ≡ before ++ first ∷ after
-  pub kept : first.pointer ≡ pointer
-  pub sound : (before ≡ []) ⊎ MakesNode before
-  pub amiss : ¬ MakesNode (before ++ first ∷ [])
+pub record IsFirstWrong {M : Type 0} (message : M → Message) (kept_at : M → DiskPtr) (messages : List M) (pointer : DiskPtr) : Type 0 where
+  pub before : List M
+  pub first : M
+  pub after : List M
+  pub is : messages ≡ before ++ first ∷ after
+  pub kept : kept_at first ≡ pointer
+  pub sound : (before ≡ []) ⊎ MakesNode (map message before)
+  pub wrong : ¬ MakesNode (map message (before ++ first ∷ []))
+
+-- the page has a content, and its messages make no node
+abbrev pub IsDamaged : Chain → Type 0
+IsDamaged chain = (is_empty effect_of_entry chain ≡ false) × ¬ MakesNode (told chain)
+
+-- it is the first wrong one of a page's chain, or of what was found of it
+abbrev pub IsWrongAt : Chain → DiskPtr → Type 0
+IsWrongAt chain pointer = IsFirstWrong (λ entry. entry.message) (λ entry. entry.place.pointer) chain pointer
+
+abbrev pub IsFoundWrong : List Found → DiskPtr → Type 0
+IsFoundWrong found pointer = IsFirstWrong told_of (λ found. found.pointer) found pointer
 
 -- the first message says that the page is free
 abbrev pub BeginsFree : List Found → Type 0
@@ -40,7 +52,7 @@ BeginsFree (first ∷ found) = first.kind ≡ kinds.Free
 -- why messages give no node: memory was wanting, one of them doesn't belong there, or the page is free
 abbrev pub RefusesNode : List Found → Refusal → Type 0
 RefusesNode found OutOfMemory = ⊤
-RefusesNode found (Corruption (Some pointer)) = IsAmiss found pointer
+RefusesNode found (Corruption (Some pointer)) = IsFoundWrong found pointer
 RefusesNode found (ReportableBug FreeInPull) = BeginsFree found
 -- there is no other reason
 RefusesNode found refusal = ⊥

@@ -4,7 +4,7 @@ use Rattle.sled_log.specs.Calls.{Counts}
 use Rattle.sled_log.specs.declared.log.Log.{Ghosts}
 use Rattle.sled_pagecache.specs.Cache.{Cache, chain_length, IsResident, IsAway}
 use Rattle.sled_pagecache.specs.ChainReads.{more}
-use Rattle.sled_pagecache.specs.declared.pagecache.TheConstants.{PAGE_CONSOLIDATION_THRESHOLD}
+use Rattle.sled_pagecache.specs.Limits.{most_messages}
 
 -- not at all
 abbrev pub ReadsNothing : {L : Type 0} → Ghosts L → Cache L → Cache L → Type 0
@@ -15,9 +15,9 @@ module _ {L : Type 0} (g : Ghosts L) where
   -- where the call is refused; and else not at all.
   pub record ReadsPage (old : Cache L) (pid : ℕ) (new : Cache L) : Type 0 where
     pub in_memory : ¬ IsAway old pid → ReadsNothing g old new
-    pub whole : IsAway old pid → IsResident new pid → (g.counts new.log).reads ≡ more (chain_length g.state old pid) (g.counts old.log).reads
+    pub whole : g.tells → IsAway old pid → IsResident new pid → (g.counts new.log).reads ≡ more (chain_length g.state old pid) (g.counts old.log).reads
     pub times : ℕ
-    pub most : times ≤ PAGE_CONSOLIDATION_THRESHOLD
+    pub most : times ≤ most_messages
     pub is : (g.counts new.log).reads ≡ more times (g.counts old.log).reads
 
 -- how many of so many pages are the cache's own

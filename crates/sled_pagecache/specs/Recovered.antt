@@ -1,9 +1,10 @@
 -- Pages as they are recovered, and those that no cache leaves so.
-use Rattle.std.specs.Prelude.{◌≡◌, ◌<◌, ◌^◌, ◌&&◌, ◌||◌, ℕ, ℤ, Bool, true, false, List, [], ◌∷◌, length, map, nat_lt, slice_get, Some, IfSome}
-use Rattle.std.specs.List.{sum_by}
+use Rattle.std.specs.Prelude.{◌≡◌, ◌<◌, ◌&&◌, ◌||◌, ℕ, ℤ, Bool, true, false, List, [], ◌∷◌, length, map, nat_lt, slice_get, Some, IfSome}
 use Rattle.sled_base.specs.declared.types.DiskPtr.{DiskPtr}
 use Rattle.sled_base.specs.declared.types.page_state.PageState.{PageState}
 use Rattle.sled_base.specs.declared.types.page_state.PageState.TheVariants as said
+use Rattle.sled_log.specs.Limits.{head_size}
+use Rattle.sled_pagecache.specs.Limits.{most_messages}
 use Rattle.sled_pagecache.specs.Pages.{is_free}
 use Rattle.sled_pagecache.specs.declared.pagecache.chain.CacheInfo.{CacheInfo}
 use Rattle.sled_pagecache.specs.declared.pagecache.page.Kept.{Kept}
@@ -14,14 +15,10 @@ use Rattle.sled_pagecache.specs.declared.pagecache.page.Page.{Page}
 abbrev pub info_at : ℤ × DiskPtr × ℕ → CacheInfo
 info_at place = record { ts = 0; lsn = place.0; pointer = place.1; log_size = place.2 }
 
--- the places of the messages of a page; one that frees it takes 17 bytes
+-- the places of the messages of a page; one that frees it has no payload
 abbrev pub places_in : PageState → List (ℤ × DiskPtr × ℕ)
 places_in (said.Present base frags) = base ∷ frags.items
-places_in (said.Free lsn pointer) = (lsn, pointer, 17) ∷ []
-
--- together they are at most the greatest i64
-abbrev pub HasRoom : PageState → Type 0
-HasRoom state = sum_by (λ place. place.2) (places_in state) < 2 ^ 63
+places_in (said.Free lsn pointer) = (lsn, pointer, head_size) ∷ []
 
 -- what a page holds that was recovered and not read yet
 abbrev pub kept_by : PageState → Kept
@@ -37,7 +34,7 @@ pub record IsRecovered (state : PageState) (page : Page) : Type 0 where
 -- Whether no cache leaves a page so at this id: it has more than 10 messages, or it is a system page that is free or has a
 -- link.
 abbrev pub is_misfit : ℕ → Page → Bool
-is_misfit pid page = nat_lt 10 (length page.infos.items) || (nat_lt pid 2 && (is_free page.kept || nat_lt 1 (length page.infos.items)))
+is_misfit pid page = nat_lt most_messages (length page.infos.items) || (nat_lt pid 2 && (is_free page.kept || nat_lt 1 (length page.infos.items)))
 
 -- there is no such page
 abbrev pub AllFit : List Page → Type 0

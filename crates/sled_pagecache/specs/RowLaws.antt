@@ -1,17 +1,15 @@
 -- What follows for calls of the page cache in a row: no call and one call are rows, and a row behind another makes a longer one.
-use Rattle.std.proofs.Common.{◌≡◌, inl, inr, ⊎_elim, ◌+◌, ℕ, Bool, true, false, List, [], ◌∷◌, ◌++◌, take, drop, refl, sym, ◌∙◌, ap, subst, arith}
+use Rattle.std.proofs.Common.{◌≡◌, inl, inr, ⊎_elim, ℕ, Bool, true, false, List, [], ◌∷◌, ◌++◌, take, refl, sym, ◌∙◌, ap, subst, arith}
 use Rattle.std.specs.Prelude.{MatchBool}
 use Rattle.std.proofs.lemmas.Bool.{false≢true}
-use Rattle.std.proofs.lemmas.List.{append_assoc, append-nil, take-append-le, drop-append-le, drop-drop}
-use Rattle.std.proofs.Math.Seq.{take-add}
+use Rattle.std.proofs.lemmas.List.{append_assoc, append-nil}
 use Rattle.sled_log.specs.Batches.{IsFair}
 use Rattle.sled_log.specs.Chains.{chains_after}
 use Rattle.sled_log.specs.Contents.{Update, contents_after}
 use Rattle.sled_log.specs.Events.{Event}
 use Rattle.sled_log.specs.HoldingLaws.{holds-after}
-use Rattle.sled_log.specs.Laws.{IsFair-none, IsFair-more, IsFair-add, IsBeginning-more, IsBeginning-behind, StopsLeave-none}
+use Rattle.sled_log.specs.Laws.{AddsEvents-none, AddsEvents-then, CrashKeeps-behind, CrashKeeps-more, StopsLeave-none}
 use Rattle.sled_log.specs.Messages.{Message, Told, effect_of}
-use Rattle.sled_log.specs.Reading.{Hold}
 use Rattle.sled_log.specs.ReadingLaws.{contents_after-append, told-take, reads-fair}
 use Rattle.sled_log.specs.RunLaws.{StopsLeave-weaker}
 use Rattle.sled_log.specs.State as log
@@ -20,8 +18,7 @@ use Rattle.sled_log.specs.declared.log.Log.{Ghosts}
 use Rattle.sled_pagecache.specs.Cache.{Cache, chain_length}
 use Rattle.sled_pagecache.specs.Calls.{Steps}
 use Rattle.sled_pagecache.specs.Changes.{changes_of}
-use Rattle.sled_pagecache.specs.Logged.{Logged, IsLogged, Adds, IsLeft}
-use Rattle.sled_pagecache.specs.Proper.{IsProper}
+use Rattle.sled_pagecache.specs.Logged.{Logged, IsLogged, AreKept, Adds, IsLeft}
 use Rattle.sled_pagecache.specs.Rows.{AreSteps, IsRow, StepInRow, IsMade, AreMade}
 use Rattle.sled_pagecache.specs.State.{State}
 use Rattle.sled_pagecache.specs.Step.{Step}
@@ -33,72 +30,19 @@ use Rattle.sled_pagecache.specs.declared.pagecache.call.Call.TheVariants.{Alloca
 -- ---- changes that come behind others
 
 -- nothing was added, and nothing moved
-adds-none : (held : Logged) → Adds held [] held
-adds-none held = record { cut = 0; fair = IsFair-none (held.pending ++ []); stable = refl; pending = sym (append-nil held.pending) }
+pub adds-none : (held : Logged) → Adds held [] held
+adds-none held = AddsEvents-none contents_after contents_after-append held.stable held.pending refl
 
--- what is behind a cut of the changes so far, when more come
-module _ (held mid : Logged) (first second : List (Event Update)) (a : Adds held first mid) where
-  whole : (held.pending ++ first) ++ second ≡ held.pending ++ (first ++ second)
-  whole = append_assoc held.pending first second
-
-  rest : mid.pending ++ second ≡ drop a.cut ((held.pending ++ first) ++ second)
-  rest = let w = a.fair.within in ap (λ (l : List (Event Update)). l ++ second) a.pending ∙ sym (drop-append-le a.cut (held.pending ++ first) second w)
-
-  cut_behind : (n : ℕ) → IsFair (mid.pending ++ second) n → IsFair (held.pending ++ (first ++ second)) (a.cut + n)
-  cut_behind n fair =
-      subst (λ (l : List (Event Update)). IsFair l (a.cut + n)) whole
-      (IsFair-add ((held.pending ++ first) ++ second) a.cut n (IsFair-more (held.pending ++ first) second a.cut a.fair) (subst (λ (l : List (Event Update)). IsFair l n) rest fair))
-
-  stable_behind : (n : ℕ) → contents_after mid.stable (take n (mid.pending ++ second)) ≡ contents_after held.stable (take (a.cut + n) (held.pending ++ (first ++ second)))
-  stable_behind n =
-      let xs = (held.pending ++ first) ++ second in
-      let w = a.fair.within in
-      ap (λ l. contents_after l (take n (mid.pending ++ second))) (a.stable ∙ ap (contents_after held.stable) (sym (take-append-le a.cut (held.pending ++ first) second w)))
-      ∙ ap (λ (l : List (Event Update)). contents_after (contents_after held.stable (take a.cut xs)) (take n l)) rest
-      ∙ sym (contents_after-append held.stable (take a.cut xs) (take n (drop a.cut xs)))
-      ∙ ap (contents_after held.stable) (sym (take-add a.cut n xs))
-      ∙ ap (λ (l : List (Event Update)). contents_after held.stable (take (a.cut + n) l)) whole
-
-  pending_behind : (n : ℕ) → drop n (mid.pending ++ second) ≡ drop (a.cut + n) (held.pending ++ (first ++ second))
-  pending_behind n =
-      ap (λ (l : List (Event Update)). drop n l) rest ∙ drop-drop n a.cut ((held.pending ++ first) ++ second) ∙ ap (λ (l : List (Event Update)). drop (a.cut + n) l) whole
-
--- changes behind others
 adds-then : (held mid new : Logged) (first second : List (Event Update)) → Adds held first mid → Adds mid second new → Adds held (first ++ second) new
-adds-then held mid new first second a b = record {
-  cut = a.cut + b.cut;
-  fair = cut_behind held mid first second a b.cut b.fair;
-  stable = b.stable ∙ stable_behind held mid first second a b.cut;
-  pending = b.pending ∙ pending_behind held mid first second a b.cut;
-}
+adds-then held mid new first second = AddsEvents-then contents_after contents_after-append held.stable mid.stable new.stable held.pending mid.pending new.pending first second
 
--- what a stop leaves of the second
+-- what a crash leaves in the second
 left-behind : (held mid : Logged) (first second : List (Event Update)) (pages : List Told) → Adds held first mid → IsLeft mid second pages → IsLeft held (first ++ second) pages
-left-behind held mid first second pages a of_second =
-    let left = of_second.left in
-    record {
-      left = record {
-        came = first ++ left.came;
-        beginning = IsBeginning-behind first left.came second left.beginning;
-        cut = a.cut + left.cut;
-        fair = cut_behind held mid first left.came a left.cut left.fair;
-        is = subst (Hold pages) (stable_behind held mid first left.came a left.cut) left.is;
-      };
-      proper = subst (IsProper pages) (stable_behind held mid first left.came a left.cut) of_second.proper;
-    }
+left-behind held mid first second pages = CrashKeeps-behind contents_after contents_after-append held.stable mid.stable held.pending mid.pending first second (AreKept pages)
 
--- what a stop leaves of the first
-left-more : (held : Logged) (first second : List (Event Update)) (pages : List Told) → IsLeft held first pages → IsLeft held (first ++ second) pages
-left-more held first second pages left = record {
-  left = record {
-    came = left.left.came;
-    beginning = IsBeginning-more left.left.came first second left.left.beginning;
-    cut = left.left.cut;
-    fair = left.left.fair;
-    is = left.left.is;
-  };
-  proper = left.proper;
-}
+-- what it leaves where more come
+pub left-more : (held : Logged) (first all : List (Event Update)) (pages : List Told) → IsBeginning first all → IsLeft held first pages → IsLeft held all pages
+left-more held first all pages = CrashKeeps-more contents_after contents_after-append held.stable held.pending first all (AreKept pages)
 
 -- ---- stops
 
@@ -115,19 +59,17 @@ left-now state held pages logged left =
     let is : pages ≡ chains_after effect_of state.stable (take left.cut state.pending) = left.is ∙ ap (λ (l : List (Event Message)). chains_after effect_of state.stable (take left.cut l)) all in
     let known : held.pending ≡ held.pending ++ [] = sym (append-nil held.pending) in
     record {
-      left = record {
-        came = [];
-        beginning = ([], refl);
-        cut = left.cut;
-        fair = subst (λ (l : List (Event Update)). IsFair l left.cut) known (reads-fair held.stable state.pending held.pending left.cut logged.pending fair);
-        is =
-            subst (λ (l : List (Event Update)). Hold pages (contents_after held.stable (take left.cut l))) known
-            (subst (λ (l : List Told). Hold l (contents_after held.stable (take left.cut held.pending))) (sym is)
-            (holds-after state.stable held.stable (take left.cut state.pending) (take left.cut held.pending) logged.stable (told-take held.stable left.cut state.pending held.pending logged.pending)));
-      };
-      proper =
-          subst (λ (l : List (Event Update)). IsProper pages (contents_after held.stable (take left.cut l))) known
-          (subst (λ (l : List Told). IsProper l (contents_after held.stable (take left.cut held.pending))) (sym is) (logged.proper left.cut));
+      came = [];
+      beginning = ([], refl);
+      cut = left.cut;
+      fair = subst (λ (l : List (Event Update)). IsFair l left.cut) known (reads-fair held.stable state.pending held.pending left.cut logged.pending fair);
+      is =
+          subst (λ (l : List (Event Update)). AreKept pages (contents_after held.stable (take left.cut l))) known
+          (subst (λ (l : List Told). AreKept l (contents_after held.stable (take left.cut held.pending))) (sym is)
+          (record {
+            holds = holds-after state.stable held.stable (take left.cut state.pending) (take left.cut held.pending) logged.stable (told-take held.stable left.cut state.pending held.pending logged.pending);
+            proper = logged.proper left.cut;
+          }));
     }
 
 module _ {L : Type 0} (moment : L → ℕ) (left_since : L → ℕ → List Told → Type 0) where
@@ -193,7 +135,7 @@ module _ {L : Type 0} (g : Ghosts L) where
     stop free = by row.t.fault refl
       where
         of_first : (pages : List Told) → IsLeft held row.changes pages → IsLeft held (row.changes ++ next.changes) pages
-        of_first pages left = left-more held row.changes next.changes pages left
+        of_first pages left = left-more held row.changes (row.changes ++ next.changes) pages (next.changes, refl) left
 
         by : (fault : Bool) → row.t.fault ≡ fault → StopsLeave g.moment g.left_since old.log new.log (IsLeft held (row.changes ++ next.changes))
         by true kept =
@@ -217,7 +159,7 @@ module _ {L : Type 0} (g : Ghosts L) where
     }
 
   -- no call
-  pub row-none : (cache : Cache L) → ((l : L) (pages : List Told) → g.left_since l (g.moment l) pages → log.IsLeft effect_of (log.told_state (g.state l)) [] pages) → StepInRow g cache [] cache
+  pub row-none : (cache : Cache L) → ((l : L) (pages : List Told) → g.tells → (g.state l).usable ≡ true → g.left_since l (g.moment l) pages → log.IsLeft effect_of (log.told_state (g.state l)) [] pages) → StepInRow g cache [] cache
   row-none cache only_now = record {
     opening = record { config = refl; recovered = refl };
     from_each = λ held s is. record {
@@ -227,7 +169,7 @@ module _ {L : Type 0} (g : Ghosts L) where
       changes = [];
       steps = (refl, refl);
       added = λ _. adds-none held;
-      stop = λ free. StopsLeave-none g.moment g.left_since cache.log (IsLeft held []) (λ pages left. left-now (log.told_state (g.state cache.log)) held pages (is.logged free) (only_now cache.log pages left));
+      stop = λ free. StopsLeave-none g.moment g.left_since cache.log (IsLeft held []) (λ pages left. left-now (log.told_state (g.state cache.log)) held pages (is.known free).logged (only_now cache.log pages is.tells (is.known free).usable left));
       stuck = λ _. refl;
     };
   }
@@ -261,7 +203,7 @@ module _ {L : Type 0} (g : Ghosts L) where
   }
 
   -- calls that were made one after another
-  pub made-row : (old new : Cache L) (calls : List (Call × Answer)) → ((l : L) (pages : List Told) → g.left_since l (g.moment l) pages → log.IsLeft effect_of (log.told_state (g.state l)) [] pages) → AreMade g old calls new → StepInRow g old calls new
+  pub made-row : (old new : Cache L) (calls : List (Call × Answer)) → ((l : L) (pages : List Told) → g.tells → (g.state l).usable ≡ true → g.left_since l (g.moment l) pages → log.IsLeft effect_of (log.told_state (g.state l)) [] pages) → AreMade g old calls new → StepInRow g old calls new
   made-row old new [] only_now same = subst (StepInRow g old []) (sym same) (row-none old only_now)
   made-row old new (made ∷ calls) only_now (mid, first, others) = row-then old mid new (made ∷ []) calls (row-one old mid made.0 made.1 first.step) (made-row mid new calls only_now others)
 

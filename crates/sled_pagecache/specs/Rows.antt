@@ -27,7 +27,7 @@ module _ {L : Type 0} (g : Ghosts L) where
   pub record IsRow (old : Cache L) (calls : List (Call × Answer)) (new : Cache L) (held : Logged) (s : State) : Type 0 where
     pub held_then : Logged
     pub t : State
-    pub is : IsIn g.state new held_then t
+    pub is : IsIn g new held_then t
     pub changes : List (Event Update)
     pub steps : AreSteps s calls changes t
     pub added : t.fault ≡ false → Adds held changes held_then
@@ -37,7 +37,7 @@ module _ {L : Type 0} (g : Ghosts L) where
   -- The calls are steps in a row, in whatever state the cache is.
   pub record StepInRow (old : Cache L) (calls : List (Call × Answer)) (new : Cache L) : Type 0 where
     pub opening : IsSameOpening old new
-    pub from_each : (held : Logged) (s : State) → IsIn g.state old held s → IsRow old calls new held s
+    pub from_each : (held : Logged) (s : State) → IsIn g old held s → IsRow old calls new held s
 
   -- A flush that was made tells how many bytes were to be written, and nothing is pending behind it; a size is that of the log.
   abbrev pub TellsBytes : Cache L → Answer → Cache L → Type 0

@@ -1,5 +1,5 @@
 -- What opening a page cache over a log does.
-use Rattle.std.specs.Prelude.{◌≡◌, ◌≢◌, ◌<◌, ◌≤◌, ◌^◌, ℕ, zero, suc, Bool, true, false, List, [], ◌∷◌, ◌++◌, length, map, slice_get, Some, None, Result, Ok, Err, IfOk, IfErr, IfSome, ⊤}
+use Rattle.std.specs.Prelude.{◌≡◌, ◌≢◌, ◌⊎◌, ◌<◌, ◌≤◌, ℕ, zero, suc, Bool, true, false, List, [], ◌∷◌, ◌++◌, length, map, slice_get, Some, None, Result, Ok, Err, IfErr, IfSome, ⊤}
 use Rattle.sled_base.specs.declared.types.Device.TheVariants.{Read, Write}
 use Rattle.sled_base.specs.declared.types.DiskPtr.{DiskPtr}
 use Rattle.sled_base.specs.declared.types.Error.{Error}
@@ -14,14 +14,14 @@ use Rattle.sled_log.specs.Contents as content
 use Rattle.sled_log.specs.Events.{Event}
 use Rattle.sled_log.specs.Messages.{Message, Chain, Told, told, effect_of_entry}
 use Rattle.sled_log.specs.Reading.{Makes}
-use Rattle.sled_log.specs.State.{State, IsBeginning, StopsLeave, told_state}
+use Rattle.sled_log.specs.State.{State, StopsLeave, told_state}
 use Rattle.sled_log.specs.declared.log.Log.{Ghosts}
 use Rattle.sled_pagecache.specs.Cache.{Cache, IsResident, IsIn}
 use Rattle.sled_pagecache.specs.Calls.{HasNoRoom}
 use Rattle.sled_pagecache.specs.ChainReads.{chain_at}
 use Rattle.sled_pagecache.specs.Logged.{Logged, IsLogged, Adds, IsLeft, now}
 use Rattle.sled_pagecache.specs.Opening.{fault_of, missing, changes_of_start, opened}
-use Rattle.sled_pagecache.specs.declared.pagecache.TheConstants.{PAGE_CONSOLIDATION_THRESHOLD, MAX_PID_BITS}
+use Rattle.sled_pagecache.specs.Limits.{most_messages, most_pages}
 use Rattle.sled_pagecache.specs.declared.pagecache.config.Config.{Config}
 
 -- the log that is left, in the cache or beside the error
@@ -46,7 +46,7 @@ has_own (roots ∷ counter ∷ contents) = true
 abbrev pub IsFit : ℕ → Chain → Type 0
 IsFit zero chain = (roots : meta.Roots) × Makes (told chain) (content.Roots roots)
 IsFit (suc zero) chain = (n : ℕ) × Makes (told chain) (content.Counter n)
-IsFit (suc (suc pid)) chain = length chain ≤ PAGE_CONSOLIDATION_THRESHOLD
+IsFit (suc (suc pid)) chain = length chain ≤ most_messages
 
 -- the pointer is that of the first message of the first page, by id, that isn't so
 pub record BeginsAmiss (chains : List Chain) (pointer : DiskPtr) : Type 0 where
@@ -61,14 +61,13 @@ pub record BeginsAmiss (chains : List Chain) (pointer : DiskPtr) : Type 0 where
 abbrev pub RefusesOpening : Config → List Chain → Error → Type 0
 RefusesOpening config chains OutOfMemory = ⊤
 RefusesOpening config chains (Io device) = ⊤
-RefusesOpening config chains (Unsupported LogFull) = ⊤
-RefusesOpening config chains (Unsupported why) = fault_of config ≡ Some why
-RefusesOpening config chains (Corruption None) = 2 ^ MAX_PID_BITS < length chains
-RefusesOpening config chains (Corruption (Some pointer)) = (length chains ≤ 2 ^ MAX_PID_BITS) × BeginsAmiss chains pointer
+RefusesOpening config chains (Unsupported why) = (why ≡ LogFull) ⊎ (fault_of config ≡ Some why)
+RefusesOpening config chains (Corruption None) = most_pages < length chains
+RefusesOpening config chains (Corruption (Some pointer)) = (length chains ≤ most_pages) × BeginsAmiss chains pointer
 -- there is no other reason
 RefusesOpening config chains other = ⊥
 
--- memory was wanting, the device failed, or the log was full
+-- out of memory, a device that failed, or a full log
 abbrev pub IsHindrance : Error → Type 0
 IsHindrance OutOfMemory = ⊤
 IsHindrance (Io device) = ⊤
@@ -76,43 +75,56 @@ IsHindrance (Unsupported LogFull) = ⊤
 IsHindrance other = ⊥
 
 module _ {L : Type 0} (g : Ghosts L) where
-  -- A cache was opened over a log that held this: the missing system pages were added, and where one was, nothing is pending.
-  pub record IsOpened (config : Config) (held : Logged) (cache : Cache L) : Type 0 where
+  -- the log holds what was held and, behind it, the changes
+  pub record HasAdded (held : Logged) (changes : List (Event Update)) (log : L) : Type 0 where
     pub held_then : Logged
-    pub is : IsIn g.state cache held_then (opened config (now held))
+    pub logged : IsLogged (told_state (g.state log)) held_then
+    pub added : Adds held changes held_then
+
+  -- A crash at any moment of the call leaves what was held and a prefix of the changes that splits no batch.
+  abbrev pub CrashLeaves : L → Logged → List (Event Update) → L → Type 0
+  CrashLeaves log held changes after = StopsLeave g.moment g.left_since log after (IsLeft held changes)
+
+  -- the log has no room for the message of the first change
+  abbrev pub LacksRoomFor : L → List (Event Update) → Type 0
+  LacksRoomFor log [] = ⊥
+  LacksRoomFor log (change ∷ changes) = HasNoRoom g log change
+
+  -- The log was full. Where no change had begun, it lacked room as it was given; else it did once those that began were added
+  -- to it. From then on nothing was added.
+  pub record WasFull (log : L) (held : Logged) (begun rest : List (Event Update)) (after : L) : Type 0 where
+    pub given : begun ≡ [] → LacksRoomFor log rest
+    pub at : L
+    pub came : CrashLeaves log held begun at
+    pub added : HasAdded held begun at
+    pub room : LacksRoomFor at rest
+    pub nothing : CrashLeaves at added.held_then [] after × HasAdded added.held_then [] after
+
+  -- A cache was opened: the missing system pages were added, and where one was missing, all is durable.
+  pub record IsOpened (log : L) (config : Config) (held : Logged) (cache : Cache L) : Type 0 where
+    pub stop : CrashLeaves log held (changes_of_start (now held)) cache.log
+    pub held_then : Logged
     pub added : Adds held (changes_of_start (now held)) held_then
     pub stable : missing (now held) ≢ [] → held_then.pending ≡ []
+    pub is : IsIn g cache held_then (opened config (now held))
     pub config_is : cache.config ≡ config
     pub recovered : cache.recovered ≡ has_own (now held)
 
-  -- It was hindered, and the log comes back, to which a beginning of what is missing was added. After a write fault no more is
-  -- known of it than what a stop leaves.
-  pub record IsUnopened (held : Logged) (refused : Error × L) : Type 0 where
-    pub why : IsHindrance refused.0
-    pub came : List (Event Update)
-    pub beginning : IsBeginning came (changes_of_start (now held))
-    pub held_then : Logged
-    pub added : refused.0 ≢ Io Write → IsLogged (told_state (g.state refused.1)) held_then × Adds held came held_then
-
-  -- The log had no room for a message of those that are missing.
-  pub record IsFullAt (held : Logged) : Type 0 where
-    pub at : L
-    pub came : List (Event Update)
-    pub next : Event Update
+  -- An error was answered, and the log comes back. A prefix of the missing changes had begun, and no other change: a crash
+  -- leaves no more. They were added, unless the error is that of a write.
+  pub record IsUnopened (log : L) (held : Logged) (error : Error) (after : L) : Type 0 where
+    pub why : IsHindrance error
+    pub begun : List (Event Update)
     pub rest : List (Event Update)
-    pub is : came ++ next ∷ rest ≡ changes_of_start (now held)
-    pub held_then : Logged
-    pub logged : IsLogged (told_state (g.state at)) held_then
-    pub added : Adds held came held_then
-    pub full : HasNoRoom g at next
+    pub are : begun ++ rest ≡ changes_of_start (now held)
+    pub stop : CrashLeaves log held begun after
+    pub added : error ≢ Io Write → HasAdded held begun after
+    pub full : error ≡ Unsupported LogFull → WasFull log held begun rest after
 
-  -- What opening a cache over a log that holds this makes of it. A stop at any moment of it leaves what the log held, and a
-  -- beginning of what is missing.
-  pub record Opens (log : L) (config : Config) (held : Logged) (result : Result (Cache L) (Error × L)) : Type 0 where
-    pub opened_so : IfOk result (IsOpened config held)
-    pub refused : IfErr result (IsUnopened held)
-    pub full : IfErr result (λ e. e.0 ≡ Unsupported LogFull → IsFullAt held)
-    pub stop : StopsLeave g.moment g.left_since log (log_after result) (IsLeft held (changes_of_start (now held)))
+  -- What opening a cache makes of a log that held this.
+  abbrev pub Opens : L → Config → Logged → Result (Cache L) (Error × L) → Type 0
+  Opens log config held (Ok cache) = IsOpened log config held cache
+  Opens log config held (Err refused) = IsUnopened log held refused.0 refused.1
 
   -- A fault is told only where its count grew.
   pub record IsBlamedOpening (log : L) (result : Result (Cache L) (Error × L)) : Type 0 where

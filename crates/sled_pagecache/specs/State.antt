@@ -1,6 +1,6 @@
 -- What a page cache is: a list of stamped pages, the next generated id, whether a batch is open, and a kept write fault.
 use Rattle.std.specs.Prelude.{ℕ, ◌+◌, Bool, true, false, List, [], ◌∷◌, map, Option, None, Some, slice_get, slice_set, if◌then◌else◌}
-use Rattle.sled_log.specs.Contents.{Content, Free, Counter, Roots, Node}
+use Rattle.sled_log.specs.Contents.{Content, Free, Counter, Roots, Node, Damaged}
 use Rattle.sled_pagecache.specs.Token.{Token, token}
 
 -- each change of a page raises its stamp
@@ -37,6 +37,7 @@ is_free Free = true
 is_free (Counter n) = false
 is_free (Roots roots) = false
 is_free (Node node) = false
+is_free Damaged = false
 
 -- the token of the page, if it is free
 abbrev pub free_token : ℕ → Page → Option Token

@@ -8,18 +8,18 @@ use Rattle.sled_base.specs.declared.types.Why.TheVariants.{ReservedId, PagesUsed
 use Rattle.sled_node.specs.Links.{Accepts, applied}
 use Rattle.sled_node.specs.Node.{WholeNode}
 use Rattle.sled_node.specs.declared.node.link.Link.{Link as NodeLink}
-use Rattle.sled_pagecache.specs.declared.pagecache.TheConstants.{META_PID, COUNTER_PID, BATCH_MANIFEST_PID, MAX_PID_BITS}
+use Rattle.sled_pagecache.specs.Limits.{meta_pid, counter_pid, batch_manifest_pid, most_pages}
 use Rattle.sled_pagecache.specs.declared.pagecache.call.Answer.{Answer}
 use Rattle.sled_pagecache.specs.declared.pagecache.call.Answer.TheVariants.{Allocated, Got, Linked, Replaced, Flushed, Sized}
 use Rattle.sled_pagecache.specs.declared.pagecache.call.Call.{Call}
 use Rattle.sled_pagecache.specs.declared.pagecache.call.Call.TheVariants.{Allocate, Get, Link, Replace, Flush, SizeOnDisk}
-use Rattle.sled_log.specs.Contents.{Content, Free, Counter, Roots, Node}
+use Rattle.sled_log.specs.Contents.{Content, Free, Counter, Roots, Node, Damaged}
 use Rattle.sled_pagecache.specs.State.{Page, page, State, page_at, with_page, is_free, greatest_free}
 use Rattle.sled_pagecache.specs.Token.{Token, token}
 
 -- the ids of the pages that are the cache's own
 abbrev pub is_reserved : ℕ → Bool
-is_reserved pid = (pid == META_PID) || (pid == COUNTER_PID) || (pid == BATCH_MANIFEST_PID)
+is_reserved pid = (pid == meta_pid) || (pid == counter_pid) || (pid == batch_manifest_pid)
 
 -- the answer is this error, and nothing changes
 abbrev pub IsRefused : {T : Type 0} → State → Result T Error → State → Error → Type 0
@@ -57,7 +57,7 @@ Does s (Ok value) t work = work value
 Does s (Err (Unsupported LogFull)) t work = t ≡ s
 Does s (Err e) t work = IsHindered s e t
 
--- a page of a kind that can't stand at its id
+-- the page is damaged, or of a kind that can't stand at its id
 abbrev pub IsCorruption : {T : Type 0} → State → Result T Error → State → Type 0
 IsCorruption s (Err (Corruption pointer)) t = t ≡ s
 IsCorruption s answer t = Reads s answer t (λ _. ⊥)
@@ -66,7 +66,7 @@ IsCorruption s answer t = Reads s answer t (λ _. ⊥)
 
 abbrev pub AddsPage : State → WholeNode → Result (ℕ × Token) Error → State → Type 0
 AddsPage s node answer t =
-    MatchBool (length s.pages == 2 ^ MAX_PID_BITS)
+    MatchBool (length s.pages == most_pages)
     (IsRefused s answer t (Unsupported PagesUsedUp))
     (Does s answer t (λ made. (made.0 ≡ length s.pages) × (made.1 ≡ token (length s.pages) 1) × (t ≡ record s { pages = s.pages ++ page 1 (Node node) ∷ [] })))
 
@@ -85,6 +85,7 @@ FindsContent s pid stamp Free answer t = (answer ≡ Ok None) × (t ≡ s)
 FindsContent s pid stamp (Node node) answer t = Reads s answer t (λ found. found ≡ Some (token pid stamp, node))
 FindsContent s pid stamp (Counter n) answer t = IsCorruption s answer t
 FindsContent s pid stamp (Roots roots) answer t = IsCorruption s answer t
+FindsContent s pid stamp Damaged answer t = IsCorruption s answer t
 
 abbrev pub Finds : State → ℕ → Option Page → Result (Option (Token × WholeNode)) Error → State → Type 0
 Finds s pid None answer t = (answer ≡ Ok None) × (t ≡ s)
@@ -93,7 +94,7 @@ Finds s pid (Some found) answer t = FindsContent s pid found.stamp found.content
 abbrev pub Gets : State → ℕ → Result (Option (Token × WholeNode)) Error → State → Type 0
 Gets s pid answer t = UnlessFaulty s answer t (UnlessReserved s pid answer t (Finds s pid (page_at s pid) answer t))
 
--- ---- link: at the page's present stamp a link that its node accepts is applied, and the stamp rises by one
+-- ---- a swap: a page that is there, and at the stamp of the token, is changed
 
 abbrev pub Swapped : Type 0 → Type 0
 Swapped Rejected = Result (Result Token (Option (Token × Rejected))) Error
@@ -107,41 +108,44 @@ abbrev pub UnlessStale : {R : Type 0} → State → Token → R → ℕ → Swap
 UnlessStale s old rejected stamp answer t goes_on =
     MatchBool (stamp == old.stamp) goes_on ((answer ≡ Ok (Err (Some (token old.pid stamp, rejected)))) × (t ≡ s))
 
+abbrev pub SwapsPage : {R : Type 0} → State → Token → R → Option Page → Swapped R → State → (Content → Type 0) → Type 0
+SwapsPage s old rejected None answer t goes_on = IsGone s answer t
+SwapsPage s old rejected (Some found) answer t goes_on =
+    MatchBool (is_free found.content) (IsGone s answer t) (UnlessStale s old rejected found.stamp answer t (goes_on found.content))
+
+abbrev pub Swaps : {R : Type 0} → State → Token → R → Swapped R → State → (Content → Type 0) → Type 0
+Swaps s old rejected answer t goes_on = UnlessFaulty s answer t (UnlessReserved s old.pid answer t (SwapsPage s old rejected (page_at s old.pid) answer t goes_on))
+
 -- the page has a new content at its next stamp
 abbrev pub IsSwapped : State → Token → Content → {R : Type 0} → Result Token (Option (Token × R)) → State → Type 0
 IsSwapped s old content answer t = (answer ≡ Ok (token old.pid (old.stamp + 1))) × (t ≡ with_page s old.pid (page (old.stamp + 1) content))
 
+-- ---- link: a link that its node accepts is applied, and the stamp rises by one
+
 abbrev pub LinksNode : State → Token → NodeLink → WholeNode → Swapped NodeLink → State → Type 0
 LinksNode s old link node answer t =
-    (Accepts node link × UnlessLastStamp s old.stamp answer t (Does s answer t (λ swapped. IsSwapped s old (Node (applied link node)) swapped t)))
+    -- the page is read first, if it doesn't lie in memory
+    Reads s answer t (λ _. ⊥)
     ⊎ ((¬ Accepts node link) × IsRefused s answer t (ReportableBug LinkRefused))
-    ⊎ Reads s answer t (λ _. ⊥)
+    ⊎ (Accepts node link × UnlessLastStamp s old.stamp answer t (Does s answer t (λ swapped. IsSwapped s old (Node (applied link node)) swapped t)))
 
-abbrev pub LinksContent : State → Token → NodeLink → ℕ → Content → Swapped NodeLink → State → Type 0
-LinksContent s old link stamp Free answer t = IsGone s answer t
-LinksContent s old link stamp (Node node) answer t = UnlessStale s old link stamp answer t (LinksNode s old link node answer t)
-LinksContent s old link stamp (Counter n) answer t = UnlessStale s old link stamp answer t (IsCorruption s answer t)
-LinksContent s old link stamp (Roots roots) answer t = UnlessStale s old link stamp answer t (IsCorruption s answer t)
-
-abbrev pub LinksPage : State → Token → NodeLink → Option Page → Swapped NodeLink → State → Type 0
-LinksPage s old link None answer t = IsGone s answer t
-LinksPage s old link (Some found) answer t = LinksContent s old link found.stamp found.content answer t
+abbrev pub LinksContent : State → Token → NodeLink → Swapped NodeLink → State → Content → Type 0
+LinksContent s old link answer t (Node node) = LinksNode s old link node answer t
+LinksContent s old link answer t Free = IsCorruption s answer t
+LinksContent s old link answer t (Counter n) = IsCorruption s answer t
+LinksContent s old link answer t (Roots roots) = IsCorruption s answer t
+LinksContent s old link answer t Damaged = IsCorruption s answer t
 
 abbrev pub Links : State → Token → NodeLink → Swapped NodeLink → State → Type 0
-Links s old link answer t = UnlessFaulty s answer t (UnlessReserved s old.pid answer t (LinksPage s old link (page_at s old.pid) answer t))
+Links s old link answer t = Swaps s old link answer t (LinksContent s old link answer t)
 
--- ---- replace: at the page's present stamp the page holds the node in place of what it held, and the stamp rises by one
+-- ---- replace: the page holds the node in place of what it held, and the stamp rises by one
 
 abbrev pub ReplacesContent : State → Token → WholeNode → Swapped WholeNode → State → Type 0
 ReplacesContent s old node answer t = UnlessLastStamp s old.stamp answer t (Does s answer t (λ swapped. IsSwapped s old (Node node) swapped t))
 
-abbrev pub ReplacesPage : State → Token → WholeNode → Option Page → Swapped WholeNode → State → Type 0
-ReplacesPage s old node None answer t = IsGone s answer t
-ReplacesPage s old node (Some found) answer t =
-    MatchBool (is_free found.content) (IsGone s answer t) (UnlessStale s old node found.stamp answer t (ReplacesContent s old node answer t))
-
 abbrev pub Replaces : State → Token → WholeNode → Swapped WholeNode → State → Type 0
-Replaces s old node answer t = UnlessFaulty s answer t (UnlessReserved s old.pid answer t (ReplacesPage s old node (page_at s old.pid) answer t))
+Replaces s old node answer t = Swaps s old node answer t (λ content. ReplacesContent s old node answer t)
 
 -- ---- flush and size: no page changes
 

@@ -10,6 +10,7 @@ use Rattle.sled_log.specs.Chains.{chains_from}
 use Rattle.sled_log.specs.Contents.{Update, Put}
 use Rattle.sled_log.specs.Contents as content
 use Rattle.sled_log.specs.Events.{Change}
+use Rattle.sled_log.specs.Limits.{head_size, size_limit}
 use Rattle.sled_log.specs.Messages.{Entry, Told, placed, effect_of_entry}
 use Rattle.sled_log.specs.Pages.{IsSized}
 use Rattle.sled_log.specs.Reading.{IsUpdate}
@@ -21,7 +22,7 @@ use Rattle.sled_node.specs.declared.node.link.Link.{Link as NodeLink}
 use Rattle.sled_pagecache.specs.Changes.{link_update}
 use Rattle.sled_pagecache.specs.ChainReads.{place_of}
 use Rattle.sled_pagecache.specs.Journal.{Went, IsCaused, IsOfLog, begun_by}
-use Rattle.sled_pagecache.specs.declared.pagecache.TheConstants.{PAGE_CONSOLIDATION_THRESHOLD}
+use Rattle.sled_pagecache.specs.Limits.{most_messages}
 use Rattle.sled_pagecache.specs.declared.pagecache.chain.CacheInfo.{CacheInfo}
 use Rattle.sled_pagecache.specs.declared.pagecache.journal.Journal.{Journal}
 use Rattle.sled_pagecache.specs.declared.pagecache.page.Kept.{Kept}
@@ -49,15 +50,15 @@ update_of messages link (Roots roots) = content.Link link
 
 -- What is written where a link made this node of a page: the link, or the node where there are as many messages as may be.
 abbrev pub written_by : ℕ → NodeLink → WholeNode → Update
-written_by messages link after = if nat_lt messages PAGE_CONSOLIDATION_THRESHOLD then content.Link link else Put (content.Node after)
+written_by messages link after = if nat_lt messages most_messages then content.Link link else Put (content.Node after)
 
 -- how the messages of a page are kept after it
 abbrev pub infos_after : List CacheInfo → CacheInfo → List CacheInfo
-infos_after infos info = if nat_lt (length infos) PAGE_CONSOLIDATION_THRESHOLD then infos ++ info ∷ [] else info ∷ []
+infos_after infos info = if nat_lt (length infos) most_messages then infos ++ info ∷ [] else info ∷ []
 
 -- how many they are then
 abbrev pub linked_length : ℕ → ℕ
-linked_length messages = if nat_lt messages PAGE_CONSOLIDATION_THRESHOLD then messages + 1 else 1
+linked_length messages = if nat_lt messages most_messages then messages + 1 else 1
 
 -- why a swap was refused that may be made: the stamp is the greatest, or the log refused it
 abbrev pub RefusesSwap : ℕ → Refusal → Type 0
@@ -71,16 +72,16 @@ RefusesLink stamp Away link refusal = refusal ≡ Corruption None
 RefusesLink stamp (Counter n) link refusal = refusal ≡ Corruption None
 RefusesLink stamp (Roots roots) link refusal = refusal ≡ Corruption None
 
-module _ {L : Type 0} (state : L → State Entry) (moment : L → ℕ) (left_since : L → ℕ → List Told → Type 0) (counts : L → Counts) (is_full : L → ℕ → Type 0) where
+module _ {L : Type 0} (tells : Type 0) (state : L → State Entry) (moment : L → ℕ) (left_since : L → ℕ → List Told → Type 0) (counts : L → Counts) (is_full : L → ℕ → Type 0) where
   -- An update of a page was written to the log, and the answer is how it is kept, or why it was refused.
   pub record Wrote (old new : Journal L) (pid : ℕ) (update : Update) (stamp : ℕ) (result : Result CacheInfo Refusal) : Type 0 where
     pub is : IsUpdate (message_of update) update
-    pub went : Went state moment left_since counts old new (begun_by result (Change pid (message_of update) ∷ []))
-    pub cause : IsCaused state moment left_since counts old new (is_full old.log (length (message_of update).payload)) result
-    pub of_log : IfErr result IsOfLog
+    pub went : Went tells state moment left_since counts old new (begun_by result (Change pid (message_of update) ∷ []))
+    pub cause : IsCaused tells state moment left_since counts old new (is_full old.log (length (message_of update).payload)) result
+    pub of_log : tells → IfErr result IsOfLog
     pub reads : (counts new.log).reads ≡ (counts old.log).reads
     pub at : IfOk result (λ info. info.ts ≡ stamp)
-    pub size : IfOk result (λ info. info.log_size ≡ 17 + length (message_of update).payload)
-    pub chains : IfOk result (λ info. now effect_of_entry (state new.log) ≡ chains_from effect_of_entry (now effect_of_entry (state old.log)) (Change pid (placed (message_of update) (place_of info))))
-    pub same : OnErr result (new.fault ≡ false → now effect_of_entry (state new.log) ≡ now effect_of_entry (state old.log))
-    pub sized : OnOk result (AllByRecursion IsSized (now effect_of_entry (state new.log)))
+    pub size : IfOk result (λ info. (info.log_size ≡ head_size + length (message_of update).payload) × (info.log_size < size_limit))
+    pub chains : tells → IfOk result (λ info. now effect_of_entry (state new.log) ≡ chains_from effect_of_entry (now effect_of_entry (state old.log)) (Change pid (placed (message_of update) (place_of info))))
+    pub same : tells → OnErr result (new.fault ≡ false → now effect_of_entry (state new.log) ≡ now effect_of_entry (state old.log))
+    pub sized : tells → OnOk result (AllByRecursion IsSized (now effect_of_entry (state new.log)))

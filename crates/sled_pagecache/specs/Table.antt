@@ -1,5 +1,5 @@
 -- What always holds of a page cache: its table of pages beside what its log holds.
-use Rattle.std.specs.Prelude.{◌≡◌, ◌≤◌, ◌^◌, ℕ, Bool, false, true, List, ◌∷◌, length, map}
+use Rattle.std.specs.Prelude.{◌≡◌, ◌≤◌, ℕ, Bool, false, true, List, ◌∷◌, length, map}
 use Rattle.std.specs.List.{AllByRecursion, AllZip}
 use Rattle.sled_log.specs.Batches.{is_open}
 use Rattle.sled_log.specs.Chains.{is_chain}
@@ -7,7 +7,7 @@ use Rattle.sled_log.specs.Messages.{Entry, effect_of_entry}
 use Rattle.sled_log.specs.Pages.{IsSized}
 use Rattle.sled_log.specs.State as log
 use Rattle.sled_pagecache.specs.Pages.{IsKept, is_resident, free_ids}
-use Rattle.sled_pagecache.specs.declared.pagecache.TheConstants.{PAGE_CONSOLIDATION_THRESHOLD, MAX_PID_BITS}
+use Rattle.sled_pagecache.specs.Limits.{most_messages, most_pages}
 use Rattle.sled_pagecache.specs.declared.pagecache.journal.Journal.{Journal}
 use Rattle.sled_pagecache.specs.declared.pagecache.page.Kept.{Kept}
 use Rattle.sled_pagecache.specs.declared.pagecache.page.Kept.TheVariants.{Free, Away, Counter, Roots, Node}
@@ -38,19 +38,19 @@ abbrev pub AreOwn : List Page → Type 0
 AreOwn (roots ∷ counter ∷ pages) = IsRoots roots.kept × IsCounter counter.kept × AllByRecursion (λ page. IsFreeOrNode page.kept) pages
 AreOwn pages = ⊥
 
-module _ {L : Type 0} (state : L → log.State Entry) where
-  -- what the log holds beside the table: the pages are kept as their chains say
+module _ {L : Type 0} (tells : Type 0) (state : L → log.State Entry) where
+  -- What the log is beside the table. Where its device tells its bytes, the pages are kept as their chains say.
   pub record IsBeside (l : L) (pages : List Page) : Type 0 where
     pub usable : (state l).usable ≡ true
     pub closed : is_open (state l).pending ≡ false
-    pub kept : AllZip IsKept (log.now effect_of_entry (state l)) pages
-    pub chains : AllByRecursion (λ chain. is_chain effect_of_entry chain ≡ true) (log.now effect_of_entry (state l))
-    pub sized : AllByRecursion IsSized (log.now effect_of_entry (state l))
+    pub kept : tells → AllZip IsKept (log.now effect_of_entry (state l)) pages
+    pub chains : tells → AllByRecursion (λ chain. is_chain effect_of_entry chain ≡ true) (log.now effect_of_entry (state l))
+    pub sized : tells → AllByRecursion IsSized (log.now effect_of_entry (state l))
 
   -- With a write fault kept nothing is known of the log.
   pub record IsConsistent (journal : Journal L) (pages : List Page) (free_pids : List ℕ) : Type 0 where
     pub beside : journal.fault ≡ false → IsBeside journal.log pages
     pub own : AreOwn pages
-    pub short : AllByRecursion (λ page. length page.infos.items ≤ PAGE_CONSOLIDATION_THRESHOLD) pages
-    pub few : length pages ≤ 2 ^ MAX_PID_BITS
+    pub short : AllByRecursion (λ page. length page.infos.items ≤ most_messages) pages
+    pub few : length pages ≤ most_pages
     pub free : free_pids ≡ free_ids 0 pages

@@ -1,11 +1,38 @@
 //! What holds of the definitions that the contracts of a page cache cite.
 
-ghost use Rattle.std.specs.Prelude.{[], ◌++◌, Bool, List, take};
+ghost use Rattle.std.specs.Prelude.{◌≡◌, [], ◌++◌, Bool, false, List, Result, take};
 ghost use Rattle.sled_log.specs.Contents.{Update, contents_after};
 ghost use Rattle.sled_log.specs.Events.{Event};
 ghost use Rattle.sled_log.specs.Messages.{Told};
-ghost use Rattle.sled_pagecache.specs.Logged.{Logged, IsLogged, IsLeft};
-ghost use Rattle.sled_pagecache.specs.Starts.{only_stable, only_stable_contents};
+ghost use Rattle.sled_log.specs.State.{IsBeginning};
+ghost use Rattle.sled_pagecache.specs.Cache.{Cache, IsIn, chain_length};
+ghost use Rattle.sled_pagecache.specs.Calls.{Steps};
+ghost use Rattle.sled_pagecache.specs.Changes.{changes_of};
+ghost use Rattle.sled_pagecache.specs.Limits.{meta_pid, counter_pid, batch_manifest_pid, most_messages, pid_bits};
+ghost use Rattle.sled_pagecache.specs.Logged.{Logged, IsLogged, IsLeft, now};
+ghost use Rattle.sled_pagecache.specs.Opening.{changes_of_start};
+ghost use Rattle.sled_pagecache.specs.Reopening.{CrashReopens};
+ghost use Rattle.sled_pagecache.specs.Rows.{AreSteps, StepInRow};
+ghost use Rattle.sled_pagecache.specs.Starts.{Opens, log_after, only_stable, only_stable_contents};
+ghost use Rattle.sled_pagecache.specs.State.{State};
+ghost use Rattle.sled_pagecache.specs.declared.pagecache.call.Answer.{Answer};
+ghost use Rattle.sled_pagecache.specs.declared.pagecache.call.Call.{Call};
+ghost use Rattle.sled_pagecache.specs.declared.pagecache.config.Config.{Config};
+ghost use Rattle.sled_base.specs.declared.types.Error.{Error};
+
+use crate::pagecache::{
+    BATCH_MANIFEST_PID, COUNTER_PID, MAX_PID_BITS, META_PID, PAGE_CONSOLIDATION_THRESHOLD,
+};
+use sled_log::Log;
+
+/// The constants of the crate are the numbers of the definitions.
+pub fn constants_are_the_numbers()
+    ensures meta { META_PID ≡ meta_pid }
+    ensures counter { COUNTER_PID ≡ counter_pid }
+    ensures batch { BATCH_MANIFEST_PID ≡ batch_manifest_pid }
+    ensures messages { PAGE_CONSOLIDATION_THRESHOLD ≡ most_messages }
+    ensures bits { MAX_PID_BITS ≡ pid_bits }
+{}
 
 /// A log that was told nothing holds no page.
 pub fn an_empty_log_is_logged()
@@ -14,5 +41,17 @@ pub fn an_empty_log_is_logged()
 
 /// What a stop leaves is a log again that a cache can be opened over, and holds the contents that the stop left.
 pub fn what_a_stop_leaves_is_logged()
-    ensures { (held : Logged) (changes : List (Event Update)) (pages : List Told) (left : IsLeft held changes pages) (usable : Bool) → IsLogged (only_stable pages usable) (only_stable_contents (contents_after held.stable (take left.left.cut (held.pending ++ left.left.came)))) }
+    ensures { (held : Logged) (changes : List (Event Update)) (pages : List Told) (left : IsLeft held changes pages) (usable : Bool) → IsLogged (only_stable pages usable) (only_stable_contents (contents_after held.stable (take left.cut (held.pending ++ left.came)))) }
+{}
+
+/// A crash at any moment, inside a call too, reopens to the pages after a prefix of the changes begun, which holds all that was
+/// durable and splits no batch.
+///
+/// It is said of a call, of calls in a row, and of opening a cache, in whatever state each is. The moment is any since its start;
+/// what a log may have lost then is any of its crash states, behind a write error too; and a cache that `start` opens over a log
+/// which holds that is the opening of those pages.
+pub fn a_crash_reopens_to_a_prefix<L: Log>()
+    ensures of_a_call { (old new : Cache L) (call : Call) (answer : Answer) → Steps L.Log old call answer new → (held : Logged) (s : State) → IsIn L.Log old held s → s.fault ≡ false → CrashReopens L.Log new.log (L.moment old.log) held (changes_of (chain_length L.state old) s call answer) }
+    ensures of_calls { (old new : Cache L) (calls : List (Call × Answer)) → StepInRow L.Log old calls new → (held : Logged) (s : State) → IsIn L.Log old held s → s.fault ≡ false → (begun : List (Event Update)) × (t : State) × AreSteps s calls begun t × CrashReopens L.Log new.log (L.moment old.log) held begun }
+    ensures of_opening { L.tells → (log : L) (config : Config) (held : Logged) (result : Result (Cache L) (Error × L)) → Opens L.Log log config held result → (begun : List (Event Update)) × IsBeginning begun (changes_of_start (now held)) × CrashReopens L.Log (log_after result) (L.moment log) held begun }
 {}

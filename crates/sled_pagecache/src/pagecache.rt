@@ -6,6 +6,7 @@ mod call;
 mod chain;
 mod config;
 mod journal;
+mod judge;
 mod own;
 mod page;
 mod pull;
@@ -41,3 +42,6 @@ pub const MAX_PID_BITS: u32 = 37;
 
 // the greatest number of pages
 const MAX_PAGES: usize = 1 << MAX_PID_BITS;
+
+#[cfg(test)]
+mod tests;

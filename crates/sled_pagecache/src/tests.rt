@@ -1,4 +1,6 @@
+mod crashes;
 mod failing;
+mod generic;
 mod memory;
 mod reads;
 mod recovery;

@@ -1,5 +1,5 @@
 -- The lines that were answered so far.
-use Rattle.std.proofs.Common.{◌≡◌, ◌≢◌, ◌<◌, ◌≤◌, List, [], ◌∷◌, ◌++◌, length, Option, None, Some, Result, Ok, Err, refl, sym, ap, subst, ◌∙◌, arith, append_assoc, append-nil}
+use Rattle.std.proofs.Common.{true, ◌≡◌, ◌≤◌, List, [], ◌∷◌, ◌++◌, length, Option, None, Some, Ok, Err, refl, sym, ap, subst, ◌∙◌, arith, append_assoc, append-nil}
 use Rattle.std.specs.Prelude.{codes, ⊤}
 use Rattle.std.specs.Io.KnownBytes.{Appends, Keeps}
 use Rattle.std.specs.List.{AllZip}
@@ -10,16 +10,15 @@ use Rattle.sled_log.specs.State.{IsLeft, told_state}
 use Rattle.sled_log.specs.declared.log.Log.{Ghosts}
 use Rattle.sled_pagecache.specs.Cache.{Cache}
 use Rattle.sled_pagecache.specs.RowLaws.{row-none, row-one, row-then, made-more}
-use Rattle.sled_pagecache.specs.Rows.{StepInRow, IsMade, AreMade}
-use Rattle.sled_pagecache.specs.declared.pagecache.call.Call.{Call}
+use Rattle.sled_pagecache.specs.Rows.{StepInRow, AreMade}
 use Rattle.sledpc.specs.Lines.{lines_of, ReadsLine, IsUnread}
 use Rattle.sledpc.specs.Output.{AppendsBeginning}
-use Rattle.sledpc.specs.Runs.{Served, AsksFor, reply_to, text_of, calls_of, Answers, IsWritten, Ends, Serves, error_of}
+use Rattle.sledpc.specs.Runs.{Served, AsksFor, reply_to, text_of, calls_of, Answers, Serves, error_of}
 use Rattle.sledpc.specs.Served.{Goes, RepliesLine}
 use Rattle.sledpc.specs.declared.lines.Line.TheVariants as read
 use Rattle.sledpc.specs.declared.lines.ReadError.{ReadError}
 use Rattle.sledpc.specs.declared.lines.ReadError.TheVariants as unread
-use Rattle.sledpc.specs.declared.lines.TheConstants.{MAX_LINE}
+use Rattle.sledpc.specs.Settings.{longest_line}
 use Rattle.sledpc.specs.declared.script.run.RunError.{RunError}
 use Rattle.sledpc.specs.declared.script.run.RunError.TheVariants.{Read, Write, Memory}
 use Rattle.sledpc.proofs.LinesOf.{has_line, not_empty}
@@ -91,7 +90,7 @@ kept_next E (Some rest) (Some next) line one at asks = (line, at.1, asks)
 long_next : (E : Type 0) (rest next : Option Bytes) (kept : Bytes) → ReadsLine {E = E} rest next (Ok read.TooLong) kept → IsNext rest next None
 long_next E None next kept at = tt
 long_next E (Some rest) None kept at = absurd at
-long_next E (Some rest) (Some next) kept at = (at.0, at.2, λ call spells. let long = at.1 in let short : length at.0 ≤ MAX_LINE = spells.0 in absurd (omega arith))
+long_next E (Some rest) (Some next) kept at = (at.0, at.2, λ call spells. let long = at.1 in let short : length at.0 ≤ longest_line = spells.0 in absurd (omega arith))
 
 -- what was written and not flushed stands
 stands : (mid new last : Option Bytes) (text : Bytes) → Appends mid new text → Keeps new last → AppendsBeginning mid last text
@@ -106,7 +105,7 @@ module _ {L : Type 0} (g : Ghosts L) where
     pub row : StepInRow g cache (calls_of served) after
     pub written : Appends old new (text_of served)
 
-  pub none_yet : (cache : Cache L) (input old : Option Bytes) → ((l : L) (pages : List Told) → g.left_since l (g.moment l) pages → IsLeft effect_of (told_state (g.state l)) [] pages) → SoFar cache input input old old cache
+  pub none_yet : (cache : Cache L) (input old : Option Bytes) → ((l : L) (pages : List Told) → g.tells → (g.state l).usable ≡ true → g.left_since l (g.moment l) pages → IsLeft effect_of (told_state (g.state l)) [] pages) → SoFar cache input input old old cache
   none_yet cache input old only_now = record { served = []; behind = here input; made = refl; row = row-none g cache only_now; written = Appends-nil old }
     where
       here : (input : Option Bytes) → IsBehind input input []

@@ -18,7 +18,7 @@ use Rattle.sled_pagecache.specs.declared.pagecache.call.Call.TheVariants.{Alloca
 use Rattle.sledpc.specs.Asked.{AsksBehind, AreTwo, BeginsWithToken, SpellLeaf, at_the_end}
 use Rattle.sledpc.specs.Commands.{Asks, IsToken, Spells}
 use Rattle.sledpc.specs.Cut.{HasNo}
-use Rattle.sledpc.specs.declared.lines.TheConstants.{MAX_LINE}
+use Rattle.sledpc.specs.Settings.{longest_line}
 use Rattle.sledpc.specs.Words.{AreBytes, ArePairs, SpellPairs, bytes_word, pair_word, after_name, HasNoSpace, BeginsLine}
 use Rattle.sledpc.proofs.Cut.{cut_once, no_mark}
 use Rattle.sledpc.proofs.Words.{no_space, no_space_in_pair}
@@ -345,7 +345,7 @@ joined_line : (line name : Bytes) (text : Option Bytes) (words : List Bytes) →
 joined_line line name text [] begins e = (subst (BeginsLine line name) e begins).1
 joined_line line name text (word ∷ words) begins e = (subst (BeginsLine line name) e begins).1
 
-pub some_spelled_if_ok : {E : Type 0} (line name : Bytes) (text : Option Bytes) (result : Result (Option Call) E) → length line ≤ MAX_LINE → BeginsLine line name text → IfOk result (λ found. IfSome found (AsksBehind name text)) → IfOk result (λ found. IfSome found (Spells line))
+pub some_spelled_if_ok : {E : Type 0} (line name : Bytes) (text : Option Bytes) (result : Result (Option Call) E) → length line ≤ longest_line → BeginsLine line name text → IfOk result (λ found. IfSome found (AsksBehind name text)) → IfOk result (λ found. IfSome found (Spells line))
 some_spelled_if_ok line name text (Ok None) short begins some = tt
 some_spelled_if_ok line name text (Ok (Some call)) short begins some = (short, (name ∷ some.0, some.1, joined_line line name text some.0 begins some.2))
 some_spelled_if_ok line name text (Err error) short begins some = tt

@@ -1,5 +1,5 @@
 -- A list of one item, and a log that holds nothing.
-use Rattle.std.proofs.Common.{◌≡◌, ◌≢◌, ◌<◌, ◌≤◌, ℕ, zero, suc, true, List, [], ◌∷◌, length, map, get_or, sym, ap, ◌∙◌, arith}
+use Rattle.std.proofs.Common.{◌≡◌, ◌≢◌, ◌<◌, ◌≤◌, zero, suc, true, List, [], ◌∷◌, length, map, get_or, sym, ap, ◌∙◌, arith}
 use Rattle.sled_log.specs.Messages.{Message}
 use Rattle.sled_log.specs.State as log
 use Rattle.sled_pagecache.specs.Logged.{Logged, IsLogged}

@@ -7,7 +7,7 @@ use Rattle.sled_base.specs.Order.{Bytes}
 use Rattle.sledpc.specs.Cut.{HasNo}
 use Rattle.sledpc.specs.Lines.{onto_first, lines_of, ReadsLine}
 use Rattle.sledpc.specs.NextByte.{TakesByte}
-use Rattle.sledpc.specs.declared.lines.TheConstants.{MAX_LINE}
+use Rattle.sledpc.specs.Settings.{longest_line}
 use Rattle.sledpc.specs.declared.lines.Line.TheVariants as read
 use Rattle.sledpc.specs.declared.lines.ReadError.{ReadError}
 use Rattle.sledpc.proofs.Cut.{none_in_both}
@@ -79,14 +79,14 @@ not_empty (first ∷ before) item after none = absurd cc
 -- ---- what reading a line found
 
 -- a newline behind the bytes that were kept
-pub found_line : (old mid new : Option Bytes) (kept : Bytes) → HasNo 10 kept → length kept ≤ MAX_LINE → Consumes old mid kept → TakesByte {E = ReadError} mid new (Ok (Some 10)) → ReadsLine {E = ReadError} old new (Ok read.Whole) kept
+pub found_line : (old mid new : Option Bytes) (kept : Bytes) → HasNo 10 kept → length kept ≤ longest_line → Consumes old mid kept → TakesByte {E = ReadError} mid new (Ok (Some 10)) → ReadsLine {E = ReadError} old new (Ok read.Whole) kept
 found_line None mid new kept clean short taken byte = tt
 found_line (Some x) None new kept clean short taken byte = absurd taken
 found_line (Some x) (Some y) None kept clean short taken byte = absurd byte
 found_line (Some x) (Some y) (Some z) kept clean short taken byte = (short, ap lines_of (taken ∙ ap (λ l. kept ++ l) byte) ∙ whole_line kept z clean)
 
 -- the end of the input behind them
-pub found_last : (old mid new : Option Bytes) (kept : Bytes) → HasNo 10 kept → length kept ≤ MAX_LINE → 0 < length kept → Consumes old mid kept → TakesByte {E = ReadError} mid new (Ok None) → ReadsLine {E = ReadError} old new (Ok read.Whole) kept
+pub found_last : (old mid new : Option Bytes) (kept : Bytes) → HasNo 10 kept → length kept ≤ longest_line → 0 < length kept → Consumes old mid kept → TakesByte {E = ReadError} mid new (Ok None) → ReadsLine {E = ReadError} old new (Ok read.Whole) kept
 found_last None mid new kept clean short some taken byte = tt
 found_last (Some x) None new kept clean short some taken byte = absurd taken
 found_last (Some x) (Some y) None kept clean short some taken byte = absurd byte
@@ -94,7 +94,7 @@ found_last (Some x) (Some y) (Some z) kept clean short some taken byte =
     (short, ap lines_of (taken ∙ ap (λ l. kept ++ l) byte.0 ∙ append-nil kept) ∙ last_line kept clean some ∙ ap (λ l. kept ∷ lines_of l) (sym byte.1))
 
 -- more bytes than a line may have, and the rest of their line
-pub found_long : (old mid new : Option Bytes) (kept : Bytes) → HasNo 10 kept → MAX_LINE < length kept → Consumes old mid kept → DropsThrough mid new 10 → ReadsLine {E = ReadError} old new (Ok read.TooLong) kept
+pub found_long : (old mid new : Option Bytes) (kept : Bytes) → HasNo 10 kept → longest_line < length kept → Consumes old mid kept → DropsThrough mid new 10 → ReadsLine {E = ReadError} old new (Ok read.TooLong) kept
 found_long None mid new kept clean long taken skipped = tt
 found_long (Some x) None new kept clean long taken skipped = absurd taken
 found_long (Some x) (Some y) None kept clean long taken skipped = absurd cc

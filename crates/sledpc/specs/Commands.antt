@@ -10,7 +10,7 @@ use Rattle.sled_pagecache.specs.Token.{Token, pid_of, stamp_of}
 use Rattle.sled_pagecache.specs.declared.pagecache.call.Call.{Call}
 use Rattle.sled_pagecache.specs.declared.pagecache.call.Call.TheVariants.{Allocate, Get, Link, Replace, Flush, SizeOnDisk}
 use Rattle.sledpc.specs.Words.{bytes_word, pair_word, AreBytes, ArePairs}
-use Rattle.sledpc.specs.declared.lines.TheConstants.{MAX_LINE}
+use Rattle.sledpc.specs.Settings.{longest_line}
 
 -- a leaf of these pairs over all keys: the keys rise strictly, and the limits of a node hold
 pub record IsLeafOf (pairs : List (Bytes × Bytes)) (node : WholeNode) : Type 0 where
@@ -37,4 +37,4 @@ Asks words SizeOnDisk = words ≡ codes "size" ∷ []
 
 -- the line has such words, with single spaces between them
 abbrev pub Spells : Bytes → Call → Type 0
-Spells line call = (length line ≤ MAX_LINE) × ((words : List Bytes) × Asks words call × (line ≡ join_with_byte 32 words))
+Spells line call = (length line ≤ longest_line) × ((words : List Bytes) × Asks words call × (line ≡ join_with_byte 32 words))

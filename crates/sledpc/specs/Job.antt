@@ -1,7 +1,7 @@
 -- What the words of the program ask for, and the cache that it opens.
 use Rattle.std.specs.Prelude.{◌≡◌, List, [], ◌∷◌, Option, None, Some, codes}
 use Rattle.sled_base.specs.Order.{Bytes}
-use Rattle.sled_log.specs.Memory.{state_of}
+use Rattle.sled_log.specs.contracts.memory.calls.MemLogLog.TheImpl as mem
 use Rattle.sled_log.specs.declared.memory.MemLog.{MemLog}
 use Rattle.sled_pagecache.specs.Cache.{Cache, IsIn}
 use Rattle.sled_pagecache.specs.Logged.{Logged}
@@ -17,5 +17,5 @@ AskForMemory (Some words) = words ≡ codes "mem" ∷ []
 pub record IsNew (config : Config) (cache : Cache MemLog) : Type 0 where
   pub settings : cache.config ≡ config
   pub held : Logged
-  pub is : IsIn state_of cache held (opened config [])
+  pub is : IsIn mem.ghosts cache held (opened config [])
   pub stable : held.pending ≡ []

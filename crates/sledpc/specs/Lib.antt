@@ -1,3 +1,4 @@
+pub mod Settings
 pub mod Words
 pub mod Cut
 pub mod Lines

@@ -2,7 +2,7 @@
 use Rattle.std.specs.Prelude.{◌≡◌, ◌⊎◌, ℕ, ◌<◌, ◌≤◌, ◌==◌, List, [], ◌∷◌, ◌++◌, length, Option, None, Some, Result, Ok, Err, ⊤, if◌then◌else◌}
 use Rattle.std.specs.Io.KnownBytes.{Consumes}
 use Rattle.sled_base.specs.Order.{Bytes}
-use Rattle.sledpc.specs.declared.lines.TheConstants.{MAX_LINE}
+use Rattle.sledpc.specs.Settings.{longest_line}
 use Rattle.sledpc.specs.declared.lines.Line.{Line}
 use Rattle.sledpc.specs.declared.lines.Line.TheVariants as read
 use Rattle.sledpc.specs.declared.lines.ReadError.{ReadError}
@@ -21,8 +21,8 @@ lines_of (byte ∷ bytes) = if byte == 10 then [] ∷ lines_of bytes else onto_f
 -- What reading a line of the input found, which bytes it kept, and what it left: the end, a line, or a line that is too long to be kept.
 abbrev pub FindsLine : Bytes → Line → Bytes → Bytes → Type 0
 FindsLine input read.End kept rest = (input ≡ []) × (rest ≡ [])
-FindsLine input read.Whole kept rest = (length kept ≤ MAX_LINE) × (lines_of input ≡ kept ∷ lines_of rest)
-FindsLine input read.TooLong kept rest = (line : Bytes) × (MAX_LINE < length line) × (lines_of input ≡ line ∷ lines_of rest)
+FindsLine input read.Whole kept rest = (length kept ≤ longest_line) × (lines_of input ≡ kept ∷ lines_of rest)
+FindsLine input read.TooLong kept rest = (line : Bytes) × (longest_line < length line) × (lines_of input ≡ line ∷ lines_of rest)
 
 -- the same, where the reader tells its bytes
 abbrev pub ReadsLine : {E : Type 0} → Option Bytes → Option Bytes → Result Line E → Bytes → Type 0
@@ -34,4 +34,4 @@ ReadsLine (Some input) new (Err e) kept = ⊤
 -- Why a line was not read. Memory was wanting for one more byte of it, which was taken; or the input was not read behind what was kept, or in a line that is too long.
 abbrev pub IsUnread : ReadError → Option Bytes → Option Bytes → Bytes → Type 0
 IsUnread Memory old new kept = (byte : ℕ) × Consumes old new (kept ++ byte ∷ [])
-IsUnread Read old new kept = Consumes old new kept ⊎ (MAX_LINE < length kept)
+IsUnread Read old new kept = Consumes old new kept ⊎ (longest_line < length kept)

@@ -3,6 +3,7 @@
 ghost use Rattle.std.specs.Prelude.{◌≡◌, ◌+◌, ◌≤◌, length, Ok, IfErr};
 ghost use Rattle.sledpc.specs.Lines.{ReadsLine, IsUnread};
 ghost use Rattle.sledpc.specs.NextByte.{TakesByte};
+ghost use Rattle.sledpc.specs.Settings.{longest_line};
 
 use std::io::{BufRead, ErrorKind, Read};
 
@@ -30,9 +31,9 @@ pub enum ReadError {
 /// Reads the next line into `kept`, without its newline. Of a line that is too long at most [`MAX_LINE`] bytes and one are kept.
 pub fn read_line<R: BufRead>(reader: &mut R, kept: &mut Vec<u8>) -> Result<Line, ReadError>
     ensures reads { ReadsLine (R.remaining reader.old) (R.remaining reader.new) result kept.new.items }
-    ensures whole { result ≡ Ok Line.Whole → length kept.new.items ≤ MAX_LINE }
+    ensures whole { result ≡ Ok Line.Whole → length kept.new.items ≤ longest_line }
     ensures unread { IfErr result (λ e. IsUnread e (R.remaining reader.old) (R.remaining reader.new) kept.new.items) }
-    ensures few { length kept.new.items ≤ MAX_LINE + 1 }
+    ensures few { length kept.new.items ≤ longest_line + 1 }
 {
     kept.clear();
     while kept.len() <= MAX_LINE {

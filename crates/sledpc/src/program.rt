@@ -1,9 +1,11 @@
 //! The program: its words, its streams and its status.
 
-ghost use Rattle.std.specs.Prelude.{◌≡◌, ◌↔◌, map, IsSome, Some, IfOk};
+ghost use Rattle.std.specs.Prelude.{◌≡◌, ◌↔◌, [], true, map, IsSome, Some, IfOk};
 ghost use Rattle.std.specs.Option.{option_map};
 ghost use Rattle.std.specs.String.{string_bytes};
+ghost use Rattle.sled_log.specs.Memory.{state_of, settings_of};
 ghost use Rattle.sledpc.specs.Job.{AskForMemory, IsNew};
+ghost use Rattle.sledpc.specs.Settings.{settings, log_settings, status_of, wrong_words};
 
 use crate::script::run::{RunError, run};
 use sled_pagecache::{Config, Error, MemLog, PageCache};
@@ -61,7 +63,7 @@ pub fn drive<R: Read, W: Write, F: Write>(
     writer: &mut W,
     faults: &mut F,
 ) -> u8
-    ensures wrong { (result ≡ WRONG_WORDS) ↔ ¬ AskForMemory (option_map (λ given. map string_bytes given.now) words.entry) }
+    ensures wrong { (result ≡ wrong_words) ↔ ¬ AskForMemory (option_map (λ given. map string_bytes given.now) words.entry) }
 {
     let Some(job) = words.and_then(job_of) else {
         let _ = faults.write_all(USAGE.as_bytes());
@@ -70,6 +72,13 @@ pub fn drive<R: Read, W: Write, F: Write>(
     let outcome = match job {
         Job::Memory => serve_memory(alloc, reader, writer),
     };
+    report(outcome, faults)
+}
+
+// Says what failed, if something did, and answers the status.
+fn report<F: Write>(outcome: Result<(), Fault>, faults: &mut F) -> u8
+    ensures { result ≡ status_of outcome }
+{
     match outcome {
         Ok(()) => DONE,
         Err(fault) => {
@@ -90,13 +99,20 @@ fn job_of(words: &[String]) -> Option<Job>
 
 // Opens a cache over a new log in memory.
 fn open_memory(alloc: Global) -> Result<PageCache<MemLog>, Error>
-    ensures { IfOk result (IsNew CONFIG) }
+    ensures { IfOk result (IsNew settings) }
 {
-    let log = MemLog::new(alloc, BLOB_LIMIT, CLEAN_EVERY);
-    match PageCache::start(alloc, CONFIG, log) {
+    match PageCache::start(alloc, CONFIG, new_log(alloc)) {
         Ok(cache) => Ok(cache),
         Err((error, _)) => Err(error),
     }
+}
+
+// A new log in memory.
+fn new_log(alloc: Global) -> MemLog
+    ensures state { state_of result ≡ record { stable = []; pending = []; usable = true } }
+    ensures settings { settings_of result ≡ log_settings }
+{
+    MemLog::new(alloc, BLOB_LIMIT, CLEAN_EVERY)
 }
 
 // Runs the script over a new log in memory.

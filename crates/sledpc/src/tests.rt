@@ -1,8 +1,12 @@
 //! Examples of words, lines and texts, and a writer that fails.
 
-use crate::lines::{Line, MAX_LINE, read_line};
+mod readme;
+
+use crate::lines::{Line, read_line};
 use crate::output::{write_bytes_word, write_number, write_text};
+use crate::script::reply::{Told, write_line};
 use crate::script::words::{bytes_of, first_word, number_of, pair_of, pairs_of};
+use sled_pagecache::{Bug, Device, Error, IVec, Why};
 use std::alloc::{AllocError, Global};
 use std::io;
 use std::io::{ErrorKind, Write};
@@ -47,226 +51,244 @@ fn slow_writer(alloc: Global, room: usize) -> Slow {
     }
 }
 
-impl Slow {
-    fn holds(&self, want: &[u8]) -> bool {
-        self.got.as_slice() == want
-    }
-}
-
-fn repeated(alloc: Global, byte: u8, count: usize) -> Result<Vec<u8>, AllocError> {
-    let mut text = Vec::new(alloc);
-    for _ in 0..count {
-        text.push(byte)?;
-    }
-    Ok(text)
-}
-
 // Steps of the tests. What a call gives is let go here, and not in a test, which would be proved for each way in which it
 // may be kept.
 
-// Whether the line is cut into this word and this rest.
-fn is_cut(line: &[u8], word: &[u8], rest: Option<&[u8]>) -> bool {
-    let (first, behind) = first_word(line);
-    first == word && behind == rest
-}
-
-fn is_number(word: &str, number: Option<u64>) -> bool {
-    number_of(word.as_bytes()) == number
-}
-
-// Whether the word spells these bytes.
-fn are_bytes(alloc: Global, word: &str, want: &[u8]) -> Result<bool, AllocError> {
-    match bytes_of(alloc, word.as_bytes())? {
-        Some(bytes) => Ok(bytes.as_slice() == want),
-        None => Ok(false),
-    }
-}
-
-fn are_no_bytes(alloc: Global, word: &str) -> Result<bool, AllocError> {
-    Ok(bytes_of(alloc, word.as_bytes())?.is_none())
-}
-
-// Whether the word spells this key and this value.
-fn is_pair(alloc: Global, word: &str, key: &[u8], value: &[u8]) -> Result<bool, AllocError> {
-    match pair_of(alloc, word.as_bytes())? {
-        Some(pair) => Ok(pair.0.as_slice() == key && pair.1.as_slice() == value),
-        None => Ok(false),
-    }
-}
-
-fn is_no_pair(alloc: Global, word: &str) -> Result<bool, AllocError> {
-    Ok(pair_of(alloc, word.as_bytes())?.is_none())
-}
-
-// Whether the words spell so many pairs.
-fn has_count(alloc: Global, words: Option<&[u8]>, count: usize) -> Result<bool, AllocError> {
-    match pairs_of(alloc, words)? {
-        Some(pairs) => Ok(pairs.len() == count),
-        None => Ok(false),
-    }
-}
-
-fn are_no_pairs(alloc: Global, words: &str) -> Result<bool, AllocError> {
-    Ok(pairs_of(alloc, Some(words.as_bytes()))?.is_none())
-}
-
-// Whether the words spell two pairs, of which the first has this key and the second this value.
-fn are_two_pairs(
-    alloc: Global,
-    words: &[u8],
-    key: &[u8],
-    value: &[u8],
-) -> Result<bool, AllocError> {
-    let Some(pairs) = pairs_of(alloc, Some(words))? else {
-        return Ok(false);
-    };
-    Ok(match pairs.as_slice() {
-        [first, second] => first.0.as_slice() == key && second.1.as_slice() == value,
+// Whether the word spells these bytes, or none.
+fn spells_bytes(alloc: Global, word: &str, want: Option<&[u8]>) -> Result<bool, AllocError> {
+    let found = bytes_of(alloc, word.as_bytes())?;
+    Ok(match (&found, want) {
+        (Some(bytes), Some(want)) => bytes.as_slice() == want,
+        (None, None) => true,
         _ => false,
     })
 }
 
-// Whether the next line of the input is this one.
-fn reads(input: &mut &[u8], kept: &mut Vec<u8>, want: &[u8]) -> bool {
-    read_line(input, kept) == Ok(Line::Whole) && kept.as_slice() == want
+fn is_pair(pair: &(IVec, IVec), want: (&str, &str)) -> bool {
+    pair.0.as_slice() == want.0.as_bytes() && pair.1.as_slice() == want.1.as_bytes()
 }
 
-fn finds(input: &mut &[u8], kept: &mut Vec<u8>, want: Line) -> bool {
-    read_line(input, kept) == Ok(want)
+fn are_pairs(pairs: &[(IVec, IVec)], want: &[(&str, &str)]) -> bool {
+    if pairs.len() != want.len() {
+        return false;
+    }
+    for i in 0..want.len() {
+        if !is_pair(&pairs[i], want[i]) {
+            return false;
+        }
+    }
+    true
 }
 
-// A line of so many bytes, and one behind it.
-fn long_text(alloc: Global, count: usize, behind: &[u8]) -> Result<Vec<u8>, AllocError> {
-    let mut text = repeated(alloc, b'x', count)?;
-    text.extend_from_slice(behind)?;
-    Ok(text)
+// Whether the word spells this pair, or none.
+fn spells_pair(alloc: Global, word: &str, want: Option<(&str, &str)>) -> Result<bool, AllocError> {
+    let found = pair_of(alloc, word.as_bytes())?;
+    Ok(match (&found, want) {
+        (Some(pair), Some(want)) => is_pair(pair, want),
+        (None, None) => true,
+        _ => false,
+    })
 }
 
-// Whether a writer with so much room takes just these of five bytes, without an error or with one.
-fn takes_of_five(alloc: Global, room: usize, want: &[u8], is_done: bool) -> bool {
+// Whether the words behind a name spell these pairs, or none.
+fn spell_pairs(
+    alloc: Global,
+    words: Option<&str>,
+    want: Option<&[(&str, &str)]>,
+) -> Result<bool, AllocError> {
+    let found = pairs_of(alloc, words.map(|words| words.as_bytes()))?;
+    Ok(match (&found, want) {
+        (Some(pairs), Some(want)) => are_pairs(pairs, want),
+        (None, None) => true,
+        _ => false,
+    })
+}
+
+// Whether the next line of the input is found to be this, and kept so.
+fn finds(input: &mut &[u8], kept: &mut Vec<u8>, want: Line, text: &str) -> bool {
+    read_line(input, kept) == Ok(want) && kept.as_slice() == text.as_bytes()
+}
+
+// Whether a line of so many bytes is found to be this, and "b" behind it to be the last line. At most so many bytes are
+// kept, and of a whole line all.
+fn finds_long(alloc: Global, count: usize, want: Line) -> Result<bool, AllocError> {
+    let mut text = Vec::new(alloc);
+    for _ in 0..count {
+        text.push(b'x')?;
+    }
+    text.extend_from_slice(b"\nb\n")?;
+    let mut input = text.as_slice();
+    let mut kept = Vec::new(alloc);
+    let is_found = read_line(&mut input, &mut kept) == Ok(want);
+    let is_kept = kept.len() == count || (want == Line::TooLong && kept.len() < count);
+    Ok(
+        is_found
+            && is_kept
+            && finds(&mut input, &mut kept, Line::Whole, "b")
+            && finds(&mut input, &mut kept, Line::End, ""),
+    )
+}
+
+// Whether a writer with so much room takes just these of five bytes, without an error where it takes all.
+fn takes_of_five(alloc: Global, room: usize, want: &str) -> bool {
     let mut writer = slow_writer(alloc, room);
     let wrote = write_text(&mut writer, b"abcde").is_ok();
-    wrote == is_done && writer.holds(want)
+    wrote == (room >= 5) && writer.got.as_slice() == want.as_bytes()
 }
 
-fn write_words(writer: &mut Slow) -> io::Result<()> {
-    write_number(writer, 0)?;
-    write_text(writer, b" ")?;
-    write_number(writer, u64::MAX)?;
-    write_text(writer, b" ")?;
-    write_bytes_word(writer, b"")?;
-    write_text(writer, b" ")?;
-    write_bytes_word(writer, &[0, 0x61, 0xff])
-}
-
-#[test]
-fn reads_words(rt: HostRuntime) {
-    assert!(rt; is_cut(b"set 61=62 63=-", b"set", Some(b"61=62 63=-")));
-    assert!(rt; is_cut(b"flush", b"flush", None));
-    assert!(rt; is_cut(b" x", b"", Some(b"x")));
-}
-
-#[test]
-fn reads_numbers(rt: HostRuntime) {
-    let max = 18_446_744_073_709_551_615u64;
-    for (word, number) in [("0", 0), ("1", 1), ("18446744073709551615", max)] {
-        assert!(rt; is_number(word, Some(number)), "at {word}");
+// Whether the numbers and byte strings, with a space behind each, are written as this text.
+fn are_written(alloc: Global, numbers: &[u64], strings: &[&[u8]], want: &str) -> io::Result<bool> {
+    let mut writer = slow_writer(alloc, 99);
+    for number in numbers {
+        write_number(&mut writer, *number)?;
+        write_text(&mut writer, b" ")?;
     }
-    for word in [
-        "",
-        "00",
-        "01",
-        "+1",
-        "-1",
-        "18446744073709551616",
-        "1 ",
-        "1a",
+    for bytes in strings {
+        write_bytes_word(&mut writer, bytes)?;
+        write_text(&mut writer, b" ")?;
+    }
+    Ok(writer.got.as_slice() == want.as_bytes())
+}
+
+// Whether a call that is refused so is replied to by this line.
+fn replies_to_error(alloc: Global, error: Error, want: &str) -> io::Result<bool> {
+    let mut writer = slow_writer(alloc, 99);
+    write_line(&mut writer, Told::Flushed(&Err(error)))?;
+    Ok(writer.got.as_slice() == want.as_bytes())
+}
+
+#[test]
+fn reads_words_and_numbers(rt: HostRuntime) {
+    for (line, word, rest) in [
+        ("set 61=62 63=-", "set", Some("61=62 63=-")),
+        ("flush", "flush", None),
+        (" x", "", Some("x")),
     ] {
-        assert!(rt; is_number(word, None), "at {word}");
+        let want = (word.as_bytes(), rest.map(|rest| rest.as_bytes()));
+        assert!(rt; first_word(line.as_bytes()) == want, "at {line}");
+    }
+    for (word, number) in [
+        ("0", Some(0)),
+        ("1", Some(1)),
+        ("18446744073709551615", Some(18_446_744_073_709_551_615)),
+        ("", None),
+        ("00", None),
+        ("01", None),
+        ("+1", None),
+        ("-1", None),
+        ("18446744073709551616", None),
+        ("1 ", None),
+        ("1a", None),
+    ] {
+        assert!(rt; number_of(word.as_bytes()) == number, "at {word}");
     }
 }
 
 #[test]
 fn reads_byte_strings(rt: HostRuntime) -> Result<(), Fail> {
-    let alloc = rt.alloc();
-    for (word, want) in [("-", b"".as_slice()), ("61", &[0x61]), ("00ff", &[0, 0xff])] {
-        assert!(rt; are_bytes(alloc, word, want)?, "at {word}");
-    }
-    for word in ["", "6", "6G", "6A", "61-", "--"] {
-        assert!(rt; are_no_bytes(alloc, word)?, "at {word}");
+    for (word, want) in [
+        ("-", Some(b"".as_slice())),
+        ("61", Some(&[0x61])),
+        ("00ff", Some(&[0, 0xff])),
+        ("", None),
+        ("6", None),
+        ("6G", None),
+        ("6A", None),
+        ("61-", None),
+        ("--", None),
+    ] {
+        assert!(rt; spells_bytes(rt.alloc(), word, want)?, "at {word}");
     }
     Ok(())
 }
 
 #[test]
 fn reads_pairs(rt: HostRuntime) -> Result<(), Fail> {
-    let alloc = rt.alloc();
-    assert!(rt; is_pair(alloc, "61=62", b"a", b"b")?);
-    assert!(rt; is_pair(alloc, "-=-", b"", b"")?);
-    for word in ["61=", "=61", "61", "61=62=63"] {
-        assert!(rt; is_no_pair(alloc, word)?, "at {word}");
+    for (word, want) in [
+        ("61=62", Some(("a", "b"))),
+        ("-=-", Some(("", ""))),
+        ("61=", None),
+        ("=61", None),
+        ("61", None),
+        ("61=62=63", None),
+    ] {
+        assert!(rt; spells_pair(rt.alloc(), word, want)?, "at {word}");
     }
     Ok(())
 }
 
 #[test]
 fn reads_pairs_behind_a_name(rt: HostRuntime) -> Result<(), Fail> {
-    let alloc = rt.alloc();
-    assert!(rt; has_count(alloc, None, 0)?);
-    assert!(rt; has_count(alloc, Some(b"61=62"), 1)?);
-    assert!(rt; are_two_pairs(alloc, b"61=62 62=63", b"a", b"c")?);
-    for words in ["", "61=62 ", " 61=62", "61=62  62=63"] {
-        assert!(rt; are_no_pairs(alloc, words)?, "at {words}");
+    let one: &[(&str, &str)] = &[("a", "b")];
+    let two: &[(&str, &str)] = &[("a", "b"), ("b", "c")];
+    for (words, want) in [
+        ("61=62", Some(one)),
+        ("61=62 62=63", Some(two)),
+        ("", None),
+        ("61=62 ", None),
+        (" 61=62", None),
+        ("61=62  62=63", None),
+    ] {
+        assert!(rt; spell_pairs(rt.alloc(), Some(words), want)?, "at {words}");
     }
+    assert!(rt; spell_pairs(rt.alloc(), None, Some(&[]))?);
     Ok(())
 }
 
 #[test]
 fn reads_lines(rt: HostRuntime) {
     let mut kept = Vec::new(rt.alloc());
-    let mut input = b"a\n\nb\r\nc".as_slice();
-    for want in [b"a".as_slice(), b"", b"b\r", b"c"] {
-        assert!(rt; reads(&mut input, &mut kept, want));
+    for (text, lines) in [
+        ("a\n\nb\r\nc", &["a", "", "b\r", "c"] as &[&str]),
+        ("a\n", &["a"]),
+    ] {
+        let mut input = text.as_bytes();
+        for line in lines {
+            assert!(rt;
+                finds(&mut input, &mut kept, Line::Whole, line),
+                "at {line}"
+            );
+        }
+        assert!(rt;
+            finds(&mut input, &mut kept, Line::End, ""),
+            "behind {text}"
+        );
     }
-    assert!(rt; finds(&mut input, &mut kept, Line::End));
-    let mut input = b"a\n".as_slice();
-    assert!(rt; finds(&mut input, &mut kept, Line::Whole));
-    assert!(rt; finds(&mut input, &mut kept, Line::End));
 }
 
 #[test]
-fn reads_a_line_as_long_as_may_be(rt: HostRuntime) -> Result<(), Fail> {
-    let mut kept = Vec::new(rt.alloc());
-    let text = long_text(rt.alloc(), 65_536, b"\nb\n")?;
-    let mut input = text.as_slice();
-    assert!(rt; finds(&mut input, &mut kept, Line::Whole));
-    assert_eq!(rt; kept.len(), MAX_LINE);
-    assert!(rt; reads(&mut input, &mut kept, b"b"));
-    Ok(())
-}
-
-#[test]
-fn reads_past_a_line_that_is_too_long(rt: HostRuntime) -> Result<(), Fail> {
-    let mut kept = Vec::new(rt.alloc());
-    let text = long_text(rt.alloc(), 65_537, b"\nb")?;
-    let mut input = text.as_slice();
-    assert!(rt; finds(&mut input, &mut kept, Line::TooLong));
-    assert!(rt; kept.len() <= 65_537);
-    assert!(rt; reads(&mut input, &mut kept, b"b"));
-    assert!(rt; finds(&mut input, &mut kept, Line::End));
+fn reads_long_lines(rt: HostRuntime) -> Result<(), Fail> {
+    for (count, want) in [(65_536, Line::Whole), (65_537, Line::TooLong)] {
+        assert!(rt; finds_long(rt.alloc(), count, want)?, "of {count} bytes");
+    }
     Ok(())
 }
 
 #[test]
 fn writes_a_beginning_before_an_error(rt: HostRuntime) {
-    assert!(rt; takes_of_five(rt.alloc(), 3, b"abc", false));
-    assert!(rt; takes_of_five(rt.alloc(), 5, b"abcde", true));
+    for (room, want) in [(3, "abc"), (5, "abcde")] {
+        assert!(rt; takes_of_five(rt.alloc(), room, want), "of {room}");
+    }
 }
 
 #[test]
 fn writes_numbers_and_byte_strings(rt: HostRuntime) -> Result<(), Fail> {
-    let mut writer = slow_writer(rt.alloc(), 99);
-    write_words(&mut writer)?;
-    assert!(rt; writer.holds(b"0 18446744073709551615 - 0061ff"));
+    let text = "0 18446744073709551615 - 0061ff ";
+    assert!(rt; are_written(rt.alloc(), &[0, u64::MAX], &[b"", &[0, 0x61, 0xff]], text)?);
+    Ok(())
+}
+
+#[test]
+fn replies_to_errors(rt: HostRuntime) -> Result<(), Fail> {
+    for (error, want) in [
+        (Error::Unsupported(Why::BatchOpen), "error unsupported 8\n"),
+        (Error::ReportableBug(Bug::LinkRefused), "error bug 3\n"),
+        (Error::Io(Device::Read), "error read\n"),
+        (Error::Io(Device::Write), "error write\n"),
+        (Error::Corruption(None), "error corruption\n"),
+        (Error::OutOfMemory, "error memory\n"),
+    ] {
+        assert!(rt; replies_to_error(rt.alloc(), error, want)?, "at {want}");
+    }
     Ok(())
 }

@@ -1,5 +1,6 @@
 -- How byte strings are spelled.
 use Rattle.std.specs.Prelude.{◌≡◌, ℕ, ◌<◌, ◌^◌, List, ◌++◌, length}
+use Rattle.sled_base.specs.Limits.{inline_limit}
 use Rattle.sled_base.specs.Payloads.Numbers.{ReadsU64, written_u64}
 
 -- the length, and so many bytes
@@ -8,7 +9,7 @@ ReadsBytes input bytes rest = (middle : List ℕ) × ReadsU64 input (length byte
 
 -- memory is asked for where a byte string is read that doesn't fit in place
 abbrev pub AsksBytes : List ℕ → Type 0
-AsksBytes input = (bytes rest : List ℕ) × ReadsBytes input bytes rest × (22 < length bytes)
+AsksBytes input = (bytes rest : List ℕ) × ReadsBytes input bytes rest × (inline_limit < length bytes)
 
 abbrev pub written_bytes : List ℕ → List ℕ
 written_bytes bytes = written_u64 (length bytes) ++ bytes

@@ -1,12 +1,13 @@
 // The log in memory as a log.
 
-ghost use Rattle.std.specs.Prelude.{◌≡◌, ℕ, ◌+◌, ◌≤◌, ◌<◌, ◌^◌, ◌↔◌, pos, [], ◌∷◌, length, true, false, slice_index_or, IfOk, IfErr, OnOk, IsOk, IsErrOf};
+ghost use Rattle.std.specs.Prelude.{⊤, ◌≡◌, ℕ, ◌+◌, ◌≤◌, ◌<◌, ◌↔◌, pos, [], ◌∷◌, length, true, false, slice_index_or, IfOk, IfErr, OnOk, IsOk, IsErrOf};
 ghost use Rattle.std.specs.List.{All, AllByRecursion, AllZip, Any};
 ghost use Rattle.sled_log.specs.Batches.{is_open};
 ghost use Rattle.sled_log.specs.Calls.{Called, one_more};
 ghost use Rattle.sled_log.specs.Chains.{is_chain};
 ghost use Rattle.sled_log.specs.Events.{Change, Pin, Seal, Cancel};
-ghost use Rattle.sled_log.specs.Items.{state_at, WasLeft, left_now, stable_left, pointer_at};
+ghost use Rattle.sled_log.specs.Items.{state_at, WasLeft, left_now, left_earlier, stable_left, pointer_at};
+ghost use Rattle.sled_log.specs.Limits.{head_size, size_limit};
 ghost use Rattle.sled_log.specs.Messages.{effect_of_entry, message, placed};
 ghost use Rattle.sled_log.specs.Pages.{IsPageState, IsSized, IsAt, IsRead};
 ghost use Rattle.sled_log.specs.State.{now};
@@ -24,7 +25,7 @@ const MAX_SIZE: u64 = i64::MAX as u64;
 
 // The pointer to a message at that place: above the limit its payload is a blob.
 fn pointer_for(limit: usize, place: LogOffset, payload: &[u8]) -> DiskPtr
-    requires { place < 2 ^ 63 }
+    requires { place < size_limit }
     ensures { result ≡ pointer_at limit place payload.now }
 {
     if payload.len() <= limit {
@@ -36,6 +37,8 @@ fn pointer_for(limit: usize, place: LogOffset, payload: &[u8]) -> DiskPtr
 
 impl Log for MemLog {
     ghost use Rattle.sled_log.specs.Memory.{state_of, clock_of, might_have_left, counts_of, size_of, stable_size_of, pending_size_of, settings_of, MovesNothing, Remembers};
+
+    ghost tells = { ⊤ };
 
     ghost state = { λ log. state_at log.clock log.items.items };
 
@@ -51,13 +54,15 @@ impl Log for MemLog {
 
     ghost to_write = { λ log. pending_size_of log };
 
-    ghost is_full = { λ log n. 2 ^ 63 ≤ size_of log + 17 + n };
+    ghost is_full = { λ log n. size_limit ≤ size_of log + head_size + n };
 
     ghost is_full_for_batch = { λ _. ⊥ };
 
-    ghost keeps_stable = { λ log t le usable. stable_left log.clock log.items.items t le };
+    ghost keeps_stable = { λ log told usable. stable_left log.clock log.items.items };
 
-    ghost only_now = { λ log pages left. left_now log.clock log.items.items pages left };
+    ghost only_now = { λ log pages told usable left. left_now log.clock log.items.items pages left };
+
+    ghost since_earlier = { λ log t u pages told le left. left_earlier log.clock log.items.items t u pages le left };
 
     // Its place is the sum of the log sizes before it. It is Full exactly where the sum would pass the limit then.
     fn append(
@@ -66,13 +71,13 @@ impl Log for MemLog {
         pid: PageId,
         payload: &[u8],
     ) -> Result<(Lsn, DiskPtr, u64), LogError>
-        ensures called { Called state_of clock_of might_have_left counts_of self.old self.new (counts_of self.old).reads (λ said. Change pid (placed (message kind payload.now) said) ∷ []) (Change pid (message kind payload.now) ∷ []) result }
-        ensures size { IfOk result (λ said. said.2 ≡ 17 + length payload.now) }
+        ensures called { Called ⊤ state_of clock_of might_have_left counts_of self.old self.new (counts_of self.old).reads (λ said. Change pid (placed (message kind payload.now) said) ∷ []) (Change pid (message kind payload.now) ∷ []) result }
+        ensures size { IfOk result (λ said. (said.2 ≡ head_size + length payload.now) × (said.2 < size_limit)) }
         ensures sized { OnOk result (AllByRecursion IsSized (now effect_of_entry (state_of self.new))) }
         ensures lsn { IfOk result (λ said. said.0 ≡ pos (size_of self.old)) }
         ensures pointer { IfOk result (λ said. said.1 ≡ pointer_at (settings_of self.old).0 (size_of self.old) payload.now) }
         ensures moves { MovesNothing self.old self.new (λ said. Change pid (placed (message kind payload.now) said) ∷ []) result }
-        ensures full { IsErrOf result Full ↔ (2 ^ 63 ≤ size_of self.old + 17 + length payload.now) }
+        ensures full { IsErrOf result Full ↔ (size_limit ≤ size_of self.old + head_size + length payload.now) }
         ensures past { Remembers self.old self.new }
     {
         let len = payload.len() as u64;
@@ -102,9 +107,9 @@ impl Log for MemLog {
         pointer: DiskPtr,
     ) -> Result<(MessageKind, Vec<u8>), LogError>
         requires known { Any (IsAt lsn pointer) (slice_index_or (now effect_of_entry (state_of self.old)) pid []) }
-        ensures called { Called state_of clock_of might_have_left counts_of self.old self.new (one_more (counts_of self.old).reads) (λ _. []) [] result }
+        ensures called { Called ⊤ state_of clock_of might_have_left counts_of self.old self.new (one_more (counts_of self.old).reads) (λ _. []) [] result }
         ensures found { IfOk result (λ found. All (λ entry. IsAt lsn pointer entry → IsRead entry found) (slice_index_or (now effect_of_entry (state_of self.old)) pid [])) }
-        ensures room { (n : ℕ) → 2 ^ 63 ≤ size_of self.new + 17 + n → 2 ^ 63 ≤ size_of self.old + 17 + n }
+        ensures room { (n : ℕ) → size_limit ≤ size_of self.new + head_size + n → size_limit ≤ size_of self.old + head_size + n }
         ensures moves { MovesNothing self.old self.new (λ _. []) result }
         ensures only { IfErr result (λ e. e ≡ Memory) }
         ensures past { Remembers self.old self.new }
@@ -119,7 +124,7 @@ impl Log for MemLog {
     // It is never refused.
     fn make_stable(&mut self) -> Result<usize, LogError>
         requires closed { is_open (state_of self.old).pending ≡ false }
-        ensures called { Called state_of clock_of might_have_left counts_of self.old self.new (counts_of self.old).reads (λ _. []) [] result }
+        ensures called { Called ⊤ state_of clock_of might_have_left counts_of self.old self.new (counts_of self.old).reads (λ _. []) [] result }
         ensures stable { OnOk result ((state_of self.new).pending ≡ []) }
         ensures number { IfOk result (λ n. n ≡ pending_size_of self.old) }
         ensures size { size_of self.new ≡ size_of self.old }
@@ -140,7 +145,7 @@ impl Log for MemLog {
     // It is never Full.
     fn pin(&mut self) -> Result<(), LogError>
         requires closed { is_open (state_of self.old).pending ≡ false }
-        ensures called { Called state_of clock_of might_have_left counts_of self.old self.new (counts_of self.old).reads (λ _. Pin ∷ []) (Pin ∷ []) result }
+        ensures called { Called ⊤ state_of clock_of might_have_left counts_of self.old self.new (counts_of self.old).reads (λ _. Pin ∷ []) (Pin ∷ []) result }
         ensures moves { MovesNothing self.old self.new (λ _. Pin ∷ []) result }
         ensures only { IfErr result (λ e. e ≡ Memory) }
         ensures past { Remembers self.old self.new }
@@ -153,7 +158,7 @@ impl Log for MemLog {
     // It is never refused.
     fn seal(&mut self) -> Result<(), LogError>
         requires opened { is_open (state_of self.old).pending ≡ true }
-        ensures called { Called state_of clock_of might_have_left counts_of self.old self.new (counts_of self.old).reads (λ _. Seal ∷ []) (Seal ∷ []) result }
+        ensures called { Called ⊤ state_of clock_of might_have_left counts_of self.old self.new (counts_of self.old).reads (λ _. Seal ∷ []) (Seal ∷ []) result }
         ensures moves { MovesNothing self.old self.new (λ _. Seal ∷ []) result }
         ensures always { IsOk result }
         ensures past { Remembers self.old self.new }
@@ -165,7 +170,7 @@ impl Log for MemLog {
     // It is never refused.
     fn cancel(&mut self) -> Result<(), LogError>
         requires opened { is_open (state_of self.old).pending ≡ true }
-        ensures called { Called state_of clock_of might_have_left counts_of self.old self.new (counts_of self.old).reads (λ _. Cancel ∷ []) (Cancel ∷ []) result }
+        ensures called { Called ⊤ state_of clock_of might_have_left counts_of self.old self.new (counts_of self.old).reads (λ _. Cancel ∷ []) (Cancel ∷ []) result }
         ensures moves { MovesNothing self.old self.new (λ _. Cancel ∷ []) result }
         ensures always { IsOk result }
         ensures past { Remembers self.old self.new }
@@ -175,11 +180,12 @@ impl Log for MemLog {
     }
 
     fn recover(&mut self) -> Result<Vec<PageState>, LogError>
-        ensures called { Called state_of clock_of might_have_left counts_of self.old self.new (counts_of self.old).reads (λ _. []) [] result }
+        ensures called { Called ⊤ state_of clock_of might_have_left counts_of self.old self.new (counts_of self.old).reads (λ _. []) [] result }
         ensures pages { IfOk result (λ pages. AllZip IsPageState (now effect_of_entry (state_of self.old)) pages.items) }
         ensures sized { OnOk result (AllByRecursion IsSized (now effect_of_entry (state_of self.old))) }
         ensures chains { OnOk result (AllByRecursion (λ chain. is_chain effect_of_entry chain ≡ true) (now effect_of_entry (state_of self.old))) }
         ensures moves { MovesNothing self.old self.new (λ _. []) result }
+        ensures room { (n : ℕ) → size_limit ≤ size_of self.new + head_size + n → size_limit ≤ size_of self.old + head_size + n }
         ensures only { IfErr result (λ e. e ≡ Memory) }
         ensures past { Remembers self.old self.new }
     {

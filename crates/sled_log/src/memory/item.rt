@@ -1,7 +1,8 @@
 // What the log in memory keeps.
 
-ghost use Rattle.std.specs.Prelude.{◌≡◌, ◌+◌, ◌<◌, ◌^◌};
+ghost use Rattle.std.specs.Prelude.{◌≡◌, ◌+◌, ◌<◌};
 ghost use Rattle.sled_log.specs.Items.{entry_of, size_of_mark};
+ghost use Rattle.sled_log.specs.Limits.{size_limit};
 ghost use Rattle.sled_log.specs.Pages.{said_of};
 ghost use Rattle.sled_base.specs.declared.types.page_state.PageState.TheVariants.{Free};
 
@@ -42,7 +43,7 @@ pub(super) struct Item {
 impl Mark {
     // Its log size.
     pub(super) fn size(&self) -> u64
-        requires { size_of_mark self.now < 2 ^ 63 }
+        requires { size_of_mark self.now < size_limit }
         ensures { result ≡ size_of_mark self.now }
     {
         match self {

@@ -1,7 +1,8 @@
 // How the items of the log in memory become stable, and what a stop does to them.
 
-ghost use Rattle.std.specs.Prelude.{◌≡◌, ◌<◌, ◌≤◌, ◌^◌, take, map, vec_len};
+ghost use Rattle.std.specs.Prelude.{◌≡◌, ◌<◌, ◌≤◌, take, map, vec_len};
 ghost use Rattle.sled_log.specs.Items.{log_size, settled_at, all_settled, restarted};
+ghost use Rattle.sled_log.specs.Limits.{size_limit};
 
 use super::item::Item;
 
@@ -42,7 +43,7 @@ pub(super) fn keep_first(items: &mut Vec<Item>, count: usize)
 
 // The log sizes of these items.
 pub(super) fn total_size(items: &[Item]) -> u64
-    requires { log_size items.now < 2 ^ 63 }
+    requires { log_size items.now < size_limit }
     ensures { result ≡ log_size items.now }
 {
     let mut size = 0;

@@ -1,9 +1,10 @@
 // A log with a buffer: a stop leaves just what was made stable, and nothing of what is pending. The trait asks no more.
 
-ghost use Rattle.std.proofs.Common.{refl, ◌∙◌, ap};
+ghost use Rattle.std.proofs.Common.{refl, ◌∙◌, ap, le_trans};
 ghost use Rattle.std.proofs.Math.Nat.{le_refl, le_antisymm};
-ghost use Rattle.std.specs.Prelude.{◌≡◌, ℕ, ◌+◌, ◌≤◌, ◌^◌, pos, [], true};
+ghost use Rattle.std.specs.Prelude.{⊤, ◌≡◌, ℕ, ◌+◌, ◌≤◌, pos, [], true};
 ghost use Rattle.sled_log.specs.Laws.{IsFair-none};
+ghost use Rattle.sled_log.specs.Limits.{head_size, size_limit};
 ghost use Rattle.sled_log.specs.Memory.{state_of, clock_of, was_at, counts_of, size_of, stable_size_of, pending_size_of};
 ghost use Rattle.sled_log.specs.State.{told_state};
 
@@ -28,6 +29,8 @@ impl BufferedLog {
 }
 
 impl Log for BufferedLog {
+    ghost tells = { ⊤ };
+
     ghost state = { λ log. state_of log.log };
 
     ghost moment = { λ log. clock_of log.log };
@@ -42,13 +45,15 @@ impl Log for BufferedLog {
 
     ghost to_write = { λ log. pending_size_of log.log };
 
-    ghost is_full = { λ log n. 2 ^ 63 ≤ size_of log.log + 17 + n };
+    ghost is_full = { λ log n. size_limit ≤ size_of log.log + head_size + n };
 
     ghost is_full_for_batch = { λ _. ⊥ };
 
-    ghost keeps_stable = { λ log t le usable. (clock_of log.log, le, le_refl (clock_of log.log), refl) };
+    ghost keeps_stable = { λ log told usable. (clock_of log.log, le_refl (clock_of log.log), le_refl (clock_of log.log), refl) };
 
-    ghost only_now = { λ log pages left. record { came = []; beginning = ([], refl); cut = 0; fair = IsFair-none _; is = left.3 ∙ ap (λ moment. (told_state (was_at moment log.log)).stable) (le_antisymm left.2 left.1) } };
+    ghost only_now = { λ log pages told usable left. record { came = []; beginning = ([], refl); cut = 0; fair = IsFair-none _; is = left.3 ∙ ap (λ moment. (told_state (was_at moment log.log)).stable) (le_antisymm left.2 left.1) } };
+
+    ghost since_earlier = { λ log t u pages told le left. (left.0, le_trans le left.1, left.2, left.3) };
 
     fn append(
         &mut self,

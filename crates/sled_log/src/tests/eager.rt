@@ -1,9 +1,10 @@
 // A log that makes stable what it may at every call, refused calls and readings included. It shows that the trait
 // promises no more than such a log can keep.
 
-ghost use Rattle.std.specs.Prelude.{◌≡◌, ◌+◌, ◌≤◌, ◌^◌, pos, [], true, false};
+ghost use Rattle.std.specs.Prelude.{⊤, ◌≡◌, ◌+◌, ◌≤◌, pos, [], true, false};
 ghost use Rattle.sled_log.specs.Batches.{is_open};
-ghost use Rattle.sled_log.specs.Items.{left_now, stable_left};
+ghost use Rattle.sled_log.specs.Items.{left_now, left_earlier, stable_left};
+ghost use Rattle.sled_log.specs.Limits.{head_size, size_limit};
 ghost use Rattle.sled_log.specs.Memory.{state_of, clock_of, might_have_left, counts_of, size_of, stable_size_of, pending_size_of};
 ghost use Rattle.sled_log.specs.Messages.{effect_of, effect_of_entry};
 ghost use Rattle.sled_log.specs.State.{State, Adds, IsLeft, StopsLeave, told_state};
@@ -44,6 +45,8 @@ fn settle(log: &mut MemLog)
 }
 
 impl Log for EagerLog {
+    ghost tells = { ⊤ };
+
     ghost state = { λ log. state_of log.log };
 
     ghost moment = { λ log. clock_of log.log };
@@ -58,13 +61,15 @@ impl Log for EagerLog {
 
     ghost to_write = { λ log. pending_size_of log.log };
 
-    ghost is_full = { λ log n. 2 ^ 63 ≤ size_of log.log + 17 + n };
+    ghost is_full = { λ log n. size_limit ≤ size_of log.log + head_size + n };
 
     ghost is_full_for_batch = { λ _. ⊥ };
 
-    ghost keeps_stable = { λ log t le usable. stable_left log.log.clock log.log.items.items t le };
+    ghost keeps_stable = { λ log told usable. stable_left log.log.clock log.log.items.items };
 
-    ghost only_now = { λ log pages left. left_now log.log.clock log.log.items.items pages left };
+    ghost only_now = { λ log pages told usable left. left_now log.log.clock log.log.items.items pages left };
+
+    ghost since_earlier = { λ log t u pages told le left. left_earlier log.log.clock log.log.items.items t u pages le left };
 
     fn append(
         &mut self,

@@ -1,10 +1,11 @@
 -- How keys and items are spelled.
-use Rattle.std.specs.Prelude.{◌≡◌, ℕ, ◌*◌, ◌≤◌, ◌^◌, List, ◌++◌, length, map}
+use Rattle.std.specs.Prelude.{◌≡◌, ℕ, ◌*◌, ◌≤◌, List, ◌++◌, length, map}
 use Rattle.std.specs.List.{flat_map, AllByRecursion}
 use Rattle.sled_base.specs.Order.{Bytes}
 use Rattle.sled_base.specs.Payloads.Numbers.{ReadsU64, written_u64}
 use Rattle.sled_base.specs.Payloads.ByteStrings.{ReadsBytes, written_bytes, CanWriteBytes}
 use Rattle.sled_node.specs.Payloads.Sequences.{ReadsAll, ReadsCount}
+use Rattle.sled_node.specs.Limits.{pairs_limit}
 
 abbrev pub keys_of : {V : Type 0} → List (Bytes × V) → List Bytes
 keys_of pairs = map (λ pair. pair.0) pairs
@@ -14,7 +15,7 @@ items_of pairs = map (λ pair. pair.1) pairs
 
 -- the count, which keeps the limit, all keys, and then all items
 abbrev pub ReadsPairs : {V : Type 0} → (List ℕ → V → List ℕ → Type 0) → List ℕ → List (Bytes × V) → List ℕ → Type 0
-ReadsPairs reads input pairs rest = (keys items : List ℕ) × ReadsU64 input (length pairs) keys × (length pairs ≤ 2 ^ 24) × ReadsAll ReadsBytes keys (keys_of pairs) items × ReadsAll reads items (items_of pairs) rest
+ReadsPairs reads input pairs rest = (keys items : List ℕ) × ReadsU64 input (length pairs) keys × (length pairs ≤ pairs_limit) × ReadsAll ReadsBytes keys (keys_of pairs) items × ReadsAll reads items (items_of pairs) rest
 
 -- behind so many keys the rest begins
 abbrev pub IsBehindKeys : ℕ → List ℕ → List ℕ → Type 0
@@ -22,7 +23,7 @@ IsBehindKeys count input rest = (keys : List Bytes) × ReadsCount count ReadsByt
 
 -- a count that keeps the limit, where so many keys begin, which have room with as many items, and where the items begin
 abbrev pub SplitsPairs : List ℕ → ℕ → List ℕ → List ℕ → Type 0
-SplitsPairs input count keys items = ReadsU64 input count keys × (count ≤ 2 ^ 24) × (2 * count ≤ length keys) × IsBehindKeys count keys items
+SplitsPairs input count keys items = ReadsU64 input count keys × (count ≤ pairs_limit) × (2 * count ≤ length keys) × IsBehindKeys count keys items
 
 -- memory is asked for behind a count of at least one that has room, and so many keys
 abbrev pub AsksPairs : List ℕ → Type 0
@@ -34,7 +35,7 @@ ReadsBoth reads count keys input pairs rest = (length pairs ≡ count) × ReadsA
 
 -- few pairs, whose keys and items can be written
 pub record CanWritePairs {V : Type 0} (can_write : V → Type 0) (pairs : List (Bytes × V)) : Type 0 where
-  pub few : length pairs ≤ 2 ^ 24
+  pub few : length pairs ≤ pairs_limit
   pub keys : AllByRecursion CanWriteBytes (keys_of pairs)
   pub items : AllByRecursion can_write (items_of pairs)
 

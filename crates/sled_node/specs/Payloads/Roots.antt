@@ -1,5 +1,5 @@
 -- How a root map is spelled: its names with their root pages, to the end of the input.
-use Rattle.std.specs.Prelude.{◌≡◌, ℕ, ◌≤◌, ◌^◌, List, [], ◌++◌, length}
+use Rattle.std.specs.Prelude.{◌≡◌, ℕ, ◌≤◌, List, [], ◌++◌, length}
 use Rattle.std.specs.List.{flat_map}
 use Rattle.sled_base.specs.Order.{Bytes}
 use Rattle.sled_node.specs.Meta.{Roots, with_roots}
@@ -8,14 +8,15 @@ use Rattle.sled_base.specs.Payloads.Numbers.{ReadsU64, written_u64}
 use Rattle.sled_base.specs.Payloads.ByteStrings.{written_bytes}
 use Rattle.sled_node.specs.Payloads.ShortStrings.{ReadsShort}
 use Rattle.sled_node.specs.Payloads.Sequences.{ReadsAll}
+use Rattle.sled_node.specs.Limits.{names_limit}
 
 -- a name and its root
 abbrev pub ReadsRoot : List ℕ → Bytes × ℕ → List ℕ → Type 0
 ReadsRoot = ReadsPair ReadsShort ReadsU64
 
--- Pairs up to the end of the input. They are put into the empty map in their order, which has at most 2^24 names then.
+-- Pairs up to the end of the input. They are put into the empty map in their order, which has no more names than a root map may then.
 abbrev pub ReadsRoots : List ℕ → Roots → List ℕ → Type 0
-ReadsRoots input roots rest = (rest ≡ []) × (pairs : List (Bytes × ℕ)) × ReadsAll ReadsRoot input pairs [] × (roots ≡ with_roots pairs []) × (length roots ≤ 2 ^ 24)
+ReadsRoots input roots rest = (rest ≡ []) × (pairs : List (Bytes × ℕ)) × ReadsAll ReadsRoot input pairs [] × (roots ≡ with_roots pairs []) × (length roots ≤ names_limit)
 
 -- memory is asked for where a name stands at the front
 abbrev pub AsksRoots : List ℕ → Type 0

@@ -5,6 +5,7 @@ ghost use Rattle.sled_node.specs.Pairs.{IsWithinLimit, IsRising, HasPairs};
 ghost use Rattle.sled_node.specs.Node.{IsInRange, Child};
 ghost use Rattle.sled_node.specs.Inserts.{HasKey, inserted};
 ghost use Rattle.sled_node.specs.Children.{index_of, BeginsAtMost, HasChildFor, IsLastAtMost, with_child};
+ghost use Rattle.sled_node.specs.Limits.{pairs_limit};
 
 use super::pairs::is_below;
 use super::{Data, Index, Node};
@@ -72,7 +73,7 @@ impl Node {
         requires index { self.old.is_index ≡ true }
         requires range { IsInRange self.old at.now }
         requires limit { IsWithinLimit at.now }
-        requires room { (length self.old.pairs < 2 ^ 24) ⊎ HasKey self.old.pairs at.now }
+        requires room { (length self.old.pairs < pairs_limit) ⊎ HasKey self.old.pairs at.now }
         ensures new { IfOk result (λ is_new. IsTrue is_new ↔ (HasKey self.old.pairs at.now → ⊥)) }
         ensures value { IfOk result (λ is_new. self.new ≡ inserted is_new (with_child at.now to self.old) self.old) }
         ensures there { HasKey self.old.pairs at.now → IsOk result }

@@ -8,6 +8,7 @@ ghost use Rattle.sled_node.specs.Pairs.{IsWithinLimit, IsRising, HasPairs, set_p
 ghost use Rattle.sled_node.specs.Inserts.{HasKey, inserted};
 ghost use Rattle.sled_node.specs.Equality.{same_pairs, index_equiv};
 ghost use Rattle.sled_node.specs.Parts.{CanSet, set_stored, del_stored, LeadsTo, without_page, without_stored};
+ghost use Rattle.sled_node.specs.Limits.{pairs_limit};
 
 use super::MAX_PAIRS;
 use super::leaf::Leaf;
@@ -99,7 +100,7 @@ impl Index {
     // Puts the pair in, unless the key is there, and answers whether it was put in.
     pub(super) fn insert(&mut self, key: &[u8], page: PageId) -> Result<bool, AllocError>
         requires limit { IsWithinLimit key.now }
-        requires room { (length self.old < 2 ^ 24) ⊎ HasKey self.old key.now }
+        requires room { (length self.old < pairs_limit) ⊎ HasKey self.old key.now }
         ensures new { IfOk result (λ is_new. IsTrue is_new ↔ (HasKey self.old key.now → ⊥)) }
         ensures value { IfOk result (λ is_new. self.new ≡ inserted is_new (set_pair key.now page self.old) self.old) }
         ensures there { HasKey self.old key.now → IsOk result }

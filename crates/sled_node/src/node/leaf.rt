@@ -7,6 +7,7 @@ ghost use Rattle.std.specs.Cmp.{partial_equiv_from_equiv};
 ghost use Rattle.std.specs.Cmp.Lexicographic.{pointwise};
 ghost use Rattle.sled_node.specs.Equality.{same_pairs, leaf_equiv};
 ghost use Rattle.sled_node.specs.Pairs.{IsWithinLimit, HasPairs, set_pair, del_pair};
+ghost use Rattle.sled_node.specs.Limits.{pairs_limit};
 
 use super::pairs::{are_rising, are_short, del_from, place_of, set_in};
 use super::{MAX_BYTES, MAX_PAIRS};
@@ -97,7 +98,7 @@ impl Leaf {
 
     // Whether there is room for a pair with this key.
     pub(super) fn has_room(&self, key: &[u8]) -> bool
-        ensures { IsTrue result ↔ (length (set_pair key.now [] self.now) ≤ 2 ^ 24) }
+        ensures { IsTrue result ↔ (length (set_pair key.now [] self.now) ≤ pairs_limit) }
     {
         self.pairs.len() < MAX_PAIRS || place_of(&self.pairs, key).is_ok()
     }
@@ -105,7 +106,7 @@ impl Leaf {
     pub(super) fn set(&mut self, key: IVec, value: IVec) -> Result<(), AllocError>
         requires key { IsWithinLimit key }
         requires value { IsWithinLimit value }
-        requires room { length (set_pair key value self.old) ≤ 2 ^ 24 }
+        requires room { length (set_pair key value self.old) ≤ pairs_limit }
         ensures ok { OnOk result (self.new ≡ set_pair key value self.old) }
         ensures err { OnErr result (self.new ≡ self.old) }
     {

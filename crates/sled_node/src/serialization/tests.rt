@@ -3,6 +3,7 @@ ghost use Rattle.sled_node.specs.Payloads.Links.{written_link, CanWriteLink};
 
 use super::*;
 use crate::node::{Data, Index, Leaf, Link, Node};
+use crate::tests::let_go;
 use sled_base::{Error, IVec};
 use std::alloc::{AllocError, Global};
 use std::num::NonZeroU64;
@@ -21,8 +22,6 @@ fn read<T: Serialize>(alloc: Global, input: &mut &[u8]) -> Result<Option<T>, All
 // A test that may end early lets what was read go here, once, and not on each way out.
 
 fn let_data_go(_data: Data) {}
-
-fn let_node_go(_node: Node) {}
 
 // The bytes are a whole spelling of the value.
 fn expect_read<T: Serialize + PartialEq>(
@@ -223,7 +222,7 @@ fn nodes(rt: HostRuntime) -> Result<(), Fail> {
     assert!(rt; merging.merging());
     assert!(rt; merging.is_index());
     let done = expect_node(&rt, rt.alloc(), &merging, &[0, 0, 1, 0, 0, 0, 1, 0]);
-    let_node_go(merging);
+    let_go(merging);
     Ok(done?)
 }
 
@@ -243,7 +242,7 @@ fn a_node_with_a_prefix(rt: HostRuntime) -> Result<(), Fail> {
     let node = read::<Node>(rt.alloc(), &mut input)?.ok_or("a node")?;
     expect_prefixed(&rt, &node);
     let done = expect_node(&rt, rt.alloc(), &node, bytes);
-    let_node_go(node);
+    let_go(node);
     Ok(done?)
 }
 

@@ -11,6 +11,7 @@ ghost use Rattle.sled_log.specs.State.{now};
 ghost use Rattle.sled_log.specs.Writing.{message_of};
 ghost use Rattle.sled_pagecache.specs.Adding.{HasOneMore, RefusesPage};
 ghost use Rattle.sled_pagecache.specs.ChainReads.{chain_at};
+ghost use Rattle.sled_pagecache.specs.Limits.{most_pages};
 ghost use Rattle.sled_pagecache.specs.Journal.{Went, IsCaused, begun_by};
 
 use super::MAX_PAGES;
@@ -31,19 +32,19 @@ pub(super) fn add_page<L: Log>(
 ) -> Result<PageId, Refusal>
     requires ready { journal.old.fault ≡ false }
     requires usable { (L.state journal.old.log).usable ≡ true }
-    requires there { length pages.old.items ≡ length (now effect_of_entry (L.state journal.old.log)) }
+    requires there { L.tells → length pages.old.items ≡ length (now effect_of_entry (L.state journal.old.log)) }
     ensures pid { IfOk result (λ pid. pid ≡ length pages.old.items) }
-    ensures page { OnOk result (HasOneMore pages.old.items pages.new.items (chain_at (L.state journal.new.log) (length pages.old.items)) node) }
-    ensures others { OnOk result (now effect_of_entry (L.state journal.new.log) ≡ now effect_of_entry (L.state journal.old.log) ++ chain_at (L.state journal.new.log) (length pages.old.items) ∷ []) }
-    ensures room { OnOk result (length pages.old.items ≢ MAX_PAGES) }
+    ensures page { OnOk result (HasOneMore L.tells pages.old.items pages.new.items (chain_at (L.state journal.new.log) (length pages.old.items)) node) }
+    ensures others { L.tells → OnOk result (now effect_of_entry (L.state journal.new.log) ≡ now effect_of_entry (L.state journal.old.log) ++ chain_at (L.state journal.new.log) (length pages.old.items) ∷ []) }
+    ensures room { OnOk result (length pages.old.items ≢ most_pages) }
     ensures left { OnErr result (pages.new.items ≡ pages.old.items) }
-    ensures same { OnErr result (journal.new.fault ≡ false → now effect_of_entry (L.state journal.new.log) ≡ now effect_of_entry (L.state journal.old.log)) }
-    ensures refused { IfErr result (RefusesPage (length pages.old.items)) }
+    ensures same { L.tells → OnErr result (journal.new.fault ≡ false → now effect_of_entry (L.state journal.new.log) ≡ now effect_of_entry (L.state journal.old.log)) }
+    ensures refused { L.tells → IfErr result (RefusesPage (length pages.old.items)) }
     ensures is { IsUpdate (message_of (contents.Put (contents.Node node))) (contents.Put (contents.Node node)) }
-    ensures went { Went L.state L.moment L.left_since L.counts journal.old journal.new (begun_by result (Change (length pages.old.items) (message_of (contents.Put (contents.Node node))) ∷ [])) }
-    ensures cause { IsCaused L.state L.moment L.left_since L.counts journal.old journal.new (L.is_full journal.old.log (length (message_of (contents.Put (contents.Node node))).payload)) result }
+    ensures went { Went L.tells L.state L.moment L.left_since L.counts journal.old journal.new (begun_by result (Change (length pages.old.items) (message_of (contents.Put (contents.Node node))) ∷ [])) }
+    ensures cause { IsCaused L.tells L.state L.moment L.left_since L.counts journal.old journal.new (L.is_full journal.old.log (length (message_of (contents.Put (contents.Node node))).payload)) result }
     ensures reads { (L.counts journal.new.log).reads ≡ (L.counts journal.old.log).reads }
-    ensures sized { OnOk result (AllByRecursion IsSized (now effect_of_entry (L.state journal.new.log))) }
+    ensures sized { L.tells → OnOk result (AllByRecursion IsSized (now effect_of_entry (L.state journal.new.log))) }
 {
     // Every node is well-formed.
     let _ = node.data();

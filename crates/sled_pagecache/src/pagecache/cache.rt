@@ -1,6 +1,6 @@
 //! The cache. Each call is one step of a machine.
 
-ghost use Rattle.std.specs.Prelude.{◌≡◌, ◌≢◌, ◌+◌, [], false, true, length, None, Some, Err, IfOk, IfErr, IsOk, OnOk, OnErr, IsErrOf};
+ghost use Rattle.std.specs.Prelude.{◌≡◌, ◌≢◌, ◌+◌, [], false, true, length, None, Some, Err, slice_get, IfOk, IfErr, IsOk, OnOk, OnErr, IsErrOf};
 ghost use Rattle.std.specs.Borrow.{sem};
 ghost use Rattle.sled_base.specs.declared.types.Device.TheVariants.{Write};
 ghost use Rattle.sled_base.specs.declared.types.Error.TheVariants.{Unsupported, Io};
@@ -9,9 +9,12 @@ ghost use Rattle.sled_base.specs.declared.types.Why.{Why};
 ghost use Rattle.sled_log.specs.Batches.{is_open};
 ghost use Rattle.sled_log.specs.Messages.{effect_of_entry};
 ghost use Rattle.sled_log.specs.State.{now, told_state};
+ghost use Rattle.sled_pagecache.specs.Answers.{Keeps, stamped, swapped};
 ghost use Rattle.sled_pagecache.specs.Cache.{IsResident, IsAway, chain_length};
 ghost use Rattle.sled_pagecache.specs.Calls.{Steps, IsBlamed};
-ghost use Rattle.sled_pagecache.specs.Lending.{EndsAsGot};
+ghost use Rattle.sled_pagecache.specs.Damage.{MeetsDamage, ReportsDamage};
+ghost use Rattle.sled_pagecache.specs.LinkTests.{TestsFirst};
+ghost use Rattle.sled_pagecache.specs.Lending.{IsGot, OnceGivenBack};
 ghost use Rattle.sled_pagecache.specs.Logged.{Logged, IsLogged};
 ghost use Rattle.sled_pagecache.specs.Opening.{fault_of};
 ghost use Rattle.sled_pagecache.specs.PagesIn.{BringsIn, IsNodeAt};
@@ -19,7 +22,7 @@ ghost use Rattle.sled_pagecache.specs.Reads.{ReadsNothing, ReadsPage, HasRead, o
 ghost use Rattle.sled_pagecache.specs.Starts.{RefusesOpening, Opens, IsBlamedOpening, MayBeOpened, HoldsNoNode, log_after};
 ghost use Rattle.sled_pagecache.specs.Step.{is_reserved};
 ghost use Rattle.sled_pagecache.specs.Swaps.{linked_length};
-ghost use Rattle.sled_pagecache.specs.Token.{pid_of};
+ghost use Rattle.sled_pagecache.specs.Token.{pid_of, stamp_of, IsAnswered};
 ghost use Rattle.sled_pagecache.specs.declared.pagecache.call.Answer.TheVariants.{Allocated, Linked, Replaced, Flushed, Sized};
 ghost use Rattle.sled_pagecache.specs.declared.pagecache.call.Call.TheVariants.{Allocate, Flush, SizeOnDisk};
 ghost use Rattle.sled_pagecache.specs.declared.pagecache.call.Call.TheVariants as call;
@@ -27,12 +30,12 @@ ghost use Rattle.sled_pagecache.specs.declared.pagecache.call.Call.TheVariants a
 use super::add::add_page;
 use super::config::Config;
 use super::journal::Journal;
+use super::judge::{Judgement, is_reserved, judge};
 use super::page::{Kept, Page};
 use super::pull::{pull, pull_and_link};
 use super::start::{fault_of, open};
 use super::swap::replace_page;
 use super::view::{NodeView, PageView};
-use super::{BATCH_MANIFEST_PID, COUNTER_PID, META_PID};
 use sled_base::{Device, Error, PageId, Refusal, Why};
 use sled_log::Log;
 use sled_node::{Link, Node};
@@ -64,7 +67,7 @@ impl<L: Log> Model for PageCache<L> {
 
     ghost view = { λ c. record { stamps = stamps_in c.pages.items; resident = resident_in c.pages.items; next = c.next; fault = c.journal.fault; config = c.config; recovered = c.recovered; log = c.journal.log } };
 
-    ghost invariant = { λ c. IsConsistent L.state c.journal c.pages.items c.free.items };
+    ghost invariant = { λ c. IsConsistent L.tells L.state c.journal c.pages.items c.free.items };
 }
 
 impl<L: Log> PageCache<L> {
@@ -76,18 +79,22 @@ impl<L: Log> PageCache<L> {
     ///
     /// `Corruption` comes without a pointer for more than 2^37 pages, and otherwise with the pointer of the first message of the
     /// first page, by id, that no cache leaves so: one of more than 10 messages, a page 0 that doesn't hold named roots by one
-    /// message, or a page 1 that doesn't hold a counter so. At an error the log comes back, at most with missing system pages
-    /// added; unless a write failed, a cache can be opened over it again.
+    /// message, or a page 1 that doesn't hold a counter so. `LogFull` comes where the log has no room for a missing page, behind
+    /// those that were added.
+    ///
+    /// An error leaves the log unchanged but for the missing pages that were added before it, and the log comes back; unless a
+    /// write failed, a cache can be opened over it again. A crash meanwhile leaves what the log held and, of the missing pages
+    /// that had begun to be added, a prefix.
     pub fn start(alloc: Global, config: Config, log: L) -> Result<PageCache<L>, (Error, L)>
         requires usable { (L.state log).usable ≡ true }
         requires closed { is_open (L.state log).pending ≡ false }
         ensures settings { (why : Why) → fault_of config ≡ Some why → result ≡ Err (Unsupported why, log) }
-        ensures opens { fault_of config ≡ None → (held : Logged) → IsLogged (told_state (L.state log)) held → Opens L.Log log config held result }
-        ensures refused { IfErr result (λ e. RefusesOpening config (now effect_of_entry (L.state log)) e.0) }
+        ensures opens { fault_of config ≡ None → L.tells → (held : Logged) → IsLogged (told_state (L.state log)) held → Opens L.Log log config held result }
+        ensures refused { L.tells → IfErr result (λ e. RefusesOpening config (now effect_of_entry (L.state log)) e.0) }
         ensures blame { IsBlamedOpening L.Log log result }
         ensures again { IfErr result (λ e. e.0 ≢ Io Write → MayBeOpened L.Log e.1) }
-        ensures unread { IfOk result (HoldsNoNode L.Log) }
-        ensures reads { HasRead L.counts log (log_after result) (own_among (length (now effect_of_entry (L.state log)))) result }
+        ensures unread { L.tells → IfOk result (HoldsNoNode L.Log) }
+        ensures reads { L.tells → HasRead L.counts log (log_after result) (own_among (length (now effect_of_entry (L.state log)))) result }
     {
         if let Some(why) = fault_of(config) {
             return Err((Error::Unsupported(why), log));
@@ -123,6 +130,8 @@ impl<L: Log> PageCache<L> {
         ensures step { Steps L.Log self.old (Allocate node) (Allocated result) self.new }
         ensures blame { IsBlamed L.Log self.old self.new result }
         ensures unread { ReadsNothing L.Log self.old self.new }
+        ensures keeps { Keeps self.old self.new result (λ made. stamped self.old.stamps made.1) }
+        ensures token { IfOk result (λ made. (pid_of made.1 ≡ made.0) × (slice_get self.new.stamps made.0 ≡ Some (stamp_of made.1))) }
         ensures resident { IfOk result (λ made. IsResident self.new made.0) }
     {
         let stuck = self.journal.fault;
@@ -142,9 +151,10 @@ impl<L: Log> PageCache<L> {
     /// The node of a page with the page's token, lent. None where the page is absent or free.
     ///
     /// A page that doesn't lie in memory is read from the log, by one read for each message that makes it, and then lies there.
-    /// `ReservedId` comes for the cache's own pages. `Io` and `OutOfMemory` leave every page.
+    /// `ReservedId` comes for the cache's own pages, and `Corruption` where the messages of the page make no node, with the pointer
+    /// of the first wrong one. These, `Io` and `OutOfMemory` leave every page unchanged.
     pub fn get(&mut self, pid: PageId) -> Result<Option<NodeView<'_>>, Refusal>
-        ensures* got { sem 𝓛 (EndsAsGot L.row L.Log self.entry pid result) }
+        ensures* got { sem 𝓛 (OnceGivenBack L.row L.Log self.entry (IsGot L.Log self.entry.now pid result)) }
     {
         self.page_in(pid)?;
         let found = self.node_at(pid);
@@ -154,10 +164,11 @@ impl<L: Log> PageCache<L> {
     /// Applies a link to the node of a page that is still at the stamp of the token, and raises the stamp by one.
     ///
     /// At another stamp the page's present token comes back with the link; where the page is absent or free, nothing
-    /// does. In this order: `ReservedId` comes for the cache's own pages; a page that doesn't lie in memory is read;
-    /// `LinkRefused` comes where the node does not accept the link, `StampUsedUp` where the stamp is the greatest, `LogFull`
-    /// where the log has no room. These, `OutOfMemory` and a read that failed leave every page and message. A write fault is
-    /// kept: every later call answers it, until the log is opened again.
+    /// does. In this order: `ReservedId` comes for the cache's own pages; a page that doesn't lie in memory is read, and
+    /// `Corruption` comes where its messages make no node, with the pointer of the first wrong one; `LinkRefused` comes where
+    /// the node does not accept the link, `StampUsedUp` where the stamp is the greatest; only then memory is asked for, and
+    /// `LogFull` comes where the log has no room. These, `OutOfMemory` and a read that failed leave every page and message
+    /// unchanged. A write error is sticky: every later call answers it, until the log is opened again.
     pub fn link(
         &mut self,
         pid: PageId,
@@ -165,34 +176,26 @@ impl<L: Log> PageCache<L> {
         link: Link,
     ) -> Result<Result<PageView, Option<(PageView, Link)>>, Error>
         requires { pid_of old ≡ pid }
+        ensures tested { TestsFirst L.Log self.old old link result }
         ensures step { Steps L.Log self.old (call.Link old link) (Linked result) self.new }
         ensures blame { IsBlamed L.Log self.old self.new result }
+        ensures keeps { Keeps self.old self.new result (swapped self.old.stamps) }
+        ensures token { IfOk result (IsAnswered self.old.stamps old link) }
+        ensures damaged { MeetsDamage L.Log self.old pid → slice_get self.old.stamps pid ≡ Some (stamp_of old) → ReportsDamage L.Log self.old pid result self.new }
         ensures reads { ReadsPage L.Log self.old pid self.new }
         ensures unread { IfOk result (λ swapped. OnErr swapped (ReadsNothing L.Log self.old self.new)) }
-        ensures length { IfOk result (λ swapped. OnOk swapped (chain_length L.state self.new pid ≡ linked_length (chain_length L.state self.old pid))) }
+        ensures length { L.tells → IfOk result (λ swapped. OnOk swapped (chain_length L.state self.new pid ≡ linked_length (chain_length L.state self.old pid))) }
         ensures resident { IfOk result (λ swapped. OnOk swapped (IsResident self.new pid)) }
         ensures kept_out { OnErr result (IsAway self.old pid → IsAway self.new pid) }
     {
-        if self.journal.fault {
-            return Err(Error::Io(Device::Write));
-        }
-        if is_reserved(pid) {
-            return Err(Error::Unsupported(Why::ReservedId));
-        }
-        let count = self.pages.len() as PageId;
-        if pid >= count {
-            return Ok(Err(None));
+        match judge(self.journal.fault, &self.pages, pid, old)? {
+            Judgement::Stale(present) => return Ok(Err(Some((present, link)))),
+            Judgement::Gone => return Ok(Err(None)),
+            Judgement::Fresh => {}
         }
         let page = &mut self.pages[pid as usize];
-        if page.is_free() {
-            return Ok(Err(None));
-        }
-        let is_stale = page.stamp != old.ts();
-        if is_stale {
-            return Ok(Err(Some((PageView::new(pid, page.stamp), link))));
-        }
         pull_and_link(self.alloc, &mut self.journal, pid, page, &link)?;
-        let linked = PageView::new(pid, old.ts() + 1);
+        let linked = PageView::new(pid, page.stamp);
         Ok(Ok(linked))
     }
 
@@ -212,29 +215,18 @@ impl<L: Log> PageCache<L> {
         requires { pid_of old ≡ pid }
         ensures step { Steps L.Log self.old (call.Replace old node) (Replaced result) self.new }
         ensures blame { IsBlamed L.Log self.old self.new result }
+        ensures keeps { Keeps self.old self.new result (swapped self.old.stamps) }
+        ensures token { IfOk result (IsAnswered self.old.stamps old node) }
         ensures unread { ReadsNothing L.Log self.old self.new }
-        ensures length { IfOk result (λ swapped. OnOk swapped (chain_length L.state self.new pid ≡ 1)) }
+        ensures length { L.tells → IfOk result (λ swapped. OnOk swapped (chain_length L.state self.new pid ≡ 1)) }
         ensures resident { IfOk result (λ swapped. OnOk swapped (IsResident self.new pid)) }
     {
-        if self.journal.fault {
-            return Err(Error::Io(Device::Write));
-        }
-        if is_reserved(pid) {
-            return Err(Error::Unsupported(Why::ReservedId));
-        }
-        let count = self.pages.len() as PageId;
-        if pid >= count {
-            return Ok(Err(None));
+        match judge(self.journal.fault, &self.pages, pid, old)? {
+            Judgement::Stale(present) => return Ok(Err(Some((present, node)))),
+            Judgement::Gone => return Ok(Err(None)),
+            Judgement::Fresh => {}
         }
         let page = &mut self.pages[pid as usize];
-        let gone = page.is_free();
-        if gone {
-            return Ok(Err(None));
-        }
-        let stale = page.stamp != old.ts();
-        if stale {
-            return Ok(Err(Some((PageView::new(pid, page.stamp), node))));
-        }
         replace_page(self.alloc, &mut self.journal, pid, page, node)?;
         Ok(Ok(PageView::new(pid, page.stamp)))
     }
@@ -245,6 +237,7 @@ impl<L: Log> PageCache<L> {
     pub fn flush(&mut self) -> Result<usize, Error>
         ensures step { Steps L.Log self.old Flush (Flushed result) self.new }
         ensures blame { IsBlamed L.Log self.old self.new result }
+        ensures keeps { Keeps self.old self.new result (λ _. self.old.stamps) }
         ensures unread { ReadsNothing L.Log self.old self.new }
         ensures stable { OnOk result ((L.state self.new.log).pending ≡ []) }
         ensures number { IfOk result (λ n. n ≡ L.to_write self.old.log) }
@@ -258,6 +251,7 @@ impl<L: Log> PageCache<L> {
     /// How many bytes the log has.
     pub fn size_on_disk(&self) -> Result<u64, Error>
         ensures step { Steps L.Log self.now SizeOnDisk (Sized result) self.now }
+        ensures keeps { Keeps self.now self.now result (λ _. self.now.stamps) }
         ensures size { IfOk result (λ size. size ≡ L.bytes self.now.log) }
     {
         if self.journal.fault {
@@ -300,7 +294,7 @@ impl<L: Log> PageCache<L> {
 
     // The node at an id that lies in memory, with the page's token.
     fn node_at(&self, pid: PageId) -> Option<NodeView<'_>>
-        ensures { IsNodeAt L.state self.now pid result }
+        ensures { IsNodeAt L.Log self.now pid result }
     {
         let page = self.pages.get(pid as usize)?;
         let Kept::Node(node) = &page.kept else {
@@ -308,11 +302,4 @@ impl<L: Log> PageCache<L> {
         };
         Some(NodeView::new(node, PageView::new(pid, page.stamp)))
     }
-}
-
-// Whether the page is the cache's own.
-fn is_reserved(pid: PageId) -> bool
-    ensures { result ≡ is_reserved pid }
-{
-    pid == META_PID || pid == COUNTER_PID || pid == BATCH_MANIFEST_PID
 }

@@ -34,12 +34,13 @@ pub(super) fn read_chain<L: Log>(
 ) -> Result<Vec<Found>, Refusal>
     requires ready { journal.old.fault ≡ false }
     requires usable { (L.state journal.old.log).usable ≡ true }
-    requires known { map said_of (chain_at (L.state journal.old.log) pid) ≡ map place_of infos.now }
-    ensures found { IfOk result (λ found. AllZip IsFoundAs (chain_at (L.state journal.old.log) pid) found.items) }
-    ensures went { Went L.state L.moment L.left_since L.counts journal.old journal.new [] }
-    ensures cause { IsCaused L.state L.moment L.left_since L.counts journal.old journal.new ⊥ result }
-    ensures sound { IfErr result IsOfLog }
-    ensures same { journal.new.fault ≡ false → now effect_of_entry (L.state journal.new.log) ≡ now effect_of_entry (L.state journal.old.log) }
+    requires known { L.tells → map said_of (chain_at (L.state journal.old.log) pid) ≡ map place_of infos.now }
+    ensures len { IfOk result (λ found. length found.items ≡ length infos.now) }
+    ensures found { L.tells → IfOk result (λ found. AllZip IsFoundAs (chain_at (L.state journal.old.log) pid) found.items) }
+    ensures went { Went L.tells L.state L.moment L.left_since L.counts journal.old journal.new [] }
+    ensures cause { IsCaused L.tells L.state L.moment L.left_since L.counts journal.old journal.new ⊥ result }
+    ensures sound { L.tells → IfErr result IsOfLog }
+    ensures same { L.tells → journal.new.fault ≡ false → now effect_of_entry (L.state journal.new.log) ≡ now effect_of_entry (L.state journal.old.log) }
     ensures room { (n : ℕ) → L.is_full journal.new.log n → L.is_full journal.old.log n }
     ensures reads { OnOk result ((L.counts journal.new.log).reads ≡ more (length infos.now) (L.counts journal.old.log).reads) }
     ensures at_most { OnErr result ((times : ℕ) × (times ≤ length infos.now) × ((L.counts journal.new.log).reads ≡ more times (L.counts journal.old.log).reads)) }

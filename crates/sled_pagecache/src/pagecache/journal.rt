@@ -1,6 +1,6 @@
 //! The log of a cache, and the write fault that is kept of it.
 
-ghost use Rattle.std.specs.Prelude.{◌≡◌, ℕ, ◌+◌, ◌||◌, [], ◌∷◌, false, true, length, slice_index_or, IfOk, IfErr, OnOk, OnErr};
+ghost use Rattle.std.specs.Prelude.{◌≡◌, ℕ, ◌+◌, ◌<◌, ◌^◌, ◌||◌, [], ◌∷◌, false, true, length, slice_index_or, IfOk, IfErr, OnOk, OnErr};
 ghost use Rattle.std.specs.List.{All, AllByRecursion, AllZip, Any};
 ghost use Rattle.sled_base.specs.declared.types.Device.TheVariants.{Write};
 ghost use Rattle.sled_base.specs.declared.types.Refusal.TheVariants.{Io};
@@ -9,6 +9,7 @@ ghost use Rattle.sled_log.specs.Calls.{can_tell, one_more};
 ghost use Rattle.sled_log.specs.Calls.{is_write_fault as log_met_fault};
 ghost use Rattle.sled_log.specs.Chains.{chains_from, is_chain};
 ghost use Rattle.sled_log.specs.Events.{Change};
+ghost use Rattle.sled_log.specs.Limits.{head_size, size_limit};
 ghost use Rattle.sled_log.specs.Messages.{effect_of_entry, message, placed};
 ghost use Rattle.sled_log.specs.Pages.{IsAt, IsPageState, IsRead, IsSized};
 ghost use Rattle.sled_log.specs.State.{now};
@@ -34,15 +35,15 @@ impl<L: Log> Journal<L> {
     ) -> Result<(Lsn, DiskPtr, u64), Refusal>
         requires ready { self.old.fault ≡ false }
         requires usable { (L.state self.old.log).usable ≡ true }
-        requires tells { can_tell effect_of_entry (now effect_of_entry (L.state self.old.log)) pid kind ≡ true }
-        ensures went { Went L.state L.moment L.left_since L.counts self.old self.new (begun_by result (Change pid (message kind payload.now) ∷ [])) }
-        ensures cause { IsCaused L.state L.moment L.left_since L.counts self.old self.new (L.is_full self.old.log (length payload.now)) result }
-        ensures sound { IfErr result IsOfLog }
+        requires can { L.tells → can_tell effect_of_entry (now effect_of_entry (L.state self.old.log)) pid kind ≡ true }
+        ensures went { Went L.tells L.state L.moment L.left_since L.counts self.old self.new (begun_by result (Change pid (message kind payload.now) ∷ [])) }
+        ensures cause { IsCaused L.tells L.state L.moment L.left_since L.counts self.old self.new (L.is_full self.old.log (length payload.now)) result }
+        ensures sound { L.tells → IfErr result IsOfLog }
         ensures reads { (L.counts self.new.log).reads ≡ (L.counts self.old.log).reads }
-        ensures chains { IfOk result (λ said. now effect_of_entry (L.state self.new.log) ≡ chains_from effect_of_entry (now effect_of_entry (L.state self.old.log)) (Change pid (placed (message kind payload.now) said))) }
-        ensures same { OnErr result (self.new.fault ≡ false → now effect_of_entry (L.state self.new.log) ≡ now effect_of_entry (L.state self.old.log)) }
-        ensures size { IfOk result (λ said. said.2 ≡ 17 + length payload.now) }
-        ensures sized { OnOk result (AllByRecursion IsSized (now effect_of_entry (L.state self.new.log))) }
+        ensures chains { L.tells → IfOk result (λ said. now effect_of_entry (L.state self.new.log) ≡ chains_from effect_of_entry (now effect_of_entry (L.state self.old.log)) (Change pid (placed (message kind payload.now) said))) }
+        ensures same { L.tells → OnErr result (self.new.fault ≡ false → now effect_of_entry (L.state self.new.log) ≡ now effect_of_entry (L.state self.old.log)) }
+        ensures size { IfOk result (λ said. (said.2 ≡ head_size + length payload.now) × (said.2 < size_limit)) }
+        ensures sized { L.tells → OnOk result (AllByRecursion IsSized (now effect_of_entry (L.state self.new.log))) }
     {
         let outcome = self.log.append(kind, pid, payload);
         told(&mut self.fault, outcome)
@@ -58,14 +59,14 @@ impl<L: Log> Journal<L> {
     ) -> Result<(MessageKind, Vec<u8>), Refusal>
         requires ready { self.old.fault ≡ false }
         requires usable { (L.state self.old.log).usable ≡ true }
-        requires known { Any (IsAt lsn pointer) (slice_index_or (now effect_of_entry (L.state self.old.log)) pid []) }
-        ensures went { Went L.state L.moment L.left_since L.counts self.old self.new [] }
-        ensures cause { IsCaused L.state L.moment L.left_since L.counts self.old self.new ⊥ result }
-        ensures sound { IfErr result IsOfLog }
+        requires known { L.tells → Any (IsAt lsn pointer) (slice_index_or (now effect_of_entry (L.state self.old.log)) pid []) }
+        ensures went { Went L.tells L.state L.moment L.left_since L.counts self.old self.new [] }
+        ensures cause { IsCaused L.tells L.state L.moment L.left_since L.counts self.old self.new ⊥ result }
+        ensures sound { L.tells → IfErr result IsOfLog }
         ensures reads { (L.counts self.new.log).reads ≡ one_more (L.counts self.old.log).reads }
-        ensures found { IfOk result (λ found. All (λ entry. IsAt lsn pointer entry → IsRead entry found) (slice_index_or (now effect_of_entry (L.state self.old.log)) pid [])) }
+        ensures found { L.tells → IfOk result (λ found. All (λ entry. IsAt lsn pointer entry → IsRead entry found) (slice_index_or (now effect_of_entry (L.state self.old.log)) pid [])) }
         ensures room { (n : ℕ) → L.is_full self.new.log n → L.is_full self.old.log n }
-        ensures same { self.new.fault ≡ false → now effect_of_entry (L.state self.new.log) ≡ now effect_of_entry (L.state self.old.log) }
+        ensures same { L.tells → self.new.fault ≡ false → now effect_of_entry (L.state self.new.log) ≡ now effect_of_entry (L.state self.old.log) }
     {
         let outcome = self.log.read(pid, lsn, pointer);
         told(&mut self.fault, outcome)
@@ -76,14 +77,14 @@ impl<L: Log> Journal<L> {
         requires ready { self.old.fault ≡ false }
         requires usable { (L.state self.old.log).usable ≡ true }
         requires closed { is_open (L.state self.old.log).pending ≡ false }
-        ensures went { Went L.state L.moment L.left_since L.counts self.old self.new [] }
-        ensures cause { IsCaused L.state L.moment L.left_since L.counts self.old self.new ⊥ result }
-        ensures sound { IfErr result IsOfLog }
+        ensures went { Went L.tells L.state L.moment L.left_since L.counts self.old self.new [] }
+        ensures cause { IsCaused L.tells L.state L.moment L.left_since L.counts self.old self.new ⊥ result }
+        ensures sound { L.tells → IfErr result IsOfLog }
         ensures only { IfErr result (λ refusal. refusal ≡ Io Write) }
         ensures reads { (L.counts self.new.log).reads ≡ (L.counts self.old.log).reads }
         ensures number { IfOk result (λ n. n ≡ L.to_write self.old.log) }
         ensures stable { OnOk result ((L.state self.new.log).pending ≡ []) }
-        ensures same { self.new.fault ≡ false → now effect_of_entry (L.state self.new.log) ≡ now effect_of_entry (L.state self.old.log) }
+        ensures same { L.tells → self.new.fault ≡ false → now effect_of_entry (L.state self.new.log) ≡ now effect_of_entry (L.state self.old.log) }
     {
         let outcome = self.log.make_stable();
         told(&mut self.fault, outcome)
@@ -93,14 +94,15 @@ impl<L: Log> Journal<L> {
     pub(super) fn recover(&mut self) -> Result<Vec<PageState>, Refusal>
         requires ready { self.old.fault ≡ false }
         requires usable { (L.state self.old.log).usable ≡ true }
-        ensures went { Went L.state L.moment L.left_since L.counts self.old self.new [] }
-        ensures cause { IsCaused L.state L.moment L.left_since L.counts self.old self.new ⊥ result }
-        ensures sound { IfErr result IsOfLog }
+        ensures went { Went L.tells L.state L.moment L.left_since L.counts self.old self.new [] }
+        ensures cause { IsCaused L.tells L.state L.moment L.left_since L.counts self.old self.new ⊥ result }
+        ensures sound { L.tells → IfErr result IsOfLog }
         ensures reads { (L.counts self.new.log).reads ≡ (L.counts self.old.log).reads }
-        ensures pages { IfOk result (λ pages. AllZip IsPageState (now effect_of_entry (L.state self.old.log)) pages.items) }
-        ensures sized { OnOk result (AllByRecursion IsSized (now effect_of_entry (L.state self.old.log))) }
-        ensures chains { OnOk result (AllByRecursion (λ chain. is_chain effect_of_entry chain ≡ true) (now effect_of_entry (L.state self.old.log))) }
-        ensures same { self.new.fault ≡ false → now effect_of_entry (L.state self.new.log) ≡ now effect_of_entry (L.state self.old.log) }
+        ensures pages { L.tells → IfOk result (λ pages. AllZip IsPageState (now effect_of_entry (L.state self.old.log)) pages.items) }
+        ensures sized { L.tells → OnOk result (AllByRecursion IsSized (now effect_of_entry (L.state self.old.log))) }
+        ensures chains { L.tells → OnOk result (AllByRecursion (λ chain. is_chain effect_of_entry chain ≡ true) (now effect_of_entry (L.state self.old.log))) }
+        ensures room { (n : ℕ) → L.is_full self.new.log n → L.is_full self.old.log n }
+        ensures same { L.tells → self.new.fault ≡ false → now effect_of_entry (L.state self.new.log) ≡ now effect_of_entry (L.state self.old.log) }
     {
         let outcome = self.log.recover();
         told(&mut self.fault, outcome)

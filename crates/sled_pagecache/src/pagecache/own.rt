@@ -35,12 +35,12 @@ pub(super) fn read_roots<L: Log>(
 ) -> Result<Meta, Refusal>
     requires ready { journal.old.fault ≡ false }
     requires usable { (L.state journal.old.log).usable ≡ true }
-    requires loaded { IsLoaded (chain_at (L.state journal.old.log) 0) page.now }
+    requires loaded { L.tells → IsLoaded (chain_at (L.state journal.old.log) 0) page.now }
     requires unread { IsUnread page.now.kept }
     ensures proceeds { Proceeds L.Log journal.old journal.new [] (refusal_in result) }
-    ensures same { journal.new.fault ≡ false → now effect_of_entry (L.state journal.new.log) ≡ now effect_of_entry (L.state journal.old.log) }
-    ensures read { IfOk result (λ roots. Makes (told (chain_at (L.state journal.old.log) 0)) (contents.Roots roots)) }
-    ensures refused { IfErr result (RefusesOwn 0 (chain_at (L.state journal.old.log) 0)) }
+    ensures same { L.tells → journal.new.fault ≡ false → now effect_of_entry (L.state journal.new.log) ≡ now effect_of_entry (L.state journal.old.log) }
+    ensures read { L.tells → IfOk result (λ roots. Makes (told (chain_at (L.state journal.old.log) 0)) (contents.Roots roots)) }
+    ensures refused { L.tells → IfErr result (RefusesOwn 0 (chain_at (L.state journal.old.log) 0)) }
     ensures reads { HasRead L.counts journal.old.log journal.new.log 1 result }
 {
     let found = read_own(alloc, journal, META_PID, page)?;
@@ -55,12 +55,12 @@ pub(super) fn read_counter<L: Log>(
 ) -> Result<u64, Refusal>
     requires ready { journal.old.fault ≡ false }
     requires usable { (L.state journal.old.log).usable ≡ true }
-    requires loaded { IsLoaded (chain_at (L.state journal.old.log) 1) page.now }
+    requires loaded { L.tells → IsLoaded (chain_at (L.state journal.old.log) 1) page.now }
     requires unread { IsUnread page.now.kept }
     ensures proceeds { Proceeds L.Log journal.old journal.new [] (refusal_in result) }
-    ensures same { journal.new.fault ≡ false → now effect_of_entry (L.state journal.new.log) ≡ now effect_of_entry (L.state journal.old.log) }
-    ensures read { IfOk result (λ n. Makes (told (chain_at (L.state journal.old.log) 1)) (contents.Counter n)) }
-    ensures refused { IfErr result (RefusesOwn 1 (chain_at (L.state journal.old.log) 1)) }
+    ensures same { L.tells → journal.new.fault ≡ false → now effect_of_entry (L.state journal.new.log) ≡ now effect_of_entry (L.state journal.old.log) }
+    ensures read { L.tells → IfOk result (λ n. Makes (told (chain_at (L.state journal.old.log) 1)) (contents.Counter n)) }
+    ensures refused { L.tells → IfErr result (RefusesOwn 1 (chain_at (L.state journal.old.log) 1)) }
     ensures reads { HasRead L.counts journal.old.log journal.new.log 1 result }
 {
     let found = read_own(alloc, journal, COUNTER_PID, page)?;
@@ -77,13 +77,13 @@ fn read_own<L: Log>(
     requires ready { journal.old.fault ≡ false }
     requires usable { (L.state journal.old.log).usable ≡ true }
     requires own { pid < 2 }
-    requires loaded { IsLoaded (chain_at (L.state journal.old.log) pid) page.now }
+    requires loaded { L.tells → IsLoaded (chain_at (L.state journal.old.log) pid) page.now }
     requires unread { IsUnread page.now.kept }
     ensures proceeds { Proceeds L.Log journal.old journal.new [] (refusal_in result) }
-    ensures same { journal.new.fault ≡ false → now effect_of_entry (L.state journal.new.log) ≡ now effect_of_entry (L.state journal.old.log) }
-    ensures found { IfOk result (λ found. AllZip IsFoundAs (chain_at (L.state journal.old.log) pid) found.items) }
+    ensures same { L.tells → journal.new.fault ≡ false → now effect_of_entry (L.state journal.new.log) ≡ now effect_of_entry (L.state journal.old.log) }
+    ensures found { L.tells → IfOk result (λ found. AllZip IsFoundAs (chain_at (L.state journal.old.log) pid) found.items) }
     ensures one { IfOk result (λ found. length found.items ≡ 1) }
-    ensures refused { IfErr result (RefusesOwn pid (chain_at (L.state journal.old.log) pid)) }
+    ensures refused { L.tells → IfErr result (RefusesOwn pid (chain_at (L.state journal.old.log) pid)) }
     ensures reads { HasRead L.counts journal.old.log journal.new.log 1 result }
 {
     if is_misfit(pid as usize, page) {
@@ -126,14 +126,14 @@ pub(super) fn add_roots<L: Log>(
 ) -> Result<(), Refusal>
     requires ready { journal.old.fault ≡ false }
     requires usable { (L.state journal.old.log).usable ≡ true }
-    requires table { IsTable (now effect_of_entry (L.state journal.old.log)) pages.old.items }
+    requires table { IsTable L.tells (now effect_of_entry (L.state journal.old.log)) pages.old.items }
     requires some { length pages.old.items < 2 }
-    requires fresh { stamps_in pages.old.items ≡ map (λ _. 0) pages.old.items }
+    requires fresh { L.tells → stamps_in pages.old.items ≡ map (λ _. 0) pages.old.items }
     ensures proceeds { Proceeds L.Log journal.old journal.new (told_of_roots pages.old.items) (refusal_in result) }
-    ensures of_log { IfErr result IsOfLog }
-    ensures table { OnOk result (IsTable (now effect_of_entry (L.state journal.new.log)) pages.new.items) }
+    ensures of_log { L.tells → IfErr result IsOfLog }
+    ensures table { OnOk result (IsTable L.tells (now effect_of_entry (L.state journal.new.log)) pages.new.items) }
     ensures one { OnOk result (length pages.new.items ≡ 1) }
-    ensures stamps { OnOk result (stamps_in pages.new.items ++ 1 ∷ [] ≡ stamps_at_start pages.old.items) }
+    ensures stamps { L.tells → OnOk result (stamps_in pages.new.items ++ 1 ∷ [] ≡ stamps_at_start pages.old.items) }
     ensures unread { (L.counts journal.new.log).reads ≡ (L.counts journal.old.log).reads }
 {
     if !pages.is_empty() {
@@ -161,11 +161,11 @@ pub(super) fn add_counter<L: Log>(
 ) -> Result<(), Refusal>
     requires ready { journal.old.fault ≡ false }
     requires usable { (L.state journal.old.log).usable ≡ true }
-    requires table { IsTable (now effect_of_entry (L.state journal.old.log)) pages.old.items }
+    requires table { IsTable L.tells (now effect_of_entry (L.state journal.old.log)) pages.old.items }
     requires one { length pages.old.items ≡ 1 }
     ensures proceeds { Proceeds L.Log journal.old journal.new (counter_told ∷ []) (refusal_in result) }
-    ensures of_log { IfErr result IsOfLog }
-    ensures table { OnOk result (IsTable (now effect_of_entry (L.state journal.new.log)) pages.new.items) }
+    ensures of_log { L.tells → IfErr result IsOfLog }
+    ensures table { OnOk result (IsTable L.tells (now effect_of_entry (L.state journal.new.log)) pages.new.items) }
     ensures stamps { OnOk result (stamps_in pages.new.items ≡ stamps_in pages.old.items ++ 1 ∷ []) }
     ensures unread { (L.counts journal.new.log).reads ≡ (L.counts journal.old.log).reads }
     ensures two { OnOk result (length pages.new.items ≡ 2) }

@@ -21,7 +21,6 @@ pub struct Page {
     pub(super) infos: Vec<CacheInfo>,
     pub(super) kept: Kept,
     ghost some: { 0 < vec_len infos },
-    ghost sized: { sum_by (λ info. info.log_size) infos.items < 2 ^ 63 },
     ghost stamped: { map (λ info. info.ts) infos.items ≡ stamps_to stamp (length infos.items) },
 }
 
@@ -46,11 +45,15 @@ impl Page {
         &self.infos
     }
 
-    /// How much of the log these messages take up together, in bytes.
+    /// How much of the log these messages take up together, in bytes, or `u64::MAX` where it is no less.
     pub fn log_size(&self) -> u64
-        ensures { result ≡ sum_by (λ info. info.log_size) self.now.infos.items }
+        ensures { sum_by (λ info. info.log_size) self.now.infos.items < 2 ^ 64 → result ≡ sum_by (λ info. info.log_size) self.now.infos.items }
     {
-        self.infos.iter().map(|info| info.log_size).sum()
+        let mut total: u64 = 0;
+        for info in &self.infos {
+            total = total.saturating_add(info.log_size);
+        }
+        total
     }
 
     /// The lsn of the last of these messages.

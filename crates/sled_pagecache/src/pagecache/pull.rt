@@ -5,9 +5,10 @@ ghost use Rattle.sled_log.specs.Messages.{effect_of_entry, told};
 ghost use Rattle.sled_log.specs.State.{now};
 ghost use Rattle.sled_pagecache.specs.ChainReads.{chain_at, more};
 ghost use Rattle.sled_pagecache.specs.Journal.{Went, IsCaused};
-ghost use Rattle.sled_pagecache.specs.LinkedPages.{TakesLink, RefusesTold, HadNoRoom};
+ghost use Rattle.sled_pagecache.specs.LinkedPages.{TakesLink, RefusesTold, HadNoRoom, WasBegun};
 ghost use Rattle.sled_pagecache.specs.Pages.{IsKept, is_free, is_resident};
 ghost use Rattle.sled_pagecache.specs.Pulling.{RefusesPull};
+ghost use Rattle.sled_pagecache.specs.Swaps.{RefusesLink};
 ghost use Rattle.sled_pagecache.specs.Table.{IsFreeOrNode};
 
 use super::chain::read_chain;
@@ -29,9 +30,9 @@ pub(super) fn pull<L: Log>(
 ) -> Result<(), Refusal>
     requires ready { journal.old.fault ≡ false }
     requires usable { (L.state journal.old.log).usable ≡ true }
-    requires kept { IsKept (chain_at (L.state journal.old.log) pid) page.old }
-    ensures kept { IsKept (chain_at (L.state journal.old.log) pid) page.new }
-    ensures same { journal.new.fault ≡ false → now effect_of_entry (L.state journal.new.log) ≡ now effect_of_entry (L.state journal.old.log) }
+    requires kept { L.tells → IsKept (chain_at (L.state journal.old.log) pid) page.old }
+    ensures kept { L.tells → IsKept (chain_at (L.state journal.old.log) pid) page.new }
+    ensures same { L.tells → journal.new.fault ≡ false → now effect_of_entry (L.state journal.new.log) ≡ now effect_of_entry (L.state journal.old.log) }
     ensures stamp { page.new.stamp ≡ page.old.stamp }
     ensures infos { page.new.infos.items ≡ page.old.infos.items }
     ensures resident { OnOk result (is_resident page.new.kept ≡ true) }
@@ -41,12 +42,12 @@ pub(super) fn pull<L: Log>(
     ensures is_there { is_resident page.old.kept ≡ true → IsOk result }
     ensures stays { is_resident page.old.kept ≡ true → page.new.kept ≡ page.old.kept }
     ensures unread { is_resident page.old.kept ≡ true → journal.new ≡ journal.old }
-    ensures went { Went L.state L.moment L.left_since L.counts journal.old journal.new [] }
-    ensures cause { IsCaused L.state L.moment L.left_since L.counts journal.old journal.new ⊥ result }
+    ensures went { Went L.tells L.state L.moment L.left_since L.counts journal.old journal.new [] }
+    ensures cause { IsCaused L.tells L.state L.moment L.left_since L.counts journal.old journal.new ⊥ result }
     ensures room { (n : ℕ) → L.is_full journal.new.log n → L.is_full journal.old.log n }
     ensures reads { is_resident page.old.kept ≡ false → OnOk result ((L.counts journal.new.log).reads ≡ more (length page.old.infos.items) (L.counts journal.old.log).reads) }
     ensures at_most { OnErr result ((times : ℕ) × (times ≤ length page.old.infos.items) × ((L.counts journal.new.log).reads ≡ more times (L.counts journal.old.log).reads)) }
-    ensures refused { IfErr result (RefusesPull (told (chain_at (L.state journal.old.log) pid))) }
+    ensures refused { L.tells → IfErr result (RefusesPull (chain_at (L.state journal.old.log) pid)) }
 {
     if let Kept::Away = page.kept {
         let found = read_chain(alloc, journal, pid, &page.infos)?;
@@ -65,14 +66,18 @@ pub(super) fn pull_and_link<L: Log>(
 ) -> Result<(), Refusal>
     requires ready { journal.old.fault ≡ false }
     requires usable { (L.state journal.old.log).usable ≡ true }
-    requires there { pid < length (now effect_of_entry (L.state journal.old.log)) }
-    requires kept { IsKept (chain_at (L.state journal.old.log) pid) page.old }
+    requires there { L.tells → pid < length (now effect_of_entry (L.state journal.old.log)) }
+    requires kept { L.tells → IsKept (chain_at (L.state journal.old.log) pid) page.old }
+    requires full { is_free page.old.kept ≡ false }
+    requires own { IsFreeOrNode page.old.kept }
     ensures taken { OnOk result (TakesLink L.Log journal.old pid page.old link.now journal.new page.new) }
-    ensures refused { IfErr result (RefusesTold L.Log journal.old pid page.old link.now journal.new) }
-    ensures cause { IsCaused L.state L.moment L.left_since L.counts journal.old journal.new (HadNoRoom L.Log journal.old pid page.old link.now) result }
+    ensures begun { OnErr result (WasBegun L.Log journal.old journal.new) }
+    ensures refused { L.tells → IfErr result (RefusesTold L.Log journal.old pid page.old link.now journal.new) }
+    ensures tested { L.tells → is_resident page.old.kept ≡ true → IfErr result (RefusesLink page.old.stamp page.old.kept link.now) }
+    ensures cause { IsCaused L.tells L.state L.moment L.left_since L.counts journal.old journal.new (L.tells → HadNoRoom L.Log journal.old pid page.old link.now) result }
     ensures left { OnErr result ((page.new.stamp ≡ page.old.stamp) × (page.new.infos.items ≡ page.old.infos.items)) }
-    ensures same { OnErr result (journal.new.fault ≡ false → now effect_of_entry (L.state journal.new.log) ≡ now effect_of_entry (L.state journal.old.log)) }
-    ensures still { OnErr result (journal.new.fault ≡ false → IsKept (chain_at (L.state journal.old.log) pid) page.new) }
+    ensures same { L.tells → OnErr result (journal.new.fault ≡ false → now effect_of_entry (L.state journal.new.log) ≡ now effect_of_entry (L.state journal.old.log)) }
+    ensures still { L.tells → OnErr result (journal.new.fault ≡ false → IsKept (chain_at (L.state journal.old.log) pid) page.new) }
     ensures free { is_free page.new.kept ≡ is_free page.old.kept }
     ensures own { IsFreeOrNode page.old.kept → IsFreeOrNode page.new.kept }
     ensures unread { is_resident page.old.kept ≡ true → (L.counts journal.new.log).reads ≡ (L.counts journal.old.log).reads }

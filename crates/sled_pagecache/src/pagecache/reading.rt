@@ -31,7 +31,6 @@ pub(super) fn node_of(messages: &[Found], alloc: Global) -> Result<Node, Refusal
     requires { 0 < length messages.now }
     ensures made { IfOk result (λ node. Makes (map told_of messages.now) (contents.Node node)) }
     ensures free { IsErrOf result (ReportableBug FreeInPull) ↔ BeginsFree messages.now }
-    ensures corrupt { (pointer : Option DiskPtr) → IsErrOf result (Corruption pointer) → ¬ MakesNode messages.now }
     ensures refused { IfErr result (RefusesNode messages.now) }
 {
     let first = &messages[0];

@@ -6,7 +6,7 @@ ghost use Rattle.sled_log.specs.Messages.{Chain};
 ghost use Rattle.sled_log.specs.Pages.{IsPageState};
 ghost use Rattle.sled_pagecache.specs.Loading.{IsLoaded, IsUnread};
 ghost use Rattle.sled_pagecache.specs.Pages.{free_ids};
-ghost use Rattle.sled_pagecache.specs.Recovered.{HasRoom, IsRecovered, info_at, is_misfit, AllFit, BeginsMisfit};
+ghost use Rattle.sled_pagecache.specs.Recovered.{IsRecovered, info_at, is_misfit, AllFit, BeginsMisfit};
 
 use super::chain::CacheInfo;
 use super::page::{Kept, Page};
@@ -19,7 +19,6 @@ const MAX_MSG_HEADER_LEN: u64 = 17;
 
 // The pages of a table, of which no content lies in memory, and each is at stamp 0.
 pub(super) fn pages_of(alloc: Global, states: &[PageState]) -> Result<Vec<Page>, AllocError>
-    requires { AllByRecursion HasRoom states.now }
     ensures recovered { IfOk result (λ pages. AllZip IsRecovered states.now pages.items) }
     ensures loaded { IfOk result (λ pages. (chains : List Chain) → AllZip IsPageState chains states.now → AllZip IsLoaded chains pages.items) }
     ensures unread { IfOk result (λ pages. AllByRecursion (λ page. IsUnread page.kept) pages.items) }
@@ -33,7 +32,6 @@ pub(super) fn pages_of(alloc: Global, states: &[PageState]) -> Result<Vec<Page>,
 
 // A page of which the content doesn't lie in memory, at stamp 0.
 pub(super) fn page_of(alloc: Global, state: &PageState) -> Result<Page, AllocError>
-    requires { HasRoom state.now }
     ensures { IfOk result (IsRecovered state.now) }
 {
     match state {

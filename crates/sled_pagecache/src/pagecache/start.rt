@@ -11,7 +11,9 @@ ghost use Rattle.sled_pagecache.specs.Journal.{IsOfLog};
 ghost use Rattle.sled_pagecache.specs.Loading.{AreRecovered, AreRead, IsTable, IsUnread, IsOpenedWith, RefusesPages, next_id, told_at_start, stamps_at_start};
 ghost use Rattle.sled_pagecache.specs.Opening.{fault_of};
 ghost use Rattle.sled_pagecache.specs.Proceeding.{Proceeds, refusal_in};
+ghost use Rattle.sled_pagecache.specs.Starting.{Starts};
 ghost use Rattle.sled_pagecache.specs.Reads.{HasRead, own_among};
+ghost use Rattle.sled_pagecache.specs.Recovered.{AllFit};
 ghost use Rattle.sled_pagecache.specs.Starts.{RefusesOpening};
 ghost use Rattle.sled_pagecache.specs.Table.{IsConsistent, stamps_in};
 
@@ -60,19 +62,61 @@ pub(super) fn open<L: Log>(
     requires ready { journal.old.fault ≡ false }
     requires usable { (L.state journal.old.log).usable ≡ true }
     requires closed { is_open (L.state journal.old.log).pending ≡ false }
-    ensures proceeds { Proceeds L.Log journal.old journal.new (told_at_start (now effect_of_entry (L.state journal.old.log))) (refusal_in result) }
-    ensures refused { IfErr result (λ refusal. RefusesOpening config (now effect_of_entry (L.state journal.old.log)) (error_of refusal)) }
-    ensures consistent { IfOk result (λ opening. IsConsistent L.state journal.new opening.pages.items opening.free.items) }
-    ensures opened { IfOk result (λ opening. (held : List Content) → Hold (map told (now effect_of_entry (L.state journal.old.log))) held → IsOpenedWith config held (stamps_in opening.pages.items) opening.next opening.recovered) }
-    ensures stable { OnOk result (length (now effect_of_entry (L.state journal.old.log)) < 2 → (L.state journal.new.log).pending ≡ []) }
+    ensures proceeds { Starts L.Log journal.old journal.new (refusal_in result) }
+    ensures refused { L.tells → IfErr result (λ refusal. RefusesOpening config (now effect_of_entry (L.state journal.old.log)) (error_of refusal)) }
+    ensures consistent { IfOk result (λ opening. IsConsistent L.tells L.state journal.new opening.pages.items opening.free.items) }
+    ensures opened { L.tells → IfOk result (λ opening. (held : List Content) → Hold (map told (now effect_of_entry (L.state journal.old.log))) held → IsOpenedWith config held (stamps_in opening.pages.items) opening.next opening.recovered) }
+    ensures stable { L.tells → OnOk result (length (now effect_of_entry (L.state journal.old.log)) < 2 → (L.state journal.new.log).pending ≡ []) }
     ensures unread { IfOk result (λ opening. (pid : ℕ) → 2 ≤ pid → IfSome (slice_get opening.pages.items pid) (λ page. IsUnread page.kept)) }
-    ensures reads { HasRead L.counts journal.old.log journal.new.log (own_among (length (now effect_of_entry (L.state journal.old.log)))) result }
+    ensures reads { L.tells → HasRead L.counts journal.old.log journal.new.log (own_among (length (now effect_of_entry (L.state journal.old.log)))) result }
+{
+    let (pages, counter) = load(alloc, journal)?;
+    complete(alloc, config, journal, pages, counter)
+}
+
+// Reads the pages that a log holds, with the contents of the system pages, and answers the counter too, where its page is there.
+fn load<L: Log>(
+    alloc: Global,
+    journal: &mut Journal<L>,
+) -> Result<(Vec<Page>, Option<u64>), Refusal>
+    requires ready { journal.old.fault ≡ false }
+    requires usable { (L.state journal.old.log).usable ≡ true }
+    ensures proceeds { Proceeds L.Log journal.old journal.new [] (refusal_in result) }
+    ensures same { L.tells → journal.new.fault ≡ false → now effect_of_entry (L.state journal.new.log) ≡ now effect_of_entry (L.state journal.old.log) }
+    ensures read { IfOk result (λ loaded. AreRead L.tells (now effect_of_entry (L.state journal.new.log)) loaded.0.items loaded.1) }
+    ensures fit { IfOk result (λ loaded. AllFit loaded.0.items) }
+    ensures refused { L.tells → IfErr result (RefusesPages (now effect_of_entry (L.state journal.old.log))) }
+    ensures reads { L.tells → HasRead L.counts journal.old.log journal.new.log (own_among (length (now effect_of_entry (L.state journal.old.log)))) result }
 {
     let mut pages = recover_pages(alloc, journal)?;
     let counter = read_system_pages(alloc, journal, &mut pages)?;
-    if let Some(pointer) = misfit(&pages) {
-        return Err(Refusal::Corruption(Some(pointer)));
+    match misfit(&pages) {
+        Some(pointer) => Err(Refusal::Corruption(Some(pointer))),
+        None => Ok((pages, counter)),
     }
+}
+
+// Makes the system pages that are missing, and finds the free ids.
+fn complete<L: Log>(
+    alloc: Global,
+    config: Config,
+    journal: &mut Journal<L>,
+    mut pages: Vec<Page>,
+    counter: Option<u64>,
+) -> Result<Opening, Refusal>
+    requires ready { journal.old.fault ≡ false }
+    requires usable { (L.state journal.old.log).usable ≡ true }
+    requires closed { is_open (L.state journal.old.log).pending ≡ false }
+    requires read { AreRead L.tells (now effect_of_entry (L.state journal.old.log)) pages.items counter }
+    requires fit { AllFit pages.items }
+    ensures proceeds { Proceeds L.Log journal.old journal.new (told_at_start pages.items) (refusal_in result) }
+    ensures of_log { L.tells → IfErr result IsOfLog }
+    ensures consistent { IfOk result (λ opening. IsConsistent L.tells L.state journal.new opening.pages.items opening.free.items) }
+    ensures opened { L.tells → IfOk result (λ opening. (held : List Content) → Hold (map told (now effect_of_entry (L.state journal.old.log))) held → IsOpenedWith config held (stamps_in opening.pages.items) opening.next opening.recovered) }
+    ensures stable { OnOk result (length pages.items < 2 → (L.state journal.new.log).pending ≡ []) }
+    ensures unread { IfOk result (λ opening. (pid : ℕ) → 2 ≤ pid → IfSome (slice_get opening.pages.items pid) (λ page. IsUnread page.kept)) }
+    ensures reads { (L.counts journal.new.log).reads ≡ (L.counts journal.old.log).reads }
+{
     add_missing(alloc, journal, &mut pages)?;
     let Ok(free) = free_of(alloc, &pages) else {
         return Err(Refusal::OutOfMemory);
@@ -100,9 +144,9 @@ fn recover_pages<L: Log>(alloc: Global, journal: &mut Journal<L>) -> Result<Vec<
     requires ready { journal.old.fault ≡ false }
     requires usable { (L.state journal.old.log).usable ≡ true }
     ensures proceeds { Proceeds L.Log journal.old journal.new [] (refusal_in result) }
-    ensures same { journal.new.fault ≡ false → now effect_of_entry (L.state journal.new.log) ≡ now effect_of_entry (L.state journal.old.log) }
-    ensures pages { IfOk result (λ pages. AreRecovered (now effect_of_entry (L.state journal.old.log)) pages.items) }
-    ensures refused { IfErr result (RefusesPages (now effect_of_entry (L.state journal.old.log))) }
+    ensures same { L.tells → journal.new.fault ≡ false → now effect_of_entry (L.state journal.new.log) ≡ now effect_of_entry (L.state journal.old.log) }
+    ensures pages { IfOk result (λ pages. AreRecovered L.tells (now effect_of_entry (L.state journal.old.log)) pages.items) }
+    ensures refused { L.tells → IfErr result (RefusesPages (now effect_of_entry (L.state journal.old.log))) }
     ensures unread { (L.counts journal.new.log).reads ≡ (L.counts journal.old.log).reads }
 {
     let states = journal.recover()?;
@@ -123,11 +167,11 @@ fn read_system_pages<L: Log>(
 ) -> Result<Option<u64>, Refusal>
     requires ready { journal.old.fault ≡ false }
     requires usable { (L.state journal.old.log).usable ≡ true }
-    requires recovered { AreRecovered (now effect_of_entry (L.state journal.old.log)) pages.old.items }
+    requires recovered { AreRecovered L.tells (now effect_of_entry (L.state journal.old.log)) pages.old.items }
     ensures proceeds { Proceeds L.Log journal.old journal.new [] (refusal_in result) }
-    ensures same { journal.new.fault ≡ false → now effect_of_entry (L.state journal.new.log) ≡ now effect_of_entry (L.state journal.old.log) }
-    ensures read { IfOk result (AreRead (now effect_of_entry (L.state journal.old.log)) pages.new.items) }
-    ensures refused { IfErr result (RefusesPages (now effect_of_entry (L.state journal.old.log))) }
+    ensures same { L.tells → journal.new.fault ≡ false → now effect_of_entry (L.state journal.new.log) ≡ now effect_of_entry (L.state journal.old.log) }
+    ensures read { IfOk result (AreRead L.tells (now effect_of_entry (L.state journal.old.log)) pages.new.items) }
+    ensures refused { L.tells → IfErr result (RefusesPages (now effect_of_entry (L.state journal.old.log))) }
     ensures reads { HasRead L.counts journal.old.log journal.new.log (own_among (length pages.old.items)) result }
 {
     if pages.is_empty() {
@@ -152,12 +196,12 @@ fn add_missing<L: Log>(
     requires ready { journal.old.fault ≡ false }
     requires usable { (L.state journal.old.log).usable ≡ true }
     requires closed { is_open (L.state journal.old.log).pending ≡ false }
-    requires table { IsTable (now effect_of_entry (L.state journal.old.log)) pages.old.items }
-    requires fresh { stamps_in pages.old.items ≡ map (λ _. 0) pages.old.items }
+    requires table { IsTable L.tells (now effect_of_entry (L.state journal.old.log)) pages.old.items }
+    requires fresh { L.tells → stamps_in pages.old.items ≡ map (λ _. 0) pages.old.items }
     ensures proceeds { Proceeds L.Log journal.old journal.new (told_at_start pages.old.items) (refusal_in result) }
-    ensures of_log { IfErr result IsOfLog }
-    ensures table { OnOk result (IsTable (now effect_of_entry (L.state journal.new.log)) pages.new.items) }
-    ensures stamps { OnOk result (stamps_in pages.new.items ≡ stamps_at_start pages.old.items) }
+    ensures of_log { L.tells → IfErr result IsOfLog }
+    ensures table { OnOk result (IsTable L.tells (now effect_of_entry (L.state journal.new.log)) pages.new.items) }
+    ensures stamps { L.tells → OnOk result (stamps_in pages.new.items ≡ stamps_at_start pages.old.items) }
     ensures both { OnOk result (1 < length pages.new.items) }
     ensures others { OnOk result ((pid : ℕ) → 2 ≤ pid → slice_get pages.new.items pid ≡ slice_get pages.old.items pid) }
     ensures stable { OnOk result (length pages.old.items < 2 → (L.state journal.new.log).pending ≡ []) }

@@ -16,6 +16,7 @@ ghost use Rattle.sled_node.specs.Links.{Accepts, applied};
 ghost use Rattle.sled_node.specs.Payloads.Links.{CanWriteLink};
 ghost use Rattle.sled_pagecache.specs.ChainReads.{chain_at};
 ghost use Rattle.sled_pagecache.specs.Journal.{Went, IsCaused, begun_by};
+ghost use Rattle.sled_pagecache.specs.Limits.{most_messages};
 ghost use Rattle.sled_pagecache.specs.Pages.{IsKept, is_free};
 ghost use Rattle.sled_pagecache.specs.Swaps.{IsRaised, IsLinked, RefusesSwap, RefusesLink, Wrote, infos_after, linked_length, update_of, written_by};
 ghost use Rattle.sled_pagecache.specs.Table.{IsFreeOrNode};
@@ -41,20 +42,20 @@ pub(super) fn replace_page<L: Log>(
 ) -> Result<(), Refusal>
     requires ready { journal.old.fault ≡ false }
     requires usable { (L.state journal.old.log).usable ≡ true }
-    requires there { pid < length (now effect_of_entry (L.state journal.old.log)) }
+    requires there { L.tells → pid < length (now effect_of_entry (L.state journal.old.log)) }
     ensures stamp { OnOk result (IsRaised page.old.stamp page.new.stamp) }
     ensures holds { OnOk result (page.new.kept ≡ kept.Node node) }
-    ensures kept { OnOk result (IsKept (chain_at (L.state journal.new.log) pid) page.new) }
+    ensures kept { L.tells → OnOk result (IsKept (chain_at (L.state journal.new.log) pid) page.new) }
     ensures stamps { OnOk result (map (λ info. info.ts) page.new.infos.items ≡ page.new.stamp ∷ []) }
-    ensures others { OnOk result (now effect_of_entry (L.state journal.new.log) ≡ slice_set (now effect_of_entry (L.state journal.old.log)) pid (chain_at (L.state journal.new.log) pid)) }
+    ensures others { L.tells → OnOk result (now effect_of_entry (L.state journal.new.log) ≡ slice_set (now effect_of_entry (L.state journal.old.log)) pid (chain_at (L.state journal.new.log) pid)) }
     ensures left { OnErr result (page.new ≡ page.old) }
-    ensures same { OnErr result (journal.new.fault ≡ false → now effect_of_entry (L.state journal.new.log) ≡ now effect_of_entry (L.state journal.old.log)) }
-    ensures refused { IfErr result (RefusesSwap page.old.stamp) }
+    ensures same { L.tells → OnErr result (journal.new.fault ≡ false → now effect_of_entry (L.state journal.new.log) ≡ now effect_of_entry (L.state journal.old.log)) }
+    ensures refused { L.tells → IfErr result (RefusesSwap page.old.stamp) }
     ensures is { IsUpdate (message_of (contents.Put (contents.Node node))) (contents.Put (contents.Node node)) }
-    ensures went { Went L.state L.moment L.left_since L.counts journal.old journal.new (begun_by result (Change pid (message_of (contents.Put (contents.Node node))) ∷ [])) }
-    ensures cause { IsCaused L.state L.moment L.left_since L.counts journal.old journal.new (L.is_full journal.old.log (length (message_of (contents.Put (contents.Node node))).payload)) result }
+    ensures went { Went L.tells L.state L.moment L.left_since L.counts journal.old journal.new (begun_by result (Change pid (message_of (contents.Put (contents.Node node))) ∷ [])) }
+    ensures cause { IsCaused L.tells L.state L.moment L.left_since L.counts journal.old journal.new (L.is_full journal.old.log (length (message_of (contents.Put (contents.Node node))).payload)) result }
     ensures reads { (L.counts journal.new.log).reads ≡ (L.counts journal.old.log).reads }
-    ensures sized { OnOk result (AllByRecursion IsSized (now effect_of_entry (L.state journal.new.log))) }
+    ensures sized { L.tells → OnOk result (AllByRecursion IsSized (now effect_of_entry (L.state journal.new.log))) }
 {
     // Every node is well-formed.
     let _ = node.data();
@@ -70,7 +71,6 @@ pub(super) fn replace_page<L: Log>(
 // Keeps how a message is kept as the only one of a page, at the next stamp.
 fn keep_alone(page: &mut Page, info: CacheInfo)
     requires below { page.old.stamp < 2 ^ 64 - 1 }
-    requires sized { sum_by (λ info. info.log_size) (info ∷ []) < 2 ^ 63 }
     requires stamped { info.ts ≡ page.old.stamp + 1 }
     ensures stamp { page.new.stamp ≡ page.old.stamp + 1 }
     ensures infos { page.new.infos.items ≡ info ∷ [] }
@@ -94,23 +94,23 @@ pub(super) fn link_page<L: Log>(
 ) -> Result<(), Refusal>
     requires ready { journal.old.fault ≡ false }
     requires usable { (L.state journal.old.log).usable ≡ true }
-    requires there { pid < length (now effect_of_entry (L.state journal.old.log)) }
-    requires kept { IsKept (chain_at (L.state journal.old.log) pid) page.old }
+    requires there { L.tells → pid < length (now effect_of_entry (L.state journal.old.log)) }
+    requires kept { L.tells → IsKept (chain_at (L.state journal.old.log) pid) page.old }
     ensures stamp { OnOk result (IsRaised page.old.stamp page.new.stamp) }
     ensures linked { OnOk result (IsLinked page.old.kept link.now page.new.kept) }
-    ensures kept { OnOk result (IsKept (chain_at (L.state journal.new.log) pid) page.new) }
+    ensures kept { L.tells → OnOk result (IsKept (chain_at (L.state journal.new.log) pid) page.new) }
     ensures len { OnOk result (length page.new.infos.items ≡ linked_length (length page.old.infos.items)) }
-    ensures others { OnOk result (now effect_of_entry (L.state journal.new.log) ≡ slice_set (now effect_of_entry (L.state journal.old.log)) pid (chain_at (L.state journal.new.log) pid)) }
+    ensures others { L.tells → OnOk result (now effect_of_entry (L.state journal.new.log) ≡ slice_set (now effect_of_entry (L.state journal.old.log)) pid (chain_at (L.state journal.new.log) pid)) }
     ensures left { OnErr result ((page.new.stamp ≡ page.old.stamp) × (page.new.infos.items ≡ page.old.infos.items)) }
-    ensures same { OnErr result (journal.new.fault ≡ false → now effect_of_entry (L.state journal.new.log) ≡ now effect_of_entry (L.state journal.old.log)) }
-    ensures still { OnErr result (journal.new.fault ≡ false → IsKept (chain_at (L.state journal.new.log) pid) page.new) }
-    ensures refused { IfErr result (RefusesLink page.old.stamp page.old.kept link.now) }
-    ensures went { Went L.state L.moment L.left_since L.counts journal.old journal.new (begun_by result (Change pid (message_of (update_of (length page.old.infos.items) link.now page.old.kept)) ∷ [])) }
-    ensures cause { IsCaused L.state L.moment L.left_since L.counts journal.old journal.new (L.is_full journal.old.log (length (message_of (update_of (length page.old.infos.items) link.now page.old.kept)).payload)) result }
+    ensures same { L.tells → OnErr result (journal.new.fault ≡ false → now effect_of_entry (L.state journal.new.log) ≡ now effect_of_entry (L.state journal.old.log)) }
+    ensures still { L.tells → OnErr result (journal.new.fault ≡ false → IsKept (chain_at (L.state journal.new.log) pid) page.new) }
+    ensures refused { L.tells → IfErr result (RefusesLink page.old.stamp page.old.kept link.now) }
+    ensures went { Went L.tells L.state L.moment L.left_since L.counts journal.old journal.new (begun_by result (Change pid (message_of (update_of (length page.old.infos.items) link.now page.old.kept)) ∷ [])) }
+    ensures cause { IsCaused L.tells L.state L.moment L.left_since L.counts journal.old journal.new (L.is_full journal.old.log (length (message_of (update_of (length page.old.infos.items) link.now page.old.kept)).payload)) result }
     ensures reads { (L.counts journal.new.log).reads ≡ (L.counts journal.old.log).reads }
     ensures is { OnOk result (IsUpdate (message_of (update_of (length page.old.infos.items) link.now page.old.kept)) (update_of (length page.old.infos.items) link.now page.old.kept)) }
     ensures is_begun { IsErrOf result (Io Write) → IsUpdate (message_of (update_of (length page.old.infos.items) link.now page.old.kept)) (update_of (length page.old.infos.items) link.now page.old.kept) }
-    ensures sized { OnOk result (AllByRecursion IsSized (now effect_of_entry (L.state journal.new.log))) }
+    ensures sized { L.tells → OnOk result (AllByRecursion IsSized (now effect_of_entry (L.state journal.new.log))) }
     ensures free { is_free page.new.kept ≡ is_free page.old.kept }
     ensures own { IsFreeOrNode page.old.kept → IsFreeOrNode page.new.kept }
 {
@@ -159,7 +159,7 @@ fn prepare(infos: &mut Vec<CacheInfo>, node: &mut Node, link: &Link) -> Result<(
     requires { Accepts node.old link.now }
     ensures infos { infos.new.items ≡ infos.old.items }
     ensures len { vec_len infos.new ≡ vec_len infos.old }
-    ensures room { OnOk result (vec_len infos.new < PAGE_CONSOLIDATION_THRESHOLD → vec_len infos.new < vec_capacity infos.new) }
+    ensures room { OnOk result (vec_len infos.new < most_messages → vec_len infos.new < vec_capacity infos.new) }
     ensures applied { OnOk result (node.new ≡ applied link.now node.old) }
     ensures err { OnErr result (node.new ≡ node.old) }
 {
@@ -182,9 +182,9 @@ fn write_linked<L: Log>(
     requires can_write { CanWriteLink link.now }
     requires ready { journal.old.fault ≡ false }
     requires usable { (L.state journal.old.log).usable ≡ true }
-    requires there { pid < length (now effect_of_entry (L.state journal.old.log)) }
-    requires full { is_empty effect_of_entry (chain_at (L.state journal.old.log) pid) ≡ false }
-    ensures { Wrote L.state L.moment L.left_since L.counts L.is_full journal.old journal.new pid (written_by messages link.now node.now) stamp result }
+    requires there { L.tells → pid < length (now effect_of_entry (L.state journal.old.log)) }
+    requires full { L.tells → is_empty effect_of_entry (chain_at (L.state journal.old.log) pid) ≡ false }
+    ensures { Wrote L.tells L.state L.moment L.left_since L.counts L.is_full journal.old journal.new pid (written_by messages link.now node.now) stamp result }
 {
     if messages < PAGE_CONSOLIDATION_THRESHOLD {
         return write_link(alloc, journal, pid, link, stamp);
@@ -195,8 +195,7 @@ fn write_linked<L: Log>(
 // Keeps how the message of a link is kept, at the next stamp of the page.
 fn keep_linked(page: &mut Page, info: CacheInfo)
     requires below { page.old.stamp < 2 ^ 64 - 1 }
-    requires room { vec_len page.old.infos < PAGE_CONSOLIDATION_THRESHOLD → vec_len page.old.infos < vec_capacity page.old.infos }
-    requires sized { sum_by (λ info. info.log_size) (infos_after page.old.infos.items info) < 2 ^ 63 }
+    requires room { vec_len page.old.infos < most_messages → vec_len page.old.infos < vec_capacity page.old.infos }
     requires stamped { info.ts ≡ page.old.stamp + 1 }
     ensures stamp { page.new.stamp ≡ page.old.stamp + 1 }
     ensures infos { page.new.infos.items ≡ infos_after page.old.infos.items info }
@@ -213,7 +212,6 @@ fn keep_linked(page: &mut Page, info: CacheInfo)
 fn keep_also(page: &mut Page, info: CacheInfo)
     requires below { page.old.stamp < 2 ^ 64 - 1 }
     requires room { vec_len page.old.infos < vec_capacity page.old.infos }
-    requires sized { sum_by (λ info. info.log_size) (page.old.infos.items ++ info ∷ []) < 2 ^ 63 }
     requires stamped { info.ts ≡ page.old.stamp + 1 }
     ensures stamp { page.new.stamp ≡ page.old.stamp + 1 }
     ensures infos { page.new.infos.items ≡ page.old.infos.items ++ info ∷ [] }

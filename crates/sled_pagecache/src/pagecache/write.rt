@@ -6,6 +6,7 @@ ghost use Rattle.sled_log.specs.Calls.{can_tell};
 ghost use Rattle.sled_log.specs.Chains.{chains_from};
 ghost use Rattle.sled_log.specs.Contents as contents;
 ghost use Rattle.sled_log.specs.Events.{Change};
+ghost use Rattle.sled_log.specs.Limits.{head_size, size_limit};
 ghost use Rattle.sled_log.specs.Messages.{effect_of_entry, message, placed};
 ghost use Rattle.sled_log.specs.Pages.{IsSized};
 ghost use Rattle.sled_log.specs.Reading.{IsUpdate};
@@ -34,17 +35,17 @@ pub(super) fn write_node<L: Log>(
 ) -> Result<CacheInfo, Refusal>
     requires ready { journal.old.fault ≡ false }
     requires usable { (L.state journal.old.log).usable ≡ true }
-    requires tells { can_tell effect_of_entry (now effect_of_entry (L.state journal.old.log)) pid (message_of (contents.Put (contents.Node node.now))).kind ≡ true }
+    requires can { L.tells → can_tell effect_of_entry (now effect_of_entry (L.state journal.old.log)) pid (message_of (contents.Put (contents.Node node.now))).kind ≡ true }
     ensures is { IsUpdate (message_of (contents.Put (contents.Node node.now))) (contents.Put (contents.Node node.now)) }
-    ensures went { Went L.state L.moment L.left_since L.counts journal.old journal.new (begun_by result (Change pid (message_of (contents.Put (contents.Node node.now))) ∷ [])) }
-    ensures cause { IsCaused L.state L.moment L.left_since L.counts journal.old journal.new (L.is_full journal.old.log (length (message_of (contents.Put (contents.Node node.now))).payload)) result }
-    ensures of_log { IfErr result IsOfLog }
+    ensures went { Went L.tells L.state L.moment L.left_since L.counts journal.old journal.new (begun_by result (Change pid (message_of (contents.Put (contents.Node node.now))) ∷ [])) }
+    ensures cause { IsCaused L.tells L.state L.moment L.left_since L.counts journal.old journal.new (L.is_full journal.old.log (length (message_of (contents.Put (contents.Node node.now))).payload)) result }
+    ensures of_log { L.tells → IfErr result IsOfLog }
     ensures reads { (L.counts journal.new.log).reads ≡ (L.counts journal.old.log).reads }
     ensures stamp { IfOk result (λ info. info.ts ≡ stamp) }
-    ensures size { IfOk result (λ info. info.log_size ≡ 17 + length (message_of (contents.Put (contents.Node node.now))).payload) }
-    ensures chains { IfOk result (λ info. now effect_of_entry (L.state journal.new.log) ≡ chains_from effect_of_entry (now effect_of_entry (L.state journal.old.log)) (Change pid (placed (message_of (contents.Put (contents.Node node.now))) (place_of info)))) }
-    ensures same { OnErr result (journal.new.fault ≡ false → now effect_of_entry (L.state journal.new.log) ≡ now effect_of_entry (L.state journal.old.log)) }
-    ensures sized { OnOk result (AllByRecursion IsSized (now effect_of_entry (L.state journal.new.log))) }
+    ensures size { IfOk result (λ info. (info.log_size ≡ head_size + length (message_of (contents.Put (contents.Node node.now))).payload) × (info.log_size < size_limit)) }
+    ensures chains { L.tells → IfOk result (λ info. now effect_of_entry (L.state journal.new.log) ≡ chains_from effect_of_entry (now effect_of_entry (L.state journal.old.log)) (Change pid (placed (message_of (contents.Put (contents.Node node.now))) (place_of info)))) }
+    ensures same { L.tells → OnErr result (journal.new.fault ≡ false → now effect_of_entry (L.state journal.new.log) ≡ now effect_of_entry (L.state journal.old.log)) }
+    ensures sized { L.tells → OnOk result (AllByRecursion IsSized (now effect_of_entry (L.state journal.new.log))) }
 {
     // Every node is well-formed, and its size has 64 bits.
     let _ = node.data();
@@ -63,17 +64,17 @@ pub(super) fn write_link<L: Log>(
     requires short { CanWriteLink link.now }
     requires ready { journal.old.fault ≡ false }
     requires usable { (L.state journal.old.log).usable ≡ true }
-    requires tells { can_tell effect_of_entry (now effect_of_entry (L.state journal.old.log)) pid (message_of (contents.Link link.now)).kind ≡ true }
+    requires can { L.tells → can_tell effect_of_entry (now effect_of_entry (L.state journal.old.log)) pid (message_of (contents.Link link.now)).kind ≡ true }
     ensures is { IsUpdate (message_of (contents.Link link.now)) (contents.Link link.now) }
-    ensures went { Went L.state L.moment L.left_since L.counts journal.old journal.new (begun_by result (Change pid (message_of (contents.Link link.now)) ∷ [])) }
-    ensures cause { IsCaused L.state L.moment L.left_since L.counts journal.old journal.new (L.is_full journal.old.log (length (message_of (contents.Link link.now)).payload)) result }
-    ensures of_log { IfErr result IsOfLog }
+    ensures went { Went L.tells L.state L.moment L.left_since L.counts journal.old journal.new (begun_by result (Change pid (message_of (contents.Link link.now)) ∷ [])) }
+    ensures cause { IsCaused L.tells L.state L.moment L.left_since L.counts journal.old journal.new (L.is_full journal.old.log (length (message_of (contents.Link link.now)).payload)) result }
+    ensures of_log { L.tells → IfErr result IsOfLog }
     ensures reads { (L.counts journal.new.log).reads ≡ (L.counts journal.old.log).reads }
     ensures stamp { IfOk result (λ info. info.ts ≡ stamp) }
-    ensures size { IfOk result (λ info. info.log_size ≡ 17 + length (message_of (contents.Link link.now)).payload) }
-    ensures chains { IfOk result (λ info. now effect_of_entry (L.state journal.new.log) ≡ chains_from effect_of_entry (now effect_of_entry (L.state journal.old.log)) (Change pid (placed (message_of (contents.Link link.now)) (place_of info)))) }
-    ensures same { OnErr result (journal.new.fault ≡ false → now effect_of_entry (L.state journal.new.log) ≡ now effect_of_entry (L.state journal.old.log)) }
-    ensures sized { OnOk result (AllByRecursion IsSized (now effect_of_entry (L.state journal.new.log))) }
+    ensures size { IfOk result (λ info. (info.log_size ≡ head_size + length (message_of (contents.Link link.now)).payload) × (info.log_size < size_limit)) }
+    ensures chains { L.tells → IfOk result (λ info. now effect_of_entry (L.state journal.new.log) ≡ chains_from effect_of_entry (now effect_of_entry (L.state journal.old.log)) (Change pid (placed (message_of (contents.Link link.now)) (place_of info)))) }
+    ensures same { L.tells → OnErr result (journal.new.fault ≡ false → now effect_of_entry (L.state journal.new.log) ≡ now effect_of_entry (L.state journal.old.log)) }
+    ensures sized { L.tells → OnOk result (AllByRecursion IsSized (now effect_of_entry (L.state journal.new.log))) }
 {
     write(alloc, journal, MessageKind::InlineLink, pid, link, stamp)
 }
@@ -89,8 +90,8 @@ pub(super) fn write_roots<L: Log>(
     requires can_write { IsRootMap roots.now }
     requires ready { journal.old.fault ≡ false }
     requires usable { (L.state journal.old.log).usable ≡ true }
-    requires there { pid ≤ length (now effect_of_entry (L.state journal.old.log)) }
-    ensures { Wrote L.state L.moment L.left_since L.counts L.is_full journal.old journal.new pid (contents.Put (contents.Roots roots.now)) stamp result }
+    requires there { L.tells → pid ≤ length (now effect_of_entry (L.state journal.old.log)) }
+    ensures { Wrote L.tells L.state L.moment L.left_since L.counts L.is_full journal.old journal.new pid (contents.Put (contents.Roots roots.now)) stamp result }
 {
     // Its size has 64 bits.
     let _ = roots.serialized_size();
@@ -107,8 +108,8 @@ pub(super) fn write_counter<L: Log>(
 ) -> Result<CacheInfo, Refusal>
     requires ready { journal.old.fault ≡ false }
     requires usable { (L.state journal.old.log).usable ≡ true }
-    requires there { pid ≤ length (now effect_of_entry (L.state journal.old.log)) }
-    ensures { Wrote L.state L.moment L.left_since L.counts L.is_full journal.old journal.new pid (contents.Put (contents.Counter n)) stamp result }
+    requires there { L.tells → pid ≤ length (now effect_of_entry (L.state journal.old.log)) }
+    ensures { Wrote L.tells L.state L.moment L.left_since L.counts L.is_full journal.old journal.new pid (contents.Put (contents.Counter n)) stamp result }
 {
     // Its size has 64 bits.
     let _ = n.serialized_size();
@@ -128,16 +129,16 @@ fn write<L: Log, T: Serialize>(
     requires fits { length (T.written value.now) < 2 ^ 64 }
     requires ready { journal.old.fault ≡ false }
     requires usable { (L.state journal.old.log).usable ≡ true }
-    requires tells { can_tell effect_of_entry (now effect_of_entry (L.state journal.old.log)) pid kind ≡ true }
-    ensures went { Went L.state L.moment L.left_since L.counts journal.old journal.new (begun_by result (Change pid (message kind (T.written value.now)) ∷ [])) }
-    ensures cause { IsCaused L.state L.moment L.left_since L.counts journal.old journal.new (L.is_full journal.old.log (length (T.written value.now))) result }
-    ensures of_log { IfErr result IsOfLog }
+    requires can { L.tells → can_tell effect_of_entry (now effect_of_entry (L.state journal.old.log)) pid kind ≡ true }
+    ensures went { Went L.tells L.state L.moment L.left_since L.counts journal.old journal.new (begun_by result (Change pid (message kind (T.written value.now)) ∷ [])) }
+    ensures cause { IsCaused L.tells L.state L.moment L.left_since L.counts journal.old journal.new (L.is_full journal.old.log (length (T.written value.now))) result }
+    ensures of_log { L.tells → IfErr result IsOfLog }
     ensures reads { (L.counts journal.new.log).reads ≡ (L.counts journal.old.log).reads }
     ensures stamp { IfOk result (λ info. info.ts ≡ stamp) }
-    ensures size { IfOk result (λ info. info.log_size ≡ 17 + length (T.written value.now)) }
-    ensures chains { IfOk result (λ info. now effect_of_entry (L.state journal.new.log) ≡ chains_from effect_of_entry (now effect_of_entry (L.state journal.old.log)) (Change pid (placed (message kind (T.written value.now)) (place_of info)))) }
-    ensures same { OnErr result (journal.new.fault ≡ false → now effect_of_entry (L.state journal.new.log) ≡ now effect_of_entry (L.state journal.old.log)) }
-    ensures sized { OnOk result (AllByRecursion IsSized (now effect_of_entry (L.state journal.new.log))) }
+    ensures size { IfOk result (λ info. (info.log_size ≡ head_size + length (T.written value.now)) × (info.log_size < size_limit)) }
+    ensures chains { L.tells → IfOk result (λ info. now effect_of_entry (L.state journal.new.log) ≡ chains_from effect_of_entry (now effect_of_entry (L.state journal.old.log)) (Change pid (placed (message kind (T.written value.now)) (place_of info)))) }
+    ensures same { L.tells → OnErr result (journal.new.fault ≡ false → now effect_of_entry (L.state journal.new.log) ≡ now effect_of_entry (L.state journal.old.log)) }
+    ensures sized { L.tells → OnOk result (AllByRecursion IsSized (now effect_of_entry (L.state journal.new.log))) }
 {
     let Ok(payload) = value.serialize(alloc) else {
         return Err(Refusal::OutOfMemory);

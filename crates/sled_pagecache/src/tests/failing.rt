@@ -1,8 +1,8 @@
 // A log in memory of which one read and one write fail.
 
-ghost use Rattle.std.specs.Prelude.{◌≡◌, ◌==◌, ℕ, ◌+◌, ◌≤◌, ◌^◌, pos, [], true};
+ghost use Rattle.std.specs.Prelude.{⊤, ◌≡◌, ◌==◌, ℕ, ◌+◌, ◌≤◌, ◌^◌, pos, [], true};
 ghost use Rattle.sled_log.specs.Calls.{one_more};
-ghost use Rattle.sled_log.specs.Items.{left_now, stable_left};
+ghost use Rattle.sled_log.specs.Items.{left_now, left_earlier, stable_left};
 ghost use Rattle.sled_log.specs.Memory.{state_of, clock_of, might_have_left, size_of, stable_size_of, pending_size_of};
 
 use super::*;
@@ -61,6 +61,8 @@ impl FailingLog {
 }
 
 impl Log for FailingLog {
+    ghost tells = { ⊤ };
+
     ghost state = { λ log. record { stable = (state_of log.log).stable; pending = (state_of log.log).pending; usable = log.faults == 0 } };
 
     ghost moment = { λ log. clock_of log.log };
@@ -79,9 +81,11 @@ impl Log for FailingLog {
 
     ghost is_full_for_batch = { λ _. ⊥ };
 
-    ghost keeps_stable = { λ log t le usable. stable_left log.log.clock log.log.items.items t le };
+    ghost keeps_stable = { λ log told usable. stable_left log.log.clock log.log.items.items };
 
-    ghost only_now = { λ log pages left. (let l = left_now log.log.clock log.log.items.items pages left in record { came = l.came; beginning = l.beginning; cut = l.cut; fair = l.fair; is = l.is }) };
+    ghost only_now = { λ log pages told usable left. (let l = left_now log.log.clock log.log.items.items pages left in record { came = l.came; beginning = l.beginning; cut = l.cut; fair = l.fair; is = l.is }) };
+
+    ghost since_earlier = { λ log t u pages told le left. left_earlier log.log.clock log.log.items.items t u pages le left };
 
     fn append(
         &mut self,

@@ -1,5 +1,6 @@
 // Every fair stop of a list of calls, opened again.
 
+use super::crashes::reopen;
 use super::*;
 
 // Two leaves, two links on the first, and a replacement of the second: five changes behind the flushed system pages.
@@ -33,7 +34,7 @@ fn left_by(alloc: Global, n: usize) -> Result<Option<Cache>, Fail> {
     if !log.is_fair(n) {
         return Ok(None);
     }
-    Ok(reopened(alloc, log.stop(n)))
+    Ok(reopen(alloc, CONFIG, log, n).ok())
 }
 
 #[test]

@@ -36,20 +36,16 @@ impl Write for Broken {
     }
 }
 
-fn text(alloc: Global, from: &str) -> Result<String, AllocError> {
-    String::from_str(alloc, from)
-}
+// Steps of the tests. Each runs the program once, and what it made is let go here: a test that let it go itself would be
+// proved for each way in which a run may end.
 
 fn texts(alloc: Global, from: &[&str]) -> Result<Vec<String>, AllocError> {
     let mut words = Vec::new(alloc);
     for word in from {
-        words.push(text(alloc, word)?)?;
+        words.push(String::from_str(alloc, word)?)?;
     }
     Ok(words)
 }
-
-// Steps of the tests. Each runs the program once, and what it made is let go here: a test that let it go itself would be
-// proved for each way in which a run may end.
 
 // Whether the program ends a script so, and tells this fault.
 fn ends_so<R: Read, W: Write>(
@@ -57,61 +53,82 @@ fn ends_so<R: Read, W: Write>(
     input: &mut R,
     output: &mut W,
     status: u8,
-    fault: &[u8],
+    fault: &str,
 ) -> Result<bool, AllocError> {
     let words = texts(alloc, &["mem"])?;
     let mut faults = Vec::new(alloc);
     let ended = drive(alloc, Some(words.as_slice()), input, output, &mut faults);
-    Ok(ended == status && faults.as_slice() == fault)
+    Ok(ended == status && faults.as_slice() == fault.as_bytes())
 }
 
 // Whether the program answers a script so, ends with status 0 and tells no fault.
-fn replies(alloc: Global, script: &[u8], want: &[u8]) -> Result<bool, AllocError> {
-    let mut input = script;
+fn replies(alloc: Global, mut script: &[u8], want: &str) -> Result<bool, AllocError> {
     let mut output = Vec::new(alloc);
-    let is_done = ends_so(alloc, &mut input, &mut output, 0, b"")?;
-    Ok(is_done && output.as_slice() == want)
+    let is_done = ends_so(alloc, &mut script, &mut output, 0, "")?;
+    Ok(is_done && output.as_slice() == want.as_bytes())
 }
 
-// A script whose first line has so many digits of a value.
-fn long_script(alloc: Global, digits: usize) -> Result<Vec<u8>, AllocError> {
+// Whether a script whose first line has so many digits of a value is answered so.
+fn replies_to_long(alloc: Global, digits: usize, want: &str) -> Result<bool, AllocError> {
     let mut script = Vec::from_slice(alloc, b"set 9 10 61 ")?;
     for _ in 0..digits {
         script.push(b'0')?;
     }
     script.extend_from_slice(b"\nget 9\n")?;
-    Ok(script)
+    replies(alloc, &script, want)
 }
 
-// Whether the words are told to be wrong, and no stream is touched.
-fn are_wrong(alloc: Global, words: Option<&[String]>) -> bool {
+// Whether these words, or such as are no text, are told to be wrong, and no stream is touched.
+fn are_wrong(alloc: Global, words: Option<&[&str]>) -> Result<bool, AllocError> {
+    let words = match words {
+        Some(words) => Some(texts(alloc, words)?),
+        None => None,
+    };
     let mut faults = Vec::new(alloc);
     let status = drive(
         alloc,
-        words,
+        words.as_ref().map(|words| words.as_slice()),
         &mut Broken { reads: 1 },
         &mut Broken { reads: 0 },
         &mut faults,
     );
-    status == 2 && faults.as_slice() == TOLD_USAGE
+    Ok(status == 2 && faults.as_slice() == TOLD_USAGE)
 }
 
-#[test]
-fn a_first_script(rt: HostRuntime) -> Result<(), Fail> {
-    assert!(rt;
-        replies(
-            rt.alloc(),
-            b"alloc\nset 2 1 62 76\nget 2\nset 2 1 63 77\nflush\n",
-            b"page 2 1\nok 2\nleaf 2 62=76\nstale 2\nflushed 47\n"
-        )?
-    );
-    Ok(())
+// Whether a reader that fails in its second line ends the program so, with the reply to the first.
+fn tells_reader(alloc: Global) -> Result<bool, AllocError> {
+    let mut input = Broken { reads: 1 };
+    let mut output = Vec::new(alloc);
+    let is_told = ends_so(alloc, &mut input, &mut output, 1, "sledpc: error read\n")?;
+    Ok(is_told && output.as_slice() == "page 2 1\n".as_bytes())
+}
+
+fn tells_writer(alloc: Global) -> Result<bool, AllocError> {
+    let mut input = b"get 2\n".as_slice();
+    let mut output = Broken { reads: 0 };
+    ends_so(alloc, &mut input, &mut output, 1, "sledpc: error write\n")
+}
+
+fn answers_untold(alloc: Global) -> bool {
+    let mut input = b"".as_slice();
+    let mut output = Vec::new(alloc);
+    drive(
+        alloc,
+        None,
+        &mut input,
+        &mut output,
+        &mut Broken { reads: 0 },
+    ) == 2
 }
 
 #[test]
 fn replies_to_lines(rt: HostRuntime) -> Result<(), Fail> {
     for (script, want) in [
         ("", ""),
+        (
+            "alloc\nset 2 1 62 76\nget 2\nset 2 1 63 77\nflush\n",
+            "page 2 1\nok 2\nleaf 2 62=76\nstale 2\nflushed 47\n",
+        ),
         ("\n", "error line\n"),
         ("alloc\nget 2", "page 2 1\nleaf 1\n"),
         (
@@ -171,29 +188,28 @@ fn replies_to_lines(rt: HostRuntime) -> Result<(), Fail> {
             "page 2 1\nerror line\nerror line\nerror line\nerror line\nerror line\nerror line\nleaf 1\n",
         ),
     ] {
-        let is_so = replies(rt.alloc(), script.as_bytes(), want.as_bytes())?;
-        assert!(rt; is_so, "at {script}");
+        assert!(rt;
+            replies(rt.alloc(), script.as_bytes(), want)?,
+            "at {script}"
+        );
     }
     Ok(())
 }
 
 #[test]
 fn a_line_of_65536_bytes_is_read_and_a_longer_one_is_not(rt: HostRuntime) -> Result<(), Fail> {
-    for (digits, want) in [
-        (65_524usize, "gone\nnone\n"),
-        (65_526, "error line\nnone\n"),
-    ] {
-        let script = long_script(rt.alloc(), digits)?;
-        let is_so = replies(rt.alloc(), &script, want.as_bytes())?;
-        assert!(rt; is_so, "with {digits} digits");
+    for (digits, want) in [(65_524, "gone\nnone\n"), (65_526, "error line\nnone\n")] {
+        assert!(rt;
+            replies_to_long(rt.alloc(), digits, want)?,
+            "with {digits} digits"
+        );
     }
     Ok(())
 }
 
 #[test]
 fn wrong_words_are_told_and_touch_no_stream(rt: HostRuntime) -> Result<(), Fail> {
-    let alloc = rt.alloc();
-    assert!(rt; are_wrong(alloc, None));
+    assert!(rt; are_wrong(rt.alloc(), None)?);
     let wrong: [&[&str]; 5] = [
         &[],
         &["memory"],
@@ -202,48 +218,15 @@ fn wrong_words_are_told_and_touch_no_stream(rt: HostRuntime) -> Result<(), Fail>
         &["crew", "1", "0"],
     ];
     for words in wrong {
-        let words = texts(alloc, words)?;
-        assert!(rt; are_wrong(alloc, Some(words.as_slice())));
+        assert!(rt; are_wrong(rt.alloc(), Some(words))?);
     }
     Ok(())
 }
 
 #[test]
-fn a_refused_reader_is_told(rt: HostRuntime) -> Result<(), Fail> {
-    let mut input = Broken { reads: 1 };
-    let mut output = Vec::new(rt.alloc());
-    let is_so = ends_so(
-        rt.alloc(),
-        &mut input,
-        &mut output,
-        1,
-        b"sledpc: error read\n",
-    )?;
-    assert!(rt; is_so);
-    assert!(rt; output.as_slice() == b"page 2 1\n".as_slice());
+fn refused_streams_are_told(rt: HostRuntime) -> Result<(), Fail> {
+    assert!(rt; tells_reader(rt.alloc())?);
+    assert!(rt; tells_writer(rt.alloc())?);
+    assert!(rt; answers_untold(rt.alloc()));
     Ok(())
-}
-
-#[test]
-fn a_refused_writer_is_told(rt: HostRuntime) -> Result<(), Fail> {
-    let mut input = b"get 2\n".as_slice();
-    let mut output = Broken { reads: 0 };
-    let is_so = ends_so(
-        rt.alloc(),
-        &mut input,
-        &mut output,
-        1,
-        b"sledpc: error write\n",
-    )?;
-    assert!(rt; is_so);
-    Ok(())
-}
-
-#[test]
-fn wrong_words_are_answered_where_nothing_can_be_told(rt: HostRuntime) {
-    let mut input = b"".as_slice();
-    let mut output = Vec::new(rt.alloc());
-    let mut faults = Broken { reads: 0 };
-    let status = drive(rt.alloc(), None, &mut input, &mut output, &mut faults);
-    assert_eq!(rt; status, 2);
 }

@@ -7,17 +7,17 @@ ghost use Rattle.sled_node.specs.Node.{Value, WholeNode, leaf_of};
 ghost use Rattle.sled_node.specs.Pairs.{IsWithinLimit, HasPairs};
 ghost use Rattle.sledpc.specs.Asked.{AsksBehind, AreTwo, BeginsWithToken, SpellLeaf};
 ghost use Rattle.sledpc.specs.Commands.{Spells};
+ghost use Rattle.sledpc.specs.Settings.{longest_line};
 ghost use Rattle.sled_pagecache.specs.Token.{Token};
 ghost use Rattle.sled_pagecache.specs.declared.pagecache.call.Call.{Call};
 
 use super::words::{bytes_of, first_word, number_of, pairs_of};
-use crate::lines::MAX_LINE;
 use sled_pagecache::{Call, Data, IVec, Leaf, Link, Node, PageView};
 use std::alloc::{AllocError, Global};
 
 /// The call that a line asks for, or none where it is no command.
 pub fn call_of(alloc: Global, line: &[u8]) -> Result<Option<Call>, AllocError>
-    requires { length line.now ≤ MAX_LINE }
+    requires { length line.now ≤ longest_line }
     ensures some { IfOk result (λ found. IfSome found (Spells line.now)) }
     ensures none { IfOk result (λ found. IfNone found ((call : Call) → ¬ Spells line.now call)) }
 {

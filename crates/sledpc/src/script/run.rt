@@ -5,11 +5,12 @@ ghost use Rattle.sledpc.specs.Commands.{Spells};
 ghost use Rattle.sledpc.specs.Output.{Writes};
 ghost use Rattle.sledpc.specs.Runs.{Serves, error_of};
 ghost use Rattle.sledpc.specs.Served.{RepliesTo, RepliesLine};
+ghost use Rattle.sledpc.specs.Settings.{longest_line};
 ghost use Rattle.sled_pagecache.specs.declared.pagecache.call.Call.{Call};
 
 use super::command::call_of;
 use super::reply::{Told, write_line};
-use crate::lines::{Line, MAX_LINE, ReadError, read_line};
+use crate::lines::{Line, ReadError, read_line};
 use crate::output::write_text;
 use sled_pagecache::{Call, Log, PageCache};
 use std::alloc::{AllocError, Global};
@@ -97,7 +98,7 @@ fn serve_line<L: Log, W: Write>(
     line: &[u8],
     writer: &mut W,
 ) -> Result<(), RunError>
-    requires { length line.now ≤ MAX_LINE }
+    requires { length line.now ≤ longest_line }
     ensures { RepliesLine L.Log cache.old line.now (W.contents writer.old) (W.contents writer.new) result cache.new }
 {
     let Some(call) = call_of(alloc, line)? else {

@@ -1,14 +1,8 @@
 use super::*;
 use crate::node::{Index, Leaf, Link};
-use crate::serialization::Serialize;
+use crate::tests::node_of;
 use std::alloc::{AllocError, Global};
 use std::test::Fail;
-
-// A node of this payload.
-fn node_of(alloc: Global, payload: &[u8]) -> Result<Node, Fail> {
-    let mut input = payload;
-    Ok(Node::deserialize(alloc, &mut input)?)
-}
 
 // A leaf of so many pairs.
 fn leaf_of(alloc: Global, count: u8) -> Result<Node, Fail> {

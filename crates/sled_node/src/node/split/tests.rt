@@ -1,5 +1,6 @@
 use super::*;
 use crate::node::Item;
+use crate::tests::let_go;
 use std::num::NonZeroU64;
 use std::process::Abort;
 use std::test::Fail;
@@ -84,8 +85,6 @@ fn node(alloc: Global, shape: &Shape<'_>, contents: Data) -> Result<Option<Node>
     let (next, child) = (NonZeroU64::new(7), NonZeroU64::new(5));
     Ok(Node::from_parts(shape.prefix_len, next, child, true, lo, hi, contents))
 }
-
-fn let_go(_node: Node) {}
 
 fn has_marks(node: &Node, next: u64, child: u64, merging: bool) -> bool {
     node.next() == NonZeroU64::new(next)
@@ -380,51 +379,49 @@ fn receives(left: &Node, right: &Node) -> bool {
     left.can_receive(right)
 }
 
+// Whether the left node receives the right one, the right one the left, and the left itself.
+fn receiving(left: &Node, right: &Node) -> [bool; 3] {
+    [
+        receives(left, right),
+        receives(right, left),
+        receives(left, left),
+    ]
+}
+
+// The same, where the left node is a leaf below "m".
+fn received(alloc: Global, right: &Node) -> Result<[bool; 3], Fail> {
+    let low = Shape {
+        prefix_len: 0,
+        lo: b"",
+        hi: b"m",
+        keys: &[],
+    };
+    let left = leaf(alloc, &low)?.ok_or("well-formed")?;
+    Ok(receiving(&left, right))
+}
+
+const FROM_M: Shape<'static> = Shape {
+    prefix_len: 0,
+    lo: b"m",
+    hi: b"",
+    keys: &[],
+};
+
 #[test]
 fn neighbours_meet_and_are_of_one_kind(rt: HostRuntime) -> Result<(), Fail> {
-    let alloc = rt.alloc();
-    let (low, high) = (
-        Shape {
-            prefix_len: 0,
-            lo: b"",
-            hi: b"m",
-            keys: &[],
-        },
-        Shape {
-            prefix_len: 0,
-            lo: b"m",
-            hi: b"",
-            keys: &[],
-        },
-    );
-    let left = leaf(alloc, &low)?.ok_or("well-formed")?;
-    let right = leaf(alloc, &high)?.ok_or("well-formed")?;
-    assert!(rt; receives(&left, &right));
-    assert!(rt; !receives(&right, &left));
-    assert!(rt; !receives(&left, &left));
+    let right = leaf(rt.alloc(), &FROM_M)?.ok_or("well-formed")?;
+    let found = received(rt.alloc(), &right);
+    let_go(right);
+    assert!(rt; found? == [true, false, false]);
     Ok(())
 }
 
 #[test]
 fn a_leaf_receives_no_index(rt: HostRuntime) -> Result<(), Fail> {
-    let alloc = rt.alloc();
-    let (low, high) = (
-        Shape {
-            prefix_len: 0,
-            lo: b"",
-            hi: b"m",
-            keys: &[],
-        },
-        Shape {
-            prefix_len: 0,
-            lo: b"m",
-            hi: b"",
-            keys: &[],
-        },
-    );
-    let left = leaf(alloc, &low)?.ok_or("well-formed")?;
-    let right = index(alloc, &high)?.ok_or("well-formed")?;
-    assert!(rt; !receives(&left, &right));
+    let right = index(rt.alloc(), &FROM_M)?.ok_or("well-formed")?;
+    let found = received(rt.alloc(), &right);
+    let_go(right);
+    assert!(rt; !found?[0]);
     Ok(())
 }
 

@@ -1,4 +1,4 @@
-use Rattle.std.proofs.Common.{[], arith}
+use Rattle.sled_pagecache.proofs.Names.{[], arith}
 use Rattle.sled_pagecache.proofs.Staying.{stay-none}
 use Rattle.sled_pagecache.proofs.laws.an_empty_log_is_logged.Goals as goal
 

@@ -1,4 +1,4 @@
-use Rattle.sled_pagecache.specs.RowLaws.{row-none, row-one, row-then, made-row}
+use Rattle.sled_pagecache.proofs.Names.{row-none, row-one, row-then, made-row}
 use Rattle.sled_pagecache.proofs.rows.calls_in_a_row_are_steps.Goals as goal
 
 pub returns-clause-none : goal.returns-clause-none

@@ -15,3 +15,42 @@ fn a_free_system_page_is_a_misfit(rt: HostRuntime) -> Result<(), Fail> {
     assert!(rt; free_of(alloc, &pages)?.as_slice() == [0u64, 1].as_slice());
     Ok(())
 }
+
+// A page of so many messages.
+fn of_messages(alloc: Global, len: usize) -> Result<PageState, AllocError> {
+    let mut frags = Vec::new(alloc);
+    for _ in 1..len {
+        frags.push((26, THERE, 25))?;
+    }
+    Ok(PageState::Present {
+        base: (9, HERE, 25),
+        frags,
+    })
+}
+
+// Whether no cache leaves a page of so many messages at this id.
+fn misfits(alloc: Global, pid: usize, len: usize) -> Result<bool, AllocError> {
+    let page = page_of(alloc, &of_messages(alloc, len)?)?;
+    Ok(is_misfit(pid, &page))
+}
+
+#[test]
+fn a_system_page_has_one_message_and_another_ten(rt: HostRuntime) -> Result<(), Fail> {
+    let alloc = rt.alloc();
+    for (pid, len, wanted) in [
+        (0, 1, false),
+        (0, 2, true),
+        (1, 1, false),
+        (1, 2, true),
+        (2, 2, false),
+        (2, 10, false),
+        (2, 11, true),
+    ] {
+        assert_eq!(rt;
+            misfits(alloc, pid, len)?,
+            wanted,
+            "page {pid} of {len} messages"
+        );
+    }
+    Ok(())
+}

@@ -8,6 +8,6 @@ use Rattle.sledpc.proofs.program.open_memory.Goals as goal
 
 pub returns-in-Ok : goal.returns-in-Ok
 returns-in-Ok c =
-    let logged = subst (λ (state : log.State Entry). IsLogged (log.told_state state) nothing) (sym c.new-log.ensures.state) empty_logged in
-    let opened = (c.in-Ok.ensures.opens refl nothing logged).opened_so in
+    let logged = subst (λ (state : log.State Entry). IsLogged (log.told_state state) nothing) (sym c.new_log.ensures.state) empty_logged in
+    let opened = c.in-Ok.ensures.opens refl tt nothing logged in
     record { settings = opened.config_is; held = opened.held_then; is = opened.is; stable = opened.stable some_missing }

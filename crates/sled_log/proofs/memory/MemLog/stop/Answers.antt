@@ -4,7 +4,7 @@ use Rattle.std.proofs.lemmas.List.{length-map, length-drop, take_all, drop_all}
 use Rattle.sled_log.specs.Batches.{is_open}
 use Rattle.sled_log.specs.Items.{event_of, log_size, restarted, state_at, IsInOrder, are_placed}
 use Rattle.sled_log.specs.declared.memory.item.Item.{Item}
-use Rattle.sled_log.proofs.Moments.{pending_events, log_size-restarted, order-restarted, pending-restarted, stable-restarted}
+use Rattle.sled_log.proofs.Moments.{pending_events, size-restarted, log_size-restarted, left-stopped, order-restarted, pending-restarted, stable-restarted}
 use Rattle.sled_log.proofs.Places.{placed-take, placed-restarted}
 use Rattle.sled_log.proofs.memory.MemLog.stop.Goals as goal
 
@@ -61,3 +61,19 @@ pub returns-clause-pending : goal.returns-clause-pending
 returns-clause-pending c =
     let self = c.args.self in
     ap (λ l. (state_at 0 l).pending) c.keep_first.ensures ∙ pending-restarted (take (self.stable + c.args.n) self.items.items)
+
+pub returns-clause-left : goal.returns-clause-left
+returns-clause-left c =
+    let self = c.args.self in
+    left-stopped self.clock c.args.n self.items.items _ c.requires (returns-clause-stable c)
+
+pub returns-clause-size : goal.returns-clause-size
+returns-clause-size c =
+    let self = c.args.self in
+    ap log_size c.keep_first.ensures ∙ size-restarted (take (self.stable + c.args.n) self.items.items)
+
+pub returns-clause-durable : goal.returns-clause-durable
+returns-clause-durable c =
+    let len = c.len-stable.ensures in
+    let ok = c.keep_first.new.items.ok in
+    ap log_size (take_all c.len-stable.result c.keep_first.new.items.items (omega arith)) ∙ returns-clause-size c

@@ -1,12 +1,5 @@
-use Rattle.std.proofs.Common.{◌≡◌, [], ◌∷◌, length, ◌∙◌, refl, rules}
-use Rattle.std.proofs.lemmas.Result.{err_from_is_err_and}
-use Rattle.sled_log.specs.Contents.{Node, Put}
-use Rattle.sled_log.specs.Messages.{effect_of_entry}
-use Rattle.sled_log.specs.State.{now}
-use Rattle.sled_log.specs.Writing.{message_of}
-use Rattle.sled_log.specs.WritingLaws.{written-update}
-use Rattle.sled_pagecache.specs.JournalLaws.{Went-none, IsCaused-handed_on}
-use Rattle.sled_pagecache.proofs.NewPages.{only-one, added-others, added-fits, has-one-more, new-page-went}
+use Rattle.sled_pagecache.proofs.Names.{inr, ◌≡◌, [], ◌∷◌, length, ◌∙◌, refl, rules, err_from_is_err_and, Node, Put, message_of, written-update, Went-none, IsCaused-handed_on}
+use Rattle.sled_pagecache.proofs.NewPages.{only-one, added-others, new-kept, has-one-more, new-page-went}
 use Rattle.sled_pagecache.proofs.pagecache.add.add_page.Goals as goal
 
 pub returns-then-len-eq-MAX_PAGES-clause-is : goal.returns-then-len-eq-MAX_PAGES-clause-is
@@ -14,21 +7,21 @@ returns-then-len-eq-MAX_PAGES-clause-is g c = written-update (Put (Node c.args.n
 
 pub returns-then-len-eq-MAX_PAGES-clause-went : goal.returns-then-len-eq-MAX_PAGES-clause-went
 returns-then-len-eq-MAX_PAGES-clause-went g c =
-    Went-none g.L.Log.state g.L.Log.moment g.L.Log.left_since g.L.Log.counts c.args.journal.now (λ _. c.requires.usable) (search rules)
+    Went-none g.L.Log.tells g.L.Log.state g.L.Log.moment g.L.Log.left_since g.L.Log.counts c.args.journal.now c.requires.usable (search rules)
 
 pub returns-in_default-clause-is : goal.returns-in_default-clause-is
 returns-in_default-clause-is g c = written-update (Put (Node c.args.node)) c.data.ensures.well_formed
 
 pub returns-in_default-clause-went : goal.returns-in_default-clause-went
 returns-in_default-clause-went g c =
-    Went-none g.L.Log.state g.L.Log.moment g.L.Log.left_since g.L.Log.counts c.args.journal.now (λ _. c.requires.usable) (search rules)
+    Went-none g.L.Log.tells g.L.Log.state g.L.Log.moment g.L.Log.left_since g.L.Log.counts c.args.journal.now c.requires.usable (search rules)
 
 pub returns-in_default-with_capacity-clause-is : goal.returns-in_default-with_capacity-clause-is
 returns-in_default-with_capacity-clause-is g c = written-update (Put (Node c.args.node)) c.data.ensures.well_formed
 
 pub returns-in_default-with_capacity-clause-went : goal.returns-in_default-with_capacity-clause-went
 returns-in_default-with_capacity-clause-went g c =
-    Went-none g.L.Log.state g.L.Log.moment g.L.Log.left_since g.L.Log.counts c.args.journal.now (λ _. c.requires.usable) (search rules)
+    Went-none g.L.Log.tells g.L.Log.state g.L.Log.moment g.L.Log.left_since g.L.Log.counts c.args.journal.now c.requires.usable (search rules)
 
 pub returns-in_err-info-clause-same : goal.returns-in_err-info-clause-same
 returns-in_err-info-clause-same g c =
@@ -40,39 +33,35 @@ returns-in_err-info-clause-went g c =
     let p = err_from_is_err_and c.from_residual.result c.from_residual.ensures.1 in
     let last : c.len-pid.result ≡ length c.args.pages.now.items = c.len-pid.ensures ∙ c.args.pages.now.ok.0 in
     rw (p.1, p.2)
-    (new-page-went g.L.Log.state g.L.Log.moment g.L.Log.left_since g.L.Log.counts g.L.Log.is_full c.args.journal.now c.write_node.new.journal c.args.node c.in_err-info.field-0.0
+    (new-page-went g.L.Log.tells g.L.Log.state g.L.Log.moment g.L.Log.left_since g.L.Log.counts g.L.Log.is_full c.args.journal.now c.write_node.new.journal c.args.node c.in_err-info.field-0.0
     (length c.args.pages.now.items) c.len-pid.result last c.in_err-info.ensures.went)
 
 pub returns-in_err-info-clause-cause : goal.returns-in_err-info-clause-cause
 returns-in_err-info-clause-cause g c =
     let p = err_from_is_err_and c.from_residual.result c.from_residual.ensures.1 in
     rw (p.1, p.2)
-    (IsCaused-handed_on g.L.Log.state g.L.Log.moment g.L.Log.left_since g.L.Log.counts c.args.journal.now c.write_node.new.journal
+    (IsCaused-handed_on g.L.Log.tells g.L.Log.state g.L.Log.moment g.L.Log.left_since g.L.Log.counts c.args.journal.now c.write_node.new.journal
     (g.L.Log.is_full c.args.journal.now.log (length (message_of (Put (Node c.args.node))).payload)) c.in_err-info.field-0.0 c.in_err-info.ensures.cause)
-
-pub invariant_of-push_reserved-clause-sized : goal.invariant_of-push_reserved-clause-sized
-invariant_of-push_reserved-clause-sized g c =
-    let old = now effect_of_entry (g.L.Log.state c.args.journal.now.log) in
-    let new = now effect_of_entry (g.L.Log.state c.write_node.new.journal.log) in
-    let last : c.len-pid.result ≡ length old = c.len-pid.ensures ∙ c.args.pages.now.ok.0 ∙ c.requires.there in
-    let done = c.in_ok-info in
-    let alone : c.push_reserved.new.self.items ≡ done.info ∷ [] = only-one c.push_reserved.new.self.items c.in-Ok-with_capacity.infos.items done.info c.push_reserved.ensures.items c.in-Ok-with_capacity.ensures.items in
-    rw alone (added-fits old c.len-pid.result last new c.args.node done.info done.ensures.chains done.ensures.sized)
 
 pub returns-clause-page : goal.returns-clause-page
 returns-clause-page g c =
-    let old = now effect_of_entry (g.L.Log.state c.args.journal.now.log) in
-    let new = now effect_of_entry (g.L.Log.state c.write_node.new.journal.log) in
     let at : c.len-pid.result ≡ length c.args.pages.now.items = c.len-pid.ensures ∙ c.args.pages.now.ok.0 in
     let done = c.in_ok-info in
     let alone : c.push_reserved.new.self.items ≡ done.info ∷ [] = only-one c.push_reserved.new.self.items c.in-Ok-with_capacity.infos.items done.info c.push_reserved.ensures.items c.in-Ok-with_capacity.ensures.items in
     rw (← at)
-    (has-one-more old c.len-pid.result (at ∙ c.requires.there) new c.args.node done.info done.ensures.chains
-    c.args.pages.now.items c.reserve.new.self.items c.push_reserved-2.new.self.items _ c.reserve.ensures.items c.push_reserved-2.ensures.items refl refl alone done.ensures.stamp done.ensures.is)
+    (has-one-more g.L.Log.tells _ c.args.node done.info
+    c.args.pages.now.items c.reserve.new.self.items c.push_reserved-2.new.self.items _ c.reserve.ensures.items c.push_reserved-2.ensures.items refl refl alone done.ensures.stamp
+    (λ told. new-kept _ c.len-pid.result (at ∙ c.requires.there told) _ c.args.node done.info (done.ensures.chains told) _ refl alone done.ensures.is))
 
 pub returns-clause-others : goal.returns-clause-others
-returns-clause-others g c =
-    let old = now effect_of_entry (g.L.Log.state c.args.journal.now.log) in
-    let new = now effect_of_entry (g.L.Log.state c.write_node.new.journal.log) in
+returns-clause-others g c = λ told.
     let at : c.len-pid.result ≡ length c.args.pages.now.items = c.len-pid.ensures ∙ c.args.pages.now.ok.0 in
-    rw (← at) (added-others old c.len-pid.result (at ∙ c.requires.there) new c.args.node c.in_ok-info.info c.in_ok-info.ensures.chains)
+    rw (← at) (added-others _ c.len-pid.result (at ∙ c.requires.there told) _ c.args.node c.in_ok-info.info (c.in_ok-info.ensures.chains told))
+
+pub returns-clause-cause : goal.returns-clause-cause
+returns-clause-cause g c = record { fault = c.in_ok-info.ensures.cause.fault; read = λ is. absurd cc; write = λ is. absurd cc; full = λ is. absurd cc }
+
+pub returns-in_err-info-clause-refused : goal.returns-in_err-info-clause-refused
+returns-in_err-info-clause-refused g c = λ told.
+    let p = err_from_is_err_and c.from_residual.result c.from_residual.ensures.1 in
+    rw (p.1, p.2) (inr ((λ all. c.if-len-eq-MAX_PAGES.false (c.len.ensures ∙ c.args.pages.now.ok.0 ∙ all)), c.in_err-info.ensures.of_log told))

@@ -1,30 +1,21 @@
-use Rattle.std.proofs.Common.{◌+◌, ◌<◌, ◌≤◌, List, [], length, take, get_or, slice_index_or, sym, ◌∙◌, ap, subst, arith, rules, to_z, of_z, w64, SFits}
-use Rattle.std.proofs.lemmas.Int.{to_z-of_z}
-use Rattle.std.proofs.lemmas.Result.{err_from_is_err_and}
-use Rattle.std.specs.List.{All, AllZip, Any}
-use Rattle.sled_log.specs.Calls.{one_more}
-use Rattle.sled_log.specs.Messages.{Chain}
-use Rattle.sled_log.specs.Pages.{IsAt, IsRead}
-use Rattle.sled_pagecache.specs.ChainReads.{IsFoundAs, chain_at}
-use Rattle.sled_pagecache.specs.JournalLaws.{Went-then}
-use Rattle.sled_pagecache.specs.declared.pagecache.reading.Found.{Found}
+use Rattle.sled_pagecache.proofs.Names.{◌+◌, ◌<◌, ◌≤◌, List, [], length, take, get_or, slice_index_or, sym, ◌∙◌, ap, subst, arith, rules, to_z, of_z, w64, SFits, to_z-of_z, err_from_is_err_and, All, AllZip, Any, one_more, Chain, IsAt, IsRead, IsFoundAs, chain_at, Went-then, Found}
 use Rattle.sled_pagecache.proofs.ChainReads.{any_at, is_at, length-known, found-all, found-more, more-next, no_info, entry_at}
 use Rattle.sled_pagecache.proofs.pagecache.chain.read_chain.Goals as goal
 
 pub read-requires-clause-known : goal.read-requires-clause-known
-read-requires-clause-known g c =
+read-requires-clause-known g c = λ known.
     let chain = chain_at (g.L.Log.state c.args.journal.now.log) c.args.pid in
     let infos = c.args.infos.now in
     let i = c.loop-info.info-index in
     let info = get_or infos i no_info in
     let fits : SFits w64 info.lsn = search rules in
     let lsn = to_z w64 (of_z w64 info.lsn) in
-    subst (λ (pages : List Chain). Any (IsAt lsn info.pointer) (slice_index_or pages c.args.pid [])) (sym c.loop-info.invariant.same)
-    (any_at chain infos c.requires.known i no_info lsn (to_z-of_z w64 info.lsn fits) c.loop-info-test.true)
+    subst (λ (pages : List Chain). Any (IsAt lsn info.pointer) (slice_index_or pages c.args.pid [])) (sym (c.loop-info.invariant.same known))
+    (any_at chain infos (c.requires.known known) i no_info lsn (to_z-of_z w64 info.lsn fits) c.loop-info-test.true)
 
 pub returns-in_err-kind-clause-went : goal.returns-in_err-kind-clause-went
 returns-in_err-kind-clause-went g c =
-    Went-then g.L.Log.state g.L.Log.moment g.L.Log.left_since g.L.Log.counts c.args.journal.now c.loop-info.journal c.read.new.self [] []
+    Went-then g.L.Log.tells g.L.Log.state g.L.Log.moment g.L.Log.left_since g.L.Log.counts c.args.journal.now c.loop-info.journal c.read.new.self [] []
     c.loop-info.invariant.went c.loop-info.invariant.ready c.in_err-kind.ensures.went
 
 pub returns-in_err-kind-clause-at_most : goal.returns-in_err-kind-clause-at_most
@@ -47,20 +38,21 @@ loop-info-preserved g c =
     let fits : SFits w64 info.lsn = search rules in
     let lsn = to_z w64 (of_z w64 info.lsn) in
     let found : Found = record { kind = c.in_ok-kind.kind; payload = c.in_ok-kind.payload; pointer = info.pointer } in
-    let same = length-known chain infos c.requires.known in
     let lt = c.loop-info-test.true in
-    let within : i < length chain = omega arith in
-    let is = is_at chain infos c.requires.known i no_info lsn (to_z-of_z w64 info.lsn fits) in
-    let read = subst
-    (λ (pages : List Chain). All (λ entry. IsAt lsn info.pointer entry → IsRead entry (c.in_ok-kind.kind, c.in_ok-kind.payload)) (slice_index_or pages c.args.pid []))
-    so_far.same made.found in
     record {
       ready = made.cause.fault;
-      went = Went-then g.L.Log.state g.L.Log.moment g.L.Log.left_since g.L.Log.counts c.args.journal.now c.loop-info.journal c.read.new.self [] []
+      went = Went-then g.L.Log.tells g.L.Log.state g.L.Log.moment g.L.Log.left_since g.L.Log.counts c.args.journal.now c.loop-info.journal c.read.new.self [] []
           so_far.went so_far.ready made.went;
-      same = made.same made.cause.fault ∙ so_far.same;
-      found = subst (λ (l : List Found). AllZip IsFoundAs (take (i + 1) chain) l) (sym pushed.items)
-          (found-more chain c.loop-info.found.items i (entry_at no_info) found within so_far.found (read i (entry_at no_info) within is, sym is.1));
+      same = λ known. made.same known made.cause.fault ∙ so_far.same known;
+      found = λ known.
+          let same = length-known chain infos (c.requires.known known) in
+          let within : i < length chain = omega arith in
+          let is = is_at chain infos (c.requires.known known) i no_info lsn (to_z-of_z w64 info.lsn fits) in
+          let read = subst
+          (λ (pages : List Chain). All (λ entry. IsAt lsn info.pointer entry → IsRead entry (c.in_ok-kind.kind, c.in_ok-kind.payload)) (slice_index_or pages c.args.pid []))
+          (so_far.same known) (made.found known) in
+          subst (λ (l : List Found). AllZip IsFoundAs (take (i + 1) chain) l) (sym pushed.items)
+          (found-more chain c.loop-info.found.items i (entry_at no_info) found within (so_far.found known) (read i (entry_at no_info) within is, sym is.1));
       reads = made.reads ∙ ap one_more so_far.reads ∙ more-next i (g.L.Log.counts c.args.journal.now.log).reads;
       len = search rules;
       room = search rules;
@@ -68,12 +60,12 @@ loop-info-preserved g c =
     }
 
 pub returns-clause-found : goal.returns-clause-found
-returns-clause-found g c =
+returns-clause-found g c = λ known.
     let chain = chain_at (g.L.Log.state c.args.journal.now.log) c.args.pid in
-    let same = length-known chain c.args.infos.now c.requires.known in
+    let same = length-known chain c.args.infos.now (c.requires.known known) in
     let last = c.loop-info-test.false in
     let le : length chain ≤ c.loop-info.info-index = omega arith in
-    found-all chain c.loop-info.found.items c.loop-info.info-index le c.loop-info.invariant.found
+    found-all chain c.loop-info.found.items c.loop-info.info-index le (c.loop-info.invariant.found known)
 
 pub returns-in_err-kind-clause-room : goal.returns-in_err-kind-clause-room
 returns-in_err-kind-clause-room g c = λ n full. c.loop-info.invariant.as_full n (c.in_err-kind.ensures.room n full)

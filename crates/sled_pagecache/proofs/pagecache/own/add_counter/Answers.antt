@@ -1,11 +1,7 @@
-use Rattle.std.proofs.Common.{[], ◌∷◌, ◌++◌, List, sym, refl, ap, ◌∙◌, arith, Err}
-use Rattle.std.proofs.lemmas.Result.{err_from_is_err_and}
-use Rattle.sled_base.specs.declared.types.Refusal.TheVariants.{OutOfMemory}
-use Rattle.sled_log.specs.Contents.{Counter, Put}
-use Rattle.sled_pagecache.specs.Loading.{counter_told}
-use Rattle.sled_pagecache.specs.declared.pagecache.chain.CacheInfo.{CacheInfo}
+use Rattle.sled_pagecache.proofs.Names.{[], ◌∷◌, ◌++◌, List, sym, refl, ap, ◌∙◌, arith, Err, OutOfMemory, Counter, Put, counter_told, CacheInfo}
 use Rattle.sled_pagecache.proofs.Proceeding.{proceeds-none, proceeds-refused, proceeds-first}
 use Rattle.sled_pagecache.proofs.Starting.{wrote-proceeds, own-table, own-two}
+use Rattle.sled_pagecache.proofs.Refused.{refused-is}
 use Rattle.sled_pagecache.proofs.pagecache.own.add_counter.Goals as goal
 
 pub returns-in_default-clause-proceeds : goal.returns-in_default-clause-proceeds
@@ -17,8 +13,7 @@ returns-in_default-clause-proceeds g c =
 pub returns-in_err-info-clause-proceeds : goal.returns-in_err-info-clause-proceeds
 returns-in_err-info-clause-proceeds g c =
     let journal = c.args.journal.now in
-    let p = err_from_is_err_and c.from_residual.result c.from_residual.ensures.1 in
-    rw (p.1, p.2)
+    rw (refused-is c.from_residual.result _ c.from_residual.ensures.1)
     (wrote-proceeds g.L.Log journal c.write_counter.new.journal 1 (Put (Counter 0)) 1 (Err c.in_err-info.field-0.0) (g.met.L.Log.only_now journal.log) c.requires.ready c.requires.usable c.in_err-info.ensures)
 
 pub returns-clause-table : goal.returns-clause-table
@@ -27,4 +22,4 @@ returns-clause-table g c =
     let infos = c.push_reserved.ensures.items ∙ ap (λ (l : List CacheInfo). l ++ c.in_ok-info.info ∷ []) c.in-Ok-Ok.ensures'.items in
     own-table g.L.Log c.args.journal.now c.write_counter.new.journal 1 1 (Counter 0) c.in_ok-info.info c.in_ok-info.ensures pages c.reserve.new.self.items c.push_reserved-2.new.self.items _
     c.requires.table c.push_reserved-2.ensures.items c.reserve.ensures.items (sym c.requires.one) (omega arith) refl infos (λ chain makes. makes)
-    (own-two pages _ c.requires.one c.requires.table.own tt)
+    (own-two pages _ c.requires.one c.requires.table.hold.0 tt)

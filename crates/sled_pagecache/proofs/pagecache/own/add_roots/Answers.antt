@@ -1,11 +1,7 @@
-use Rattle.std.proofs.Common.{◌≡◌, [], ◌∷◌, ◌++◌, List, length, sym, refl, ap, ◌∙◌, arith, rules, Err}
-use Rattle.std.proofs.lemmas.Result.{err_from_is_err_and}
-use Rattle.sled_base.specs.declared.types.Refusal.TheVariants.{OutOfMemory}
-use Rattle.sled_log.specs.Contents.{Roots}
-use Rattle.sled_pagecache.specs.Loading.{told_of_roots}
-use Rattle.sled_pagecache.specs.declared.pagecache.chain.CacheInfo.{CacheInfo}
+use Rattle.sled_pagecache.proofs.Names.{◌≡◌, [], ◌∷◌, ◌++◌, List, length, sym, refl, ap, ◌∙◌, arith, rules, Err, OutOfMemory, Roots, told_of_roots, CacheInfo}
 use Rattle.sled_pagecache.proofs.Proceeding.{proceeds-none, proceeds-refused, proceeds-first}
 use Rattle.sled_pagecache.proofs.Starting.{wrote-roots, own-table, own-first}
+use Rattle.sled_pagecache.proofs.Refused.{refused-is}
 use Rattle.sled_pagecache.proofs.pagecache.own.add_roots.Goals as goal
 
 pub returns-in_default-clause-proceeds : goal.returns-in_default-clause-proceeds
@@ -17,11 +13,9 @@ returns-in_default-clause-proceeds g c =
 pub returns-in_err-info-clause-proceeds : goal.returns-in_err-info-clause-proceeds
 returns-in_err-info-clause-proceeds g c =
     let journal = c.args.journal.now in
-    let none : c.args.pages.now.items ≡ [] = search rules in
-    let p = err_from_is_err_and c.from_residual.result c.from_residual.ensures.1 in
-    rw (p.1, p.2)
+    rw (refused-is c.from_residual.result _ c.from_residual.ensures.1)
     (wrote-roots g.L.Log journal c.write_roots.new.journal 1 (Err c.in_err-info.field-0.0) c.default-roots.result c.args.pages.now.items (g.met.L.Log.only_now journal.log) c.requires.ready c.requires.usable
-    c.default-roots.ensures none c.in_err-info.ensures)
+    c.default-roots.ensures (search rules) c.in_err-info.ensures)
 
 pub returns-clause-table : goal.returns-clause-table
 returns-clause-table g c =

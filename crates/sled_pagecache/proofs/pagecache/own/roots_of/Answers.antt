@@ -1,4 +1,4 @@
-use Rattle.std.proofs.lemmas.Result.{IfErr-weaker}
+use Rattle.sled_pagecache.proofs.Names.{IfErr-weaker}
 use Rattle.sled_pagecache.proofs.FoundMessages.{refuses_so}
 use Rattle.sled_pagecache.proofs.OwnPages.{roots_spelled}
 use Rattle.sled_pagecache.proofs.pagecache.own.roots_of.Goals as goal

@@ -1,5 +1,4 @@
-use Rattle.std.proofs.Common.{◌≡◌, map, take}
-use Rattle.sled_pagecache.specs.ChainReads.{place_of}
+use Rattle.sled_pagecache.proofs.Names.{◌≡◌, map, take, place_of}
 use Rattle.sled_pagecache.proofs.pagecache.page.places.Given as goal
 
 abbrev pub invariant-loop-info : goal.invariant-loop-info

@@ -1,58 +1,56 @@
-use Rattle.sled_pagecache.proofs.Linking.{taken, refused, caused, read-at_most}
+use Rattle.sled_pagecache.proofs.Names.{rules, [], refl, ◌∙◌, Result, Ok, Err, err_from_is_err_and, OnErr}
+use Rattle.sled_pagecache.proofs.Linking.{taken, refused, begun, caused, read-at_most}
 use Rattle.sled_pagecache.proofs.pagecache.pull.pull_and_link.Goals as goal
 
-pub returns-then-is_err-clause-refused : goal.returns-then-is_err-clause-refused
-returns-then-is_err-clause-refused g c =
-    let read = c.in_ok-pull.ensures in
-    let done = c.link_page-outcome.ensures in
-    refused g.L.Log c.args.journal.now c.pull.new.journal c.link_page-outcome.new.journal c.args.pid c.args.page.now c.pull.new.page c.link_page-outcome.new.page c.args.link.now
-    read.went read.cause.fault read.same read.kept read.stamp read.infos read.resident c.link_page-outcome.result
-    done.refused done.went done.is_begun
+err-of : {T E P : Type 0} (result : Result T E) → P → OnErr result P
+err-of (Ok done) p = tt
+err-of (Err error) p = p
 
-pub returns-then-is_err-clause-cause : goal.returns-then-is_err-clause-cause
-returns-then-is_err-clause-cause g c =
+pub returns-then-is_err : goal.returns-then-is_err
+returns-then-is_err g c =
     let read = c.in_ok-pull.ensures in
     let done = c.link_page-outcome.ensures in
-    caused g.L.Log c.args.journal.now c.pull.new.journal c.link_page-outcome.new.journal c.args.pid c.args.page.now c.pull.new.page c.link_page-outcome.new.page c.args.link.now
-    read.went read.cause.fault read.same read.kept read.stamp read.infos read.resident c.link_page-outcome.result
-    done.refused read.room done.cause
+    let result = c.link_page-outcome.result in
+    record {
+      taken = search rules;
+      begun = err-of result (begun g.L.Log c.args.journal.now c.pull.new.journal c.link_page-outcome.new.journal c.args.pid c.args.page.now c.pull.new.page c.link_page-outcome.new.page c.args.link.now read.went read.cause.fault read.same read.kept read.stamp read.infos read.resident result done.went);
+      refused = λ known. refused g.L.Log c.args.journal.now c.pull.new.journal c.link_page-outcome.new.journal c.args.pid c.args.page.now c.pull.new.page c.link_page-outcome.new.page c.args.link.now read.went read.cause.fault read.same read.kept read.stamp read.infos read.resident known (read.free ∙ c.requires.full) (read.own c.requires.own) result (done.refused known) done.went done.is_begun;
+      tested = search rules;
+      cause = caused g.L.Log c.args.journal.now c.pull.new.journal c.link_page-outcome.new.journal c.args.pid c.args.page.now c.pull.new.page c.link_page-outcome.new.page c.args.link.now read.went read.cause.fault read.same read.kept read.stamp read.infos read.resident result done.refused read.room done.cause;
+      left = search rules;
+      same = search rules;
+      still = search rules;
+      free = search rules;
+      own = search rules;
+      unread = search rules;
+      reads = search rules;
+      kept_out = search rules;
+      at_most = read-at_most g.L.Log c.args.journal.now c.pull.new.journal c.link_page-outcome.new.journal c.args.pid c.args.page.now c.pull.new.page c.link_page-outcome.new.page c.args.link.now read.went read.cause.fault read.same read.kept read.stamp read.infos read.resident result read.unread read.reads done.reads;
+    }
 
-pub returns-then-is_err-clause-at_most : goal.returns-then-is_err-clause-at_most
-returns-then-is_err-clause-at_most g c =
+pub returns-else-was_away : goal.returns-else-was_away
+returns-else-was_away g c =
     let read = c.in_ok-pull.ensures in
     let done = c.link_page-outcome.ensures in
-    read-at_most g.L.Log c.args.journal.now c.pull.new.journal c.link_page-outcome.new.journal c.args.pid c.args.page.now c.pull.new.page c.link_page-outcome.new.page c.args.link.now
-    read.went read.cause.fault read.same read.kept read.stamp read.infos read.resident c.link_page-outcome.result
-    read.unread read.reads done.reads
+    let result = c.link_page-outcome.result in
+    record {
+      taken = taken g.L.Log c.args.journal.now c.pull.new.journal c.link_page-outcome.new.journal c.args.pid c.args.page.now c.pull.new.page c.link_page-outcome.new.page c.args.link.now read.went read.cause.fault read.same read.kept read.stamp read.infos read.resident result done.linked done.is done.went done.stamp done.kept done.len done.others done.sized;
+      begun = err-of result (begun g.L.Log c.args.journal.now c.pull.new.journal c.link_page-outcome.new.journal c.args.pid c.args.page.now c.pull.new.page c.link_page-outcome.new.page c.args.link.now read.went read.cause.fault read.same read.kept read.stamp read.infos read.resident result done.went);
+      refused = λ known. refused g.L.Log c.args.journal.now c.pull.new.journal c.link_page-outcome.new.journal c.args.pid c.args.page.now c.pull.new.page c.link_page-outcome.new.page c.args.link.now read.went read.cause.fault read.same read.kept read.stamp read.infos read.resident known (read.free ∙ c.requires.full) (read.own c.requires.own) result (done.refused known) done.went done.is_begun;
+      tested = search rules;
+      cause = caused g.L.Log c.args.journal.now c.pull.new.journal c.link_page-outcome.new.journal c.args.pid c.args.page.now c.pull.new.page c.link_page-outcome.new.page c.args.link.now read.went read.cause.fault read.same read.kept read.stamp read.infos read.resident result done.refused read.room done.cause;
+      left = search rules;
+      same = search rules;
+      still = search rules;
+      free = search rules;
+      own = search rules;
+      unread = search rules;
+      reads = search rules;
+      kept_out = search rules;
+      at_most = read-at_most g.L.Log c.args.journal.now c.pull.new.journal c.link_page-outcome.new.journal c.args.pid c.args.page.now c.pull.new.page c.link_page-outcome.new.page c.args.link.now read.went read.cause.fault read.same read.kept read.stamp read.infos read.resident result read.unread read.reads done.reads;
+    }
 
-pub returns-else-was_away-clause-taken : goal.returns-else-was_away-clause-taken
-returns-else-was_away-clause-taken g c =
-    let read = c.in_ok-pull.ensures in
-    let done = c.link_page-outcome.ensures in
-    taken g.L.Log c.args.journal.now c.pull.new.journal c.link_page-outcome.new.journal c.args.pid c.args.page.now c.pull.new.page c.link_page-outcome.new.page c.args.link.now
-    read.went read.cause.fault read.same read.kept read.stamp read.infos read.resident c.link_page-outcome.result
-    done.linked done.is done.went done.stamp done.kept done.len done.others done.sized
-
-pub returns-else-was_away-clause-refused : goal.returns-else-was_away-clause-refused
-returns-else-was_away-clause-refused g c =
-    let read = c.in_ok-pull.ensures in
-    let done = c.link_page-outcome.ensures in
-    refused g.L.Log c.args.journal.now c.pull.new.journal c.link_page-outcome.new.journal c.args.pid c.args.page.now c.pull.new.page c.link_page-outcome.new.page c.args.link.now
-    read.went read.cause.fault read.same read.kept read.stamp read.infos read.resident c.link_page-outcome.result
-    done.refused done.went done.is_begun
-
-pub returns-else-was_away-clause-cause : goal.returns-else-was_away-clause-cause
-returns-else-was_away-clause-cause g c =
-    let read = c.in_ok-pull.ensures in
-    let done = c.link_page-outcome.ensures in
-    caused g.L.Log c.args.journal.now c.pull.new.journal c.link_page-outcome.new.journal c.args.pid c.args.page.now c.pull.new.page c.link_page-outcome.new.page c.args.link.now
-    read.went read.cause.fault read.same read.kept read.stamp read.infos read.resident c.link_page-outcome.result
-    done.refused read.room done.cause
-
-pub returns-else-was_away-clause-at_most : goal.returns-else-was_away-clause-at_most
-returns-else-was_away-clause-at_most g c =
-    let read = c.in_ok-pull.ensures in
-    let done = c.link_page-outcome.ensures in
-    read-at_most g.L.Log c.args.journal.now c.pull.new.journal c.link_page-outcome.new.journal c.args.pid c.args.page.now c.pull.new.page c.link_page-outcome.new.page c.args.link.now
-    read.went read.cause.fault read.same read.kept read.stamp read.infos read.resident c.link_page-outcome.result
-    read.unread read.reads done.reads
+pub returns-in_err-pull-clause-begun : goal.returns-in_err-pull-clause-begun
+returns-in_err-pull-clause-begun g c =
+    let p = err_from_is_err_and c.from_residual.result c.from_residual.ensures.1 in
+    rw p.1 (record { came = []; marks = λ was. refl; went = c.in_err-pull.ensures.went })

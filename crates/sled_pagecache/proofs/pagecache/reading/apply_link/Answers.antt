@@ -1,5 +1,4 @@
-use Rattle.std.proofs.Common.{◌≡◌, true, false, refl, sym, ◌∙◌}
-use Rattle.sled_pagecache.specs.Reading.{told_of}
+use Rattle.sled_pagecache.proofs.Names.{◌≡◌, true, false, refl, sym, ◌∙◌, told_of}
 use Rattle.sled_pagecache.proofs.FoundMessages.{leads_nowhere}
 use Rattle.sled_pagecache.proofs.pagecache.reading.apply_link.Goals as goal
 

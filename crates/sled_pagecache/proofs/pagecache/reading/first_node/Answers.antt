@@ -1,4 +1,4 @@
-use Rattle.std.proofs.lemmas.Result.{IfErr-weaker}
+use Rattle.sled_pagecache.proofs.Names.{IfErr-weaker}
 use Rattle.sled_pagecache.proofs.FoundMessages.{refuses_so, node_spelled}
 use Rattle.sled_pagecache.proofs.pagecache.reading.first_node.Goals as goal
 

@@ -1,7 +1,4 @@
-use Rattle.std.proofs.Common.{◌+◌, map, take}
-use Rattle.sled_log.specs.Contents.{Node}
-use Rattle.sled_log.specs.Reading.{Makes}
-use Rattle.sled_pagecache.specs.Reading.{told_of}
+use Rattle.sled_pagecache.proofs.Names.{◌+◌, map, take, Node, Makes, told_of}
 use Rattle.sled_pagecache.proofs.pagecache.reading.node_of.Given as goal
 
 abbrev pub invariant-loop-found : goal.invariant-loop-found

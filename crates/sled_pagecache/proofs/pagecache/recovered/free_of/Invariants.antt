@@ -1,5 +1,4 @@
-use Rattle.std.proofs.Common.{◌≡◌, ◌++◌, drop}
-use Rattle.sled_pagecache.specs.Pages.{free_ids}
+use Rattle.sled_pagecache.proofs.Names.{◌≡◌, ◌++◌, drop, free_ids}
 use Rattle.sled_pagecache.proofs.pagecache.recovered.free_of.Given as goal
 
 abbrev pub invariant-loop-pid : goal.invariant-loop-pid

@@ -1,5 +1,4 @@
-use Rattle.std.proofs.Common.{◌≡◌, ◌∷◌, map, take}
-use Rattle.sled_pagecache.specs.Recovered.{info_at}
+use Rattle.sled_pagecache.proofs.Names.{◌≡◌, ◌∷◌, map, take, info_at}
 use Rattle.sled_pagecache.proofs.pagecache.recovered.infos_of.Given as goal
 
 abbrev pub invariant-loop-frag : goal.invariant-loop-frag

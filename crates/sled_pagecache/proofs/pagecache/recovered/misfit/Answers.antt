@@ -1,17 +1,12 @@
-use Rattle.std.proofs.Common.{◌≡◌, ◌<◌, ℕ, false, length, get_or, sym, ◌∙◌, below_more, rules}
+use Rattle.sled_pagecache.proofs.Names.{◌≡◌, ℕ, false, sym, ◌∙◌, below_more, rules, IfSome, is_misfit, Page}
 use Rattle.std.specs.List.{slice_get}
-use Rattle.std.specs.Option.{IfSome}
-use Rattle.sled_pagecache.specs.Recovered.{is_misfit}
-use Rattle.sled_pagecache.specs.declared.pagecache.page.Page.{Page}
 use Rattle.sled_pagecache.proofs.RecoveredPages.{fits-here, all-fit, begins-misfit}
 use Rattle.sled_pagecache.proofs.pagecache.recovered.misfit.Goals as goal
 
 pub returns-then-is_misfit : goal.returns-then-is_misfit
 returns-then-is_misfit c =
     let page = c.index-pages-pid.result in
-    let some : 0 < length page.infos.items = search rules in
-    let first : c.index.result.now ≡ get_or page.infos.items 0 c.index.result.now = search rules in
-    begins-misfit c.args.pages.now c.loop-pid.pid page c.index.result.now c.loop-pid-test.true c.index-pages-pid.is (sym c.is_misfit.ensures ∙ c.if-is_misfit.true) some first c.loop-pid.invariant
+    begins-misfit c.args.pages.now c.loop-pid.pid page c.index.result.now c.loop-pid-test.true c.index-pages-pid.is (sym c.is_misfit.ensures ∙ c.if-is_misfit.true) (search rules) (search rules) c.loop-pid.invariant
 
 pub loop-pid-preserved : goal.loop-pid-preserved
 loop-pid-preserved c =

@@ -1,9 +1,4 @@
-use Rattle.std.proofs.Common.{◌+◌, List, take, sym, subst, rules}
-use Rattle.std.proofs.lemmas.List.{take_all}
-use Rattle.std.specs.List.{AllZip}
-use Rattle.sled_base.specs.declared.types.page_state.PageState.{PageState}
-use Rattle.sled_pagecache.specs.Recovered.{IsRecovered}
-use Rattle.sled_pagecache.specs.declared.pagecache.page.Page.{Page}
+use Rattle.sled_pagecache.proofs.Names.{◌+◌, List, take, sym, subst, rules, take_all, AllZip, PageState, IsRecovered, Page}
 use Rattle.sled_pagecache.proofs.RecoveredPages.{all-loaded, all-unread, recovered-more}
 use Rattle.sled_pagecache.proofs.pagecache.recovered.pages_of.Goals as goal
 

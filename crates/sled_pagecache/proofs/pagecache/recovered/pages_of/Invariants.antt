@@ -1,6 +1,4 @@
-use Rattle.std.proofs.Common.{◌≡◌, ◌≤◌, take, length, vec_len, vec_capacity}
-use Rattle.std.specs.List.{AllZip}
-use Rattle.sled_pagecache.specs.Recovered.{IsRecovered}
+use Rattle.sled_pagecache.proofs.Names.{◌≡◌, ◌≤◌, take, length, vec_len, vec_capacity, AllZip, IsRecovered}
 use Rattle.sled_pagecache.proofs.pagecache.recovered.pages_of.Given as goal
 
 abbrev pub invariant-loop-state : goal.invariant-loop-state

@@ -1,14 +1,11 @@
-use Rattle.std.proofs.Common.{length, not, ap, arith}
-use Rattle.std.proofs.lemmas.Bool.{lt-ltb, le-ltb, le-leb}
-use Rattle.sled_log.specs.Messages.{effect_of_entry}
-use Rattle.sled_log.specs.State.{now}
+use Rattle.sled_pagecache.proofs.Names.{length, not, ap, arith, lt-ltb, le-ltb, le-leb, effect_of_entry, now}
 use Rattle.sled_pagecache.proofs.pagecache.swap.write_linked.Goals as goal
 
-pub write_link-requires-clause-tells : goal.write_link-requires-clause-tells
-write_link-requires-clause-tells g c = ap not c.requires.full
+pub write_link-requires-clause-can : goal.write_link-requires-clause-can
+write_link-requires-clause-can g c = λ told. ap not (c.requires.full told)
 
-pub write_node-requires-clause-tells : goal.write_node-requires-clause-tells
-write_node-requires-clause-tells g c = le-leb c.args.pid (length (now effect_of_entry (g.L.Log.state c.args.journal.now.log))) (let there = c.requires.there in omega (arith, there))
+pub write_node-requires-clause-can : goal.write_node-requires-clause-can
+write_node-requires-clause-can g c = λ told. le-leb c.args.pid (length (now effect_of_entry (g.L.Log.state c.args.journal.now.log))) (let there = c.requires.there told in omega (arith, there))
 
 pub returns-then-messages-lt-PAGE_CONSOLIDATION_THRESHOLD : goal.returns-then-messages-lt-PAGE_CONSOLIDATION_THRESHOLD
 returns-then-messages-lt-PAGE_CONSOLIDATION_THRESHOLD g c =

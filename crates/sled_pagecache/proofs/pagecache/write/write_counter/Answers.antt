@@ -1,5 +1,4 @@
-use Rattle.sled_log.specs.Contents.{Counter, Put}
-use Rattle.sled_log.specs.WritingLaws.{written-update}
+use Rattle.sled_pagecache.proofs.Names.{Counter, Put, written-update}
 use Rattle.sled_pagecache.proofs.pagecache.write.write_counter.Goals as goal
 
 pub returns : goal.returns

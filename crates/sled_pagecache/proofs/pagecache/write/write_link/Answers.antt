@@ -1,5 +1,4 @@
-use Rattle.sled_log.specs.Contents.{Link}
-use Rattle.sled_log.specs.WritingLaws.{written-update}
+use Rattle.sled_pagecache.proofs.Names.{Link, written-update}
 use Rattle.sled_pagecache.proofs.pagecache.write.write_link.Goals as goal
 
 pub returns-clause-is : goal.returns-clause-is

@@ -1,6 +1,4 @@
-use Rattle.std.proofs.Common.{◌<◌, ◌^◌, rules, subst}
-use Rattle.sled_log.specs.Contents.{Node, Put}
-use Rattle.sled_log.specs.WritingLaws.{written-update}
+use Rattle.sled_pagecache.proofs.Names.{◌<◌, ◌^◌, rules, subst, Node, Put, written-update}
 use Rattle.sled_pagecache.proofs.pagecache.write.write_node.Goals as goal
 
 pub write-requires-clause-can_write : goal.write-requires-clause-can_write

@@ -1,5 +1,4 @@
-use Rattle.sled_log.specs.Contents.{Roots, Put}
-use Rattle.sled_log.specs.WritingLaws.{written-update}
+use Rattle.sled_pagecache.proofs.Names.{Roots, Put, written-update}
 use Rattle.sled_pagecache.proofs.pagecache.write.write_roots.Goals as goal
 
 pub returns : goal.returns

@@ -16,6 +16,6 @@ returns-clause-called c =
 
 -- what became stable behind the call changed no page
 pub returns-clause-sized : goal.returns-clause-sized
-returns-clause-sized c =
+returns-clause-sized c = λ _.
     subst (λ (l : List Chain). OnOk c.append-said.result (AllByRecursion IsSized l))
     (sym (now-Adds effect_of_entry (state_of c.append-said.new.self) (state_of c.settle.new.log) [] c.settle.ensures.adds)) c.append-said.ensures.sized

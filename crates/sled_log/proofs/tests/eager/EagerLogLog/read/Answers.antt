@@ -1,4 +1,5 @@
-use Rattle.std.proofs.Common.{◌≤◌, ◌+◌, ◌^◌, ℕ, refl, subst}
+use Rattle.std.proofs.Common.{◌≤◌, ◌+◌, ℕ, refl, subst}
+use Rattle.sled_log.specs.Limits.{head_size, size_limit}
 use Rattle.sled_log.specs.declared.tests.eager.EagerLog.{EagerLog}
 use Rattle.sled_log.proofs.Eager.{called_eager}
 use Rattle.sled_log.proofs.tests.eager.EagerLogLog.read.Goals as goal
@@ -9,4 +10,4 @@ returns-clause-called c =
     called_eager (λ (log : EagerLog). log.log) c.args.self.now _ _ _ _ _ _ settled.adds settled.stop settled.counts (λ said. refl) c.read-found.ensures.called
 
 pub returns-clause-room : goal.returns-clause-room
-returns-clause-room c = λ n full. c.read-found.ensures.room n (subst (λ (k : ℕ). 2 ^ 63 ≤ k + 17 + n) c.settle.ensures.size full)
+returns-clause-room c = λ n full. c.read-found.ensures.room n (subst (λ (k : ℕ). size_limit ≤ k + head_size + n) c.settle.ensures.size full)

@@ -1,25 +1,16 @@
-use Rattle.std.proofs.Common.{◌≡◌, ◌<◌, ◌+◌, ◌-◌, ◌^◌, ℕ, List, [], ◌∷◌, ◌++◌, length, take, Some, None, Result, Err, sym, ap, subst, ◌∙◌, refl, arith}
-use Rattle.std.proofs.lemmas.Option.{slice_get_read, slice_get_within, same_Some}
-use Rattle.std.proofs.lemmas.Result.{err_from_is_err_and}
-use Rattle.std.specs.Prelude.{slice_get, slice_set}
-use Rattle.sled_base.specs.declared.types.Refusal.{Refusal}
-use Rattle.sled_log.specs.Contents.{Node, Put}
-use Rattle.sled_log.specs.Events.{Change}
-use Rattle.sled_log.specs.Writing.{message_of}
-use Rattle.sled_pagecache.proofs.Allocating.{read-last, ends-nowhere, last-at, last-kept, taken-last, free-from, adds-refused, adds-done, reuses-refused, reuses-done}
+use Rattle.sled_pagecache.proofs.Names.{◌≡◌, ◌<◌, ◌+◌, ◌-◌, ◌^◌, ℕ, List, [], ◌∷◌, ◌++◌, length, take, Some, None, Result, Err, rules, sym, ap, subst, ◌∙◌, refl, arith, slice_get_within, err_from_is_err_and, slice_get, slice_set, Refusal, Node, Put, Change, message_of, begun_by, is_free, RefusesSwap, IsConsistent, resident_in, stamps_in, token, pid_of, Page}
+use Rattle.sled_pagecache.proofs.Allocating.{read-last, ends-nowhere, last-at, last-read, last-found, last-same, taken-last, free-from, adds-refused, adds-done, reuses-refused, reuses-done}
+use Rattle.sled_pagecache.proofs.Answers.{keeps-err, keeps-ok, stamps-added, stamps-reused}
+use Rattle.sled_pagecache.proofs.CacheSteps.{steps-told}
+use Rattle.sled_pagecache.proofs.Lookups.{put-back}
 use Rattle.sled_pagecache.proofs.Putting.{blamed}
-use Rattle.sled_pagecache.proofs.Standing.{put-back, beside-long, resident-set, resident-add, one-short}
+use Rattle.sled_pagecache.proofs.Standing.{beside-long, resident-set, resident-add, one-short}
 use Rattle.sled_pagecache.proofs.Tables.{consistent-same, consistent-put, consistent-new, marks-begun, free-add}
-use Rattle.sled_pagecache.specs.Journal.{begun_by}
-use Rattle.sled_pagecache.specs.Pages.{is_free}
-use Rattle.sled_pagecache.specs.Swaps.{RefusesSwap}
-use Rattle.sled_pagecache.specs.Table.{IsConsistent, resident_in}
-use Rattle.sled_pagecache.specs.declared.pagecache.page.Page.{Page}
 use Rattle.sled_pagecache.proofs.pagecache.cache.PageCache.allocate.Goals as goal
 
 pub add_page-requires-clause-there : goal.add_page-requires-clause-there
 add_page-requires-clause-there g c =
-    beside-long g.L.Log.state c.self.inside.journal.log c.self.inside.pages.items (c.self.invariant.beside c.if-stuck.false)
+    beside-long g.L.Log.tells g.L.Log.state c.self.inside.journal.log c.self.inside.pages.items (c.self.invariant.beside c.if-stuck.false)
 
 pub invariant_of-self : goal.invariant_of-self
 invariant_of-self g c =
@@ -28,29 +19,9 @@ invariant_of-self g c =
     let refused = c.in_err-pid.ensures in
     let told : Result ℕ Refusal = Err c.in_err-pid.field-0.0 in
     rw refused.left
-    (consistent-same g.L.Log.state inside.journal c.add_page.new.journal table inside.free.items inside.free.items c.self.invariant c.if-stuck.false
+    (consistent-same g.L.Log.tells g.L.Log.state inside.journal c.add_page.new.journal table inside.free.items inside.free.items c.self.invariant c.if-stuck.false
     g.L.Log.moment g.L.Log.left_since g.L.Log.counts (begun_by told (Change (length table) (message_of (Put (Node c.args.node))) ∷ [])) refused.went
     (marks-begun told (length table) (message_of (Put (Node c.args.node)))) refused.same)
-
-pub returns-in_err-pid-clause-step : goal.returns-in_err-pid-clause-step
-returns-in_err-pid-clause-step g c =
-    let inside = c.self.inside in
-    let table = inside.pages.items in
-    let free = inside.free.items in
-    let nowhere : slice_get free (length free - 1) ≡ None = read-last c.deref.result.now free c.copied.result _ None c.deref.ensures.value c.last.ensures.value c.copied.ensures c.in_default.is in
-    let none : free ≡ [] = ends-nowhere free nowhere in
-    let refused = c.in_err-pid.ensures in
-    let p = err_from_is_err_and c.from_residual.result c.from_residual.ensures.1 in
-    rw (p.1, p.2, ← c.self.view_is)
-    (adds-refused g.L.Log inside.next inside.config inside.recovered inside.journal table free c.if-stuck.false c.self.invariant c.args.node c.add_page.new.journal c.add_page.new.pages.items refused.is
-    none refused.left c.in_err-pid.field-0.0 refused.refused refused.went refused.cause)
-
-pub returns-in_err-pid-clause-blame : goal.returns-in_err-pid-clause-blame
-returns-in_err-pid-clause-blame g c =
-    let inside = c.self.inside in
-    let p = err_from_is_err_and c.from_residual.result c.from_residual.ensures.1 in
-    rw (p.1, p.2, ← c.self.view_is)
-    (blamed g.L.Log inside.next inside.config inside.recovered inside.journal c.add_page.new.journal inside.pages.items c.add_page.new.pages.items _ c.in_err-pid.field-0.0 c.in_err-pid.ensures.cause)
 
 pub invariant_of-self-in_default : goal.invariant_of-self-in_default
 invariant_of-self-in_default g c =
@@ -59,152 +30,126 @@ invariant_of-self-in_default g c =
     let done = c.in_ok-pid.ensures in
     let added = done.page in
     let room : length table < 2 ^ 37 = let few = c.self.invariant.few in let not_all = done.room in omega (arith, few, not_all) in
-    subst (λ (l : List Page). IsConsistent g.L.Log.state c.add_page.new.journal l inside.free.items) (sym added.is)
-    (consistent-new g.L.Log.state inside.journal c.add_page.new.journal table inside.free.items inside.free.items c.self.invariant c.if-stuck.false
+    subst (λ (l : List Page). IsConsistent g.L.Log.tells g.L.Log.state c.add_page.new.journal l inside.free.items) (sym added.is)
+    (consistent-new g.L.Log.tells g.L.Log.state inside.journal c.add_page.new.journal table inside.free.items inside.free.items c.self.invariant c.if-stuck.false
     g.L.Log.moment g.L.Log.left_since g.L.Log.counts (length table) (message_of (Put (Node c.args.node))) done.went added.page c.args.node added.holds (one-short added.page added.stamps) added.kept done.sized
     room done.others (c.self.invariant.free ∙ sym (free-add 0 table added.page (ap is_free added.holds))))
 
-pub returns-in_default-clause-step : goal.returns-in_default-clause-step
-returns-in_default-clause-step g c =
+pub returns-in_err-pid : goal.returns-in_err-pid
+returns-in_err-pid g c =
+    let inside = c.self.inside in
+    let none : c.self.inside.free.items ≡ [] = ends-nowhere _ (read-last _ _ _ _ None c.deref.ensures.value c.last.ensures.value c.copied.ensures c.in_default.is) in
+    let refused = c.in_err-pid.ensures in
+    let refusal = c.in_err-pid.field-0.0 in
+    let p = err_from_is_err_and c.from_residual.result c.from_residual.ensures.1 in
+    rw (p.1, p.2, ← c.self.view_is) (record {
+      step = steps-told g.L.Log _ _ _ _ (record { config = refl; recovered = refl }) (λ told. adds-refused g.L.Log inside.next inside.config inside.recovered inside.journal inside.pages.items inside.free.items c.if-stuck.false c.self.invariant c.args.node c.add_page.new.journal c.add_page.new.pages.items refused.is
+          none refused.left refusal (refused.refused told) refused.went refused.cause);
+      blame = blamed g.L.Log _ _ _ refusal refused.cause;
+      unread = refused.reads;
+      keeps = keeps-err _ _ _ ℕ refusal c.if-stuck.false refused.cause.fault (ap stamps_in refused.left);
+      token = tt;
+      resident = tt;
+    })
+
+pub returns-in_default : goal.returns-in_default
+returns-in_default g c =
     let inside = c.self.inside in
     let table = inside.pages.items in
-    let free = inside.free.items in
-    let nowhere : slice_get free (length free - 1) ≡ None = read-last c.deref.result.now free c.copied.result _ None c.deref.ensures.value c.last.ensures.value c.copied.ensures c.in_default.is in
-    let none : free ≡ [] = ends-nowhere free nowhere in
+    let none : c.self.inside.free.items ≡ [] = ends-nowhere _ (read-last _ _ _ _ None c.deref.ensures.value c.last.ensures.value c.copied.ensures c.in_default.is) in
     let done = c.in_ok-pid.ensures in
     let added = done.page in
-    rw (← c.self.view_is)
-    (adds-done g.L.Log inside.next inside.config inside.recovered inside.journal table free c.if-stuck.false c.self.invariant c.args.node c.add_page.new.journal c.add_page.new.pages.items done.is
-    none done.room done.went done.cause.fault added.page added.stamp added.is c.in_ok-pid.pid done.pid c.new.result c.new.ensures)
-
-pub returns-in_default-clause-resident : goal.returns-in_default-clause-resident
-returns-in_default-clause-resident g c =
-    let table = c.self.inside.pages.items in
-    let done = c.in_ok-pid.ensures in
-    let added = done.page in
-    ap (λ (l : List Page). slice_get (resident_in l) c.in_ok-pid.pid) added.is ∙ ap (λ n. slice_get (resident_in (table ++ added.page ∷ [])) n) done.pid
-    ∙ resident-add table added.page c.args.node added.holds
+    let named : c.new.result ≡ token (length table) added.page.stamp = c.new.ensures ∙ ap (λ n. token n 1) done.pid ∙ ap (token (length table)) (sym added.stamp) in
+    let stamps = stamps-added table c.add_page.new.pages.items added.page c.new.result added.is named in
+    rw (← c.self.view_is) (record {
+      step = steps-told g.L.Log _ _ _ _ (record { config = refl; recovered = refl }) (λ told. adds-done g.L.Log inside.next inside.config inside.recovered inside.journal table inside.free.items c.if-stuck.false c.self.invariant c.args.node c.add_page.new.journal c.add_page.new.pages.items done.is
+          none done.room done.went done.cause.fault added.page added.stamp added.is c.in_ok-pid.pid done.pid c.new.result c.new.ensures);
+      blame = search rules;
+      unread = done.reads;
+      keeps = keeps-ok _ _ _ _ c.if-stuck.false done.cause.fault stamps.0;
+      token = (ap pid_of c.new.ensures, ap (slice_get (stamps_in c.add_page.new.pages.items)) done.pid ∙ stamps.1);
+      resident = ap (λ (l : List Page). slice_get (resident_in l) c.in_ok-pid.pid) added.is ∙ ap (λ n. slice_get (resident_in (table ++ added.page ∷ [])) n) done.pid ∙ resident-add table added.page c.args.node added.holds;
+    })
 
 pub index_mut-page-requires : goal.index_mut-page-requires
 index_mut-page-requires g c =
-    let inside = c.self.inside in
-    let table = inside.pages.items in
-    let free = inside.free.items in
     let pid = c.in-Some.pid in
-    let end : slice_get free (length free - 1) ≡ Some pid = read-last c.deref.result.now free c.copied.result _ (Some pid) c.deref.ensures.value c.last.ensures.value c.copied.ensures c.in-Some.is in
-    let front = take (length free - 1) free in
-    let last = last-kept table free pid c.self.invariant.free end in
-    let within = slice_get_within table pid last.page (last-at table front pid last) in
-    omega (arith, within, inside.pages.ok.0)
+    let last = last-read _ _ _ _ _ pid c.self.invariant.free c.deref.ensures.value c.last.ensures.value c.copied.ensures c.in-Some.is in
+    let within = slice_get_within c.self.inside.pages.items pid last.page (last-at _ _ pid last) in
+    omega (arith, within, c.self.inside.pages.ok.0)
 
 pub replace_page-requires-clause-there : goal.replace_page-requires-clause-there
-replace_page-requires-clause-there g c =
-    let inside = c.self.inside in
-    let table = inside.pages.items in
-    let free = inside.free.items in
+replace_page-requires-clause-there g c = λ told.
     let pid = c.in-Some.pid in
-    let end : slice_get free (length free - 1) ≡ Some pid = read-last c.deref.result.now free c.copied.result _ (Some pid) c.deref.ensures.value c.last.ensures.value c.copied.ensures c.in-Some.is in
-    let front = take (length free - 1) free in
-    let last = last-kept table free pid c.self.invariant.free end in
-    let within = slice_get_within table pid last.page (last-at table front pid last) in
-    let long = beside-long g.L.Log.state inside.journal.log table (c.self.invariant.beside c.if-stuck.false) in
+    let last = last-read _ _ _ _ _ pid c.self.invariant.free c.deref.ensures.value c.last.ensures.value c.copied.ensures c.in-Some.is in
+    let within = slice_get_within c.self.inside.pages.items pid last.page (last-at _ _ pid last) in
+    let long = beside-long g.L.Log.tells g.L.Log.state c.self.inside.journal.log c.self.inside.pages.items (c.self.invariant.beside c.if-stuck.false) told in
     omega (arith, within, long)
 
 pub invariant_of-self-in_err-replace_page : goal.invariant_of-self-in_err-replace_page
 invariant_of-self-in_err-replace_page g c =
     let inside = c.self.inside in
-    let table = inside.pages.items in
-    let free = inside.free.items in
     let pid = c.in-Some.pid in
-    let end : slice_get free (length free - 1) ≡ Some pid = read-last c.deref.result.now free c.copied.result _ (Some pid) c.deref.ensures.value c.last.ensures.value c.copied.ensures c.in-Some.is in
-    let front = take (length free - 1) free in
-    let last = last-kept table free pid c.self.invariant.free end in
-    let found = last-at table front pid last in
-    let q = c.index_mut-page.result.now in
-    let at : slice_get table pid ≡ Some q = slice_get_read table (length table) pid q refl (slice_get_within table pid last.page found) c.index_mut-page.ensures.value in
+    let last = last-read _ _ _ _ _ pid c.self.invariant.free c.deref.ensures.value c.last.ensures.value c.copied.ensures c.in-Some.is in
     let refused = c.in_err-replace_page.ensures in
-    let after = c.replace_page.new.page in
-    let back : slice_set table pid after ≡ table = put-back table pid after (at ∙ ap (λ page. Some page) (sym refused.left)) in
     let told : Result (Unit {0}) Refusal = Err c.in_err-replace_page.field-0.0 in
-    rw back
-    (consistent-same g.L.Log.state inside.journal c.replace_page.new.journal table free free c.self.invariant c.if-stuck.false
+    rw (put-back _ pid c.replace_page.new.page (last-found _ _ pid last c.index_mut-page.result.now c.index_mut-page.ensures.value ∙ ap (λ page. Some page) (sym refused.left)))
+    (consistent-same g.L.Log.tells g.L.Log.state inside.journal c.replace_page.new.journal inside.pages.items inside.free.items inside.free.items c.self.invariant c.if-stuck.false
     g.L.Log.moment g.L.Log.left_since g.L.Log.counts (begun_by told (Change pid (message_of (Put (Node c.args.node))) ∷ [])) refused.went
     (marks-begun told pid (message_of (Put (Node c.args.node)))) refused.same)
 
-pub returns-in_err-replace_page-clause-step : goal.returns-in_err-replace_page-clause-step
-returns-in_err-replace_page-clause-step g c =
+pub returns-in_err-replace_page : goal.returns-in_err-replace_page
+returns-in_err-replace_page g c =
     let inside = c.self.inside in
     let table = inside.pages.items in
-    let free = inside.free.items in
     let pid = c.in-Some.pid in
-    let end : slice_get free (length free - 1) ≡ Some pid = read-last c.deref.result.now free c.copied.result _ (Some pid) c.deref.ensures.value c.last.ensures.value c.copied.ensures c.in-Some.is in
-    let front = take (length free - 1) free in
-    let last = last-kept table free pid c.self.invariant.free end in
-    let found = last-at table front pid last in
+    let last = last-read _ _ _ _ _ pid c.self.invariant.free c.deref.ensures.value c.last.ensures.value c.copied.ensures c.in-Some.is in
     let q = c.index_mut-page.result.now in
-    let at : slice_get table pid ≡ Some q = slice_get_read table (length table) pid q refl (slice_get_within table pid last.page found) c.index_mut-page.ensures.value in
-    let same : last.page ≡ q = same_Some last.page q (sym found ∙ at) in
     let refused = c.in_err-replace_page.ensures in
+    let refusal = c.in_err-replace_page.field-0.0 in
     let after = c.replace_page.new.page in
-    let back : slice_set table pid after ≡ table = put-back table pid after (at ∙ ap (λ page. Some page) (sym refused.left)) in
+    let back : slice_set table pid after ≡ table = put-back _ pid after (last-found _ _ pid last q c.index_mut-page.ensures.value ∙ ap (λ page. Some page) (sym refused.left)) in
     let p = err_from_is_err_and c.from_residual-in_err-replace_page.result c.from_residual-in_err-replace_page.ensures.1 in
-    rw (p.1, p.2, ← c.self.view_is)
-    (reuses-refused g.L.Log inside.next inside.config inside.recovered inside.journal table free c.if-stuck.false c.self.invariant c.args.node c.replace_page.new.journal (slice_set table pid after) refused.is
-    front pid last back c.in_err-replace_page.field-0.0 (subst (λ (page : Page). RefusesSwap page.stamp c.in_err-replace_page.field-0.0) (sym same) refused.refused) refused.went refused.cause)
-
-pub returns-in_err-replace_page-clause-blame : goal.returns-in_err-replace_page-clause-blame
-returns-in_err-replace_page-clause-blame g c =
-    let inside = c.self.inside in
-    let p = err_from_is_err_and c.from_residual-in_err-replace_page.result c.from_residual-in_err-replace_page.ensures.1 in
-    rw (p.1, p.2, ← c.self.view_is)
-    (blamed g.L.Log inside.next inside.config inside.recovered inside.journal c.replace_page.new.journal inside.pages.items (slice_set inside.pages.items c.in-Some.pid c.replace_page.new.page) _ c.in_err-replace_page.field-0.0 c.in_err-replace_page.ensures.cause)
+    rw (p.1, p.2, ← c.self.view_is) (record {
+      step = steps-told g.L.Log _ _ _ _ (record { config = refl; recovered = refl }) (λ told. reuses-refused g.L.Log inside.next inside.config inside.recovered inside.journal table inside.free.items c.if-stuck.false c.self.invariant c.args.node c.replace_page.new.journal (slice_set table pid after) refused.is
+          _ pid last back refusal (subst (λ (page : Page). RefusesSwap page.stamp refusal) (sym (last-same _ _ pid last q c.index_mut-page.ensures.value)) (refused.refused told)) refused.went refused.cause);
+      blame = blamed g.L.Log _ _ _ refusal refused.cause;
+      unread = refused.reads;
+      keeps = keeps-err _ _ _ (Unit {0}) refusal c.if-stuck.false refused.cause.fault (ap stamps_in back);
+      token = tt;
+      resident = tt;
+    })
 
 pub invariant_of-self-2 : goal.invariant_of-self-2
 invariant_of-self-2 g c =
     let inside = c.self.inside in
-    let table = inside.pages.items in
-    let free = inside.free.items in
     let pid = c.in-Some.pid in
-    let end : slice_get free (length free - 1) ≡ Some pid = read-last c.deref.result.now free c.copied.result _ (Some pid) c.deref.ensures.value c.last.ensures.value c.copied.ensures c.in-Some.is in
-    let front = take (length free - 1) free in
-    let last = last-kept table free pid c.self.invariant.free end in
-    let found = last-at table front pid last in
-    let q = c.index_mut-page.result.now in
-    let at : slice_get table pid ≡ Some q = slice_get_read table (length table) pid q refl (slice_get_within table pid last.page found) c.index_mut-page.ensures.value in
+    let last = last-read _ _ _ _ _ pid c.self.invariant.free c.deref.ensures.value c.last.ensures.value c.copied.ensures c.in-Some.is in
     let done = c.in_ok-replace_page.ensures in
     let after = c.replace_page.new.page in
-    consistent-put g.L.Log.state inside.journal c.replace_page.new.journal table free c.pop.new.self.items c.self.invariant c.if-stuck.false
+    consistent-put g.L.Log.tells g.L.Log.state inside.journal c.replace_page.new.journal inside.pages.items inside.free.items c.pop.new.self.items c.self.invariant c.if-stuck.false
     g.L.Log.moment g.L.Log.left_since g.L.Log.counts pid (message_of (Put (Node c.args.node))) done.went after c.args.node done.holds (one-short after done.stamps) done.kept done.sized
-    (free-from table pid last.page c.self.invariant.own found last.free) done.others
-    (c.pop.ensures.rest ∙ ap (λ n. take (n - 1) free) inside.free.ok.0 ∙ taken-last table front pid last after (ap is_free done.holds))
+    (free-from _ pid last.page c.self.invariant.own (last-at _ _ pid last) last.free) done.others
+    (c.pop.ensures.rest ∙ ap (λ n. take (n - 1) inside.free.items) inside.free.ok.0 ∙ taken-last _ _ pid last after (ap is_free done.holds))
 
-pub returns-clause-step : goal.returns-clause-step
-returns-clause-step g c =
+pub returns : goal.returns
+returns g c =
     let inside = c.self.inside in
     let table = inside.pages.items in
-    let free = inside.free.items in
     let pid = c.in-Some.pid in
-    let end : slice_get free (length free - 1) ≡ Some pid = read-last c.deref.result.now free c.copied.result _ (Some pid) c.deref.ensures.value c.last.ensures.value c.copied.ensures c.in-Some.is in
-    let front = take (length free - 1) free in
-    let last = last-kept table free pid c.self.invariant.free end in
-    let found = last-at table front pid last in
+    let last = last-read _ _ _ _ _ pid c.self.invariant.free c.deref.ensures.value c.last.ensures.value c.copied.ensures c.in-Some.is in
+    let found = last-at _ _ pid last in
     let q = c.index_mut-page.result.now in
-    let at : slice_get table pid ≡ Some q = slice_get_read table (length table) pid q refl (slice_get_within table pid last.page found) c.index_mut-page.ensures.value in
-    let same : last.page ≡ q = same_Some last.page q (sym found ∙ at) in
     let done = c.in_ok-replace_page.ensures in
     let after = c.replace_page.new.page in
-    let stamp : q.stamp ≡ last.page.stamp = ap (λ (page : Page). page.stamp) (sym same) in
-    rw (← c.self.view_is)
-    (reuses-done g.L.Log inside.next inside.config inside.recovered inside.journal table free c.if-stuck.false c.self.invariant c.args.node c.replace_page.new.journal (slice_set table pid after) done.is
-    front pid last (λ greatest. let below = done.stamp.0 in omega (arith, below, greatest, stamp)) done.went done.cause.fault after (done.stamp.1 ∙ ap (λ n. n + 1) stamp) refl c.new-2.result c.new-2.ensures)
-
-pub returns-clause-resident : goal.returns-clause-resident
-returns-clause-resident g c =
-    let inside = c.self.inside in
-    let table = inside.pages.items in
-    let free = inside.free.items in
-    let pid = c.in-Some.pid in
-    let end : slice_get free (length free - 1) ≡ Some pid = read-last c.deref.result.now free c.copied.result _ (Some pid) c.deref.ensures.value c.last.ensures.value c.copied.ensures c.in-Some.is in
-    let front = take (length free - 1) free in
-    let last = last-kept table free pid c.self.invariant.free end in
-    resident-set table pid c.replace_page.new.page c.args.node (slice_get_within table pid last.page (last-at table front pid last)) c.in_ok-replace_page.ensures.holds
+    let stamp : q.stamp ≡ last.page.stamp = ap (λ (page : Page). page.stamp) (sym (last-same _ _ pid last q c.index_mut-page.ensures.value)) in
+    let stamps = stamps-reused table pid after last.page c.new-2.result found c.new-2.ensures in
+    rw (← c.self.view_is) (record {
+      step = steps-told g.L.Log _ _ _ _ (record { config = refl; recovered = refl }) (λ told. reuses-done g.L.Log inside.next inside.config inside.recovered inside.journal table inside.free.items c.if-stuck.false c.self.invariant c.args.node c.replace_page.new.journal (slice_set table pid after) done.is
+          _ pid last (λ greatest. let below = done.stamp.0 in omega (arith, below, greatest, stamp)) done.went done.cause.fault after (done.stamp.1 ∙ ap (λ n. n + 1) stamp) refl c.new-2.result c.new-2.ensures);
+      blame = search rules;
+      unread = done.reads;
+      keeps = keeps-ok _ _ _ _ c.if-stuck.false done.cause.fault stamps.0;
+      token = (ap pid_of c.new-2.ensures, stamps.1);
+      resident = resident-set _ pid after c.args.node (slice_get_within table pid last.page found) done.holds;
+    })

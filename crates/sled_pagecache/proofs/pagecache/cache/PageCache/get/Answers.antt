@@ -1,5 +1,4 @@
-use Rattle.std.proofs.Common.{refl}
-use Rattle.std.proofs.lemmas.Result.{err_from_is_err_and}
+use Rattle.sled_pagecache.proofs.Names.{refl, err_from_is_err_and}
 use Rattle.sled_pagecache.proofs.Getting.{got-found, got-refused}
 use Rattle.sled_pagecache.proofs.pagecache.cache.PageCache.get.Goals as goal
 

@@ -1,13 +1,5 @@
-use Rattle.std.proofs.Common.{◌≡◌, false, [], Some, Result, Ok, slice_get, slice_set, refl, sym, ◌∙◌, ap, subst, arith}
-use Rattle.std.proofs.lemmas.Option.{slice_get_read}
-use Rattle.std.specs.Prelude.{IsOk, OnErr}
-use Rattle.sled_base.specs.declared.types.Refusal.{Refusal}
+use Rattle.sled_pagecache.proofs.Names.{◌≡◌, false, [], Some, Result, Ok, slice_get, refl, sym, ◌∙◌, ap, subst, arith, slice_get_read, Refusal, BringsIn, is_reserved}
 use Rattle.sled_pagecache.proofs.PagingIn.{page-kept-at, page-own-at, same-consistent, brings-none, brings-pulled, kept_out-pulled, reads-pulled, part-pulled, always-pulled}
-use Rattle.sled_pagecache.proofs.TableNodes.{view}
-use Rattle.sled_pagecache.specs.Cache.{Cache, IsResident, IsAway}
-use Rattle.sled_pagecache.specs.PagesIn.{BringsIn}
-use Rattle.sled_pagecache.specs.Reads.{ReadsPage}
-use Rattle.sled_pagecache.specs.Step.{is_reserved}
 use Rattle.sled_pagecache.proofs.pagecache.cache.PageCache.page_in.Goals as goal
 
 pub pull-requires-clause-kept : goal.pull-requires-clause-kept
@@ -26,7 +18,7 @@ invariant_of-self g c =
     let at : slice_get inside.pages.items c.args.pid ≡ Some q = slice_get_read inside.pages.items _ c.args.pid q refl (omega (arith, c.if-pid-count.false, c.len-count.ensures)) c.index_mut-page.ensures.value in
     let done = c.pull.ensures in
     same-consistent g.L.Log inside.journal c.pull.new.journal inside.pages.items inside.free.items c.args.pid q c.pull.new.page c.self.invariant c.if-self.false behind at
-    [] done.went refl done.same (λ _. done.kept) done.infos done.free
+    [] done.went refl done.same (λ known _. done.kept known) done.infos done.free
     (done.own (page-own-at g.L.Log inside.journal inside.journal inside.pages.items inside.free.items c.args.pid q q c.self.invariant c.if-self.false behind at))
 
 pub returns-then-pid-count-clause-brings : goal.returns-then-pid-count-clause-brings
@@ -36,53 +28,23 @@ returns-then-pid-count-clause-brings g c =
     λ ready.
     subst (λ cache. BringsIn g.L.Log cache c.args.pid ok cache) c.self.view_is
     (brings-none g.L.Log inside.next inside.config inside.recovered inside.journal inside.pages.items inside.free.items c.args.pid c.self.invariant (sym c.is_reserved.ensures ∙ c.if-is_reserved.false) c.if-self.false
-    (omega (arith, c.if-pid-count.true, c.len-count.ensures)) (λ pages left. g.met.L.Log.only_now inside.journal.log pages left))
+    (omega (arith, c.if-pid-count.true, c.len-count.ensures)) (g.met.L.Log.only_now inside.journal.log))
 
-pub returns-clause-brings : goal.returns-clause-brings
-returns-clause-brings g c =
+pub returns : goal.returns
+returns g c =
     let inside = c.self.inside in
     let q = c.index_mut-page.result.now in
     let behind : is_reserved c.args.pid ≡ false = sym c.is_reserved.ensures ∙ c.if-is_reserved.false in
     let at : slice_get inside.pages.items c.args.pid ≡ Some q = slice_get_read inside.pages.items _ c.args.pid q refl (omega (arith, c.if-pid-count.false, c.len-count.ensures)) c.index_mut-page.ensures.value in
     let done = c.pull.ensures in
-    let new : Cache g.row.L.Denot = view inside.next inside.config inside.recovered c.pull.new.journal (slice_set inside.pages.items c.args.pid c.pull.new.page) in
-    λ ready.
-    subst (λ cache. BringsIn g.L.Log cache c.args.pid c.pull.result new) c.self.view_is
-    (brings-pulled g.L.Log inside.next inside.config inside.recovered inside.journal c.pull.new.journal inside.pages.items inside.free.items c.args.pid q c.pull.new.page c.self.invariant c.if-self.false behind at
-    c.pull.result done.same done.stamp done.resident done.err done.is_there done.went done.cause done.refused)
-
-pub returns-clause-kept_out : goal.returns-clause-kept_out
-returns-clause-kept_out g c =
-    let inside = c.self.inside in
-    let q = c.index_mut-page.result.now in
-    let behind : is_reserved c.args.pid ≡ false = sym c.is_reserved.ensures ∙ c.if-is_reserved.false in
-    let at : slice_get inside.pages.items c.args.pid ≡ Some q = slice_get_read inside.pages.items _ c.args.pid q refl (omega (arith, c.if-pid-count.false, c.len-count.ensures)) c.index_mut-page.ensures.value in
-    let done = c.pull.ensures in
-    let new : Cache g.row.L.Denot = view inside.next inside.config inside.recovered c.pull.new.journal (slice_set inside.pages.items c.args.pid c.pull.new.page) in
-    subst (λ cache. OnErr c.pull.result (IsAway cache c.args.pid → IsAway new c.args.pid)) c.self.view_is
-    (kept_out-pulled g.L.Log inside.next inside.config inside.recovered inside.journal c.pull.new.journal inside.pages.items inside.free.items c.args.pid q c.pull.new.page c.self.invariant c.if-self.false behind at
-    c.pull.result done.same done.stamp done.resident done.err done.is_there)
-
-pub returns-clause-reads : goal.returns-clause-reads
-returns-clause-reads g c =
-    let inside = c.self.inside in
-    let q = c.index_mut-page.result.now in
-    let behind : is_reserved c.args.pid ≡ false = sym c.is_reserved.ensures ∙ c.if-is_reserved.false in
-    let at : slice_get inside.pages.items c.args.pid ≡ Some q = slice_get_read inside.pages.items _ c.args.pid q refl (omega (arith, c.if-pid-count.false, c.len-count.ensures)) c.index_mut-page.ensures.value in
-    let done = c.pull.ensures in
-    let new : Cache g.row.L.Denot = view inside.next inside.config inside.recovered c.pull.new.journal (slice_set inside.pages.items c.args.pid c.pull.new.page) in
-    subst (λ cache. ReadsPage g.L.Log cache c.args.pid new) c.self.view_is
-    (reads-pulled g.L.Log inside.next inside.config inside.recovered inside.journal c.pull.new.journal inside.pages.items inside.free.items c.args.pid q c.pull.new.page c.self.invariant c.if-self.false behind at
-    c.pull.result (λ held. ap (λ journal. (g.L.Log.counts journal.log).reads) (done.unread held)) done.reads
-    (part-pulled q c.pull.new.page _ c.pull.result done.err done.at_most))
-
-pub returns-clause-always : goal.returns-clause-always
-returns-clause-always g c =
-    let inside = c.self.inside in
-    let q = c.index_mut-page.result.now in
-    let behind : is_reserved c.args.pid ≡ false = sym c.is_reserved.ensures ∙ c.if-is_reserved.false in
-    let at : slice_get inside.pages.items c.args.pid ≡ Some q = slice_get_read inside.pages.items _ c.args.pid q refl (omega (arith, c.if-pid-count.false, c.len-count.ensures)) c.index_mut-page.ensures.value in
-    let done = c.pull.ensures in
-    λ ready free.
-    subst (λ cache. IsResident cache c.args.pid → IsOk c.pull.result) c.self.view_is
-    (always-pulled g.L.Log inside.next inside.config inside.recovered inside.journal c.pull.new.journal inside.pages.items inside.free.items c.args.pid q c.pull.new.page c.self.invariant c.if-self.false behind at c.pull.result done.is_there)
+    rw (← c.self.view_is) (record {
+      stuck = λ kept. absurd (let clear = c.if-self.false in cc);
+      brings = λ ready. brings-pulled g.L.Log inside.next inside.config inside.recovered inside.journal c.pull.new.journal inside.pages.items inside.free.items c.args.pid q c.pull.new.page c.self.invariant c.if-self.false behind at
+          c.pull.result done.same done.stamp done.resident done.err done.is_there done.went done.cause done.kept
+          (done.own (page-own-at g.L.Log inside.journal inside.journal inside.pages.items inside.free.items c.args.pid q q c.self.invariant c.if-self.false behind at)) done.refused;
+      always = λ ready free. always-pulled g.L.Log inside.next inside.config inside.recovered inside.journal c.pull.new.journal inside.pages.items inside.free.items c.args.pid q c.pull.new.page c.self.invariant c.if-self.false behind at c.pull.result done.is_there;
+      reads = reads-pulled g.L.Log inside.next inside.config inside.recovered inside.journal c.pull.new.journal inside.pages.items inside.free.items c.args.pid q c.pull.new.page c.self.invariant c.if-self.false behind at
+          c.pull.result (λ held. ap (λ journal. (g.L.Log.counts journal.log).reads) (done.unread held)) done.reads (part-pulled q c.pull.new.page _ c.pull.result done.err done.at_most);
+      kept_out = kept_out-pulled g.L.Log inside.next inside.config inside.recovered inside.journal c.pull.new.journal inside.pages.items inside.free.items c.args.pid q c.pull.new.page c.self.invariant c.if-self.false behind at
+          c.pull.result done.same done.stamp done.resident done.err done.is_there;
+    })

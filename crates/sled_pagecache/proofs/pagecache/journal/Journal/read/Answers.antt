@@ -4,10 +4,10 @@ use Rattle.sled_pagecache.proofs.pagecache.journal.Journal.read.Goals as goal
 
 pub returns-clause-went : goal.returns-clause-went
 returns-clause-went g c =
-    Went-quiet g.L.Log.state g.L.Log.moment g.L.Log.left_since g.L.Log.counts c.args.self.now _ _ c.read-outcome.result c.read-outcome.ensures.called
+    Went-quiet g.L.Log.tells g.L.Log.state g.L.Log.moment g.L.Log.left_since g.L.Log.counts c.args.self.now _ _ c.read-outcome.result c.read-outcome.ensures.called
     (met c.args.self.now.fault c.told.new.fault (log_met_fault c.read-outcome.result) c.requires.ready c.told.ensures.kept)
 
 pub returns-clause-same : goal.returns-clause-same
 returns-clause-same g c =
-    stays g.L.Log.state g.L.Log.moment g.L.Log.left_since g.L.Log.counts c.args.self.now _ _ c.read-outcome.result c.read-outcome.ensures.called
+    stays g.L.Log.tells g.L.Log.state g.L.Log.moment g.L.Log.left_since g.L.Log.counts c.args.self.now _ _ c.read-outcome.result c.read-outcome.ensures.called
     (met c.args.self.now.fault c.told.new.fault (log_met_fault c.read-outcome.result) c.requires.ready c.told.ensures.kept)

@@ -1,6 +1,4 @@
-use Rattle.std.proofs.Common.{◌≡◌, ◌-◌, ◌<◌, length, map, take, drop, get_or, sym, ◌∙◌, arith, rules}
-use Rattle.std.proofs.lemmas.List.{length-drop, take_all}
-use Rattle.sled_pagecache.specs.ChainReads.{place_of}
+use Rattle.sled_pagecache.proofs.Names.{◌≡◌, ◌-◌, ◌<◌, length, map, take, drop, get_or, sym, ◌∙◌, arith, rules, length-drop, take_all, place_of}
 use Rattle.sled_pagecache.proofs.RecoveredPages.{said-all}
 use Rattle.sled_pagecache.proofs.pagecache.page.Page.to_page_state.Goals as goal
 

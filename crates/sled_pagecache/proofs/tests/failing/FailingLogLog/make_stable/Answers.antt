@@ -1,6 +1,4 @@
-use Rattle.std.proofs.Common.{◌==◌, refl, ◌∙◌, ap, arith}
-use Rattle.std.proofs.lemmas.Bool.{eqb-true}
-use Rattle.sled_log.specs.Calls.{one_more}
+use Rattle.sled_pagecache.proofs.Names.{◌==◌, refl, ◌∙◌, ap, arith, eqb-true, one_more}
 use Rattle.sled_pagecache.specs.declared.tests.failing.FailingLog.{FailingLog}
 use Rattle.sled_pagecache.proofs.Failing.{called_over, called_unwritten}
 use Rattle.sled_pagecache.proofs.tests.failing.FailingLogLog.make_stable.Goals as goal

@@ -1,4 +1,4 @@
-use Rattle.std.proofs.Common.{◌==◌, refl, arith}
+use Rattle.sled_pagecache.proofs.Names.{◌==◌, refl, arith}
 use Rattle.sled_pagecache.specs.declared.tests.failing.FailingLog.{FailingLog}
 use Rattle.sled_pagecache.proofs.Failing.{called_over}
 use Rattle.sled_pagecache.proofs.tests.failing.FailingLogLog.pin.Goals as goal

@@ -1,0 +1,62 @@
+-- What a call keeps, by what it told its log.
+use Rattle.sled_pagecache.proofs.Names.{◌≡◌, ◌<◌, ℕ, Bool, true, false, cond, List, [], ◌∷◌, ◌++◌, length, Some, Result, Ok, Err, slice_get, slice_set, refl, sym, ◌∙◌, ap, arith, eq-eqb, false≢true, ne_eqb, length-map, map-append, map-set, slice_get_within, error_of, Read, Write, Error, Refusal, Io, Keeps, stamped, Cache, stamps_in, Token, token, Page}
+use Rattle.sled_base.specs.declared.types.Error.TheVariants as errors
+use Rattle.sled_pagecache.proofs.Lookups.{map-at, set-at}
+use Rattle.sled_pagecache.specs.Answers.{is_write_fault}
+use Rattle.sled_pagecache.specs.Journal.{is_write_fault as met_fault}
+
+fault-same : (T U : Type 0) (refusal : Refusal) → (let err : Result T Refusal = Err refusal in met_fault err) ≡ (let answer : Result U Error = Err (error_of refusal) in is_write_fault answer)
+fault-same T U (Io Read) = refl
+fault-same T U (Io Write) = refl
+fault-same T U refusal = refl
+
+module _ {L T : Type 0} (old new : Cache L) (stamps : T → List ℕ) where
+  -- with a write fault kept
+  pub keeps-stuck : old.fault ≡ true → new ≡ old → Keeps old new (Err (errors.Io Write)) stamps
+  keeps-stuck kept same = rw same (record { fault = rw kept refl; stuck = λ _. (refl, refl); done = tt; refused = refl })
+
+  -- refused by what a log, or the cache, answers
+  pub keeps-err : (U : Type 0) (refusal : Refusal) → old.fault ≡ false → (let err : Result U Refusal = Err refusal in new.fault ≡ met_fault err) → new.stamps ≡ old.stamps
+      → Keeps old new (Err (error_of refusal)) stamps
+  keeps-err U refusal ready fault same = record {
+    fault = rw ready (fault ∙ fault-same U T refusal);
+    stuck = λ kept. absurd (false≢true (sym ready ∙ kept));
+    done = tt;
+    refused = same;
+  }
+
+  -- done
+  pub keeps-ok : (answer : T) → old.fault ≡ false → new.fault ≡ false → new.stamps ≡ stamps answer → Keeps old new (Ok answer) stamps
+  keeps-ok answer ready fault same = record {
+    fault = rw ready fault;
+    stuck = λ kept. absurd (false≢true (sym ready ∙ kept));
+    done = same;
+    refused = tt;
+  }
+
+-- ---- the stamps of an answered token
+
+pub stamps-added : (table pages : List Page) (page : Page) (t : Token) → pages ≡ table ++ page ∷ [] → t ≡ token (length table) page.stamp
+    → (stamps_in pages ≡ stamped (stamps_in table) t) × (slice_get (stamps_in pages) (length table) ≡ Some t.stamp)
+stamps-added table pages page t is named =
+    let long : length (stamps_in table) ≡ length table = length-map table (λ (p : Page). p.stamp) in
+    let more : stamps_in (table ++ page ∷ []) ≡ stamps_in table ++ page.stamp ∷ [] = map-append (λ (p : Page). p.stamp) table (page ∷ []) in
+    rw (is, named) (
+      more ∙ sym (ap (λ (b : Bool). cond b (stamps_in table ++ page.stamp ∷ []) (slice_set (stamps_in table) (length table) page.stamp)) (eq-eqb (length table) (length (stamps_in table)) (sym long))),
+      ap (λ (l : List ℕ). slice_get l (length table)) more ∙ ap (slice_get (stamps_in table ++ page.stamp ∷ [])) (sym long) ∙ at-end (stamps_in table) page.stamp,
+    )
+  where
+    at-end : (xs : List ℕ) (x : ℕ) → slice_get (xs ++ x ∷ []) (length xs) ≡ Some x
+    at-end [] x = refl
+    at-end (y ∷ xs) x = at-end xs x
+
+pub stamps-reused : (table : List Page) (pid : ℕ) (page q : Page) (t : Token) → slice_get table pid ≡ Some q → t ≡ token pid page.stamp
+    → (stamps_in (slice_set table pid page) ≡ stamped (stamps_in table) t) × (slice_get (stamps_in (slice_set table pid page)) pid ≡ Some t.stamp)
+stamps-reused table pid page q t at named =
+    let within : pid < length table = slice_get_within table pid q at in
+    let long : length (stamps_in table) ≡ length table = length-map table (λ (p : Page). p.stamp) in
+    rw named (
+      map-set (λ (p : Page). p.stamp) table pid page
+          ∙ sym (ap (λ (b : Bool). cond b (stamps_in table ++ page.stamp ∷ []) (slice_set (stamps_in table) pid page.stamp)) (ne_eqb pid (length (stamps_in table)) (λ last. omega (arith, within, long, last)))),
+      map-at (λ (p : Page). p.stamp) (slice_set table pid page) pid page (set-at table pid q page at),
+    )

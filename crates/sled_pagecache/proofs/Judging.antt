@@ -1,0 +1,133 @@
+-- What the tests of a swap answer is a step of the machine, for each call that makes them.
+use Rattle.sled_pagecache.proofs.Names.{◌≡◌, ◌<◌, ◌+◌, ℕ, Bool, true, false, List, [], length, Option, Some, None, Ok, Err, slice_get, slice_set, get_or, refl, sym, ◌∙◌, ap, subst, ne_eqb, map-set, slice_get_within, slice_get_read, MatchBool, Write, Error, Unsupported, Refusal, ReservedId, LogFull, Content, Told, effect_of, Ghosts, WholeNode, Keeps, swapped, Cache, Steps, has_begun_by, Went-none, Judges, IsJudged, State, page_at, Step, is_reserved, Swapped, SwapsPage, Swaps, LinksContent, ReplacesContent, stamps_in, IsBeside, Token, token, IsAnswered, Answer, Linked, Replaced, Call, Config, Journal, Judgement, Fresh, Stale, Gone, Page}
+use Rattle.sled_base.specs.Errors.{error_of as error_by}
+use Rattle.sled_base.specs.declared.types.Error.TheVariants.{Io}
+use Rattle.sled_base.specs.declared.types.Refusal.TheVariants as refusals
+use Rattle.sled_log.specs.State as log
+use Rattle.sled_node.specs.declared.node.link.Link.{Link as NodeLink}
+use Rattle.sled_pagecache.proofs.Answers.{keeps-ok}
+use Rattle.sled_pagecache.proofs.CacheSteps.{steps-stuck}
+use Rattle.sled_pagecache.proofs.Lookups.{map-at}
+use Rattle.sled_pagecache.proofs.Passing.{passes, stuck-passes, reserved-passes}
+use Rattle.sled_pagecache.proofs.Putting.{nothing-told}
+use Rattle.sled_pagecache.proofs.Standing.{AreKnown, found-known, found-none}
+use Rattle.sled_pagecache.proofs.TableNodes.{view}
+use Rattle.sled_pagecache.specs.Changes.{error_of}
+use Rattle.sled_pagecache.specs.Pages as kept
+use Rattle.sled_pagecache.specs.declared.pagecache.call.Call.TheVariants as call
+
+-- a call that tests its token, and goes on with the content of its page
+pub record IsSwap {R : Type 0} (old : Token) (rejected : R) (call : Call) (answered : Swapped R → Answer) (goes_on : State → Swapped R → State → Content → Type 0) : Type 0 where
+  pub step : (s : State) (answer : Swapped R) (t : State) → Swaps s old rejected answer t (goes_on s answer t) → Step s call (answered answer) t
+  pub error : (e : Error) → error_of (answered (Err e)) ≡ Some e
+  pub reserved : has_begun_by (answered (Err (Unsupported ReservedId))) ≡ false
+  pub handed : (back : Option (Token × R)) → (has_begun_by (answered (Ok (Err back))) ≡ false) × (error_of (answered (Ok (Err back))) ≡ None)
+
+pub link-swap : (old : Token) (link : NodeLink) → IsSwap old link (call.Link old link) Linked (λ s answer t. LinksContent s old link answer t)
+link-swap old link = record { step = λ s answer t h. h; error = λ e. refl; reserved = refl; handed = λ back. (refl, refl) }
+
+pub replace-swap : (old : Token) (node : WholeNode) → IsSwap old node (call.Replace old node) Replaced (λ s answer t content. ReplacesContent s old node answer t)
+replace-swap old node = record { step = λ s answer t h. h; error = λ e. refl; reserved = refl; handed = λ back. (refl, refl) }
+
+module _ {L : Type 0} (g : Ghosts L) (next : ℕ) (config : Config) (recovered : Bool) (journal : Journal L) (table : List Page) (beside : journal.fault ≡ false → IsBeside g.tells g.state journal.log table)
+    (only : (pages : List Told) → g.tells → (g.state journal.log).usable ≡ true → g.left_since journal.log (g.moment journal.log) pages → log.IsLeft effect_of (log.told_state (g.state journal.log)) [] pages)
+    {R : Type 0} (old : Token) (pid : ℕ) (same : old.pid ≡ pid) (rejected : R) (call : Call) (answered : Swapped R → Answer) (goes_on : State → Swapped R → State → Content → Type 0)
+    (swap : IsSwap old rejected call answered goes_on) where
+  abbrev cache : Cache L
+  cache = view next config recovered journal table
+
+  still : (answer : Swapped R) → journal.fault ≡ false → has_begun_by (answered answer) ≡ false → (error_of (answered answer) ≡ Some (Unsupported LogFull) → ⊥)
+      → ((s : State) → s.fault ≡ false → AreKnown s.pages table → Step s call (answered answer) s) → Steps g cache call (answered answer) cache
+  still answer ready quiet not_full step =
+      nothing-told g next config recovered journal table ready (beside ready) journal call table refl (answered answer)
+      (Went-none g.tells g.state g.moment g.left_since g.counts journal (beside ready).usable only) ready quiet step (λ s are said. absurd (not_full said))
+
+  -- a write fault was kept, or the page is the cache's own
+  pub judged-refused : (refusal : Refusal) → Judges journal.fault table pid old (Err refusal) → Steps g cache call (answered (Err (error_by refusal))) cache
+  judged-refused refusal judges = by journal.fault refl judges
+    where
+      by : (fault : Bool) → journal.fault ≡ fault → MatchBool fault (refusal ≡ refusals.Io Write) ((is_reserved pid ≡ true) × (refusal ≡ refusals.Unsupported ReservedId))
+          → Steps g cache call (answered (Err (error_by refusal))) cache
+      by true kept is =
+          rw is (steps-stuck g cache call (answered (Err (Io Write))) kept (λ said. (let h = sym (swap.error (Io Write)) ∙ said in absurd cc))
+          (λ s stuck. swap.step s (Err (Io Write)) s (stuck-passes s old.pid (λ a t. SwapsPage s old rejected (page_at s old.pid) a t (goes_on s a t)) stuck)))
+      by false ready (own, is) =
+          rw is (still (Err (Unsupported ReservedId)) ready swap.reserved (λ said. (let h = sym (swap.error (Unsupported ReservedId)) ∙ said in absurd cc))
+          (λ s clear are. swap.step s (Err (Unsupported ReservedId)) s
+          (reserved-passes s old.pid (λ a t. SwapsPage s old rejected (page_at s old.pid) a t (goes_on s a t)) clear (ap is_reserved same ∙ own))))
+
+  -- the token is handed back, or nothing is
+  module _ (back : Option (Token × R)) (free : is_reserved pid ≡ false) where
+    abbrev answer : Swapped R
+    answer = Ok (Err back)
+
+    handed : journal.fault ≡ false → ((s : State) → AreKnown s.pages table → SwapsPage s old rejected (page_at s pid) answer s (goes_on s answer s)) → Steps g cache call (answered answer) cache
+    handed ready is =
+        still answer ready (swap.handed back).0 (λ said. (let h = sym (swap.handed back).1 ∙ said in absurd cc))
+        (λ s clear are. swap.step s answer s
+        (passes s old.pid (λ a t. SwapsPage s old rejected (page_at s old.pid) a t (goes_on s a t)) answer s clear (ap is_reserved same ∙ free)
+        (subst (λ (n : ℕ). SwapsPage s old rejected (page_at s n) answer s (goes_on s answer s)) (sym same) (is s are))))
+
+  pub judged-gone : Judges journal.fault table pid old (Ok Gone) → Steps g cache call (answered (Ok (Err None))) cache
+  judged-gone (ready, free, judged) = handed None free ready (λ s are. by s are (slice_get table pid) refl judged)
+    where
+      by : (s : State) → AreKnown s.pages table → (o : Option Page) → slice_get table pid ≡ o → IsJudged o pid old Gone → SwapsPage s old rejected (page_at s pid) (Ok (Err None)) s (goes_on s (Ok (Err None)) s)
+      by s are None at judged = rw (found-none s.pages table pid are at) (refl, refl)
+      by s are (Some q) at judged = let found = found-known s.pages table pid q are at in rw (found.is, found.known.free, judged) (refl, refl)
+
+  pub judged-stale : (present : Token) → Judges journal.fault table pid old (Ok (Stale present)) → Steps g cache call (answered (Ok (Err (Some (present, rejected))))) cache
+  judged-stale present (ready, free, judged) = handed (Some (present, rejected)) free ready (λ s are. by s are (slice_get table pid) refl judged)
+    where
+      by : (s : State) → AreKnown s.pages table → (o : Option Page) → slice_get table pid ≡ o → IsJudged o pid old (Stale present)
+          → SwapsPage s old rejected (page_at s pid) (Ok (Err (Some (present, rejected)))) s (goes_on s (Ok (Err (Some (present, rejected)))) s)
+      by s are None at judged = absurd cc
+      by s are (Some q) at (full, other, is) =
+          let found = found-known s.pages table pid q are at in
+          rw (found.is, found.known.free, full, found.known.stamp, ne_eqb q.stamp old.stamp other, is, same) (refl, refl)
+
+-- ---- what was judged, in the words of the table
+
+pub judged-by : (fault : Bool) (pages table : List Page) (pid : ℕ) (old : Token) (judgement other : Judgement) → pages ≡ table → judgement ≡ other → Judges fault pages pid old (Ok judgement) → Judges fault table pid old (Ok other)
+judged-by fault pages table pid old judgement other same is judges =
+    subst (λ (l : List Page). Judges fault l pid old (Ok other)) same (subst (λ (j : Judgement). Judges fault pages pid old (Ok j)) is judges)
+
+-- the page that the token names, at its stamp
+pub record IsFresh (fault : Bool) (table : List Page) (pid : ℕ) (old : Token) (q : Page) : Type 0 where
+  pub clear : fault ≡ false
+  pub behind : is_reserved pid ≡ false
+  pub at : slice_get table pid ≡ Some q
+  pub full : kept.is_free q.kept ≡ false
+  pub stamp : q.stamp ≡ old.stamp
+
+module _ (fault : Bool) (table : List Page) (pid : ℕ) (old : Token) (fresh : Judges fault table pid old (Ok Fresh)) where
+  pub fresh-within : pid < length table
+  fresh-within = by (slice_get table pid) refl fresh.2
+    where
+      by : (o : Option Page) → slice_get table pid ≡ o → IsJudged o pid old Fresh → pid < length table
+      by None at judged = absurd cc
+      by (Some q) at judged = slice_get_within table pid q at
+
+  pub fresh-is : (q : Page) → q ≡ get_or table pid q → IsFresh fault table pid old q
+  fresh-is q read =
+      let at : slice_get table pid ≡ Some q = slice_get_read table (length table) pid q refl fresh-within read in
+      let found : IsJudged (Some q) pid old Fresh = subst (λ (o : Option Page). IsJudged o pid old Fresh) at fresh.2 in
+      record { clear = fresh.0; behind = fresh.1; at = at; full = found.0; stamp = found.1 }
+
+-- what was read there is that page
+pub fresh-at : (fault : Bool) (pages table : List Page) (pid : ℕ) (old : Token) (judgement : Judgement) (q : Page) → pages ≡ table → judgement ≡ Fresh → Judges fault pages pid old (Ok judgement) → q ≡ get_or table pid q
+    → IsFresh fault table pid old q
+fresh-at fault pages table pid old judgement q same is judges read = fresh-is fault table pid old (judged-by fault pages table pid old judgement Fresh same is judges) q read
+
+-- ---- what is known over any log
+
+module _ {L : Type 0} (next : ℕ) (config : Config) (recovered : Bool) (journal : Journal L) (table : List Page) (pid : ℕ) (old : Token) (q : Page) (fresh : IsFresh journal.fault table pid old q) where
+  -- the token's page was at its stamp
+  pub fresh-answered : old.pid ≡ pid → (R : Type 0) (given : R) → (made : Token) → made ≡ token old.pid (old.stamp + 1) → IsAnswered (stamps_in table) old given (Ok made)
+  fresh-answered same R given made is = (ap (slice_get (stamps_in table)) same ∙ map-at (λ (p : Page). p.stamp) table pid q fresh.at ∙ ap (λ n. Some n) fresh.stamp, is)
+
+  -- and has risen
+  pub keeps-fresh : (R : Type 0) (after : Journal L) (page : Page) → after.fault ≡ false → page.stamp ≡ q.stamp + 1 → (made : Token) → made ≡ token pid (old.stamp + 1)
+      → (let answer : Swapped R = Ok (Ok made) in Keeps (view next config recovered journal table) (view next config recovered after (slice_set table pid page)) answer (swapped (stamps_in table)))
+  keeps-fresh R after page free raised made is =
+      keeps-ok (view next config recovered journal table) (view next config recovered after (slice_set table pid page)) (swapped {R = R} (stamps_in table)) (Ok made) fresh.clear free
+      (rw is (map-set (λ (p : Page). p.stamp) table pid page ∙ ap (λ n. slice_set (stamps_in table) pid n) (raised ∙ ap (λ n. n + 1) fresh.stamp)))

@@ -1,0 +1,140 @@
+-- A link that is tested, and one of a damaged page.
+use Rattle.sled_pagecache.proofs.Names.{◌≡◌, inl, inr, ℕ, Bool, true, false, List, Option, Some, None, Result, Ok, Err, slice_get, slice_set, refl, sym, ◌∙◌, ap, subst, arith, false≢true, option_map, slice_get-map, none-some, same_Some, MatchBool, error_of, LinkRefused, Write, Refusal, ReportableBug, Io, Corruption, OutOfMemory, ReservedId, StampUsedUp, LogFull, is_empty, Node, Chain, told, effect_of_entry, Makes, one_content, Ghosts, Accepts, WholeNode, Cache, IsIn, IsResident, chain_at, ReportsWrong, MeetsDamage, ReportsDamage, Judges, IsJudged, IsTested, TestsFirst, RefusesUntold, TakesLink, RefusesTold, Logged, HoldsChain, is_resident, is_free, State, page, page_at, Swapped, is_reserved, RefusesLink, stamps_in, resident_in, IsFreeOrNode, IsConsistent, Token, Config, Journal, Judgement, Fresh, Stale, Gone, Kept}
+use Rattle.sled_base.specs.declared.types.Refusal.TheVariants.{Unsupported}
+use Rattle.sled_log.specs.State as log
+use Rattle.sled_node.specs.declared.node.link.Link.{Link as NodeLink}
+use Rattle.sled_pagecache.proofs.Held.{state-page}
+use Rattle.sled_pagecache.proofs.Judging.{IsFresh}
+use Rattle.sled_pagecache.proofs.Lookups.{map-at, kept-at, own-at, behind-own}
+use Rattle.sled_pagecache.proofs.PagingIn.{stamps-same}
+use Rattle.sled_pagecache.proofs.Standing.{node-full, kept-free}
+use Rattle.sled_pagecache.proofs.TableNodes.{view}
+use Rattle.sled_pagecache.specs.State.{Page}
+use Rattle.sled_pagecache.specs.declared.pagecache.page.Kept.TheVariants as kept
+use Rattle.sled_pagecache.specs.declared.pagecache.page.Page.{Page as KeptPage}
+
+no-stamp : (table : List KeptPage) (pid : ℕ) → slice_get table pid ≡ None → slice_get (stamps_in table) pid ≡ None
+no-stamp table pid none = slice_get-map (λ (q : KeptPage). q.stamp) table pid ∙ ap (option_map (λ (q : KeptPage). q.stamp)) none
+
+module _ {L : Type 0} (g : Ghosts L) (next : ℕ) (config : Config) (recovered : Bool) (before : Journal L) (pages : List KeptPage) (free : List ℕ) (pid : ℕ)
+    (c : IsConsistent g.tells g.state before pages free) (t : Token) where
+  abbrev old : Cache L
+  old = view next config recovered before pages
+
+  abbrev chain : Chain
+  chain = chain_at (g.state before.log) pid
+
+  -- the token of a page that has a content, at its stamp, is fresh
+  pub judged-fresh : (result : Result Judgement Refusal) → Judges before.fault pages pid t result
+      → g.tells → before.fault ≡ false → is_reserved pid ≡ false → is_empty effect_of_entry chain ≡ false → slice_get (stamps_in pages) pid ≡ Some t.stamp → result ≡ Ok Fresh
+  judged-fresh (Err refusal) judges known ready behind full stamp =
+      absurd (false≢true (sym behind ∙ (let h : MatchBool false (refusal ≡ Io Write) ((is_reserved pid ≡ true) × (refusal ≡ Unsupported ReservedId)) = subst (λ (b : Bool). MatchBool b (refusal ≡ Io Write) ((is_reserved pid ≡ true) × (refusal ≡ Unsupported ReservedId))) ready judges in h.0)))
+  judged-fresh (Ok judgement) judges known ready behind full stamp = by (slice_get pages pid) refl judgement judges.2
+    where
+      by : (o : Option KeptPage) → slice_get pages pid ≡ o → (judgement : Judgement) → IsJudged o pid t judgement → (let result : Result Judgement Refusal = Ok judgement in result ≡ Ok Fresh)
+      by None at judgement judged = absurd (none-some t.stamp (sym (no-stamp pages pid at) ∙ stamp))
+      by (Some q) at Fresh judged = refl
+      by (Some q) at (Stale present) judged = absurd (judged.1 (same_Some q.stamp t.stamp (sym (map-at (λ (p : KeptPage). p.stamp) pages pid q at) ∙ stamp)))
+      by (Some q) at Gone judged =
+          let holds = (kept-at (log.now effect_of_entry (g.state before.log)) pages pid q ((c.beside ready).kept known) at).holds in
+          absurd (false≢true (sym full ∙ kept-free chain q.kept holds ∙ judged))
+
+  pub damage-judged : (result : Result Judgement Refusal) → Judges before.fault pages pid t result → MeetsDamage g old pid → slice_get old.stamps pid ≡ Some t.stamp → result ≡ Ok Fresh
+  damage-judged result judges meets stamp = judged-fresh result judges meets.tells meets.ready meets.behind meets.damaged.0 stamp
+
+  -- ---- a state that the cache is in
+
+  module _ (same : t.pid ≡ pid) (held : Logged) (s : State) (node : WholeNode) (is : IsIn g old held s) (clear : s.fault ≡ false) (own : is_reserved t.pid ≡ false)
+      (there : page_at s t.pid ≡ Some (page t.stamp (Node node))) where
+    found : page_at s pid ≡ Some (page t.stamp (Node node))
+    found = ap (page_at s) (sym same) ∙ there
+
+    makes : Makes (told chain) (Node node)
+    makes = state-page g old held s is clear pid (page t.stamp (Node node)) found
+
+    tests-judged : (result : Result Judgement Refusal) → Judges before.fault pages pid t result → result ≡ Ok Fresh
+    tests-judged result judges =
+        judged-fresh result judges is.tells (sym is.fault ∙ clear) (ap is_reserved (sym same) ∙ own) (node-full chain node makes)
+        (sym (ap (λ (l : List ℕ). slice_get l pid) is.stamps) ∙ map-at (λ (p : Page). p.stamp) s.pages pid (page t.stamp (Node node)) found)
+
+  pub judged-tests : t.pid ≡ pid → (result : Result Judgement Refusal) → Judges before.fault pages pid t result → (result ≡ Ok Fresh → ⊥) → (link : NodeLink) (answer : Swapped NodeLink) → TestsFirst g old t link answer
+  judged-tests same result judges not link answer held s node is clear own resident there = absurd (not (tests-judged same held s node is clear own there result judges))
+
+  module _ (q : KeptPage) (fresh : IsFresh before.fault pages pid t q) (link : NodeLink) where
+    kept-own : IsFreeOrNode q.kept
+    kept-own = own-at pages pid q c.own (behind-own pid fresh.behind) fresh.at
+
+    kept-holds : g.tells → HoldsChain chain q.kept
+    kept-holds known = (kept-at (log.now effect_of_entry (g.state before.log)) pages pid q ((c.beside fresh.clear).kept known) fresh.at).holds
+
+    module _ (node : WholeNode) (made : Makes (told chain) (Node node)) where
+      same-node : (other : WholeNode) → Makes (told chain) (Node other) → other ≡ node
+      same-node other makes = (let e : Node other ≡ Node node = one_content (told chain) (Node other) (Node node) makes made in cc)
+
+      refused-by : (k : Kept) → HoldsChain chain k → IsFreeOrNode k → is_free k ≡ false → is_resident k ≡ true → (refusal : Refusal) → RefusesLink q.stamp k link refusal → IsTested node link t.stamp (Err (error_of refusal))
+      refused-by kept.Free holds own full resident refusal why = absurd (false≢true (sym full))
+      refused-by kept.Away holds own full resident refusal why = absurd (false≢true resident)
+      refused-by (kept.Node other) holds own full resident refusal (inl (not, is)) = record {
+        refused = λ _. ap (λ (r : Refusal). Err (error_of r)) is;
+        used_up = λ accepts. absurd (not (subst (λ (n : WholeNode). Accepts n link) (sym (same-node other holds)) accepts));
+      }
+      refused-by (kept.Node other) holds own full resident refusal (inr (accepts, inl (last, is))) = record {
+        refused = λ not. absurd (not (subst (λ (n : WholeNode). Accepts n link) (same-node other holds) accepts));
+        used_up = λ _ _. ap (λ (r : Refusal). Err (error_of r)) is;
+      }
+      refused-by (kept.Node other) holds own full resident refusal (inr (accepts, inr (below, of))) = record {
+        refused = λ not. absurd (not (subst (λ (n : WholeNode). Accepts n link) (same-node other holds) accepts));
+        used_up = λ _ last. absurd (below (fresh.stamp ∙ last));
+      }
+      refused-by k holds own full resident refusal why = absurd own
+
+    resident-kept : IsResident old t.pid → t.pid ≡ pid → is_resident q.kept ≡ true
+    resident-kept resident same =
+        same_Some (is_resident q.kept) true (sym (map-at (λ (p : KeptPage). is_resident p.kept) pages pid q fresh.at) ∙ ap (λ n. slice_get (resident_in pages) n) (sym same) ∙ resident)
+
+    -- a link that was refused
+    pub refused-tests : t.pid ≡ pid → (refusal : Refusal) → (g.tells → is_resident q.kept ≡ true → RefusesLink q.stamp q.kept link refusal) → TestsFirst g old t link (Err (error_of refusal))
+    refused-tests same refusal why held s node is clear own resident there =
+        let lies = resident-kept resident same in
+        refused-by node (makes same held s node is clear own there) q.kept (kept-holds is.tells) kept-own fresh.full lies refusal (why is.tells lies)
+
+    -- a link that was taken
+    pub taken-tests : t.pid ≡ pid → (after : Journal L) (page_then : KeptPage) → TakesLink g before pid q link after page_then → (answer : Swapped NodeLink) → TestsFirst g old t link answer
+    taken-tests same after page_then takes answer held s node is clear own resident there =
+        let one = same-node node (makes same held s node is clear own there) takes.tells.node (takes.tells.made is.tells) in
+        let below = takes.raised.0 in
+        let stamp = fresh.stamp in
+        record {
+          refused = λ not. absurd (not (subst (λ (n : WholeNode). Accepts n link) one takes.tells.accepts));
+          used_up = λ _ last. absurd (omega (arith, below, stamp, last));
+        }
+
+    -- ---- a damaged page
+
+    module _ (meets : MeetsDamage g old pid) (after : Journal L) (page_then : KeptPage) where
+      untold-wrong : (refusal : Refusal) → RefusesUntold chain q.stamp link refusal → ReportsWrong chain (error_of refusal)
+      untold-wrong OutOfMemory why = tt
+      untold-wrong (Io device) why = tt
+      untold-wrong (Corruption (Some pointer)) why = why
+      untold-wrong (ReportableBug LinkRefused) why = absurd (meets.damaged.1 (why.0, why.1))
+      untold-wrong (Unsupported StampUsedUp) why = absurd (meets.damaged.1 (why.0, why.1))
+      untold-wrong (Unsupported LogFull) why = absurd (meets.damaged.1 (why.0, why.1))
+      untold-wrong refusal why = absurd why
+
+      pub refused-damage : (refusal : Refusal) → RefusesTold g before pid q link after refusal → page_then.stamp ≡ q.stamp
+          → (g.tells → after.fault ≡ false → log.now effect_of_entry (g.state after.log) ≡ log.now effect_of_entry (g.state before.log))
+          → ReportsDamage g old pid (let answer : Swapped NodeLink = Err (error_of refusal) in answer) (view next config recovered after (slice_set pages pid page_then))
+      refused-damage refusal (inl (went, why)) stamp still = record {
+        reported = untold-wrong refusal why;
+        left = record {
+          opening = record { config = refl; recovered = refl };
+          stamps = stamps-same g next config recovered before after pages free pid q page_then c fresh.clear fresh.behind fresh.at stamp;
+          next = refl;
+          went = went;
+          same = still;
+        };
+      }
+      refused-damage refusal (inr (write, tells)) stamp still = absurd (meets.damaged.1 (tells.node, tells.made meets.tells))
+
+      pub taken-damage : TakesLink g before pid q link after page_then → ⊥
+      taken-damage takes = meets.damaged.1 (takes.tells.node, takes.tells.made meets.tells)

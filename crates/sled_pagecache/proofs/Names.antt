@@ -1,0 +1,110 @@
+-- The names that the proofs of this crate have in common.
+pub use Rattle.sled_base.specs.Errors.{error_of}
+pub use Rattle.sled_base.specs.Kinds.{log_kind_of}
+pub use Rattle.sled_base.specs.Payloads.Numbers.{ReadsU64}
+pub use Rattle.sled_base.specs.declared.kinds.LogKind.{LogKind}
+pub use Rattle.sled_base.specs.declared.kinds.MessageKind.{MessageKind}
+pub use Rattle.sled_base.specs.declared.types.Bug.TheVariants.{FreeInPull, LinkRefused}
+pub use Rattle.sled_base.specs.declared.types.Device.TheVariants.{Read, Write}
+pub use Rattle.sled_base.specs.declared.types.DiskPtr.{DiskPtr}
+pub use Rattle.sled_base.specs.declared.types.DiskPtr.TheVariants.{Blob, Inline}
+pub use Rattle.sled_base.specs.declared.types.Error.{Error}
+pub use Rattle.sled_base.specs.declared.types.Error.TheVariants.{Unsupported}
+pub use Rattle.sled_base.specs.declared.types.Refusal.{Refusal}
+pub use Rattle.sled_base.specs.declared.types.Refusal.TheVariants.{Corruption, Io, OutOfMemory, ReportableBug}
+pub use Rattle.sled_base.specs.declared.types.Why.{Why}
+pub use Rattle.sled_base.specs.declared.types.Why.TheVariants.{LogFull, PagesUsedUp, ReservedId, StampUsedUp}
+pub use Rattle.sled_base.specs.declared.types.page_state.PageState.{PageState}
+pub use Rattle.sled_log.specs.Batches.{is_open, open_after}
+pub use Rattle.sled_log.specs.Calls.{Called, Counts, HasGrown, one_more}
+pub use Rattle.sled_log.specs.Chains.{chains_after, chains_from, changed, is_chain, is_empty, is_freeing, is_linking, linked, may_follow}
+pub use Rattle.sled_log.specs.Contents.{Content, Counter, Damaged, Free, Link, Node, Put, Roots, Update, after_link, contents_after, contents_from, effect_of_update}
+pub use Rattle.sled_log.specs.Events.{Cancel, Change, Event, Pin, Seal, seen}
+pub use Rattle.sled_log.specs.HoldingLaws.{holds-added, holds-after, holds-made, may-tell}
+pub use Rattle.sled_log.specs.Items.{left_now}
+pub use Rattle.sled_log.specs.Laws.{Adds-none, IsLeft-more, StopsLeave-none, is_open-drop, now-Adds, open_after-append}
+pub use Rattle.sled_log.specs.Memory.{clock_of, counts_of, might_have_left, state_of}
+pub use Rattle.sled_log.specs.Messages.{Chain, Entry, Message, Told, blob_kind, effect_of, effect_of_entry, kind_at, message, message_in, placed, told}
+pub use Rattle.sled_log.specs.Pages.{IsAt, IsPageState, IsRead, IsSized, freed_of, said_of}
+pub use Rattle.sled_log.specs.Reading.{AreTold, Hold, Holds, IsUpdate, LeadTo, Makes, MayChange, Reads}
+pub use Rattle.sled_log.specs.ReadingLaws.{one_content, one_update, reads-fair, reads-open, reads_effect, told-append, told-take}
+pub use Rattle.sled_log.specs.RunLaws.{StopsLeave-weaker}
+pub use Rattle.sled_log.specs.ShapeLaws.{AreChains, chains-are}
+pub use Rattle.sled_log.specs.State.{IsBeginning, IsLeft, StopsLeave, now, told_state}
+pub use Rattle.sled_log.specs.TellingLaws.{Adds-told, is_open-told, now-told, told_events}
+pub use Rattle.sled_log.specs.Writing.{CanWrite, message_of}
+pub use Rattle.sled_log.specs.WritingLaws.{written-update}
+pub use Rattle.sled_log.specs.ZipLaws.{zip-append, zip-set}
+pub use Rattle.sled_log.specs.declared.log.Log.{Ghosts}
+pub use Rattle.sled_log.specs.declared.log.LogError.{LogError}
+pub use Rattle.sled_log.specs.declared.log.LogError.TheVariants.{ReadFault, WriteFault}
+pub use Rattle.sled_log.specs.declared.memory.MemLog.{MemLog}
+pub use Rattle.sled_node.specs.Links.{Accepts, applied}
+pub use Rattle.sled_node.specs.Node.{WholeNode}
+pub use Rattle.sled_node.specs.Payloads.Nodes.{ReadsNode}
+pub use Rattle.sled_node.specs.Payloads.Roots.{ReadsRoots}
+pub use Rattle.sled_pagecache.specs.Adding.{HasOneMore, RefusesPage}
+pub use Rattle.sled_pagecache.specs.Answers.{Keeps, stamped, swapped}
+pub use Rattle.sled_pagecache.specs.Cache.{Cache, IsAway, IsIn, IsResident, chain_length}
+pub use Rattle.sled_pagecache.specs.Calls.{HasNoRoom, IsBlamed, IsSameOpening, IsStep, Steps}
+pub use Rattle.sled_pagecache.specs.ChainReads.{IsFoundAs, chain_at, more, place_of}
+pub use Rattle.sled_pagecache.specs.Changes.{begun, changes_of, has_begun_by, link_update, link_update_at, written}
+pub use Rattle.sled_pagecache.specs.Damage.{MeetsDamage, ReportsDamage, ReportsWrong}
+pub use Rattle.sled_pagecache.specs.Journal.{IsCaused, IsOfLog, Went, begun_by, is_write_fault, told_by}
+pub use Rattle.sled_pagecache.specs.JournalLaws.{HasGrown-since, IsCaused-handed_on, IsCaused-since, Went-last, Went-none, Went-then, now-Went}
+pub use Rattle.sled_pagecache.specs.Judging.{IsJudged, Judges}
+pub use Rattle.sled_pagecache.specs.Lending.{IsGot}
+pub use Rattle.sled_pagecache.specs.Limits.{batch_manifest_pid, counter_pid, meta_pid}
+pub use Rattle.sled_pagecache.specs.LinkTests.{IsTested, TestsFirst}
+pub use Rattle.sled_pagecache.specs.LinkedPages.{HadNoRoom, RefusesTold, RefusesUntold, TakesLink, TellsLink, WasBegun, update_by}
+pub use Rattle.sled_pagecache.specs.Loading.{AreFound, AreOwnSoFar, AreRead, AreRecovered, IsLoaded, IsOpenedWith, IsTable, IsUnread, RefusesOwn, RefusesPages, counter_told, next_id, roots_told, stamps_at_start, told_at_start, told_of_roots}
+pub use Rattle.sled_pagecache.specs.Logged.{Adds, AreKept, IsLogged, Logged}
+pub use Rattle.sled_pagecache.specs.Opening.{changes_of_start, fault_of, first_id, missing, opened}
+pub use Rattle.sled_pagecache.specs.Pages.{HoldsChain, IsKept, free_ids, freed_at, is_free, is_resident}
+pub use Rattle.sled_pagecache.specs.PagesIn.{BringsIn, IsNodeAt, RefusesReading, journal_of}
+pub use Rattle.sled_pagecache.specs.Proceeding.{Comes, IsCutShort, LacksRoom, Proceeds, Reaches, TakesNoRoom, is_fault, refusal_in}
+pub use Rattle.sled_pagecache.specs.Proper.{AreRoots, IsProper, IsUsers, StayProper}
+pub use Rattle.sled_pagecache.specs.Pulling.{RefusesPull}
+pub use Rattle.sled_pagecache.specs.Reading.{BeginsFree, IsDamaged, IsFirstWrong, IsFoundWrong, IsWrongAt, Leads, MakesNode, RefusesMessage, RefusesNode, told_of}
+pub use Rattle.sled_pagecache.specs.Reads.{HasRead, ReadsNothing, ReadsPage, own_among}
+pub use Rattle.sled_pagecache.specs.Recovered.{AllFit, BeginsMisfit, IsRecovered, info_at, is_misfit, kept_by}
+pub use Rattle.sled_pagecache.specs.Reopening.{CrashReopens, Reopens, Started}
+pub use Rattle.sled_pagecache.specs.RowLaws.{left-more, made-row, row-none, row-one, row-then}
+pub use Rattle.sled_pagecache.specs.Stamps.{stamps_to}
+pub use Rattle.sled_pagecache.specs.Starting.{Starts}
+pub use Rattle.sled_pagecache.specs.Starts.{CrashLeaves, HasAdded, IsBlamedOpening, IsFit, IsHindrance, LacksRoomFor, MayBeOpened, Opens, RefusesOpening, WasFull, log_after, only_stable, only_stable_contents}
+pub use Rattle.sled_pagecache.specs.State.{State, contents_of, free_token, greatest_free, later, page, page_at, stamps_of, with_page}
+pub use Rattle.sled_pagecache.specs.Step.{Allocates, Does, Finds, FindsContent, IsCorruption, IsGone, IsHindered, IsRefused, IsSwapped, LinksContent, LinksNode, Replaces, ReplacesContent, Step, Swapped, Swaps, SwapsPage, UnlessFaulty, UnlessReserved, UnlessStale, is_reserved}
+pub use Rattle.sled_pagecache.specs.Swaps.{IsLinked, IsRaised, RefusesLink, RefusesSwap, Wrote, infos_after, linked_length, update_of, written_by}
+pub use Rattle.sled_pagecache.specs.Table.{AreOwn, IsBeside, IsConsistent, IsCounter, IsFreeOrNode, IsRoots, resident_in, stamps_in}
+pub use Rattle.sled_pagecache.specs.Token.{IsAnswered, Token, pid_of, token}
+pub use Rattle.sled_pagecache.specs.declared.pagecache.call.Answer.{Answer}
+pub use Rattle.sled_pagecache.specs.declared.pagecache.call.Answer.TheVariants.{Allocated, Flushed, Got, Linked, Replaced, Sized}
+pub use Rattle.sled_pagecache.specs.declared.pagecache.call.Call.{Call}
+pub use Rattle.sled_pagecache.specs.declared.pagecache.call.Call.TheVariants.{Allocate, Flush, Get, Replace, SizeOnDisk}
+pub use Rattle.sled_pagecache.specs.declared.pagecache.chain.CacheInfo.{CacheInfo}
+pub use Rattle.sled_pagecache.specs.declared.pagecache.config.Config.{Config}
+pub use Rattle.sled_pagecache.specs.declared.pagecache.journal.Journal.{Journal}
+pub use Rattle.sled_pagecache.specs.declared.pagecache.judge.Judgement.{Judgement}
+pub use Rattle.sled_pagecache.specs.declared.pagecache.judge.Judgement.TheVariants.{Fresh, Gone, Stale}
+pub use Rattle.sled_pagecache.specs.declared.pagecache.page.Kept.{Kept}
+pub use Rattle.sled_pagecache.specs.declared.pagecache.page.Page.{Page}
+pub use Rattle.sled_pagecache.specs.declared.pagecache.reading.Found.{Found}
+pub use Rattle.sled_pagecache.specs.declared.pagecache.view.NodeView.{NodeView}
+pub use Rattle.std.proofs.Common.{Bool, Err, List, None, Ok, Option, Result, SFits, Some, [], add-one, ap, arith, below_more, cond, drop, eq-eqb, false, get_or, inl, inr, is_some, length, ltb, map, not, of_z, pos, refl, rules, set, slice_get, slice_index_or, slice_set, subst, suc, sym, take, to_z, true, vec_capacity, vec_len, w64, zero, zero-add, ℕ, ℤ, ⊎_elim, ◌&&◌, ◌++◌, ◌+◌, ◌-◌, ◌<◌, ◌==◌, ◌^◌, ◌||◌, ◌∙◌, ◌∷◌, ◌≡◌, ◌≢◌, ◌≤◌, ◌⊎◌}
+pub use Rattle.std.proofs.Math.ListN.{get_or-map}
+pub use Rattle.std.proofs.Math.Seq.{drop-append_seam, drop-nil, take-append_seam, take-nil}
+pub use Rattle.std.proofs.lemmas.Bool.{eqb-false, eqb-true, false_from_ne_true, false≢true, le-leb, le-ltb, lt-ltb, ltb-true, ne_eqb, or_parts, true≢false}
+pub use Rattle.std.proofs.lemmas.Bool.Decides.{nat_tests}
+pub use Rattle.std.proofs.lemmas.Grind.{get_or_after_one}
+pub use Rattle.std.proofs.lemmas.Int.{to_z-of_z}
+pub use Rattle.std.proofs.lemmas.List.{append-nil, append_assoc, drop-map, drop_more, get_or-set_same, get_or_default, get_or_past, length-append, length-drop, length-map, length-set, map-append, map-set, set-get_or, take-append-drop, take-map, take_all, take_more}
+pub use Rattle.std.proofs.lemmas.List.Quantifiers.{Any-push}
+pub use Rattle.std.proofs.lemmas.List.Sums.{sum_by-cons}
+pub use Rattle.std.proofs.lemmas.Option.{get_or_from_slice_get, none-some, same_Some, slice_get-get_or, slice_get-map, slice_get_cases, slice_get_past, slice_get_read, slice_get_within}
+pub use Rattle.std.proofs.lemmas.Result.{IfErr-weaker, IfOk-weaker, err_from_is_err_and, on_err_weaker, on_ok_weaker}
+pub use Rattle.std.proofs.lemmas.Slice.Zip.{AllZip-long}
+pub use Rattle.std.specs.List.{All, AllByRecursion, AllZip, Any, list_all, sum_by}
+pub use Rattle.std.specs.Option.{IfSome, option_map}
+pub use Rattle.std.specs.Prelude.{IfErr, IfOk, IsErrOf, IsOk, MatchBool, OnErr, OnOk, ⊤}
+pub use Rattle.std.specs.Result.{IsErrAnd}

@@ -1,0 +1,30 @@
+-- What is known of a call's answer over any log, whether or not its device tells its bytes.
+use Rattle.std.specs.Prelude.{◌≡◌, ◌==◌, ◌||◌, ℕ, Bool, true, false, List, [], ◌∷◌, ◌++◌, length, Option, Result, Ok, Err, IfOk, OnErr, IsErrOf, slice_set, if◌then◌else◌}
+use Rattle.sled_base.specs.declared.types.Device.TheVariants.{Write}
+use Rattle.sled_base.specs.declared.types.Error.{Error}
+use Rattle.sled_base.specs.declared.types.Error.TheVariants.{Io}
+use Rattle.sled_pagecache.specs.Cache.{Cache}
+use Rattle.sled_pagecache.specs.Token.{Token}
+
+-- whether the answer is a write fault
+abbrev pub is_write_fault : {T : Type 0} → Result T Error → Bool
+is_write_fault (Ok answer) = false
+is_write_fault (Err (Io Write)) = true
+is_write_fault (Err other) = false
+
+-- A write fault is sticky, and with one kept it is the answer, and nothing changes. Where the call is done the stamps are these,
+-- and an error leaves them unchanged.
+pub record Keeps {L T : Type 0} (old new : Cache L) (result : Result T Error) (stamps : T → List ℕ) : Type 0 where
+  pub fault : new.fault ≡ (old.fault || is_write_fault result)
+  pub stuck : old.fault ≡ true → IsErrOf result (Io Write) × (new ≡ old)
+  pub done : IfOk result (λ answer. new.stamps ≡ stamps answer)
+  pub refused : OnErr result (new.stamps ≡ old.stamps)
+
+-- the stamps with that of a token, whose page is one of them or the next new one
+abbrev pub stamped : List ℕ → Token → List ℕ
+stamped stamps token = if token.pid == length stamps then stamps ++ token.stamp ∷ [] else slice_set stamps token.pid token.stamp
+
+-- the stamps after a swap
+abbrev pub swapped : {R : Type 0} → List ℕ → Result Token (Option (Token × R)) → List ℕ
+swapped stamps (Ok made) = slice_set stamps made.pid made.stamp
+swapped stamps (Err back) = stamps

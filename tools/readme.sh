@@ -1,0 +1,125 @@
+#!/bin/sh
+# Compares README.md with the code, word for word, and prints what differs:
+#
+# - each block of Rust stands at the head of a file of crates/sledpc/src/tests/readme, which is named as its function is
+#   and has a test behind it, and each of these files has its block;
+# - each session of the program `./sledpc` stands in the run that the gate makes of it: its words in crates/sledpc/args,
+#   its input in crates/sledpc/stdin, and its replies at the same lines of crates/sledpc/stdout;
+# - each other command of a session is there.
+#
+# The status is 0 where nothing differs, and else 1.
+set -eu
+
+cd "$(CDPATH='' cd -- "$(dirname -- "$0")/.." && pwd)"
+page=README.md
+examples=crates/sledpc/src/tests/readme
+run=crates/sledpc
+work=$(mktemp -d)
+trap 'rm -rf "$work"' EXIT
+trap 'exit 1' HUP INT TERM
+status=0
+
+differ() {
+    printf '%s: %s\n' "$page" "$1"
+    status=1
+}
+
+# Cuts the page into files, in order: NUMBER.rust for a block of Rust, NUMBER.COUNT.command for a command of a session and
+# NUMBER.COUNT.replies for what stands below it.
+cut_page() {
+    awk -v work="$work" '
+        /^```/ && !inside { inside = 1; number++; kind = substr($0, 4); count = 0; next }
+        /^```/ { inside = 0; next }
+        !inside { next }
+        kind == "rust" { print > sprintf("%s/%03d.rust", work, number); next }
+        kind != "" && kind != "console" && kind != "sh" { next }
+        /^\$ / { count++; print substr($0, 3) > sprintf("%s/%03d.%03d.command", work, number, count); next }
+        count > 0 { print > sprintf("%s/%03d.%03d.replies", work, number, count); next }
+        { print "'"$page"': a session begins with no command: " $0 > (work "/faults") }
+        END { if (inside) print "'"$page"': a block has no end" > (work "/faults") }
+    ' "$page"
+}
+
+compare_rust() {
+    for block in "$work"/*.rust; do
+        [ -e "$block" ] || continue
+        name=$(sed -n 's/^\(pub \)\{0,1\}fn \([a-z0-9_]*\).*/\2/p' "$block" | head -n 1)
+        file=$examples/$name.rt
+        if [ -z "$name" ] || [ ! -f "$file" ]; then
+            differ "no file $file has the block that begins so: $(head -n 1 "$block")"
+            continue
+        fi
+        : >"$work/$name.has_block"
+        grep -q '^#\[test\]$' "$file" || differ "no test in $file runs its block"
+        head -n "$(wc -l <"$block")" "$file" >"$work/head"
+        if ! diff "$block" "$work/head" >"$work/diff"; then
+            differ "the block of \`$name\` (<) differs from $file (>):"
+            cat "$work/diff"
+        fi
+    done
+    for file in "$examples"/*.rt; do
+        [ -e "$work/$(basename "$file" .rt).has_block" ] || differ "no block has $file"
+    done
+}
+
+# Compares one run of the program: $1 is what is printed to it, $2 its words, $3 the file of what it replies.
+compare_run() {
+    if [ "$2" != "$(tr '\n' ' ' <"$run/args" | sed 's/ *$//')" ]; then
+        differ "the words '$2' aren't those of $run/args"
+    fi
+    printf '%b' "$1" >"$work/input"
+    first=$(awk '
+        NR == FNR { wanted[++count] = $0; next }
+        { line[FNR] = $0; lines = FNR }
+        END {
+            for (at = 1; at + count - 1 <= lines; at++) {
+                for (i = 1; i <= count && line[at + i - 1] == wanted[i]; i++) { }
+                if (i > count) { print at; exit }
+            }
+        }
+    ' "$work/input" "$run/stdin")
+    if [ -z "$first" ]; then
+        differ "these lines don't stand in $run/stdin:"
+        cat "$work/input"
+        return
+    fi
+    # What the script `sledpc` says of its building comes between the replies.
+    grep '^sledpc: ' "$3" | while read -r said; do
+        grep -qF "echo '$said'" sledpc || echo "$page: the script sledpc doesn't say '$said'" >>"$work/faults"
+    done
+    sed '/^sledpc: /d' "$3" >"$work/replies"
+    sed -n "$first,$((first + $(wc -l <"$work/input") - 1))p" "$run/stdout" >"$work/stdout"
+    if ! diff "$work/replies" "$work/stdout" >"$work/diff"; then
+        differ "the replies to '$1' (<) differ from $run/stdout (>):"
+        cat "$work/diff"
+    fi
+}
+
+compare_sessions() {
+    for command in "$work"/*.command; do
+        [ -e "$command" ] || continue
+        replies=${command%.command}.replies
+        [ -e "$replies" ] || : >"$replies"
+        text=$(cat "$command")
+        case $text in
+        "printf '"*"' | ./sledpc "*)
+            text=${text#"printf '"}
+            compare_run "${text%"' | ./sledpc "*}" "${text##*"' | ./sledpc "}" "$replies"
+            ;;
+        ./* | .ci/* | tools/*)
+            [ -x "${text%% *}" ] || differ "there is no command ${text%% *}"
+            ;;
+        "rt "*) ;;
+        *) differ "nothing is known of the command '$text'" ;;
+        esac
+    done
+}
+
+cut_page
+compare_rust
+compare_sessions
+if [ -s "$work/faults" ]; then
+    cat "$work/faults"
+    status=1
+fi
+exit $status
