@@ -1,7 +1,7 @@
 -- Allocating a page, as a step of the machine.
-use Rattle.sled_pagecache.proofs.Names.{◌≡◌, ◌≢◌, inl, inr, ◌≤◌, ◌<◌, ◌+◌, ◌-◌, ◌^◌, ℕ, zero, suc, Bool, true, false, cond, List, [], ◌∷◌, ◌++◌, length, take, Option, Some, None, Result, Ok, Err, slice_get, slice_set, get_or, refl, sym, ◌∙◌, ap, subst, arith, eq-eqb, ne_eqb, false≢true, none-some, same_Some, slice_get-get_or, slice_get_within, slice_get_read, Error, Unsupported, Refusal, PagesUsedUp, StampUsedUp, Node, Put, Change, IsUpdate, message_of, Ghosts, WholeNode, RefusesPage, Cache, chain_length, IsIn, Steps, written, Went, IsCaused, begun_by, Logged, free_ids, page, State, with_page, free_token, later, greatest_free, Does, Allocates, RefusesSwap, IsRoots, IsCounter, AreOwn, IsBeside, IsConsistent, Token, token, Allocated, Allocate, Config, Journal, Kept}
+use Rattle.sled_pagecache.proofs.Names.{◌≡◌, ◌≢◌, ◌⊎◌, inl, inr, ⊎_elim, ◌≤◌, ◌<◌, ◌+◌, ◌-◌, ◌^◌, ℕ, zero, suc, Bool, true, false, cond, List, [], ◌∷◌, ◌++◌, length, take, Option, Some, None, Result, Ok, Err, slice_get, slice_set, get_or, refl, sym, ◌∙◌, ap, subst, arith, eq-eqb, ne_eqb, false≢true, none-some, same_Some, slice_get-get_or, slice_get_within, slice_get_read, Error, Unsupported, Refusal, PagesUsedUp, StampUsedUp, Event, Update, Node, Put, Change, IsUpdate, message_of, Ghosts, WholeNode, RefusesPage, Cache, chain_length, HasNoRoom, StepOver, IsIn, Steps, Went, IsCaused, begun_by, Logged, free_ids, page, State, with_page, free_token, later, greatest_free, Does, Outcome, outcome, unchanged, Allocates, RefusesSwap, IsRoots, IsCounter, AreOwn, IsBeside, IsConsistent, Token, token, Allocated, Allocate, Config, Journal, Kept}
 use Rattle.sled_base.specs.Errors.{error_of as error_by}
-use Rattle.sled_pagecache.proofs.Putting.{unless-clear, does-err, MayPut, may-set, may-add, nothing-told, put-refused, put-set, put-added}
+use Rattle.sled_pagecache.proofs.Putting.{unless-clear, MayPut, may-set, may-add, nothing-told, put-refused, put-set, put-added}
 use Rattle.sled_pagecache.proofs.Standing.{AreKnown, known-length}
 use Rattle.sled_pagecache.proofs.TableNodes.{view}
 use Rattle.sled_pagecache.specs.Pages as shown
@@ -125,21 +125,18 @@ taken-last table front pid last changed full =
     sym (last.taken changed full) ∙ ap (λ n. free_ids 0 (slice_set table n changed)) (let is = last.is in let place : last.place ≡ pid = omega arith in place)
 
 -- it isn't one of the cache's own
-roots-full : (k : Kept) → IsRoots k → shown.is_free k ≡ false
-roots-full (held.Roots roots) own = refl
-roots-full k own = absurd own
-
-counter-full : (k : Kept) → IsCounter k → shown.is_free k ≡ false
-counter-full (held.Counter n) own = refl
-counter-full k own = absurd own
+own-full : (k : Kept) → IsRoots k ⊎ IsCounter k → shown.is_free k ≡ false
+own-full (held.Roots roots) own = refl
+own-full (held.Counter n) own = refl
+own-full k own = ⊎_elim absurd absurd own
 
 pub free-from : (table : List KeptPage) (pid : ℕ) (q : KeptPage) → AreOwn table → slice_get table pid ≡ Some q → shown.is_free q.kept ≡ true → 2 ≤ pid
 free-from [] pid q own at free = absurd own
 free-from (roots ∷ []) pid q own at free = absurd own
 free-from (roots ∷ counter ∷ table) zero q own at free =
-    absurd (false≢true (sym (roots-full roots.kept own.0) ∙ ap (λ (k : KeptPage). shown.is_free k.kept) (same_Some roots q at) ∙ free))
+    absurd (false≢true (sym (own-full roots.kept (inl own.0)) ∙ ap (λ (k : KeptPage). shown.is_free k.kept) (same_Some roots q at) ∙ free))
 free-from (roots ∷ counter ∷ table) (suc zero) q own at free =
-    absurd (false≢true (sym (counter-full counter.kept own.1) ∙ ap (λ (k : KeptPage). shown.is_free k.kept) (same_Some counter q at) ∙ free))
+    absurd (false≢true (sym (own-full counter.kept (inr own.1)) ∙ ap (λ (k : KeptPage). shown.is_free k.kept) (same_Some counter q at) ∙ free))
 free-from (roots ∷ counter ∷ table) (suc (suc pid)) q own at free = omega arith
 
 pub own-long : (table : List KeptPage) → AreOwn table → 2 ≤ length table
@@ -149,22 +146,26 @@ own-long (roots ∷ counter ∷ table) own = omega arith
 
 -- ---- what the machine tests
 
-module _ (s : State) (node : WholeNode) (clear : s.fault ≡ false) where
+module _ (messages : ℕ → ℕ) (no_room : Event Update → Type 0) (s : State) (node : WholeNode) (clear : s.fault ≡ false) where
   module _ (none : greatest_free 0 s.pages ≡ None) where
-    pub allocate_full : length s.pages ≡ 2 ^ 37 → Allocates s node (Err (Unsupported PagesUsedUp)) s
+    pub allocate_full : length s.pages ≡ 2 ^ 37 → Allocates messages no_room s node (Err (Unsupported PagesUsedUp)) (unchanged s)
     allocate_full many = rw (clear, none, eq-eqb (length s.pages) (2 ^ 37) many) (refl, refl)
 
-    pub allocate_adds : length s.pages ≢ 2 ^ 37 → (answer : Result (ℕ × Token) Error) (t : State)
-        → Does s answer t (λ made. (made.0 ≡ length s.pages) × (made.1 ≡ token (length s.pages) 1) × (t ≡ record s { pages = s.pages ++ page 1 (Node node) ∷ [] })) → Allocates s node answer t
-    allocate_adds room answer t done = unless-clear s answer t _ clear (rw (none, ne_eqb (length s.pages) (2 ^ 37) room) done)
+    pub allocate_adds : length s.pages ≢ 2 ^ 37 → (answer : Result (ℕ × Token) Error) (out : Outcome)
+        → Does messages no_room s (Change (length s.pages) (Put (Node node))) answer out
+        (λ made t. (made.0 ≡ length s.pages) × (made.1 ≡ token (length s.pages) 1) × (t ≡ record s { pages = s.pages ++ page 1 (Node node) ∷ [] }))
+        → Allocates messages no_room s node answer out
+    allocate_adds room answer out done = unless-clear s answer out _ clear (rw (none, ne_eqb (length s.pages) (2 ^ 37) room) done)
 
   module _ (free : Token) (some : greatest_free 0 s.pages ≡ Some free) where
-    pub allocate_last : free.stamp ≡ 2 ^ 64 - 1 → Allocates s node (Err (Unsupported StampUsedUp)) s
+    pub allocate_last : free.stamp ≡ 2 ^ 64 - 1 → Allocates messages no_room s node (Err (Unsupported StampUsedUp)) (unchanged s)
     allocate_last last = rw (clear, some, eq-eqb free.stamp (2 ^ 64 - 1) last) (refl, refl)
 
-    pub allocate_reuses : free.stamp ≢ 2 ^ 64 - 1 → (answer : Result (ℕ × Token) Error) (t : State)
-        → Does s answer t (λ made. (made.0 ≡ free.pid) × (made.1 ≡ token free.pid (free.stamp + 1)) × (t ≡ with_page s free.pid (page (free.stamp + 1) (Node node)))) → Allocates s node answer t
-    allocate_reuses below answer t done = unless-clear s answer t _ clear (rw (some, ne_eqb free.stamp (2 ^ 64 - 1) below) done)
+    pub allocate_reuses : free.stamp ≢ 2 ^ 64 - 1 → (answer : Result (ℕ × Token) Error) (out : Outcome)
+        → Does messages no_room s (Change free.pid (Put (Node node))) answer out
+        (λ made t. (made.0 ≡ free.pid) × (made.1 ≡ token free.pid (free.stamp + 1)) × (t ≡ with_page s free.pid (page (free.stamp + 1) (Node node))))
+        → Allocates messages no_room s node answer out
+    allocate_reuses below answer out done = unless-clear s answer out _ clear (rw (some, ne_eqb free.stamp (2 ^ 64 - 1) below) done)
 
 -- ---- the call, told of the table
 
@@ -172,6 +173,12 @@ module _ {L : Type 0} (g : Ghosts L) (next : ℕ) (config : Config) (recovered :
     (node : WholeNode) (after : Journal L) (pages : List KeptPage) (reads : IsUpdate (message_of (Put (Node node))) (Put (Node node))) where
   abbrev cache : Journal L → List KeptPage → Cache L
   cache journal now = view next config recovered journal now
+
+  abbrev lengths : ℕ → ℕ
+  lengths = chain_length g.state (cache before table)
+
+  abbrev no_room : Event Update → Type 0
+  no_room = HasNoRoom g before.log
 
   beside : IsBeside g.tells g.state before.log table
   beside = kept.beside ready
@@ -181,32 +188,27 @@ module _ {L : Type 0} (g : Ghosts L) (next : ℕ) (config : Config) (recovered :
     none_in : (s : State) → AreKnown s.pages table → greatest_free 0 s.pages ≡ None
     none_in s are = none-free 0 table (sym kept.free ∙ none) s.pages are
 
-    adds : length table ≢ 2 ^ 37 → (s : State) → s.fault ≡ false → AreKnown s.pages table → (answer : Result (ℕ × Token) Error) (t : State)
-        → Does s answer t (λ made. (made.0 ≡ length s.pages) × (made.1 ≡ token (length s.pages) 1) × (t ≡ record s { pages = s.pages ++ page 1 (Node node) ∷ [] })) → Allocates s node answer t
-    adds room s clear are answer t done = allocate_adds s node clear (none_in s are) (λ many. room (sym (known-length s.pages table are) ∙ many)) answer t done
-
-    writes-new : (s : State) → AreKnown s.pages table → written (chain_length g.state (cache before table)) s (Allocate node) ≡ Change (length table) (Put (Node node)) ∷ []
-    writes-new s are = rw (none_in s are) (ap (λ n. Change n (Put (Node node)) ∷ []) (known-length s.pages table are))
+    adds : length table ≢ 2 ^ 37 → (s : State) → s.fault ≡ false → AreKnown s.pages table → (answer : Result (ℕ × Token) Error) (out : Outcome)
+        → Does lengths no_room s (Change (length table) (Put (Node node))) answer out
+        (λ made t. (made.0 ≡ length table) × (made.1 ≡ token (length table) 1) × (t ≡ record s { pages = s.pages ++ page 1 (Node node) ∷ [] }))
+        → StepOver g (cache before table) s (Allocate node) (Allocated answer) out
+    adds room s clear are answer out done =
+        let many = known-length s.pages table are in
+        allocate_adds lengths no_room s node clear (none_in s are) (λ all. room (sym many ∙ all)) answer out (rw many done)
 
     may-new : length table ≢ 2 ^ 37 → (held : Logged) (s : State) → IsIn g (cache before table) held s → s.fault ≡ false → MayPut g before.log held (length table) node
     may-new room held s is clear = may-add g next config recovered before table ready beside held s is clear node (own-long table kept.own) (let few = kept.few in omega (arith, few, room))
-
-    all-used : length table ≡ 2 ^ 37 → pages ≡ table → Went g.tells g.state g.moment g.left_since g.counts before after [] → after.fault ≡ false
-        → Steps g (cache before table) (Allocate node) (Allocated (Err (Unsupported PagesUsedUp))) (cache after pages)
-    all-used many back went clear_after =
-        nothing-told g next config recovered before table ready beside after (Allocate node) pages back (Allocated (Err (Unsupported PagesUsedUp))) went clear_after refl
-        (λ s clear are. allocate_full s node clear (none_in s are) (known-length s.pages table are ∙ many))
-        (λ s are said. absurd cc)
 
     pub adds-refused : pages ≡ table → (refusal : Refusal) → RefusesPage (length table) refusal
         → (let told : Result ℕ Refusal = Err refusal in Went g.tells g.state g.moment g.left_since g.counts before after (begun_by told (Change (length table) (message_of (Put (Node node))) ∷ [])))
         → (let told : Result ℕ Refusal = Err refusal in IsCaused g.tells g.state g.moment g.left_since g.counts before after (g.is_full before.log (length (message_of (Put (Node node))).payload)) told)
         → Steps g (cache before table) (Allocate node) (Allocated (Err (error_by refusal))) (cache after pages)
-    adds-refused back refusal (inl (many, is)) = rw is (λ went cause. all-used many back went cause.fault)
+    adds-refused back refusal (inl (many, is)) =
+        rw is (λ went cause. nothing-told g next config recovered before table ready beside after (Allocate node) pages back (Allocated (Err (Unsupported PagesUsedUp))) went cause.fault
+        (λ s clear are. allocate_full lengths no_room s node clear (none_in s are) (known-length s.pages table are ∙ many)))
     adds-refused back refusal (inr (room, of)) =
-        put-refused g next config recovered before table ready beside after (Allocate node) (length table) node reads (may-new room) writes-new
-        ℕ pages back (λ e. Allocated (Err e)) (record { memory = refl; read = refl; write = refl; full = refl; error = λ e. refl })
-        (λ s clear are e t hindered. adds room s clear are (Err e) t (does-err s e t (λ _. ⊥) _ hindered))
+        put-refused g next config recovered before table ready beside after (Allocate node) (length table) node reads (may-new room) ℕ pages back (λ e. Allocated (Err e))
+        (λ s clear are e out fails. adds room s clear are (Err e) out fails)
         refusal of
 
     pub adds-done : length table ≢ 2 ^ 37 → Went g.tells g.state g.moment g.left_since g.counts before after (Change (length table) (message_of (Put (Node node))) ∷ []) → after.fault ≡ false
@@ -214,12 +216,10 @@ module _ {L : Type 0} (g : Ghosts L) (next : ℕ) (config : Config) (recovered :
         → Steps g (cache before table) (Allocate node) (Allocated (Ok (pid, made))) (cache after pages)
     adds-done room went clear_after added first behind pid last made is =
         subst (λ (l : List KeptPage). Steps g (cache before table) (Allocate node) (Allocated (Ok (pid, made))) (cache after l)) (sym behind)
-        (put-added g next config recovered before table ready beside after (Allocate node) (length table) node reads (may-new room) writes-new
-        went clear_after (Allocated (Ok (pid, made))) refl (λ said. cc) 1 added first refl
+        (put-added g next config recovered before table ready beside after (Allocate node) (length table) node reads (may-new room) went clear_after (Allocated (Ok (pid, made))) 1 added first refl
         (λ s clear are.
-        let many = known-length s.pages table are in
-        adds room s clear are (Ok (pid, made)) (record s { pages = s.pages ++ page 1 (Node node) ∷ [] })
-        (last ∙ sym many, is ∙ ap (λ n. token n 1) (last ∙ sym many), refl)))
+        adds room s clear are (Ok (pid, made)) (outcome (record s { pages = s.pages ++ page 1 (Node node) ∷ [] }) (Change (length table) (Put (Node node)) ∷ []))
+        (refl, (last, is ∙ ap (λ n. token n 1) last, refl))))
 
   -- the greatest free page is taken
   module _ (front : List ℕ) (pid : ℕ) (last : IsLastFree 0 table front pid) where
@@ -232,29 +232,16 @@ module _ {L : Type 0} (g : Ghosts L) (next : ℕ) (config : Config) (recovered :
     may-reuse : (held : Logged) (s : State) → IsIn g (cache before table) held s → s.fault ≡ false → MayPut g before.log held pid node
     may-reuse held s is clear = may-set g next config recovered before table ready beside held s is clear pid node from there
 
-    writes-reused : (s : State) → AreKnown s.pages table → written (chain_length g.state (cache before table)) s (Allocate node) ≡ Change pid (Put (Node node)) ∷ []
-    writes-reused s are = rw (last.greatest s.pages are) refl
-
-    reuses : last.page.stamp ≢ 2 ^ 64 - 1 → (s : State) → s.fault ≡ false → AreKnown s.pages table → (answer : Result (ℕ × Token) Error) (t : State)
-        → Does s answer t (λ made. (made.0 ≡ pid) × (made.1 ≡ token pid (last.page.stamp + 1)) × (t ≡ with_page s pid (page (last.page.stamp + 1) (Node node)))) → Allocates s node answer t
-    reuses below s clear are answer t done = allocate_reuses s node clear (token pid last.page.stamp) (last.greatest s.pages are) below answer t done
-
-    stamp-used : last.page.stamp ≡ 2 ^ 64 - 1 → pages ≡ table → Went g.tells g.state g.moment g.left_since g.counts before after [] → after.fault ≡ false
-        → Steps g (cache before table) (Allocate node) (Allocated (Err (Unsupported StampUsedUp))) (cache after pages)
-    stamp-used greatest back went clear_after =
-        nothing-told g next config recovered before table ready beside after (Allocate node) pages back (Allocated (Err (Unsupported StampUsedUp))) went clear_after refl
-        (λ s clear are. allocate_last s node clear (token pid last.page.stamp) (last.greatest s.pages are) greatest)
-        (λ s are said. absurd cc)
-
     pub reuses-refused : pages ≡ table → (refusal : Refusal) → RefusesSwap last.page.stamp refusal
         → (let told : Result (Unit {0}) Refusal = Err refusal in Went g.tells g.state g.moment g.left_since g.counts before after (begun_by told (Change pid (message_of (Put (Node node))) ∷ [])))
         → (let told : Result (Unit {0}) Refusal = Err refusal in IsCaused g.tells g.state g.moment g.left_since g.counts before after (g.is_full before.log (length (message_of (Put (Node node))).payload)) told)
         → Steps g (cache before table) (Allocate node) (Allocated (Err (error_by refusal))) (cache after pages)
-    reuses-refused back refusal (inl (greatest, is)) = rw is (λ went cause. stamp-used greatest back went cause.fault)
+    reuses-refused back refusal (inl (greatest, is)) =
+        rw is (λ went cause. nothing-told g next config recovered before table ready beside after (Allocate node) pages back (Allocated (Err (Unsupported StampUsedUp))) went cause.fault
+        (λ s clear are. allocate_last lengths no_room s node clear (token pid last.page.stamp) (last.greatest s.pages are) greatest))
     reuses-refused back refusal (inr (below, of)) =
-        put-refused g next config recovered before table ready beside after (Allocate node) pid node reads may-reuse writes-reused
-        (Unit {0}) pages back (λ e. Allocated (Err e)) (record { memory = refl; read = refl; write = refl; full = refl; error = λ e. refl })
-        (λ s clear are e t hindered. reuses below s clear are (Err e) t (does-err s e t (λ _. ⊥) _ hindered))
+        put-refused g next config recovered before table ready beside after (Allocate node) pid node reads may-reuse (Unit {0}) pages back (λ e. Allocated (Err e))
+        (λ s clear are e out fails. allocate_reuses lengths no_room s node clear (token pid last.page.stamp) (last.greatest s.pages are) below (Err e) out fails)
         refusal of
 
     pub reuses-done : last.page.stamp ≢ 2 ^ 64 - 1 → Went g.tells g.state g.moment g.left_since g.counts before after (Change pid (message_of (Put (Node node))) ∷ []) → after.fault ≡ false
@@ -262,6 +249,7 @@ module _ {L : Type 0} (g : Ghosts L) (next : ℕ) (config : Config) (recovered :
         → Steps g (cache before table) (Allocate node) (Allocated (Ok (pid, made))) (cache after pages)
     reuses-done below went clear_after changed risen back made is =
         subst (λ (l : List KeptPage). Steps g (cache before table) (Allocate node) (Allocated (Ok (pid, made))) (cache after l)) (sym back)
-        (put-set g next config recovered before table ready beside after (Allocate node) pid node reads may-reuse writes-reused
-        went clear_after (Allocated (Ok (pid, made))) refl (λ said. cc) (last.page.stamp + 1) changed risen there
-        (λ s clear are. reuses below s clear are (Ok (pid, made)) (with_page s pid (page (last.page.stamp + 1) (Node node))) (refl, is ∙ ap (λ n. token pid n) risen, refl)))
+        (put-set g next config recovered before table ready beside after (Allocate node) pid node reads may-reuse went clear_after (Allocated (Ok (pid, made))) (last.page.stamp + 1) changed risen there
+        (λ s clear are.
+        allocate_reuses lengths no_room s node clear (token pid last.page.stamp) (last.greatest s.pages are) below (Ok (pid, made))
+        (outcome (with_page s pid (page (last.page.stamp + 1) (Node node))) (Change pid (Put (Node node)) ∷ [])) (refl, (refl, is ∙ ap (λ n. token pid n) risen, refl))))

@@ -1,9 +1,9 @@
 -- One call of the cache is one step of the machine.
-use Rattle.sled_pagecache.proofs.Names.{◌≡◌, Bool, true, false, List, [], ◌++◌, Some, refl, sym, ◌∙◌, ap, subst, false≢true, Any, Unsupported, LogFull, is_open, open_after, Update, contents_after, Event, open_after-append, is_open-drop, Message, effect_of, AreTold, StopsLeave-weaker, IsBeginning, Ghosts, Cache, chain_length, IsIn, IsSameOpening, HasNoRoom, IsStep, Steps, written, begun, changes_of, Went, Logged, IsLogged, Adds, StayProper, left-more, State, contents_of, stamps_of, Step, Answer, Call, Journal}
+use Rattle.sled_pagecache.proofs.Names.{◌≡◌, Bool, true, false, List, [], ◌++◌, refl, sym, ◌∙◌, ap, subst, false≢true, is_open, open_after, Update, contents_after, Event, open_after-append, is_open-drop, Message, effect_of, AreTold, Ghosts, Cache, IsIn, IsSameOpening, IsStep, StepOver, Steps, Went, Logged, IsLogged, Adds, StayProper, State, Outcome, unchanged, contents_of, stamps_of, Answer, Call, Journal}
 use Rattle.sled_log.specs.State as log
 use Rattle.sled_pagecache.proofs.Carrying.{carries, leaves, proper-now}
 use Rattle.sled_pagecache.proofs.Staying.{stay-none}
-use Rattle.sled_pagecache.specs.Changes.{error_of}
+use Rattle.sled_pagecache.specs.Cache.{KnowsLog}
 use Rattle.sled_pagecache.specs.Logged.{now, IsLeft}
 
 -- the changes leave a batch open or closed as they say, up to whatever cut they became stable
@@ -18,40 +18,33 @@ module _ {L : Type 0} (g : Ghosts L) where
 
   -- with a write fault kept the log isn't called, and nothing changes
   pub steps-stuck : (cache : Cache L) (call : Call) (answer : Answer) → cache.fault ≡ true
-      → (error_of answer ≡ Some (Unsupported LogFull) → ⊥)
-      → ((s : State) → s.fault ≡ true → Step s call answer s)
+      → ((s : State) → s.fault ≡ true → StepOver g cache s call answer (unchanged s))
       → Steps g cache call answer cache
-  steps-stuck cache call answer stuck not_full steps = record {
+  steps-stuck cache call answer stuck steps = record {
     opening = record { config = refl; recovered = refl };
     from_each = λ held s is. record {
-      held_then = held;
-      t = s;
-      is = is;
+      out = unchanged s;
       step = steps s (is.fault ∙ stuck);
+      held_then = held;
+      is = is;
       added = λ clear. absurd (false≢true (sym clear ∙ is.fault ∙ stuck));
       stop = λ clear. absurd (false≢true (sym clear ∙ is.fault ∙ stuck));
-      full = λ said. absurd (not_full said);
       stuck = λ _. refl;
     };
   }
 
-  -- What a call leads to, where it told its log these messages: they are its changes, or where a write failed a beginning of
-  -- them.
+  -- What a call leads to, where it told its log these messages: they are its changes.
   pub record LeadsTo (old new : Cache L) (held : Logged) (s : State) (call : Call) (answer : Answer) (messages : List (Event Message)) : Type 0 where
-    pub t : State
-    pub step : Step s call answer t
-    pub came : List (Event Update)
-    pub told : AreTold (now held) messages came
-    pub stays : StayProper (log.now effect_of (log.told_state (g.state old.log))) (now held) messages came
-    pub beginning : IsBeginning came (begun (chain_length g.state old) s call answer)
-    pub whole : new.fault ≡ false → came ≡ begun (chain_length g.state old) s call answer
-    pub stamps : stamps_of t ≡ new.stamps
-    pub next : t.next ≡ new.next
-    pub fault : t.fault ≡ new.fault
-    pub batch : t.batch ≡ s.batch
-    pub marks : open_after s.batch came ≡ s.batch
-    pub contents : new.fault ≡ false → contents_of t ≡ contents_after (now held) came
-    pub full : error_of answer ≡ Some (Unsupported LogFull) → Any (HasNoRoom g old.log) (written (chain_length g.state old) s call)
+    pub out : Outcome
+    pub step : StepOver g old s call answer out
+    pub told : AreTold (now held) messages out.changes
+    pub stays : StayProper (log.now effect_of (log.told_state (g.state old.log))) (now held) messages out.changes
+    pub stamps : stamps_of out.state ≡ new.stamps
+    pub next : out.state.next ≡ new.next
+    pub fault : out.state.fault ≡ new.fault
+    pub batch : out.state.batch ≡ s.batch
+    pub marks : open_after s.batch out.changes ≡ s.batch
+    pub contents : new.fault ≡ false → contents_of out.state ≡ contents_after (now held) out.changes
 
   -- no message stays proper where the cache is in a state
   pub stays-none : (cache : Cache L) (held : Logged) (s : State) → IsIn g cache held s → s.fault ≡ false → StayProper (log.now effect_of (log.told_state (g.state cache.log))) (now held) [] []
@@ -61,71 +54,57 @@ module _ {L : Type 0} (g : Ghosts L) where
       (old_log : old.log ≡ before.log) (new_log : new.log ≡ after.log) (new_fault : new.fault ≡ after.fault) (ready : old.fault ≡ false)
       (went : Went g.tells g.state g.moment g.left_since g.counts before after messages)
       (held : Logged) (s : State) (is : IsIn g old held s) (way : LeadsTo old new held s call answer messages) where
-    clear : s.fault ≡ false
-    clear = is.fault ∙ ready
-
-    whole : changes_of (chain_length g.state old) s call answer ≡ begun (chain_length g.state old) s call answer
-    whole = rw clear refl
-
     logged : IsLogged (log.told_state (g.state before.log)) held
-    logged = subst (λ l. IsLogged (log.told_state (g.state l)) held) old_log (is.known clear).logged
+    logged = subst (λ l. IsLogged (log.told_state (g.state l)) held) old_log (is.known (is.fault ∙ ready)).logged
 
-    stays : StayProper (log.now effect_of (log.told_state (g.state before.log))) (now held) messages way.came
-    stays = subst (λ l. StayProper (log.now effect_of (log.told_state (g.state l))) (now held) messages way.came) old_log way.stays
+    stays : StayProper (log.now effect_of (log.told_state (g.state before.log))) (now held) messages way.out.changes
+    stays = subst (λ l. StayProper (log.now effect_of (log.told_state (g.state l))) (now held) messages way.out.changes) old_log way.stays
 
-    stop : s.fault ≡ false → log.StopsLeave g.moment g.left_since old.log new.log (IsLeft held (changes_of (chain_length g.state old) s call answer))
-    stop _ =
-        subst (λ l. log.StopsLeave g.moment g.left_since l new.log (IsLeft held (changes_of (chain_length g.state old) s call answer))) (sym old_log)
-        (subst (λ l. log.StopsLeave g.moment g.left_since before.log l (IsLeft held (changes_of (chain_length g.state old) s call answer))) (sym new_log)
-        (subst (λ (l : List (Event Update)). log.StopsLeave g.moment g.left_since before.log after.log (IsLeft held l)) (sym whole)
-        (StopsLeave-weaker g.state g.moment g.left_since g.counts before.log after.log (IsLeft held way.came) (IsLeft held (begun (chain_length g.state old) s call answer))
-        (λ pages left. left-more held way.came (begun (chain_length g.state old) s call answer) pages way.beginning left)
-        (leaves g.tells g.state g.moment g.left_since g.counts before after held messages way.came logged way.told stays went is.tells))))
+    stop : log.StopsLeave g.moment g.left_since old.log new.log (IsLeft held way.out.changes)
+    stop =
+        subst (λ l. log.StopsLeave g.moment g.left_since l new.log (IsLeft held way.out.changes)) (sym old_log)
+        (subst (λ l. log.StopsLeave g.moment g.left_since before.log l (IsLeft held way.out.changes)) (sym new_log)
+        (leaves g.tells g.state g.moment g.left_since g.counts before after held messages way.out.changes logged way.told stays went is.tells))
 
-    by : (fault : Bool) → new.fault ≡ fault → IsStep g old call answer new held s
+    -- what the log holds then; behind a write error nothing is known of it
+    record Ends : Type 0 where
+      held_then : Logged
+      batch : way.out.state.batch ≡ is_open held_then.pending
+      known : way.out.state.fault ≡ false → KnowsLog g new held_then way.out.state
+      added : way.out.state.fault ≡ false → Adds held way.out.changes held_then
+
+    by : (fault : Bool) → new.fault ≡ fault → Ends
     by true kept = record {
       held_then = held;
-      t = way.t;
-      is = record {
-        tells = is.tells;
-        stamps = way.stamps;
-        next = way.next;
-        fault = way.fault;
-        batch = way.batch ∙ is.batch;
-        known = λ no. absurd (false≢true (sym no ∙ way.fault ∙ kept));
-      };
-      step = way.step;
+      batch = way.batch ∙ is.batch;
+      known = λ no. absurd (false≢true (sym no ∙ way.fault ∙ kept));
       added = λ no. absurd (false≢true (sym no ∙ way.fault ∙ kept));
-      stop = stop;
-      full = way.full;
-      stuck = λ no. absurd (false≢true (sym clear ∙ no));
     }
     by false free =
-        let carried = carries g.tells g.state g.moment g.left_since g.counts before after held messages way.came logged way.told stays went is.tells (sym new_fault ∙ free) in
+        let carried = carries g.tells g.state g.moment g.left_since g.counts before after held messages way.out.changes logged way.told stays went is.tells (sym new_fault ∙ free) in
         record {
           held_then = carried.held_then;
-          t = way.t;
-          is = record {
-            tells = is.tells;
-            stamps = way.stamps;
-            next = way.next;
-            fault = way.fault;
-            batch = way.batch ∙ sym way.marks ∙ ap (λ b. open_after b way.came) is.batch ∙ sym (open-added held carried.held_then way.came carried.added);
-            known = λ _. record {
-              usable = subst (λ l. (g.state l).usable ≡ true) (sym new_log) (went.usable (sym new_fault ∙ free));
-              logged = subst (λ l. IsLogged (log.told_state (g.state l)) carried.held_then) (sym new_log) carried.logged;
-              contents = way.contents free ∙ sym carried.now_is;
-            };
+          batch = way.batch ∙ sym way.marks ∙ ap (λ b. open_after b way.out.changes) is.batch ∙ sym (open-added held carried.held_then way.out.changes carried.added);
+          known = λ _. record {
+            usable = subst (λ l. (g.state l).usable ≡ true) (sym new_log) (went.usable (sym new_fault ∙ free));
+            logged = subst (λ l. IsLogged (log.told_state (g.state l)) carried.held_then) (sym new_log) carried.logged;
+            contents = way.contents free ∙ sym carried.now_is;
           };
-          step = way.step;
-          added = λ _. subst (λ (l : List (Event Update)). Adds held l carried.held_then) (way.whole free ∙ sym whole) carried.added;
-          stop = stop;
-          full = way.full;
-          stuck = λ no. absurd (false≢true (sym clear ∙ no));
+          added = λ _. carried.added;
         }
 
     from : IsStep g old call answer new held s
-    from = by new.fault refl
+    from =
+        let ends = by new.fault refl in
+        record {
+          out = way.out;
+          step = way.step;
+          held_then = ends.held_then;
+          is = record { tells = is.tells; stamps = way.stamps; next = way.next; fault = way.fault; batch = ends.batch; known = ends.known };
+          added = ends.added;
+          stop = λ _. stop;
+          stuck = λ kept. absurd (false≢true (sym (is.fault ∙ ready) ∙ kept));
+        }
 
   -- without a write fault before it, a call is a step
   pub steps-went : (old new : Cache L) (before after : Journal L) (call : Call) (answer : Answer) (messages : List (Event Message))

@@ -1,10 +1,10 @@
 -- What a call leads to that changes one page at most.
-use Rattle.sled_pagecache.proofs.Names.{◌≡◌, ℕ, true, false, List, [], ◌∷◌, ◌++◌, map, Some, slice_set, refl, sym, ◌∙◌, ap, false≢true, map-append, map-set, Any, Unsupported, LogFull, chains_from, Content, Update, contents_from, Change, Told, effect_of, IsUpdate, MayChange, message_of, Ghosts, Cache, chain_length, IsIn, HasNoRoom, written, begun, Logged, IsProper, page, State, with_page, Step, Answer, Call}
+use Rattle.sled_pagecache.proofs.Names.{◌≡◌, ℕ, true, false, List, [], ◌∷◌, ◌++◌, map, Result, Err, slice_set, refl, sym, ◌∙◌, ap, false≢true, map-append, map-set, Read, Write, Refusal, Io, chains_from, Content, Update, contents_from, Change, Told, effect_of, IsUpdate, MayChange, message_of, Ghosts, Cache, IsIn, StepOver, is_write_fault, Logged, IsProper, page, State, contents_of, stamps_of, with_page, outcome, unchanged, Answer, Call}
 use Rattle.sled_log.specs.State as log
 use Rattle.sled_pagecache.proofs.CacheSteps.{LeadsTo, stays-none}
 use Rattle.sled_pagecache.proofs.Carrying.{proper-now}
+use Rattle.sled_pagecache.proofs.Held.{unread}
 use Rattle.sled_pagecache.proofs.Staying.{stay-one}
-use Rattle.sled_pagecache.specs.Changes.{error_of}
 use Rattle.sled_pagecache.specs.Logged.{now}
 use Rattle.sled_pagecache.specs.State.{Page}
 
@@ -14,81 +14,64 @@ module _ {L : Type 0} (g : Ghosts L) where
     abbrev pages_now : List Told
     pages_now = log.now effect_of (log.told_state (g.state old.log))
 
-    -- nothing was told, and nothing changes
-    pub leads-same : Step s call answer s → begun (chain_length g.state old) s call answer ≡ [] → new.stamps ≡ old.stamps → new.fault ≡ false
-        → (error_of answer ≡ Some (Unsupported LogFull) → Any (HasNoRoom g old.log) (written (chain_length g.state old) s call))
+    -- nothing was told
+    untold : (t : State) → StepOver g old s call answer (outcome t []) → t.pages ≡ s.pages → t.next ≡ s.next → t.fault ≡ new.fault → t.batch ≡ s.batch → new.stamps ≡ old.stamps
         → LeadsTo g old new held s call answer []
-    leads-same step none stamps free full = record {
-      t = s;
+    untold t step pages same_next fault batch stamps = record {
+      out = outcome t [];
       step = step;
-      came = [];
       told = tt;
       stays = stays-none g old held s is clear;
-      beginning = (begun (chain_length g.state old) s call answer, refl);
-      whole = λ _. sym none;
-      stamps = is.stamps ∙ sym stamps;
-      next = is.next ∙ sym next;
-      fault = clear ∙ sym free;
-      batch = refl;
+      stamps = ap (map (λ (p : Page). p.stamp)) pages ∙ is.stamps ∙ sym stamps;
+      next = same_next ∙ is.next ∙ sym next;
+      fault = fault;
+      batch = batch;
       marks = refl;
-      contents = λ _. (is.known clear).contents;
-      full = full;
+      contents = λ _. ap (map (λ (p : Page). p.content)) pages ∙ (is.known clear).contents;
     }
 
-    -- a write fault came before anything was told
-    pub leads-fault : Step s call answer (record s { fault = true }) → new.stamps ≡ old.stamps → new.fault ≡ true
-        → (error_of answer ≡ Some (Unsupported LogFull) → ⊥)
-        → LeadsTo g old new held s call answer []
-    leads-fault step stamps kept not_full = record {
-      t = record s { fault = true };
-      step = step;
-      came = [];
-      told = tt;
-      stays = stays-none g old held s is clear;
-      beginning = (begun (chain_length g.state old) s call answer, refl);
-      whole = λ free. absurd (false≢true (sym free ∙ kept));
-      stamps = is.stamps ∙ sym stamps;
-      next = is.next ∙ sym next;
-      fault = sym kept;
-      batch = refl;
-      marks = refl;
-      contents = λ free. absurd (false≢true (sym free ∙ kept));
-      full = λ said. absurd (not_full said);
-    }
+    -- and nothing changes
+    pub leads-same : StepOver g old s call answer (unchanged s) → new.stamps ≡ old.stamps → new.fault ≡ false → LeadsTo g old new held s call answer []
+    leads-same step stamps free = untold s step refl refl (clear ∙ sym free) refl stamps
+
+    -- or a write fault came before
+    pub leads-fault : StepOver g old s call answer (outcome (record s { fault = true }) []) → new.stamps ≡ old.stamps → new.fault ≡ true → LeadsTo g old new held s call answer []
+    leads-fault step stamps kept = untold (record s { fault = true }) step refl refl (sym kept) refl stamps
+
+    -- a page couldn't be read
+    pub leads-unread : (refusal : Refusal) → StepOver g old s call answer (unread s refusal) → new.stamps ≡ old.stamps
+        → (let err : Result (Unit {0}) Refusal = Err refusal in new.fault ≡ is_write_fault err) → LeadsTo g old new held s call answer []
+    leads-unread (Io Write) step stamps fault = leads-fault step stamps fault
+    leads-unread (Io Read) step stamps fault = leads-same step stamps fault
+    leads-unread refusal step stamps fault = leads-same step stamps fault
 
     -- an update of a page was told
-    module _ (pid : ℕ) (update : Update) (changes : begun (chain_length g.state old) s call answer ≡ Change pid update ∷ [])
-        (reads : IsUpdate (message_of update) update) (may : MayChange (now held) pid update)
-        (proper : IsProper (chains_from effect_of pages_now (Change pid (message_of update))) (contents_from (now held) (Change pid update)))
-        (not_full : error_of answer ≡ Some (Unsupported LogFull) → ⊥) where
-      leads-to : (t : State) → Step s call answer t → map (λ (p : Page). p.stamp) t.pages ≡ new.stamps → t.next ≡ s.next → t.fault ≡ new.fault → t.batch ≡ s.batch
-          → (new.fault ≡ false → map (λ (p : Page). p.content) t.pages ≡ contents_from (now held) (Change pid update))
+    module _ (pid : ℕ) (update : Update) (reads : IsUpdate (message_of update) update) (may : MayChange (now held) pid update)
+        (proper : IsProper (chains_from effect_of pages_now (Change pid (message_of update))) (contents_from (now held) (Change pid update))) where
+      leads-to : (t : State) → StepOver g old s call answer (outcome t (Change pid update ∷ [])) → stamps_of t ≡ new.stamps → t.next ≡ s.next → t.fault ≡ new.fault → t.batch ≡ s.batch
+          → (new.fault ≡ false → contents_of t ≡ contents_from (now held) (Change pid update))
           → LeadsTo g old new held s call answer (Change pid (message_of update) ∷ [])
       leads-to t step stamps same_next fault batch contents = record {
-        t = t;
+        out = outcome t (Change pid update ∷ []);
         step = step;
-        came = Change pid update ∷ [];
         told = ((refl, reads), may, tt);
         stays = stay-one pages_now (now held) (Change pid (message_of update)) (Change pid update) (proper-now (log.told_state (g.state old.log)) held (is.known clear).logged) proper;
-        beginning = ([], sym changes);
-        whole = λ _. sym changes;
         stamps = stamps;
         next = same_next ∙ is.next ∙ sym next;
         fault = fault;
         batch = batch;
         marks = refl;
         contents = contents;
-        full = λ said. absurd (not_full said);
       }
 
       -- and then a write fault came
-      pub leads-begun : Step s call answer (record s { fault = true }) → new.stamps ≡ old.stamps → new.fault ≡ true
+      pub leads-begun : StepOver g old s call answer (outcome (record s { fault = true }) (Change pid update ∷ [])) → new.stamps ≡ old.stamps → new.fault ≡ true
           → LeadsTo g old new held s call answer (Change pid (message_of update) ∷ [])
       leads-begun step stamps kept =
           leads-to (record s { fault = true }) step (is.stamps ∙ sym stamps) refl (sym kept) refl (λ free. absurd (false≢true (sym free ∙ kept)))
 
       -- and the page has another content, at another stamp
-      pub leads-set : (stamp : ℕ) (content : Content) → Step s call answer (with_page s pid (page stamp content))
+      pub leads-set : (stamp : ℕ) (content : Content) → StepOver g old s call answer (outcome (with_page s pid (page stamp content)) (Change pid update ∷ []))
           → contents_from (now held) (Change pid update) ≡ slice_set (now held) pid content
           → new.stamps ≡ slice_set old.stamps pid stamp → new.fault ≡ false
           → LeadsTo g old new held s call answer (Change pid (message_of update) ∷ [])
@@ -98,7 +81,7 @@ module _ {L : Type 0} (g : Ghosts L) where
           (λ _. map-set (λ (p : Page). p.content) s.pages pid (page stamp content) ∙ ap (λ (l : List Content). slice_set l pid content) (is.known clear).contents ∙ sym makes)
 
       -- and there is a page more
-      pub leads-add : (stamp : ℕ) (content : Content) → Step s call answer (record s { pages = s.pages ++ page stamp content ∷ [] })
+      pub leads-add : (stamp : ℕ) (content : Content) → StepOver g old s call answer (outcome (record s { pages = s.pages ++ page stamp content ∷ [] }) (Change pid update ∷ []))
           → contents_from (now held) (Change pid update) ≡ now held ++ content ∷ []
           → new.stamps ≡ old.stamps ++ stamp ∷ [] → new.fault ≡ false
           → LeadsTo g old new held s call answer (Change pid (message_of update) ∷ [])

@@ -1,5 +1,5 @@
 -- A flush, and the size of the log, as steps of the machine.
-use Rattle.sled_pagecache.proofs.Names.{◌≡◌, ℕ, Bool, true, false, List, [], Ok, Err, refl, sym, ◌∙◌, Write, is_open, Told, effect_of, reads-open, is_open-told, Ghosts, Cache, IsIn, Steps, Went, Went-none, Logged, State, Step, Flushed, Sized, Flush, SizeOnDisk, Config, Journal, Page}
+use Rattle.sled_pagecache.proofs.Names.{◌≡◌, ℕ, Bool, true, false, List, [], Ok, Err, refl, sym, ◌∙◌, Write, is_open, Told, effect_of, reads-open, is_open-told, Ghosts, Cache, IsIn, Steps, Went, Went-none, Logged, State, Flushes, Sizes, outcome, unchanged, Flushed, Sized, Flush, SizeOnDisk, Config, Journal, Page}
 use Rattle.sled_base.specs.declared.types.Error.TheVariants.{Io}
 use Rattle.sled_log.specs.State as log
 use Rattle.sled_pagecache.proofs.CacheSteps.{steps-went}
@@ -7,13 +7,13 @@ use Rattle.sled_pagecache.proofs.Changing.{leads-same, leads-fault}
 use Rattle.sled_pagecache.proofs.TableNodes.{view}
 
 -- a size is told where no fault is kept
-size_step : (s : State) (n : ℕ) → s.fault ≡ false → Step s SizeOnDisk (Sized (Ok n)) s
+size_step : (s : State) (n : ℕ) → s.fault ≡ false → Sizes s (Ok n) (unchanged s)
 size_step s n clear = rw clear refl
 
-flush_step : (s : State) (n : ℕ) → s.fault ≡ false → s.batch ≡ false → Step s Flush (Flushed (Ok n)) s
+flush_step : (s : State) (n : ℕ) → s.fault ≡ false → s.batch ≡ false → Flushes s (Ok n) (unchanged s)
 flush_step s n clear closed = rw (clear, closed) refl
 
-flush_fails : (s : State) → s.fault ≡ false → s.batch ≡ false → Step s Flush (Flushed (Err (Io Write))) (record s { fault = true })
+flush_fails : (s : State) → s.fault ≡ false → s.batch ≡ false → Flushes s (Err (Io Write)) (outcome (record s { fault = true }) [])
 flush_fails s clear closed = rw (clear, closed) (refl, refl)
 
 module _ {L : Type 0} (g : Ghosts L) (next : ℕ) (config : Config) (recovered : Bool) (pages : List Page) (before : Journal L) (ready : before.fault ≡ false) where
@@ -27,7 +27,7 @@ module _ {L : Type 0} (g : Ghosts L) (next : ℕ) (config : Config) (recovered :
   sizes n usable only =
       steps-went g (cache before) (cache before) before before SizeOnDisk (Sized (Ok n)) [] (record { config = refl; recovered = refl }) refl refl refl ready
       (Went-none g.tells g.state g.moment g.left_since g.counts before usable only)
-      (λ held s is clear. leads-same g (cache before) (cache before) held s is clear SizeOnDisk (Sized (Ok n)) refl (size_step s n clear) refl refl ready (λ said. cc))
+      (λ held s is clear. leads-same g (cache before) (cache before) held s is clear SizeOnDisk (Sized (Ok n)) refl (size_step s n clear) refl ready)
 
   module _ (none : is_open (g.state before.log).pending ≡ false) (after : Journal L) (went : Went g.tells g.state g.moment g.left_since g.counts before after []) where
     -- where the log has no open batch, there is none
@@ -38,9 +38,9 @@ module _ {L : Type 0} (g : Ghosts L) (next : ℕ) (config : Config) (recovered :
     pub flushes : (n : ℕ) → after.fault ≡ false → Steps g (cache before) Flush (Flushed (Ok n)) (cache after)
     flushes n free =
         steps-went g (cache before) (cache after) before after Flush (Flushed (Ok n)) [] (record { config = refl; recovered = refl }) refl refl refl ready went
-        (λ held s is clear. leads-same g (cache before) (cache after) held s is clear Flush (Flushed (Ok n)) refl (flush_step s n clear (closed held s is clear)) refl refl free (λ said. cc))
+        (λ held s is clear. leads-same g (cache before) (cache after) held s is clear Flush (Flushed (Ok n)) refl (flush_step s n clear (closed held s is clear)) refl free)
 
     pub flush_is_refused : after.fault ≡ true → Steps g (cache before) Flush (Flushed (Err (Io Write))) (cache after)
     flush_is_refused kept =
         steps-went g (cache before) (cache after) before after Flush (Flushed (Err (Io Write))) [] (record { config = refl; recovered = refl }) refl refl refl ready went
-        (λ held s is clear. leads-fault g (cache before) (cache after) held s is clear Flush (Flushed (Err (Io Write))) refl (flush_fails s clear (closed held s is clear)) refl kept (λ said. cc))
+        (λ held s is clear. leads-fault g (cache before) (cache after) held s is clear Flush (Flushed (Err (Io Write))) refl (flush_fails s clear (closed held s is clear)) refl kept)

@@ -1,5 +1,5 @@
 -- The messages of a page make one content, and each beginning of them makes a node.
-use Rattle.sled_pagecache.proofs.Names.{◌≡◌, ℕ, ◌+◌, ◌-◌, ◌<◌, ◌≤◌, List, [], ◌∷◌, ◌++◌, length, map, take, drop, get_or, Some, refl, sym, ap, subst, ◌∙◌, inl, inr, arith, get_or_after_one, take_all, take_more, drop_more, length-drop, take-append-drop, map-append, MessageKind, DiskPtr, Refusal, Corruption, OutOfMemory, Content, Node, Put, Link, Message, Told, Reads, IsUpdate, LeadTo, Makes, one_update, Accepts, applied, WholeNode, ReadsNode, Found, told_of, MakesNode, IsFirstWrong, Leads, RefusesMessage, RefusesNode}
+use Rattle.sled_pagecache.proofs.Names.{◌≡◌, ℕ, ◌+◌, ◌-◌, ◌<◌, ◌≤◌, List, [], ◌∷◌, ◌++◌, length, map, take, drop, get_or, Some, refl, sym, ap, subst, ◌∙◌, inl, inr, arith, get_or_after_one, take_all, take_more, drop_more, length-drop, take-append-drop, map-append, MessageKind, DiskPtr, Refusal, Corruption, OutOfMemory, Content, Node, Put, Link, Message, Told, Reads, IsUpdate, LeadTo, Makes, one_content, one_update, Accepts, applied, WholeNode, ReadsNode, Found, told_of, MakesNode, IsFirstWrong, Leads, RefusesMessage, RefusesNode}
 use Rattle.sled_base.specs.declared.kinds.MessageKind.TheVariants as kinds
 use Rattle.sled_node.specs.declared.node.link.Link.{Link as NodeLink}
 
@@ -15,22 +15,6 @@ pub makes-more : (told : Told) (before : WholeNode) (m : Message) (after : Whole
 makes-more [] before m after h l = absurd h
 makes-more (x ∷ told) before m after h l = (h.0, h.1, lead-more h.0 told before m after h.2 l)
 
--- ---- one content
-
-lead-one : (content : Content) (told : Told) (u v : Content) → LeadTo content told u → LeadTo content told v → u ≡ v
-lead-one content [] u v h k = sym h ∙ k
-lead-one content (m ∷ told) u v h k =
-    let n : h.0 ≡ k.0 = (let e : Node h.0 ≡ Node k.0 = sym h.2 ∙ k.2 in cc) in
-    let l : h.1 ≡ k.1 = (let e : Link h.1 ≡ Link k.1 = one_update m (Link h.1) (Link k.1) h.3 k.3 in cc) in
-    let e : Node (applied h.1 h.0) ≡ Node (applied k.1 k.0) = ap (λ (w : WholeNode). Node (applied h.1 w)) n ∙ ap (λ (w : NodeLink). Node (applied w k.0)) l in
-    lead-one (Node (applied k.1 k.0)) told u v (subst (λ (c : Content). LeadTo c told u) e h.5) k.5
-
-pub makes-one : (told : Told) (u v : Content) → Makes told u → Makes told v → u ≡ v
-makes-one [] u v h k = absurd h
-makes-one (m ∷ told) u v h k =
-    let e : h.0 ≡ k.0 = (let e : Put h.0 ≡ Put k.0 = one_update m (Put h.0) (Put k.0) h.1 k.1 in cc) in
-    lead-one k.0 told u v (subst (λ (c : Content). LeadTo c told u) e h.2) k.2
-
 -- ---- the last link, and a beginning
 
 lead-last : (content : Content) (told : Told) (m : Message) (after : WholeNode)
@@ -45,7 +29,7 @@ makes-last : (told : Told) (before : WholeNode) (m : Message) (after : WholeNode
 makes-last [] before m after h k = absurd h
 makes-last (x ∷ told) before m after h k =
     let r = lead-last k.0 told m after k.2 in
-    let e : r.0 ≡ before = (let e : Node r.0 ≡ Node before = makes-one (x ∷ told) (Node r.0) (Node before) (k.0, k.1, r.1) h in cc) in
+    let e : r.0 ≡ before = (let e : Node r.0 ≡ Node before = one_content (x ∷ told) (Node r.0) (Node before) (k.0, k.1, r.1) h in cc) in
     subst (λ (n : WholeNode). Leads n m after) e r.2
 
 lead-front : (content : Content) (told : Told) (m : Message) (more : Told) (after : WholeNode)

@@ -1,87 +1,56 @@
 -- A get as a step of the machine: a page is brought in, and then its node is lent.
-use Rattle.sled_pagecache.proofs.Names.{◌≡◌, inl, inr, ℕ, Bool, true, false, List, [], Option, Some, None, Result, Ok, Err, slice_get, slice_index_or, refl, sym, ◌∙◌, ap, subst, false≢true, false_from_ne_true, error_of, IsOk, IsErrOf, Read, Write, Error, Refusal, Io, Corruption, OutOfMemory, ReservedId, LogFull, Content, Free, Node, Damaged, Chain, told, holds-made, Makes, Holds, Ghosts, WholeNode, Keeps, Cache, chain_length, IsIn, IsResident, IsAway, begun, Steps, IsBlamed, chain_at, ReportsWrong, is_write_fault, Logged, journal_of, RefusesReading, BringsIn, IsNodeAt, IsUsers, RefusesPull, ReadsPage, page, State, page_at, Step, is_reserved, Finds, FindsContent, IsCorruption, IsHindered, Token, Got, Get, NodeView, IsGot}
+use Rattle.sled_pagecache.proofs.Names.{◌≡◌, inl, inr, ℕ, Bool, true, false, List, [], Option, Some, None, Result, Ok, Err, slice_get, slice_index_or, refl, sym, ◌∙◌, ap, subst, false≢true, false_from_ne_true, error_of, IsOk, IsErrOf, Write, Error, Refusal, Io, Corruption, OutOfMemory, ReservedId, Content, Free, Node, Damaged, Chain, told, holds-made, Makes, Holds, Ghosts, WholeNode, Keeps, Cache, IsIn, IsResident, IsAway, Steps, IsBlamed, chain_at, ReportsWrong, is_write_fault, Logged, journal_of, RefusesReading, BringsIn, IsNodeAt, IsUsers, RefusesPull, ReadsPage, page, State, page_at, Outcome, unchanged, is_reserved, Finds, FindsContent, Gets, Token, Got, Get, NodeView, IsGot}
 use Rattle.std.specs.Prelude.{IfSome}
 use Rattle.sled_base.specs.declared.types.Error.TheVariants as error
 use Rattle.sled_pagecache.proofs.Answers.{keeps-stuck, keeps-err, keeps-ok}
 use Rattle.sled_pagecache.proofs.CacheSteps.{LeadsTo, steps-stuck, steps-told, steps-went}
-use Rattle.sled_pagecache.proofs.Changing.{leads-same, leads-fault}
-use Rattle.sled_pagecache.proofs.FoundMessages.{wrong-none}
-use Rattle.sled_pagecache.proofs.Held.{StampedAt, FullStands, stamped-at, state-own, state-page, full-stands}
+use Rattle.sled_pagecache.proofs.Changing.{leads-same, leads-unread}
+use Rattle.sled_pagecache.proofs.Held.{StampedAt, unread, unread-content, stamped-at, state-own, state-page, full-stands}
 use Rattle.sled_pagecache.proofs.Lookups.{behind-own}
 use Rattle.sled_pagecache.proofs.Passing.{passes, stuck-passes, reserved-passes}
 use Rattle.sled_pagecache.proofs.Putting.{blamed}
 use Rattle.sled_pagecache.proofs.Standing.{full-told}
-use Rattle.sled_pagecache.specs.Changes.{error_of as error_in}
-use Rattle.sled_pagecache.specs.State.{Page, is_free}
+use Rattle.sled_pagecache.specs.State.{Page}
 use Rattle.sled_pagecache.specs.Lending.{told as answered}
 
 -- ---- the machine
 
-abbrev finds : State → ℕ → Result (Option (Token × WholeNode)) Error → State → Type 0
-finds s pid answer t = Finds s pid (page_at s pid) answer t
+abbrev finds : State → ℕ → Result (Option (Token × WholeNode)) Error → Outcome → Type 0
+finds s pid answer out = Finds s pid (page_at s pid) answer out
 
-module _ (s : State) (pid : ℕ) (clear : s.fault ≡ false) (free : is_reserved pid ≡ false) where
-  at-page : (answer : Result (Option (Token × WholeNode)) Error) (t : State) (stamp : ℕ) (content : Content) → page_at s pid ≡ Some (page stamp content)
-      → FindsContent s pid stamp content answer t → Step s (Get pid) (Got answer) t
-  at-page answer t stamp content at h = passes s pid (finds s pid) answer t clear free (subst (λ (o : Option Page). Finds s pid o answer t) (sym at) h)
-
-  -- a page that isn't free isn't read where the call is hindered
-  hindered : (e : Error) (t : State) (stamp : ℕ) (content : Content) → IsUsers content → is_free content ≡ false
-      → (let answer : Result (Option (Token × WholeNode)) Error = Err e in IsCorruption s answer t) → IsHindered s e t → FindsContent s pid stamp content (Err e) t
-  hindered e t stamp Free own full damaged h = absurd (false≢true (sym full))
-  hindered e t stamp (Node node) own full damaged h = h
-  hindered e t stamp content own full damaged h = damaged
-
-  none-step : Finds s pid (page_at s pid) (Ok None) s → Step s (Get pid) (Got (Ok None)) s
-  none-step h = passes s pid (finds s pid) (Ok None) s clear free h
+at-page : (s : State) (pid : ℕ) → s.fault ≡ false → is_reserved pid ≡ false → (answer : Result (Option (Token × WholeNode)) Error) (out : Outcome) (stamp : ℕ) (content : Content)
+    → page_at s pid ≡ Some (page stamp content) → FindsContent s pid stamp content answer out → Gets s pid answer out
+at-page s pid clear free answer out stamp content at h = passes s pid (finds s pid) answer out clear free (subst (λ (o : Option Page). Finds s pid o answer out) (sym at) h)
 
 -- ---- the cache
 
 module _ {L : Type 0} (g : Ghosts L) where
   -- with a write fault kept
   pub get-stuck : (cache : Cache L) (pid : ℕ) → cache.fault ≡ true → Steps g cache (Get pid) (Got (Err (error.Io Write))) cache
-  get-stuck cache pid kept = steps-stuck g cache (Get pid) (Got (Err (error.Io Write))) kept (λ said. cc) (λ s stuck. stuck-passes s pid (finds s pid) stuck)
+  get-stuck cache pid kept = steps-stuck g cache (Get pid) (Got (Err (error.Io Write))) kept (λ s stuck. stuck-passes s pid (finds s pid) stuck)
 
   module _ (old new : Cache L) (pid : ℕ) (ready : old.fault ≡ false) where
     -- the page wasn't read
     module _ (next : new.next ≡ old.next) (stamps : new.stamps ≡ old.stamps) (held : Logged) (s : State) (is : IsIn g old held s) (clear : s.fault ≡ false) where
-      reserved-leads : is_reserved pid ≡ true → new.fault ≡ false → LeadsTo g old new held s (Get pid) (Got (Err (error.Unsupported ReservedId))) []
-      reserved-leads own free = leads-same g old new held s is clear (Get pid) (Got (Err (error.Unsupported ReservedId))) next (reserved-passes s pid (finds s pid) clear own) refl stamps free (λ said. cc)
-
-      -- nothing changes
-      still : (e : Error) → is_reserved pid ≡ false → (stands : FullStands s pid (chain_at (g.state old.log) pid)) → FindsContent s pid stands.stamp stands.content (Err e) s
-          → begun (chain_length g.state old) s (Get pid) (Got (Err e)) ≡ [] → (error_in (Got (Err e)) ≡ Some (error.Unsupported LogFull) → ⊥) → new.fault ≡ false
-          → LeadsTo g old new held s (Get pid) (Got (Err e)) []
-      still e behind stands finds quiet not_full fault =
-          leads-same g old new held s is clear (Get pid) (Got (Err e)) next (at-page s pid clear behind (Err e) s stands.stamp stands.content stands.there finds) quiet stamps fault (λ said. absurd (not_full said))
-
-      refused-leads : (refusal : Refusal) → is_reserved pid ≡ false → FullStands s pid (chain_at (g.state old.log) pid) → RefusesPull (chain_at (g.state old.log) pid) refusal
+      refused-leads : (refusal : Refusal) → RefusesReading (chain_at (g.state old.log) pid) pid refusal
           → (let err : Result (Unit {0}) Refusal = Err refusal in new.fault ≡ is_write_fault err)
           → LeadsTo g old new held s (Get pid) (Got (Err (error_of refusal))) []
-      refused-leads OutOfMemory behind stands why fault = still error.OutOfMemory behind stands (hindered s pid clear behind error.OutOfMemory s stands.stamp stands.content stands.own stands.full refl refl) refl (λ said. cc) fault
-      refused-leads (Io Read) behind stands why fault = still (error.Io Read) behind stands (hindered s pid clear behind (error.Io Read) s stands.stamp stands.content stands.own stands.full refl refl) refl (λ said. cc) fault
-      refused-leads (Io Write) behind stands why fault =
-          leads-fault g old new held s is clear (Get pid) (Got (Err (error.Io Write))) next
-          (at-page s pid clear behind (Err (error.Io Write)) (record s { fault = true }) stands.stamp stands.content stands.there
-          (hindered s pid clear behind (error.Io Write) (record s { fault = true }) stands.stamp stands.content stands.own stands.full refl refl)) stamps fault (λ said. cc)
-      refused-leads (Corruption (Some pointer)) behind stands why fault = still (error.Corruption (Some pointer)) behind stands (damaged stands.content stands.holds stands.own stands.full) refl (λ said. cc) fault
-        where
-          damaged : (content : Content) → Holds (told (chain_at (g.state old.log) pid)) content → IsUsers content → is_free content ≡ false → FindsContent s pid stands.stamp content (Err (error.Corruption (Some pointer))) s
-          damaged Free holds own full = absurd (false≢true (sym full))
-          damaged (Node node) holds own full = absurd (wrong-none _ _ (chain_at (g.state old.log) pid) pointer why (node, holds))
-          damaged content holds own full = refl
-      refused-leads refusal behind stands why fault = absurd why
-
-      any-leads : (refusal : Refusal) → RefusesReading (chain_at (g.state old.log) pid) pid refusal
-          → (let err : Result (Unit {0}) Refusal = Err refusal in new.fault ≡ is_write_fault err)
-          → LeadsTo g old new held s (Get pid) (Got (Err (error_of refusal))) []
-      any-leads refusal (inl (own, reserved)) = rw reserved (λ fault. reserved-leads own fault)
-      any-leads refusal (inr (behind, full, why)) = refused-leads refusal behind (full-stands g old held s is clear pid (behind-own pid behind) full) why
+      refused-leads refusal (inl (own, reserved)) =
+          rw reserved (λ fault. leads-same g old new held s is clear (Get pid) (Got (Err (error.Unsupported ReservedId))) next (reserved-passes s pid (finds s pid) clear own) stamps fault)
+      refused-leads refusal (inr (behind, full, why)) =
+          let chain = chain_at (g.state old.log) pid in
+          let stands = full-stands g old held s is clear pid (behind-own pid behind) full in
+          let e = error_of refusal in
+          let out = unread s refusal in
+          leads-unread g old new held s is clear (Get pid) (Got (Err e)) next refusal
+          (at-page s pid clear behind (Err e) out stands.stamp stands.content stands.there
+          (unread-content s pid chain stands (λ content. FindsContent s pid stands.stamp content (Err e) out) (Option (Token × WholeNode)) refusal why (λ node h. h) (λ h. h)))
+          stamps
 
     pub get-refused : g.tells → (refusal : Refusal) → (let err : Result (Unit {0}) Refusal = Err refusal in BringsIn g old pid err new) → Steps g old (Get pid) (Got (Err (error_of refusal))) new
     get-refused known refusal brings =
         steps-went g old new (journal_of old) (journal_of new) (Get pid) (Got (Err (error_of refusal))) [] brings.left.opening refl refl refl ready brings.left.went
-        (λ held s is clear. any-leads brings.left.next brings.left.stamps held s is clear refusal (brings.refused known) brings.cause.fault)
+        (λ held s is clear. refused-leads brings.left.next brings.left.stamps held s is clear refusal (brings.refused known) brings.cause.fault)
 
     -- the page lies in memory
     module _ (known : g.tells) (brings : (let ok : Result (Unit {0}) Refusal = Ok tt in BringsIn g old pid ok new)) where
@@ -95,11 +64,11 @@ module _ {L : Type 0} (g : Ghosts L) where
             (holds-made (told (chain_at (g.state old.log) pid)) found.content (Node node) (state-page g old held s is clear pid (page stamp found.content) found.there)
             (subst (λ (chain : Chain). Makes (told chain) (Node node)) chain-same made))
 
-        nothing-is : ((node : WholeNode) → ¬ Makes (told (chain_at (g.state new.log) pid)) (Node node)) → (o : Option Page) → page_at s pid ≡ o → Finds s pid o (Ok None) s
+        nothing-is : ((node : WholeNode) → ¬ Makes (told (chain_at (g.state new.log) pid)) (Node node)) → (o : Option Page) → page_at s pid ≡ o → Finds s pid o (Ok None) (unchanged s)
         nothing-is unmade None at = (refl, refl)
         nothing-is unmade (Some p) at = by p.content (state-page g old held s is clear pid p at) (state-own g old held s is clear pid (behind-own pid brings.in_memory.0) p at)
           where
-            by : (content : Content) → Holds (told (chain_at (g.state old.log) pid)) content → IsUsers content → FindsContent s pid p.stamp content (Ok None) s
+            by : (content : Content) → Holds (told (chain_at (g.state old.log) pid)) content → IsUsers content → FindsContent s pid p.stamp content (Ok None) (unchanged s)
             by Free made own = (refl, refl)
             by (Node node) made own = absurd (unmade node (subst (λ (chain : Chain). Makes (told chain) (Node node)) (sym chain-same) made))
             by Damaged holds own = absurd (brings.sound known (sym (full-told (chain_at (g.state old.log) pid)) ∙ holds.0, λ made. holds.1 (Node made.0) made.1))
@@ -109,14 +78,14 @@ module _ {L : Type 0} (g : Ghosts L) where
         found-leads (Some view) (is_token, at, resident, made) =
             let stamped = stamped-at s.pages pid view.token.stamp (ap (λ (l : List ℕ). slice_get l pid) (is.stamps ∙ sym brings.left.stamps) ∙ at) in
             leads-same g old new held s is clear (Get pid) (Got (Ok (Some (view.token, view.node.now)))) brings.left.next
-            (at-page s pid clear brings.in_memory.0 (Ok (Some (view.token, view.node.now))) s view.token.stamp (Node view.node.now)
+            (at-page s pid clear brings.in_memory.0 (Ok (Some (view.token, view.node.now))) (unchanged s) view.token.stamp (Node view.node.now)
             (node-is view.token.stamp view.node.now (made known brings.cause.fault) stamped) (refl, ap (λ (t : Token). Some (t, view.node.now)) is_token))
-            refl brings.left.stamps brings.cause.fault (λ said. cc)
+            brings.left.stamps brings.cause.fault
         found-leads None (inl away) = absurd (brings.in_memory.1 away)
         found-leads None (inr unmade) =
             leads-same g old new held s is clear (Get pid) (Got (Ok None)) brings.left.next
-            (none-step s pid clear brings.in_memory.0 (nothing-is (unmade known brings.cause.fault) (page_at s pid) refl))
-            refl brings.left.stamps brings.cause.fault (λ said. cc)
+            (passes s pid (finds s pid) (Ok None) (unchanged s) clear brings.in_memory.0 (nothing-is (unmade known brings.cause.fault) (page_at s pid) refl))
+            brings.left.stamps brings.cause.fault
 
       pub get-found : (found : Option NodeView) → IsNodeAt g new pid found → Steps g old (Get pid) (Got (answered (Ok found))) new
       get-found found at =

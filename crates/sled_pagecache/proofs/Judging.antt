@@ -1,5 +1,5 @@
 -- What the tests of a swap answer is a step of the machine, for each call that makes them.
-use Rattle.sled_pagecache.proofs.Names.{◌≡◌, ◌<◌, ◌+◌, ℕ, Bool, true, false, List, [], length, Option, Some, None, Ok, Err, slice_get, slice_set, get_or, refl, sym, ◌∙◌, ap, subst, ne_eqb, map-set, slice_get_within, slice_get_read, MatchBool, Write, Error, Unsupported, Refusal, ReservedId, LogFull, Content, Told, effect_of, Ghosts, WholeNode, Keeps, swapped, Cache, Steps, has_begun_by, Went-none, Judges, IsJudged, State, page_at, Step, is_reserved, Swapped, SwapsPage, Swaps, LinksContent, ReplacesContent, stamps_in, IsBeside, Token, token, IsAnswered, Answer, Linked, Replaced, Call, Config, Journal, Judgement, Fresh, Stale, Gone, Page}
+use Rattle.sled_pagecache.proofs.Names.{◌≡◌, ◌<◌, ◌+◌, ℕ, Bool, true, false, List, [], length, Option, Some, None, Ok, Err, slice_get, slice_set, get_or, refl, sym, ◌∙◌, ap, subst, ne_eqb, map-set, slice_get_within, slice_get_read, MatchBool, Write, Unsupported, Refusal, ReservedId, Content, Put, Node, Told, effect_of, Ghosts, WholeNode, Keeps, swapped, Cache, chain_length, HasNoRoom, StepOver, Steps, Went-none, Judges, IsJudged, State, page_at, Outcome, unchanged, is_reserved, Swapped, SwapsPage, Swaps, SwapsContent, LinksContent, stamps_in, IsBeside, Token, token, IsAnswered, Answer, Linked, Replaced, Call, Config, Journal, Judgement, Fresh, Stale, Gone, Page}
 use Rattle.sled_base.specs.Errors.{error_of as error_by}
 use Rattle.sled_base.specs.declared.types.Error.TheVariants.{Io}
 use Rattle.sled_base.specs.declared.types.Refusal.TheVariants as refusals
@@ -12,35 +12,35 @@ use Rattle.sled_pagecache.proofs.Passing.{passes, stuck-passes, reserved-passes}
 use Rattle.sled_pagecache.proofs.Putting.{nothing-told}
 use Rattle.sled_pagecache.proofs.Standing.{AreKnown, found-known, found-none}
 use Rattle.sled_pagecache.proofs.TableNodes.{view}
-use Rattle.sled_pagecache.specs.Changes.{error_of}
 use Rattle.sled_pagecache.specs.Pages as kept
 use Rattle.sled_pagecache.specs.declared.pagecache.call.Call.TheVariants as call
 
 -- a call that tests its token, and goes on with the content of its page
-pub record IsSwap {R : Type 0} (old : Token) (rejected : R) (call : Call) (answered : Swapped R → Answer) (goes_on : State → Swapped R → State → Content → Type 0) : Type 0 where
-  pub step : (s : State) (answer : Swapped R) (t : State) → Swaps s old rejected answer t (goes_on s answer t) → Step s call (answered answer) t
-  pub error : (e : Error) → error_of (answered (Err e)) ≡ Some e
-  pub reserved : has_begun_by (answered (Err (Unsupported ReservedId))) ≡ false
-  pub handed : (back : Option (Token × R)) → (has_begun_by (answered (Ok (Err back))) ≡ false) × (error_of (answered (Ok (Err back))) ≡ None)
+pub record IsSwap {L R : Type 0} (g : Ghosts L) (cache : Cache L) (old : Token) (rejected : R) (call : Call) (answered : Swapped R → Answer) (goes_on : State → Swapped R → Outcome → Content → Type 0) : Type 0 where
+  pub step : (s : State) (answer : Swapped R) (out : Outcome) → Swaps s old rejected answer out (goes_on s answer out) → StepOver g cache s call (answered answer) out
 
-pub link-swap : (old : Token) (link : NodeLink) → IsSwap old link (call.Link old link) Linked (λ s answer t. LinksContent s old link answer t)
-link-swap old link = record { step = λ s answer t h. h; error = λ e. refl; reserved = refl; handed = λ back. (refl, refl) }
+module _ {L : Type 0} (g : Ghosts L) (cache : Cache L) (old : Token) where
+  pub link-swap : (link : NodeLink) → IsSwap g cache old link (call.Link old link) Linked (λ s answer out. LinksContent (chain_length g.state cache) (HasNoRoom g cache.log) s old link answer out)
+  link-swap link = record { step = λ s answer out h. h }
 
-pub replace-swap : (old : Token) (node : WholeNode) → IsSwap old node (call.Replace old node) Replaced (λ s answer t content. ReplacesContent s old node answer t)
-replace-swap old node = record { step = λ s answer t h. h; error = λ e. refl; reserved = refl; handed = λ back. (refl, refl) }
+  pub replace-swap : (node : WholeNode) → IsSwap g cache old node (call.Replace old node) Replaced (λ s answer out content. SwapsContent (chain_length g.state cache) (HasNoRoom g cache.log) s old (Put (Node node)) (Node node) answer out)
+  replace-swap node = record { step = λ s answer out h. h }
 
 module _ {L : Type 0} (g : Ghosts L) (next : ℕ) (config : Config) (recovered : Bool) (journal : Journal L) (table : List Page) (beside : journal.fault ≡ false → IsBeside g.tells g.state journal.log table)
     (only : (pages : List Told) → g.tells → (g.state journal.log).usable ≡ true → g.left_since journal.log (g.moment journal.log) pages → log.IsLeft effect_of (log.told_state (g.state journal.log)) [] pages)
-    {R : Type 0} (old : Token) (pid : ℕ) (same : old.pid ≡ pid) (rejected : R) (call : Call) (answered : Swapped R → Answer) (goes_on : State → Swapped R → State → Content → Type 0)
-    (swap : IsSwap old rejected call answered goes_on) where
+    {R : Type 0} (old : Token) (pid : ℕ) (same : old.pid ≡ pid) (rejected : R) (call : Call) (answered : Swapped R → Answer) (goes_on : State → Swapped R → Outcome → Content → Type 0)
+    (swap : IsSwap g (view next config recovered journal table) old rejected call answered goes_on) where
   abbrev cache : Cache L
   cache = view next config recovered journal table
 
-  still : (answer : Swapped R) → journal.fault ≡ false → has_begun_by (answered answer) ≡ false → (error_of (answered answer) ≡ Some (Unsupported LogFull) → ⊥)
-      → ((s : State) → s.fault ≡ false → AreKnown s.pages table → Step s call (answered answer) s) → Steps g cache call (answered answer) cache
-  still answer ready quiet not_full step =
+  -- what follows the tests that come first
+  abbrev tests_then : State → Swapped R → Outcome → Type 0
+  tests_then s answer out = SwapsPage s old rejected (page_at s old.pid) answer out (goes_on s answer out)
+
+  still : (answer : Swapped R) → journal.fault ≡ false → ((s : State) → s.fault ≡ false → AreKnown s.pages table → StepOver g cache s call (answered answer) (unchanged s)) → Steps g cache call (answered answer) cache
+  still answer ready step =
       nothing-told g next config recovered journal table ready (beside ready) journal call table refl (answered answer)
-      (Went-none g.tells g.state g.moment g.left_since g.counts journal (beside ready).usable only) ready quiet step (λ s are said. absurd (not_full said))
+      (Went-none g.tells g.state g.moment g.left_since g.counts journal (beside ready).usable only) ready step
 
   -- a write fault was kept, or the page is the cache's own
   pub judged-refused : (refusal : Refusal) → Judges journal.fault table pid old (Err refusal) → Steps g cache call (answered (Err (error_by refusal))) cache
@@ -49,29 +49,27 @@ module _ {L : Type 0} (g : Ghosts L) (next : ℕ) (config : Config) (recovered :
       by : (fault : Bool) → journal.fault ≡ fault → MatchBool fault (refusal ≡ refusals.Io Write) ((is_reserved pid ≡ true) × (refusal ≡ refusals.Unsupported ReservedId))
           → Steps g cache call (answered (Err (error_by refusal))) cache
       by true kept is =
-          rw is (steps-stuck g cache call (answered (Err (Io Write))) kept (λ said. (let h = sym (swap.error (Io Write)) ∙ said in absurd cc))
-          (λ s stuck. swap.step s (Err (Io Write)) s (stuck-passes s old.pid (λ a t. SwapsPage s old rejected (page_at s old.pid) a t (goes_on s a t)) stuck)))
+          rw is (steps-stuck g cache call (answered (Err (Io Write))) kept
+          (λ s stuck. swap.step s (Err (Io Write)) (unchanged s) (stuck-passes s old.pid (tests_then s) stuck)))
       by false ready (own, is) =
-          rw is (still (Err (Unsupported ReservedId)) ready swap.reserved (λ said. (let h = sym (swap.error (Unsupported ReservedId)) ∙ said in absurd cc))
-          (λ s clear are. swap.step s (Err (Unsupported ReservedId)) s
-          (reserved-passes s old.pid (λ a t. SwapsPage s old rejected (page_at s old.pid) a t (goes_on s a t)) clear (ap is_reserved same ∙ own))))
+          rw is (still (Err (Unsupported ReservedId)) ready
+          (λ s clear are. swap.step s (Err (Unsupported ReservedId)) (unchanged s) (reserved-passes s old.pid (tests_then s) clear (ap is_reserved same ∙ own))))
 
   -- the token is handed back, or nothing is
-  module _ (back : Option (Token × R)) (free : is_reserved pid ≡ false) where
-    abbrev answer : Swapped R
-    answer = Ok (Err back)
-
-    handed : journal.fault ≡ false → ((s : State) → AreKnown s.pages table → SwapsPage s old rejected (page_at s pid) answer s (goes_on s answer s)) → Steps g cache call (answered answer) cache
-    handed ready is =
-        still answer ready (swap.handed back).0 (λ said. (let h = sym (swap.handed back).1 ∙ said in absurd cc))
-        (λ s clear are. swap.step s answer s
-        (passes s old.pid (λ a t. SwapsPage s old rejected (page_at s old.pid) a t (goes_on s a t)) answer s clear (ap is_reserved same ∙ free)
-        (subst (λ (n : ℕ). SwapsPage s old rejected (page_at s n) answer s (goes_on s answer s)) (sym same) (is s are))))
+  handed : (back : Option (Token × R)) → is_reserved pid ≡ false → journal.fault ≡ false
+      → (let answer : Swapped R = Ok (Err back) in ((s : State) → AreKnown s.pages table → SwapsPage s old rejected (page_at s pid) answer (unchanged s) (goes_on s answer (unchanged s))) → Steps g cache call (answered answer) cache)
+  handed back free ready is =
+      let answer : Swapped R = Ok (Err back) in
+      still answer ready
+      (λ s clear are. swap.step s answer (unchanged s)
+      (passes s old.pid (tests_then s) answer (unchanged s) clear (ap is_reserved same ∙ free)
+      (subst (λ (n : ℕ). SwapsPage s old rejected (page_at s n) answer (unchanged s) (goes_on s answer (unchanged s))) (sym same) (is s are))))
 
   pub judged-gone : Judges journal.fault table pid old (Ok Gone) → Steps g cache call (answered (Ok (Err None))) cache
   judged-gone (ready, free, judged) = handed None free ready (λ s are. by s are (slice_get table pid) refl judged)
     where
-      by : (s : State) → AreKnown s.pages table → (o : Option Page) → slice_get table pid ≡ o → IsJudged o pid old Gone → SwapsPage s old rejected (page_at s pid) (Ok (Err None)) s (goes_on s (Ok (Err None)) s)
+      by : (s : State) → AreKnown s.pages table → (o : Option Page) → slice_get table pid ≡ o → IsJudged o pid old Gone
+          → SwapsPage s old rejected (page_at s pid) (Ok (Err None)) (unchanged s) (goes_on s (Ok (Err None)) (unchanged s))
       by s are None at judged = rw (found-none s.pages table pid are at) (refl, refl)
       by s are (Some q) at judged = let found = found-known s.pages table pid q are at in rw (found.is, found.known.free, judged) (refl, refl)
 
@@ -79,7 +77,7 @@ module _ {L : Type 0} (g : Ghosts L) (next : ℕ) (config : Config) (recovered :
   judged-stale present (ready, free, judged) = handed (Some (present, rejected)) free ready (λ s are. by s are (slice_get table pid) refl judged)
     where
       by : (s : State) → AreKnown s.pages table → (o : Option Page) → slice_get table pid ≡ o → IsJudged o pid old (Stale present)
-          → SwapsPage s old rejected (page_at s pid) (Ok (Err (Some (present, rejected)))) s (goes_on s (Ok (Err (Some (present, rejected)))) s)
+          → SwapsPage s old rejected (page_at s pid) (Ok (Err (Some (present, rejected)))) (unchanged s) (goes_on s (Ok (Err (Some (present, rejected)))) (unchanged s))
       by s are None at judged = absurd cc
       by s are (Some q) at (full, other, is) =
           let found = found-known s.pages table pid q are at in

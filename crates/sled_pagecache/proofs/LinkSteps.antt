@@ -1,24 +1,22 @@
 -- A link as a step of the machine.
-use Rattle.sled_pagecache.proofs.Names.{◌≡◌, ◌≤◌, ◌<◌, ◌+◌, ◌-◌, ◌^◌, inl, inr, ℕ, Bool, true, false, cond, ltb, List, [], ◌∷◌, ◌++◌, length, Option, Some, Result, Ok, Err, slice_get, slice_set, slice_index_or, refl, sym, ◌∙◌, ap, subst, arith, eq-eqb, get_or-map, false≢true, ne_eqb, ltb-true, length-map, map-set, Any-push, same_Some, slice_get_within, get_or_from_slice_get, Any, MatchBool, error_of, LinkRefused, Read, Write, Error, Refusal, ReportableBug, Io, Corruption, OutOfMemory, StampUsedUp, LogFull, chains_from, Content, Free, Node, Update, Put, Link, after_link, contents_from, Event, Change, Entry, Chain, Told, told, effect_of, effect_of_entry, holds-made, Makes, Holds, Hold, MayChange, now-told, message_of, Ghosts, Accepts, applied, WholeNode, Cache, chain_length, IsIn, HasNoRoom, Steps, written, link_update, link_update_at, chain_at, IsCaused, is_write_fault, RefusesUntold, update_by, TellsLink, TakesLink, RefusesTold, Logged, HoldsChain, is_free, IsProper, page, State, page_at, with_page, Step, is_reserved, IsHindered, IsCorruption, IsGone, UnlessStale, Does, SwapsPage, LinksNode, LinksContent, written_by, stamps_in, IsConsistent, Token, token, Linked, Config, Journal}
+use Rattle.sled_pagecache.proofs.Names.{◌≡◌, ◌≢◌, ◌≤◌, ◌<◌, ◌+◌, ◌-◌, ◌^◌, inl, inr, ℕ, Bool, true, false, cond, ltb, List, [], ◌∷◌, ◌++◌, length, Option, Some, Result, Ok, Err, slice_get, slice_set, slice_index_or, refl, sym, ◌∙◌, ap, subst, arith, eq-eqb, get_or-map, ne_eqb, ltb-true, length-map, map-set, same_Some, slice_get_within, get_or_from_slice_get, error_of, LinkRefused, Write, Error, Refusal, ReportableBug, Io, Corruption, OutOfMemory, StampUsedUp, LogFull, chains_from, Content, Free, Node, Update, Put, Link, after_link, contents_from, Event, Change, Entry, Chain, Told, told, effect_of, effect_of_entry, holds-made, one_content, Makes, Hold, MayChange, now-told, message_of, Ghosts, Accepts, applied, WholeNode, Cache, chain_length, IsIn, HasNoRoom, StepOver, Steps, link_update, chain_at, IsCaused, is_write_fault, RefusesUntold, RefusesPull, update_by, TellsLink, TakesLink, RefusesTold, Logged, HoldsChain, is_free, IsProper, page, State, page_at, with_page, Outcome, outcome, unchanged, is_reserved, Does, Links, LinksNode, LinksContent, stamps_in, IsConsistent, Token, token, Linked, Config, Journal}
 use Rattle.sled_base.specs.declared.types.Error.TheVariants as error
 use Rattle.sled_base.specs.declared.types.Refusal.TheVariants.{Unsupported}
 use Rattle.sled_log.specs.State as log
 use Rattle.sled_node.specs.declared.node.link.Link.{Link as NodeLink}
 use Rattle.sled_pagecache.proofs.CacheSteps.{LeadsTo, steps-went}
 use Rattle.sled_pagecache.proofs.Carrying.{proper-now}
-use Rattle.sled_pagecache.proofs.Changing.{leads-same, leads-fault, leads-begun, leads-set}
-use Rattle.sled_pagecache.proofs.FoundMessages.{wrong-none}
-use Rattle.sled_pagecache.proofs.Held.{FullStands, full-stands}
+use Rattle.sled_pagecache.proofs.Changing.{leads-same, leads-unread, leads-begun, leads-set}
+use Rattle.sled_pagecache.proofs.Held.{FullStands, unread, unread-content, full-stands}
 use Rattle.sled_pagecache.proofs.Lookups.{map-at, behind-own}
 use Rattle.sled_pagecache.proofs.PagesAt.{holds_now}
 use Rattle.sled_pagecache.proofs.PagingIn.{page-kept-at, places-length, length-before, stamps-same}
-use Rattle.sled_pagecache.proofs.Passing.{passes}
+use Rattle.sled_pagecache.proofs.Putting.{unless-clear}
 use Rattle.sled_pagecache.proofs.ProperPages.{link-proper, put-proper}
 use Rattle.sled_pagecache.proofs.TableNodes.{view}
 use Rattle.sled_pagecache.proofs.Standing.{kept-free}
 use Rattle.sled_pagecache.specs.LinkedPages as linked
 use Rattle.sled_pagecache.specs.Logged.{now}
-use Rattle.sled_pagecache.specs.Proper as proper
 use Rattle.sled_pagecache.specs.State.{Page}
 use Rattle.sled_pagecache.specs.State.{is_free as is_free_content}
 use Rattle.sled_pagecache.specs.declared.pagecache.call.Call.TheVariants as call
@@ -32,7 +30,7 @@ module _ (contents : List Content) (pages : List Told) (hold : Hold pages conten
   within = slice_get_within contents pid (Node node) at
 
   -- it may be written
-  may-link : MayChange contents pid (written_by n link (applied link node))
+  may-link : MayChange contents pid (link_update n link (applied link node))
   may-link = by (ltb n 10)
     where
       by : (b : Bool) → MayChange contents pid (cond b (Link link) (Put (Node (applied link node))))
@@ -40,7 +38,7 @@ module _ (contents : List Content) (pages : List Told) (hold : Hold pages conten
       by false = let lt = within in omega (arith, lt)
 
   -- it makes the node that the link makes
-  makes-link : contents_from contents (Change pid (written_by n link (applied link node))) ≡ slice_set contents pid (Node (applied link node))
+  makes-link : contents_from contents (Change pid (link_update n link (applied link node))) ≡ slice_set contents pid (Node (applied link node))
   makes-link = by (ltb n 10)
     where
       by : (b : Bool) → contents_from contents (Change pid (cond b (Link link) (Put (Node (applied link node))))) ≡ slice_set contents pid (Node (applied link node))
@@ -50,7 +48,7 @@ module _ (contents : List Content) (pages : List Told) (hold : Hold pages conten
           ap (λ (b : Bool). cond b (contents ++ Node (applied link node) ∷ []) (slice_set contents pid (Node (applied link node)))) (ne_eqb pid (length contents) (λ same. omega (arith, same, lt)))
 
   -- it leaves the pages as a cache leaves them
-  proper-link : IsProper (chains_from effect_of pages (Change pid (message_of (written_by n link (applied link node))))) (contents_from contents (Change pid (written_by n link (applied link node))))
+  proper-link : IsProper (chains_from effect_of pages (Change pid (message_of (link_update n link (applied link node))))) (contents_from contents (Change pid (link_update n link (applied link node))))
   proper-link = by (ltb n 10) refl
     where
       by : (b : Bool) → ltb n 10 ≡ b
@@ -64,42 +62,18 @@ module _ (contents : List Content) (pages : List Told) (hold : Hold pages conten
 abbrev pub Answered : Type 0
 Answered = Result (Result Token (Option (Token × NodeLink))) Error
 
-module _ (s : State) (t : Token) (pid : ℕ) (same : t.pid ≡ pid) (link : NodeLink) (clear : s.fault ≡ false) (behind : is_reserved pid ≡ false) where
-  at-page : (answer : Answered) (u : State) (o : Option Page) → page_at s pid ≡ o → SwapsPage s t link o answer u (LinksContent s t link answer u) → Step s (call.Link t link) (Linked answer) u
-  at-page answer u o at h =
-      passes s t.pid (λ a v. SwapsPage s t link (page_at s t.pid) a v (LinksContent s t link a v)) answer u clear (ap is_reserved same ∙ behind)
-      (subst (λ (o : Option Page). SwapsPage s t link o answer u (LinksContent s t link answer u)) (sym (ap (page_at s) same ∙ at)) h)
-
+module _ (messages : ℕ → ℕ) (no_room : Event Update → Type 0) (s : State) (t : Token) (pid : ℕ) (same : t.pid ≡ pid) (link : NodeLink) where
   -- a page that isn't free is at the stamp of the token
-  fresh-page : (stamp : ℕ) (content : Content) → page_at s pid ≡ Some (page stamp content) → is_free_content content ≡ false
-      → (answer : Answered) (u : State) → stamp ≡ t.stamp → LinksContent s t link answer u content → Step s (call.Link t link) (Linked answer) u
-  fresh-page stamp content at full answer u is h =
-      at-page answer u (Some (page stamp content)) at
-      (subst (λ (b : Bool). MatchBool b (IsGone s answer u) (UnlessStale s t link stamp answer u (LinksContent s t link answer u content))) (sym full)
-      (subst (λ (b : Bool). MatchBool b (LinksContent s t link answer u content) ((answer ≡ Ok (Err (Some (token t.pid stamp, link)))) × (u ≡ s))) (sym (eq-eqb stamp t.stamp is)) h))
+  fresh-page : s.fault ≡ false → is_reserved pid ≡ false → (stamp : ℕ) (content : Content) → page_at s pid ≡ Some (page stamp content) → is_free_content content ≡ false → stamp ≡ t.stamp
+      → (answer : Answered) (out : Outcome) → LinksContent messages no_room s t link answer out content → Links messages no_room s t link answer out
+  fresh-page clear behind stamp content at full is answer out h =
+      unless-clear s answer out _ clear (rw (ap is_reserved same ∙ behind, ap (page_at s) same ∙ at, full, eq-eqb stamp t.stamp is) h)
 
-  -- it isn't read where the call is hindered
-  hindered : (e : Error) (u : State) (content : Content) → proper.IsUsers content → is_free_content content ≡ false
-      → (let answer : Answered = Err e in IsCorruption s answer u) → IsHindered s e u → LinksContent s t link (Err e) u content
-  hindered e u Free own full damaged h = absurd (false≢true (sym full))
-  hindered e u (Node node) own full damaged h = inl h
-  hindered e u content own full damaged h = damaged
-
-  module _ (stamp : ℕ) (node : WholeNode) (at : page_at s pid ≡ Some (page stamp (Node node))) where
-    fresh : (answer : Answered) (u : State) → stamp ≡ t.stamp → LinksNode s t link node answer u → Step s (call.Link t link) (Linked answer) u
-    fresh answer u is h = fresh-page stamp (Node node) at refl answer u is h
-
-    -- the node accepts the link, and its stamp may rise
-    does : (answer : Answered) (u : State) → stamp ≡ t.stamp → Accepts node link → (t.stamp ≡ 2 ^ 64 - 1 → ⊥)
-        → Does s answer u (λ swapped. (swapped ≡ Ok (token t.pid (t.stamp + 1))) × (u ≡ with_page s t.pid (page (t.stamp + 1) (Node (applied link node)))))
-        → Step s (call.Link t link) (Linked answer) u
-    does answer u is accepts below h =
-        fresh answer u is (inr (inr (accepts, rw (ne_eqb t.stamp (2 ^ 64 - 1) below) h)))
-
-    last : stamp ≡ t.stamp → Accepts node link → t.stamp ≡ 2 ^ 64 - 1 → Step s (call.Link t link) (Linked (Err (error.Unsupported StampUsedUp))) s
-    last is accepts most =
-        let answer : Answered = Err (error.Unsupported StampUsedUp) in
-        fresh answer s is (inr (inr (accepts, rw (eq-eqb t.stamp (2 ^ 64 - 1) most) (refl, refl))))
+  -- the node accepts the link, and its stamp may rise
+  accepted : (node : WholeNode) (n : ℕ) → messages pid ≡ n → Accepts node link → t.stamp ≢ 2 ^ 64 - 1 → (answer : Answered) (out : Outcome)
+      → Does messages no_room s (Change pid (link_update n link (applied link node))) answer out (λ swapped u. (swapped ≡ Ok (token pid (t.stamp + 1))) × (u ≡ with_page s pid (page (t.stamp + 1) (Node (applied link node)))))
+      → LinksNode messages no_room s t link node answer out
+  accepted node n count accepts below answer out h = inr (inr (accepts, rw (ne_eqb t.stamp (2 ^ 64 - 1) below, same, count) h))
 
 -- ---- the cache
 
@@ -111,6 +85,12 @@ module _ {L : Type 0} (g : Ghosts L) where
 
     abbrev chain : Chain
     chain = chain_at (g.state before.log) pid
+
+    abbrev lengths : ℕ → ℕ
+    lengths = chain_length g.state old
+
+    abbrev no_room : Event Update → Type 0
+    no_room = HasNoRoom g before.log
 
     module _ (behind : is_reserved pid ≡ false) where
       module _ (q : KeptPage) (at : slice_get pages pid ≡ Some q) where
@@ -164,12 +144,6 @@ module _ {L : Type 0} (g : Ghosts L) where
                   ∙ ap length (get_or-map told (log.now effect_of_entry (g.state before.log)) pid []) ∙ length-map chain (λ (e : Entry). e.message)
                   ∙ places-length chain q (page-kept-at g before before pages free pid q q c ready behind at is.tells)
 
-              written-is : written (chain_length g.state old) s (call.Link t link) ≡ Change pid update ∷ []
-              written-is =
-                  ap (λ (n : ℕ). Change n (link_update_at (chain_length g.state old n) link (page_at s n)) ∷ []) same
-                  ∙ ap (λ (o : Option Page). Change pid (link_update_at (chain_length g.state old pid) link o) ∷ []) there
-                  ∙ ap (λ (n : ℕ). Change pid (link_update n link (Node node)) ∷ []) (sym (length-before g next config recovered before before pages free pid q q c ready behind at is.tells))
-
               module _ (accepts : Accepts node link) where
                 may : MayChange (now held) pid update
                 may = may-link (now held) pages_now holds-now is-proper pid (behind-own pid behind) link node content-there accepts (length q.infos.items) count
@@ -180,11 +154,15 @@ module _ {L : Type 0} (g : Ghosts L) where
                 stays : IsProper (chains_from effect_of pages_now (Change pid (message_of update))) (contents_from (now held) (Change pid update))
                 stays = proper-link (now held) pages_now holds-now is-proper pid (behind-own pid behind) link node content-there accepts (length q.infos.items) count
 
-              fresh-step : (answer : Answered) (u : State) → LinksNode s t link node answer u → Step s (call.Link t link) (Linked answer) u
-              fresh-step answer u h = fresh s t pid same link clear behind (stands held s is clear).stamp node there answer u at_stamp h
+              node-step : (answer : Answered) (out : Outcome) → LinksNode lengths no_room s t link node answer out → StepOver g old s (call.Link t link) (Linked answer) out
+              node-step answer out h = fresh-page lengths no_room s t pid same link clear behind (stands held s is clear).stamp (Node node) there refl at_stamp answer out h
 
-              no-room : (log : L) → g.is_full log (length (message_of update).payload) → Any (HasNoRoom g log) (written (chain_length g.state old) s (call.Link t link))
-              no-room log full = subst (λ (l : List (Event Update)). Any (HasNoRoom g log) l) (sym written-is) (Any-push (HasNoRoom g log) [] (Change pid update) full)
+              accepted-step : Accepts node link → q.stamp ≢ 2 ^ 64 - 1 → (answer : Answered) (out : Outcome)
+                  → Does lengths no_room s (Change pid update) answer out (λ swapped u. (swapped ≡ Ok (token pid (t.stamp + 1))) × (u ≡ with_page s pid (page (t.stamp + 1) (Node (applied link node)))))
+                  → StepOver g old s (call.Link t link) (Linked answer) out
+              accepted-step accepts below answer out h =
+                  node-step answer out
+                  (accepted lengths no_room s t pid same link node (length q.infos.items) (sym (length-before g next config recovered before before pages free pid q q c ready behind at is.tells)) accepts (λ most. below (is_fresh ∙ most)) answer out h)
 
             -- ---- nothing was told
 
@@ -192,68 +170,63 @@ module _ {L : Type 0} (g : Ghosts L) where
               stamps : new.stamps ≡ old.stamps
               stamps = stamps-same g next config recovered before after pages free pid q page_then c ready behind at stamp
 
-              content-step : (answer : Answered) (u : State) → LinksContent s t link answer u (stands held s is clear).content → Step s (call.Link t link) (Linked answer) u
-              content-step answer u h =
+              unread-leads : (refusal : Refusal) → RefusesPull chain refusal → (let err : Result (Unit {0}) Refusal = Err refusal in after.fault ≡ is_write_fault err)
+                  → LeadsTo g old new held s (call.Link t link) (Linked (Err (error_of refusal))) []
+              unread-leads refusal why fault =
                   let found = stands held s is clear in
-                  fresh-page s t pid same link clear behind found.stamp found.content found.there found.full answer u (stamp-is held s is clear ∙ is_fresh) h
+                  let e = error_of refusal in
+                  let out = unread s refusal in
+                  leads-unread g old new held s is clear (call.Link t link) (Linked (Err e)) refl refusal
+                  (fresh-page lengths no_room s t pid same link clear behind found.stamp found.content found.there found.full (stamp-is held s is clear ∙ is_fresh) (Err e) out
+                  (unread-content s pid chain found (λ content. LinksContent lengths no_room s t link (Err e) out content) (Result Token (Option (Token × NodeLink))) refusal why (λ node h. inl h) (λ h. h)))
+                  stamps fault
 
-              stuck-step : (e : Error) (u : State) → (let answer : Answered = Err e in IsCorruption s answer u) → IsHindered s e u → Step s (call.Link t link) (Linked (Err e)) u
-              stuck-step e u damaged h =
-                  let found = stands held s is clear in content-step (Err e) u (hindered s t pid same link clear behind e u found.content found.own found.full damaged h)
+              module _ (node : WholeNode) (made : Makes (told chain) (Node node)) (e : Error) where
+                -- the node was read
+                still : LinksNode lengths no_room s t link node (Err e) (unchanged s) → after.fault ≡ false → LeadsTo g old new held s (call.Link t link) (Linked (Err e)) []
+                still h fault = leads-same g old new held s is clear (call.Link t link) (Linked (Err e)) refl (node-step held s is clear node made (Err e) (unchanged s) h) stamps fault
 
               untold : (refusal : Refusal) → RefusesUntold chain q.stamp link refusal
                   → (let err : Result (Unit {0}) Refusal = Err refusal in after.fault ≡ is_write_fault err)
                   → (refusal ≡ Unsupported LogFull → linked.HadNoRoom g before pid q link)
                   → LeadsTo g old new held s (call.Link t link) (Linked (Err (error_of refusal))) []
-              untold OutOfMemory why fault full =
-                  leads-same g old new held s is clear (call.Link t link) (Linked (Err error.OutOfMemory)) refl (stuck-step error.OutOfMemory s refl refl) refl stamps fault (λ said. cc)
-              untold (Io Read) why fault full =
-                  leads-same g old new held s is clear (call.Link t link) (Linked (Err (error.Io Read))) refl (stuck-step (error.Io Read) s refl refl) refl stamps fault (λ said. cc)
-              untold (Io Write) why fault full =
-                  leads-fault g old new held s is clear (call.Link t link) (Linked (Err (error.Io Write))) refl (stuck-step (error.Io Write) (record s { fault = true }) refl refl) stamps fault (λ said. cc)
-              untold (Corruption (Some pointer)) why fault full =
-                  leads-same g old new held s is clear (call.Link t link) (Linked (Err (error.Corruption (Some pointer)))) refl
-                  (content-step (Err (error.Corruption (Some pointer))) s (damaged (stands held s is clear).content (stands held s is clear).holds (stands held s is clear).own (stands held s is clear).full))
-                  refl stamps fault (λ said. cc)
-                where
-                  damaged : (content : Content) → Holds (told chain) content → proper.IsUsers content → is_free_content content ≡ false → LinksContent s t link (Err (error.Corruption (Some pointer))) s content
-                  damaged Free holds own full = absurd (false≢true (sym full))
-                  damaged (Node node) holds own full = absurd (wrong-none _ _ chain pointer why (node, holds))
-                  damaged content holds own full = refl
-              untold (ReportableBug LinkRefused) (node, made, not) fault full =
-                  leads-same g old new held s is clear (call.Link t link) (Linked (Err (error.ReportableBug LinkRefused))) refl
-                  (fresh-step held s is clear node made (Err (error.ReportableBug LinkRefused)) s (inr (inl (not, (refl, refl))))) refl stamps fault (λ said. cc)
+              untold OutOfMemory why fault full = unread-leads OutOfMemory why fault
+              untold (Io device) why fault full = unread-leads (Io device) why fault
+              untold (Corruption (Some pointer)) why fault full = unread-leads (Corruption (Some pointer)) why fault
+              untold (ReportableBug LinkRefused) (node, made, not) fault full = still node made (error.ReportableBug LinkRefused) (inr (inl (not, (refl, refl)))) fault
               untold (Unsupported StampUsedUp) (node, made, accepts, most) fault full =
-                  leads-same g old new held s is clear (call.Link t link) (Linked (Err (error.Unsupported StampUsedUp))) refl
-                  (last s t pid same link clear behind (stands held s is clear).stamp node (there held s is clear node made) (at_stamp held s is clear node made) accepts (sym is_fresh ∙ most))
-                  refl stamps fault (λ said. cc)
+                  still node made (error.Unsupported StampUsedUp) (inr (inr (accepts, rw (eq-eqb t.stamp (2 ^ 64 - 1) (sym is_fresh ∙ most)) (refl, refl)))) fault
               untold (Unsupported LogFull) (node, made, accepts, below) fault full =
+                  let had = full refl in
+                  let one : had.node ≡ node = (let e : Node had.node ≡ Node node = one_content (told chain) (Node had.node) (Node node) (had.made is.tells) made in cc) in
                   leads-same g old new held s is clear (call.Link t link) (Linked (Err (error.Unsupported LogFull))) refl
-                  (does s t pid same link clear behind (stands held s is clear).stamp node (there held s is clear node made) (Err (error.Unsupported LogFull)) s (at_stamp held s is clear node made) accepts
-                  (λ most. below (is_fresh ∙ most)) refl)
-                  refl stamps fault (λ said. (let had = full refl in no-room held s is clear had.node (had.made is.tells) before.log had.full))
+                  (accepted-step held s is clear node made accepts below (Err (error.Unsupported LogFull)) (unchanged s)
+                  (subst (λ (n : WholeNode). g.is_full before.log (length (message_of (update_by q link n)).payload)) one had.full, refl))
+                  stamps fault
               untold refusal why fault full = absurd why
 
             -- ---- an update was told
 
             module _ (held : Logged) (s : State) (is : IsIn g old held s) (clear : s.fault ≡ false) (tells : TellsLink g before pid q link after) where
+              made : Makes (told chain) (Node tells.node)
+              made = tells.made is.tells
+
               failed : page_then.stamp ≡ q.stamp → after.fault ≡ true
                   → LeadsTo g old new held s (call.Link t link) (Linked (Err (error.Io Write))) (Change pid (message_of (update_by q link tells.node)) ∷ [])
               failed stamp kept =
                   leads-begun g old new held s is clear (call.Link t link) (Linked (Err (error.Io Write))) refl pid (update_by q link tells.node)
-                  (written-is held s is clear tells.node (tells.made is.tells)) tells.is (may held s is clear tells.node (tells.made is.tells) tells.accepts) (stays held s is clear tells.node (tells.made is.tells) tells.accepts) (λ said. cc)
-                  (fresh-step held s is clear tells.node (tells.made is.tells) (Err (error.Io Write)) (record s { fault = true }) (inl refl))
+                  tells.is (may held s is clear tells.node made tells.accepts) (stays held s is clear tells.node made tells.accepts)
+                  (accepted-step held s is clear tells.node made tells.accepts tells.below (Err (error.Io Write)) (outcome (record s { fault = true }) (Change pid (update_by q link tells.node) ∷ [])) refl)
                   (stamps-same g next config recovered before after pages free pid q page_then c ready behind at stamp) kept
 
-              done : q.stamp < 2 ^ 64 - 1 → page_then.stamp ≡ q.stamp + 1 → after.fault ≡ false
+              done : page_then.stamp ≡ q.stamp + 1 → after.fault ≡ false
                   → LeadsTo g old new held s (call.Link t link) (Linked (Ok (Ok (token pid (t.stamp + 1))))) (Change pid (message_of (update_by q link tells.node)) ∷ [])
-              done below raised kept =
+              done raised kept =
                   leads-set g old new held s is clear (call.Link t link) (Linked (Ok (Ok (token pid (t.stamp + 1))))) refl pid (update_by q link tells.node)
-                  (written-is held s is clear tells.node (tells.made is.tells)) tells.is (may held s is clear tells.node (tells.made is.tells) tells.accepts) (stays held s is clear tells.node (tells.made is.tells) tells.accepts) (λ said. cc) (t.stamp + 1) (Node (applied link tells.node))
-                  (does s t pid same link clear behind (stands held s is clear).stamp tells.node (there held s is clear tells.node (tells.made is.tells)) (Ok (Ok (token pid (t.stamp + 1))))
-                  (with_page s pid (page (t.stamp + 1) (Node (applied link tells.node)))) (at_stamp held s is clear tells.node (tells.made is.tells)) tells.accepts (λ most. omega (arith, below, most, is_fresh))
-                  (ap (λ (n : ℕ). Ok (token n (t.stamp + 1))) (sym same), ap (λ (n : ℕ). with_page s n (page (t.stamp + 1) (Node (applied link tells.node)))) (sym same)))
-                  (makes held s is clear tells.node (tells.made is.tells) tells.accepts)
+                  tells.is (may held s is clear tells.node made tells.accepts) (stays held s is clear tells.node made tells.accepts) (t.stamp + 1) (Node (applied link tells.node))
+                  (accepted-step held s is clear tells.node made tells.accepts tells.below (Ok (Ok (token pid (t.stamp + 1))))
+                  (outcome (with_page s pid (page (t.stamp + 1) (Node (applied link tells.node)))) (Change pid (update_by q link tells.node) ∷ [])) (refl, (refl, refl)))
+                  (makes held s is clear tells.node made tells.accepts)
                   (map-set (λ (p : KeptPage). p.stamp) pages pid page_then ∙ ap (λ (n : ℕ). slice_set (stamps_in pages) pid n) (raised ∙ ap (λ (n : ℕ). n + 1) is_fresh))
                   kept
 
@@ -275,4 +248,4 @@ module _ {L : Type 0} (g : Ghosts L) where
             pub link-taken : TakesLink g before pid q link after page_then → after.fault ≡ false → Steps g old (call.Link t link) (Linked (Ok (Ok (token pid (t.stamp + 1))))) new
             link-taken takes kept =
                 steps-went g old new before after (call.Link t link) (Linked (Ok (Ok (token pid (t.stamp + 1))))) (Change pid (message_of (update_by q link takes.tells.node)) ∷ []) (record { config = refl; recovered = refl }) refl refl refl ready
-                takes.tells.went (λ held s is clear. done held s is clear takes.tells takes.raised.0 takes.raised.1 kept)
+                takes.tells.went (λ held s is clear. done held s is clear takes.tells takes.raised.1 kept)

@@ -1,5 +1,5 @@
 -- A link that is tested, and one of a damaged page.
-use Rattle.sled_pagecache.proofs.Names.{◌≡◌, inl, inr, ℕ, Bool, true, false, List, Option, Some, None, Result, Ok, Err, slice_get, slice_set, refl, sym, ◌∙◌, ap, subst, arith, false≢true, option_map, slice_get-map, none-some, same_Some, MatchBool, error_of, LinkRefused, Write, Refusal, ReportableBug, Io, Corruption, OutOfMemory, ReservedId, StampUsedUp, LogFull, is_empty, Node, Chain, told, effect_of_entry, Makes, one_content, Ghosts, Accepts, WholeNode, Cache, IsIn, IsResident, chain_at, ReportsWrong, MeetsDamage, ReportsDamage, Judges, IsJudged, IsTested, TestsFirst, RefusesUntold, TakesLink, RefusesTold, Logged, HoldsChain, is_resident, is_free, State, page, page_at, Swapped, is_reserved, RefusesLink, stamps_in, resident_in, IsFreeOrNode, IsConsistent, Token, Config, Journal, Judgement, Fresh, Stale, Gone, Kept}
+use Rattle.sled_pagecache.proofs.Names.{◌≡◌, inl, inr, ℕ, Bool, true, false, List, Option, Some, None, Result, Ok, Err, slice_get, slice_set, refl, sym, ◌∙◌, ap, subst, false≢true, option_map, slice_get-map, none-some, same_Some, MatchBool, error_of, LinkRefused, Write, Refusal, ReportableBug, Io, Corruption, OutOfMemory, ReservedId, StampUsedUp, LogFull, is_empty, Node, Chain, told, effect_of_entry, Makes, one_content, Ghosts, Accepts, WholeNode, Cache, IsIn, IsResident, chain_at, ReportsWrong, MeetsDamage, ReportsDamage, Judges, IsJudged, IsTested, TestsFirst, RefusesUntold, TakesLink, RefusesTold, Logged, HoldsChain, is_resident, is_free, State, page, page_at, Swapped, is_reserved, RefusesLink, stamps_in, resident_in, IsFreeOrNode, IsConsistent, Token, Config, Journal, Judgement, Fresh, Stale, Gone, Kept}
 use Rattle.sled_base.specs.declared.types.Refusal.TheVariants.{Unsupported}
 use Rattle.sled_log.specs.State as log
 use Rattle.sled_node.specs.declared.node.link.Link.{Link as NodeLink}
@@ -102,11 +102,9 @@ module _ {L : Type 0} (g : Ghosts L) (next : ℕ) (config : Config) (recovered :
     pub taken-tests : t.pid ≡ pid → (after : Journal L) (page_then : KeptPage) → TakesLink g before pid q link after page_then → (answer : Swapped NodeLink) → TestsFirst g old t link answer
     taken-tests same after page_then takes answer held s node is clear own resident there =
         let one = same-node node (makes same held s node is clear own there) takes.tells.node (takes.tells.made is.tells) in
-        let below = takes.raised.0 in
-        let stamp = fresh.stamp in
         record {
           refused = λ not. absurd (not (subst (λ (n : WholeNode). Accepts n link) one takes.tells.accepts));
-          used_up = λ _ last. absurd (omega (arith, below, stamp, last));
+          used_up = λ _ last. absurd (takes.tells.below (fresh.stamp ∙ last));
         }
 
     -- ---- a damaged page

@@ -1,5 +1,5 @@
 -- What a link makes of the chain of its page.
-use Rattle.sled_pagecache.proofs.Names.{◌≡◌, ◌+◌, ◌<◌, ℤ, ℕ, Bool, true, false, cond, ltb, List, [], ◌∷◌, ◌++◌, length, map, refl, sym, ◌∙◌, ap, subst, slice_set, slice_index_or, length-map, length-append, map-append, ◌⊎◌, Result, Err, LinkRefused, Read, Write, DiskPtr, Refusal, ReportableBug, Io, Counts, is_empty, chains_from, Node, Update, Put, Link, Event, Change, Message, Entry, Chain, Told, told, placed, effect_of_entry, said_of, IsUpdate, Makes, message_of, Accepts, applied, WholeNode, place_of, Went, IsCaused, begun_by, IsCaused-handed_on, HoldsChain, IsKept, is_free, RefusesSwap, RefusesLink, written_by, infos_after, linked_length, update_of, CacheInfo, Journal, Kept, Page}
+use Rattle.sled_pagecache.proofs.Names.{◌≡◌, ◌+◌, ◌<◌, ℤ, ℕ, Bool, true, false, cond, ltb, List, [], ◌∷◌, ◌++◌, length, map, refl, sym, ◌∙◌, ap, subst, slice_set, slice_index_or, length-map, length-append, map-append, ◌⊎◌, Result, Err, LinkRefused, Read, Write, DiskPtr, Refusal, ReportableBug, Io, Counts, is_empty, chains_from, Node, Update, Put, Link, Event, Change, Message, Entry, Chain, Told, told, placed, effect_of_entry, said_of, IsUpdate, Makes, message_of, Accepts, applied, WholeNode, place_of, Went, IsCaused, begun_by, IsCaused-handed_on, HoldsChain, IsKept, is_free, RefusesSwap, RefusesLink, link_update, infos_after, linked_length, update_of, CacheInfo, Journal, Kept, Page}
 use Rattle.sled_log.specs.State.{State}
 use Rattle.sled_node.specs.declared.node.link.Link.{Link as NodeLink}
 use Rattle.sled_pagecache.specs.declared.pagecache.page.Kept.TheVariants as kept
@@ -16,7 +16,7 @@ chain_after messages chain link after info =
 
 pub written-chains : (chains : List Chain) (pid : ℕ) → pid < length chains → (messages : ℕ) (link : NodeLink) (after : WholeNode) (info : CacheInfo)
     → is_empty effect_of_entry (slice_index_or chains pid []) ≡ false
-    → chains_from effect_of_entry chains (Change pid (placed (message_of (written_by messages link after)) (place_of info)))
+    → chains_from effect_of_entry chains (Change pid (placed (message_of (link_update messages link after)) (place_of info)))
     ≡ slice_set chains pid (chain_after messages (slice_index_or chains pid []) link after info)
 written-chains chains pid there messages link after info full = by (ltb messages 10)
   where
@@ -42,7 +42,7 @@ places-after chain infos link after info known = by (ltb (length infos) 10)
 
 pub makes-after : (messages : ℕ) (chain : Chain) (link : NodeLink) (before made : WholeNode) (info : CacheInfo)
     → Makes (told chain) (Node before) → Accepts before link → made ≡ applied link before
-    → IsUpdate (message_of (written_by messages link made)) (written_by messages link made) → Makes (told (chain_after messages chain link made info)) (Node made)
+    → IsUpdate (message_of (link_update messages link made)) (link_update messages link made) → Makes (told (chain_after messages chain link made info)) (Node made)
 makes-after messages chain link before made info makes accepts applies reads = by (ltb messages 10) reads
   where
     by : (b : Bool)
@@ -55,9 +55,9 @@ makes-after messages chain link before made info makes accepts applies reads = b
 
 -- what a link wrote, in the words of the page before it
 pub update-is : (messages : ℕ) (infos : List CacheInfo) (link : NodeLink) (before made : WholeNode) (held : Kept)
-    → messages ≡ length infos → made ≡ applied link before → held ≡ kept.Node before → written_by messages link made ≡ update_of (length infos) link held
+    → messages ≡ length infos → made ≡ applied link before → held ≡ kept.Node before → link_update messages link made ≡ update_of (length infos) link held
 update-is messages infos link before made held count is holds =
-    ap (λ n. written_by n link made) count ∙ ap (written_by (length infos) link) is ∙ sym (ap (update_of (length infos) link) holds)
+    ap (λ n. link_update n link made) count ∙ ap (link_update (length infos) link) is ∙ sym (ap (update_of (length infos) link) holds)
 
 -- how many messages make the page then
 pub infos-length : (infos : List CacheInfo) (info : CacheInfo) → length (infos_after infos info) ≡ linked_length (length infos)
@@ -123,10 +123,10 @@ module _ (chains : List Chain) (pid : ℕ) (there : pid < length chains) (page :
   page-full = node-full (slice_index_or chains pid []) before makes
 
   -- what was written, in the words of the page before
-  written : written_by messages link made ≡ written_by (length page.infos.items) link made
-  written = ap (λ n. written_by n link made) count
+  written : link_update messages link made ≡ link_update (length page.infos.items) link made
+  written = ap (λ n. link_update n link made) count
 
-  module _ (after : List Chain) (info : CacheInfo) (came : after ≡ chains_from effect_of_entry chains (Change pid (placed (message_of (written_by messages link made)) (place_of info)))) where
+  module _ (after : List Chain) (info : CacheInfo) (came : after ≡ chains_from effect_of_entry chains (Change pid (placed (message_of (link_update messages link made)) (place_of info)))) where
     abbrev chain : Chain
     chain = chain_after (length page.infos.items) (slice_index_or chains pid []) link made info
 
@@ -136,7 +136,7 @@ module _ (chains : List Chain) (pid : ℕ) (there : pid < length chains) (page :
     pub page-others : after ≡ slice_set chains pid (slice_index_or after pid [])
     page-others = other-pages chains pid there after chain set-so
 
-    pub page-kept : (new : Page) → IsUpdate (message_of (written_by messages link made)) (written_by messages link made)
+    pub page-kept : (new : Page) → IsUpdate (message_of (link_update messages link made)) (link_update messages link made)
         → new.infos.items ≡ infos_after page.infos.items info → new.kept ≡ kept.Node made → IsKept (slice_index_or after pid []) new
     page-kept new reads infos held =
         let same = at-page chains pid there after chain set-so in

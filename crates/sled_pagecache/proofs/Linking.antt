@@ -1,5 +1,5 @@
 -- A link of a page that is read first: what the two calls of the log make together.
-use Rattle.sled_pagecache.proofs.Names.{◌≡◌, ◌≢◌, ◌≤◌, ◌-◌, ◌^◌, inl, inr, ℕ, Bool, true, false, List, [], ◌∷◌, length, Result, Ok, Err, slice_set, refl, sym, ◌∙◌, ap, subst, arith, false≢true, AllByRecursion, IfErr, OnOk, OnErr, IsErrOf, Read, Write, Refusal, Io, OutOfMemory, LogFull, Event, Change, Message, Chain, told, effect_of_entry, IsSized, IsUpdate, Makes, now, message_of, Ghosts, Accepts, applied, WholeNode, chain_at, more, Went, IsCaused, IsOfLog, begun_by, Went-then, IsCaused-since, TellsLink, TakesLink, RefusesTold, HadNoRoom, WasBegun, HoldsChain, IsKept, is_free, is_resident, IsRaised, IsLinked, RefusesLink, update_of, written_by, linked_length, IsFreeOrNode, Journal, Kept, Page}
+use Rattle.sled_pagecache.proofs.Names.{◌≡◌, ◌≢◌, ◌≤◌, ◌-◌, ◌^◌, inl, inr, ℕ, Bool, true, false, List, [], ◌∷◌, length, Result, Ok, Err, slice_set, refl, sym, ◌∙◌, ap, subst, arith, false≢true, AllByRecursion, IfErr, OnOk, OnErr, IsErrOf, Read, Write, Refusal, Io, OutOfMemory, LogFull, Event, Change, Message, Chain, told, effect_of_entry, IsSized, IsUpdate, Makes, now, message_of, Ghosts, Accepts, applied, WholeNode, chain_at, more, Went, IsCaused, IsOfLog, begun_by, Went-then, IsCaused-since, TellsLink, TakesLink, RefusesTold, HadNoRoom, WasBegun, HoldsChain, IsKept, is_free, is_resident, IsRaised, IsLinked, RefusesLink, update_of, link_update, linked_length, IsFreeOrNode, Journal, Kept, Page}
 use Rattle.sled_base.specs.declared.types.Refusal.TheVariants.{Unsupported}
 use Rattle.sled_log.specs.Contents as content
 use Rattle.sled_node.specs.declared.node.link.Link.{Link as NodeLink}
@@ -22,16 +22,17 @@ module _ {L : Type 0} (g : Ghosts L) (old mid new : Journal L) (pid : ℕ) (q pa
   joined : (more : List (Event Message)) → Went g.tells g.state g.moment g.left_since g.counts mid new more → Went g.tells g.state g.moment g.left_since g.counts old new more
   joined more second = Went-then g.tells g.state g.moment g.left_since g.counts old mid new [] more went clear second
 
-  tells : (node : WholeNode) → (g.tells → Makes (told chain) (content.Node node)) → Accepts node link → IsUpdate (message_of (update (kept.Node node))) (update (kept.Node node))
+  tells : (node : WholeNode) → (g.tells → Makes (told chain) (content.Node node)) → Accepts node link → q.stamp ≢ 2 ^ 64 - 1 → IsUpdate (message_of (update (kept.Node node))) (update (kept.Node node))
       → Went g.tells g.state g.moment g.left_since g.counts mid new (events (kept.Node node)) → TellsLink g old pid q link new
-  tells node made accepts reads second =
+  tells node made accepts below reads second =
       let n : length page.infos.items ≡ length q.infos.items = ap length infos in
       record {
         node = node;
         made = made;
         accepts = accepts;
-        is = subst (λ (k : ℕ). IsUpdate (message_of (written_by k link (applied link node))) (written_by k link (applied link node))) n reads;
-        went = subst (λ (k : ℕ). Went g.tells g.state g.moment g.left_since g.counts old new (Change pid (message_of (written_by k link (applied link node))) ∷ [])) n (joined (events (kept.Node node)) second);
+        below = below;
+        is = subst (λ (k : ℕ). IsUpdate (message_of (link_update k link (applied link node))) (link_update k link (applied link node))) n reads;
+        went = subst (λ (k : ℕ). Went g.tells g.state g.moment g.left_since g.counts old new (Change pid (message_of (link_update k link (applied link node))) ∷ [])) n (joined (events (kept.Node node)) second);
       }
 
   taken-by : (k : Kept) → (g.tells → HoldsChain chain k) → IsLinked k link page_then.kept → IsUpdate (message_of (update k)) (update k)
@@ -41,7 +42,7 @@ module _ {L : Type 0} (g : Ghosts L) (old mid new : Journal L) (pid : ℕ) (q pa
       → (g.tells → AllByRecursion IsSized (now effect_of_entry (g.state new.log))) → TakesLink g old pid q link new page_then
   unfolding tells
   taken-by (kept.Node node) holds linked reads second raised kept_then len others sized = record {
-    tells = tells node holds linked.0 reads second;
+    tells = tells node holds linked.0 (let lt = raised.0 in λ last. omega (arith, lt, stamp, last)) reads second;
     raised = subst (λ (n : ℕ). IsRaised n page_then.stamp) stamp raised;
     holds = linked.1;
     kept = kept_then;
@@ -67,7 +68,7 @@ module _ {L : Type 0} (g : Ghosts L) (old mid new : Journal L) (pid : ℕ) (q pa
       → RefusesTold g old pid q link new refusal
   of-log node OutOfMemory made accepts below why second reads = inl (joined [] second, tt)
   of-log node (Io Read) made accepts below why second reads = inl (joined [] second, tt)
-  of-log node (Io Write) made accepts below why second reads = inr (refl, tells node (λ _. made) accepts (reads refl) second)
+  of-log node (Io Write) made accepts below why second reads = inr (refl, tells node (λ _. made) accepts below (reads refl) second)
   of-log node (Unsupported LogFull) made accepts below why second reads = inl (joined [] second, (node, made, accepts, below))
   of-log node refusal made accepts below why second reads = absurd why
 
@@ -106,7 +107,7 @@ module _ {L : Type 0} (g : Ghosts L) (old mid new : Journal L) (pid : ℕ) (q pa
   full-by (kept.Node node) holds why room full = record {
     node = node;
     made = λ _. holds;
-    full = room _ (subst (λ (k : ℕ). g.is_full mid.log (length (message_of (written_by k link (applied link node))).payload)) (ap length infos) full);
+    full = room _ (subst (λ (k : ℕ). g.is_full mid.log (length (message_of (link_update k link (applied link node))).payload)) (ap length infos) full);
   }
   full-by k holds why room full = absurd cc
 

@@ -46,9 +46,9 @@ pub use Rattle.sled_node.specs.Payloads.Roots.{ReadsRoots}
 pub use Rattle.sled_pagecache.specs.Adding.{HasOneMore, RefusesPage}
 pub use Rattle.sled_pagecache.specs.Answers.{Keeps, stamped, swapped}
 pub use Rattle.sled_pagecache.specs.Cache.{Cache, IsAway, IsIn, IsResident, chain_length}
-pub use Rattle.sled_pagecache.specs.Calls.{HasNoRoom, IsBlamed, IsSameOpening, IsStep, Steps}
+pub use Rattle.sled_pagecache.specs.Calls.{HasNoRoom, IsBlamed, IsSameOpening, IsStep, StepOver, Steps}
 pub use Rattle.sled_pagecache.specs.ChainReads.{IsFoundAs, chain_at, more, place_of}
-pub use Rattle.sled_pagecache.specs.Changes.{begun, changes_of, has_begun_by, link_update, link_update_at, written}
+pub use Rattle.sled_pagecache.specs.Changes.{link_update}
 pub use Rattle.sled_pagecache.specs.Damage.{MeetsDamage, ReportsDamage, ReportsWrong}
 pub use Rattle.sled_pagecache.specs.Journal.{IsCaused, IsOfLog, Went, begun_by, is_write_fault, told_by}
 pub use Rattle.sled_pagecache.specs.JournalLaws.{HasGrown-since, IsCaused-handed_on, IsCaused-since, Went-last, Went-none, Went-then, now-Went}
@@ -69,13 +69,13 @@ pub use Rattle.sled_pagecache.specs.Reading.{BeginsFree, IsDamaged, IsFirstWrong
 pub use Rattle.sled_pagecache.specs.Reads.{HasRead, ReadsNothing, ReadsPage, own_among}
 pub use Rattle.sled_pagecache.specs.Recovered.{AllFit, BeginsMisfit, IsRecovered, info_at, is_misfit, kept_by}
 pub use Rattle.sled_pagecache.specs.Reopening.{CrashReopens, Reopens, Started}
-pub use Rattle.sled_pagecache.specs.RowLaws.{left-more, made-row, row-none, row-one, row-then}
+pub use Rattle.sled_pagecache.specs.RowLaws.{made-row, row-none, row-one, row-then}
 pub use Rattle.sled_pagecache.specs.Stamps.{stamps_to}
 pub use Rattle.sled_pagecache.specs.Starting.{Starts}
 pub use Rattle.sled_pagecache.specs.Starts.{CrashLeaves, HasAdded, IsBlamedOpening, IsFit, IsHindrance, LacksRoomFor, MayBeOpened, Opens, RefusesOpening, WasFull, log_after, only_stable, only_stable_contents}
 pub use Rattle.sled_pagecache.specs.State.{State, contents_of, free_token, greatest_free, later, page, page_at, stamps_of, with_page}
-pub use Rattle.sled_pagecache.specs.Step.{Allocates, Does, Finds, FindsContent, IsCorruption, IsGone, IsHindered, IsRefused, IsSwapped, LinksContent, LinksNode, Replaces, ReplacesContent, Step, Swapped, Swaps, SwapsPage, UnlessFaulty, UnlessReserved, UnlessStale, is_reserved}
-pub use Rattle.sled_pagecache.specs.Swaps.{IsLinked, IsRaised, RefusesLink, RefusesSwap, Wrote, infos_after, linked_length, update_of, written_by}
+pub use Rattle.sled_pagecache.specs.Step.{Allocates, Does, Fails, Finds, FindsContent, Flushes, Gets, IsCorruption, IsGone, IsHindered, IsRefused, Links, LinksContent, LinksNode, Outcome, Replaces, Sizes, Swapped, Swaps, SwapsContent, SwapsPage, UnlessFaulty, UnlessReserved, UnlessStale, is_reserved, outcome, unchanged}
+pub use Rattle.sled_pagecache.specs.Swaps.{IsLinked, IsRaised, RefusesLink, RefusesSwap, Wrote, infos_after, linked_length, update_of}
 pub use Rattle.sled_pagecache.specs.Table.{AreOwn, IsBeside, IsConsistent, IsCounter, IsFreeOrNode, IsRoots, resident_in, stamps_in}
 pub use Rattle.sled_pagecache.specs.Token.{IsAnswered, Token, pid_of, token}
 pub use Rattle.sled_pagecache.specs.declared.pagecache.call.Answer.{Answer}

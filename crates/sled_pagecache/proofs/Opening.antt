@@ -1,12 +1,13 @@
 -- Opening a cache over a log.
-use Rattle.sled_pagecache.proofs.Names.{Option, ⊎_elim, ◌≡◌, ◌≢◌, ◌≤◌, ◌<◌, ◌^◌, ℕ, zero, suc, Bool, false, List, [], ◌∷◌, ◌++◌, length, map, take, drop, None, Some, Result, Ok, Err, refl, sym, ◌∙◌, ap, subst, arith, drop-nil, take-append_seam, drop-append_seam, length-map, take-append-drop, take-map, drop-map, none-some, same_Some, AllZip-long, AllByRecursion, error_of, Read, Write, Error, Refusal, ReportableBug, Io, Corruption, OutOfMemory, LogFull, is_open, open_after, Content, Counter, Roots, Update, Put, contents_after, Event, Change, Pin, Seal, Cancel, seen, holds-after, Message, Entry, Chain, Told, told, effect_of, effect_of_entry, Holds, Hold, AreTold, told-take, reads-open, told_state, is_open-told, now-told, message_of, CanWrite, written-update, Ghosts, Cache, IsOpenedWith, told_at_start, Logged, IsLogged, fault_of, missing, changes_of_start, opened, is_fault, Comes, LacksRoom, Proceeds, AreRoots, IsProper, StayProper, Starts, IsFit, RefusesOpening, IsHindrance, HasAdded, CrashLeaves, LacksRoomFor, WasFull, Opens, IsBlamedOpening, MayBeOpened, page, contents_of, Config, Journal}
+use Rattle.sled_pagecache.proofs.Names.{Option, ⊎_elim, ◌≡◌, ◌≢◌, ◌≤◌, ◌<◌, ◌^◌, ℕ, zero, suc, Bool, false, List, [], ◌∷◌, ◌++◌, length, map, take, drop, None, Some, Result, Ok, Err, refl, sym, ◌∙◌, ap, subst, arith, drop-nil, take-append_seam, drop-append_seam, length-map, take-append-drop, take-map, drop-map, none-some, same_Some, AllZip-long, AllByRecursion, error_of, Read, Write, Error, Refusal, ReportableBug, Io, Corruption, OutOfMemory, LogFull, is_open, open_after, Content, Counter, Roots, Update, Put, contents_after, Event, Change, Pin, Seal, Cancel, seen, holds-after, Message, Entry, Chain, Told, told, effect_of, effect_of_entry, Holds, Hold, AreTold, told-take, reads-open, told_state, is_open-told, now-told, message_of, CanWrite, written-update, Ghosts, Cache, IsOpenedWith, counter_told, told_at_start, Logged, IsLogged, fault_of, missing, changes_of_start, opened, is_fault, Comes, LacksRoom, Proceeds, AreRoots, IsProper, StayProper, Starts, IsFit, RefusesOpening, IsHindrance, HasAdded, CrashLeaves, LacksRoomFor, WasFull, Opens, IsBlamedOpening, MayBeOpened, page, contents_of, Config, Journal}
 use Rattle.std.specs.List.{slice_get}
 use Rattle.sled_base.specs.declared.types.Error.TheVariants as errors
 use Rattle.sled_base.specs.declared.types.Refusal.TheVariants.{Unsupported}
 use Rattle.sled_log.specs.State as log
 use Rattle.sled_pagecache.proofs.Carrying.{Carries, carries, leaves, proper-now}
 use Rattle.sled_pagecache.proofs.PagesAt.{holds_now}
-use Rattle.sled_pagecache.proofs.Staying.{stay-take}
+use Rattle.sled_pagecache.proofs.Lookups.{all-at, map-at}
+use Rattle.sled_pagecache.proofs.Staying.{stay-none, stay-one, stay-take}
 use Rattle.sled_pagecache.proofs.Starting.{told-same, changes-closed}
 use Rattle.sled_pagecache.specs.Logged.{now}
 use Rattle.sled_pagecache.specs.Proceeding as proceeding
@@ -38,19 +39,13 @@ proper-one = record { own = tt; short = (omega arith, tt); few = omega arith }
 proper-two : (p : Told) (roots : Content) → AreRoots roots → length p ≤ 10 → IsProper (p ∷ (message_of (Put (Counter 0)) ∷ []) ∷ []) (roots ∷ Counter 0 ∷ [])
 proper-two p roots own short = record { own = (own, tt, tt); short = (short, (omega arith, tt)); few = omega arith }
 
-proper-still : (pages : List Told) (held : List Content) → IsProper pages held → StayProper pages held [] []
-proper-still pages held proper zero = proper
-proper-still pages held proper (suc n) = proper
-
 stays-start : (pages : List Told) (held : List Content) → Hold pages held → IsProper pages held → StayProper pages held (told_at_start held) (changes_of_start held)
 stays-start [] [] hold proper zero = proper
-stays-start [] [] hold proper (suc zero) = proper-one
-stays-start [] [] hold proper (suc (suc n)) =
-    proper-still ((message_of (Put (Roots [])) ∷ []) ∷ (message_of (Put (Counter 0)) ∷ []) ∷ []) (Roots [] ∷ Counter 0 ∷ []) (proper-two (message_of (Put (Roots [])) ∷ []) (Roots []) tt (omega arith)) n
-stays-start (p ∷ []) (roots ∷ []) hold proper zero = proper
-stays-start (p ∷ []) (roots ∷ []) hold proper (suc n) = proper-still (p ∷ (message_of (Put (Counter 0)) ∷ []) ∷ []) (roots ∷ Counter 0 ∷ []) (proper-two p roots proper.own proper.short.0) n
+stays-start [] [] hold proper (suc n) =
+    stay-one ((message_of (Put (Roots [])) ∷ []) ∷ []) (Roots [] ∷ []) counter_told (Change 1 (Put (Counter 0))) proper-one (proper-two (message_of (Put (Roots [])) ∷ []) (Roots []) tt (omega arith)) n
+stays-start (p ∷ []) (roots ∷ []) hold proper n = stay-one (p ∷ []) (roots ∷ []) counter_told (Change 1 (Put (Counter 0))) proper (proper-two p roots proper.own proper.short.0) n
 stays-start (p ∷ q ∷ pages) (roots ∷ counter ∷ held) hold proper n =
-    rw (drop-nil {A = Event Message} (length held), drop-nil {A = Event Update} (length held)) (proper-still (p ∷ q ∷ pages) (roots ∷ counter ∷ held) proper n)
+    rw (drop-nil {A = Event Message} (length held), drop-nil {A = Event Update} (length held)) (stay-none (p ∷ q ∷ pages) (roots ∷ counter ∷ held) proper n)
 stays-start pages held hold proper n = absurd (assumption hold)
 
 -- ---- which errors there are
@@ -78,12 +73,10 @@ no-fault refusal other = refl
 
 -- each page of a log that a cache left is fit, by the pages of which the first has this id
 later-fit : (chains : List Chain) (k : ℕ) (chain : Chain) → AllByRecursion (λ (told : Told). length told ≤ 10) (map told chains) → slice_get chains k ≡ Some chain → length chain ≤ 10
-later-fit [] k chain short is = absurd (none-some chain is)
-later-fit (c ∷ chains) zero chain short is =
-    let fits : length (told c) ≤ 10 = short.0 in
-    let same = length-map c (λ (entry : Entry). entry.message) in
-    subst (λ (l : Chain). length l ≤ 10) (same_Some c chain is) (let e : length c ≤ 10 = omega (arith, fits, same) in e)
-later-fit (c ∷ chains) (suc k) chain short is = later-fit chains k chain short.1 is
+later-fit chains k chain short is =
+    let fits : length (told chain) ≤ 10 = all-at (λ (told : Told). length told ≤ 10) (map told chains) k (told chain) short (map-at told chains k chain is) in
+    let same = length-map chain (λ (entry : Entry). entry.message) in
+    omega (arith, fits, same)
 
 roots-of : (content : Content) → AreRoots content → (chain : Chain) → Holds (told chain) content → IsFit 0 chain
 roots-of (Roots roots) are chain makes = (roots, makes)
@@ -198,7 +191,7 @@ module _ {L : Type 0} (g : Ghosts L) (known : g.tells) (config : Config) (old : 
     was-full new clear full =
         let at = full.at in
         let then = added at full.went full.clear in
-        let same = proper-still (log.now effect_of (told_state (g.state at.log))) (now then.held_then) (proper-now (told_state (g.state at.log)) then.held_then then.logged) in
+        let same = stay-none (log.now effect_of (told_state (g.state at.log))) (now then.held_then) (proper-now (told_state (g.state at.log)) then.held_then then.logged) in
         record {
           given = λ none. lacks old.log (full.given (none-came none));
           at = at.log;

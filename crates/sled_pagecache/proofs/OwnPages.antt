@@ -1,12 +1,12 @@
 -- The cache's own pages, as they are read from a log, and as they are made.
-use Rattle.sled_pagecache.proofs.Names.{◌≡◌, ◌≤◌, ◌<◌, ◌&&◌, ◌||◌, ℤ, ℕ, zero, suc, Bool, true, false, List, [], ◌∷◌, length, map, get_or, ltb, Some, refl, sym, ◌∙◌, ap, subst, arith, false≢true, nat_tests, length-map, none-some, AllZip-long, AllZip, MessageKind, DiskPtr, Refusal, Corruption, OutOfMemory, ReadsU64, is_freeing, is_empty, Content, Counter, Roots, Node, Put, effect_of_update, Entry, Chain, Told, told, effect_of_entry, freed_of, Reads, IsUpdate, LeadTo, Makes, reads_effect, applied, WholeNode, ReadsRoots, IsFoundAs, IsLoaded, IsUnread, RefusesOwn, HoldsChain, is_free, freed_at, told_of, BeginsFree, RefusesMessage, is_misfit, IsFit, CacheInfo, Kept, Page, Found}
+use Rattle.sled_pagecache.proofs.Names.{◌≡◌, ◌≤◌, ◌<◌, ◌&&◌, ◌||◌, ℤ, ℕ, zero, suc, Bool, true, false, List, [], ◌∷◌, length, map, get_or, ltb, Some, refl, sym, ◌∙◌, ap, subst, arith, false≢true, nat_tests, none-some, AllZip-long, AllZip, MessageKind, DiskPtr, Refusal, Corruption, OutOfMemory, ReadsU64, is_freeing, is_empty, Content, Counter, Roots, Node, Put, effect_of_update, Entry, Chain, Told, told, effect_of_entry, freed_of, Reads, IsUpdate, LeadTo, Makes, reads_effect, applied, WholeNode, ReadsRoots, IsFoundAs, IsLoaded, RefusesOwn, is_free, freed_at, told_of, RefusesMessage, is_misfit, IsFit, CacheInfo, Page, Found}
 use Rattle.std.specs.List.{slice_get}
 use Rattle.sled_base.specs.declared.kinds.MessageKind.TheVariants as kinds
 use Rattle.sled_node.specs.Meta as meta
 use Rattle.sled_pagecache.proofs.Linked.{full-free}
 use Rattle.sled_pagecache.proofs.Pulls.{makes-found, found-makes, begins-full}
 use Rattle.sled_pagecache.proofs.RecoveredPages.{first-place}
-use Rattle.sled_pagecache.specs.declared.pagecache.page.Kept.TheVariants as kept
+use Rattle.sled_pagecache.proofs.Standing.{kept-free}
 
 -- ---- what makes the named roots or the counter is one message
 
@@ -33,16 +33,13 @@ own-one (entry ∷ next ∷ chain) content own h = absurd (node-leads (applied h
 
 -- ---- which pages are so
 
-pub lengths : (chain : Chain) (infos : List CacheInfo) → map freed_of chain ≡ map freed_at infos → length chain ≡ length infos
-lengths chain infos at = sym (length-map chain freed_of) ∙ ap length at ∙ length-map infos freed_at
-
 abbrev misfit_by : ℕ → ℕ → Bool → Bool
 misfit_by pid len free = ltb 10 len || (ltb pid 2 && (free || ltb 1 len))
 
 own-fits : (pid : ℕ) (chain : Chain) (page : Page) (content : Content) → IsLoaded chain page → IsOwn content → Makes (told chain) content → is_misfit pid page ≡ false
 own-fits pid chain page content is own makes =
     let one = own-one chain content own makes in
-    let sole = lengths chain page.infos.items is.at in
+    let sole = is.kept.long in
     let full = full-free chain page.kept one.1 is.kept.holds in
     grind (arith, nat_tests, one.0, sole, full)
 
@@ -55,7 +52,7 @@ misfit-unfit zero chain page is misfit fit = false≢true (sym (own-fits 0 chain
 misfit-unfit (suc zero) chain page is misfit fit = false≢true (sym (own-fits 1 chain page (Counter fit.0) is tt fit.1) ∙ misfit)
 misfit-unfit (suc (suc pid)) chain page is misfit fit =
     let long = long-misfit (suc (suc pid)) (length page.infos.items) (is_free page.kept) (omega arith) misfit in
-    let same = lengths chain page.infos.items is.at in
+    let same = is.kept.long in
     let short : length chain ≤ 10 = fit in
     absurd (omega (arith, long, same, short))
 
@@ -63,29 +60,17 @@ misfit-unfit (suc (suc pid)) chain page is misfit fit =
 pub fits-one : (pid len : ℕ) (free : Bool) → pid < 2 → 0 < len → misfit_by pid len free ≡ false → (len ≡ 1) × (free ≡ false)
 fits-one pid len free own some fits = (grind (arith, nat_tests), grind (arith, nat_tests))
 
--- and what was found of it is one message
-pub found-one : (pid : ℕ) (chain : Chain) (page : Page) (found : List Found) → pid < 2 → 0 < length page.infos.items → IsLoaded chain page → is_misfit pid page ≡ false → AllZip IsFoundAs chain found → length found ≡ 1
-found-one pid chain page found own some is fits zip =
-    let long : length found ≡ length chain = AllZip-long IsFoundAs chain found zip in
-    long ∙ lengths chain page.infos.items is.at ∙ (fits-one pid (length page.infos.items) (is_free page.kept) own some fits).0
+pub sole-found : (chain : Chain) (found : List Found) (first : Found) → AllZip IsFoundAs chain found → length found ≡ 1 → first ≡ get_or found 0 first → AllZip IsFoundAs chain (first ∷ [])
+sole-found chain (x ∷ []) first zip one is = subst (λ (f : Found). AllZip IsFoundAs chain (f ∷ [])) (sym is) zip
+sole-found chain found first zip one is = absurd (omega (arith, one))
 
-unread-full : (chain : Chain) (held : Kept) → IsUnread held → is_free held ≡ false → HoldsChain chain held → is_empty effect_of_entry chain ≡ false
-unread-full chain kept.Away unread full holds = holds
-unread-full chain kept.Free unread full holds = absurd (false≢true (sym full))
-unread-full chain held unread full holds = absurd unread
-
-begins-so : (found : List Found) (first : Found) → length found ≡ 1 → first ≡ get_or found 0 first → first.kind ≡ kinds.Free → BeginsFree found
-begins-so [] first one is frees = absurd (omega (arith, one))
-begins-so (x ∷ found) first one is frees = ap (λ (f : Found). f.kind) (sym is) ∙ frees
-
--- it doesn't say that the page is free
+-- and what was found of it doesn't say that the page is free
 pub found-full : (pid : ℕ) (chain : Chain) (page : Page) (found : List Found) (first : Found)
-    → pid < 2 → 0 < length page.infos.items → IsLoaded chain page → IsUnread page.kept → is_misfit pid page ≡ false → AllZip IsFoundAs chain found
-    → first ≡ get_or found 0 first → ¬ (first.kind ≡ kinds.Free)
-found-full pid chain page found first own some is unread fits zip first-is frees =
-    let full = (fits-one pid (length page.infos.items) (is_free page.kept) own some fits).1 in
-    begins-full chain found zip (unread-full chain page.kept unread full is.kept.holds)
-    (begins-so found first (found-one pid chain page found own some is fits zip) first-is frees)
+    → pid < 2 → 0 < length page.infos.items → IsLoaded chain page → is_misfit pid page ≡ false → AllZip IsFoundAs chain found → first ≡ get_or found 0 first → ¬ (first.kind ≡ kinds.Free)
+found-full pid chain page found first own some is fits zip first-is frees =
+    let sole = fits-one pid (length page.infos.items) (is_free page.kept) own some fits in
+    let one = AllZip-long IsFoundAs chain found zip ∙ is.kept.long ∙ sole.0 in
+    begins-full chain (first ∷ []) (sole-found chain found first zip one first-is) (kept-free chain page.kept is.kept.holds ∙ sole.1) frees
 
 -- ---- the pointer of the first message
 
@@ -101,40 +86,33 @@ pub begins-at : (chain : Chain) (infos : List CacheInfo) (info : CacheInfo) → 
     → slice_get (map (λ (entry : Entry). entry.place.pointer) chain) 0 ≡ Some info.pointer
 begins-at chain infos info at some is = first-pointer chain infos info.pointer at (first-place infos info some is)
 
-pub found-at : (chain : Chain) (found : List Found) (first : Found) → AllZip IsFoundAs chain found → length found ≡ 1 → first ≡ get_or found 0 first
-    → slice_get (map (λ (entry : Entry). entry.place.pointer) chain) 0 ≡ Some first.pointer
-found-at chain [] first zip one is = absurd (omega (arith, one))
-found-at [] (x ∷ found) first zip one is = absurd zip
-found-at (entry ∷ chain) (x ∷ found) first zip one is = ap (λ (p : DiskPtr). Some p) (sym zip.0.1 ∙ sym (ap (λ (f : Found). f.pointer) is))
+found-at : (chain : Chain) (first : Found) → AllZip IsFoundAs chain (first ∷ []) → slice_get (map (λ (entry : Entry). entry.place.pointer) chain) 0 ≡ Some first.pointer
+found-at [] first zip = absurd zip
+found-at (entry ∷ chain) first zip = ap (λ (p : DiskPtr). Some p) (sym zip.0.1)
 
 -- ---- what one message makes
 
-pub made-one : (chain : Chain) (found : List Found) (first : Found) (content : Content) → AllZip IsFoundAs chain found → length found ≡ 1 → first ≡ get_or found 0 first
-    → IsUpdate (told_of first) (Put content) → Makes (told chain) content
-made-one chain (x ∷ []) first content zip one is reads =
-    makes-found chain (x ∷ []) content zip (content, subst (λ (f : Found). IsUpdate (told_of f) (Put content)) is reads, refl)
-made-one chain found first content zip one is reads = absurd (omega (arith, one))
+pub made-one : (chain : Chain) (first : Found) (content : Content) → AllZip IsFoundAs chain (first ∷ []) → IsUpdate (told_of first) (Put content) → Makes (told chain) content
+made-one chain first content zip reads = makes-found chain (first ∷ []) content zip (content, reads, refl)
 
-one-made : (chain : Chain) (found : List Found) (first : Found) (content : Content) → AllZip IsFoundAs chain found → length found ≡ 1 → first ≡ get_or found 0 first
-    → Makes (told chain) content → IsUpdate (told_of first) (Put content)
-one-made chain (x ∷ []) first content zip one is makes =
-    let made = found-makes chain (x ∷ []) content zip makes in
-    subst (λ (f : Found). IsUpdate (told_of f) (Put content)) (sym is) (subst (λ (c : Content). IsUpdate (told_of x) (Put c)) made.2 made.1)
-one-made chain found first content zip one is makes = absurd (omega (arith, one))
+one-made : (chain : Chain) (first : Found) (content : Content) → AllZip IsFoundAs chain (first ∷ []) → Makes (told chain) content → IsUpdate (told_of first) (Put content)
+one-made chain first content zip makes =
+    let made = found-makes chain (first ∷ []) content zip makes in
+    subst (λ (c : Content). IsUpdate (told_of first) (Put c)) made.2 made.1
 
 -- ---- why the one message was refused
 
-module _ (chain : Chain) (found : List Found) (first : Found) (zip : AllZip IsFoundAs chain found) (one : length found ≡ 1) (is : first ≡ get_or found 0 first) where
+module _ (chain : Chain) (first : Found) (zip : AllZip IsFoundAs chain (first ∷ [])) where
   refuses-at : (pid : ℕ) (amiss : Type 0) → (amiss → ¬ IsFit pid chain) → (e : Refusal) → RefusesMessage first.pointer amiss e → RefusesOwn pid chain e
   refuses-at pid amiss unfit OutOfMemory r = tt
-  refuses-at pid amiss unfit (Corruption (Some pointer)) r = (unfit r.1, found-at chain found first zip one is ∙ ap (λ (p : DiskPtr). Some p) (sym r.0))
+  refuses-at pid amiss unfit (Corruption (Some pointer)) r = (unfit r.1, found-at chain first zip ∙ ap (λ (p : DiskPtr). Some p) (sym r.0))
   refuses-at pid amiss unfit e r = absurd r
 
   pub refuses-roots : (e : Refusal) → RefusesMessage first.pointer ((roots : meta.Roots) → ¬ IsUpdate (told_of first) (Put (Roots roots))) e → RefusesOwn 0 chain e
-  refuses-roots e r = refuses-at 0 _ (λ amiss fit. amiss fit.0 (one-made chain found first (Roots fit.0) zip one is fit.1)) e r
+  refuses-roots e r = refuses-at 0 _ (λ amiss fit. amiss fit.0 (one-made chain first (Roots fit.0) zip fit.1)) e r
 
   pub refuses-counter : (e : Refusal) → RefusesMessage first.pointer ((n : ℕ) → ¬ IsUpdate (told_of first) (Put (Counter n))) e → RefusesOwn 1 chain e
-  refuses-counter e r = refuses-at 1 _ (λ amiss fit. amiss fit.0 (one-made chain found first (Counter fit.0) zip one is fit.1)) e r
+  refuses-counter e r = refuses-at 1 _ (λ amiss fit. amiss fit.0 (one-made chain first (Counter fit.0) zip fit.1)) e r
 
 -- ---- what a payload spells
 

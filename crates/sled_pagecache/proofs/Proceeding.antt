@@ -1,11 +1,12 @@
 -- Calls of a log, one after another up to the first that is refused.
-use Rattle.sled_pagecache.proofs.Names.{◌≡◌, length, true, false, List, [], ◌∷◌, ◌++◌, Option, None, Some, Result, Ok, Err, refl, sym, ◌∙◌, ap, subst, append_assoc, append-nil, Read, Write, Refusal, ReportableBug, Io, Corruption, OutOfMemory, LogFull, Event, Change, Message, Told, effect_of, IsLeft, told_state, Ghosts, IsCaused, is_write_fault, begun_by, HasGrown-since, Went-none, Went-then, Went-last, refusal_in, is_fault, Comes, TakesNoRoom, LacksRoom, IsCutShort, Reaches, Proceeds, Journal}
+use Rattle.sled_pagecache.proofs.Names.{◌≡◌, length, true, false, List, [], ◌∷◌, ◌++◌, Option, None, Some, Result, Ok, Err, refl, sym, ◌∙◌, ap, subst, append_assoc, append-nil, Read, Write, Refusal, ReportableBug, Io, Corruption, OutOfMemory, LogFull, Event, Change, Message, Told, effect_of, IsLeft, told_state, Ghosts, IsCaused, is_write_fault, begun_by, HasGrown-since, IsCaused-since, Went-none, Went-then, Went-last, refusal_in, is_fault, Comes, TakesNoRoom, LacksRoom, Reaches, Proceeds, Journal}
 use Rattle.sled_base.specs.declared.types.Refusal.TheVariants.{Unsupported}
 use Rattle.sled_pagecache.specs.Proceeding.{WasFull}
 
-fault-same : (T : Type 0) (refusal : Refusal) → (let result : Result T Refusal = Err refusal in is_write_fault result) ≡ is_fault (Some refusal)
-fault-same T (Unsupported why) = refl
-fault-same T refusal = refl
+fault-same : {T : Type 0} (result : Result T Refusal) → is_write_fault result ≡ is_fault (refusal_in result)
+fault-same (Ok answer) = refl
+fault-same (Err (Unsupported why)) = refl
+fault-same (Err refusal) = refl
 
 pub nil-left : {X : Type 0} (xs ys : List X) → xs ++ ys ≡ [] → xs ≡ []
 nil-left [] ys is = refl
@@ -32,34 +33,30 @@ module _ {L : Type 0} (g : Ghosts L) where
 
   -- ---- one call
 
-  -- a call that tells nothing, behind others that were done
-  pub cut-behind : {T : Type 0} (old mid new : Journal L) (events : List (Event Message)) (refusal : Refusal) → Proceeds g old mid events None
-      → Comes g mid new []
-      → (let result : Result T Refusal = Err refusal in IsCaused g.tells g.state g.moment g.left_since g.counts mid new ⊥ result)
-      → IsCutShort g old new events refusal
-  cut-behind old mid new events refusal done went cause = record {
+  reaches-behind : {T : Type 0} (old new : Journal L) (events : List (Event Message)) (result : Result T Refusal) → Comes g old new events
+      → IsCaused g.tells g.state g.moment g.left_since g.counts old new ⊥ result → Reaches g old new events (refusal_in result)
+  reaches-behind old new events (Ok answer) went cause = went
+  reaches-behind old new events (Err refusal) went cause = record {
     came = events;
     rest = [];
     is = append-nil events;
-    went = Went-last g.tells g.state g.moment g.left_since g.counts old mid new events done.reaches done.fault went;
-    read = λ is. HasGrown-since (g.counts old.log).failed_reads (g.counts mid.log).failed_reads (g.counts new.log).failed_reads done.reaches.failed_reads (cause.read (as-error refusal (Io Read) is));
-    write = λ is. HasGrown-since (g.counts old.log).write_faults (g.counts mid.log).write_faults (g.counts new.log).write_faults done.reaches.write_faults (cause.write (as-error refusal (Io Write) is));
+    went = went;
+    read = λ is. cause.read (as-error refusal (Io Read) is);
+    write = λ is. cause.write (as-error refusal (Io Write) is);
     full = λ is. absurd (cause.full (as-error refusal (Unsupported LogFull) is));
   }
 
+  -- a call that tells nothing, behind others that were done
   pub proceeds-behind : {T : Type 0} (old mid new : Journal L) (events : List (Event Message)) (result : Result T Refusal) → Proceeds g old mid events None
       → Comes g mid new []
       → IsCaused g.tells g.state g.moment g.left_since g.counts mid new ⊥ result
       → (events ≡ [] → TakesNoRoom g mid.log new.log)
       → Proceeds g old new events (refusal_in result)
-  proceeds-behind old mid new events (Ok answer) done went cause room = record {
-    reaches = Went-last g.tells g.state g.moment g.left_since g.counts old mid new events done.reaches done.fault went;
-    fault = cause.fault;
-    room = λ none n full. done.room none n (room none n full);
-  }
-  proceeds-behind {T} old mid new events (Err refusal) done went cause room = record {
-    reaches = cut-behind old mid new events refusal done went cause;
-    fault = cause.fault ∙ fault-same T refusal;
+  proceeds-behind old mid new events result done went cause room = record {
+    reaches =
+        reaches-behind old new events result (Went-last g.tells g.state g.moment g.left_since g.counts old mid new events done.reaches done.fault went)
+        (IsCaused-since g.tells g.state g.moment g.left_since g.counts old mid new events ⊥ result done.reaches cause);
+    fault = cause.fault ∙ fault-same result;
     room = λ none n full. done.room none n (room none n full);
   }
 
@@ -80,17 +77,13 @@ module _ {L : Type 0} (g : Ghosts L) where
       → Comes g old new (begun_by result (event ∷ []))
       → IsCaused g.tells g.state g.moment g.left_since g.counts old new (LacksRoom g old.log (event ∷ [])) result
       → Proceeds g old new (event ∷ []) (refusal_in result)
-  proceeds-told old new event (Ok answer) only clear usable went cause = record { reaches = went; fault = cause.fault; room = λ none. (let e = none in cc) }
-  proceeds-told {T} old new event (Err refusal) only clear usable went cause = record {
-    reaches = by refusal went cause;
-    fault = cause.fault ∙ fault-same T refusal;
-    room = λ none. (let e = none in cc);
-  }
+  proceeds-told old new event result only clear usable went cause = record { reaches = by result went cause; fault = cause.fault ∙ fault-same result; room = λ none. (let e = none in cc) }
     where
-      none-came : (refusal : Refusal) → Comes g old new []
-          → (let result : Result T Refusal = Err refusal in IsCaused g.tells g.state g.moment g.left_since g.counts old new (LacksRoom g old.log (event ∷ [])) result)
-          → IsCutShort g old new (event ∷ []) refusal
-      none-came refusal went cause = record {
+      by : {T : Type 0} (result : Result T Refusal) → Comes g old new (begun_by result (event ∷ []))
+          → IsCaused g.tells g.state g.moment g.left_since g.counts old new (LacksRoom g old.log (event ∷ [])) result → Reaches g old new (event ∷ []) (refusal_in result)
+      by (Ok answer) went cause = went
+      by (Err (Io Write)) went cause = record { came = event ∷ []; rest = []; is = refl; went = went; read = λ is. (let e = is in cc); write = λ is. cause.write refl; full = λ is. (let e = is in cc) }
+      by (Err refusal) went cause = record {
         came = [];
         rest = event ∷ [];
         is = refl;
@@ -101,12 +94,6 @@ module _ {L : Type 0} (g : Ghosts L) where
             let lacks = cause.full (as-error refusal (Unsupported LogFull) is) in
             record { at = old; went = Went-none g.tells g.state g.moment g.left_since g.counts old usable only; clear = clear; room = lacks; given = λ _. lacks; behind = went };
       }
-
-      by : (refusal : Refusal) → (let result : Result T Refusal = Err refusal in Comes g old new (begun_by result (event ∷ [])))
-          → (let result : Result T Refusal = Err refusal in IsCaused g.tells g.state g.moment g.left_since g.counts old new (LacksRoom g old.log (event ∷ [])) result)
-          → IsCutShort g old new (event ∷ []) refusal
-      by (Io Write) went cause = record { came = event ∷ []; rest = []; is = refl; went = went; read = λ is. (let e = is in cc); write = λ is. cause.write refl; full = λ is. (let e = is in cc) }
-      by other went cause = none-came other went cause
 
   own-clear : (refusal : Refusal) → IsOwnRefusal refusal → is_fault (Some refusal) ≡ false
   own-clear (Unsupported why) own = absurd own

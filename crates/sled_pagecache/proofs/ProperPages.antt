@@ -1,5 +1,6 @@
 -- What a change of a page from 2 on makes of pages as a cache leaves them.
 use Rattle.sled_pagecache.proofs.Names.{◌≡◌, ◌≤◌, ◌<◌, ◌^◌, ℕ, zero, suc, Bool, true, false, cond, List, [], ◌∷◌, ◌++◌, length, set, Some, slice_get, slice_set, slice_index_or, sym, subst, arith, eq-eqb, ne_eqb, length-append, length-set, get_or_from_slice_get, slice_get_within, AllZip-long, AllByRecursion, applied, WholeNode, is_empty, linked, chains_from, Content, Free, Node, Put, Link, after_link, contents_from, Change, Message, Told, effect_of, Holds, Hold, message_of, IsUsers, IsProper}
+pub use Rattle.sled_node.proofs.Edits.{all_append as all-append}
 use Rattle.sled_node.specs.declared.node.link.Link.{Link as NodeLink}
 use Rattle.sled_pagecache.specs.Proper.{AreOwn}
 
@@ -10,17 +11,11 @@ all-set P i [] x h p = tt
 all-set P zero (y ∷ xs) x h p = (p, h.1)
 all-set P (suc i) (y ∷ xs) x h p = (h.0, all-set P i xs x h.1 p)
 
-pub all-append : {X : Type 0} (P : X → Type 0) (xs ys : List X) → AllByRecursion P xs → AllByRecursion P ys → AllByRecursion P (xs ++ ys)
-all-append P [] ys h i = i
-all-append P (x ∷ xs) ys h i = (h.0, all-append P xs ys h.1 i)
-
 -- ---- the system pages stay
 
 own-set : (contents : List Content) (pid : ℕ) (content : Content) → AreOwn contents → 2 ≤ pid → pid < length contents → IsUsers content → AreOwn (slice_set contents pid content)
-own-set [] pid content own from lt node = absurd (omega (arith, lt))
-own-set (roots ∷ []) pid content own from lt node = absurd (omega (arith, from, lt))
 own-set (roots ∷ counter ∷ rest) (suc (suc pid)) content own from lt node = (own.0, own.1, all-set IsUsers pid rest content own.2 node)
-own-set contents pid content own from lt node = absurd (omega (arith, from))
+own-set contents pid content own from lt node = absurd (omega (arith, from, lt))
 
 own-add : (contents : List Content) (content : Content) → AreOwn contents → 2 ≤ length contents → IsUsers content → AreOwn (contents ++ content ∷ [])
 own-add (roots ∷ counter ∷ rest) content own from node = (own.0, own.1, all-append IsUsers rest (content ∷ []) own.2 (node, tt))

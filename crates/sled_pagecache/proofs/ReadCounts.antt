@@ -5,13 +5,7 @@ use Rattle.sled_pagecache.proofs.ChainReads.{more-add}
 module _ {L : Type 0} (g : Ghosts L) (old new : Cache L) (pid : ℕ) where
   -- nothing is read, and the page isn't brought in
   pub reads-none : ReadsNothing g old new → (IsAway old pid → IsResident new pid → ⊥) → ReadsPage g old pid new
-  reads-none none out = record {
-    in_memory = λ _. none;
-    whole = λ _ away resident. absurd (out away resident);
-    times = 0;
-    most = omega arith;
-    is = none;
-  }
+  reads-none none out = record { in_memory = λ _. none; whole = λ _ away resident. absurd (out away resident); times = 0; most = omega arith; is = none }
 
   -- each message is read
   pub reads-whole : (n : ℕ) → IsAway old pid → (g.tells → n ≡ chain_length g.state old pid) → n ≤ 10 → (g.counts new.log).reads ≡ more n (g.counts old.log).reads → ReadsPage g old pid new
@@ -25,13 +19,7 @@ module _ {L : Type 0} (g : Ghosts L) (old new : Cache L) (pid : ℕ) where
 
   -- some are, and the page isn't brought in
   pub reads-part : (n : ℕ) → IsAway old pid → (IsResident new pid → ⊥) → n ≤ 10 → (g.counts new.log).reads ≡ more n (g.counts old.log).reads → ReadsPage g old pid new
-  reads-part n away out most is = record {
-    in_memory = λ not. absurd (not away);
-    whole = λ _ _ resident. absurd (out resident);
-    times = n;
-    most = most;
-    is = is;
-  }
+  reads-part n away out most is = record { in_memory = λ not. absurd (not away); whole = λ _ _ resident. absurd (out resident); times = n; most = most; is = is }
 
 -- ---- how many pages are the cache's own
 
@@ -47,11 +35,6 @@ own-two n more = absurd (omega (arith, more))
 -- ---- reads of one call after another
 
 module _ {L : Type 0} (counts : L → Counts) where
-  -- a call was refused that has read so often, and not more often than it might
-  pub read-part : {T E : Type 0} (old new : L) (n times : ℕ) (e : E) → times ≤ n → (counts new).reads ≡ more times (counts old).reads
-      → (let result : Result T E = Err e in HasRead counts old new n result)
-  read-part old new n times e le is = record { whole = tt; part = (times, le, is) }
-
   -- a refusal is handed on by a call that might read more
   pub read-handed : {T U E F : Type 0} (old new : L) (m n : ℕ) (e : E) (f : F) → m ≤ n → (let result : Result T E = Err e in HasRead counts old new m result)
       → (let result : Result U F = Err f in HasRead counts old new n result)

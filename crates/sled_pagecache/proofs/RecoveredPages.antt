@@ -1,5 +1,5 @@
 -- Pages as they are recovered are kept as their chains say, and the first of them that no cache leaves so.
-use Rattle.sled_pagecache.proofs.Names.{◌≡◌, ◌+◌, ◌<◌, ◌≤◌, ℕ, ℤ, true, false, List, [], ◌∷◌, ◌++◌, length, map, take, drop, get_or, Option, Some, refl, sym, ◌∙◌, ap, subst, inl, inr, arith, false≢true, length-map, take_more, slice_get_read, slice_get_cases, AllZip, AllByRecursion, IfSome, DiskPtr, PageState, Chain, IsPageState, said_of, freed_of, place_of, IsLoaded, IsUnread, HoldsChain, IsKept, is_free, freed_at, info_at, kept_by, IsRecovered, is_misfit, AllFit, BeginsMisfit, CacheInfo, Kept, Page}
+use Rattle.sled_pagecache.proofs.Names.{◌≡◌, ◌+◌, ◌<◌, ◌≤◌, ℕ, ℤ, true, false, List, [], ◌∷◌, ◌++◌, length, map, take, drop, get_or, Option, Some, refl, sym, ◌∙◌, ap, subst, inl, inr, arith, false≢true, length-map, take_more, slice_get_read, slice_get_cases, zip-append, AllZip, AllByRecursion, IfSome, DiskPtr, PageState, Chain, IsPageState, said_of, freed_of, place_of, IsLoaded, IsUnread, HoldsChain, IsKept, is_free, freed_at, info_at, kept_by, IsRecovered, is_misfit, AllFit, BeginsMisfit, CacheInfo, Kept, Page}
 use Rattle.std.specs.List.{slice_get}
 use Rattle.sled_base.specs.declared.types.page_state.PageState.TheVariants as said
 
@@ -26,17 +26,13 @@ is-kept chain (said.Free lsn pointer) page from is = record {
   holds = subst (λ (kept : Kept). HoldsChain chain kept) (sym from.kept) is.0;
 }
 
-freed-same : (places : List Place) → map freed_at (map info_at places) ≡ map (λ (place : Place). (place.0, place.1)) places
-freed-same [] = refl
-freed-same (place ∷ places) = ap (λ (l : List (ℤ × DiskPtr)). (place.0, place.1) ∷ l) (freed-same places)
-
-freed-said : (chain : Chain) → map freed_of chain ≡ map (λ (place : Place). (place.0, place.1)) (map said_of chain)
+freed-said : (chain : Chain) → map freed_of chain ≡ map freed_at (map info_at (map said_of chain))
 freed-said [] = refl
 freed-said (entry ∷ chain) = ap (λ (l : List (ℤ × DiskPtr)). freed_of entry ∷ l) (freed-said chain)
 
 at-places : (chain : Chain) (state : PageState) (page : Page) → IsRecovered state page → IsPageState chain state → map freed_of chain ≡ map freed_at page.infos.items
 at-places chain (said.Present base frags) page from is =
-    freed-said chain ∙ ap (map (λ (place : Place). (place.0, place.1))) is.1 ∙ sym (freed-same (base ∷ frags.items)) ∙ sym (ap (map freed_at) from.infos)
+    freed-said chain ∙ ap (λ (places : List Place). map freed_at (map info_at places)) is.1 ∙ sym (ap (map freed_at) from.infos)
 at-places chain (said.Free lsn pointer) page from is = is.1 ∙ sym (ap (map freed_at) from.infos)
 
 by-state : (state : PageState) → IsUnread (kept_by state)
@@ -44,11 +40,7 @@ by-state (said.Present base frags) = tt
 by-state (said.Free lsn pointer) = tt
 
 is-loaded : (chain : Chain) (state : PageState) (page : Page) → IsRecovered state page → IsPageState chain state → IsLoaded chain page
-is-loaded chain state page from is = record {
-  kept = is-kept chain state page from is;
-  at = at-places chain state page from is;
-  stamp = from.stamp;
-}
+is-loaded chain state page from is = record { kept = is-kept chain state page from is; at = at-places chain state page from is; stamp = from.stamp }
 
 pub all-loaded : (chains : List Chain) (states : List PageState) (pages : List Page) → AllZip IsRecovered states pages → AllZip IsPageState chains states → AllZip IsLoaded chains pages
 all-loaded [] [] [] from are = tt
@@ -61,18 +53,12 @@ all-unread [] [] from = tt
 all-unread (state ∷ states) (page ∷ pages) from = (subst IsUnread (sym from.0.kept) (by-state state), all-unread states pages from.1)
 all-unread states pages from = absurd from
 
-recovered-push : (states : List PageState) (pages : List Page) (state : PageState) (page : Page)
-    → AllZip IsRecovered states pages → IsRecovered state page → AllZip IsRecovered (states ++ state ∷ []) (pages ++ page ∷ [])
-recovered-push [] [] state page all is = (is, tt)
-recovered-push (s ∷ states) (x ∷ pages) state page all is = (all.0, recovered-push states pages state page all.1 is)
-recovered-push states pages state page all is = absurd all
-
 -- the pages so far, and one more
 pub recovered-more : (states : List PageState) (i : ℕ) (state : PageState) (pages : List Page) (page : Page)
     → i < length states → state ≡ get_or states i state → AllZip IsRecovered (take i states) pages → IsRecovered state page → AllZip IsRecovered (take (i + 1) states) (pages ++ page ∷ [])
 recovered-more states i state pages page lt is all one =
     subst (λ (l : List PageState). AllZip IsRecovered l (pages ++ page ∷ [])) (sym (take_more states i state lt ∙ ap (λ (s : PageState). take i states ++ s ∷ []) (sym is)))
-    (recovered-push (take i states) pages state page all one)
+    (zip-append IsRecovered (take i states) pages (state ∷ []) (page ∷ []) all (one, tt))
 
 -- ---- the first page that no cache leaves so
 

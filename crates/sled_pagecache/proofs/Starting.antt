@@ -1,12 +1,15 @@
 -- The pages that a cache is opened with.
-use Rattle.sled_pagecache.proofs.Names.{◌≡◌, ◌≤◌, ◌<◌, ◌+◌, ℕ, zero, suc, Bool, true, false, cond, List, [], ◌∷◌, ◌++◌, length, map, take, drop, set, get_or, slice_get, slice_index_or, Option, None, Some, is_some, Result, Ok, refl, sym, ◌∙◌, ap, subst, arith, eq-eqb, drop-nil, take-nil, take-append_seam, false≢true, nat_tests, length-append, length-map, append-nil, AllZip-long, slice_get-get_or, slice_get_past, none-some, same_Some, AllByRecursion, AllZip, IfSome, DiskPtr, Refusal, Io, Corruption, OutOfMemory, PageState, is_open, open_after, is_chain, is_empty, changed, Content, Update, Put, Event, Change, Message, Entry, Chain, Told, told, placed, effect_of, effect_of_entry, holds-made, IsPageState, IsSized, Makes, Holds, Hold, IsLeft, now, told_state, message_of, zip-append, Ghosts, place_of, roots_told, IsLoaded, IsUnread, AreRecovered, AreRead, AreFound, AreOwnSoFar, IsTable, IsOpenedWith, RefusesOwn, RefusesPages, next_id, counter_told, told_of_roots, told_at_start, stamps_at_start, first_id, HoldsChain, IsKept, is_resident, freed_at, free_ids, Proceeds, refusal_in, is_misfit, AllFit, BeginsMisfit, IsFit, Wrote, IsRoots, IsCounter, IsFreeOrNode, AreOwn, IsConsistent, stamps_in, resident_in, CacheInfo, Config, Journal, Kept, Page}
+use Rattle.sled_pagecache.proofs.Names.{◌≡◌, ◌≤◌, ◌<◌, ◌+◌, ◌^◌, ℕ, zero, suc, Bool, true, false, cond, List, [], ◌∷◌, ◌++◌, length, map, take, drop, set, get_or, slice_get, slice_index_or, Option, None, Some, is_some, Result, Ok, refl, sym, ◌∙◌, ap, subst, arith, eq-eqb, drop-nil, take-nil, take-append_seam, false≢true, nat_tests, length-append, length-map, append-nil, AllZip-long, slice_get-get_or, slice_get_past, slice_get_within, get_or_from_slice_get, none-some, same_Some, AllByRecursion, AllZip, IfSome, DiskPtr, Refusal, Io, Corruption, OutOfMemory, is_open, open_after, is_chain, is_empty, changed, Content, Put, Event, Change, Message, Entry, Chain, Told, told, placed, effect_of, effect_of_entry, holds-made, IsSized, Makes, Holds, Hold, IsLeft, now, told_state, message_of, zip-append, Ghosts, place_of, roots_told, IsLoaded, IsUnread, AreRecovered, AreRead, AreFound, AreOwnSoFar, IsTable, IsOpenedWith, RefusesOwn, RefusesPages, next_id, counter_told, told_of_roots, told_at_start, stamps_at_start, first_id, HoldsChain, IsKept, is_resident, freed_at, free_ids, Proceeds, refusal_in, is_misfit, AllFit, BeginsMisfit, IsFit, Wrote, IsRoots, IsCounter, IsFreeOrNode, AreOwn, IsConsistent, stamps_in, resident_in, CacheInfo, Config, Journal, Kept, Page}
+use Rattle.std.proofs.lemmas.List.{get_or-set_other}
 use Rattle.sled_base.specs.declared.kinds.LogKind.TheVariants as effects
 use Rattle.sled_log.specs.Chains.{begun as begin_page}
 use Rattle.sled_log.specs.Contents as contents
+use Rattle.sled_log.specs.ZipLaws.{zip-at}
+use Rattle.sled_node.proofs.Places.{all_so}
 use Rattle.sled_node.specs.Meta as meta
 use Rattle.sled_pagecache.proofs.ProperPages.{all-append}
 use Rattle.sled_pagecache.proofs.Linked.{full-free}
-use Rattle.sled_pagecache.proofs.OwnPages.{IsOwn, own-one, lengths, misfit-unfit, first-pointer}
+use Rattle.sled_pagecache.proofs.OwnPages.{IsOwn, own-one, misfit-unfit, first-pointer}
 use Rattle.sled_pagecache.proofs.Proceeding.{nil-right, proceeds-told, proceeds-then, proceeds-first}
 use Rattle.sled_pagecache.proofs.Tables.{went-chains}
 use Rattle.sled_pagecache.specs.State as state
@@ -22,13 +25,6 @@ own-two (roots ∷ []) page one own is = (own, is, tt)
 own-two pages page one own is = absurd (omega (arith, one))
 
 module _ {L : Type 0} (g : Ghosts L) where
-  pub wrote-proceeds : (old new : Journal L) (pid : ℕ) (update : Update) (stamp : ℕ) (result : Result CacheInfo Refusal)
-      → ((pages : List Told) → g.tells → (g.state old.log).usable ≡ true → g.left_since old.log (g.moment old.log) pages → IsLeft effect_of (told_state (g.state old.log)) [] pages)
-      → old.fault ≡ false → (g.state old.log).usable ≡ true
-      → Wrote g.tells g.state g.moment g.left_since g.counts g.is_full old new pid update stamp result
-      → Proceeds g old new (Change pid (message_of update) ∷ []) (refusal_in result)
-  wrote-proceeds old new pid update stamp result only clear usable wrote = proceeds-told g old new (Change pid (message_of update)) result only clear usable wrote.went wrote.cause
-
   module _ (old new : Journal L) (pid stamp : ℕ) (content : Content) (info : CacheInfo) (wrote : Wrote g.tells g.state g.moment g.left_since g.counts g.is_full old new pid (Put content) stamp (Ok info)) where
     abbrev entry : Entry
     entry = placed (message_of (Put content)) (place_of info)
@@ -67,16 +63,11 @@ module _ {L : Type 0} (g : Ghosts L) where
   wrote-roots old new stamp result roots pages only clear usable none empty wrote =
       subst (λ (l : List Page). Proceeds g old new (told_of_roots l) (refusal_in result)) (sym empty)
       (subst (λ (r : meta.Roots). Proceeds g old new (Change 0 (message_of (Put (contents.Roots r))) ∷ []) (refusal_in result)) none
-      (wrote-proceeds old new 0 (Put (contents.Roots roots)) stamp result only clear usable wrote))
+      (proceeds-told g old new (Change 0 (message_of (Put (contents.Roots roots)))) result only clear usable wrote.went wrote.cause))
 
 pub own-first : (pages : List Page) (page : Page) → pages ≡ [] → IsRoots page.kept → AreOwnSoFar (pages ++ page ∷ [])
 own-first [] page none is = is
 own-first (other ∷ pages) page none is = (let e = none in cc)
-
--- ---- pages that were recovered
-
-pub too-many : (held : List Chain) (states : List PageState) (most : ℕ) → AllZip IsPageState held states → most < length states → most < length held
-too-many held states most are more = let long : length states ≡ length held = AllZip-long IsPageState held states are in omega (arith, long, more)
 
 -- ---- the contents of the system pages
 
@@ -97,18 +88,12 @@ unread-node kept.Free unread = tt
 unread-node kept.Away unread = tt
 unread-node held unread = absurd unread
 
-all-unread-nodes : (pages : List Page) → AllByRecursion (λ page. IsUnread page.kept) pages → AllByRecursion (λ page. IsFreeOrNode page.kept) pages
-all-unread-nodes [] all = tt
-all-unread-nodes (page ∷ pages) all = (unread-node page.kept all.0, all-unread-nodes pages all.1)
-
 -- the second page, where the first was read
 pub second-loaded : {tells : Type 0} (held then : List Chain) (pages : List Page) (other page : Page) → AreRecovered tells held pages → tells → then ≡ held → 1 < length pages → page ≡ get_or (set pages 0 other) 1 page
     → IsLoaded (slice_index_or then 1 []) page
-second-loaded [] then (p ∷ q ∷ pages) other page are known same long is = absurd (are.kept known)
-second-loaded (c ∷ []) then (p ∷ q ∷ pages) other page are known same long is = absurd (are.kept known).1
-second-loaded (c ∷ d ∷ held) then (p ∷ q ∷ pages) other page are known same long is =
-    subst (λ (l : List Chain). IsLoaded (slice_index_or l 1 []) page) (sym same) (subst (IsLoaded d) (sym is) (are.kept known).1.0)
-second-loaded held then pages other page are known same long is = absurd (omega (arith, long))
+second-loaded held then pages other page are known same long is =
+    let at = is ∙ get_or-set_other pages 0 1 other page (λ e. absurd (omega (arith, e))) in
+    subst (λ (l : List Chain). IsLoaded (slice_index_or l 1 []) page) (sym same) (subst (IsLoaded (slice_index_or held 1 [])) (sym at) (zip-at IsLoaded 1 held pages [] page (are.kept known) long))
 
 module _ {tells : Type 0} (held : List Chain) (roots : meta.Roots) (n : ℕ) (makes : tells → Makes (told (slice_index_or held 0 [])) (contents.Roots roots)) where
   pub read-both : (then : List Chain) (pages : List Page) (p q first second : Page) → (tells → then ≡ held) → AreRecovered tells held pages → 1 < length pages
@@ -142,25 +127,22 @@ first-fits [] roots makes before lt = tt
 first-fits (c ∷ held) roots makes zero lt = (roots, makes)
 first-fits (c ∷ held) roots makes (suc before) lt = absurd (omega (arith, lt))
 
+-- the first page that is amiss is one of those that were recovered
+amiss-refuses : (pid : ℕ) (held : List Chain) (pages : List Page) (pointer : DiskPtr) → AllZip IsLoaded held pages → length pages ≤ 2 ^ 37 → pid < length pages
+    → ((before : ℕ) → before < pid → IfSome (slice_get held before) (IsFit before))
+    → RefusesOwn pid (slice_index_or held pid []) (Corruption (Some pointer)) → RefusesPages held (Corruption (Some pointer))
+amiss-refuses pid held pages pointer loaded few lt first r =
+    let long : length pages ≡ length held = AllZip-long IsLoaded held pages loaded in
+    let is = slice_get-get_or held pid [] (omega (arith, long, lt)) in
+    (omega (arith, long, few), record { pid = pid; chain = slice_index_or held pid []; is = is; amiss = r.0; first = first; begins = r.1 })
+
 pub own-refuses : {tells : Type 0} (pid : ℕ) (held then : List Chain) (pages : List Page) (refusal : Refusal) → then ≡ held → AreRecovered tells held pages → tells → pid < length pages
     → ((before : ℕ) → before < pid → IfSome (slice_get held before) (IsFit before))
     → RefusesOwn pid (slice_index_or then pid []) refusal → RefusesPages held refusal
 own-refuses pid held then pages OutOfMemory same are known lt first r = tt
 own-refuses pid held then pages (Io device) same are known lt first r = tt
 own-refuses pid held then pages (Corruption (Some pointer)) same are known lt first r =
-    let long : length pages ≡ length held = AllZip-long IsLoaded held pages (are.kept known) in
-    let few = are.few in
-    let so : RefusesOwn pid (slice_index_or held pid []) (Corruption (Some pointer)) = subst (λ (l : List Chain). RefusesOwn pid (slice_index_or l pid []) (Corruption (Some pointer))) same r in (
-      omega (arith, long, few),
-      record {
-        pid = pid;
-        chain = slice_index_or held pid [];
-        is = slice_get-get_or held pid [] (omega (arith, long, lt));
-        amiss = so.0;
-        first = first;
-        begins = so.1;
-      },
-    )
+    amiss-refuses pid held pages pointer (are.kept known) are.few lt first (subst (λ (l : List Chain). RefusesOwn pid (slice_index_or l pid []) (Corruption (Some pointer))) same r)
 own-refuses pid held then pages refusal same are known lt first r = absurd r
 
 -- ---- the first page that no cache leaves so
@@ -177,7 +159,7 @@ later-fit : (pid k : ℕ) (held : List Chain) (pages : List Page) → AllZip IsL
 later-fit pid k [] [] loaded fits = tt
 later-fit pid zero (c ∷ held) (p ∷ pages) loaded fits =
     let short = short-by pid p fits in
-    let same = lengths c p.infos.items loaded.0.at in
+    let same = loaded.0.kept.long in
     omega (arith, short, same)
 later-fit pid (suc k) (c ∷ held) (p ∷ pages) loaded fits = later-fit pid k held pages loaded.1 fits
 later-fit pid k held pages loaded fits = absurd loaded
@@ -192,29 +174,16 @@ fits-at (c ∷ d ∷ held) (p ∷ q ∷ pages) counter loaded found (suc zero) f
 fits-at (c ∷ d ∷ held) (p ∷ q ∷ pages) counter loaded found (suc (suc k)) fits = later-fit (suc (suc k)) k held pages loaded.1.1 fits
 fits-at held pages counter loaded found k fits = tt
 
-loaded-at : (held : List Chain) (pages : List Page) (k : ℕ) (page : Page) → AllZip IsLoaded held pages → slice_get pages k ≡ Some page
-    → (chain : Chain) × (slice_get held k ≡ Some chain) × IsLoaded chain page
-loaded-at held [] k page loaded is = absurd (none-some page is)
-loaded-at [] (p ∷ pages) k page loaded is = absurd loaded
-loaded-at (c ∷ held) (p ∷ pages) zero page loaded is = (c, refl, subst (IsLoaded c) (same_Some p page is) loaded.0)
-loaded-at (c ∷ held) (p ∷ pages) (suc k) page loaded is = loaded-at held pages k page loaded.1 is
-
 pub begins-amiss : {tells : Type 0} (held : List Chain) (pages : List Page) (counter : Option ℕ) (pointer : DiskPtr) → AreRead tells held pages counter → tells → BeginsMisfit pages pointer
     → RefusesPages held (Corruption (Some pointer))
 begins-amiss held pages counter pointer are known begins =
-    let long : length pages ≡ length held = AllZip-long IsLoaded held pages (are.kept known) in
-    let few = are.few in
-    let at = loaded-at held pages begins.pid begins.page (are.kept known) begins.is in (
-      omega (arith, long, few),
-      record {
-        pid = begins.pid;
-        chain = at.0;
-        is = at.1;
-        amiss = misfit-unfit begins.pid at.0 begins.page at.2 begins.misfit;
-        first = λ before lt. fits-at held pages counter (are.kept known) are.hold before (begins.first before lt);
-        begins = first-pointer at.0 begins.page.infos.items pointer at.2.at begins.begins;
-      },
-    )
+    let loaded = are.kept known in
+    let page = begins.page in
+    let chain = slice_index_or held begins.pid [] in
+    let lt = slice_get_within pages begins.pid page begins.is in
+    let at : IsLoaded chain page = subst (IsLoaded chain) (get_or_from_slice_get pages begins.pid page page begins.is) (zip-at IsLoaded begins.pid held pages [] page loaded lt) in
+    amiss-refuses begins.pid held pages pointer loaded are.few lt (λ before le. fits-at held pages counter loaded are.hold before (begins.first before le))
+    (misfit-unfit begins.pid chain page at begins.misfit, first-pointer chain page.infos.items pointer at.at begins.begins)
 
 -- ---- the table then
 
@@ -231,7 +200,7 @@ all-short n (p ∷ pages) fit =
 own-found : (pages : List Page) (counter : Option ℕ) → AreFound pages counter → AreOwnSoFar pages
 own-found [] counter found = tt
 own-found (p ∷ []) counter found = found.0
-own-found (p ∷ q ∷ pages) counter found = (found.0, subst IsCounter (sym found.2) tt, all-unread-nodes pages found.4)
+own-found (p ∷ q ∷ pages) counter found = (found.0, subst IsCounter (sym found.2) tt, all_so {P = λ (page : Page). IsUnread page.kept} {Q = λ (page : Page). IsFreeOrNode page.kept} (λ page. unread-node page.kept) pages found.4)
 
 pub read-table : (tells : Type 0) (held : List Chain) (pages : List Page) (counter : Option ℕ) → AreRead tells held pages counter → AllFit pages → IsTable tells held pages
 read-table tells held pages counter are fit = record {
@@ -252,13 +221,10 @@ read-from tells {held} {then} {pages} {counter} same are = record {
   sized = λ known. subst (λ (l : List Chain). AllByRecursion IsSized l) (same known) (are.sized known);
 }
 
-all-fresh : (held : List Chain) (pages : List Page) → AllZip IsLoaded held pages → stamps_in pages ≡ map (λ _. 0) pages
+pub all-fresh : (held : List Chain) (pages : List Page) → AllZip IsLoaded held pages → stamps_in pages ≡ map (λ _. 0) pages
 all-fresh [] [] loaded = refl
 all-fresh (c ∷ held) (p ∷ pages) loaded = ap (λ n. n ∷ stamps_in pages) loaded.0.stamp ∙ ap (λ (l : List ℕ). 0 ∷ l) (all-fresh held pages loaded.1)
 all-fresh held pages loaded = absurd loaded
-
-pub read-fresh : {tells : Type 0} (held : List Chain) (pages : List Page) (counter : Option ℕ) → AreRead tells held pages counter → tells → stamps_in pages ≡ map (λ _. 0) pages
-read-fresh held pages counter are known = all-fresh held pages (are.kept known)
 
 -- ---- which contents lie in memory
 
@@ -300,9 +266,6 @@ told-split pages few = refl
 
 pub told-same : {X Y : Type 0} (pages : List X) (others : List Y) → length pages ≡ length others → told_at_start pages ≡ told_at_start others
 told-same pages others long = ap (λ n. drop n (roots_told ∷ counter_told ∷ [])) long
-
-pub read-told : {tells : Type 0} (held : List Chain) (pages : List Page) (counter : Option ℕ) → AreRead tells held pages counter → tells → told_at_start pages ≡ told_at_start held
-read-told held pages counter are known = told-same pages held (AllZip-long IsLoaded held pages (are.kept known))
 
 pub read-fewer : {tells : Type 0} (held : List Chain) (pages : List Page) (counter : Option ℕ) → AreRead tells held pages counter → tells → length held < 2 → length pages < 2
 read-fewer held pages counter are known few = let long : length pages ≡ length held = AllZip-long IsLoaded held pages (are.kept known) in omega (arith, long, few)

@@ -1,11 +1,9 @@
--- What a call of the page cache does: it is one step of the machine, and a stop at any moment of it leaves a beginning of
+-- What a call of the page cache does: it is one step of the machine, and a crash at any moment of it leaves a prefix of
 -- what it writes.
-use Rattle.std.specs.Prelude.{◌≡◌, true, false, length, Some, Result, IsErrOf}
-use Rattle.std.specs.List.{Any}
+use Rattle.std.specs.Prelude.{◌≡◌, true, false, length, Result, IsErrOf}
 use Rattle.sled_base.specs.declared.types.Device.TheVariants.{Read, Write}
 use Rattle.sled_base.specs.declared.types.Error.{Error}
-use Rattle.sled_base.specs.declared.types.Error.TheVariants.{Unsupported, Io}
-use Rattle.sled_base.specs.declared.types.Why.TheVariants.{LogFull}
+use Rattle.sled_base.specs.declared.types.Error.TheVariants.{Io}
 use Rattle.sled_log.specs.Calls.{HasGrown}
 use Rattle.sled_log.specs.Contents.{Update}
 use Rattle.sled_log.specs.Events.{Event, Change, Pin, Seal, Cancel}
@@ -13,10 +11,9 @@ use Rattle.sled_log.specs.State as log
 use Rattle.sled_log.specs.Writing.{message_of}
 use Rattle.sled_log.specs.declared.log.Log.{Ghosts}
 use Rattle.sled_pagecache.specs.Cache.{Cache, chain_length, IsIn}
-use Rattle.sled_pagecache.specs.Changes.{written, changes_of, error_of}
 use Rattle.sled_pagecache.specs.Logged.{Logged, Adds, IsLeft}
 use Rattle.sled_pagecache.specs.State.{State}
-use Rattle.sled_pagecache.specs.Step.{Step}
+use Rattle.sled_pagecache.specs.Step.{Outcome, Step}
 use Rattle.sled_pagecache.specs.declared.pagecache.call.Answer.{Answer}
 use Rattle.sled_pagecache.specs.declared.pagecache.call.Call.{Call}
 
@@ -33,17 +30,19 @@ module _ {L : Type 0} (g : Ghosts L) where
   HasNoRoom log Seal = ⊥
   HasNoRoom log Cancel = ⊥
 
-  -- From this state, over a log that holds this, the call is one step to another state. What it writes is added to the log,
-  -- and a stop at any moment of it leaves what the log held and a beginning of that, up to a fair cut. It is refused for a
-  -- full log only where that has no room for what it would write. With a write fault kept the log isn't called.
+  -- a step of the machine, over the log of the cache
+  abbrev pub StepOver : Cache L → State → Call → Answer → Outcome → Type 0
+  StepOver cache s call answer out = Step (chain_length g.state cache) (HasNoRoom cache.log) s call answer out
+
+  -- From this state, over a log that holds this, the call is one step. What it writes is added to the log, and a crash at any
+  -- moment of it leaves what the log held and a prefix of that which splits no batch. Behind a write error the log isn't called.
   pub record IsStep (old : Cache L) (call : Call) (answer : Answer) (new : Cache L) (held : Logged) (s : State) : Type 0 where
+    pub out : Outcome
+    pub step : StepOver old s call answer out
     pub held_then : Logged
-    pub t : State
-    pub is : IsIn g new held_then t
-    pub step : Step s call answer t
-    pub added : t.fault ≡ false → Adds held (changes_of (chain_length g.state old) s call answer) held_then
-    pub stop : s.fault ≡ false → log.StopsLeave g.moment g.left_since old.log new.log (IsLeft held (changes_of (chain_length g.state old) s call answer))
-    pub full : error_of answer ≡ Some (Unsupported LogFull) → Any (HasNoRoom old.log) (written (chain_length g.state old) s call)
+    pub is : IsIn g new held_then out.state
+    pub added : out.state.fault ≡ false → Adds held out.changes held_then
+    pub stop : s.fault ≡ false → log.StopsLeave g.moment g.left_since old.log new.log (IsLeft held out.changes)
     pub stuck : s.fault ≡ true → new.log ≡ old.log
 
   -- The call is one step, in whatever state the cache is.

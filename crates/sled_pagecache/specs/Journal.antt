@@ -32,7 +32,7 @@ is_write_fault (Ok answer) = false
 is_write_fault (Err (Io Write)) = true
 is_write_fault (Err other) = false
 
--- the events that a stop may find of a call: none where it was refused, but for a write fault
+-- the events that a crash may find of a call: none where it was refused, but for a write fault
 abbrev pub begun_by : {T : Type 0} → Result T Refusal → List (Event Message) → List (Event Message)
 begun_by (Ok answer) events = events
 begun_by (Err (Io Write)) events = events
@@ -47,8 +47,8 @@ IsOfLog other = ⊥
 
 module _ {L : Type 0} (tells : Type 0) (state : L → State Entry) (moment : L → ℕ) (left_since : L → ℕ → List Told → Type 0) (counts : L → Counts) where
   -- If no write fault is kept, the log may be called and a batch is open as these events say; no count falls. Where the device
-  -- tells its bytes, the events were added, and a stop at any moment since `old` leaves what was stable and pending then and a
-  -- beginning of the events, up to a fair cut.
+  -- tells its bytes, the events were added, and a crash at any moment since `old` leaves what was durable, and a
+  -- prefix of what was pending then and of the events, which splits no batch.
   pub record Went (old new : Journal L) (events : List (Event Message)) : Type 0 where
     pub usable : new.fault ≡ false → (state new.log).usable ≡ true
     pub opened : new.fault ≡ false → is_open (state new.log).pending ≡ open_after (is_open (state old.log).pending) events
@@ -57,7 +57,7 @@ module _ {L : Type 0} (tells : Type 0) (state : L → State Entry) (moment : L �
     pub added : tells → new.fault ≡ false → Adds effect_of (told_state (state old.log)) events (told_state (state new.log))
     pub stop : tells → StopsLeave moment left_since old.log new.log (IsLeft effect_of (told_state (state old.log)) events)
 
-  -- Each refusal has its cause: a read or a write failed in the call, memory was wanting, or the log had no room. A write fault
+  -- Each refusal has its cause: a read or a write failed in the call, an allocation failed, or the log had no room. A write fault
   -- is kept.
   pub record IsCaused {T : Type 0} (old new : Journal L) (no_room : Type 0) (result : Result T Refusal) : Type 0 where
     pub fault : new.fault ≡ is_write_fault result

@@ -23,7 +23,8 @@ use Rattle.sled_pagecache.specs.ChainReads.{chain_at}
 use Rattle.sled_pagecache.specs.Journal.{Went}
 use Rattle.sled_pagecache.specs.Pages.{IsKept}
 use Rattle.sled_pagecache.specs.Reading.{IsWrongAt}
-use Rattle.sled_pagecache.specs.Swaps.{IsRaised, written_by, linked_length}
+use Rattle.sled_pagecache.specs.Changes.{link_update}
+use Rattle.sled_pagecache.specs.Swaps.{IsRaised, linked_length}
 use Rattle.sled_pagecache.specs.declared.pagecache.journal.Journal.{Journal}
 use Rattle.sled_pagecache.specs.declared.pagecache.page.Kept.TheVariants as kept
 use Rattle.sled_pagecache.specs.declared.pagecache.page.Page.{Page}
@@ -41,14 +42,15 @@ RefusesUntold chain stamp link refusal = ⊥
 
 -- what is told to the log where this node of a page takes the link
 abbrev pub update_by : Page → NodeLink → WholeNode → Update
-update_by page link node = written_by (length page.infos.items) link (applied link node)
+update_by page link node = link_update (length page.infos.items) link (applied link node)
 
 module _ {L : Type 0} (g : Ghosts L) (old : Journal L) (pid : ℕ) (page : Page) (link : NodeLink) where
-  -- The update was told to the log, at most in part.
+  -- The update was told to the log, at most in part: the node accepts the link, and the stamp may rise.
   pub record TellsLink (new : Journal L) : Type 0 where
     pub node : WholeNode
     pub made : g.tells → Makes (told (chain_at (g.state old.log) pid)) (content.Node node)
     pub accepts : Accepts node link
+    pub below : page.stamp ≢ 2 ^ 64 - 1
     pub is : IsUpdate (message_of (update_by page link node)) (update_by page link node)
     pub went : Went g.tells g.state g.moment g.left_since g.counts old new (Change pid (message_of (update_by page link node)) ∷ [])
 

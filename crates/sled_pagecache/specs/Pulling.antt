@@ -5,7 +5,7 @@ use Rattle.sled_base.specs.declared.types.Refusal.TheVariants.{Io, Corruption, O
 use Rattle.sled_log.specs.Messages.{Chain}
 use Rattle.sled_pagecache.specs.Reading.{IsWrongAt}
 
--- Memory was wanting, the device failed, or a message doesn't belong there, and the first such one is reported.
+-- An allocation failed, the device failed, or a message doesn't belong there, and the first such one is reported.
 abbrev pub RefusesPull : Chain → Refusal → Type 0
 RefusesPull chain OutOfMemory = ⊤
 RefusesPull chain (Io device) = ⊤

@@ -49,7 +49,7 @@ abbrev pub BeginsFree : List Found → Type 0
 BeginsFree [] = ⊥
 BeginsFree (first ∷ found) = first.kind ≡ kinds.Free
 
--- why messages give no node: memory was wanting, one of them doesn't belong there, or the page is free
+-- why messages give no node: an allocation failed, one of them doesn't belong there, or the page is free
 abbrev pub RefusesNode : List Found → Refusal → Type 0
 RefusesNode found OutOfMemory = ⊤
 RefusesNode found (Corruption (Some pointer)) = IsFoundWrong found pointer
@@ -59,7 +59,7 @@ RefusesNode found refusal = ⊥
 
 -- ---- one message
 
--- no value is spelled by the payload from its beginning to its end
+-- no value is encoded by the payload from its front to its end
 abbrev pub SpellsNothing : {V : Type 0} → (List ℕ → V → List ℕ → Type 0) → List ℕ → Type 0
 SpellsNothing {V} reads payload = (value : V) → reads payload value [] → ⊥
 
@@ -67,7 +67,7 @@ SpellsNothing {V} reads payload = (value : V) → reads payload value [] → ⊥
 abbrev pub Leads : WholeNode → Message → WholeNode → Type 0
 Leads before message after = (link : NodeLink) × IsUpdate message (Link link) × Accepts before link × (after ≡ applied link before)
 
--- why a message that is kept at the pointer was refused: memory was wanting, or it is amiss
+-- why a message that is kept at the pointer was refused: an allocation failed, or it is amiss
 abbrev pub RefusesMessage : DiskPtr → Type 0 → Refusal → Type 0
 RefusesMessage pointer amiss OutOfMemory = ⊤
 RefusesMessage pointer amiss (Corruption (Some place)) = (place ≡ pointer) × amiss

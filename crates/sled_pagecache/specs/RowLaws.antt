@@ -15,13 +15,12 @@ use Rattle.sled_log.specs.RunLaws.{StopsLeave-weaker}
 use Rattle.sled_log.specs.State as log
 use Rattle.sled_log.specs.State.{IsBeginning, StopsLeave}
 use Rattle.sled_log.specs.declared.log.Log.{Ghosts}
-use Rattle.sled_pagecache.specs.Cache.{Cache, chain_length}
-use Rattle.sled_pagecache.specs.Calls.{Steps}
-use Rattle.sled_pagecache.specs.Changes.{changes_of}
+use Rattle.sled_pagecache.specs.Cache.{Cache}
+use Rattle.sled_pagecache.specs.Calls.{StepOver, Steps}
 use Rattle.sled_pagecache.specs.Logged.{Logged, IsLogged, AreKept, Adds, IsLeft}
 use Rattle.sled_pagecache.specs.Rows.{AreSteps, IsRow, StepInRow, IsMade, AreMade}
 use Rattle.sled_pagecache.specs.State.{State}
-use Rattle.sled_pagecache.specs.Step.{Step}
+use Rattle.sled_pagecache.specs.Step.{Outcome, unchanged}
 use Rattle.sled_pagecache.specs.declared.pagecache.call.Answer.{Answer}
 use Rattle.sled_pagecache.specs.declared.pagecache.call.Answer.TheVariants.{Allocated, Got, Linked, Replaced, Flushed, Sized}
 use Rattle.sled_pagecache.specs.declared.pagecache.call.Call.{Call}
@@ -41,7 +40,7 @@ left-behind : (held mid : Logged) (first second : List (Event Update)) (pages : 
 left-behind held mid first second pages = CrashKeeps-behind contents_after contents_after-append held.stable mid.stable held.pending mid.pending first second (AreKept pages)
 
 -- what it leaves where more come
-pub left-more : (held : Logged) (first all : List (Event Update)) (pages : List Told) → IsBeginning first all → IsLeft held first pages → IsLeft held all pages
+left-more : (held : Logged) (first all : List (Event Update)) (pages : List Told) → IsBeginning first all → IsLeft held first pages → IsLeft held all pages
 left-more held first all pages = CrashKeeps-more contents_after contents_after-append held.stable held.pending first all (AreKept pages)
 
 -- ---- stops
@@ -51,7 +50,7 @@ none-came : {E : Type 0} (came : List (Event E)) → IsBeginning came [] → cam
 none-came [] b = refl
 none-came (event ∷ came) b = let e = b.1 in absurd cc
 
--- what a stop leaves of a log between two calls
+-- what a crash leaves of a log between two calls
 left-now : (state : log.State Message) (held : Logged) (pages : List Told) → IsLogged state held → log.IsLeft effect_of state [] pages → IsLeft held [] pages
 left-now state held pages logged left =
     let all : state.pending ++ left.came ≡ state.pending = ap (λ (l : List (Event Message)). state.pending ++ l) (none-came left.came left.beginning) ∙ append-nil state.pending in
@@ -73,7 +72,7 @@ left-now state held pages logged left =
     }
 
 module _ {L : Type 0} (moment : L → ℕ) (left_since : L → ℕ → List Told → Type 0) where
-  -- what stops leave of two calls is what they leave of one of them
+  -- what crashes leave of two calls is what they leave of one of them
   stops-then : (old mid new : L) (P Q R : List Told → Type 0) → ((pages : List Told) → P pages → R pages) → ((pages : List Told) → Q pages → R pages)
       → StopsLeave moment left_since old mid P → StopsLeave moment left_since mid new Q → StopsLeave moment left_since old new R
   stops-then old mid new P Q R of_one of_two one two = record {
@@ -89,39 +88,39 @@ taken : (A B : Type 0) (test : Bool) → test ≡ true → MatchBool test A B �
 taken A B true is h = h
 taken A B false is h = absurd (false≢true is)
 
--- with a write fault kept a call changes nothing
-step-stuck : (s t : State) (call : Call) (answer : Answer) → Step s call answer t → s.fault ≡ true → t ≡ s
-step-stuck s t (Allocate node) (Allocated answer) step kept = (taken _ _ s.fault kept step).1
-step-stuck s t (Get pid) (Got answer) step kept = (taken _ _ s.fault kept step).1
-step-stuck s t (Link old link) (Linked answer) step kept = (taken _ _ s.fault kept step).1
-step-stuck s t (Replace old node) (Replaced answer) step kept = (taken _ _ s.fault kept step).1
-step-stuck s t Flush (Flushed answer) step kept = (taken _ _ s.fault kept step).1
-step-stuck s t SizeOnDisk (Sized answer) step kept = (taken _ _ s.fault kept step).1
-step-stuck s t call answer step kept = absurd step
-
-steps-stuck : (s t : State) (calls : List (Call × Answer)) (changes : List (Event Update)) → AreSteps s calls changes t → s.fault ≡ true → t ≡ s
-steps-stuck s t [] changes steps kept = steps.1
-steps-stuck s t (made ∷ calls) changes (messages, mid, others, step, are, steps) kept =
-    let same = step-stuck s mid made.0 made.1 step kept in
-    steps-stuck mid t calls others steps (ap (λ u. u.fault) same ∙ kept) ∙ same
-
--- steps behind others
-steps-then : (s mid t : State) (calls others : List (Call × Answer)) (changes more : List (Event Update))
-    → AreSteps s calls changes mid → AreSteps mid others more t → AreSteps s (calls ++ others) (changes ++ more) t
-steps-then s mid t [] others changes more none steps =
-    subst (λ (l : List (Event Update)). AreSteps s others (l ++ more) t) (sym none.0) (subst (λ from. AreSteps from others more t) none.1 steps)
-steps-then s mid t (made ∷ calls) others changes more (messages, next, behind, step, are, steps) later = (
-  messages,
-  next,
-  behind ++ more,
-  step,
-  ap (λ (l : List (Event Update)). l ++ more) are ∙ append_assoc (changes_of messages s made.0 made.1) behind more,
-  steps-then next mid t calls others behind more steps later,
-)
-
--- ---- calls in a row
-
 module _ {L : Type 0} (g : Ghosts L) where
+  -- with a write fault kept a call changes nothing
+  step-stuck : (cache : Cache L) (s : State) (call : Call) (answer : Answer) (out : Outcome) → StepOver g cache s call answer out → s.fault ≡ true → out ≡ unchanged s
+  step-stuck cache s (Allocate node) (Allocated answer) out step kept = (taken _ _ s.fault kept step).1
+  step-stuck cache s (Get pid) (Got answer) out step kept = (taken _ _ s.fault kept step).1
+  step-stuck cache s (Link old link) (Linked answer) out step kept = (taken _ _ s.fault kept step).1
+  step-stuck cache s (Replace old node) (Replaced answer) out step kept = (taken _ _ s.fault kept step).1
+  step-stuck cache s Flush (Flushed answer) out step kept = (taken _ _ s.fault kept step).1
+  step-stuck cache s SizeOnDisk (Sized answer) out step kept = (taken _ _ s.fault kept step).1
+  step-stuck cache s call answer out step kept = absurd step
+
+  steps-stuck : (s t : State) (calls : List (Call × Answer)) (changes : List (Event Update)) → AreSteps g s calls changes t → s.fault ≡ true → t ≡ s
+  steps-stuck s t [] changes steps kept = steps.1
+  steps-stuck s t (made ∷ calls) changes (cache, out, others, step, are, steps) kept =
+      let same = ap (λ (o : Outcome). o.state) (step-stuck cache s made.0 made.1 out step kept) in
+      steps-stuck out.state t calls others steps (ap (λ u. u.fault) same ∙ kept) ∙ same
+
+  -- steps behind others
+  steps-then : (s mid t : State) (calls others : List (Call × Answer)) (changes more : List (Event Update))
+      → AreSteps g s calls changes mid → AreSteps g mid others more t → AreSteps g s (calls ++ others) (changes ++ more) t
+  steps-then s mid t [] others changes more none steps =
+      subst (λ (l : List (Event Update)). AreSteps g s others (l ++ more) t) (sym none.0) (subst (λ from. AreSteps g from others more t) none.1 steps)
+  steps-then s mid t (made ∷ calls) others changes more (cache, out, behind, step, are, steps) later = (
+    cache,
+    out,
+    behind ++ more,
+    step,
+    ap (λ (l : List (Event Update)). l ++ more) are ∙ append_assoc out.changes behind more,
+    steps-then out.state mid t calls others behind more steps later,
+  )
+
+  -- ---- calls in a row
+
   module _ (old mid new : Cache L) (calls others : List (Call × Answer)) (held : Logged) (s : State) (row : IsRow g old calls mid held s) (next : IsRow g mid others new row.held_then row.t) where
     -- no write fault is kept before calls that leave none
     clear_before : next.t.fault ≡ false → row.t.fault ≡ false
@@ -180,13 +179,12 @@ module _ {L : Type 0} (g : Ghosts L) where
     opening = steps.opening;
     from_each = λ held s is.
         let next = steps.from_each held s is in
-        let changes = changes_of (chain_length g.state old) s call answer in
         record {
           held_then = next.held_then;
-          t = next.t;
+          t = next.out.state;
           is = next.is;
-          changes = changes;
-          steps = (chain_length g.state old, next.t, [], next.step, sym (append-nil changes), (refl, refl));
+          changes = next.out.changes;
+          steps = (old, next.out, [], next.step, sym (append-nil next.out.changes), (refl, refl));
           added = next.added;
           stop = next.stop;
           stuck = next.stuck;

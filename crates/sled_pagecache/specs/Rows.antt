@@ -1,29 +1,27 @@
 -- Calls of the page cache in a row.
-use Rattle.std.specs.Prelude.{◌≡◌, ℕ, true, false, List, [], ◌∷◌, ◌++◌, Ok, ⊤}
+use Rattle.std.specs.Prelude.{◌≡◌, true, false, List, [], ◌∷◌, ◌++◌, Ok, ⊤}
 use Rattle.sled_log.specs.Contents.{Update}
 use Rattle.sled_log.specs.Events.{Event}
 use Rattle.sled_log.specs.State as log
 use Rattle.sled_log.specs.declared.log.Log.{Ghosts}
 use Rattle.sled_pagecache.specs.Cache.{Cache, IsIn}
-use Rattle.sled_pagecache.specs.Calls.{IsSameOpening, Steps, IsBlamed}
-use Rattle.sled_pagecache.specs.Changes.{changes_of}
+use Rattle.sled_pagecache.specs.Calls.{IsSameOpening, StepOver, Steps, IsBlamed}
 use Rattle.sled_pagecache.specs.Logged.{Logged, Adds, IsLeft}
 use Rattle.sled_pagecache.specs.State.{State}
-use Rattle.sled_pagecache.specs.Step.{Step}
+use Rattle.sled_pagecache.specs.Step.{Outcome}
 use Rattle.sled_pagecache.specs.declared.pagecache.call.Answer.{Answer}
 use Rattle.sled_pagecache.specs.declared.pagecache.call.Answer.TheVariants.{Allocated, Got, Linked, Replaced, Flushed, Sized}
 use Rattle.sled_pagecache.specs.declared.pagecache.call.Call.{Call}
 
--- The calls, each with its answer, are steps from one state to another, and write these changes, however many messages make
--- each page.
-abbrev pub AreSteps : State → List (Call × Answer) → List (Event Update) → State → Type 0
-AreSteps s [] changes t = (changes ≡ []) × (t ≡ s)
-AreSteps s (made ∷ calls) changes t =
-    (messages : ℕ → ℕ) × (mid : State) × (rest : List (Event Update)) × Step s made.0 made.1 mid × (changes ≡ changes_of messages s made.0 made.1 ++ rest) × AreSteps mid calls rest t
-
 module _ {L : Type 0} (g : Ghosts L) where
+  -- The calls, each with its answer, are steps from one state to another, each over some log, and write these changes.
+  abbrev pub AreSteps : State → List (Call × Answer) → List (Event Update) → State → Type 0
+  AreSteps s [] changes t = (changes ≡ []) × (t ≡ s)
+  AreSteps s (made ∷ calls) changes t =
+      (cache : Cache L) × (out : Outcome) × (rest : List (Event Update)) × StepOver g cache s made.0 made.1 out × (changes ≡ out.changes ++ rest) × AreSteps out.state calls rest t
+
   -- From this state, over a log that holds this, the calls are steps to another state. What they write is added to the log, and
-  -- a stop at any moment of them leaves what the log held and a beginning of that, up to a fair cut.
+  -- a crash at any moment of them leaves what the log held and a prefix of that which splits no batch.
   pub record IsRow (old : Cache L) (calls : List (Call × Answer)) (new : Cache L) (held : Logged) (s : State) : Type 0 where
     pub held_then : Logged
     pub t : State

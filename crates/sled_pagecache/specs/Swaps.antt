@@ -7,7 +7,7 @@ use Rattle.sled_base.specs.declared.types.Refusal.TheVariants.{Unsupported, Repo
 use Rattle.sled_base.specs.declared.types.Why.TheVariants.{StampUsedUp}
 use Rattle.sled_log.specs.Calls.{Counts}
 use Rattle.sled_log.specs.Chains.{chains_from}
-use Rattle.sled_log.specs.Contents.{Update, Put}
+use Rattle.sled_log.specs.Contents.{Update}
 use Rattle.sled_log.specs.Contents as content
 use Rattle.sled_log.specs.Events.{Change}
 use Rattle.sled_log.specs.Limits.{head_size, size_limit}
@@ -17,7 +17,6 @@ use Rattle.sled_log.specs.Reading.{IsUpdate}
 use Rattle.sled_log.specs.State.{State, now}
 use Rattle.sled_log.specs.Writing.{message_of}
 use Rattle.sled_node.specs.Links.{Accepts, applied}
-use Rattle.sled_node.specs.Node.{WholeNode}
 use Rattle.sled_node.specs.declared.node.link.Link.{Link as NodeLink}
 use Rattle.sled_pagecache.specs.Changes.{link_update}
 use Rattle.sled_pagecache.specs.ChainReads.{place_of}
@@ -42,15 +41,11 @@ IsLinked (Roots roots) link new = ⊥
 
 -- what a link writes to a page that is kept so, by so many messages
 abbrev pub update_of : ℕ → NodeLink → Kept → Update
-update_of messages link (Node node) = link_update messages link (content.Node node)
+update_of messages link (Node node) = link_update messages link (applied link node)
 update_of messages link Free = content.Link link
 update_of messages link Away = content.Link link
 update_of messages link (Counter n) = content.Link link
 update_of messages link (Roots roots) = content.Link link
-
--- What is written where a link made this node of a page: the link, or the node where there are as many messages as may be.
-abbrev pub written_by : ℕ → NodeLink → WholeNode → Update
-written_by messages link after = if nat_lt messages most_messages then content.Link link else Put (content.Node after)
 
 -- how the messages of a page are kept after it
 abbrev pub infos_after : List CacheInfo → CacheInfo → List CacheInfo

@@ -5,9 +5,8 @@ ghost use Rattle.sled_log.specs.Contents.{Update, contents_after};
 ghost use Rattle.sled_log.specs.Events.{Event};
 ghost use Rattle.sled_log.specs.Messages.{Told};
 ghost use Rattle.sled_log.specs.State.{IsBeginning};
-ghost use Rattle.sled_pagecache.specs.Cache.{Cache, IsIn, chain_length};
-ghost use Rattle.sled_pagecache.specs.Calls.{Steps};
-ghost use Rattle.sled_pagecache.specs.Changes.{changes_of};
+ghost use Rattle.sled_pagecache.specs.Cache.{Cache, IsIn};
+ghost use Rattle.sled_pagecache.specs.Calls.{StepOver, Steps};
 ghost use Rattle.sled_pagecache.specs.Limits.{meta_pid, counter_pid, batch_manifest_pid, most_messages, pid_bits};
 ghost use Rattle.sled_pagecache.specs.Logged.{Logged, IsLogged, IsLeft, now};
 ghost use Rattle.sled_pagecache.specs.Opening.{changes_of_start};
@@ -15,6 +14,7 @@ ghost use Rattle.sled_pagecache.specs.Reopening.{CrashReopens};
 ghost use Rattle.sled_pagecache.specs.Rows.{AreSteps, StepInRow};
 ghost use Rattle.sled_pagecache.specs.Starts.{Opens, log_after, only_stable, only_stable_contents};
 ghost use Rattle.sled_pagecache.specs.State.{State};
+ghost use Rattle.sled_pagecache.specs.Step.{Outcome};
 ghost use Rattle.sled_pagecache.specs.declared.pagecache.call.Answer.{Answer};
 ghost use Rattle.sled_pagecache.specs.declared.pagecache.call.Call.{Call};
 ghost use Rattle.sled_pagecache.specs.declared.pagecache.config.Config.{Config};
@@ -39,7 +39,7 @@ pub fn an_empty_log_is_logged()
     ensures { (usable : Bool) → IsLogged (only_stable [] usable) (only_stable_contents []) }
 {}
 
-/// What a stop leaves is a log again that a cache can be opened over, and holds the contents that the stop left.
+/// What a crash leaves is a log again that a cache can be opened over, and holds the contents that the crash left.
 pub fn what_a_stop_leaves_is_logged()
     ensures { (held : Logged) (changes : List (Event Update)) (pages : List Told) (left : IsLeft held changes pages) (usable : Bool) → IsLogged (only_stable pages usable) (only_stable_contents (contents_after held.stable (take left.cut (held.pending ++ left.came)))) }
 {}
@@ -51,7 +51,7 @@ pub fn what_a_stop_leaves_is_logged()
 /// what a log may have lost then is any of its crash states, behind a write error too; and a cache that `start` opens over a log
 /// which holds that is the opening of those pages.
 pub fn a_crash_reopens_to_a_prefix<L: Log>()
-    ensures of_a_call { (old new : Cache L) (call : Call) (answer : Answer) → Steps L.Log old call answer new → (held : Logged) (s : State) → IsIn L.Log old held s → s.fault ≡ false → CrashReopens L.Log new.log (L.moment old.log) held (changes_of (chain_length L.state old) s call answer) }
-    ensures of_calls { (old new : Cache L) (calls : List (Call × Answer)) → StepInRow L.Log old calls new → (held : Logged) (s : State) → IsIn L.Log old held s → s.fault ≡ false → (begun : List (Event Update)) × (t : State) × AreSteps s calls begun t × CrashReopens L.Log new.log (L.moment old.log) held begun }
+    ensures of_a_call { (old new : Cache L) (call : Call) (answer : Answer) → Steps L.Log old call answer new → (held : Logged) (s : State) → IsIn L.Log old held s → s.fault ≡ false → (out : Outcome) × StepOver L.Log old s call answer out × CrashReopens L.Log new.log (L.moment old.log) held out.changes }
+    ensures of_calls { (old new : Cache L) (calls : List (Call × Answer)) → StepInRow L.Log old calls new → (held : Logged) (s : State) → IsIn L.Log old held s → s.fault ≡ false → (begun : List (Event Update)) × (t : State) × AreSteps L.Log s calls begun t × CrashReopens L.Log new.log (L.moment old.log) held begun }
     ensures of_opening { L.tells → (log : L) (config : Config) (held : Logged) (result : Result (Cache L) (Error × L)) → Opens L.Log log config held result → (begun : List (Event Update)) × IsBeginning begun (changes_of_start (now held)) × CrashReopens L.Log (log_after result) (L.moment log) held begun }
 {}

@@ -11,8 +11,8 @@ use sled_log::Log;
 
 /// No call and one call are steps in a row, and so are calls behind others, and calls that were made one after another.
 ///
-/// What they write is added to the log in order, and a stop at any moment of them leaves what the log held and a beginning of
-/// what all of them write, up to a fair cut.
+/// What they write is added to the log in order, and a crash at any moment of them leaves what the log held and a prefix of
+/// what all of them write, which splits no batch.
 pub fn calls_in_a_row_are_steps<L: Log>()
     ensures none { (cache : Cache L) → StepInRow L.Log cache [] cache }
     ensures one { (old new : Cache L) (call : Call) (answer : Answer) → Steps L.Log old call answer new → StepInRow L.Log old ((call, answer) ∷ []) new }

@@ -124,8 +124,8 @@ impl<L: Log> PageCache<L> {
     /// Puts a node on a page: the free page with the greatest id at its next stamp, or else a new one at stamp 1.
     ///
     /// `PagesUsedUp` comes where there are 2^37 pages and none is free, `StampUsedUp` where the stamp of the free page is the
-    /// greatest, `LogFull` where the log has no room. These and `OutOfMemory` leave every page and message. A write fault is
-    /// kept: every later call answers it, until the log is opened again.
+    /// greatest, `LogFull` where the log has no room. These and `OutOfMemory` leave every page and message
+    /// unchanged. A write error is sticky: every later call answers it, until the log is opened again.
     pub fn allocate(&mut self, node: Node) -> Result<(PageId, PageView), Error>
         ensures step { Steps L.Log self.old (Allocate node) (Allocated result) self.new }
         ensures blame { IsBlamed L.Log self.old self.new result }
@@ -204,8 +204,8 @@ impl<L: Log> PageCache<L> {
     ///
     /// At another stamp the page's present token comes back with the node; where the page is absent or free, nothing
     /// does. `ReservedId` comes for the cache's own pages, `StampUsedUp` where the stamp is the greatest, `LogFull` where the
-    /// log has no room. These and `OutOfMemory` leave every page and message. A write fault is kept: every later call answers
-    /// it, until the log is opened again.
+    /// log has no room. These and `OutOfMemory` leave every page and message unchanged. A write error is sticky: every later call
+    /// answers it, until the log is opened again.
     pub fn replace(
         &mut self,
         pid: PageId,
@@ -233,7 +233,7 @@ impl<L: Log> PageCache<L> {
 
     /// Makes all that is pending in the log stable, and answers how many bytes that wrote.
     ///
-    /// It takes no memory. A write fault is kept: every later call answers it, until the log is opened again.
+    /// It allocates nothing. A write error is sticky: every later call answers it, until the log is opened again.
     pub fn flush(&mut self) -> Result<usize, Error>
         ensures step { Steps L.Log self.old Flush (Flushed result) self.new }
         ensures blame { IsBlamed L.Log self.old self.new result }

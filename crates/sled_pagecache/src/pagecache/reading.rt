@@ -26,7 +26,7 @@ pub(super) struct Found {
 //
 // `FreeInPull` comes where the first is of kind Free. `Corruption` comes with the pointer of the first message that doesn't
 // belong there: its kind is another, its payload isn't read whole or leaves bytes over, or the node doesn't accept its link.
-// `OutOfMemory` comes for want of memory alone.
+// `OutOfMemory` comes for an allocation failure alone.
 pub(super) fn node_of(messages: &[Found], alloc: Global) -> Result<Node, Refusal>
     requires { 0 < length messages.now }
     ensures made { IfOk result (λ node. Makes (map told_of messages.now) (contents.Node node)) }
@@ -79,7 +79,7 @@ fn link_of(found: &Found, alloc: Global) -> Result<Link, Refusal>
     }
 }
 
-// The value that a payload spells from its beginning to its end.
+// The value that a payload encodes from its front to its end.
 pub(super) fn whole<T: Serialize>(found: &Found, alloc: Global) -> Result<T, Refusal>
     ensures read { IfOk result (λ value. T.reads found.now.payload.items value []) }
     ensures refused { IfErr result (RefusesMessage found.now.pointer (SpellsNothing T.reads found.now.payload.items)) }

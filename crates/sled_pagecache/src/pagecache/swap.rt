@@ -18,7 +18,8 @@ ghost use Rattle.sled_pagecache.specs.ChainReads.{chain_at};
 ghost use Rattle.sled_pagecache.specs.Journal.{Went, IsCaused, begun_by};
 ghost use Rattle.sled_pagecache.specs.Limits.{most_messages};
 ghost use Rattle.sled_pagecache.specs.Pages.{IsKept, is_free};
-ghost use Rattle.sled_pagecache.specs.Swaps.{IsRaised, IsLinked, RefusesSwap, RefusesLink, Wrote, infos_after, linked_length, update_of, written_by};
+ghost use Rattle.sled_pagecache.specs.Swaps.{IsRaised, IsLinked, RefusesSwap, RefusesLink, Wrote, infos_after, linked_length, update_of};
+ghost use Rattle.sled_pagecache.specs.Changes.{link_update};
 ghost use Rattle.sled_pagecache.specs.Table.{IsFreeOrNode};
 ghost use Rattle.sled_pagecache.specs.declared.pagecache.page.Kept.TheVariants as kept;
 
@@ -184,7 +185,7 @@ fn write_linked<L: Log>(
     requires usable { (L.state journal.old.log).usable ≡ true }
     requires there { L.tells → pid < length (now effect_of_entry (L.state journal.old.log)) }
     requires full { L.tells → is_empty effect_of_entry (chain_at (L.state journal.old.log) pid) ≡ false }
-    ensures { Wrote L.tells L.state L.moment L.left_since L.counts L.is_full journal.old journal.new pid (written_by messages link.now node.now) stamp result }
+    ensures { Wrote L.tells L.state L.moment L.left_since L.counts L.is_full journal.old journal.new pid (link_update messages link.now node.now) stamp result }
 {
     if messages < PAGE_CONSOLIDATION_THRESHOLD {
         return write_link(alloc, journal, pid, link, stamp);

@@ -1,9 +1,9 @@
-// A list of calls, each made a second time where memory was wanting. Run with one allocation refused, whichever it is, it gives
+// A list of calls, each made a second time where an allocation failed. Run with one allocation refused, whichever it is, it gives
 // the same answers and as many bytes: what was refused had changed nothing.
 
 use super::*;
 
-// Whether a call did what it should, and none where memory was wanting.
+// Whether a call did what it should, and none where an allocation failed.
 type Done = Option<bool>;
 
 fn opens(alloc: Global, log: MemLog) -> Option<Cache> {
@@ -32,7 +32,7 @@ fn adds_page(alloc: Global, cache: &mut Cache, pid: PageId) -> bool {
     }
 }
 
-// What a swap of a page answered: its token, that memory was wanting, or something else.
+// What a swap of a page answered: its token, that an allocation failed, or something else.
 fn has_token<R>(answer: &Result<Result<PageView, R>, Error>, token: PageView) -> Done {
     match answer {
         Ok(Ok(given)) => Some(*given == token),

@@ -10,7 +10,7 @@ fn page_and_link(alloc: Global) -> Result<Option<MemLog>, Fail> {
     Ok(written.then(|| cache.into_log()))
 }
 
-// A cache over what a stop leaves of it that keeps so many of the changes, if it may.
+// A cache over what a crash leaves of it that keeps so many of the changes, if it may.
 fn left_by(alloc: Global, n: usize) -> Result<Option<Cache>, Fail> {
     let Some(log) = page_and_link(alloc)? else {
         return Ok(None);

@@ -26,7 +26,7 @@ fn replaces(alloc: Global, cache: &mut Cache) -> Result<bool, Fail> {
     Ok(is_answer(cache, 3, 1, node, Ok(Ok(PageView::new(3, 2)))))
 }
 
-// A cache over what a stop leaves that keeps so many of the changes.
+// A cache over what a crash leaves that keeps so many of the changes.
 fn left_by(alloc: Global, n: usize) -> Result<Option<Cache>, Fail> {
     let Some(log) = five_changes(alloc)? else {
         return Ok(None);

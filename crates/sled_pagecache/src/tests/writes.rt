@@ -59,7 +59,7 @@ fn six_calls(alloc: Global, cache: &mut PageCache<FailingLog>, link: Link) -> [O
     ]
 }
 
-// A cache over what a stop leaves of the log that keeps nothing of what was pending.
+// A cache over what a crash leaves of the log that keeps nothing of what was pending.
 fn left_by(alloc: Global, log: FailingLog) -> Option<Cache> {
     let log = log.into_log();
     if !log.is_fair(0) {

@@ -1,11 +1,12 @@
 use Rattle.sled_pagecache.proofs.Reopening.{crash-reopens}
-use Rattle.sled_pagecache.proofs.Names.{changes_of, chain_length, changes_of_start, List, [], append-nil, Result, Ok, Err, Error, Update, Event, IsBeginning, Cache, Logged, CrashReopens, Opens, Config, log_after}
+use Rattle.sled_pagecache.proofs.Names.{changes_of_start, List, [], append-nil, Result, Ok, Err, Error, Update, Event, IsBeginning, Cache, Logged, CrashReopens, Opens, Config, log_after}
 use Rattle.sled_pagecache.specs.Logged.{now}
 use Rattle.sled_pagecache.proofs.laws.a_crash_reopens_to_a_prefix.Goals as goal
 
 pub returns-clause-of_a_call : goal.returns-clause-of_a_call
 returns-clause-of_a_call g c = λ old new call answer steps held s is free.
-    crash-reopens g.L.Log (λ log t u pages. g.met.L.Log.since_earlier log t u pages is.tells) new.log (g.L.Log.moment old.log) held (changes_of (chain_length g.L.Log.state old) s call answer) ((steps.from_each held s is).stop free).each
+    let one = steps.from_each held s is in
+    (one.out, one.step, crash-reopens g.L.Log (λ log t u pages. g.met.L.Log.since_earlier log t u pages is.tells) new.log (g.L.Log.moment old.log) held one.out.changes (one.stop free).each)
 
 pub returns-clause-of_calls : goal.returns-clause-of_calls
 returns-clause-of_calls g c = λ old new calls steps held s is free.

@@ -1,5 +1,6 @@
-use Rattle.sled_pagecache.proofs.Names.{inr, ◌≡◌, [], ◌∷◌, length, ◌∙◌, refl, rules, err_from_is_err_and, Node, Put, message_of, written-update, Went-none, IsCaused-handed_on}
+use Rattle.sled_pagecache.proofs.Names.{inr, ◌≡◌, [], ◌∷◌, length, ◌∙◌, refl, rules, Node, Put, message_of, written-update, Went-none, IsCaused-handed_on}
 use Rattle.sled_pagecache.proofs.NewPages.{only-one, added-others, new-kept, has-one-more, new-page-went}
+use Rattle.sled_pagecache.proofs.Refused.{refused-is}
 use Rattle.sled_pagecache.proofs.pagecache.add.add_page.Goals as goal
 
 pub returns-then-len-eq-MAX_PAGES-clause-is : goal.returns-then-len-eq-MAX_PAGES-clause-is
@@ -25,21 +26,18 @@ returns-in_default-with_capacity-clause-went g c =
 
 pub returns-in_err-info-clause-same : goal.returns-in_err-info-clause-same
 returns-in_err-info-clause-same g c =
-    let p = err_from_is_err_and c.from_residual.result c.from_residual.ensures.1 in
-    rw p.1 c.in_err-info.ensures.same
+    rw (refused-is c.from_residual.result _ c.from_residual.ensures.1) c.in_err-info.ensures.same
 
 pub returns-in_err-info-clause-went : goal.returns-in_err-info-clause-went
 returns-in_err-info-clause-went g c =
-    let p = err_from_is_err_and c.from_residual.result c.from_residual.ensures.1 in
     let last : c.len-pid.result ≡ length c.args.pages.now.items = c.len-pid.ensures ∙ c.args.pages.now.ok.0 in
-    rw (p.1, p.2)
+    rw (refused-is c.from_residual.result _ c.from_residual.ensures.1)
     (new-page-went g.L.Log.tells g.L.Log.state g.L.Log.moment g.L.Log.left_since g.L.Log.counts g.L.Log.is_full c.args.journal.now c.write_node.new.journal c.args.node c.in_err-info.field-0.0
     (length c.args.pages.now.items) c.len-pid.result last c.in_err-info.ensures.went)
 
 pub returns-in_err-info-clause-cause : goal.returns-in_err-info-clause-cause
 returns-in_err-info-clause-cause g c =
-    let p = err_from_is_err_and c.from_residual.result c.from_residual.ensures.1 in
-    rw (p.1, p.2)
+    rw (refused-is c.from_residual.result _ c.from_residual.ensures.1)
     (IsCaused-handed_on g.L.Log.tells g.L.Log.state g.L.Log.moment g.L.Log.left_since g.L.Log.counts c.args.journal.now c.write_node.new.journal
     (g.L.Log.is_full c.args.journal.now.log (length (message_of (Put (Node c.args.node))).payload)) c.in_err-info.field-0.0 c.in_err-info.ensures.cause)
 
@@ -63,5 +61,4 @@ returns-clause-cause g c = record { fault = c.in_ok-info.ensures.cause.fault; re
 
 pub returns-in_err-info-clause-refused : goal.returns-in_err-info-clause-refused
 returns-in_err-info-clause-refused g c = λ told.
-    let p = err_from_is_err_and c.from_residual.result c.from_residual.ensures.1 in
-    rw (p.1, p.2) (inr ((λ all. c.if-len-eq-MAX_PAGES.false (c.len.ensures ∙ c.args.pages.now.ok.0 ∙ all)), c.in_err-info.ensures.of_log told))
+    rw (refused-is c.from_residual.result _ c.from_residual.ensures.1) (inr ((λ all. c.if-len-eq-MAX_PAGES.false (c.len.ensures ∙ c.args.pages.now.ok.0 ∙ all)), c.in_err-info.ensures.of_log told))

@@ -1,6 +1,6 @@
-use Rattle.sled_pagecache.proofs.Names.{[], ◌∷◌, ◌++◌, List, sym, refl, ap, ◌∙◌, arith, Err, OutOfMemory, Counter, Put, counter_told, CacheInfo}
-use Rattle.sled_pagecache.proofs.Proceeding.{proceeds-none, proceeds-refused, proceeds-first}
-use Rattle.sled_pagecache.proofs.Starting.{wrote-proceeds, own-table, own-two}
+use Rattle.sled_pagecache.proofs.Names.{[], ◌∷◌, ◌++◌, List, sym, refl, ap, ◌∙◌, arith, Err, OutOfMemory, Counter, counter_told, CacheInfo}
+use Rattle.sled_pagecache.proofs.Proceeding.{proceeds-none, proceeds-refused, proceeds-first, proceeds-told}
+use Rattle.sled_pagecache.proofs.Starting.{own-table, own-two}
 use Rattle.sled_pagecache.proofs.Refused.{refused-is}
 use Rattle.sled_pagecache.proofs.pagecache.own.add_counter.Goals as goal
 
@@ -14,7 +14,7 @@ pub returns-in_err-info-clause-proceeds : goal.returns-in_err-info-clause-procee
 returns-in_err-info-clause-proceeds g c =
     let journal = c.args.journal.now in
     rw (refused-is c.from_residual.result _ c.from_residual.ensures.1)
-    (wrote-proceeds g.L.Log journal c.write_counter.new.journal 1 (Put (Counter 0)) 1 (Err c.in_err-info.field-0.0) (g.met.L.Log.only_now journal.log) c.requires.ready c.requires.usable c.in_err-info.ensures)
+    (proceeds-told g.L.Log {T = CacheInfo} journal c.write_counter.new.journal counter_told (Err c.in_err-info.field-0.0) (g.met.L.Log.only_now journal.log) c.requires.ready c.requires.usable c.in_err-info.ensures.went c.in_err-info.ensures.cause)
 
 pub returns-clause-table : goal.returns-clause-table
 returns-clause-table g c =

@@ -26,7 +26,7 @@ pub returns-then-eq-clause-refused : goal.returns-then-eq-clause-refused
 returns-then-eq-clause-refused g c = λ told.
     let chain = chain_at (g.L.Log.state c.args.journal.now.log) c.args.pid in
     let page = c.args.page.now in
-    found-full c.args.pid chain page c.in_ok-found.found.items c.index-2.result.now c.requires.own (search rules) (c.requires.loaded told) c.requires.unread (sym c.is_misfit.ensures ∙ c.if-is_misfit.false) (c.in_ok-found.ensures.found told) (search rules) (search rules)
+    found-full c.args.pid chain page c.in_ok-found.found.items c.index-2.result.now c.requires.own (search rules) (c.requires.loaded told) (sym c.is_misfit.ensures ∙ c.if-is_misfit.false) (c.in_ok-found.ensures.found told) (search rules) (search rules)
 
 pub returns-clause-one : goal.returns-clause-one
 returns-clause-one g c =

@@ -1,13 +1,13 @@
-use Rattle.sled_pagecache.proofs.Names.{◌≡◌, false, List, sym, ap, subst, err_from_is_err_and, AllZip, is_empty, Node, effect_of_entry, IsFoundAs, chain_at, HoldsChain, is_free, Found}
+use Rattle.sled_pagecache.proofs.Names.{◌≡◌, false, List, sym, ap, subst, AllZip, is_empty, Node, effect_of_entry, IsFoundAs, chain_at, HoldsChain, is_free, Found}
 use Rattle.sled_pagecache.proofs.Pulls.{makes-found, unmade}
+use Rattle.sled_pagecache.proofs.Refused.{refused-is}
 use Rattle.sled_pagecache.proofs.pagecache.pull.pull.Goals as goal
 
 pub returns-in_err-node_of-clause-refused : goal.returns-in_err-node_of-clause-refused
 returns-in_err-node_of-clause-refused g c = λ known.
     let chain = chain_at (g.L.Log.state c.args.journal.now.log) c.args.pid in
     let full : is_empty effect_of_entry chain ≡ false = subst (HoldsChain chain) c.in-Away.is (c.requires.kept known).holds in
-    let p = err_from_is_err_and c.from_residual-in_err-node_of.result c.from_residual-in_err-node_of.ensures.1 in
-    rw (p.1, p.2)
+    rw (refused-is c.from_residual-in_err-node_of.result _ c.from_residual-in_err-node_of.ensures.1)
     (unmade chain c.deref-in-Away.result.now c.in_err-node_of.field-0.0
     (subst (λ (l : List Found). AllZip IsFoundAs chain l) (sym c.deref-in-Away.ensures.value) (c.in_ok-found.ensures.found known))
     full

@@ -13,15 +13,9 @@ loop-state-preserved c =
       room = search rules;
     }
 
-pub returns-clause-loaded : goal.returns-clause-loaded
-returns-clause-loaded c =
+pub returns : goal.returns
+returns c =
     let states = c.args.states.now in
     let pages = c.loop-state.pages.items in
     let all = subst (λ (l : List PageState). AllZip IsRecovered l pages) (take_all c.loop-state.state-index states c.loop-state-test.false) c.loop-state.invariant.recovered in
-    λ chains are. all-loaded chains states pages all are
-
-pub returns-clause-unread : goal.returns-clause-unread
-returns-clause-unread c =
-    let states = c.args.states.now in
-    let pages = c.loop-state.pages.items in
-    all-unread states pages (subst (λ (l : List PageState). AllZip IsRecovered l pages) (take_all c.loop-state.state-index states c.loop-state-test.false) c.loop-state.invariant.recovered)
+    record { recovered = all; loaded = λ chains are. all-loaded chains states pages all are; unread = all-unread states pages all }

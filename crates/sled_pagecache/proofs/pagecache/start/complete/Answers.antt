@@ -1,13 +1,13 @@
 use Rattle.sled_pagecache.proofs.Names.{rules, OutOfMemory, told_at_start}
 use Rattle.sled_pagecache.proofs.Proceeding.{proceeds-refused}
-use Rattle.sled_pagecache.proofs.Starting.{read-table, read-fresh, read-unread, table-consistent, opened-with}
+use Rattle.sled_pagecache.proofs.Starting.{read-table, all-fresh, read-unread, table-consistent, opened-with}
 use Rattle.sled_pagecache.proofs.pagecache.start.complete.Goals as goal
 
 pub add_missing-requires-clause-table : goal.add_missing-requires-clause-table
 add_missing-requires-clause-table g c = read-table g.L.Log.tells _ c.args.pages.items c.args.counter c.requires.read c.requires.fit
 
 pub add_missing-requires-clause-fresh : goal.add_missing-requires-clause-fresh
-add_missing-requires-clause-fresh g c = read-fresh _ c.args.pages.items c.args.counter c.requires.read
+add_missing-requires-clause-fresh g c = λ told. all-fresh _ c.args.pages.items (c.requires.read.kept told)
 
 pub returns-in_default-clause-proceeds : goal.returns-in_default-clause-proceeds
 returns-in_default-clause-proceeds g c = proceeds-refused g.L.Log c.args.journal.now c.add_missing.new.journal (told_at_start c.args.pages.items) OutOfMemory tt c.in_ok-add_missing.ensures.proceeds

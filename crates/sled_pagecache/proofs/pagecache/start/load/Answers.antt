@@ -1,6 +1,6 @@
 use Rattle.sled_pagecache.proofs.Names.{List, subst, ◌≡◌, ◌+◌, ℕ, [], length, Option, None, Some, sym, ap, arith, AllZip-long, Corruption, Chain, effect_of_entry, now, own_among, IsLoaded, RefusesPages}
 use Rattle.sled_pagecache.proofs.Proceeding.{proceeds-then, proceeds-refused}
-use Rattle.sled_pagecache.proofs.ReadCounts.{read-loaded, read-part, read-handed, read-then}
+use Rattle.sled_pagecache.proofs.ReadCounts.{read-loaded, read-known, read-handed, read-then}
 use Rattle.sled_pagecache.proofs.Starting.{read-from, begins-amiss}
 use Rattle.sled_pagecache.proofs.Refused.{refused-is}
 use Rattle.sled_pagecache.proofs.pagecache.start.load.Goals as goal
@@ -30,7 +30,8 @@ returns-in-None-clause-read g c =
 
 pub returns-in_err-pages-clause-reads : goal.returns-in_err-pages-clause-reads
 returns-in_err-pages-clause-reads g c = λ told.
-    rw (refused-is c.from_residual.result _ c.from_residual.ensures.1) (read-part g.L.Log.counts c.args.journal.now.log c.recover_pages.new.journal.log _ 0 c.in_err-pages.field-0.0 (omega arith) c.in_err-pages.ensures.unread)
+    rw (refused-is c.from_residual.result _ c.from_residual.ensures.1) (read-handed g.L.Log.counts c.args.journal.now.log c.recover_pages.new.journal.log 0 _ c.in_err-pages.field-0.0 c.in_err-pages.field-0.0 (omega arith)
+    (read-known g.L.Log.counts {T = Option ℕ} c.args.journal.now.log c.recover_pages.new.journal.log 0 _ c.in_err-pages.ensures.unread))
 
 pub returns-in_err-counter-clause-reads : goal.returns-in_err-counter-clause-reads
 returns-in_err-counter-clause-reads g c = λ told.

@@ -1,7 +1,7 @@
-use Rattle.sled_pagecache.proofs.Names.{List, ◌∙◌, [], refl, ap, on_ok_weaker, Chain, effect_of_entry, now, told_at_start}
+use Rattle.sled_pagecache.proofs.Names.{List, ◌∙◌, [], refl, ap, on_ok_weaker, AllZip-long, Chain, effect_of_entry, now, IsLoaded, told_at_start}
 use Rattle.sled_pagecache.proofs.Opening.{starts}
 use Rattle.sled_pagecache.proofs.Proceeding.{proceeds-then, proceeds-first}
-use Rattle.sled_pagecache.proofs.Starting.{read-told, read-fewer, stays-closed}
+use Rattle.sled_pagecache.proofs.Starting.{told-same, read-fewer, stays-closed}
 use Rattle.sled_pagecache.proofs.Refused.{refused-is}
 use Rattle.sled_pagecache.proofs.pagecache.start.open.Goals as goal
 
@@ -18,7 +18,7 @@ returns-clause-proceeds g c =
     let pages = c.in_ok-pages.pages.items in
     let loaded = c.in_ok-pages.ensures in
     starts g.L.Log c.args.journal.now c.complete.new.journal pages _
-    (λ known. read-told _ pages c.in_ok-pages.counter loaded.read known ∙ ap (λ (l : List Chain). told_at_start l) (loaded.same known loaded.proceeds.fault))
+    (λ known. told-same pages _ (AllZip-long IsLoaded _ pages (loaded.read.kept known)) ∙ ap (λ (l : List Chain). told_at_start l) (loaded.same known loaded.proceeds.fault))
     (proceeds-then g.L.Log c.args.journal.now c.load.new.journal c.complete.new.journal [] (told_at_start pages) _ loaded.proceeds c.complete.ensures.proceeds)
 
 pub returns-clause-stable : goal.returns-clause-stable

@@ -1,10 +1,14 @@
-use Rattle.sled_pagecache.proofs.Names.{◌≤◌, ◌^◌, length, sym, arith, rules, AllZip-long, IsRecovered}
-use Rattle.sled_pagecache.proofs.Starting.{too-many}
+use Rattle.sled_pagecache.proofs.Names.{◌≡◌, ◌≤◌, ◌<◌, ◌^◌, length, sym, arith, rules, AllZip-long, effect_of_entry, IsPageState, now, IsRecovered}
 use Rattle.sled_pagecache.proofs.pagecache.start.recover_pages.Goals as goal
 
 pub returns-then-len-gt-MAX_PAGES-clause-refused : goal.returns-then-len-gt-MAX_PAGES-clause-refused
 returns-then-len-gt-MAX_PAGES-clause-refused g c = λ told.
-    too-many _ c.in_ok-states.states.items (2 ^ 37) (c.in_ok-states.ensures.pages told) (search rules)
+    let states = c.in_ok-states.states.items in
+    let more : 2 ^ 37 < length states = search rules in
+    let chains = now effect_of_entry (g.L.Log.state c.args.journal.now.log) in
+    let long : length states ≡ length chains = AllZip-long IsPageState chains states (c.in_ok-states.ensures.pages told) in
+    let e : 2 ^ 37 < length chains = omega (arith, long, more) in
+    e
 
 pub returns-clause-pages : goal.returns-clause-pages
 returns-clause-pages g c =

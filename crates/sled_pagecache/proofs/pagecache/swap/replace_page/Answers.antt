@@ -1,5 +1,6 @@
-use Rattle.sled_pagecache.proofs.Names.{[], ◌∷◌, length, map, sym, ap, ◌∙◌, rules, err_from_is_err_and, Node, Put, message_of, written-update, chain_at, CacheInfo, Went-none, IsCaused-handed_on}
+use Rattle.sled_pagecache.proofs.Names.{[], ◌∷◌, length, map, sym, ap, ◌∙◌, rules, Node, Put, message_of, written-update, chain_at, CacheInfo, Went-none, IsCaused-handed_on}
 use Rattle.sled_pagecache.proofs.Swaps.{at-page, other-pages, put-chains, kept-put}
+use Rattle.sled_pagecache.proofs.Refused.{refused-is}
 use Rattle.sled_pagecache.proofs.pagecache.swap.replace_page.Goals as goal
 
 pub returns-clause-kept : goal.returns-clause-kept
@@ -26,12 +27,10 @@ returns-then-page-clause-went g c =
 
 pub returns-in_err-info-clause-same : goal.returns-in_err-info-clause-same
 returns-in_err-info-clause-same g c =
-    let p = err_from_is_err_and c.from_residual.result c.from_residual.ensures.1 in
-    rw p.1 c.in_err-info.ensures.same
+    rw (refused-is c.from_residual.result _ c.from_residual.ensures.1) c.in_err-info.ensures.same
 
 pub returns-in_err-info-clause-cause : goal.returns-in_err-info-clause-cause
 returns-in_err-info-clause-cause g c =
-    let p = err_from_is_err_and c.from_residual.result c.from_residual.ensures.1 in
-    rw (p.1, p.2)
+    rw (refused-is c.from_residual.result _ c.from_residual.ensures.1)
     (IsCaused-handed_on g.L.Log.tells g.L.Log.state g.L.Log.moment g.L.Log.left_since g.L.Log.counts c.args.journal.now c.write_node.new.journal
     (g.L.Log.is_full c.args.journal.now.log (length (message_of (Put (Node c.args.node))).payload)) c.in_err-info.field-0.0 c.in_err-info.ensures.cause)

@@ -4,13 +4,17 @@ use Rattle.sled_pagecache.proofs.tests.crashes.reopen.Goals as goal
 pub returns : goal.returns
 returns c = λ old new call answer held s same steps is clear.
     let pages : List Told = (told_state (state_of c.stop.result)).stable in
-    c.a_crash_reopens_to_a_prefix.ensures.of_a_call old new call answer steps held s is clear c.stop.result
-    (record {
-      at = clock_of new.log;
-      later = ((steps.from_each held s is).stop clear).later;
-      pages = pages;
-      left = subst (λ (log : MemLog). might_have_left log (clock_of log) pages) (sym same) c.stop.ensures.left;
-      holds = ap (λ (events : List (Event Entry)). record (only_stable pages true) { pending = map (seen message_in) events }) c.stop.ensures.pending;
-    })
-    c.args.config c.start.result
-    (record { settings = c.start.ensures.settings; opens = λ sound held logged. c.start.ensures.opens sound tt held logged })
+    let crashed = c.a_crash_reopens_to_a_prefix.ensures.of_a_call old new call answer steps held s is clear in (
+      crashed.0,
+      crashed.1,
+      crashed.2 c.stop.result
+          (record {
+            at = clock_of new.log;
+            later = ((steps.from_each held s is).stop clear).later;
+            pages = pages;
+            left = subst (λ (log : MemLog). might_have_left log (clock_of log) pages) (sym same) c.stop.ensures.left;
+            holds = ap (λ (events : List (Event Entry)). record (only_stable pages true) { pending = map (seen message_in) events }) c.stop.ensures.pending;
+          })
+          c.args.config c.start.result
+          (record { settings = c.start.ensures.settings; opens = λ sound held logged. c.start.ensures.opens sound tt held logged }),
+    )

@@ -1,12 +1,18 @@
-use Rattle.sled_pagecache.proofs.Names.{◌≡◌, ◌<◌, ◌+◌, ◌-◌, ◌^◌, ℕ, List, [], ◌∷◌, ◌++◌, length, take, Some, None, Result, Err, rules, sym, ap, subst, ◌∙◌, refl, arith, slice_get_within, err_from_is_err_and, slice_get, slice_set, Refusal, Node, Put, Change, message_of, begun_by, is_free, RefusesSwap, IsConsistent, resident_in, stamps_in, token, pid_of, Page}
+use Rattle.sled_base.specs.declared.types.Error.TheVariants.{Io}
+use Rattle.sled_pagecache.proofs.Names.{◌≡◌, ◌<◌, ◌+◌, ◌-◌, ◌^◌, ℕ, List, [], ◌∷◌, ◌++◌, length, take, Some, None, Result, Err, rules, sym, ap, Write, Allocated, Allocate, subst, ◌∙◌, refl, arith, slice_get_within, slice_get, slice_set, Refusal, Node, Put, Change, message_of, begun_by, is_free, RefusesSwap, IsConsistent, resident_in, stamps_in, token, pid_of, Page}
 use Rattle.sled_pagecache.proofs.Allocating.{read-last, ends-nowhere, last-at, last-read, last-found, last-same, taken-last, free-from, adds-refused, adds-done, reuses-refused, reuses-done}
 use Rattle.sled_pagecache.proofs.Answers.{keeps-err, keeps-ok, stamps-added, stamps-reused}
-use Rattle.sled_pagecache.proofs.CacheSteps.{steps-told}
+use Rattle.sled_pagecache.proofs.CacheSteps.{steps-stuck, steps-told}
 use Rattle.sled_pagecache.proofs.Lookups.{put-back}
 use Rattle.sled_pagecache.proofs.Putting.{blamed}
+use Rattle.sled_pagecache.proofs.Refused.{refused-is}
 use Rattle.sled_pagecache.proofs.Standing.{beside-long, resident-set, resident-add, one-short}
 use Rattle.sled_pagecache.proofs.Tables.{consistent-same, consistent-put, consistent-new, marks-begun, free-add}
 use Rattle.sled_pagecache.proofs.pagecache.cache.PageCache.allocate.Goals as goal
+
+pub returns-then-stuck-clause-step : goal.returns-then-stuck-clause-step
+returns-then-stuck-clause-step g c =
+    rw (← c.self.view_is) (steps-stuck g.L.Log _ (Allocate c.args.node) (Allocated (Err (Io Write))) c.if-stuck.true (λ s kept. rw kept (refl, refl)))
 
 pub add_page-requires-clause-there : goal.add_page-requires-clause-there
 add_page-requires-clause-there g c =
@@ -41,8 +47,7 @@ returns-in_err-pid g c =
     let none : c.self.inside.free.items ≡ [] = ends-nowhere _ (read-last _ _ _ _ None c.deref.ensures.value c.last.ensures.value c.copied.ensures c.in_default.is) in
     let refused = c.in_err-pid.ensures in
     let refusal = c.in_err-pid.field-0.0 in
-    let p = err_from_is_err_and c.from_residual.result c.from_residual.ensures.1 in
-    rw (p.1, p.2, ← c.self.view_is) (record {
+    rw (refused-is c.from_residual.result _ c.from_residual.ensures.1, ← c.self.view_is) (record {
       step = steps-told g.L.Log _ _ _ _ (record { config = refl; recovered = refl }) (λ told. adds-refused g.L.Log inside.next inside.config inside.recovered inside.journal inside.pages.items inside.free.items c.if-stuck.false c.self.invariant c.args.node c.add_page.new.journal c.add_page.new.pages.items refused.is
           none refused.left refusal (refused.refused told) refused.went refused.cause);
       blame = blamed g.L.Log _ _ _ refusal refused.cause;
@@ -109,8 +114,7 @@ returns-in_err-replace_page g c =
     let refusal = c.in_err-replace_page.field-0.0 in
     let after = c.replace_page.new.page in
     let back : slice_set table pid after ≡ table = put-back _ pid after (last-found _ _ pid last q c.index_mut-page.ensures.value ∙ ap (λ page. Some page) (sym refused.left)) in
-    let p = err_from_is_err_and c.from_residual-in_err-replace_page.result c.from_residual-in_err-replace_page.ensures.1 in
-    rw (p.1, p.2, ← c.self.view_is) (record {
+    rw (refused-is c.from_residual-in_err-replace_page.result _ c.from_residual-in_err-replace_page.ensures.1, ← c.self.view_is) (record {
       step = steps-told g.L.Log _ _ _ _ (record { config = refl; recovered = refl }) (λ told. reuses-refused g.L.Log inside.next inside.config inside.recovered inside.journal table inside.free.items c.if-stuck.false c.self.invariant c.args.node c.replace_page.new.journal (slice_set table pid after) refused.is
           _ pid last back refusal (subst (λ (page : Page). RefusesSwap page.stamp refusal) (sym (last-same _ _ pid last q c.index_mut-page.ensures.value)) (refused.refused told)) refused.went refused.cause);
       blame = blamed g.L.Log _ _ _ refusal refused.cause;

@@ -1,4 +1,6 @@
-use Rattle.sled_pagecache.proofs.Names.{◌∙◌, refl, ap, err_from_is_err_and, error_of}
+use Rattle.sled_base.specs.declared.types.Error.TheVariants.{Io}
+use Rattle.sled_pagecache.proofs.Names.{◌∙◌, Err, refl, ap, err_from_is_err_and, error_of, Write, Flushed, Flush}
+use Rattle.sled_pagecache.proofs.CacheSteps.{steps-stuck}
 use Rattle.sled_pagecache.proofs.Flushing.{flushes, flush_is_refused}
 use Rattle.sled_pagecache.proofs.pagecache.cache.PageCache.flush.Goals as goal
 
@@ -17,3 +19,6 @@ returns-in_err-make_stable-clause-step g c =
     rw (p.1, p.2 ∙ ap error_of refused.only, ← c.self.view_is)
     (flush_is_refused g.L.Log inside.next inside.config inside.recovered inside.pages.items inside.journal c.if-self.false (c.self.invariant.beside c.if-self.false).closed c.make_stable.new.self refused.went
     (refused.cause.fault ∙ rw refused.only refl))
+
+pub returns-then-self-clause-step : goal.returns-then-self-clause-step
+returns-then-self-clause-step g c = rw (← c.self.view_is) (steps-stuck g.L.Log _ Flush (Flushed (Err (Io Write))) c.if-self.true (λ s kept. rw kept (refl, refl)))

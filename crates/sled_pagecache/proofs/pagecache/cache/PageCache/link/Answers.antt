@@ -1,4 +1,4 @@
-use Rattle.sled_pagecache.proofs.Names.{◌≡◌, ◌+◌, Result, Ok, Err, rules, refl, sym, ◌∙◌, ap, arith, slice_get_within, err_from_is_err_and, AllZip-long, Refusal, effect_of_entry, now, IsKept, token, Linked, Fresh, Stale, Gone}
+use Rattle.sled_pagecache.proofs.Names.{◌≡◌, ◌+◌, Result, Ok, Err, rules, refl, sym, ◌∙◌, ap, arith, slice_get_within, AllZip-long, Refusal, effect_of_entry, now, IsKept, token, Linked, Fresh, Stale, Gone}
 use Rattle.sled_pagecache.proofs.Answers.{keeps-err}
 use Rattle.sled_pagecache.proofs.CacheSteps.{steps-told}
 use Rattle.sled_pagecache.proofs.Judging.{link-swap, judged-by, judged-refused, judged-gone, judged-stale, fresh-within, fresh-at, fresh-answered, keeps-fresh}
@@ -6,26 +6,26 @@ use Rattle.sled_pagecache.proofs.LinkSteps.{link-refused, link-taken}
 use Rattle.sled_pagecache.proofs.LinkTables.{refused-consistent, taken-consistent, taken-length, taken-resident, refused-out}
 use Rattle.sled_pagecache.proofs.LinkTests.{judged-tests, damage-judged, refused-tests, taken-tests, refused-damage, taken-damage}
 use Rattle.sled_pagecache.proofs.PagingIn.{page-kept-at, page-own-at, stamps-same, reads-pulled}
+use Rattle.sled_pagecache.proofs.Refused.{refused-is}
 use Rattle.sled_pagecache.specs.declared.pagecache.call.Call.TheVariants as call
 use Rattle.sled_pagecache.proofs.pagecache.cache.PageCache.link.Goals as goal
 
 pub returns-in_err-present-clause-step : goal.returns-in_err-present-clause-step
 returns-in_err-present-clause-step g c =
-    let p = err_from_is_err_and c.from_residual.result c.from_residual.ensures.1 in
-    rw (p.1, p.2, ← c.self.view_is)
-    (judged-refused g.L.Log _ _ _ _ _ c.self.invariant.beside (g.met.L.Log.only_now _) c.args.old c.args.pid c.requires c.args.link (call.Link c.args.old c.args.link) Linked _ (link-swap c.args.old c.args.link)
+    rw (refused-is c.from_residual.result _ c.from_residual.ensures.1, ← c.self.view_is)
+    (judged-refused g.L.Log _ _ _ _ _ c.self.invariant.beside (g.met.L.Log.only_now _) c.args.old c.args.pid c.requires c.args.link (call.Link c.args.old c.args.link) Linked _ (link-swap g.L.Log _ c.args.old c.args.link)
     c.in_err-present.field-0.0 c.in_err-present.ensures)
 
 pub returns-in-Stale-clause-step : goal.returns-in-Stale-clause-step
 returns-in-Stale-clause-step g c =
     rw (← c.self.view_is)
-    (judged-stale g.L.Log _ _ _ _ _ c.self.invariant.beside (g.met.L.Log.only_now _) c.args.old c.args.pid c.requires c.args.link (call.Link c.args.old c.args.link) Linked _ (link-swap c.args.old c.args.link)
+    (judged-stale g.L.Log _ _ _ _ _ c.self.invariant.beside (g.met.L.Log.only_now _) c.args.old c.args.pid c.requires c.args.link (call.Link c.args.old c.args.link) Linked _ (link-swap g.L.Log _ c.args.old c.args.link)
     c.in-Stale.present (judged-by _ _ _ _ _ _ _ c.deref.ensures.value c.in-Stale.is c.in_ok-present.ensures))
 
 pub returns-in-Gone-clause-step : goal.returns-in-Gone-clause-step
 returns-in-Gone-clause-step g c =
     rw (← c.self.view_is)
-    (judged-gone g.L.Log _ _ _ _ _ c.self.invariant.beside (g.met.L.Log.only_now _) c.args.old c.args.pid c.requires c.args.link (call.Link c.args.old c.args.link) Linked _ (link-swap c.args.old c.args.link)
+    (judged-gone g.L.Log _ _ _ _ _ c.self.invariant.beside (g.met.L.Log.only_now _) c.args.old c.args.pid c.requires c.args.link (call.Link c.args.old c.args.link) Linked _ (link-swap g.L.Log _ c.args.old c.args.link)
     (judged-by _ _ _ _ _ _ _ c.deref.ensures.value c.in-Gone.is c.in_ok-present.ensures))
 
 pub returns-in_err-present-clause-tested : goal.returns-in_err-present-clause-tested
@@ -105,9 +105,8 @@ returns-in_err-pull_and_link g c =
     let done = c.in_err-pull_and_link.ensures in
     let refusal = c.in_err-pull_and_link.field-0.0 in
     let result : Result (Unit {0}) Refusal = Err refusal in
-    let p = err_from_is_err_and c.from_residual-in_err-pull_and_link.result c.from_residual-in_err-pull_and_link.ensures.1 in
     let stamps = stamps-same g.L.Log inside.next inside.config inside.recovered inside.journal c.pull_and_link.new.journal inside.pages.items inside.free.items c.args.pid q c.pull_and_link.new.page c.self.invariant fresh.clear fresh.behind fresh.at done.left.0 in
-    rw (p.1, p.2, ← c.self.view_is) (record {
+    rw (refused-is c.from_residual-in_err-pull_and_link.result _ c.from_residual-in_err-pull_and_link.ensures.1, ← c.self.view_is) (record {
       tested = refused-tests g.L.Log inside.next inside.config inside.recovered inside.journal inside.pages.items inside.free.items c.args.pid c.self.invariant c.args.old q fresh c.args.link c.requires refusal done.tested;
       step = steps-told g.L.Log _ _ _ _ (record { config = refl; recovered = refl }) (λ told. link-refused g.L.Log inside.next inside.config inside.recovered inside.journal inside.pages.items inside.free.items c.args.pid c.self.invariant fresh.clear c.args.old c.requires c.args.link fresh.behind q fresh.at fresh.full
           c.pull_and_link.new.journal c.pull_and_link.new.page fresh.stamp refusal (done.refused told) done.cause done.left.0);

@@ -1,9 +1,10 @@
-use Rattle.sled_pagecache.proofs.Names.{◌≡◌, ◌+◌, [], ◌∷◌, Some, Result, Err, rules, sym, ap, ◌∙◌, refl, arith, slice_get_within, err_from_is_err_and, slice_set, Refusal, Node, Put, Change, message_of, begun_by, is_free, stamps_in, token, Replaced, Fresh}
+use Rattle.sled_pagecache.proofs.Names.{◌≡◌, ◌+◌, [], ◌∷◌, Some, Result, Err, rules, sym, ap, ◌∙◌, refl, arith, slice_get_within, slice_set, Refusal, Node, Put, Change, message_of, begun_by, is_free, stamps_in, token, Replaced, Fresh}
 use Rattle.sled_pagecache.proofs.Answers.{keeps-err}
 use Rattle.sled_pagecache.proofs.CacheSteps.{steps-told}
 use Rattle.sled_pagecache.proofs.Judging.{replace-swap, judged-by, judged-refused, judged-gone, judged-stale, fresh-within, fresh-at, fresh-answered, keeps-fresh}
 use Rattle.sled_pagecache.proofs.Lookups.{behind-own, put-back}
 use Rattle.sled_pagecache.proofs.Putting.{blamed}
+use Rattle.sled_pagecache.proofs.Refused.{refused-is}
 use Rattle.sled_pagecache.proofs.Replacing.{replaces-refused, replaces-done}
 use Rattle.sled_pagecache.proofs.Standing.{beside-long, resident-set, one-long, one-short}
 use Rattle.sled_pagecache.proofs.Tables.{consistent-same, consistent-put, marks-begun, free-same}
@@ -12,21 +13,20 @@ use Rattle.sled_pagecache.proofs.pagecache.cache.PageCache.replace.Goals as goal
 
 pub returns-in_err-present-clause-step : goal.returns-in_err-present-clause-step
 returns-in_err-present-clause-step g c =
-    let p = err_from_is_err_and c.from_residual.result c.from_residual.ensures.1 in
-    rw (p.1, p.2, ← c.self.view_is)
-    (judged-refused g.L.Log _ _ _ _ _ c.self.invariant.beside (g.met.L.Log.only_now _) c.args.old c.args.pid c.requires c.args.node (call.Replace c.args.old c.args.node) Replaced _ (replace-swap c.args.old c.args.node)
+    rw (refused-is c.from_residual.result _ c.from_residual.ensures.1, ← c.self.view_is)
+    (judged-refused g.L.Log _ _ _ _ _ c.self.invariant.beside (g.met.L.Log.only_now _) c.args.old c.args.pid c.requires c.args.node (call.Replace c.args.old c.args.node) Replaced _ (replace-swap g.L.Log _ c.args.old c.args.node)
     c.in_err-present.field-0.0 c.in_err-present.ensures)
 
 pub returns-in-Stale-clause-step : goal.returns-in-Stale-clause-step
 returns-in-Stale-clause-step g c =
     rw (← c.self.view_is)
-    (judged-stale g.L.Log _ _ _ _ _ c.self.invariant.beside (g.met.L.Log.only_now _) c.args.old c.args.pid c.requires c.args.node (call.Replace c.args.old c.args.node) Replaced _ (replace-swap c.args.old c.args.node)
+    (judged-stale g.L.Log _ _ _ _ _ c.self.invariant.beside (g.met.L.Log.only_now _) c.args.old c.args.pid c.requires c.args.node (call.Replace c.args.old c.args.node) Replaced _ (replace-swap g.L.Log _ c.args.old c.args.node)
     c.in-Stale.present (judged-by _ _ _ _ _ _ _ c.deref.ensures.value c.in-Stale.is c.in_ok-present.ensures))
 
 pub returns-in-Gone-clause-step : goal.returns-in-Gone-clause-step
 returns-in-Gone-clause-step g c =
     rw (← c.self.view_is)
-    (judged-gone g.L.Log _ _ _ _ _ c.self.invariant.beside (g.met.L.Log.only_now _) c.args.old c.args.pid c.requires c.args.node (call.Replace c.args.old c.args.node) Replaced _ (replace-swap c.args.old c.args.node)
+    (judged-gone g.L.Log _ _ _ _ _ c.self.invariant.beside (g.met.L.Log.only_now _) c.args.old c.args.pid c.requires c.args.node (call.Replace c.args.old c.args.node) Replaced _ (replace-swap g.L.Log _ c.args.old c.args.node)
     (judged-by _ _ _ _ _ _ _ c.deref.ensures.value c.in-Gone.is c.in_ok-present.ensures))
 
 pub index_mut-page-requires : goal.index_mut-page-requires
@@ -80,8 +80,7 @@ returns-in_err-replace_page g c =
     let refusal = c.in_err-replace_page.field-0.0 in
     let after = c.replace_page.new.page in
     let back : slice_set table c.args.pid after ≡ table = put-back table c.args.pid after (fresh.at ∙ ap (λ page. Some page) (sym refused.left)) in
-    let p = err_from_is_err_and c.from_residual-in_err-replace_page.result c.from_residual-in_err-replace_page.ensures.1 in
-    rw (p.1, p.2, ← c.self.view_is) (record {
+    rw (refused-is c.from_residual-in_err-replace_page.result _ c.from_residual-in_err-replace_page.ensures.1, ← c.self.view_is) (record {
       step = steps-told g.L.Log _ _ _ _ (record { config = refl; recovered = refl }) (λ told. replaces-refused g.L.Log inside.next inside.config inside.recovered inside.journal table fresh.clear (c.self.invariant.beside fresh.clear)
           c.args.old c.args.pid c.args.node c.requires (slice_set table c.args.pid after) back c.replace_page.new.journal fresh.behind q fresh.at fresh.full fresh.stamp
           refused.is refusal (refused.refused told) refused.went refused.cause);
