@@ -18,6 +18,6 @@ abbrev pub bytes_of : Kept → List ℕ
 bytes_of (Inline short) = short_bytes short
 bytes_of (Shared part) = part_bytes part
 
--- so short that a copy takes no memory
+-- so short that a copy allocates nothing
 abbrev pub IsShort : List ℕ → Type 0
 IsShort bytes = length bytes ≤ inline_limit

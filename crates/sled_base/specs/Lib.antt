@@ -9,3 +9,11 @@ pub mod Order
 pub mod OrderLaws
 pub mod Searches
 pub mod Payloads
+pub mod Containing
+pub mod Dll
+pub mod Links
+pub mod OptionalSlots
+pub mod Lru
+pub mod LruLaws
+pub mod Shards
+pub mod Entries

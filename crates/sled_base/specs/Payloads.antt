@@ -1,4 +1,4 @@
--- How values are spelled as bytes.
+-- How values are encoded as bytes.
 pub mod Reading
 pub mod ReadingLaws
 pub mod Numbers

@@ -21,7 +21,7 @@ use std::iter::FromIterator;
 use std::marker::Model;
 use std::sync::Arc;
 
-/// Up to this many bytes are kept in place and take no memory.
+/// Up to this many bytes are kept in place, without an allocation.
 pub const CUTOFF: usize = 22;
 
 /// A byte string that is cheap to copy: up to [`CUTOFF`] bytes lie in place, and more are shared.
@@ -42,7 +42,7 @@ impl Model for IVec {
 }
 
 impl IVec {
-    /// A copy of the bytes. Up to [`CUTOFF`] of them take no memory.
+    /// A copy of the bytes. Up to [`CUTOFF`] of them need no allocation.
     pub fn from_slice(alloc: Global, bytes: &[u8]) -> Result<IVec, AllocError>
         ensures ok { IfOk result (λ v. v ≡ bytes.now) }
         ensures few { length bytes.now ≤ inline_limit → IsOk result }
@@ -56,7 +56,7 @@ impl IVec {
 
     /// The bytes of a list, which is kept and not copied where they are more than [`CUTOFF`].
     ///
-    /// Up to [`CUTOFF`] of them take no memory. An error means that memory is wanting, and the list is let go.
+    /// Up to [`CUTOFF`] of them need no allocation. An error means that an allocation failed, and the list is let go.
     pub fn from_vec(alloc: Global, bytes: Vec<u8>) -> Result<IVec, AllocError>
         ensures ok { IfOk result (λ v. v ≡ bytes.items) }
         ensures few { length bytes.items ≤ inline_limit → IsOk result }
@@ -77,7 +77,7 @@ impl IVec {
 
     /// The bytes of a shared list, which stays shared where they are more than [`CUTOFF`].
     ///
-    /// It takes no memory and is never refused. The allocator is there as in the other calls of its kind.
+    /// It allocates nothing and is never refused. The allocator is there as in the other calls of its kind.
     pub fn from_arc(_alloc: Global, bytes: Arc<Vec<u8>>) -> Result<IVec, AllocError>
         ensures ok { IfOk result (λ v. v ≡ (arc_value bytes).items) }
         ensures taken { IsOk result }
@@ -88,7 +88,7 @@ impl IVec {
         Ok(IVec::inline(&bytes))
     }
 
-    /// A copy of the bytes of a text. Up to [`CUTOFF`] of them take no memory.
+    /// A copy of the bytes of a text. Up to [`CUTOFF`] of them need no allocation.
     pub fn from_str(alloc: Global, text: &str) -> Result<IVec, AllocError>
         ensures ok { IfOk result (λ v. v ≡ text.now) }
         ensures few { length text.now ≤ inline_limit → IsOk result }
@@ -96,7 +96,7 @@ impl IVec {
         IVec::from_slice(alloc, text.as_bytes())
     }
 
-    /// The bytes of an array. Up to [`CUTOFF`] of them take no memory.
+    /// The bytes of an array. Up to [`CUTOFF`] of them need no allocation.
     pub fn from_array<const N: usize>(alloc: Global, bytes: [u8; N]) -> Result<IVec, AllocError>
         ensures ok { IfOk result (λ v. v ≡ bytes.entry) }
         ensures few { N ≤ inline_limit → IsOk result }
@@ -104,7 +104,7 @@ impl IVec {
         IVec::from_slice(alloc, &bytes)
     }
 
-    /// `len` bytes from `offset` on. Up to [`CUTOFF`] of them take no memory, and more are shared with these.
+    /// `len` bytes from `offset` on. Up to [`CUTOFF`] of them need no allocation, and more are shared with these.
     ///
     /// An error means that there are more holders than can be counted.
     pub fn subslice(&self, offset: usize, len: usize) -> Result<IVec, AllocError>
@@ -125,7 +125,7 @@ impl IVec {
 
     /// The bytes, shared. Where these are all the bytes of what is shared, it is that itself, and else a copy.
     ///
-    /// An error means that memory for the copy is wanting, and the bytes are let go.
+    /// An error means that the copy could not be allocated, and the bytes are let go.
     pub fn into_arc(self, alloc: Global) -> Result<Arc<Vec<u8>>, AllocError>
         ensures { IfOk result (λ a. (arc_value a).items ≡ self) }
     {
@@ -149,7 +149,7 @@ impl IVec {
     /// What `f` answers, which is lent the bytes to write. How many there are stays.
     ///
     /// Nobody else sees what is written. Up to [`CUTOFF`] bytes, and more that nobody else holds, are written in
-    /// place. The others are copied first. An error means that memory for the copy is wanting: then `f` isn't called,
+    /// place. The others are copied first. An error means that the copy could not be allocated: then `f` isn't called,
     /// and the bytes are as before.
     pub fn write_with<R, F: FnOnce(&mut [u8]) -> R>(
         &mut self,
@@ -222,7 +222,7 @@ impl FromIterator<u8> for IVec {
 impl Default for IVec {
     ghost is_default = { λ v. v ≡ [] };
 
-    /// No bytes. It takes no memory.
+    /// No bytes. It allocates nothing.
     fn default() -> IVec {
         IVec::inline(&[])
     }

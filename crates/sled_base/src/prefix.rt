@@ -10,14 +10,14 @@ use crate::search::{last_at_most, last_equal};
 use std::alloc::{AllocError, Global};
 use std::cmp::Ordering;
 
-/// No bytes. It takes no memory.
+/// No bytes. It allocates nothing.
 pub fn empty() -> IVec
     ensures { result ≡ [] }
 {
     IVec::default()
 }
 
-/// The whole key: the prefix and then the key that is kept without it. Up to [`CUTOFF`] bytes take no memory.
+/// The whole key: the prefix and then the key that is kept without it. Up to [`CUTOFF`] bytes need no allocation.
 pub fn decode(alloc: Global, prefix: &[u8], key: &[u8]) -> Result<IVec, AllocError>
     ensures ok { IfOk result (λ whole. whole ≡ prefix.now ++ key.now) }
     ensures few { length (prefix.now ++ key.now) ≤ inline_limit → IsOk result }
@@ -32,7 +32,7 @@ pub fn decode(alloc: Global, prefix: &[u8], key: &[u8]) -> Result<IVec, AllocErr
     IVec::from_vec(alloc, whole)
 }
 
-// The same for so few bytes that they take no memory.
+// The same for so few bytes that they need no allocation.
 fn decode_few(alloc: Global, prefix: &[u8], key: &[u8]) -> Result<IVec, AllocError>
     requires { length prefix.now + length key.now ≤ inline_limit }
     ensures ok { IfOk result (λ whole. whole ≡ prefix.now ++ key.now) }
@@ -47,7 +47,7 @@ fn decode_few(alloc: Global, prefix: &[u8], key: &[u8]) -> Result<IVec, AllocErr
 
 /// The whole key without its first `n` bytes, as it is kept under a prefix of so many. It is empty if there are fewer.
 ///
-/// Up to [`CUTOFF`] bytes take no memory.
+/// Up to [`CUTOFF`] bytes need no allocation.
 pub fn reencode(alloc: Global, prefix: &[u8], key: &[u8], n: usize) -> Result<IVec, AllocError>
     ensures ok { IfOk result (λ rest. rest ≡ drop n (prefix.now ++ key.now)) }
     ensures few { length (drop n (prefix.now ++ key.now)) ≤ inline_limit → IsOk result }

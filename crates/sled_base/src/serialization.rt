@@ -14,24 +14,24 @@ use crate::types::Error;
 pub use consume::ConsumeSequence;
 use std::alloc::{AllocError, Global};
 
-/// A type whose values can be spelled as bytes, each in one way when it is written.
+/// A type whose values can be encoded as bytes, each in one way when it is written.
 pub trait Serialize: Drop {
-    /// The input is a spelling of the value, and then the rest.
+    /// The input is an encoding of the value, and then the rest.
     ghost reads: { List ℕ → Self → List ℕ → Type 0 };
 
     /// The inputs for which a reading asks for memory. Any other is read or refused without.
     ghost asks: { List ℕ → Type 0 };
 
-    /// The one spelling that is written.
+    /// The one encoding that is written.
     ghost written: { Self → List ℕ };
 
-    /// The value has a spelling, and keeps the limits.
+    /// The value has an encoding, and keeps the limits.
     ghost can_write: { Self → Type 0 };
 
     /// Bytes that may follow the value that was written: it is read again, with them as the rest.
     ghost can_follow: { Self → List ℕ → Type 0 } = { λ _ _. Unit {0} };
 
-    /// How many bytes each spelling has at least.
+    /// How many bytes each encoding has at least.
     ghost least_size: { ℕ };
 
     /// How many bytes the value is written as.
@@ -40,9 +40,9 @@ pub trait Serialize: Drop {
         requires fits { length (written self.now) < 2 ^ 64 }
         ensures { result ≡ length (written self.now) };
 
-    /// Writes the value at the beginning, and answers how many bytes it took. The other bytes stay as they were.
+    /// Writes the value at the front, and answers how many bytes it took. The other bytes stay as they were.
     ///
-    /// It takes no memory.
+    /// It allocates nothing.
     fn serialize_into(&self, out: &mut [u8]) -> usize
         requires can_write { can_write self.now }
         requires room { length (written self.now) ≤ length out.old }
@@ -51,8 +51,8 @@ pub trait Serialize: Drop {
 
     /// Reads a value from the front of the input, which then begins with what is left.
     ///
-    /// It answers `Corruption(None)` exactly where no value is read from the input, and `OutOfMemory` where memory was
-    /// wanting, which comes only for an input whose reading asks for some. A refusal leaves the input as it was.
+    /// It answers `Corruption(None)` exactly where no value is read from the input, and `OutOfMemory` where an
+    /// allocation failed, which comes only for an input whose reading asks for one. An error leaves the input unchanged.
     fn deserialize(alloc: Global, input: &mut &[u8]) -> Result<Self, Error>
         ensures read { IfOk result (λ value. reads input.old.now value input.new.now) }
         ensures refused { IfErr result (IsRefusal asks reads input.old.now) }

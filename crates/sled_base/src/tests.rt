@@ -1,158 +1,199 @@
-ghost use Rattle.std.specs.Prelude.{◌≡◌, ◌<◌, ◌≤◌, length, slice_set, IsOk, OnOk, OnErr};
-ghost use Rattle.sled_base.specs.Limits.{inline_limit};
+mod plain;
+mod writes;
 
 use super::*;
 use std::alloc::{AllocError, Global};
+use std::cmp::Ordering;
 use std::hash::{FoldHasher, Hash, Hasher};
-use std::process::Abort;
 use std::str;
 use std::sync::Arc;
 use std::test::Fail;
 
-// It passes with each allocation failing.
-#[test]
-fn short_strings_take_no_memory(rt: HostRuntime) -> Result<(), Fail> {
-    assert_bytes(&rt, &IVec::default(), &[]);
-    for bytes in [[].as_slice(), &[1, 2, 3], &[5; 22]] {
-        let string = IVec::from_slice(rt.alloc(), bytes)?;
-        assert_bytes(&rt, &string, bytes);
-        assert_bytes(&rt, &string.clone()?, bytes);
-    }
-    Ok(())
+// ---- byte strings by their lengths, of ASCII, so that they are texts too
+
+const LETTERS: &[u8] = b"abcdefghijklmnopqrstuvwxyz";
+
+// Up to 22 bytes are kept in place.
+const SHORT: &[(&str, &[u8])] = &[
+    ("no byte", &[]),
+    ("1 byte", &[7]),
+    ("2 bytes", &[1, 2]),
+    ("3 bytes", &[1, 2, 3]),
+    ("16 bytes", b"abcdefghijklmnop"),
+    ("17 bytes", b"abcdefghijklmnopq"),
+    ("21 bytes", b"abcdefghijklmnopqrstu"),
+    ("22 bytes", b"abcdefghijklmnopqrstuv"),
+    ("22 equal bytes", &[5; 22]),
+];
+
+// More are shared.
+const LONG: &[(&str, &[u8])] = &[
+    ("23 bytes", b"abcdefghijklmnopqrstuvw"),
+    ("23 equal bytes", &[6; 23]),
+    ("26 bytes", LETTERS),
+    ("128 bytes", &[4; 128]),
+    ("1,000 bytes", &[4; 1000]),
+];
+
+// ---- where byte strings come from
+
+fn is_of(string: &IVec, bytes: &[u8]) -> bool {
+    string.as_slice() == bytes
+        && string.len() == bytes.len()
+        && string.is_empty() == bytes.is_empty()
+        && string.eq_bytes(bytes)
 }
 
-#[test]
-fn a_copy_of_a_long_string_outlives_it(rt: HostRuntime) -> Result<(), Fail> {
-    for bytes in [[6; 23].as_slice(), &[4; 128]] {
-        let string = IVec::from_slice(rt.alloc(), bytes)?;
-        assert_bytes(&rt, &string, bytes);
-        let copy = string.clone()?;
-        drop(string);
-        assert_bytes(&rt, &copy, bytes);
-    }
-    Ok(())
+// Whether the string and its copies are of these bytes.
+fn is_copied(string: &IVec, bytes: &[u8]) -> Result<bool, AllocError> {
+    let copies = is_of(&string.clone()?, bytes) && is_of(&string.subslice(0, string.len())?, bytes);
+    Ok(copies && is_of(string, bytes))
 }
 
-fn assert_bytes(rt: &impl Abort, string: &IVec, bytes: &[u8]) {
-    assert_eq!(rt; string.as_slice(), bytes);
-    assert_eq!(rt; string.len(), bytes.len());
-    assert_eq!(rt; string.is_empty(), bytes.is_empty());
-    assert!(rt; string.eq_bytes(bytes));
+// Whether the string, its copies, and what it is as a shared list are of these bytes.
+fn is_used(alloc: Global, string: IVec, bytes: &[u8]) -> Result<bool, AllocError> {
+    let is_so = is_copied(&string, bytes)?;
+    Ok(string.into_arc(alloc)?.as_slice() == bytes && is_so)
 }
 
-const LONG: [u8; 128] = [4; 128];
-
-#[test]
-fn long_strings_come_from_slices_arrays_and_iterators(rt: HostRuntime) -> Result<(), Fail> {
-    assert_uses(&rt, rt.alloc(), IVec::from_slice(rt.alloc(), &LONG)?)?;
-    assert_uses(&rt, rt.alloc(), IVec::from_array(rt.alloc(), LONG)?)?;
-    assert_uses(
-        &rt,
-        rt.alloc(),
-        IVec::from_iter(rt.alloc(), LONG.iter().copied())?,
+fn comes_from_each(alloc: Global, bytes: &[u8]) -> Result<bool, Fail> {
+    let text = str::from_utf8(bytes).ok().ok_or("no text")?;
+    let boxed = Vec::from_slice(alloc, bytes)?.into_boxed_slice();
+    let from_box = is_used(alloc, IVec::from_box(alloc, boxed)?, bytes)?;
+    let shared = Arc::new(alloc, Vec::from_slice(alloc, bytes)?)?;
+    let from_arc = is_used(alloc, IVec::from_arc(alloc, shared)?, bytes)?;
+    let list = Vec::from_slice(alloc, bytes)?;
+    let from_vec = is_used(alloc, IVec::from_vec(alloc, list)?, bytes)?;
+    let from_iter = IVec::from_iter(alloc, bytes.iter().copied())?;
+    Ok(
+        is_used(alloc, from_iter, bytes)?
+            && is_used(alloc, IVec::from_slice(alloc, bytes)?, bytes)?
+            && is_used(alloc, IVec::from_str(alloc, text)?, bytes)?
+            && from_box
+            && from_arc
+            && from_vec,
     )
 }
 
 #[test]
-fn long_strings_come_from_texts_and_boxes(rt: HostRuntime) -> Result<(), Fail> {
-    let text = str::from_utf8(&LONG).ok().ok_or("no text")?;
-    assert_uses(&rt, rt.alloc(), IVec::from_str(rt.alloc(), text)?)?;
-    let boxed = Vec::from_slice(rt.alloc(), &LONG)?.into_boxed_slice();
-    assert_uses(&rt, rt.alloc(), IVec::from_box(rt.alloc(), boxed)?)
-}
-
-#[test]
-fn long_strings_come_from_lists_and_shared_lists(rt: HostRuntime) -> Result<(), Fail> {
-    let list = Vec::from_slice(rt.alloc(), &LONG)?;
-    assert_uses(&rt, rt.alloc(), IVec::from_vec(rt.alloc(), list)?)?;
-    let shared = Arc::new(rt.alloc(), Vec::from_slice(rt.alloc(), &LONG)?)?;
-    assert_uses(&rt, rt.alloc(), IVec::from_arc(rt.alloc(), shared)?)
-}
-
-// The string, and each use of it, is `LONG`.
-fn assert_uses(rt: &impl Abort, alloc: Global, string: IVec) -> Result<(), Fail> {
-    assert_bytes(rt, &string, &LONG);
-    assert_bytes(rt, &string.clone()?, &LONG);
-    assert_bytes(rt, &string.subslice(0, string.len())?, &LONG);
-    assert_eq!(rt; string.into_arc(alloc)?.as_slice(), LONG.as_slice());
-    Ok(())
-}
-
-#[test]
-fn a_part_is_so_many_bytes_from_its_place_on(rt: HostRuntime) -> Result<(), Fail> {
-    let string = IVec::from_slice(rt.alloc(), &[1, 2, 3])?;
-    assert_bytes(&rt, &string.subslice(3, 0)?, &[]);
-    assert_bytes(&rt, &string.subslice(2, 1)?, &[3]);
-    assert_bytes(&rt, &string.subslice(1, 2)?, &[2, 3]);
-    assert_bytes(&rt, &string.subslice(0, 3)?, &[1, 2, 3]);
-    Ok(())
-}
-
-const LETTERS: &[u8; 26] = b"abcdefghijklmnopqrstuvwxyz";
-
-#[test]
-fn a_part_outlives_the_whole(rt: HostRuntime) -> Result<(), Fail> {
-    let string = IVec::from_slice(rt.alloc(), LETTERS)?;
-    let part = string.subslice(2, 23)?;
-    drop(string);
-    assert_bytes(&rt, &part, b"cdefghijklmnopqrstuvwxy");
-    assert_eq!(rt;
-        part.into_arc(rt.alloc())?.as_slice(),
-        b"cdefghijklmnopqrstuvwxy".as_slice()
-    );
-    Ok(())
-}
-
-#[test]
-fn short_strings_come_from_all_that_has_bytes(rt: HostRuntime) -> Result<(), Fail> {
-    let alloc = rt.alloc();
-    let list = Vec::from_slice(alloc, &[1, 2, 3])?;
-    assert_bytes(&rt, &IVec::from_vec(alloc, list)?, &[1, 2, 3]);
-    let shared = Arc::new(alloc, Vec::from_slice(alloc, &[5; 22])?)?;
-    assert_bytes(&rt, &IVec::from_arc(alloc, shared)?, &[5; 22]);
-    assert_bytes(&rt, &IVec::from_str(alloc, "abc")?, b"abc");
-    assert_bytes(&rt, &IVec::from_array(alloc, [7; 22])?, &[7; 22]);
-    assert_eq!(rt;
-        IVec::from_array(alloc, [1, 2])?.into_arc(alloc)?.as_slice(),
-        [1, 2].as_slice()
-    );
-    Ok(())
-}
-
-#[test]
-fn what_is_shared_whole_is_given_out_itself(rt: HostRuntime) -> Result<(), Fail> {
-    let shared = Arc::new(rt.alloc(), Vec::from_slice(rt.alloc(), LETTERS)?)?;
-    let other = shared.clone()?;
-    let string = IVec::from_arc(rt.alloc(), shared)?;
-    let same = string.into_arc(rt.alloc())?;
-    assert_eq!(rt; Arc::strong_count(&same), 2);
-    drop(other);
-    assert_eq!(rt; Arc::strong_count(&same), 1);
-    Ok(())
-}
-
-#[test]
-fn strings_are_equal_where_their_bytes_are(rt: HostRuntime) -> Result<(), Fail> {
-    let long = [4; 30];
-    for (a, b, same) in [
-        ([].as_slice(), [].as_slice(), true),
-        (&[1, 2, 3], &[1, 2, 3], true),
-        (&[1, 2, 3], &[1, 2, 4], false),
-        (&[1, 2, 3], &[1, 2], false),
-        (&long, &[4; 30], true),
-        (&long, &[5; 30], false),
-        (&[4; 23], &[4; 22], false),
-    ] {
-        let x = IVec::from_slice(rt.alloc(), a)?;
-        let y = IVec::from_slice(rt.alloc(), b)?;
-        assert_eq!(rt; x == y, same, "{a:?} and {b:?}");
-        assert_eq!(rt; x.eq_bytes(b), same, "{a:?} and {b:?}");
-        if same {
-            assert_eq!(rt; hash_of(&x), hash_of(&y), "{a:?}");
+fn strings_come_from_all_that_has_bytes(rt: HostRuntime) -> Result<(), Fail> {
+    for rows in [SHORT, LONG] {
+        for (row, bytes) in rows {
+            assert!(rt; comes_from_each(rt.alloc(), bytes)?, "{row}");
         }
     }
     Ok(())
 }
+
+fn comes_from_array<const N: usize>(alloc: Global, bytes: [u8; N]) -> Result<bool, AllocError> {
+    is_used(alloc, IVec::from_array(alloc, bytes)?, &bytes)
+}
+
+#[test]
+fn strings_come_from_arrays(rt: HostRuntime) -> Result<(), Fail> {
+    let alloc = rt.alloc();
+    for (row, is_so) in [
+        ("no byte", comes_from_array(alloc, [])?),
+        ("2 bytes", comes_from_array(alloc, [1, 2])?),
+        ("22 bytes", comes_from_array(alloc, [7; 22])?),
+        ("23 bytes", comes_from_array(alloc, [7; 23])?),
+        ("128 bytes", comes_from_array(alloc, [4; 128])?),
+        ("1,000 bytes", comes_from_array(alloc, [4; 1000])?),
+    ] {
+        assert!(rt; is_so, "{row}");
+    }
+    Ok(())
+}
+
+// It passes with each allocation failing.
+#[test]
+fn short_strings_take_no_memory(rt: HostRuntime) -> Result<(), Fail> {
+    assert!(rt; is_copied(&IVec::default(), &[])?);
+    for (row, bytes) in SHORT {
+        assert!(rt;
+            is_copied(&IVec::from_slice(rt.alloc(), bytes)?, bytes)?,
+            "{row}"
+        );
+    }
+    Ok(())
+}
+
+// ---- copies and parts
+
+// Whether a copy of the whole, and so many bytes of it from a place on, outlive it.
+fn is_part(
+    alloc: Global,
+    whole: &[u8],
+    offset: usize,
+    len: usize,
+    part: &[u8],
+) -> Result<bool, AllocError> {
+    if offset > whole.len() || len > whole.len() - offset {
+        return Ok(false);
+    }
+    let string = IVec::from_slice(alloc, whole)?;
+    let copy = string.clone()?;
+    let cut = string.subslice(offset, len)?;
+    drop(string);
+    let is_so = is_of(&copy, whole) && is_of(&cut, part);
+    Ok(cut.into_arc(alloc)?.as_slice() == part && is_so)
+}
+
+#[test]
+fn a_part_is_so_many_bytes_from_its_place_on(rt: HostRuntime) -> Result<(), Fail> {
+    for (row, whole, offset, len, part) in [
+        ("all of no byte", [].as_slice(), 0, 0, [].as_slice()),
+        ("no byte at the end", &[1, 2, 3], 3, 0, &[]),
+        ("the last byte", &[1, 2, 3], 2, 1, &[3]),
+        ("all but the first byte", &[1, 2, 3], 1, 2, &[2, 3]),
+        ("all of 3 bytes", &[1, 2, 3], 0, 3, &[1, 2, 3]),
+        ("all of 22 bytes", &[5; 22], 0, 22, &[5; 22]),
+        ("all of 23 bytes", &[6; 23], 0, 23, &[6; 23]),
+        ("all of 128 bytes", &[4; 128], 0, 128, &[4; 128]),
+        ("all of 1,000 bytes", &[4; 1000], 0, 1000, &[4; 1000]),
+        ("21 of 26 bytes", LETTERS, 5, 21, b"fghijklmnopqrstuvwxyz"),
+        ("22 of 26 bytes", LETTERS, 3, 22, b"defghijklmnopqrstuvwxy"),
+        ("23 of 26 bytes", LETTERS, 2, 23, b"cdefghijklmnopqrstuvwxy"),
+        (
+            "25 of 26 bytes",
+            LETTERS,
+            1,
+            25,
+            b"bcdefghijklmnopqrstuvwxyz",
+        ),
+        ("no byte at the end of 26", LETTERS, 26, 0, b""),
+    ] {
+        assert!(rt; is_part(rt.alloc(), whole, offset, len, part)?, "{row}");
+    }
+    Ok(())
+}
+
+// How many hold a list that a string is made of, which then gives its bytes out: at first, and without the other holder.
+fn holders_of(alloc: Global, bytes: &[u8]) -> Result<[usize; 2], AllocError> {
+    let shared = Arc::new(alloc, Vec::from_slice(alloc, bytes)?)?;
+    let other = shared.clone()?;
+    let string = IVec::from_arc(alloc, shared)?;
+    let given = string.into_arc(alloc)?;
+    let both = Arc::strong_count(&given);
+    drop(other);
+    Ok([both, Arc::strong_count(&given)])
+}
+
+#[test]
+fn what_is_shared_whole_is_given_out_itself(rt: HostRuntime) -> Result<(), Fail> {
+    for (row, bytes, holders) in [
+        ("3 bytes are copied", [1, 2, 3].as_slice(), [1, 1]),
+        ("22 bytes are copied", &[5; 22], [1, 1]),
+        ("23 bytes are shared", &[6; 23], [2, 1]),
+        ("26 bytes are shared", LETTERS, [2, 1]),
+        ("1,000 bytes are shared", &[4; 1000], [2, 1]),
+    ] {
+        assert!(rt; holders_of(rt.alloc(), bytes)? == holders, "{row}");
+    }
+    Ok(())
+}
+
+// ---- order and text
 
 fn hash_of<T: Hash>(value: &T) -> u64 {
     let mut state = FoldHasher::default();
@@ -160,197 +201,76 @@ fn hash_of<T: Hash>(value: &T) -> u64 {
     state.finish()
 }
 
+// Whether strings of these bytes stand so to one another. Equal ones have one hash.
+fn are_ordered(alloc: Global, a: &[u8], b: &[u8], order: Ordering) -> Result<bool, AllocError> {
+    let x = IVec::from_slice(alloc, a)?;
+    let y = IVec::from_slice(alloc, b)?;
+    let is_same = order.is_eq();
+    Ok(
+        x.cmp(&y) == order
+            && (x < y) == order.is_lt()
+            && (x == y) == is_same
+            && x.eq_bytes(b) == is_same
+            && (!is_same || hash_of(&x) == hash_of(&y)),
+    )
+}
+
+const RISING: &[(&str, &[u8])] = &[
+    ("no byte", &[]),
+    ("the least byte", &[0]),
+    ("another byte", &[1]),
+    ("22 of them", &[1; 22]),
+    ("23 of them", &[1; 23]),
+    ("a greater second byte", &[1, 2]),
+    ("with a third byte", &[1, 2, 3]),
+    ("with a zero behind it", &[1, 2, 3, 0]),
+    ("with another byte behind it", &[1, 2, 3, 55]),
+    ("a greater third byte", &[1, 2, 4]),
+    ("16 greater bytes", &[2; 16]),
+    ("17 greater bytes", &[2; 17]),
+    ("21 greater bytes", &[4; 21]),
+    ("22 greater bytes", &[4; 22]),
+    ("23 greater bytes", &[4; 23]),
+    ("30 greater bytes", &[4; 30]),
+    ("1,000 greater bytes", &[4; 1000]),
+    ("30 bytes greater still", &[5; 30]),
+    ("the greatest byte", &[255]),
+];
+
 #[test]
 fn the_first_byte_that_differs_decides_else_the_shorter_is_less(
     rt: HostRuntime,
 ) -> Result<(), Fail> {
-    let rising = [
-        [].as_slice(),
-        &[0],
-        &[1],
-        &[1; 22],
-        &[1; 23],
-        &[1, 2, 3],
-        &[1, 2, 3, 0],
-        &[1, 2, 3, 55],
-        &[4; 30],
-        &[5; 30],
-        &[255],
-    ];
-    for (i, a) in rising.iter().enumerate() {
-        for (j, b) in rising.iter().enumerate() {
-            let x = IVec::from_slice(rt.alloc(), a)?;
-            let y = IVec::from_slice(rt.alloc(), b)?;
-            assert_eq!(rt; x.cmp(&y), i.cmp(&j), "{a:?} and {b:?}");
-            assert_eq!(rt; x < y, i < j, "{a:?} and {b:?}");
+    for (i, (row, a)) in RISING.iter().enumerate() {
+        for (j, (other, b)) in RISING.iter().enumerate() {
+            assert!(rt;
+                are_ordered(rt.alloc(), a, b, i.cmp(&j))?,
+                "{row} and {other}"
+            );
         }
     }
     Ok(())
+}
+
+fn prints(alloc: Global, bytes: &[u8], text: &str) -> Result<bool, Fail> {
+    let string = IVec::from_slice(alloc, bytes)?;
+    Ok(format!(in alloc; "{string:?}")?.as_str() == text)
 }
 
 #[test]
 fn strings_are_printed_as_lists(rt: HostRuntime) -> Result<(), Fail> {
-    let string = IVec::from_slice(rt.alloc(), &[1, 2, 3])?;
-    assert_eq!(rt; format!(in rt.alloc(); "{string:?}")?.as_str(), "[1, 2, 3]");
-    Ok(())
-}
-
-#[test]
-fn a_refusal_and_its_error_show_the_same_text(rt: HostRuntime) -> Result<(), Fail> {
-    for (refusal, text) in [
-        (Refusal::Unsupported(Why::ReservedId), "error unsupported 1"),
+    for (row, bytes, text) in [
+        ("no byte", [].as_slice(), "[]"),
+        ("1 byte", &[7], "[7]"),
+        ("3 bytes", &[1, 2, 3], "[1, 2, 3]"),
+        ("the greatest bytes", &[255, 255], "[255, 255]"),
         (
-            Refusal::Unsupported(Why::CapacityTooSmall),
-            "error unsupported 2",
+            "23 bytes",
+            &[6; 23],
+            "[6, 6, 6, 6, 6, 6, 6, 6, 6, 6, 6, 6, 6, 6, 6, 6, 6, 6, 6, 6, 6, 6, 6]",
         ),
-        (
-            Refusal::Unsupported(Why::IntervalZero),
-            "error unsupported 3",
-        ),
-        (
-            Refusal::Unsupported(Why::SegmentZero),
-            "error unsupported 4",
-        ),
-        (
-            Refusal::Unsupported(Why::PagesUsedUp),
-            "error unsupported 5",
-        ),
-        (Refusal::Unsupported(Why::IdsUsedUp), "error unsupported 6"),
-        (
-            Refusal::Unsupported(Why::StampUsedUp),
-            "error unsupported 7",
-        ),
-        (Refusal::Unsupported(Why::BatchOpen), "error unsupported 8"),
-        (
-            Refusal::Unsupported(Why::TooManyNames),
-            "error unsupported 9",
-        ),
-        (
-            Refusal::Unsupported(Why::NameTooLong),
-            "error unsupported 10",
-        ),
-        (Refusal::Unsupported(Why::LogFull), "error unsupported 11"),
-        (Refusal::Unsupported(Why::BookFull), "error unsupported 12"),
-        (Refusal::ReportableBug(Bug::MissingMeta), "error bug 1"),
-        (Refusal::ReportableBug(Bug::MissingCounter), "error bug 2"),
-        (Refusal::ReportableBug(Bug::LinkRefused), "error bug 3"),
-        (Refusal::ReportableBug(Bug::FreeInPull), "error bug 4"),
-        (Refusal::Io(Device::Read), "error read"),
-        (Refusal::Io(Device::Write), "error write"),
-        (Refusal::Corruption(None), "error corruption"),
-        (
-            Refusal::Corruption(Some(DiskPtr::Inline(7))),
-            "error corruption",
-        ),
-        (Refusal::OutOfMemory, "error memory"),
     ] {
-        assert_eq!(rt; format!(in rt.alloc(); "{refusal}")?.as_str(), text);
-        let error = Error::from(refusal);
-        assert_eq!(rt; format!(in rt.alloc(); "{error}")?.as_str(), text);
+        assert!(rt; prints(rt.alloc(), bytes, text)?, "{row}");
     }
     Ok(())
-}
-
-#[test]
-fn an_unknown_name_is_not_shown(rt: HostRuntime) -> Result<(), Fail> {
-    let error = Error::CollectionNotFound(IVec::from_slice(rt.alloc(), &[97])?);
-    assert_eq!(rt;
-        format!(in rt.alloc(); "{error}")?.as_str(),
-        "error collection"
-    );
-    Ok(())
-}
-
-#[test]
-fn wanting_memory_is_an_error_of_the_cache(rt: HostRuntime) -> Result<(), Fail> {
-    assert_eq!(rt; pushed(rt.alloc(), 7)?.as_slice(), [7].as_slice());
-    assert_eq!(rt; Error::from(AllocError), Error::OutOfMemory);
-    Ok(())
-}
-
-fn pushed(alloc: Global, byte: u8) -> Result<Vec<u8>, Error> {
-    let mut bytes = Vec::new(alloc);
-    bytes.push(byte)?;
-    Ok(bytes)
-}
-
-#[test]
-fn manifests_are_ordered_as_their_places(rt: HostRuntime) {
-    assert_eq!(rt; BatchManifest::default(), BatchManifest(0));
-    let places: [Lsn; 5] = [i64::MIN, -1, 0, 1, i64::MAX];
-    for (i, a) in places.iter().enumerate() {
-        for (j, b) in places.iter().enumerate() {
-            let (x, y) = (BatchManifest(*a), BatchManifest(*b));
-            assert_eq!(rt; x.cmp(&y), i.cmp(&j), "{a} and {b}");
-            assert_eq!(rt; x < y, i < j, "{a} and {b}");
-            assert_eq!(rt; x == y, i == j, "{a} and {b}");
-        }
-    }
-}
-
-#[test]
-fn a_pointer_knows_its_message_and_its_blob(rt: HostRuntime) {
-    let inline = DiskPtr::Inline(7);
-    assert_eq!(rt; inline.lid(), 7);
-    assert!(rt; !inline.is_blob());
-    let blob = DiskPtr::Blob(7, 9);
-    assert_eq!(rt; blob.lid(), 7);
-    assert!(rt; blob.is_blob());
-    assert_eq!(rt; blob.blob(), (7, 9));
-}
-
-#[test]
-fn others_keep_the_bytes_from_before_a_write(rt: HostRuntime) -> Result<(), Fail> {
-    assert_keeps(&rt, rt.alloc(), &[1, 2, 3], 2)?;
-    assert_keeps(&rt, rt.alloc(), &LONG, 100)
-}
-
-// A copy of a string and its first `len` bytes stay as they were, and the string is written.
-fn assert_keeps(rt: &impl Abort, alloc: Global, bytes: &[u8], len: usize) -> Result<(), Fail> {
-    let mut string = IVec::from_slice(alloc, bytes)?;
-    let seen = string.write_with(alloc, |lent| Vec::from_slice(alloc, lent))??;
-    assert_eq!(rt; seen.as_slice(), bytes);
-    let copy = string.clone()?;
-    assert!(rt; 0 < len && len <= string.len());
-    let part = string.subslice(0, len)?;
-    set_first(&mut string, alloc, 9)?;
-    assert_eq!(rt; string.as_slice()[0], 9);
-    assert_eq!(rt; &string.as_slice()[1..], &bytes[1..]);
-    assert_bytes(rt, &copy, bytes);
-    assert_bytes(rt, &part, &bytes[..len]);
-    Ok(())
-}
-
-fn set_first(string: &mut IVec, alloc: Global, byte: u8) -> Result<(), AllocError>
-    requires { 0 < length string.old }
-    ensures written { OnOk result (string.new ≡ slice_set string.old 0 byte) }
-    ensures few { length string.old ≤ inline_limit → IsOk result }
-    ensures stays { OnErr result (string.new ≡ string.old) }
-{
-    string.write_with(alloc, |bytes| bytes[0] = byte)
-}
-
-// A copy would have no room to spare.
-#[test]
-fn what_nobody_else_holds_is_written_where_it_lies(rt: HostRuntime) -> Result<(), Fail> {
-    let mut list = Vec::with_capacity(rt.alloc(), 100)?;
-    list.extend_from_slice(LETTERS)?;
-    let room = list.capacity();
-    let mut string = IVec::from_vec(rt.alloc(), list)?;
-    assert!(rt; !string.is_empty());
-    set_first(&mut string, rt.alloc(), 65)?;
-    assert_bytes(&rt, &string, b"Abcdefghijklmnopqrstuvwxyz");
-    assert_eq!(rt; string.into_arc(rt.alloc())?.capacity(), room);
-    Ok(())
-}
-
-#[test]
-fn a_page_is_free_or_present(rt: HostRuntime) {
-    let free = PageState::Free(3, DiskPtr::Inline(3));
-    assert!(rt; free.is_free());
-    let present = PageState::Present {
-        base: (0, DiskPtr::Inline(0), 25),
-        frags: Vec::new(rt.alloc()),
-    };
-    assert!(rt; !present.is_free());
 }

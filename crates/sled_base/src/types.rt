@@ -150,7 +150,7 @@ pub enum Error {
     /// The log holds what no cache wrote; where it was a page that was read, at this place.
     #[error("error corruption")]
     Corruption(Option<DiskPtr>),
-    /// Memory was wanting.
+    /// An allocation failed.
     #[error("error memory")]
     OutOfMemory,
 }

@@ -1,4 +1,4 @@
--- The laws of the spelling of byte strings.
+-- The laws of the encoding of byte strings.
 use Rattle.std.specs.Prelude.{◌≡◌, ℕ, List, ◌++◌, length, refl}
 use Rattle.std.proofs.Common.{sym, ap, subst, ◌∙◌, append_assoc, arith}
 use Rattle.std.proofs.lemmas.List.{length-append}

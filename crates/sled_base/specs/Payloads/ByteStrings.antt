@@ -1,4 +1,4 @@
--- How byte strings are spelled.
+-- How byte strings are encoded.
 use Rattle.std.specs.Prelude.{◌≡◌, ℕ, ◌<◌, ◌^◌, List, ◌++◌, length}
 use Rattle.sled_base.specs.Limits.{inline_limit}
 use Rattle.sled_base.specs.Payloads.Numbers.{ReadsU64, written_u64}

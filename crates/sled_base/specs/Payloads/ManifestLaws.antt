@@ -1,4 +1,4 @@
--- The laws of the spelling of a batch's mark.
+-- The laws of the encoding of a batch's mark.
 use Rattle.std.specs.Prelude.{◌≡◌}
 use Rattle.sled_base.specs.declared.types.BatchManifest.{BatchManifest}
 use Rattle.sled_base.specs.Payloads.Reading.{IsGrammar}

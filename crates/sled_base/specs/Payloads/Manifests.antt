@@ -1,4 +1,4 @@
--- How the mark of a batch is spelled: as the place that it holds.
+-- How the mark of a batch is encoded: as the place that it holds.
 use Rattle.std.specs.Prelude.{ℕ, ℤ, List}
 use Rattle.std.specs.Int.{w64}
 use Rattle.std.specs.Int.RustNames.{FitsSigned}

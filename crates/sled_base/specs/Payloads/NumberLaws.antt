@@ -1,4 +1,4 @@
--- The laws of the spelling of numbers.
+-- The laws of the encoding of numbers.
 use Rattle.std.specs.Prelude.{◌≡◌, not, ℕ, ℤ, zero, suc, ◌+◌, ◌-◌, ◌*◌, ◌/◌, ◌^◌, ◌<◌, ◌≤◌, Bool, true, false, List, [], ◌∷◌, ◌++◌, length, take, drop, Option, Some, None, nat_le, nat_lt, ◌==◌, if◌then◌else◌, refl}
 use Rattle.std.proofs.Common.{sym, ap, subst, ◌∙◌, arith, get_or}
 use Rattle.std.proofs.Math.Nat.{pow-suc, pow-le-pow_right}
@@ -35,7 +35,7 @@ below_seven n count lt few =
     let most : 256 ^ count ≤ 256 ^ 7 = pow-le-pow_right {n = 256} (omega arith) few in
     omega arith
 
--- ---- what is written is a spelling
+-- ---- what is written is an encoding
 
 pub spells_written : (n : ℕ) → n < 2 ^ 64 → SpellsU64 (written_u64 n) n
 spells_written n lt =
@@ -53,7 +53,7 @@ spells_written n lt =
 
 -- ---- the plain reader computes the grammar
 
--- a spelling in front is read
+-- an encoding in front is read
 pub reads_spelling : (spelling rest : List ℕ) (n : ℕ) → SpellsU64 spelling n → u64_at (spelling ++ rest) ≡ Some (n, rest)
 unfolding u64_at
 reads_spelling [] rest n h = absurd h
@@ -72,7 +72,7 @@ reads_spelling (b ∷ c ∷ d ∷ e ∷ bytes) rest n h =
 abbrev found : ℕ → List ℕ → Option (ℕ × List ℕ)
 found n rest = Some (n, rest)
 
--- a spelling that is followed by the rest
+-- an encoding that is followed by the rest
 after : (spelling rest : List ℕ) (n m : ℕ) (out : List ℕ) → SpellsU64 spelling m → found m out ≡ found n rest → ReadsU64 (spelling ++ out) n rest
 after spelling rest n m out spells e =
     let parts = some_pair_parts m n out rest e in
@@ -104,7 +104,7 @@ many_more b bytes n rest byte low =
     let spells = many_spell b (take count bytes) byte (omega arith) (omega arith) in
     subst (λ input. ReadsU64 (b ∷ input) n rest) (take-append-drop count bytes) (after (b ∷ take count bytes) rest n (from_low_bytes (take count bytes)) (drop count bytes) spells e))
 
--- what is read has a spelling in front
+-- what is read has an encoding in front
 pub spelling_read : (input : List ℕ) (n : ℕ) (rest : List ℕ) → get_or input 0 0 < 256 → u64_at input ≡ Some (n, rest) → ReadsU64 input n rest
 unfolding u64_at
 spelling_read [] n rest byte e = absurd cc
@@ -135,7 +135,7 @@ U64-grammar = record {
 
 -- ---- so many bytes, and a signed number
 
--- two spellings of one length in front of the same
+-- two encodings of one length in front of the same
 pub same_front : (v w r s : List ℕ) → length v ≡ length w → v ++ r ≡ w ++ s → (v ≡ w) × (r ≡ s)
 same_front v w r s len is =
     let n = length w in

@@ -1,4 +1,4 @@
--- How numbers are spelled.
+-- How numbers are encoded.
 use Rattle.std.specs.Prelude.{◌≡◌, ℕ, zero, suc, ◌+◌, ◌-◌, ◌*◌, ◌/◌, ◌%◌, ◌^◌, ◌≤◌, ℤ, Bool, true, false, not, ◌==◌, List, [], ◌∷◌, ◌++◌, length, nat_le, nat_lt, if◌then◌else◌}
 use Rattle.std.specs.Int.{w64, cast_signed, cast_unsigned}
 
@@ -7,7 +7,7 @@ abbrev pub from_low_bytes : List ℕ → ℕ
 from_low_bytes [] = 0
 from_low_bytes (byte ∷ bytes) = byte + 256 * from_low_bytes bytes
 
--- A spelling of a number, by how many bytes it has: the number itself; 240 and more; 2288 and more; or 3 to 8 bytes, of any value.
+-- An encoding of a number, by how many bytes it has: the number itself; 240 and more; 2288 and more; or 3 to 8 bytes, of any value.
 abbrev pub SpellsU64 : List ℕ → ℕ → Type 0
 SpellsU64 [] n = ⊥
 SpellsU64 (b ∷ []) n = (b ≤ 240) × (n ≡ b)
@@ -15,7 +15,7 @@ SpellsU64 (b ∷ c ∷ []) n = (241 ≤ b) × (b ≤ 248) × (n ≡ 240 + 256 * 
 SpellsU64 (b ∷ c ∷ d ∷ []) n = (b ≡ 249) × (n ≡ 2288 + 256 * c + d)
 SpellsU64 (b ∷ c ∷ d ∷ e ∷ bytes) n = (b ≤ 255) × (b ≡ 250 + length bytes) × (n ≡ from_low_bytes (c ∷ d ∷ e ∷ bytes))
 
--- the input is a spelling of the number, and then the rest
+-- the input is an encoding of the number, and then the rest
 abbrev pub ReadsU64 : List ℕ → ℕ → List ℕ → Type 0
 ReadsU64 input n rest = (spelling : List ℕ) × (input ≡ spelling ++ rest) × SpellsU64 spelling n
 
@@ -33,7 +33,7 @@ byte_count n =
     if nat_lt n (2 ^ 48) then 6 else
     if nat_lt n (2 ^ 56) then 7 else 8
 
--- the spelling that is written
+-- the encoding that is written
 abbrev pub written_u64 : ℕ → List ℕ
 written_u64 n =
     if nat_le n 240 then n ∷ [] else

@@ -1,4 +1,4 @@
--- The laws of the spelling of numbers that may be missing.
+-- The laws of the encoding of numbers that may be missing.
 use Rattle.std.specs.Prelude.{◌≡◌, ℕ, ◌+◌, ◌<◌, ℤ, pos, negsuc, Option, Some, None, refl}
 use Rattle.std.proofs.Common.{ap, arith}
 use Rattle.std.proofs.Math.Path.{PathP, to_path_p}

@@ -1,4 +1,4 @@
--- How numbers that may be missing are spelled: as a number.
+-- How numbers that may be missing are encoded: as a number.
 use Rattle.std.specs.Prelude.{ℕ, ◌+◌, ◌<◌, ◌^◌, ℤ, pos, negsuc, List, Option, Some, None}
 use Rattle.std.specs.declared.num.NonZeroU64.{NonZeroU64}
 use Rattle.std.specs.Int.{w64}

@@ -7,7 +7,7 @@ use Rattle.sled_base.specs.declared.types.Error.TheVariants.{CollectionNotFound,
 abbrev pub ReadsNothing : {V : Type 0} → (List ℕ → V → List ℕ → Type 0) → List ℕ → Type 0
 ReadsNothing {V} reads input = (value : V) (rest : List ℕ) → reads input value rest → ⊥
 
--- A reader refuses for want of memory, where it asks for some, or by Corruption(None) where no value is read.
+-- A reader answers an error where an allocation failed, for an input that asks for one, or Corruption(None) where no value is read.
 abbrev pub IsRefusal : {V : Type 0} → (List ℕ → Type 0) → (List ℕ → V → List ℕ → Type 0) → List ℕ → Error → Type 0
 IsRefusal asks reads input OutOfMemory = asks input
 IsRefusal asks reads input (Corruption None) = ReadsNothing reads input

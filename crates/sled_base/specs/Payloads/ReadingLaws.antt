@@ -47,7 +47,7 @@ module _ {V : Type 0} {reads : List ℕ → V → List ℕ → Type 0} {written 
     takes = λ input v rest found. grammar.takes input v rest found.0;
   }
 
--- a value that is spelled as another, which no two values share
+-- a value that is encoded as another, which no two values share
 module _ {V W : Type 0} {reads : List ℕ → V → List ℕ → Type 0} {written : V → List ℕ} {can_write : V → Type 0} {can_follow : V → List ℕ → Type 0} {n : ℕ} where
   pub By-grammar : (f : W → V) → ((v w : W) → f v ≡ f w → v ≡ w) → IsGrammar reads written can_write can_follow n
       → IsGrammar (λ input v rest. reads input (f v) rest) (λ v. written (f v)) (λ v. can_write (f v)) (λ v rest. can_follow (f v) rest) n

@@ -1,5 +1,10 @@
 use super::*;
 
+// Whether the byte is read as the kind, which has this effect, and is written as the other byte.
+fn is_kind(byte: u8, kind: MessageKind, effect: LogKind, written: u8) -> bool {
+    MessageKind::from(byte) == kind && LogKind::from(kind) == effect && u8::from(kind) == written
+}
+
 #[test]
 fn each_byte_has_its_kind(rt: HostRuntime) {
     for (byte, kind, effect) in [
@@ -16,14 +21,11 @@ fn each_byte_has_its_kind(rt: HostRuntime) {
         (10, MessageKind::InlineLink, LogKind::Link),
         (11, MessageKind::BlobLink, LogKind::Link),
     ] {
-        assert_eq!(rt; MessageKind::from(byte), kind, "byte {byte}");
-        assert_eq!(rt; u8::from(kind), byte, "{kind:?}");
-        assert_eq!(rt; LogKind::from(kind), effect, "{kind:?}");
+        assert!(rt; is_kind(byte, kind, effect, byte), "{kind:?}");
     }
     for byte in 12..=255 {
-        assert_eq!(rt;
-            MessageKind::from(byte),
-            MessageKind::Corrupted,
+        assert!(rt;
+            is_kind(byte, MessageKind::Corrupted, LogKind::Corrupted, 0),
             "byte {byte}"
         );
     }

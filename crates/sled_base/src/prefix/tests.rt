@@ -3,59 +3,85 @@ ghost use Rattle.std.specs.Prelude.{◌≡◌, ◌∷◌, [], IfOk};
 use super::*;
 use std::test::Fail;
 
-#[test]
-fn the_empty_string_has_no_bytes(rt: HostRuntime) {
-    assert!(rt; empty().is_empty());
-}
+// ---- keys with and without their prefix
 
-#[test]
-fn a_whole_key_is_the_prefix_and_then_the_key(rt: HostRuntime) -> Result<(), Fail> {
-    for (prefix, key, whole) in [
-        (b"b".as_slice(), b"b".as_slice(), b"bb".as_slice()),
-        (b"", b"", b""),
-        (b"ab", b"", b"ab"),
-        (b"", b"cd", b"cd"),
-        (b"ab", b"cd", b"abcd"),
-        (&[1; 12], &[1; 11], &[1; 23]),
-    ] {
-        assert!(rt;
-            decode(rt.alloc(), prefix, key)?.eq_bytes(whole),
-            "{prefix:?} and {key:?}"
-        );
+// Whether this is the prefix and the key without the first n bytes. With all of them it is the whole key.
+fn is_rest(
+    alloc: Global,
+    prefix: &[u8],
+    key: &[u8],
+    n: usize,
+    rest: &[u8],
+) -> Result<bool, AllocError> {
+    if n == 0 && !decode(alloc, prefix, key)?.eq_bytes(rest) {
+        return Ok(false);
     }
-    Ok(())
-}
-
-#[test]
-fn a_key_loses_the_first_bytes_of_the_whole(rt: HostRuntime) -> Result<(), Fail> {
-    for (prefix, key, n, rest) in [
-        (b"b".as_slice(), b"bc".as_slice(), 1, b"bc".as_slice()),
-        (b"ab", b"cd", 0, b"abcd"),
-        (b"ab", b"cd", 1, b"bcd"),
-        (b"ab", b"cd", 2, b"cd"),
-        (b"ab", b"cd", 3, b"d"),
-        (b"ab", b"cd", 4, b""),
-        (b"ab", b"cd", 5, b""),
-        (b"", b"cd", usize::MAX, b""),
-        (&[1; 11], &[1; 13], 1, &[1; 23]),
-    ] {
-        assert!(rt;
-            reencode(rt.alloc(), prefix, key, n)?.eq_bytes(rest),
-            "{prefix:?}, {key:?} and {n}"
-        );
-    }
-    Ok(())
+    Ok(reencode(alloc, prefix, key, n)?.eq_bytes(rest))
 }
 
 // It passes with each allocation failing.
 #[test]
 fn short_keys_take_no_memory(rt: HostRuntime) -> Result<(), Fail> {
-    let short = [1; 22];
-    assert!(rt; decode(rt.alloc(), &[1; 11], &[1; 11])?.eq_bytes(&short));
-    assert!(rt; reencode(rt.alloc(), &[1; 11], &[1; 12], 1)?.eq_bytes(&short));
-    assert!(rt; reencode(rt.alloc(), &[1; 30], &short, 30)?.eq_bytes(&short));
+    assert!(rt; empty().is_empty());
+    for (row, prefix, key, n, rest) in [
+        (
+            "both are the same",
+            b"b".as_slice(),
+            b"b".as_slice(),
+            0,
+            b"bb".as_slice(),
+        ),
+        ("no byte at all", b"", b"", 0, b""),
+        ("no key", b"ab", b"", 0, b"ab"),
+        ("no prefix", b"", b"cd", 0, b"cd"),
+        ("the whole key", b"ab", b"cd", 0, b"abcd"),
+        ("22 bytes together", &[1; 11], &[1; 11], 0, &[1; 22]),
+        ("a prefix of 22 bytes", &[1; 22], &[], 0, &[1; 22]),
+        ("a key of 22 bytes", &[], &[1; 22], 0, &[1; 22]),
+        ("without the prefix", b"b", b"bc", 1, b"bc"),
+        ("without part of the prefix", b"ab", b"cd", 1, b"bcd"),
+        ("without a prefix of 2 bytes", b"ab", b"cd", 2, b"cd"),
+        ("without part of the key", b"ab", b"cd", 3, b"d"),
+        ("without any byte", b"ab", b"cd", 4, b""),
+        ("fewer bytes than are left out", b"ab", b"cd", 5, b""),
+        ("all numbers of bytes", b"", b"cd", usize::MAX, b""),
+        ("22 bytes of 23 are left", &[1; 11], &[1; 12], 1, &[1; 22]),
+        ("22 bytes of 52 are left", &[1; 30], &[1; 22], 30, &[1; 22]),
+    ] {
+        assert!(rt; is_rest(rt.alloc(), prefix, key, n, rest)?, "{row}");
+    }
     Ok(())
 }
+
+#[test]
+fn long_keys_are_joined_and_cut(rt: HostRuntime) -> Result<(), Fail> {
+    for (row, prefix, key, n, rest) in [
+        (
+            "23 bytes together",
+            [1; 12].as_slice(),
+            [1; 11].as_slice(),
+            0,
+            [1; 23].as_slice(),
+        ),
+        ("a prefix of 23 bytes", &[1; 23], &[], 0, &[1; 23]),
+        ("a key of 23 bytes", &[], &[1; 23], 0, &[1; 23]),
+        ("1,000 bytes together", &[1; 500], &[1; 500], 0, &[1; 1000]),
+        ("23 bytes of 24 are left", &[1; 11], &[1; 13], 1, &[1; 23]),
+        ("23 bytes of 53 are left", &[1; 30], &[1; 23], 30, &[1; 23]),
+        (
+            "1,000 bytes of 1,023 are left",
+            &[1; 22],
+            &[1; 1001],
+            23,
+            &[1; 1000],
+        ),
+    ] {
+        assert!(rt; is_rest(rt.alloc(), prefix, key, n, rest)?, "{row}");
+    }
+    Ok(())
+}
+
+// ---- order and searches
 
 #[test]
 fn the_first_byte_that_differs_decides(rt: HostRuntime) {
@@ -66,10 +92,12 @@ fn the_first_byte_that_differs_decides(rt: HostRuntime) {
         (&[1, 2, 3], &[1, 2, 3, 0]),
         (&[1, 2, 3, 0], &[1, 2, 3, 55]),
         (&[1, 2, 3], &[2]),
+        (&[4; 22], &[4; 23]),
+        (&[4; 1000], &[5]),
     ] {
-        assert_eq!(rt; fastcmp(l, r), Ordering::Less, "{l:?} and {r:?}");
-        assert_eq!(rt; fastcmp(r, l), Ordering::Greater, "{r:?} and {l:?}");
-        assert_eq!(rt; fastcmp(l, l), Ordering::Equal, "{l:?}");
+        let orders = [fastcmp(l, r), fastcmp(r, l), fastcmp(l, l)];
+        let wanted = [Ordering::Less, Ordering::Greater, Ordering::Equal];
+        assert!(rt; orders == wanted, "{l:?} and {r:?}");
     }
 }
 
@@ -86,48 +114,31 @@ fn five_keys(alloc: Global) -> Result<[IVec; 5], AllocError>
     ])
 }
 
-fn last_at_most_in_five(alloc: Global, key: u8) -> Result<Option<usize>, AllocError> {
-    let keys = five_keys(alloc)?;
-    Ok(binary_search_lub(&[key], &keys))
-}
+// The last key that isn't above, and the last that equals it or how many are below.
+type Found = (Option<usize>, Result<usize, usize>);
 
-fn search_in_five(alloc: Global, key: u8) -> Result<Result<usize, usize>, AllocError> {
+fn found(alloc: Global, key: &[u8]) -> Result<Found, AllocError> {
     let keys = five_keys(alloc)?;
-    Ok(binary_search(&[key], &keys))
+    Ok((binary_search_lub(key, &keys), binary_search(key, &keys)))
 }
 
 #[test]
-fn the_greatest_place_not_above_a_key(rt: HostRuntime) -> Result<(), Fail> {
-    for (key, place) in [
-        (3, None),
-        (4, Some(0)),
-        (5, Some(2)),
-        (6, Some(3)),
-        (7, Some(3)),
-        (8, Some(3)),
-        (9, Some(4)),
-        (10, Some(4)),
+fn keys_are_searched(rt: HostRuntime) -> Result<(), Fail> {
+    for (row, key, wanted) in [
+        ("the empty key", [].as_slice(), (None, Err(0))),
+        ("below all", &[3], (None, Err(0))),
+        ("the least key", &[4], (Some(0), Ok(0))),
+        ("one byte more than the least", &[4, 0], (Some(0), Err(1))),
+        ("a key more than once", &[5], (Some(2), Ok(2))),
+        ("behind the key more than once", &[6], (Some(3), Ok(3))),
+        ("between two keys", &[7], (Some(3), Err(4))),
+        ("below the greatest", &[8], (Some(3), Err(4))),
+        ("the greatest key", &[9], (Some(4), Ok(4))),
+        ("above all", &[10], (Some(4), Err(5))),
     ] {
-        assert_eq!(rt; last_at_most_in_five(rt.alloc(), key)?, place, "{key}");
+        assert!(rt; found(rt.alloc(), key)? == wanted, "{row}");
     }
-    assert_eq!(rt; binary_search_lub(&[3], &[]), None);
-    Ok(())
-}
-
-#[test]
-fn the_greatest_place_of_a_key(rt: HostRuntime) -> Result<(), Fail> {
-    for (key, place) in [
-        (3, Err(0)),
-        (4, Ok(0)),
-        (5, Ok(2)),
-        (6, Ok(3)),
-        (7, Err(4)),
-        (8, Err(4)),
-        (9, Ok(4)),
-        (10, Err(5)),
-    ] {
-        assert_eq!(rt; search_in_five(rt.alloc(), key)?, place, "{key}");
-    }
-    assert_eq!(rt; binary_search(&[3], &[]), Err(0));
+    let in_none = (binary_search_lub(&[3], &[]), binary_search(&[3], &[]));
+    assert!(rt; in_none == (None, Err(0)), "no keys");
     Ok(())
 }

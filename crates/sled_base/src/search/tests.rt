@@ -15,33 +15,30 @@ fn three_pairs(alloc: Global) -> Result<[(IVec, u8); 3], AllocError>
     ])
 }
 
-fn count_in_three(alloc: Global, key: u8) -> Result<usize, AllocError> {
-    let pairs = three_pairs(alloc)?;
-    Ok(count_at_most(&[key], &pairs))
-}
+// How many pairs aren't above the key, the last of them, and the last that equals it or how many are below.
+type Found = (usize, Option<usize>, Result<usize, usize>);
 
-fn last_in_three(alloc: Global, key: u8) -> Result<Option<usize>, AllocError> {
+fn found(alloc: Global, key: &[u8]) -> Result<Found, AllocError> {
     let pairs = three_pairs(alloc)?;
-    Ok(last_at_most(&[key], &pairs))
-}
-
-fn equal_in_three(alloc: Global, key: u8) -> Result<Result<usize, usize>, AllocError> {
-    let pairs = three_pairs(alloc)?;
-    Ok(last_equal(&[key], &pairs))
+    Ok((
+        count_at_most(key, &pairs),
+        last_at_most(key, &pairs),
+        last_equal(key, &pairs),
+    ))
 }
 
 #[test]
 fn pairs_are_searched_by_their_keys(rt: HostRuntime) -> Result<(), Fail> {
-    for (key, count, last, equal) in [
-        (0, 0, None, Err(0)),
-        (1, 2, Some(1), Ok(1)),
-        (2, 2, Some(1), Err(2)),
-        (3, 3, Some(2), Ok(2)),
-        (4, 3, Some(2), Err(3)),
+    for (row, key, wanted) in [
+        ("the empty key", [].as_slice(), (0, None, Err(0))),
+        ("below all", &[0], (0, None, Err(0))),
+        ("a key more than once", &[1], (2, Some(1), Ok(1))),
+        ("one byte more than a key", &[1, 0], (2, Some(1), Err(2))),
+        ("between two keys", &[2], (2, Some(1), Err(2))),
+        ("the greatest key", &[3], (3, Some(2), Ok(2))),
+        ("above all", &[4], (3, Some(2), Err(3))),
     ] {
-        assert_eq!(rt; count_in_three(rt.alloc(), key)?, count, "{key}");
-        assert_eq!(rt; last_in_three(rt.alloc(), key)?, last, "{key}");
-        assert_eq!(rt; equal_in_three(rt.alloc(), key)?, equal, "{key}");
+        assert!(rt; found(rt.alloc(), key)? == wanted, "{row}");
     }
     Ok(())
 }

@@ -11,7 +11,7 @@ use crate::ivec::IVec;
 use crate::types::Error;
 use std::alloc::Global;
 
-/// The byte string at the front, where it lies, and the rest, or none where none is read. It takes no memory.
+/// The byte string at the front, where it lies, and the rest, or none where none is read. It allocates nothing.
 pub fn split_bytes(bytes: &[u8]) -> Option<(&[u8], &[u8])>
     ensures read { IfSome result (λ x. ReadsBytes bytes.now x.0.now x.1.now) }
     ensures nothing { IfNone result (ReadsNothing ReadsBytes bytes.now) }

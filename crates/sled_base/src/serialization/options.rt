@@ -41,7 +41,7 @@ impl Serialize for Option<u64> {
     }
 }
 
-// The number that an optional number is spelled as.
+// The number that an optional number is encoded as.
 fn number_of(value: &Option<u64>) -> u64
     requires { CanWriteOption value.now }
     ensures { result ≡ number_of value.now }
@@ -78,7 +78,7 @@ impl Serialize for Option<i64> {
     }
 }
 
-// The number that an optional signed number is spelled as.
+// The number that an optional signed number is encoded as.
 fn signed_of(value: &Option<i64>) -> i64
     requires { CanWriteSigned value.now }
     ensures { result ≡ signed_of value.now }
@@ -90,7 +90,7 @@ fn signed_of(value: &Option<i64>) -> i64
     }
 }
 
-// The optional signed number that is spelled as this number.
+// The optional signed number that is encoded as this number.
 fn missing_at_0(number: i64) -> Option<i64>
     ensures { signed_of result ≡ number }
 {
@@ -129,7 +129,7 @@ impl Serialize for Option<NonZeroU64> {
     }
 }
 
-// The number that an optional page is spelled as.
+// The number that an optional page is encoded as.
 fn page_number(page: &Option<NonZeroU64>) -> u64
     ensures { result ≡ page_number page.now }
 {

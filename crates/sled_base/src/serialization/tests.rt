@@ -1,222 +1,244 @@
 ghost use Rattle.std.specs.Prelude.{◌<◌, ◌^◌, length};
 
+mod rows;
+
 use super::*;
 use crate::ivec::IVec;
 use crate::types::BatchManifest;
+use rows::{FIXED, LONGER, OPTIONAL, PARTS, TEXTS, UNSIGNED, Value};
 use std::num::NonZeroU64;
-use std::process::Abort;
 use std::test::Fail;
 
-// The value at the front of the input, or none where none is read. An error is want of memory.
-fn read<T: Serialize>(alloc: Global, input: &mut &[u8]) -> Result<Option<T>, AllocError> {
-    match T::deserialize(alloc, input) {
-        Ok(value) => Ok(Some(value)),
+// ---- steps for any type
+
+// Whether no value is read, and the input stays where it was. It takes no memory.
+fn is_refused<T: Serialize>(alloc: Global, bytes: &[u8]) -> bool {
+    let mut rest = bytes;
+    let answer = T::deserialize(alloc, &mut rest);
+    matches!(&answer, Err(Error::Corruption(None))) && rest == bytes
+}
+
+// Whether the value is at the front of the input, before this rest.
+fn is_read<T: Serialize + PartialEq>(
+    alloc: Global,
+    input: &[u8],
+    value: &T,
+    rest: &[u8],
+) -> Result<bool, AllocError> {
+    let mut left = input;
+    match T::deserialize(alloc, &mut left) {
+        Ok(found) => Ok(found == *value && left == rest),
         Err(Error::OutOfMemory) => Err(AllocError),
-        Err(_) => Ok(None),
+        Err(_) => Ok(false),
     }
 }
 
-// The bytes are a whole spelling of the value.
-fn expect_read<T: Serialize + PartialEq>(
-    rt: &impl Abort,
+// Whether the bytes are read as the value, alone and before other bytes, and each proper prefix of them is refused.
+fn is_encoding<T: Serialize + PartialEq>(
     alloc: Global,
-    bytes: &[u8],
     value: &T,
-) -> Result<(), AllocError> {
-    let mut rest = bytes;
-    let read = read::<T>(alloc, &mut rest)?;
-    assert!(rt; matches!(&read, Some(found) if *found == *value));
-    assert!(rt; rest.is_empty());
-    Ok(())
+    bytes: &[u8],
+) -> Result<bool, AllocError> {
+    for len in 0..bytes.len() {
+        if !is_refused::<T>(alloc, &bytes[..len]) {
+            return Ok(false);
+        }
+    }
+    let mut followed = Vec::from_slice(alloc, bytes)?;
+    followed.extend_from_slice(&[7, 8])?;
+    Ok(is_read(alloc, bytes, value, &[])? && is_read(alloc, &followed, value, &[7, 8])?)
 }
 
-// The bytes are the spelling that is written, of the size that is told, and they are read as the value.
-fn expect_spelled<T: Serialize + PartialEq>(
-    rt: &impl Abort,
+// Whether the bytes are an encoding of the value, and the one that is written where that is wanted. What is written has the
+// size that is told, and leaves the bytes behind it.
+fn is_encoded<T: Serialize + PartialEq>(
     alloc: Global,
     value: &T,
     bytes: &[u8],
-) -> Result<(), AllocError>
+    is_written: bool,
+) -> Result<bool, AllocError>
     requires can_write { T.can_write value.now }
     requires fits { length (T.written value.now) < 2 ^ 64 }
 {
-    let written = value.serialize(alloc)?;
-    assert!(rt; written.as_slice() == bytes);
-    assert!(rt; value.serialized_size() == bytes.len() as u64);
-    expect_read(rt, alloc, bytes, value)
+    let mut written = value.serialize(alloc)?;
+    let size = value.serialized_size();
+    if size != written.len() as u64 || (written.as_slice() == bytes) != is_written {
+        return Ok(false);
+    }
+    let mut out = vec![in alloc; 9u8; written.len() + 2]?;
+    let end = value.serialize_into(&mut out);
+    written.extend_from_slice(&[9, 9])?;
+    Ok(end as u64 == size && out == written && is_encoding(alloc, value, bytes)?)
 }
 
-// No value is read, and the input stays where it was.
-fn expect_corruption<T: Serialize>(rt: &impl Abort, alloc: Global, bytes: &[u8]) {
-    let mut rest = bytes;
-    let answer = T::deserialize(alloc, &mut rest);
-    assert!(rt; matches!(&answer, Err(Error::Corruption(None))));
-    assert!(rt; rest.len() == bytes.len());
+// ---- values
+
+fn is_text(
+    alloc: Global,
+    text: &[u8],
+    length: &[u8],
+    is_written: bool,
+) -> Result<bool, AllocError> {
+    let mut bytes = Vec::from_slice(alloc, length)?;
+    bytes.extend_from_slice(text)?;
+    let string = IVec::from_slice(alloc, text)?;
+    is_encoded(alloc, &string, &bytes, is_written)
+}
+
+// The greatest optional number can't be written.
+fn agrees(alloc: Global, value: Value, bytes: &[u8], is_written: bool) -> Result<bool, AllocError> {
+    match value {
+        Value::U64(n) => is_encoded(alloc, &n, bytes, is_written),
+        Value::U32(n) => is_encoded(alloc, &n, bytes, is_written),
+        Value::U8(n) => is_encoded(alloc, &n, bytes, is_written),
+        Value::I64(n) => is_encoded(alloc, &n, bytes, is_written),
+        Value::Bool(b) => is_encoded(alloc, &b, bytes, is_written),
+        Value::Unit => is_encoded(alloc, &(), bytes, is_written),
+        Value::Manifest(place) => is_encoded(alloc, &BatchManifest(place), bytes, is_written),
+        Value::NoU64 => is_encoded::<Option<u64>>(alloc, &None, bytes, is_written),
+        Value::SomeU64(u64::MAX) | Value::SomeI64(i64::MAX) => Ok(false),
+        Value::SomeU64(n) => is_encoded(alloc, &Some(n), bytes, is_written),
+        Value::NoI64 => is_encoded::<Option<i64>>(alloc, &None, bytes, is_written),
+        Value::SomeI64(n) => is_encoded(alloc, &Some(n), bytes, is_written),
+        Value::NonZero(n) => is_encoded(alloc, &NonZeroU64::new(n), bytes, is_written),
+        Value::Pair(a, b) => is_encoded(alloc, &(a, b), bytes, is_written),
+        Value::Triple(a, c) => is_encoded(alloc, &(a, (), c), bytes, is_written),
+        Value::Text(text) => is_text(alloc, text, bytes, is_written),
+    }
 }
 
 #[test]
-fn unsigned_numbers(rt: HostRuntime) -> Result<(), Fail> {
-    for (number, bytes) in [
-        (0, [0].as_slice()),
-        (240, &[240]),
-        (241, &[241, 1]),
-        (2287, &[248, 255]),
-        (2288, &[249, 0, 0]),
-        (67823, &[249, 255, 255]),
-        (67824, &[250, 240, 8, 1]),
-        (16777215, &[250, 255, 255, 255]),
-        (16777216, &[251, 0, 0, 0, 1]),
-        (u64::MAX, &[255, 255, 255, 255, 255, 255, 255, 255, 255]),
-    ] {
-        expect_spelled::<u64>(&rt, rt.alloc(), &number, bytes)?;
+fn values_are_encoded(rt: HostRuntime) -> Result<(), Fail> {
+    for rows in [UNSIGNED, FIXED, OPTIONAL, PARTS, TEXTS] {
+        for (row, value, bytes) in rows {
+            assert!(rt; agrees(rt.alloc(), *value, bytes, true)?, "{row}");
+        }
     }
     Ok(())
 }
 
 #[test]
-fn longer_spellings_are_read(rt: HostRuntime) -> Result<(), Fail> {
-    for (bytes, number) in [
-        ([241, 0].as_slice(), 240),
-        (&[249, 0, 1], 2289),
-        (&[250, 1, 0, 0], 1),
-        (&[255, 1, 0, 0, 0, 0, 0, 0, 0], 1),
-    ] {
-        expect_read::<u64>(&rt, rt.alloc(), bytes, &number)?;
+fn other_encodings_are_read(rt: HostRuntime) -> Result<(), Fail> {
+    for (row, value, bytes) in LONGER {
+        assert!(rt; agrees(rt.alloc(), *value, bytes, false)?, "{row}");
     }
     Ok(())
 }
 
-#[test]
-fn numbers_that_end_too_early(rt: HostRuntime) {
-    for bytes in [
-        [].as_slice(),
-        &[241],
-        &[249, 0],
-        &[250, 1],
-        &[250, 1, 0],
-        &[255, 0, 0, 0, 0, 0, 0, 0],
-    ] {
-        expect_corruption::<u64>(&rt, rt.alloc(), bytes);
+// ---- refusals
+
+#[derive(Clone, Copy)]
+enum Type {
+    U64,
+    U32,
+    U8,
+    I64,
+    Bool,
+    Manifest,
+    Pair,
+    Triple,
+    Text,
+}
+
+fn refuses(alloc: Global, of: Type, bytes: &[u8]) -> bool {
+    match of {
+        Type::U64 => is_refused::<u64>(alloc, bytes),
+        Type::U32 => is_refused::<u32>(alloc, bytes),
+        Type::U8 => is_refused::<u8>(alloc, bytes),
+        Type::I64 => is_refused::<i64>(alloc, bytes),
+        Type::Bool => is_refused::<bool>(alloc, bytes),
+        Type::Manifest => is_refused::<BatchManifest>(alloc, bytes),
+        Type::Pair => is_refused::<(u8, u64)>(alloc, bytes),
+        Type::Triple => is_refused::<(u8, (), u32)>(alloc, bytes),
+        Type::Text => is_refused::<IVec>(alloc, bytes),
     }
-    expect_corruption::<u32>(&rt, rt.alloc(), &[1, 2, 3]);
-    expect_corruption::<i64>(&rt, rt.alloc(), &[1, 2, 3, 4, 5, 6, 7]);
-    expect_corruption::<BatchManifest>(&rt, rt.alloc(), &[1, 2, 3, 4, 5, 6, 7]);
-    expect_corruption::<u8>(&rt, rt.alloc(), &[]);
-    expect_corruption::<bool>(&rt, rt.alloc(), &[]);
 }
 
+// It passes with each allocation failing: a forged length asks for no memory.
 #[test]
-fn numbers_of_a_fixed_size(rt: HostRuntime) -> Result<(), Fail> {
-    expect_spelled::<u32>(&rt, rt.alloc(), &67305985, &[1, 2, 3, 4])?;
-    expect_spelled::<u8>(&rt, rt.alloc(), &255, &[255])?;
-    for (number, bytes) in [
-        (0, [0; 8].as_slice()),
-        (1, &[1, 0, 0, 0, 0, 0, 0, 0]),
-        (-1, &[255; 8]),
-        (-256, &[0, 255, 255, 255, 255, 255, 255, 255]),
-        (i64::MAX, &[255, 255, 255, 255, 255, 255, 255, 127]),
-        (i64::MIN, &[0, 0, 0, 0, 0, 0, 0, 128]),
+fn what_is_no_encoding_is_refused(rt: HostRuntime) {
+    for (row, of, bytes) in [
+        ("a u64 of no byte", Type::U64, [].as_slice()),
+        ("a u64 of 1 byte of 2", Type::U64, &[241]),
+        ("a u64 of 2 bytes of 3", Type::U64, &[249, 0]),
+        ("a u64 of 2 bytes of 4", Type::U64, &[250, 1]),
+        ("a u64 of 3 bytes of 4", Type::U64, &[250, 1, 0]),
+        (
+            "a u64 of 8 bytes of 9",
+            Type::U64,
+            &[255, 0, 0, 0, 0, 0, 0, 0],
+        ),
+        ("a u32 of 3 bytes", Type::U32, &[1, 2, 3]),
+        ("an i64 of 7 bytes", Type::I64, &[1, 2, 3, 4, 5, 6, 7]),
+        (
+            "a manifest of 7 bytes",
+            Type::Manifest,
+            &[1, 2, 3, 4, 5, 6, 7],
+        ),
+        ("a u8 of no byte", Type::U8, &[]),
+        ("a bool of no byte", Type::Bool, &[]),
+        (
+            "a pair without the end of its second",
+            Type::Pair,
+            &[1, 241],
+        ),
+        (
+            "a triple without the end of its third",
+            Type::Triple,
+            &[1, 2, 0, 0],
+        ),
+        ("a byte string of no byte", Type::Text, &[]),
+        ("a byte string without its last byte", Type::Text, &[2, 97]),
+        (
+            "a forged length of u64::MAX, and no byte",
+            Type::Text,
+            &[255; 9],
+        ),
+        (
+            "a forged length of 65,536, and 1 byte",
+            Type::Text,
+            &[250, 0, 0, 1, 97],
+        ),
+        (
+            "a forged length of i64::MAX, and 1 byte",
+            Type::Text,
+            &[255, 255, 255, 255, 255, 255, 255, 255, 127, 97],
+        ),
     ] {
-        expect_spelled::<i64>(&rt, rt.alloc(), &number, bytes)?;
+        assert!(rt; refuses(rt.alloc(), of, bytes), "{row}");
     }
-    let manifest = BatchManifest(142);
-    expect_spelled(&rt, rt.alloc(), &manifest, &[142, 0, 0, 0, 0, 0, 0, 0])?;
-    Ok(())
+}
+
+// ---- values to the end of an input
+
+// Whether the input gives these numbers, and then a refusal where that is wanted, and nothing more.
+fn gives(alloc: Global, input: &[u8], numbers: &[u64], is_refused: bool) -> bool {
+    let mut values = ConsumeSequence::<u64>::new(alloc, input);
+    for number in numbers {
+        if !matches!(values.next(), Some(Ok(next)) if next == *number) {
+            return false;
+        }
+    }
+    if is_refused && !matches!(values.next(), Some(Err(Error::Corruption(None)))) {
+        return false;
+    }
+    values.next().is_none()
 }
 
 #[test]
-fn truth_values(rt: HostRuntime) -> Result<(), Fail> {
-    expect_spelled(&rt, rt.alloc(), &true, &[1])?;
-    expect_spelled(&rt, rt.alloc(), &false, &[0])?;
-    expect_read(&rt, rt.alloc(), &[7], &true)?;
-    Ok(())
-}
-
-#[test]
-fn numbers_that_may_be_missing(rt: HostRuntime) -> Result<(), Fail> {
-    for (number, bytes) in [
-        (None, [0].as_slice()),
-        (Some(0u64), &[1]),
-        (Some(239), &[240]),
-        (Some(240), &[241, 1]),
+fn values_come_to_the_end(rt: HostRuntime) {
+    for (row, input, numbers, is_refused) in [
+        ("no byte", [].as_slice(), [].as_slice(), false),
+        ("one value", &[7], &[7], false),
+        ("whole values", &[1, 241, 1, 2], &[1, 241, 2], false),
+        ("a torn value alone", &[241], &[], true),
+        (
+            "a torn value at the end",
+            &[1, 241, 1, 2, 241],
+            &[1, 241, 2],
+            true,
+        ),
     ] {
-        expect_read(&rt, rt.alloc(), bytes, &number)?;
-    }
-    expect_spelled::<Option<u64>>(&rt, rt.alloc(), &None, &[0])?;
-    expect_spelled(&rt, rt.alloc(), &Some(240u64), &[241, 1])?;
-    for (number, bytes) in [
-        (None, [0; 8].as_slice()),
-        (Some(0i64), &[1, 0, 0, 0, 0, 0, 0, 0]),
-        (Some(-1), &[255; 8]),
-        (Some(i64::MIN), &[0, 0, 0, 0, 0, 0, 0, 128]),
-    ] {
-        expect_read(&rt, rt.alloc(), bytes, &number)?;
-    }
-    expect_spelled::<Option<i64>>(&rt, rt.alloc(), &None, &[0; 8])?;
-    expect_spelled(&rt, rt.alloc(), &Some(-1i64), &[255; 8])?;
-    expect_spelled(&rt, rt.alloc(), &Some(0i64), &[1, 0, 0, 0, 0, 0, 0, 0])?;
-    expect_spelled::<Option<NonZeroU64>>(&rt, rt.alloc(), &None, &[0])?;
-    expect_spelled(&rt, rt.alloc(), &NonZeroU64::new(241), &[241, 1])?;
-    Ok(())
-}
-
-#[test]
-fn pairs_and_triples(rt: HostRuntime) -> Result<(), Fail> {
-    expect_spelled(&rt, rt.alloc(), &(1u8, 241u64), &[1, 241, 1])?;
-    expect_corruption::<(u8, u64)>(&rt, rt.alloc(), &[1, 241]);
-    expect_spelled(&rt, rt.alloc(), &(1u8, (), 2u32), &[1, 2, 0, 0, 0])?;
-    expect_corruption::<(u8, (), u32)>(&rt, rt.alloc(), &[1, 2, 0, 0]);
-    Ok(())
-}
-
-#[test]
-fn the_rest_stays(rt: HostRuntime) -> Result<(), Fail> {
-    let mut input: &[u8] = &[241, 1, 7, 8];
-    assert!(rt; read::<u64>(rt.alloc(), &mut input)? == Some(241));
-    assert!(rt; input == [7, 8].as_slice());
-    let mut out = [9u8; 4];
-    assert!(rt; 241u64.serialize_into(&mut out) == 2);
-    assert!(rt; out.as_slice() == [241, 1, 9, 9].as_slice());
-    Ok(())
-}
-
-#[test]
-fn byte_strings(rt: HostRuntime) -> Result<(), Fail> {
-    expect_spelled(&rt, rt.alloc(), &IVec::default(), &[0])?;
-    let text = IVec::from_slice(rt.alloc(), b"ab")?;
-    expect_spelled(&rt, rt.alloc(), &text, &[2, 97, 98])?;
-    expect_read(&rt, rt.alloc(), &[250, 2, 0, 0, 97, 98], &text)?;
-    for bytes in [[].as_slice(), &[2, 97], &[255; 9]] {
-        expect_corruption::<IVec>(&rt, rt.alloc(), bytes);
-    }
-    Ok(())
-}
-
-// The next value is this number.
-fn expect_number(rt: &impl Abort, values: &mut ConsumeSequence<'_, u64>, number: u64) {
-    assert!(rt; matches!(values.next(), Some(Ok(next)) if next == number));
-}
-
-#[test]
-fn values_to_the_end(rt: HostRuntime) {
-    let mut values = ConsumeSequence::<u64>::new(rt.alloc(), &[1, 241, 1, 2, 241]);
-    expect_number(&rt, &mut values, 1);
-    expect_number(&rt, &mut values, 241);
-    expect_number(&rt, &mut values, 2);
-    assert!(rt; matches!(values.next(), Some(Err(Error::Corruption(None)))));
-    assert!(rt; values.next().is_none());
-    let mut none = ConsumeSequence::<u64>::new(rt.alloc(), &[]);
-    assert!(rt; none.next().is_none());
-}
-
-// Run with the first allocation refused too: none of these asks for any.
-#[test]
-fn a_lie_about_a_length_takes_no_memory(rt: HostRuntime) {
-    for bytes in [
-        [255; 9].as_slice(),
-        &[250, 0, 0, 1, 97],
-        &[255, 255, 255, 255, 255, 255, 255, 255, 127, 97],
-    ] {
-        expect_corruption::<IVec>(&rt, rt.alloc(), bytes);
+        assert!(rt; gives(rt.alloc(), input, numbers, is_refused), "{row}");
     }
 }

@@ -8,7 +8,7 @@ use super::Serialize;
 use crate::types::Error;
 use std::alloc::Global;
 
-/// Writes one value after the other at the beginning, and answers how many bytes they took.
+/// Writes one value after the other at the front, and answers how many bytes they took.
 pub fn write_both<A: Serialize, B: Serialize>(first: &A, second: &B, out: &mut [u8]) -> usize
     requires can_write_first { A.can_write first.now }
     requires can_write_second { B.can_write second.now }
@@ -30,7 +30,7 @@ pub fn write_at<T: Serialize>(value: &T, out: &mut [u8], start: usize) -> usize
     start + value.serialize_into(&mut out[start..])
 }
 
-/// Writes one value after the other at the beginning, and answers how many bytes they took.
+/// Writes one value after the other at the front, and answers how many bytes they took.
 pub fn write_three<A: Serialize, B: Serialize, C: Serialize>(
     first: &A,
     second: &B,

@@ -1,0 +1,58 @@
+use Rattle.std.proofs.Common.{◌≡◌, ◌+◌, ◌<◌, ◌^◌, All, length, refl, sym, ap, subst, ◌∙◌, arith}
+use Rattle.std.proofs.lemmas.Bool.{false≢true}
+use Rattle.std.proofs.lemmas.List.{length-append}
+use Rattle.std.proofs.lemmas.List.Elements.{All-nil, All-push}
+use Rattle.sled_base.specs.Shards.{Shelf, IsCut}
+use Rattle.sled_base.proofs.RecentUse.Dropping.{none_left, one_more, some_stay, all_left, none_leave}
+use Rattle.sled_base.proofs.lru.shard.Shard.accessed.Goals as goal
+
+pub returns-in_err-gone-clause-always : goal.returns-in_err-gone-clause-always
+returns-in_err-gone-clause-always c = λ there within.
+    absurd (false≢true (c.in_err-gone.ensures.succeeds (none_leave c.args.self.now.capacity c.args.place c.args.size c.leaving-count.result c.args.self.now.listings c.leaving-count.ensures there within)))
+
+pub returns-in_err-put_first-clause-always : goal.returns-in_err-put_first-clause-always
+returns-in_err-put_first-clause-always c = λ there within. absurd (false≢true (c.in_err-put_first.ensures.always c.args.size there))
+
+pub loop-init : goal.loop-init
+loop-init c = record {
+  left = none_left c.put_first.new.self.listings c.in_ok-gone.gone.items c.in_ok-gone.ensures.items;
+  same = refl;
+  filled = c.in_ok-gone.ensures.len;
+  room = c.in_ok-gone.ensures.exact;
+  near = subst (All (λ place. place < 2 ^ 56)) (sym c.in_ok-gone.ensures.items) (All-nil (λ place. place < 2 ^ 56));
+}
+
+pub drop_last-requires : goal.drop_last-requires
+drop_last-requires c =
+    let start = ap (λ (shelf : Shelf). length shelf.listings) c.in_ok-put_first.ensures.ok in
+    let cut = c.leaving-count.ensures in
+    let long = ap length cut.all ∙ length-append cut.stays cut.leaves in
+    some_stay c.put_first.new.self.listings c.loop.self.listings c.loop.gone.items c.loop.counter c.loop.invariant.left (omega (arith, start, long, cut.counted, c.loop-test.true))
+
+pub push_reserved-requires : goal.push_reserved-requires
+push_reserved-requires c = omega (arith, c.loop.invariant.filled, c.loop.invariant.room, c.loop-test.true)
+
+pub loop-preserved : goal.loop-preserved
+loop-preserved c =
+    let dropped = c.drop_last.ensures in
+    let pushed = c.push_reserved.ensures in
+    let now = c.loop.invariant in
+    record {
+      left = one_more c.put_first.new.self.listings c.loop.self.listings c.drop_last.new.self.listings c.loop.gone.items c.push_reserved.new.self.items c.loop.counter c.drop_last.result dropped.size now.left dropped.is pushed.items;
+      same = dropped.capacity ∙ now.same;
+      filled = pushed.len ∙ ap (λ n. n + 1) now.filled;
+      room = pushed.capacity ∙ now.room;
+      near = subst (All (λ place. place < 2 ^ 56)) (sym pushed.items) (All-push (λ place. place < 2 ^ 56) c.loop.gone.items c.drop_last.result now.near dropped.near);
+    }
+
+pub returns-clause-used : goal.returns-clause-used
+returns-clause-used c =
+    let all : c.loop.counter ≡ c.leaving-count.result = omega arith in
+    all_left c.args.self.now.capacity c.args.place c.args.size c.args.self.now.listings c.put_first.new.self.listings c.loop.self.listings c.loop.gone.items c.loop.counter
+    (subst (λ n. IsCut c.args.self.now.capacity c.args.place c.args.size c.args.self.now.listings n) (sym all) c.leaving-count.ensures) (ap (λ (shelf : Shelf). shelf.listings) c.in_ok-put_first.ensures.ok) c.loop.invariant.left
+
+pub returns-clause-capacity : goal.returns-clause-capacity
+returns-clause-capacity c = c.loop.invariant.same ∙ ap (λ (shelf : Shelf). shelf.capacity) c.in_ok-put_first.ensures.ok
+
+pub returns-clause-near : goal.returns-clause-near
+returns-clause-near c = c.loop.invariant.near

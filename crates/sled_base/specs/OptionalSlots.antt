@@ -1,0 +1,20 @@
+-- A slot or none as one number.
+use Rattle.std.specs.Prelude.{◌≡◌, ℕ, Option, Some, None, if◌then◌else◌, ◌==◌, refl}
+use Rattle.std.proofs.Common.{inl, inr, ap, sym, ◌∙◌, cond}
+use Rattle.std.proofs.lemmas.Bool.{cases_eq, eq-eqb, ne_eqb}
+use Rattle.sled_base.specs.declared.dll.Slot.{Slot}
+
+-- the number of no slot
+abbrev pub no_slot : ℕ
+no_slot = 18446744073709551615
+
+abbrev pub slot_of : ℕ → Option Slot
+slot_of n = if n == no_slot then None else Some (record { 0 = n })
+
+abbrev pub number_of : Option Slot → ℕ
+number_of None = no_slot
+number_of (Some slot) = slot.0
+
+pub number_of-slot_of : (n : ℕ) → number_of (slot_of n) ≡ n
+number_of-slot_of n =
+    elim (cases_eq n no_slot) [ inl same ↦ rw (eq-eqb n no_slot same) (sym same) | inr other ↦ rw (ne_eqb n no_slot other) refl ]

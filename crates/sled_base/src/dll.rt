@@ -1,0 +1,173 @@
+//! A doubly linked list of page ids.
+//!
+//! The cells of the list stand in one vector and name each other by their places in it. So an item is moved or taken out
+//! by its slot in constant time, and that allocates nothing.
+
+ghost use Rattle.std.specs.Prelude.{◌≡◌, ◌↔◌, [], ◌∷◌, ◌++◌, length, List, ℕ, IsTrue, IfOk, OnErr, IfSome, IfNone, Contains, Some};
+ghost use Rattle.sled_base.specs.Dll.{Listed, listed, slots, items, last_slot, AreDistinct, IsPromoted};
+ghost use Rattle.sled_base.specs.declared.dll.Slot.{Slot};
+
+mod links;
+mod optional_slot;
+
+use crate::PageId;
+use links::Links;
+pub(crate) use optional_slot::OptionalSlot;
+use std::alloc::{AllocError, Global};
+use std::marker::Model;
+
+/// The place of an item in a list, for as long as it is listed.
+#[derive(Clone, Copy, Debug, PartialEq, Eq)]
+pub struct Slot(usize);
+
+/// A list of page ids, which grows and shrinks at both ends.
+///
+/// Contracts see its items from the head to the tail, each with its slot.
+#[derive(Drop)]
+pub struct DoublyLinkedList {
+    links: Links,
+}
+
+impl Model for DoublyLinkedList {
+    ghost use Rattle.std.specs.Prelude.{[], List};
+    ghost use Rattle.sled_base.specs.Dll.{Listed};
+    ghost use Rattle.sled_base.specs.Links.{listed_in, IsKept};
+
+    ghost Value = { List Listed };
+
+    ghost view = { λ list. listed_in list.links };
+
+    ghost invariant = { λ list. IsKept [] list.links };
+}
+
+impl DoublyLinkedList {
+    /// An empty list. It allocates nothing.
+    pub fn default(alloc: Global) -> DoublyLinkedList
+        ensures { result ≡ [] }
+    {
+        DoublyLinkedList {
+            links: Links::new(alloc),
+        }
+    }
+
+    /// How many items there are.
+    pub fn len(&self) -> usize
+        ensures { result ≡ length self.now }
+    {
+        self.links.len()
+    }
+
+    /// Whether the slot is live: whether an item of the list has it. No two items have the same slot.
+    pub fn is_live(&self, slot: Slot) -> bool
+        ensures live { IsTrue result ↔ Contains (slots self.now) slot }
+        ensures distinct { AreDistinct (slots self.now) }
+    {
+        self.links.is_linked(slot)
+    }
+
+    /// Adds an item at the head, and answers its slot, which no other item has.
+    ///
+    /// It allocates only where no slot is free. An error means out of memory, and leaves the list unchanged.
+    pub fn push_head(&mut self, item: PageId) -> Result<Slot, AllocError>
+        ensures ok { IfOk result (λ slot. self.new ≡ listed slot item ∷ self.old) }
+        ensures fresh { IfOk result (λ slot. ¬ Contains (slots self.old) slot) }
+        ensures err { OnErr result (self.new ≡ self.old) }
+    {
+        let free = self.links.take()?;
+        self.links.link_head(free, item);
+        Ok(free)
+    }
+
+    /// Adds an item at the tail, and answers its slot, which no other item has.
+    ///
+    /// It allocates only where no slot is free. An error means out of memory, and leaves the list unchanged.
+    pub fn push_tail(&mut self, item: PageId) -> Result<Slot, AllocError>
+        ensures ok { IfOk result (λ slot. self.new ≡ self.old ++ listed slot item ∷ []) }
+        ensures fresh { IfOk result (λ slot. ¬ Contains (slots self.old) slot) }
+        ensures err { OnErr result (self.new ≡ self.old) }
+    {
+        let free = self.links.take()?;
+        self.links.link_tail(free, item);
+        Ok(free)
+    }
+
+    /// Moves the item of the slot to the head, and answers the slot, which it keeps. The slot has to be live.
+    ///
+    /// It allocates nothing.
+    pub fn promote(&mut self, slot: Slot) -> Slot
+        requires { Contains (slots self.old) slot }
+        ensures slot { result ≡ slot }
+        ensures promoted { IsPromoted slot self.old self.new }
+    {
+        let item = self.links.unlink(slot);
+        self.links.link_head(slot, item);
+        slot
+    }
+
+    /// Removes the item at the tail and answers it, or None where the list is empty. Its slot isn't live any more.
+    ///
+    /// It allocates nothing.
+    pub fn pop_tail(&mut self) -> Option<PageId>
+        ensures some { IfSome result (λ item. (slot : Slot) × (self.old ≡ self.new ++ listed slot item ∷ [])) }
+        ensures none { IfNone result ((self.old ≡ []) × (self.new ≡ [])) }
+    {
+        let slot = self.links.last()?;
+        Some(self.links.remove(slot))
+    }
+
+    /// Removes the item at the head and answers it, or None where the list is empty. Its slot isn't live any more.
+    ///
+    /// It allocates nothing.
+    pub fn pop_head(&mut self) -> Option<PageId>
+        ensures some { IfSome result (λ item. (slot : Slot) × (self.old ≡ listed slot item ∷ self.new)) }
+        ensures none { IfNone result ((self.old ≡ []) × (self.new ≡ [])) }
+    {
+        let slot = self.links.first()?;
+        Some(self.links.remove(slot))
+    }
+
+    /// The items from the head to the tail. The only error is out of memory; the list is gone then.
+    pub fn into_vec(mut self) -> Result<Vec<PageId>, AllocError>
+        ensures { IfOk result (λ v. v.items ≡ items self) }
+    {
+        let mut items = Vec::new(self.links.allocator());
+        while let Some(item) = self.pop_head() {
+            items.push(item)?;
+        }
+        Ok(items)
+    }
+
+    /// The slot of the last item, or None where the list is empty.
+    pub(crate) fn last(&self) -> Option<Slot>
+        ensures { result ≡ last_slot self.now }
+    {
+        self.links.last()
+    }
+
+    /// The slot of the item before that of the slot, on the side of the head, or None where that is the first.
+    pub(crate) fn before(&self, slot: Slot) -> Option<Slot>
+        requires { Contains (slots self.now) slot }
+        ensures { (front back : List Listed) (item : ℕ) → self.now ≡ front ++ listed slot item ∷ back → result ≡ last_slot front }
+    {
+        self.links.link(slot).before.get()
+    }
+
+    /// The slot in the space of one number.
+    pub(crate) fn packed(&self, slot: Slot) -> OptionalSlot
+        requires { Contains (slots self.now) slot }
+        ensures { result ≡ Some slot }
+    {
+        self.links.packed(slot)
+    }
+
+    /// The item of the slot.
+    pub(crate) fn item(&self, slot: Slot) -> PageId
+        requires { Contains (slots self.now) slot }
+        ensures { (front back : List Listed) (item : ℕ) → self.now ≡ front ++ listed slot item ∷ back → result ≡ item }
+    {
+        self.links.link(slot).item
+    }
+}
+
+#[cfg(test)]
+mod tests;

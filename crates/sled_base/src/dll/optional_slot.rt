@@ -1,0 +1,65 @@
+//! A slot or none, in the space of one number.
+
+ghost use Rattle.std.specs.Prelude.{◌≡◌, ◌<◌, ◌^◌, ◌-◌, Some, None};
+ghost use Rattle.std.specs.Option.{option_or};
+
+use super::Slot;
+use std::marker::Model;
+
+// The number of no slot.
+const NO_SLOT: usize = usize::MAX;
+
+/// A slot, or none.
+///
+/// Contracts see it as the `Option` that [`get`](OptionalSlot::get) answers, which takes twice the space.
+#[derive(Clone, Copy)]
+pub struct OptionalSlot(usize);
+
+impl Model for OptionalSlot {
+    ghost use Rattle.std.specs.Prelude.{Option};
+    ghost use Rattle.std.proofs.Common.{ap};
+    ghost use Rattle.sled_base.specs.declared.dll.Slot.{Slot};
+    ghost use Rattle.sled_base.specs.OptionalSlots.{slot_of, number_of, number_of-slot_of};
+
+    ghost Value = { Option Slot };
+
+    ghost view = { λ s. slot_of s.0 };
+
+    ghost inverse = { λ slot. record { 0 = number_of slot } };
+
+    ghost inverse_ok = { λ s h. ap (λ n. record { 0 = n }) (number_of-slot_of s.0) };
+}
+
+impl OptionalSlot {
+    /// No slot.
+    pub fn none() -> OptionalSlot
+        ensures { result ≡ None }
+    {
+        OptionalSlot(NO_SLOT)
+    }
+
+    /// The slot.
+    pub fn some(slot: Slot) -> OptionalSlot
+        requires { slot.0 < 2 ^ 64 - 1 }
+        ensures { result ≡ Some slot }
+    {
+        OptionalSlot(slot.0)
+    }
+
+    /// The slot, or None.
+    pub fn get(self) -> Option<Slot>
+        ensures { result ≡ self }
+    {
+        if self.0 == NO_SLOT {
+            return None;
+        }
+        Some(Slot(self.0))
+    }
+
+    /// The slot, or the other where there is none.
+    pub fn or(self, other: OptionalSlot) -> OptionalSlot
+        ensures { result ≡ option_or self other }
+    {
+        if self.0 == NO_SLOT { other } else { self }
+    }
+}

@@ -1,0 +1,102 @@
+//! Pages by their recent use, and which of them leave where they exceed a capacity together.
+//!
+//! The pages are spread over 256 shards by their ids. Each shard has an equal part of the capacity, and lists its pages from
+//! the most recently used on.
+
+ghost use Rattle.std.specs.Prelude.{◌≡◌, ◌<◌, ◌≤◌, ◌+◌, ◌*◌, ◌^◌, map, All, IfOk, IfErr, IsOk, OnErr, Ok, Err};
+ghost use Rattle.sled_base.specs.Limits.{shard_count};
+ghost use Rattle.sled_base.specs.Lru.{rounded, IsAccessed, IsListed, IsSound, IsUnused};
+
+mod entry;
+mod shard;
+
+use crate::{Error, PageId, Why};
+use shard::Shard;
+use std::alloc::{AllocError, Global};
+use std::marker::Model;
+
+// How many shards there are.
+pub(crate) const SHARDS: u64 = 256;
+
+/// Pages with their sizes, in each shard from the most recently used on.
+#[derive(Drop)]
+pub struct Lru {
+    capacity: u64,
+    shards: Vec<Shard>,
+}
+
+impl Model for Lru {
+    ghost use Rattle.std.specs.Prelude.{map};
+    ghost use Rattle.sled_base.specs.Lru.{Recency};
+
+    ghost Value = { Recency };
+
+    ghost use Rattle.sled_base.specs.Shards.{AreShards};
+
+    ghost view = { λ l. record { capacity = l.capacity; shards = map (λ shard. shard.listings) l.shards.items } };
+
+    ghost invariant = { λ l. AreShards l.capacity l.shards.items };
+}
+
+impl Lru {
+    /// A cache that lists no page yet. The capacity is that of all shards together.
+    ///
+    /// `CapacityTooSmall` is the error of a capacity below 256. Any other has one error, `OutOfMemory`.
+    pub fn new(alloc: Global, capacity: u64) -> Result<Lru, Error>
+        ensures too_small { capacity < shard_count → result ≡ Err (Error.Unsupported Why.CapacityTooSmall) }
+        ensures refused { shard_count ≤ capacity → IfErr result (λ e. e ≡ Error.OutOfMemory) }
+        ensures empty { IfOk result (IsUnused capacity) }
+        ensures sound { IfOk result IsSound }
+    {
+        if capacity < SHARDS {
+            return Err(Error::Unsupported(Why::CapacityTooSmall));
+        }
+        let mut shards = Vec::with_capacity(alloc, SHARDS as usize)?;
+        for _ in 0..SHARDS {
+            shards.push_reserved(Shard::new(alloc, capacity / SHARDS));
+        }
+        Ok(Lru { capacity, shards })
+    }
+
+    /// Makes a page the first of its shard, with its size rounded up to a power of two, and answers the pages that leave.
+    ///
+    /// Pages leave from the least recently used on, as long as the shard's pages exceed its part of the capacity together; the
+    /// page itself stays, however large it is. The size is at most 2^63. An error means out of memory, and leaves every
+    /// shard unchanged. An access of a page that is listed with its present rounded size allocates nothing.
+    pub fn accessed(&mut self, id: PageId, size: u64) -> Result<Vec<PageId>, AllocError>
+        requires { size ≤ 2 ^ 63 }
+        ensures accessed { IfOk result (λ gone. IsAccessed id (rounded size) self.old self.new gone.items) }
+        ensures err { OnErr result (self.new ≡ self.old) }
+        ensures always { IsListed id (rounded size) self.old → IsOk result }
+        ensures sound { IsSound self.new }
+    {
+        let number = id % SHARDS;
+        let shard = &mut self.shards[number as usize];
+        let mut gone = shard.accessed(id / SHARDS, rounded_up(size))?;
+        number_pages(&mut gone, number);
+        Ok(gone)
+    }
+}
+
+// The size rounded up to a power of two.
+fn rounded_up(size: u64) -> u64
+    requires { size ≤ 2 ^ 63 }
+    ensures value { result ≡ rounded size }
+    ensures bound { result ≤ 2 ^ 63 }
+{
+    size.next_power_of_two()
+}
+
+// Turns places in a shard into page ids.
+fn number_pages(places: &mut [u64], shard: u64)
+    requires near { All (λ place. place < 2 ^ 56) places.old }
+    requires shard { shard < shard_count }
+    ensures { places.new ≡ map (λ place. place * shard_count + shard) places.old }
+{
+    for place in places.iter_mut() {
+        *place = *place * SHARDS + shard;
+    }
+}
+
+#[cfg(test)]
+mod tests;

@@ -1,0 +1,106 @@
+// Writes into a byte string that others may hold too.
+
+ghost use Rattle.std.specs.Prelude.{◌≡◌, ◌<◌, ◌≤◌, length, slice_set, IsOk, OnOk, OnErr};
+ghost use Rattle.sled_base.specs.Limits.{inline_limit};
+
+use super::*;
+
+fn set_first(string: &mut IVec, alloc: Global, byte: u8) -> Result<(), AllocError>
+    requires { 0 < length string.old }
+    ensures written { OnOk result (string.new ≡ slice_set string.old 0 byte) }
+    ensures few { length string.old ≤ inline_limit → IsOk result }
+    ensures stays { OnErr result (string.new ≡ string.old) }
+{
+    string.write_with(alloc, |bytes| bytes[0] = byte)
+}
+
+// What others hold of the string: so many of its first bytes each.
+fn others_of(alloc: Global, string: &IVec, lens: &[usize]) -> Result<Vec<IVec>, AllocError> {
+    let mut others = Vec::new(alloc);
+    for len in lens {
+        if *len == string.len() {
+            others.push(string.clone()?)?;
+        } else if *len < string.len() {
+            others.push(string.subslice(0, *len)?)?;
+        }
+    }
+    Ok(others)
+}
+
+// Whether the others have so many of these bytes each.
+fn are_fronts(others: &[IVec], lens: &[usize], bytes: &[u8]) -> bool {
+    for (other, len) in others.iter().zip(lens) {
+        if other.len() != *len || !bytes.starts_with(other.as_slice()) {
+            return false;
+        }
+    }
+    others.len() == lens.len()
+}
+
+// Whether the string, which others hold too, is lent as these bytes, and its first byte written without their seeing it.
+fn writes(
+    alloc: Global,
+    string: &mut IVec,
+    bytes: &[u8],
+    lens: &[usize],
+) -> Result<bool, AllocError> {
+    let seen = string.write_with(alloc, |lent| Vec::from_slice(alloc, lent))??;
+    if string.is_empty() || seen.as_slice() != bytes {
+        return Ok(false);
+    }
+    let others = others_of(alloc, string, lens)?;
+    set_first(string, alloc, b'A')?;
+    let is_set = matches!(string.as_slice(), [b'A', back @ ..] if bytes.ends_with(back));
+    Ok(is_set && string.len() == bytes.len() && are_fronts(&others, lens, bytes))
+}
+
+// Whether that is so, and the bytes are written where they lie or not: a copy has no room to spare.
+fn is_written(
+    alloc: Global,
+    bytes: &[u8],
+    lens: &[usize],
+    in_place: bool,
+) -> Result<bool, AllocError> {
+    let mut list = Vec::with_capacity(alloc, bytes.len() + 74)?;
+    list.extend_from_slice(bytes)?;
+    let room = list.capacity();
+    let mut string = IVec::from_vec(alloc, list)?;
+    let is_so = writes(alloc, &mut string, bytes, lens)?;
+    Ok((string.into_arc(alloc)?.capacity() == room) == in_place && is_so)
+}
+
+#[test]
+fn others_keep_the_bytes_from_before_a_write(rt: HostRuntime) -> Result<(), Fail> {
+    for (row, bytes, lens, in_place) in [
+        ("1 byte", [7].as_slice(), [].as_slice(), false),
+        ("3 bytes, a copy", &[1, 2, 3], &[3], false),
+        ("3 bytes, a copy and a part", &[1, 2, 3], &[3, 2], false),
+        ("22 bytes, a copy", &[5; 22], &[22], false),
+        ("23 bytes, one holder", &[6; 23], &[], true),
+        ("23 bytes, two holders", &[6; 23], &[23], false),
+        ("23 bytes, three holders", &[6; 23], &[23, 23], false),
+        ("26 bytes, one holder", LETTERS, &[], true),
+        (
+            "26 bytes, a part that is kept in place",
+            LETTERS,
+            &[22],
+            true,
+        ),
+        ("26 bytes, a part that is shared", LETTERS, &[23], false),
+        ("128 bytes, one holder", &[4; 128], &[], true),
+        ("128 bytes, two holders", &[4; 128], &[128], false),
+        (
+            "128 bytes, two holders, one of a part",
+            &[4; 128],
+            &[100],
+            false,
+        ),
+        ("128 bytes, three holders", &[4; 128], &[128, 100], false),
+        ("1,000 bytes, one holder", &[4; 1000], &[], true),
+        ("1,000 bytes, two holders", &[4; 1000], &[1000], false),
+        ("1,000 bytes, three holders", &[4; 1000], &[1000, 23], false),
+    ] {
+        assert!(rt; is_written(rt.alloc(), bytes, lens, in_place)?, "{row}");
+    }
+    Ok(())
+}
