@@ -155,7 +155,7 @@ holds-after pages contents (m ∷ ms) [] h r = absurd r
 
 -- ---- stops, and what a log adds
 
--- what a stop leaves holds the contents after a fair beginning of the changes
+-- what a crash leaves holds the contents after a fair prefix of the changes
 pub reads-left : (old : State Message) (begun : List (Event Message)) (pages : List Told) (stable : List Content) (pending events : List (Event Update))
     → Hold old.stable stable
     → AreTold stable old.pending pending

@@ -87,7 +87,7 @@ state_at moment items = record {
   usable = true;
 }
 
--- what a stop at a moment from `since` on, up to `clock`, might have left
+-- what a crash at a moment from `since` on, up to `clock`, might have left
 pub record WasLeft (clock : ℕ) (items : List Item) (since : ℕ) (pages : List Told) : Type 0 where
   pub at : ℕ
   pub from : since ≤ at
@@ -112,11 +112,11 @@ settled_at moment item = record { mark = item.mark; end = item.end; came = item.
 abbrev pub all_settled : ℕ → ℕ → List Item → List Item
 all_settled moment stable items = take stable items ++ map (settled_at moment) (drop stable items)
 
--- an item that a stop left
+-- an item that a crash left
 abbrev pub restarted : Item → Item
 restarted item = record { mark = item.mark; end = item.end; came = 0; settled = Some 0 }
 
--- at this very moment a stop leaves what the log is
+-- at this very moment a crash leaves what the log is
 pub left_now : (clock : ℕ) (items : List Item) (pages : List Told) → WasLeft clock items clock pages → IsLeft effect_of (told_state (state_at clock items)) [] pages
 left_now clock items pages left =
     let from = left.from in

@@ -1,4 +1,4 @@
--- What follows from the definitions: fair cuts add up, and so do the calls of a log and what stops leave of them.
+-- What follows from the definitions: fair cuts add up, and so do the calls of a log and what crashes leave of them.
 use Rattle.std.proofs.Common.{◌≡◌, ◌⊎◌, inl, inr, ⊎_elim, ◌+◌, ℕ, zero, suc, Bool, true, false, List, [], ◌∷◌, ◌++◌, take, drop, refl, sym, ◌∙◌, ap, subst, arith}
 use Rattle.std.proofs.lemmas.List.{append_assoc, append-nil, length-append, length-drop, take-append-drop, take-append-le, drop-append-le, drop-drop}
 use Rattle.std.proofs.lemmas.Bool.{false≢true}
@@ -214,7 +214,7 @@ module _ {L : Type 0} (moment : L → ℕ) (left_since : L → ℕ → List Told
   pub StopsLeave-none : (log : L) (P : List Told → Type 0) → ((pages : List Told) → left_since log (moment log) pages → P pages) → StopsLeave moment left_since log log P
   StopsLeave-none log P here = record { later = omega arith; each = here; before = λ t pages le left. inl left; kept = λ t pages le left. left }
 
-  -- what stops leave of two calls, the second from the state that the first left
+  -- what crashes leave of two calls, the second from the state that the first left
   pub StopsLeave-then : (old mid new : L) (before after : State Message) (first second : List (Event Message))
       → Adds effect_of before first after
       → StopsLeave moment left_since old mid (IsLeft effect_of before first)

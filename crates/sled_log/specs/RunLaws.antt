@@ -16,7 +16,7 @@ use Rattle.sled_log.specs.declared.log.LogError.TheVariants.{Memory, Full, ReadF
 use Rattle.sled_log.specs.declared.runs.LogCall.{LogCall}
 use Rattle.sled_log.specs.declared.runs.LogCall.TheVariants.{Append, MakeStable, Pin, Seal, Cancel}
 
--- what a stop finds of a call is part of what it adds
+-- what a crash finds of a call is part of what it adds
 IsLeft-begun : {T : Type 0} (old : State Message) (result : Result T LogError) (begun : List (Event Message)) (pages : List Told) → IsLeft effect_of old (begun_by result begun) pages → IsLeft effect_of old begun pages
 IsLeft-begun old (Ok _) begun pages left = left
 IsLeft-begun old (Err WriteFault) begun pages left = left
@@ -65,7 +65,7 @@ module _ {L : Type 0} (state : L → State Entry) (moment : L → ℕ) (left_sin
   call-added old new call events is added =
       subst (λ (l : List (Event Message)). Adds effect_of (told_state (state old)) l (told_state (state new))) (sym is) (Adds-told (state old) (state new) events added)
 
-  -- What calls in a row have made: the events were added, and a stop leaves a beginning of them.
+  -- What calls in a row have made: the events were added, and a crash leaves a prefix of them.
   pub record Ran (old new : L) (events : List (Event Message)) : Type 0 where
     pub usable : (state new).usable ≡ true
     pub added : Adds effect_of (told_state (state old)) events (told_state (state new))

@@ -41,8 +41,8 @@ pub fn places_are_forgotten()
     ensures { (old new : State Entry) (events : List (Event Entry)) → Adds effect_of_entry old events new → Adds effect_of (told_state old) (told_events events) (told_state new) }
 {}
 
-/// What a stop leaves holds the stable contents, and then the pending changes and a beginning of those that had begun,
-/// up to a fair cut.
+/// What a crash leaves holds the durable contents, and then a prefix of the pending changes and of those that had begun,
+/// which splits no batch.
 pub fn stops_leave_contents()
     ensures { (old : State Message) (begun : List (Event Message)) (pages : List Told) (stable : List Content) (pending events : List (Event Update)) → Hold old.stable stable → AreTold stable old.pending pending → AreTold (contents_after stable pending) begun events → IsLeft effect_of old begun pages → AreLeft stable pending events pages }
 {}

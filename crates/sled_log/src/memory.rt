@@ -54,7 +54,7 @@ pub struct MemLog {
 impl MemLog {
     ghost use Rattle.sled_log.specs.Memory.{state_of, clock_of, might_have_left, counts_of, settings_of, size_of, stable_size_of, kept_size_of, Remembers};
 
-    /// An empty log. It takes no memory.
+    /// An empty log. It allocates nothing.
     ///
     /// Payloads above `blob_limit` bytes are kept as blobs, and a page is to be moved for every `clean_every` messages.
     pub fn new(alloc: Global, blob_limit: usize, clean_every: u64) -> MemLog

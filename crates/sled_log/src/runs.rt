@@ -22,8 +22,8 @@ pub enum LogCall {
     Cancel,
 }
 
-/// What stops leave of two parts of a call, the second from the state that the first left, is what they leave of the
-/// whole: what was stable and pending, and what both parts began, up to a fair cut.
+/// What crashes leave of two parts of a call, the second from the state that the first left, is what they leave of the
+/// whole: what was durable, and a prefix of what was pending and of what both parts began, which splits no batch.
 pub fn parts_make_the_whole<L: Log>()
     ensures { (old mid new : L) (before after : State Message) (first second : List (Event Message)) → Adds effect_of before first after → StopsLeave L.moment L.left_since old mid (IsLeft effect_of before first) → StopsLeave L.moment L.left_since mid new (IsLeft effect_of after second) → StopsLeave L.moment L.left_since old new (IsLeft effect_of before (first ++ second)) }
 {}
@@ -56,8 +56,8 @@ fn make_call<L: Log>(log: &mut L, call: &LogCall) -> Result<(), LogError>
 
 /// Makes the calls in order, up to the first that is refused, which adds nothing unless it met a write fault.
 ///
-/// A stop at any moment of it leaves what was stable and pending, and a beginning of what all calls add, up to a fair
-/// cut.
+/// A crash at any moment of it leaves what was durable, and a prefix of what was pending and of what all
+/// calls add, which splits no batch.
 pub fn make_calls<L: Log>(log: &mut L, calls: &[LogCall]) -> Result<(), LogError>
     requires tells { L.tells }
     requires usable { (L.state log.old).usable ≡ true }

@@ -87,7 +87,7 @@ fn what_is_pending_becomes_stable(rt: HostRuntime) -> Result<(), Fail> {
     Ok(())
 }
 
-// How many pages a stop leaves that keeps so many events, if it may.
+// How many pages a crash leaves that keeps so many events, if it may.
 fn pages_left(log: MemLog, n: usize) -> Option<usize> {
     if !log.is_fair(n) {
         return None;

@@ -38,7 +38,7 @@ without_root name roots = del_pair name roots
 abbrev pub with_roots : List (Bytes × ℕ) → Roots → Roots
 with_roots pairs roots = fold (λ so_far pair. with_root pair.0 pair.1 so_far) roots pairs
 
--- strictly rising names within the limit, as many at most as a node has pairs, and pages of 64 bits
+-- strictly ascending names within the limit, as many at most as a node has pairs, and pages of 64 bits
 abbrev pub IsRootMap : Roots → Type 0
 IsRootMap roots = HasPairs (λ page. page < 2 ^ 64) roots
 

@@ -25,7 +25,7 @@ module _ (name : Bytes) where
       let both = all_before roots below in
       ap (λ front. front ++ (name, root) ∷ pairs_above name roots) both.0 ∙ ap (λ back. roots ++ (name, root) ∷ back) both.1
 
--- among rising names each is above those before it
+-- among ascending names each is above those before it
 all_behind : (P : Bytes × ℕ → Type 0) (front : Roots) (pair : Bytes × ℕ) (back : Roots) → AllByRecursion P (front ++ pair ∷ back) → P pair
 all_behind P [] pair back all = all.0
 all_behind P (x ∷ front) pair back all = all_behind P front pair back all.1
@@ -41,6 +41,6 @@ put_behind front (pair ∷ pairs) rising =
     let regrouped = append_assoc front (pair ∷ []) pairs in
     ap (with_roots pairs) last ∙ put_behind (front ++ pair ∷ []) pairs (subst IsRising (sym regrouped) rising) ∙ regrouped
 
--- rising pairs, put into the empty map in their order, are the map
+-- ascending pairs, put into the empty map in their order, are the map
 pub put_in_order : (pairs : Roots) → IsRising pairs → with_roots pairs [] ≡ pairs
 put_in_order pairs rising = put_behind [] pairs rising

@@ -1,4 +1,4 @@
--- How links, nodes and root maps are spelled as bytes.
+-- How links, nodes and root maps are encoded as bytes.
 pub mod ShortStrings
 pub mod ShortStringLaws
 pub mod Links

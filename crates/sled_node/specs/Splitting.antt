@@ -1,4 +1,4 @@
--- How a node is parted in two, and how it takes in its right neighbour.
+-- How a node is split in two, and how it is merged with its right neighbour.
 use Rattle.std.specs.Prelude.{◌≡◌, ◌≢◌, ℕ, ◌+◌, ◌/◌, ◌≤◌, ◌==◌, min, Bool, true, false, List, [], ◌∷◌, ◌++◌, length, Option, Some, None, if◌then◌else◌}
 use Rattle.sled_base.specs.Order.{Bytes, IsBelow, IsAtMost}
 use Rattle.sled_node.specs.Node.{Item, WholeNode}
@@ -14,7 +14,7 @@ common_length (x ∷ a) (y ∷ b) = if x == y then 1 + common_length a b else 0
 abbrev pub own_prefix : Bytes → Bytes → ℕ
 own_prefix lo hi = min prefix_limit (common_length lo hi)
 
--- a shortest string that parts two keys, a beginning of the right one
+-- a shortest string that separates two keys, a prefix of the right one
 pub record IsSeparator (left right s : Bytes) : Type 0 where
   pub beginning : (more : Bytes) × (right ≡ s ++ more)
   pub above_left : IsBelow left s
@@ -31,7 +31,7 @@ greatest [] = None
 greatest (pair ∷ []) = Some pair.0
 greatest (pair ∷ next ∷ pairs) = greatest (next ∷ pairs)
 
--- where a node is parted between two keys: an index at the right one, a leaf at a shortest string
+-- where a node is split between two keys: an index at the right one, a leaf at a shortest string
 abbrev pub Separates : Bool → Bytes → Bytes → Bytes → Type 0
 Separates true left right s = s ≡ right
 Separates false left right s = IsSeparator left right s
@@ -47,7 +47,7 @@ pub record Splits (n l r : WholeNode) : Type 0 where
   pub pairs : l.pairs ++ r.pairs ≡ n.pairs
   pub count : length l.pairs ≡ length n.pairs / 2 + 1
   pub kinds : (l.is_index ≡ n.is_index) × (r.is_index ≡ n.is_index)
-  -- the range is parted between the greatest left key and the least right one
+  -- the range is split between the greatest left key and the least right one
   pub separator : SeparatesAt n.is_index (greatest l.pairs) (least r.pairs) r.lo
   pub left_lo : l.lo ≡ n.lo
   pub left_hi : l.hi ≡ r.lo

@@ -40,7 +40,7 @@ impl Model for Meta {
 }
 
 impl Meta {
-    /// A map without names. It takes no memory.
+    /// A map without names. It allocates nothing.
     pub fn default(alloc: Global) -> Meta
         ensures { result ≡ [] }
     {
@@ -64,7 +64,7 @@ impl Meta {
         self.roots.is_empty()
     }
 
-    /// The root page of a name, if the name is there. It takes no memory.
+    /// The root page of a name, if the name is there. It allocates nothing.
     pub fn get_root(&self, name: &[u8]) -> Option<PageId>
         ensures { result ≡ root_of name.now self.now }
     {
@@ -80,7 +80,7 @@ impl Meta {
 
     /// Gives a name its root page, and answers the page that it had before.
     ///
-    /// The map keeps a copy of the name. A refusal for want of memory leaves the map as it was.
+    /// The map keeps a copy of the name. An allocation failure leaves the map unchanged.
     pub fn set_root(&mut self, name: IVec, root: PageId) -> Result<Option<PageId>, AllocError>
         requires name { IsWithinLimit name }
         requires room { HasRoom name self.old }
@@ -92,7 +92,7 @@ impl Meta {
         Ok(former)
     }
 
-    /// Takes a name out, and answers the page that it had, if the name was there. It takes no memory.
+    /// Takes a name out, and answers the page that it had, if the name was there. It allocates nothing.
     pub fn del_root(&mut self, name: &[u8]) -> Option<PageId>
         ensures former { result ≡ root_of name.now self.old }
         ensures value { self.new ≡ without_root name.now self.old }
@@ -100,7 +100,7 @@ impl Meta {
         take_page(&mut self.roots, name)
     }
 
-    /// A copy of the names with their root pages, in the order of names. An error means that memory for it is wanting.
+    /// A copy of the names with their root pages, in the order of names. An error means that it could not be allocated.
     pub fn tenants(&self) -> Result<BTreeMap<Vec<u8>, PageId>, AllocError>
         ensures { IfOk result (λ tenants. named_pages tenants ≡ self.now) }
     {

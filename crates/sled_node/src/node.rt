@@ -72,7 +72,7 @@ impl Model for Node {
 }
 
 impl Node {
-    /// An empty leaf over all keys. It takes no memory.
+    /// An empty leaf over all keys. It allocates nothing.
     pub fn default(alloc: Global) -> Node
         ensures { result ≡ empty_leaf }
     {
@@ -225,7 +225,7 @@ impl Node {
         !self.merging && self.accepts_here(link)
     }
 
-    /// Applies a link that the node accepts. A refusal leaves the node as it was.
+    /// Applies a link that the node accepts. An error leaves the node unchanged.
     pub fn apply(&mut self, link: &Link) -> Result<(), AllocError>
         requires { Accepts self.old link.now }
         ensures ok { OnOk result (self.new ≡ applied link.now self.old) }
@@ -243,7 +243,7 @@ impl Node {
 
     /// Maps a stored key to a value, over the present value if there is one. A merging node does so too.
     ///
-    /// A refusal leaves the node as it was.
+    /// An error leaves the node unchanged.
     pub fn set_leaf(&mut self, key: IVec, value: IVec) -> Result<(), AllocError>
         requires { AcceptsHere self.old (Set key value) }
         ensures ok { OnOk result (self.new ≡ applied (Set key value) self.old) }

@@ -51,6 +51,23 @@ const CAPPED: &[u8] = &[0, 0, 1, 0, 0, 0, 0, 0];
 
 const MERGING_5: &[u8] = &[0, 5, 0, 0, 0, 0, 0, 0];
 
+// The same, with a child on page 2^32 + 5.
+const MERGING_FAR: &[u8] = b"\0\xfc\x05\0\0\0\x01\0\0\0\0\0\0";
+
+// A leaf over all keys with the keys "a" to "p", "q" or "r", all to no bytes.
+const PAIRS_16: &[u8] =
+    b"\0\0\0\0\0\0\0\x10\x01a\x01b\x01c\x01d\x01e\x01f\x01g\x01h\x01i\x01j\x01k\x01l\x01m\x01n\x01o\x01p\0\0\0\0\0\0\0\0\0\0\0\0\0\0\0\0";
+
+const PAIRS_17: &[u8] =
+    b"\0\0\0\0\0\0\0\x11\x01a\x01b\x01c\x01d\x01e\x01f\x01g\x01h\x01i\x01j\x01k\x01l\x01m\x01n\x01o\x01p\x01q\0\0\0\0\0\0\0\0\0\0\0\0\0\0\0\0\0";
+
+const PAIRS_18: &[u8] =
+    b"\0\0\0\0\0\0\0\x12\x01a\x01b\x01c\x01d\x01e\x01f\x01g\x01h\x01i\x01j\x01k\x01l\x01m\x01n\x01o\x01p\x01q\x01r\0\0\0\0\0\0\0\0\0\0\0\0\0\0\0\0\0\0";
+
+// A leaf over all keys with a key and a value of 30 bytes each.
+const LONG_PAIR: &[u8] =
+    b"\0\0\0\0\0\0\0\x01\x1exxxxxxxxxxxxxxxxxxxxxxxxxxxxxx\x1eyyyyyyyyyyyyyyyyyyyyyyyyyyyyyy";
+
 // A leaf from "ba" up to "bz", next to page 7, whose stored keys lack the first byte: without pairs, or with one.
 const PREFIXED: &[u8] = &[7, 0, 0, 1, 2, 98, 97, 2, 98, 122, 0, 0];
 
@@ -78,6 +95,12 @@ const SET_Z_V: &[u8] = &[0, 1, 122, 1, 118];
 
 const SET_NO_KEY: &[u8] = &[0, 0, 1, 118];
 
+const SET_Q: &[u8] = &[0, 1, 113, 0];
+
+const SET_R: &[u8] = &[0, 1, 114, 0];
+
+const SET_LONG: &[u8] = b"\0\x1exxxxxxxxxxxxxxxxxxxxxxxxxxxxxx\x1eyyyyyyyyyyyyyyyyyyyyyyyyyyyyyy";
+
 const DEL_A: &[u8] = &[1, 1, 97];
 
 const DEL_B: &[u8] = &[1, 1, 98];
@@ -87,6 +110,12 @@ const MERGE_0: &[u8] = &[2, 0];
 const MERGE_5: &[u8] = &[2, 5];
 
 const MERGE_6: &[u8] = &[2, 6];
+
+const MERGE_FAR: &[u8] = b"\x02\xfc\x05\0\0\0\x01";
+
+const DEL_R: &[u8] = &[1, 1, 114];
+
+const DEL_LONG: &[u8] = b"\x01\x1exxxxxxxxxxxxxxxxxxxxxxxxxxxxxx";
 
 const CONFIRM: &[u8] = &[3];
 
@@ -138,8 +167,24 @@ fn links_are_applied(rt: HostRuntime) -> Result<(), Fail> {
         ("a value is set over another", B_TO_V, SET_B_W, B_TO_W),
         ("an absent key is deleted", B_TO_W, DEL_A, B_TO_W),
         ("a key is deleted", B_TO_W, DEL_B, EMPTY),
+        (
+            "a long key is set to a long value",
+            EMPTY,
+            SET_LONG,
+            LONG_PAIR,
+        ),
+        ("a long key is deleted", LONG_PAIR, DEL_LONG, EMPTY),
+        ("a 17th pair", PAIRS_16, SET_Q, PAIRS_17),
+        ("an 18th pair", PAIRS_17, SET_R, PAIRS_18),
+        ("17 pairs are left", PAIRS_18, DEL_R, PAIRS_17),
         ("a node is capped", EMPTY, CAP, CAPPED),
         ("a child is to be merged", EMPTY, MERGE_5, MERGING_5),
+        (
+            "a child on a page above 2^32",
+            EMPTY,
+            MERGE_FAR,
+            MERGING_FAR,
+        ),
         (
             "a merged child is confirmed",
             INDEX_MERGING_5,

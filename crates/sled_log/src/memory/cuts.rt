@@ -1,4 +1,4 @@
-// Where a stop may cut the items of the log in memory.
+// Where a crash may cut the items of the log in memory.
 
 ghost use Rattle.std.specs.Prelude.{◌≡◌, ◌↔◌, map, IsTrue};
 ghost use Rattle.sled_log.specs.Batches.{is_open, is_cancelled, IsFair};
@@ -35,7 +35,7 @@ fn cancels(items: &[Item]) -> bool
     false
 }
 
-// Whether a stop may keep the first `n` of these items.
+// Whether a crash may keep the first `n` of these items.
 pub(super) fn is_fair_cut(items: &[Item], n: usize) -> bool
     ensures { IsTrue result ↔ IsFair (map event_of items.now) n }
 {

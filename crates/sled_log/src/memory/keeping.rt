@@ -1,4 +1,4 @@
-// How the items of the log in memory become stable, and what a stop does to them.
+// How the items of the log in memory become stable, and what a crash does to them.
 
 ghost use Rattle.std.specs.Prelude.{◌≡◌, ◌<◌, ◌≤◌, take, map, vec_len};
 ghost use Rattle.sled_log.specs.Items.{log_size, settled_at, all_settled, restarted};
@@ -33,7 +33,7 @@ fn restart(items: &mut [Item])
     }
 }
 
-// Keeps the first items, as a stop does.
+// Keeps the first items, as a crash does.
 pub(super) fn keep_first(items: &mut Vec<Item>, count: usize)
     ensures { items.new.items ≡ map restarted (take count items.old.items) }
 {

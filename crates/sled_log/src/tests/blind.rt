@@ -1,4 +1,4 @@
-// A log over a device that tells nothing of its bytes: what it reads may be anything, and so may be what a stop leaves. It
+// A log over a device that tells nothing of its bytes: what it reads may be anything, and so may be what a crash leaves. It
 // shows that the trait asks no copy of the contents in memory of such a log.
 
 ghost use Rattle.std.specs.Prelude.{◌≡◌, ℕ, ◌+◌, ◌-◌, ◌≤◌, ◌<◌, ◌==◌, pos};

@@ -1,4 +1,4 @@
-// A log with a buffer: a stop leaves just what was made stable, and nothing of what is pending. The trait asks no more.
+// A log with a buffer: a crash leaves just what was made stable, and nothing of what is pending. The trait asks no more.
 
 ghost use Rattle.std.proofs.Common.{refl, ◌∙◌, ap, le_trans};
 ghost use Rattle.std.proofs.Math.Nat.{le_refl, le_antisymm};

@@ -1,4 +1,4 @@
--- How the pairs of a node are spelled.
+-- How the pairs of a node are encoded.
 use Rattle.std.specs.Prelude.{◌≡◌, ℕ, ◌<◌, ◌≤◌, ◌^◌, List, ◌∷◌}
 use Rattle.sled_base.specs.Order.{Bytes}
 use Rattle.sled_node.specs.declared.node.data.Data.{Data}

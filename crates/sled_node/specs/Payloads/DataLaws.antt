@@ -1,4 +1,4 @@
--- The laws of the spelling of a node's pairs.
+-- The laws of the encoding of a node's pairs.
 use Rattle.std.specs.Prelude.{◌≡◌, ℕ, ◌+◌, ◌<◌, ◌≤◌, ◌^◌, List, ◌++◌, length, refl}
 use Rattle.std.proofs.Common.{get_or, sym, ap, subst, arith}
 use Rattle.sled_base.specs.Order.{Bytes}

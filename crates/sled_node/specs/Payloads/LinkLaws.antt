@@ -1,4 +1,4 @@
--- The laws of the spelling of links.
+-- The laws of the encoding of links.
 use Rattle.std.specs.Prelude.{◌≡◌, ℕ, ◌+◌, ◌≤◌, List, ◌++◌, length, refl}
 use Rattle.std.proofs.Common.{get_or, sym, ap, subst, arith}
 use Rattle.sled_node.specs.declared.node.link.Link.{Link}

@@ -1,4 +1,4 @@
--- How links are spelled.
+-- How links are encoded.
 use Rattle.std.specs.Prelude.{◌≡◌, ℕ, ◌<◌, ◌^◌, List, [], ◌∷◌, ◌++◌, ◌⊎◌}
 use Rattle.sled_node.specs.declared.node.link.Link.{Link}
 use Rattle.sled_node.specs.declared.node.link.Link.TheVariants.{Set, Del, ParentMergeIntention, ParentMergeConfirm, ChildMergeCap}

@@ -1,4 +1,4 @@
--- How nodes are spelled.
+-- How nodes are encoded.
 use Rattle.std.specs.Prelude.{◌≡◌, ℕ, Bool, true, false, List, [], ◌++◌, map, drop, Option, Some, None}
 use Rattle.std.specs.declared.num.NonZeroU64.{NonZeroU64}
 use Rattle.std.specs.Int.NonZero.{non_zero_u64_get}

@@ -1,4 +1,4 @@
--- How keys and items are spelled.
+-- How keys and items are encoded.
 use Rattle.std.specs.Prelude.{◌≡◌, ℕ, ◌*◌, ◌≤◌, List, ◌++◌, length, map}
 use Rattle.std.specs.List.{flat_map, AllByRecursion}
 use Rattle.sled_base.specs.Order.{Bytes}

@@ -1,4 +1,4 @@
--- How a root map is spelled: its names with their root pages, to the end of the input.
+-- How a root map is encoded: its names with their root pages, to the end of the input.
 use Rattle.std.specs.Prelude.{◌≡◌, ℕ, ◌≤◌, List, [], ◌++◌, length}
 use Rattle.std.specs.List.{flat_map}
 use Rattle.sled_base.specs.Order.{Bytes}

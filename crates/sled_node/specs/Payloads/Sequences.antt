@@ -1,4 +1,4 @@
--- How values are spelled one after the other.
+-- How values are encoded one after the other.
 use Rattle.std.specs.Prelude.{◌≡◌, ℕ, List, [], ◌∷◌, length}
 
 -- one value after the other, to the last

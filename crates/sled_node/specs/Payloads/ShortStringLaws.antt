@@ -1,4 +1,4 @@
--- The laws of the spelling of short byte strings.
+-- The laws of the encoding of short byte strings.
 use Rattle.std.specs.Prelude.{ℕ, List}
 use Rattle.std.proofs.Common.{arith}
 use Rattle.sled_base.specs.Payloads.Reading.{IsGrammar}

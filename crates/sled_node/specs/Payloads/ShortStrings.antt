@@ -1,4 +1,4 @@
--- How the byte strings of a link and the names of roots are spelled.
+-- How the byte strings of a link and the names of roots are encoded.
 use Rattle.std.specs.Prelude.{ℕ, ◌<◌, List, length}
 use Rattle.sled_base.specs.Limits.{inline_limit}
 use Rattle.sled_base.specs.Payloads.ByteStrings.{ReadsBytes}

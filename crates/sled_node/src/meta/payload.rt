@@ -52,8 +52,8 @@ impl Serialize for Meta {
     /// Reads the names with their pages to the end of the input. Of two pairs with one name the later one stands.
     ///
     /// It answers `Corruption(None)` exactly where what is left of the input is no pair, or where there are more names
-    /// than a map holds, and `OutOfMemory` where memory was wanting, which comes only behind a name. A refusal leaves the
-    /// input as it was.
+    /// than a map holds, and `OutOfMemory` where an allocation failed, which comes only behind a name. An error leaves
+    /// the input unchanged.
     fn deserialize(alloc: Global, input: &mut &[u8]) -> Result<Meta, Error> {
         let mut meta = Meta::default(alloc);
         let mut rest = *input;
@@ -87,7 +87,7 @@ fn root_size(name: &[u8], root: PageId) -> u64
     len.serialized_size() + len + root.serialized_size()
 }
 
-// Writes the names with their pages one after the other at the beginning.
+// Writes the names with their pages one after the other at the front.
 fn write_roots(roots: &BTreeMap<Vec<u8>, PageId>, out: &mut [u8]) -> usize
     requires { length (written_roots (named_pages roots.now)) ≤ length out.old }
     ensures size { result ≡ length (written_roots (named_pages roots.now)) }
@@ -109,7 +109,7 @@ fn write_root(name: &[u8], root: PageId, out: &mut [u8], start: usize) -> usize
     start + write_pair(name, root, &mut out[start..])
 }
 
-// Writes a name and its page at the beginning.
+// Writes a name and its page at the front.
 fn write_pair(name: &[u8], root: PageId, out: &mut [u8]) -> usize
     requires room { length (written_root (name.now, root)) ≤ length out.old }
     ensures size { result ≡ length (written_root (name.now, root)) }
@@ -119,7 +119,7 @@ fn write_pair(name: &[u8], root: PageId, out: &mut [u8]) -> usize
     end + root.serialize_into(&mut out[end..])
 }
 
-// Writes a name at the beginning.
+// Writes a name at the front.
 fn write_name(name: &[u8], out: &mut [u8]) -> usize
     requires room { length (written_bytes name.now) ≤ length out.old }
     ensures size { result ≡ length (written_bytes name.now) }

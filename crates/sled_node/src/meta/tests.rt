@@ -72,6 +72,10 @@ fn expect_set(rt: &impl Abort, alloc: Global, meta: &mut Meta) -> Result<(), All
     assert_eq!(rt; set(rt, alloc, meta, b"a", 5)?, Some(2));
     assert_eq!(rt; meta.get_root(b"a"), Some(5));
     expect_taken_out(rt, meta);
+    // a name that has no room in place
+    let long = b"xxxxxxxxxxxxxxxxxxxxxxxxxxxxxx";
+    assert_eq!(rt; set(rt, alloc, meta, long, 7)?, None);
+    assert_eq!(rt; meta.get_root(long), Some(7));
     Ok(())
 }
 
@@ -99,7 +103,7 @@ fn clones_are_equal(rt: HostRuntime) -> Result<(), Fail> {
     Ok(())
 }
 
-// The bytes are a whole spelling of a map with this page at `a`, and of so many names.
+// The bytes are a whole encoding of a map with this page at `a`, and of so many names.
 fn expect_read(
     rt: &impl Abort,
     alloc: Global,

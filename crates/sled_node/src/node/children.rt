@@ -13,7 +13,7 @@ use sled_base::{IVec, PageId};
 use std::alloc::{AllocError, Global};
 
 impl Node {
-    /// An index over all keys, which leads to one child. An error means that memory for it is wanting.
+    /// An index over all keys, which leads to one child. An error means that it could not be allocated.
     pub fn new_root(alloc: Global, child: PageId) -> Result<Node, AllocError>
         ensures { IfOk result (λ root. root ≡ index_of (([], Child child) ∷ [])) }
     {
@@ -23,7 +23,7 @@ impl Node {
 
     /// An index over all keys, which leads to one child below a key and to another from it on.
     ///
-    /// The key isn't empty and is within the limit. An error means that memory for the index is wanting.
+    /// The key isn't empty and is within the limit. An error means that the index could not be allocated.
     pub fn new_hoisted_root(
         alloc: Global,
         left: PageId,
@@ -67,8 +67,8 @@ impl Node {
     /// answer is false.
     ///
     /// The key is whole, in the range and within the limit, and there is room for it: the index has it, or fewer than
-    /// [`MAX_PAIRS`](super::MAX_PAIRS) pairs. A refusal for want of memory leaves the node as it was; a key that is there
-    /// takes no memory.
+    /// [`MAX_PAIRS`](super::MAX_PAIRS) pairs. An allocation failure leaves the node unchanged; a key that is there
+    /// allocates nothing.
     pub fn parent_split(&mut self, at: &[u8], to: PageId) -> Result<bool, AllocError>
         requires index { self.old.is_index ≡ true }
         requires range { IsInRange self.old at.now }

@@ -24,7 +24,7 @@ pub enum Item<'a> {
     Child(PageId),
 }
 
-/// Stored keys and pages, with rising keys and within the limits of a node. Contracts see the list of the pairs.
+/// Stored keys and pages, with ascending keys and within the limits of a node. Contracts see the list of the pairs.
 #[derive(Debug, Drop)]
 pub struct Index {
     pairs: Vec<(IVec, PageId)>,
@@ -42,7 +42,7 @@ impl Model for Index {
 }
 
 impl Index {
-    /// An index with no pairs. It takes no memory.
+    /// An index with no pairs. It allocates nothing.
     pub fn default(alloc: Global) -> Index
         ensures { result ≡ [] }
     {

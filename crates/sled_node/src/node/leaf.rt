@@ -15,7 +15,7 @@ use sled_base::IVec;
 use std::alloc::{AllocError, Global};
 use std::marker::Model;
 
-/// Stored keys and values, with rising keys and within the limits of a node. Contracts see the list of the pairs.
+/// Stored keys and values, with ascending keys and within the limits of a node. Contracts see the list of the pairs.
 #[derive(Debug, Drop)]
 pub struct Leaf {
     pairs: Vec<(IVec, IVec)>,
@@ -33,7 +33,7 @@ impl Model for Leaf {
 }
 
 impl Leaf {
-    /// A leaf with no pairs. It takes no memory.
+    /// A leaf with no pairs. It allocates nothing.
     pub fn default(alloc: Global) -> Leaf
         ensures { result ≡ [] }
     {

@@ -34,7 +34,7 @@ impl Node {
 
     /// The stored key of a whole key in the leaf's range, and the key's value, or no value where the leaf lacks the key.
     ///
-    /// An error means that memory for a copy is wanting.
+    /// An error means that a copy could not be allocated.
     pub fn node_kv_pair(
         &self,
         alloc: Global,

@@ -25,7 +25,7 @@ impl Node {
     /// This node with the pairs of its right neighbour behind its own, where it can receive them.
     ///
     /// It has this node's marks, and the neighbour's end and next. Stored keys lack what its bounds have in common, up to
-    /// 255 bytes. Both nodes are left as they are. An error means that memory is wanting.
+    /// 255 bytes. Both nodes are left as they are. An error means that an allocation failed.
     pub fn receive_merge(&self, alloc: Global, right: &Node) -> Result<Node, AllocError>
         requires { CanReceive self.now right.now }
         ensures { IfOk result (λ node. node ≡ merged self.now right.now) }

@@ -14,7 +14,7 @@ use std::ops::Bound;
 impl Node {
     /// The whole key and the value of the leaf's first pair behind the bound, or none where no pair is behind it.
     ///
-    /// The bound may be out of the range. An error means that memory for the copy is wanting.
+    /// The bound may be out of the range. An error means that the copy could not be allocated.
     pub fn successor(
         &self,
         alloc: Global,
@@ -33,7 +33,7 @@ impl Node {
 
     /// The whole key and the value of the leaf's last pair before the bound, or none where no pair is before it.
     ///
-    /// The bound may be out of the range. An error means that memory for the copy is wanting.
+    /// The bound may be out of the range. An error means that the copy could not be allocated.
     pub fn predecessor(
         &self,
         alloc: Global,

@@ -97,7 +97,7 @@ fn size_of_index(index: &Index) -> u64
     size_of_pairs(index.pairs())
 }
 
-// Writes the pairs of a leaf at the beginning.
+// Writes the pairs of a leaf at the front.
 fn write_leaf(leaf: &Leaf, out: &mut [u8]) -> usize
     requires { length (written_pairs written_bytes leaf.now) ≤ length out.old }
     ensures size { result ≡ length (written_pairs written_bytes leaf.now) }
@@ -106,7 +106,7 @@ fn write_leaf(leaf: &Leaf, out: &mut [u8]) -> usize
     write_pairs(leaf.pairs(), out)
 }
 
-// Writes the pairs of an index at the beginning.
+// Writes the pairs of an index at the front.
 fn write_index(index: &Index, out: &mut [u8]) -> usize
     requires { length (written_pairs written_u64 index.now) ≤ length out.old }
     ensures size { result ≡ length (written_pairs written_u64 index.now) }

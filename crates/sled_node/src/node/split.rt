@@ -17,7 +17,7 @@ impl Node {
     /// The left begins where the node did, and the right ends where it did. They meet at a separator, the least key of
     /// the right, which in a leaf is cut to one byte past what it shares with the greatest key of the left. The left
     /// keeps the marks and has no next; the right keeps the next and has no marks. Stored keys lack what the bounds of
-    /// their own part have in common, up to 255 bytes. An error means that memory is wanting, and the node is let go.
+    /// their own part have in common, up to 255 bytes. An error means that an allocation failed, and the node is let go.
     pub fn split(self, alloc: Global) -> Result<(Node, Node), AllocError>
         requires { 3 ≤ length self.pairs }
         ensures parts { IfOk result (λ parts. Splits self parts.0 parts.1) }

@@ -34,7 +34,7 @@ pub fn read_pairs<V: Serialize>(alloc: Global, input: &mut &[u8]) -> Result<Vec<
     Ok(pairs)
 }
 
-// The count, where the keys begin, and where the items do, if there may be so many pairs. It takes no memory.
+// The count, where the keys begin, and where the items do, if there may be so many pairs. It allocates nothing.
 fn split_pairs<V: Serialize>(input: &[u8]) -> Option<(usize, &[u8], &[u8])>
     requires { 1 ≤ V.least_size }
     ensures found { IfSome result (λ x. SplitsPairs input.now x.0 x.1.now x.2.now) }
@@ -113,7 +113,7 @@ pub fn size_of_pairs<V: Serialize>(pairs: &[(IVec, V)]) -> u64
     size
 }
 
-// Writes the count, all keys, and then all items, at the beginning.
+// Writes the count, all keys, and then all items, at the front.
 pub fn write_pairs<V: Serialize>(pairs: &[(IVec, V)], out: &mut [u8]) -> usize
     requires can_write { CanWritePairs V.can_write pairs.now }
     requires room { length (written_pairs V.written pairs.now) ≤ length out.old }
@@ -146,7 +146,7 @@ fn write_keys_and_items<V: Serialize>(pairs: &[(IVec, V)], out: &mut [u8]) -> us
     end + write_items(pairs, &mut out[end..])
 }
 
-// Writes the keys one after the other at the beginning.
+// Writes the keys one after the other at the front.
 fn write_keys<V>(pairs: &[(IVec, V)], out: &mut [u8]) -> usize
     requires can_write { AllByRecursion CanWriteBytes (keys_of pairs.now) }
     requires room { length (flat_map written_bytes (keys_of pairs.now)) ≤ length out.old }
@@ -160,7 +160,7 @@ fn write_keys<V>(pairs: &[(IVec, V)], out: &mut [u8]) -> usize
     end
 }
 
-// Writes the items one after the other at the beginning.
+// Writes the items one after the other at the front.
 fn write_items<V: Serialize>(pairs: &[(IVec, V)], out: &mut [u8]) -> usize
     requires can_write { AllByRecursion V.can_write (items_of pairs.now) }
     requires room { length (flat_map V.written (items_of pairs.now)) ≤ length out.old }

@@ -10,7 +10,7 @@ use std::num::NonZeroU64;
 use std::process::Abort;
 use std::test::Fail;
 
-// The value at the front of the input, or none where none is read. An error is want of memory.
+// The value at the front of the input, or none where none is read. An error is out of memory.
 fn read<T: Serialize>(alloc: Global, input: &mut &[u8]) -> Result<Option<T>, AllocError> {
     match T::deserialize(alloc, input) {
         Ok(value) => Ok(Some(value)),
@@ -23,7 +23,7 @@ fn read<T: Serialize>(alloc: Global, input: &mut &[u8]) -> Result<Option<T>, All
 
 fn let_data_go(_data: Data) {}
 
-// The bytes are a whole spelling of the value.
+// The bytes are a whole encoding of the value.
 fn expect_read<T: Serialize + PartialEq>(
     rt: &impl Abort,
     alloc: Global,
@@ -37,7 +37,7 @@ fn expect_read<T: Serialize + PartialEq>(
     Ok(())
 }
 
-// The bytes are the spelling that was written, of the size that was told, and they are read as the value.
+// The bytes are the encoding that was written, of the size that was told, and they are read as the value.
 fn expect_same<T: Serialize + PartialEq>(
     rt: &impl Abort,
     alloc: Global,

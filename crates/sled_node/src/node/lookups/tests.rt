@@ -88,6 +88,11 @@ fn stored_keys_are_given_with_their_values(rt: HostRuntime) -> Result<(), Fail> 
         (b"bb".as_slice(), b"b".as_slice(), Some(b"v".as_slice())),
         (b"bc", b"c", None),
         (b"ba", b"a", None),
+        (
+            b"bxxxxxxxxxxxxxxxxxxxxxxxxxxxxxx",
+            b"xxxxxxxxxxxxxxxxxxxxxxxxxxxxxx",
+            None,
+        ),
     ] {
         assert!(rt; one_pair_gives(rt.alloc(), key, stored, value)?, "{key:?}");
     }

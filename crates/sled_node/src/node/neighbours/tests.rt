@@ -11,9 +11,13 @@ const THREE_PAIRS: &[u8] = &[
     0, 0, 0, 1, 2, 98, 97, 2, 98, 122, 0, 3, 1, 98, 1, 100, 1, 102, 1, 49, 1, 50, 1, 51,
 ];
 
+// Over "ba" to "bz", without the first byte: "b" with 30 bytes "x" behind it to "4".
+const LONG_PAIR: &[u8] = b"\0\0\0\x01\x02ba\x02bz\0\x01\x1fbxxxxxxxxxxxxxxxxxxxxxxxxxxxxxx\x014";
+
 // The whole key of a value.
 fn key_of(value: u8) -> &'static [u8] {
     match value {
+        b'4' => b"bbxxxxxxxxxxxxxxxxxxxxxxxxxxxxxx".as_slice(),
         b'2' => b"bd".as_slice(),
         b'3' => b"bf".as_slice(),
         _ => b"bb".as_slice(),
@@ -85,6 +89,9 @@ fn the_nearest_pair_is_found(rt: HostRuntime) -> Result<(), Fail> {
         (THREE_PAIRS, b"bz", b"--3313"),
         (THREE_PAIRS, b"c", b"--3313"),
         (THREE_PAIRS, b"d", b"--3313"),
+        (LONG_PAIR, b"bb", b"44--44"),
+        (LONG_PAIR, b"bbxxxxxxxxxxxxxxxxxxxxxxxxxxxxxx", b"4-4-44"),
+        (LONG_PAIR, b"bc", b"--4444"),
         (ONE_PAIR, b"ab", b"vv--vv"),
         (ONE_PAIR, b"c", b"--vvvv"),
         (EMPTY, b"a", b"------"),

@@ -1,441 +1,192 @@
 use super::*;
-use crate::node::Item;
-use crate::tests::let_go;
-use std::num::NonZeroU64;
+use crate::tests::{is_node, let_go, node_of};
+use sled_base::Error;
 use std::process::Abort;
 use std::test::Fail;
 
-// What a node is to be: its bounds, and its stored keys, which lack so many bytes.
-#[derive(Clone, Copy, Drop)]
-struct Shape<'a> {
-    prefix_len: u8,
-    lo: &'a [u8],
-    hi: &'a [u8],
-    keys: &'a [&'a [u8]],
-}
-
-fn has_shape(node: &Node, shape: &Shape<'_>) -> bool {
-    node.prefix_len() == shape.prefix_len
-        && node.lo().eq_bytes(shape.lo)
-        && node.hi().eq_bytes(shape.hi)
-        && has_keys(node, shape.keys)
-}
-
-fn has_keys(node: &Node, keys: &[&[u8]]) -> bool {
-    if node.len() != keys.len() {
-        return false;
-    }
-    for i in 0..node.len() {
-        if node.pair(i).0 != keys[i] {
-            return false;
+// The nodes are payloads: next page, merging child, mark, prefix length, both bounds, kind, count, stored keys, items. In these
+// texts '*' stands for 255 bytes "a", and '#' for 30 bytes "x".
+fn expanded(alloc: Global, text: &[u8]) -> Result<Vec<u8>, AllocError> {
+    let mut payload = Vec::new(alloc);
+    for byte in text {
+        let (count, repeated) = match byte {
+            b'*' => (255, b'a'),
+            b'#' => (30, b'x'),
+            other => (1, *other),
+        };
+        for _ in 0..count {
+            payload.push(repeated)?;
         }
     }
-    true
+    Ok(payload)
 }
 
-fn push(alloc: Global, pairs: &mut Vec<(IVec, IVec)>, key: &[u8]) -> Result<(), AllocError> {
-    let key = IVec::from_slice(alloc, key)?;
-    let value = IVec::from_slice(alloc, b"v")?;
-    pairs.push((key, value))?;
-    Ok(())
+fn node_in(alloc: Global, text: &[u8]) -> Result<Node, Error> {
+    let payload = expanded(alloc, text)?;
+    node_of(alloc, &payload)
 }
 
-// A leaf of this shape, with the marks.
-fn leaf(alloc: Global, shape: &Shape<'_>) -> Result<Option<Node>, AllocError> {
-    let mut pairs = Vec::new(alloc);
-    for key in shape.keys {
-        push(alloc, &mut pairs, key)?;
-    }
-    let Some(leaf) = Leaf::from_pairs(alloc, pairs)? else {
-        return Ok(None);
-    };
-    node(alloc, shape, Data::Leaf(leaf))
+fn is_in(alloc: Global, node: &Node, text: &[u8]) -> Result<bool, Error> {
+    let payload = expanded(alloc, text)?;
+    is_node(alloc, node, &payload)
 }
 
-fn push_page(
-    alloc: Global,
-    pairs: &mut Vec<(IVec, u64)>,
-    key: &[u8],
-    page: u64,
-) -> Result<(), AllocError> {
-    pairs.push((IVec::from_slice(alloc, key)?, page))?;
-    Ok(())
-}
-
-// An index of this shape, with the marks, whose keys lead to the pages from 2 on.
-fn index(alloc: Global, shape: &Shape<'_>) -> Result<Option<Node>, AllocError> {
-    let mut pairs = Vec::new(alloc);
-    let mut page = 2u64;
-    for key in shape.keys {
-        push_page(alloc, &mut pairs, key, page)?;
-        page = page.wrapping_add(1);
-    }
-    let Some(index) = Index::from_pairs(alloc, pairs)? else {
-        return Ok(None);
-    };
-    node(alloc, shape, Data::Index(index))
-}
-
-// Next to page 7, with page 5 being merged, and being merged itself.
-fn node(alloc: Global, shape: &Shape<'_>, contents: Data) -> Result<Option<Node>, AllocError> {
-    let (lo, hi) = (
-        IVec::from_slice(alloc, shape.lo)?,
-        IVec::from_slice(alloc, shape.hi)?,
-    );
-    let (next, child) = (NonZeroU64::new(7), NonZeroU64::new(5));
-    Ok(Node::from_parts(shape.prefix_len, next, child, true, lo, hi, contents))
-}
-
-fn has_marks(node: &Node, next: u64, child: u64, merging: bool) -> bool {
-    node.next() == NonZeroU64::new(next)
-        && node.merging_child() == NonZeroU64::new(child)
-        && node.merging() == merging
-}
-
-// Whether the parts of the node are of these shapes, and the two merged again of the third.
-fn splits(
-    alloc: Global,
-    node: Node,
-    left: &Shape<'_>,
-    right: &Shape<'_>,
-    again: &Shape<'_>,
-) -> Result<bool, AllocError> {
-    if node.len() < 3 {
-        return Ok(false);
-    }
-    let (low, high) = node.split(alloc)?;
-    let parted = has_shape(&low, left)
-        && has_marks(&low, 0, 5, true)
-        && has_shape(&high, right)
-        && has_marks(&high, 7, 0, false);
-    let merged = merges(alloc, &low, &high, again);
-    let_go(low);
-    let_go(high);
-    Ok(parted && merged?)
-}
-
-// Whether the left node takes in the right one, and is then of this shape.
-fn merges(alloc: Global, left: &Node, right: &Node, shape: &Shape<'_>) -> Result<bool, AllocError> {
+// Whether the left node takes in the right one, and is then the node of the text.
+fn merges(alloc: Global, left: &Node, right: &Node, text: &[u8]) -> Result<bool, Error> {
     if !left.can_receive(right) {
         return Ok(false);
     }
     let merged = left.receive_merge(alloc, right)?;
-    Ok(has_shape(&merged, shape) && has_marks(&merged, 7, 5, true))
+    is_in(alloc, &merged, text)
 }
 
-// Whether the parts of a leaf of the first shape are of the next two, and the two merged again of the last.
-fn leaf_splits(
-    alloc: Global,
-    whole: &Shape<'_>,
-    left: &Shape<'_>,
-    right: &Shape<'_>,
-    again: &Shape<'_>,
-) -> Result<bool, Fail> {
-    let node = leaf(alloc, whole)?.ok_or("well-formed")?;
-    Ok(splits(alloc, node, left, right, again)?)
+// Whether the parts are the nodes of the texts, and the two merged again that of the last.
+fn are_parts(alloc: Global, left: &Node, right: &Node, texts: [&[u8]; 3]) -> Result<bool, Error> {
+    let split = is_in(alloc, left, texts[0])? && is_in(alloc, right, texts[1])?;
+    Ok(split && merges(alloc, left, right, texts[2])?)
 }
 
-fn leads_to(node: &Node, i: usize, page: u64) -> bool {
-    i < node.len() && node.pair(i).1 == Item::Child(page)
-}
-
-#[test]
-fn a_leaf_without_an_end_splits(rt: HostRuntime) -> Result<(), Fail> {
-    let whole = Shape {
-        prefix_len: 0,
-        lo: b"aa",
-        hi: b"",
-        keys: &[b"aab".as_slice(), b"aac", b"aad"],
-    };
-    let left = Shape {
-        prefix_len: 2,
-        lo: b"aa",
-        hi: b"aad",
-        keys: &[b"b".as_slice(), b"c"],
-    };
-    let right = Shape {
-        prefix_len: 0,
-        lo: b"aad",
-        hi: b"",
-        keys: &[b"aad".as_slice()],
-    };
-    assert!(rt; leaf_splits(rt.alloc(), &whole, &left, &right, &whole)?);
-    Ok(())
-}
-
-#[test]
-fn an_index_splits_at_the_least_right_key(rt: HostRuntime) -> Result<(), Fail> {
-    let whole = Shape {
-        prefix_len: 0,
-        lo: b"",
-        hi: b"",
-        keys: &[b"".as_slice(), b"b", b"c"],
-    };
-    let left = Shape {
-        prefix_len: 0,
-        lo: b"",
-        hi: b"c",
-        keys: &[b"".as_slice(), b"b"],
-    };
-    let right = Shape {
-        prefix_len: 0,
-        lo: b"c",
-        hi: b"",
-        keys: &[b"c".as_slice()],
-    };
-    expect_index_splits(&rt, rt.alloc(), &whole, &left, &right)
-}
-
-// The third key of an index of the first shape leads to page 4, its parts are of the other two, and the two merged again of
-// the first.
-fn expect_index_splits(
-    rt: &impl Abort,
-    alloc: Global,
-    whole: &Shape<'_>,
-    left: &Shape<'_>,
-    right: &Shape<'_>,
-) -> Result<(), Fail> {
-    let node = index(alloc, whole)?.ok_or("well-formed")?;
-    assert!(rt; leads_to(&node, 2, 4));
-    assert!(rt; splits(alloc, node, left, right, whole)?);
-    Ok(())
-}
-
-#[test]
-fn pages_go_with_their_keys(rt: HostRuntime) -> Result<(), Fail> {
-    let whole = Shape {
-        prefix_len: 0,
-        lo: b"",
-        hi: b"",
-        keys: &[b"".as_slice(), b"b", b"c"],
-    };
-    let node = index(rt.alloc(), &whole)?.ok_or("well-formed")?;
-    assert!(rt; parts_lead_to(rt.alloc(), node)?);
-    Ok(())
-}
-
-// Whether the left part leads to the pages 2 and 3, the right one to 4, and the two merged again to all of them.
-fn parts_lead_to(alloc: Global, node: Node) -> Result<bool, AllocError> {
+// Whether the node of the text splits into the nodes of the next two, and these are merged again into that of the last.
+fn splits(alloc: Global, whole: &[u8], texts: [&[u8]; 3]) -> Result<bool, Error> {
+    let node = node_in(alloc, whole)?;
     if node.len() < 3 {
         return Ok(false);
     }
     let (left, right) = node.split(alloc)?;
-    let parted = leads_to(&left, 0, 2) && leads_to(&left, 1, 3) && leads_to(&right, 0, 4);
-    let merged = merged_lead_to(alloc, &left, &right);
+    let done = are_parts(alloc, &left, &right, texts);
     let_go(left);
     let_go(right);
-    Ok(parted && merged?)
+    done
 }
 
-fn merged_lead_to(alloc: Global, left: &Node, right: &Node) -> Result<bool, AllocError> {
-    if !left.can_receive(right) {
-        return Ok(false);
+// Whether the parts of the node are those of the texts, and the two merged again are the node.
+fn splits_and_merges(
+    alloc: Global,
+    whole: &[u8],
+    left: &[u8],
+    right: &[u8],
+) -> Result<bool, Error> {
+    splits(alloc, whole, [left, right, whole])
+}
+
+#[test]
+fn nodes_split_and_merge(rt: HostRuntime) -> Result<(), Fail> {
+    for (row, whole, left, right) in [
+        (
+            "a leaf without an end",
+            b"\x07\x05\x01\0\x02aa\0\0\x03\x03aab\x03aac\x03aad\x01v\x01w\x01x".as_slice(),
+            b"\0\x05\x01\x02\x02aa\x03aad\0\x02\x01b\x01c\x01v\x01w".as_slice(),
+            b"\x07\0\0\0\x03aad\0\0\x01\x03aad\x01x".as_slice(),
+        ),
+        (
+            "an index splits at the least right key, and pages go with their keys",
+            b"\x07\x05\x01\0\0\0\x01\x03\0\x01b\x01c\x02\x03\x04",
+            b"\0\x05\x01\0\0\x01c\x01\x02\0\x01b\x02\x03",
+            b"\x07\0\0\0\x01c\0\x01\x01\x01c\x04",
+        ),
+        (
+            "a leaf splits at the shortest string",
+            b"\x07\x05\x01\0\0\0\0\x03\x03aaa\x03aab\x03abc\x01v\x01w\x01x",
+            b"\0\x05\x01\0\0\x02ab\0\x02\x03aaa\x03aab\x01v\x01w",
+            b"\x07\0\0\0\x02ab\0\0\x01\x03abc\x01x",
+        ),
+        (
+            "parts have the prefix of the whole",
+            b"\x07\x05\x01\x01\x02ba\x02bz\0\x03\x01b\x01c\x01d\x01v\x01w\x01x",
+            b"\0\x05\x01\x01\x02ba\x02bd\0\x02\x01b\x01c\x01v\x01w",
+            b"\x07\0\0\x01\x02bd\x02bz\0\x01\x01d\x01x",
+        ),
+        (
+            "a prefix ends at 255 bytes",
+            b"\x07\x05\x01\xff\xf1\x10*a\xf1\x10*z\0\x03\x01b\x01c\x01d\x01v\x01w\x01x",
+            b"\0\x05\x01\xff\xf1\x10*a\xf1\x10*d\0\x02\x01b\x01c\x01v\x01w",
+            b"\x07\0\0\xff\xf1\x10*d\xf1\x10*z\0\x01\x01d\x01x",
+        ),
+        (
+            "no prefix is longer",
+            b"\x07\x05\x01\xff\xf1\x11*aa\xf1\x11*az\0\x03\x02ab\x02ac\x02ad\x01v\x01w\x01x",
+            b"\0\x05\x01\xff\xf1\x11*aa\xf1\x11*ad\0\x02\x02ab\x02ac\x01v\x01w",
+            b"\x07\0\0\xff\xf1\x11*ad\xf1\x11*az\0\x01\x02ad\x01x",
+        ),
+        (
+            "long keys lose a longer prefix, and get it back",
+            b"\x07\x05\x01\0\x02aa\0\0\x03\x21aab#\x21aac#\x21aad#\x01v\x1e#\x01x",
+            b"\0\x05\x01\x02\x02aa\x03aad\0\x02\x1fb#\x1fc#\x01v\x1e#",
+            b"\x07\0\0\0\x03aad\0\0\x01\x21aad#\x01x",
+        ),
+        (
+            "17 pairs",
+            b"\0\0\0\0\0\0\0\x11\x01a\x01b\x01c\x01d\x01e\x01f\x01g\x01h\x01i\x01j\x01k\x01l\x01m\x01n\x01o\x01p\x01q\0\0\0\0\0\0\0\0\0\0\0\0\0\0\0\0\0",
+            b"\0\0\0\0\0\x01j\0\x09\x01a\x01b\x01c\x01d\x01e\x01f\x01g\x01h\x01i\0\0\0\0\0\0\0\0\0",
+            b"\0\0\0\0\x01j\0\0\x08\x01j\x01k\x01l\x01m\x01n\x01o\x01p\x01q\0\0\0\0\0\0\0\0",
+        ),
+        (
+            "16 pairs",
+            b"\0\0\0\0\0\0\0\x10\x01a\x01b\x01c\x01d\x01e\x01f\x01g\x01h\x01i\x01j\x01k\x01l\x01m\x01n\x01o\x01p\0\0\0\0\0\0\0\0\0\0\0\0\0\0\0\0",
+            b"\0\0\0\0\0\x01j\0\x09\x01a\x01b\x01c\x01d\x01e\x01f\x01g\x01h\x01i\0\0\0\0\0\0\0\0\0",
+            b"\0\0\0\0\x01j\0\0\x07\x01j\x01k\x01l\x01m\x01n\x01o\x01p\0\0\0\0\0\0\0",
+        ),
+    ] {
+        assert!(rt; splits_and_merges(rt.alloc(), whole, left, right)?, "{row}");
     }
-    let merged = left.receive_merge(alloc, right)?;
-    Ok(leads_to(&merged, 0, 2) && leads_to(&merged, 1, 3) && leads_to(&merged, 2, 4))
-}
-
-#[test]
-fn a_leaf_splits_at_the_shortest_string(rt: HostRuntime) -> Result<(), Fail> {
-    let whole = Shape {
-        prefix_len: 0,
-        lo: b"",
-        hi: b"",
-        keys: &[b"aaa".as_slice(), b"aab", b"abc"],
-    };
-    let left = Shape {
-        prefix_len: 0,
-        lo: b"",
-        hi: b"ab",
-        keys: &[b"aaa".as_slice(), b"aab"],
-    };
-    let right = Shape {
-        prefix_len: 0,
-        lo: b"ab",
-        hi: b"",
-        keys: &[b"abc".as_slice()],
-    };
-    assert!(rt; leaf_splits(rt.alloc(), &whole, &left, &right, &whole)?);
     Ok(())
 }
 
-#[test]
-fn parts_have_the_prefix_of_the_whole(rt: HostRuntime) -> Result<(), Fail> {
-    let whole = Shape {
-        prefix_len: 1,
-        lo: b"ba",
-        hi: b"bz",
-        keys: &[b"b".as_slice(), b"c", b"d"],
-    };
-    let left = Shape {
-        prefix_len: 1,
-        lo: b"ba",
-        hi: b"bd",
-        keys: &[b"b".as_slice(), b"c"],
-    };
-    let right = Shape {
-        prefix_len: 1,
-        lo: b"bd",
-        hi: b"bz",
-        keys: &[b"d".as_slice()],
-    };
-    assert!(rt; leaf_splits(rt.alloc(), &whole, &left, &right, &whole)?);
-    Ok(())
-}
-
-// The prefix lengths of parts are those of their bounds, also where that of the whole is less.
+// The prefix lengths of parts and of a merged node are those of their bounds, also where that of the whole is less.
 #[test]
 fn a_short_prefix_is_made_up_for(rt: HostRuntime) -> Result<(), Fail> {
-    let whole = Shape {
-        prefix_len: 0,
-        lo: b"ba",
-        hi: b"bz",
-        keys: &[b"bb".as_slice(), b"bc", b"bdx"],
-    };
-    let left = Shape {
-        prefix_len: 1,
-        lo: b"ba",
-        hi: b"bd",
-        keys: &[b"b".as_slice(), b"c"],
-    };
-    let right = Shape {
-        prefix_len: 1,
-        lo: b"bd",
-        hi: b"bz",
-        keys: &[b"dx".as_slice()],
-    };
-    let again = Shape {
-        prefix_len: 1,
-        lo: b"ba",
-        hi: b"bz",
-        keys: &[b"b".as_slice(), b"c", b"dx"],
-    };
-    assert!(rt; leaf_splits(rt.alloc(), &whole, &left, &right, &again)?);
-    Ok(())
-}
-
-// So many bytes "a", and then others.
-fn long(alloc: Global, count: usize, last: &[u8]) -> Result<Vec<u8>, AllocError> {
-    let mut bytes = Vec::new(alloc);
-    for _ in 0..count {
-        bytes.push(b'a')?;
+    for (row, whole, texts) in [
+        (
+            "short keys",
+            b"\x07\x05\x01\0\x02ba\x02bz\0\x03\x02bb\x02bc\x03bdx\x01v\x01w\x01x".as_slice(),
+            [
+                b"\0\x05\x01\x01\x02ba\x02bd\0\x02\x01b\x01c\x01v\x01w".as_slice(),
+                b"\x07\0\0\x01\x02bd\x02bz\0\x01\x02dx\x01x",
+                b"\x07\x05\x01\x01\x02ba\x02bz\0\x03\x01b\x01c\x02dx\x01v\x01w\x01x",
+            ],
+        ),
+        (
+            "long keys",
+            b"\x07\x05\x01\0\x02ba\x02bz\0\x03\x20bb#\x20bc#\x20bd#\x01v\x01w\x01x",
+            [
+                b"\0\x05\x01\x01\x02ba\x02bd\0\x02\x1fb#\x1fc#\x01v\x01w",
+                b"\x07\0\0\x01\x02bd\x02bz\0\x01\x1fd#\x01x",
+                b"\x07\x05\x01\x01\x02ba\x02bz\0\x03\x1fb#\x1fc#\x1fd#\x01v\x01w\x01x",
+            ],
+        ),
+    ] {
+        assert!(rt; splits(rt.alloc(), whole, texts)?, "{row}");
     }
-    bytes.extend_from_slice(last)?;
-    Ok(bytes)
-}
-
-// Whether a leaf between the bounds, whose stored keys lack 255 bytes, splits at the middle bound, where its third key is.
-fn splits_between(
-    alloc: Global,
-    lo: &[u8],
-    mid: &[u8],
-    hi: &[u8],
-    keys: [&[u8]; 3],
-) -> Result<bool, Fail> {
-    let whole = Shape {
-        prefix_len: 255,
-        lo,
-        hi,
-        keys: &keys,
-    };
-    let left = Shape {
-        prefix_len: 255,
-        lo,
-        hi: mid,
-        keys: &keys[..2],
-    };
-    let right = Shape {
-        prefix_len: 255,
-        lo: mid,
-        hi,
-        keys: &keys[2..],
-    };
-    leaf_splits(alloc, &whole, &left, &right, &whole)
-}
-
-// Whether it does so where the bounds are so many bytes "a" and one more.
-fn splits_behind(alloc: Global, count: usize, keys: [&[u8]; 3]) -> Result<bool, Fail> {
-    let lo = long(alloc, count, b"a")?;
-    let mid = long(alloc, count, b"d")?;
-    let hi = long(alloc, count, b"z")?;
-    splits_between(alloc, &lo, &mid, &hi, keys)
-}
-
-#[test]
-fn a_prefix_ends_at_255_bytes(rt: HostRuntime) -> Result<(), Fail> {
-    let keys = [b"b".as_slice(), b"c", b"d"];
-    assert!(rt; splits_behind(rt.alloc(), 255, keys)?);
     Ok(())
 }
 
-#[test]
-fn no_prefix_is_longer(rt: HostRuntime) -> Result<(), Fail> {
-    let keys = [b"ab".as_slice(), b"ac", b"ad"];
-    assert!(rt; splits_behind(rt.alloc(), 256, keys)?);
-    Ok(())
+fn receives(alloc: Global, left: &[u8], right: &[u8]) -> Result<bool, Error> {
+    let left = node_of(alloc, left)?;
+    let right = node_of(alloc, right);
+    let done = right.is_ok_and(|right| left.can_receive(&right));
+    let_go(left);
+    Ok(done)
 }
 
-fn receives(left: &Node, right: &Node) -> bool {
-    left.can_receive(right)
-}
+const BELOW_M: &[u8] = b"\0\0\0\0\0\x01m\0\0";
 
-// Whether the left node receives the right one, the right one the left, and the left itself.
-fn receiving(left: &Node, right: &Node) -> [bool; 3] {
-    [
-        receives(left, right),
-        receives(right, left),
-        receives(left, left),
-    ]
-}
+const FROM_M: &[u8] = b"\0\0\0\0\x01m\0\0\0";
 
-// The same, where the left node is a leaf below "m".
-fn received(alloc: Global, right: &Node) -> Result<[bool; 3], Fail> {
-    let low = Shape {
-        prefix_len: 0,
-        lo: b"",
-        hi: b"m",
-        keys: &[],
-    };
-    let left = leaf(alloc, &low)?.ok_or("well-formed")?;
-    Ok(receiving(&left, right))
-}
+const INDEX_FROM_M: &[u8] = b"\0\0\0\0\x01m\0\x01\0";
 
-const FROM_M: Shape<'static> = Shape {
-    prefix_len: 0,
-    lo: b"m",
-    hi: b"",
-    keys: &[],
-};
+const ALL: &[u8] = b"\0\0\0\0\0\0\0\0";
 
 #[test]
 fn neighbours_meet_and_are_of_one_kind(rt: HostRuntime) -> Result<(), Fail> {
-    let right = leaf(rt.alloc(), &FROM_M)?.ok_or("well-formed")?;
-    let found = received(rt.alloc(), &right);
-    let_go(right);
-    assert!(rt; found? == [true, false, false]);
-    Ok(())
-}
-
-#[test]
-fn a_leaf_receives_no_index(rt: HostRuntime) -> Result<(), Fail> {
-    let right = index(rt.alloc(), &FROM_M)?.ok_or("well-formed")?;
-    let found = received(rt.alloc(), &right);
-    let_go(right);
-    assert!(rt; !found?[0]);
-    Ok(())
-}
-
-// The empty end of a node is none, and not the empty key at which another begins.
-#[test]
-fn a_node_without_an_end_receives_none(rt: HostRuntime) -> Result<(), Fail> {
-    let alloc = rt.alloc();
-    let all = Shape {
-        prefix_len: 0,
-        lo: b"",
-        hi: b"",
-        keys: &[],
-    };
-    let left = leaf(alloc, &all)?.ok_or("well-formed")?;
-    assert!(rt; !receives(&left, &left));
+    for (row, left, right, is_so) in [
+        ("neighbours", BELOW_M, FROM_M, true),
+        ("the wrong way round", FROM_M, BELOW_M, false),
+        ("a node itself", BELOW_M, BELOW_M, false),
+        ("a leaf and an index", BELOW_M, INDEX_FROM_M, false),
+        // The empty end of a node is none, and not the empty key at which another begins.
+        ("a node without an end", ALL, ALL, false),
+    ] {
+        assert!(rt; receives(rt.alloc(), left, right)? == is_so, "{row}");
+    }
     Ok(())
 }
