@@ -5,7 +5,8 @@
 #   and has a test behind it, and each of these files has its block;
 # - each session of the program `./sledpc` stands in the run that the gate makes of it: its words in crates/sledpc/args,
 #   its input in crates/sledpc/stdin, and its replies at the same lines of crates/sledpc/stdout;
-# - each other command of a session is there.
+# - each other command of a session is there;
+# - each file of a crate's specs has its line in docs/ARCHITECTURE.md.
 #
 # The status is 0 where nothing differs, and else 1.
 set -eu
@@ -84,8 +85,8 @@ compare_run() {
         return
     fi
     # What the script `sledpc` says of its building comes between the replies.
-    grep '^sledpc: ' "$3" | while read -r said; do
-        grep -qF "echo '$said'" sledpc || echo "$page: the script sledpc doesn't say '$said'" >>"$work/faults"
+    sed -n 's/^sledpc: //p' "$3" | while read -r said; do
+        grep -qF "say '$said'" sledpc || echo "$page: the script sledpc doesn't say '$said'" >>"$work/faults"
     done
     sed '/^sledpc: /d' "$3" >"$work/replies"
     sed -n "$first,$((first + $(wc -l <"$work/input") - 1))p" "$run/stdout" >"$work/stdout"
@@ -109,8 +110,18 @@ compare_sessions() {
         ./* | .ci/* | tools/*)
             [ -x "${text%% *}" ] || differ "there is no command ${text%% *}"
             ;;
-        "rt "*) ;;
+        "rt "* | "cd crates/"*) ;;
         *) differ "nothing is known of the command '$text'" ;;
+        esac
+    done
+}
+
+# Each file of definitions is named in the list of them.
+compare_definitions() {
+    for file in crates/*/specs/*.antt crates/*/specs/*/*.antt; do
+        case $file in
+        */Lib.antt) ;;
+        *) grep -qF "(../$file)" docs/ARCHITECTURE.md || differ "docs/ARCHITECTURE.md has no line for $file" ;;
         esac
     done
 }
@@ -118,6 +129,7 @@ compare_sessions() {
 cut_page
 compare_rust
 compare_sessions
+compare_definitions
 if [ -s "$work/faults" ]; then
     cat "$work/faults"
     status=1

@@ -28,6 +28,6 @@ pub record BeginsWithToken (text : Option Bytes) (old : Token) (rest : Option By
   pub token : IsToken old
   pub joined : text ≡ after_name (decimal (pid_of old) ∷ decimal (stamp_of old) ∷ at_the_end rest)
 
--- the words in the text spell the pairs of the leaf
+-- the words in the text encode the pairs of the leaf
 abbrev pub SpellLeaf : Option Bytes → WholeNode → Type 0
 SpellLeaf text node = (pairs : List (Bytes × Bytes)) × IsLeafOf pairs node × SpellPairs text pairs

@@ -31,7 +31,7 @@ ReadsLine (Some input) (Some rest) (Ok line) kept = FindsLine input line kept re
 ReadsLine (Some input) None (Ok line) kept = ⊥
 ReadsLine (Some input) new (Err e) kept = ⊤
 
--- Why a line was not read. Memory was wanting for one more byte of it, which was taken; or the input was not read behind what was kept, or in a line that is too long.
+-- Why a line was not read. An allocation failed for one more byte of it, which was taken; or the input was not read behind what was kept, or in a line that is too long.
 abbrev pub IsUnread : ReadError → Option Bytes → Option Bytes → Bytes → Type 0
 IsUnread Memory old new kept = (byte : ℕ) × Consumes old new (kept ++ byte ∷ [])
 IsUnread Read old new kept = Consumes old new kept ⊎ (longest_line < length kept)

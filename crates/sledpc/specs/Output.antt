@@ -1,12 +1,12 @@
--- What is written: a text, or where that is refused, a beginning of it.
+-- What is written: a text, or where that is refused, a prefix of it.
 use Rattle.std.specs.Prelude.{◌≡◌, ◌++◌, Option, Result, MatchResult}
 use Rattle.std.specs.Io.KnownBytes.{Appends}
 use Rattle.sled_base.specs.Order.{Bytes}
 
--- known bytes grow by a beginning of the text
+-- known bytes grow by a prefix of the text
 abbrev pub AppendsBeginning : Option Bytes → Option Bytes → Bytes → Type 0
 AppendsBeginning old new text = (written left : Bytes) × (text ≡ written ++ left) × Appends old new written
 
--- the whole text is written, or at an error a beginning of it
+-- the whole text is written, or at an error a prefix of it
 abbrev pub Writes : {T E : Type 0} → Option Bytes → Option Bytes → Result T E → Bytes → Type 0
 Writes old new result text = MatchResult result (λ _. Appends old new text) (λ _. AppendsBeginning old new text)

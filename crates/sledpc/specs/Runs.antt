@@ -40,19 +40,19 @@ calls_of [] = []
 calls_of (None ∷ served) = calls_of served
 calls_of (Some made ∷ served) = made ∷ calls_of served
 
--- What ended a run behind the lines that were answered: the input was not read; memory was wanting for one more line; or a reply was not written.
+-- What ended a run behind the lines that were answered: the input was not read; an allocation failed for one more line; or a reply was not written.
 abbrev pub Ends : RunError → List Bytes → List Bytes → Type 0
 Ends Read answered others = ⊤
 Ends Memory answered others = others ≢ []
 Ends Write answered others = answered ≢ []
 
--- Each line of a known input was answered, in their order; at an error a beginning of them was.
+-- Each line of a known input was answered, in their order; at an error a prefix of them was.
 abbrev pub Answers : Option Bytes → Result Unit RunError → List Served → Type 0
 Answers None result served = ⊤
 Answers (Some input) (Ok done) served = AllZip AsksFor (lines_of input) served
 Answers (Some input) (Err e) served = (answered others : List Bytes) × (lines_of input ≡ answered ++ others) × AllZip AsksFor answered served × Ends e answered others
 
--- The text was written; where writing or flushing it failed, a beginning of it.
+-- The text was written; where writing or flushing it failed, a prefix of it.
 abbrev pub IsWritten : Result Unit RunError → Option Bytes → Option Bytes → Bytes → Type 0
 IsWritten (Ok done) old new text = Appends old new text
 IsWritten (Err Read) old new text = Appends old new text

@@ -25,7 +25,7 @@ module _ {L : Type 0} (g : Ghosts L) where
   Goes cache None after = after ≡ cache
   Goes cache (Some made) after = IsMade g cache made.0 made.1 after
 
-  -- The line is answered, and the reply is written as a line, or where it is not written whole, a beginning of it; or memory was wanting for the line, and nothing is changed or written.
+  -- The line is answered, and the reply is written as a line, or where it is not written whole, a prefix of it; or an allocation failed for the line, and nothing is changed or written.
   abbrev pub RepliesLine : Cache L → Bytes → Option Bytes → Option Bytes → Result Unit RunError → Cache L → Type 0
   RepliesLine cache line old new (Ok done) after = (one : Served) × AsksFor line one × Goes cache one after × Appends old new (reply_to one ++ 10 ∷ [])
   RepliesLine cache line old new (Err Write) after = (one : Served) × AsksFor line one × Goes cache one after × AppendsBeginning old new (reply_to one ++ 10 ∷ [])

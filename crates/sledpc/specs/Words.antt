@@ -1,4 +1,4 @@
--- How the words of a line spell numbers, byte strings and pairs. A number is spelled by its decimal digits.
+-- How the words of a line encode numbers, byte strings and pairs. A number is encoded by its decimal digits.
 use Rattle.std.specs.Prelude.{◌≡◌, ℕ, ◌+◌, ◌/◌, ◌%◌, ◌<◌, List, [], ◌∷◌, ◌++◌, Option, None, Some, codes, map, nat_lt, if◌then◌else◌}
 use Rattle.std.specs.List.{AllByRecursion, join_with_byte}
 use Rattle.sled_base.specs.Order.{Bytes}
@@ -12,7 +12,7 @@ abbrev pub hex : Bytes → Bytes
 hex [] = []
 hex (byte ∷ bytes) = hex_digit (byte / 16) ∷ hex_digit (byte % 16) ∷ hex bytes
 
--- a byte string is spelled in hexadecimal, and the empty one as a dash
+-- a byte string is encoded in hexadecimal, and the empty one as a dash
 abbrev pub bytes_word : Bytes → Bytes
 bytes_word [] = codes "-"
 bytes_word (byte ∷ bytes) = hex (byte ∷ bytes)
@@ -26,7 +26,7 @@ abbrev pub after_name : List Bytes → Option Bytes
 after_name [] = None
 after_name (word ∷ words) = Some (join_with_byte 32 (word ∷ words))
 
--- the words behind a command's name spell these pairs, a word each
+-- the words behind a command's name encode these pairs, a word each
 abbrev pub SpellPairs : Option Bytes → List (Bytes × Bytes) → Type 0
 SpellPairs words pairs = words ≡ after_name (map pair_word pairs)
 

@@ -9,7 +9,7 @@ ghost use Rattle.sledpc.specs.Words.{bytes_word};
 use std::io;
 use std::io::{ErrorKind, Write};
 
-/// Writes all of the bytes. At an error a beginning of them was written.
+/// Writes all of the bytes. At an error a prefix of them was written.
 pub fn write_text<W: Write>(writer: &mut W, text: &[u8]) -> io::Result<()>
     ensures { Writes (W.contents writer.old) (W.contents writer.new) result text.now }
 {

@@ -54,7 +54,7 @@ fn slow_writer(alloc: Global, room: usize) -> Slow {
 // Steps of the tests. What a call gives is let go here, and not in a test, which would be proved for each way in which it
 // may be kept.
 
-// Whether the word spells these bytes, or none.
+// Whether the word encodes these bytes, or none.
 fn spells_bytes(alloc: Global, word: &str, want: Option<&[u8]>) -> Result<bool, AllocError> {
     let found = bytes_of(alloc, word.as_bytes())?;
     Ok(match (&found, want) {
@@ -80,7 +80,7 @@ fn are_pairs(pairs: &[(IVec, IVec)], want: &[(&str, &str)]) -> bool {
     true
 }
 
-// Whether the word spells this pair, or none.
+// Whether the word encodes this pair, or none.
 fn spells_pair(alloc: Global, word: &str, want: Option<(&str, &str)>) -> Result<bool, AllocError> {
     let found = pair_of(alloc, word.as_bytes())?;
     Ok(match (&found, want) {
@@ -90,7 +90,7 @@ fn spells_pair(alloc: Global, word: &str, want: Option<(&str, &str)>) -> Result<
     })
 }
 
-// Whether the words behind a name spell these pairs, or none.
+// Whether the words behind a name encode these pairs, or none.
 fn spell_pairs(
     alloc: Global,
     words: Option<&str>,

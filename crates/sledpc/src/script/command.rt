@@ -45,7 +45,7 @@ fn allocate_of(alloc: Global, arguments: Option<&[u8]>) -> Result<Option<Call>, 
     Ok(Some(Call::Allocate(node)))
 }
 
-// The leaf of the pairs that the words spell.
+// The leaf of the pairs that the words encode.
 fn leaf_behind(alloc: Global, arguments: Option<&[u8]>) -> Result<Option<Node>, AllocError>
     ensures some { IfOk result (λ found. IfSome found (SpellLeaf (option_map (λ rest. rest.now) arguments.entry))) }
     ensures none { IfOk result (λ found. IfNone found ((node : WholeNode) → ¬ SpellLeaf (option_map (λ rest. rest.now) arguments.entry) node)) }

@@ -27,7 +27,7 @@ pub enum RunError {
     /// A reply was not written.
     #[error("error write")]
     Write,
-    /// Memory was wanting for a line or for its arguments.
+    /// An allocation failed for a line or for its arguments.
     #[error("error memory")]
     Memory,
 }
@@ -66,11 +66,11 @@ impl From<io::Error> for RunError {
 /// Makes the calls that the lines of the input ask for, and writes one reply line for each line.
 ///
 /// A line that is no command, or is longer than 65,536 bytes, is answered by `error line` and changes nothing. The calls are
-/// steps in a row: what they write is added to the log in order, and a stop at any moment leaves what the log held and a
-/// beginning of that, up to a fair cut. Apart from the pages and the log, at most one line is held in memory.
+/// steps in a row: what they write is added to the log in order, and a crash at any moment leaves what the log held and a
+/// prefix of that which splits no batch. Apart from the pages and the log, at most one line is held in memory.
 ///
-/// At an error a beginning of the lines was answered. At [`RunError::Read`] and [`RunError::Memory`] the replies to them
-/// were written, and at [`RunError::Write`] a beginning of these replies.
+/// At an error a prefix of the lines was answered. At [`RunError::Read`] and [`RunError::Memory`] the replies to them
+/// were written, and at [`RunError::Write`] a prefix of these replies.
 pub fn run<L: Log, R: BufRead, W: Write>(
     alloc: Global,
     cache: &mut PageCache<L>,

@@ -1,4 +1,4 @@
-//! The words of a line, and what they spell.
+//! The words of a line, and what they encode.
 
 ghost use Rattle.std.specs.Prelude.{◌≡◌, ◌≢◌, ◌↔◌, ℕ, ◌/◌, ◌%◌, ◌<◌, ◌^◌, List, IsTrue, IfOk, IfSome, IfNone};
 ghost use Rattle.std.specs.Option.{option_map};
@@ -27,7 +27,7 @@ fn cut_at(text: &[u8], mark: u8) -> (&[u8], Option<&[u8]>)
     }
 }
 
-/// The number that the word spells: decimal digits without a leading zero, at most `u64::MAX`.
+/// The number that the word encodes: decimal digits without a leading zero, at most `u64::MAX`.
 pub fn number_of(word: &[u8]) -> Option<u64>
     ensures some { IfSome result (λ n. word.now ≡ decimal n) }
     ensures none { IfNone result ((n : ℕ) → n < 2 ^ 64 → word.now ≢ decimal n) }
@@ -63,7 +63,7 @@ fn hex_value(digit: u8) -> Option<u8>
     }
 }
 
-/// The byte that two hexadecimal digits spell.
+/// The byte that two hexadecimal digits encode.
 fn hex_byte(high: u8, low: u8) -> Option<u8>
     ensures some { IfSome result (λ byte. (high ≡ hex_digit (byte / 16)) × (low ≡ hex_digit (byte % 16))) }
     ensures none { IfNone result ((byte : ℕ) → byte < 256 → high ≡ hex_digit (byte / 16) → low ≢ hex_digit (byte % 16)) }
@@ -71,7 +71,7 @@ fn hex_byte(high: u8, low: u8) -> Option<u8>
     Some(hex_value(high)? * 16 + hex_value(low)?)
 }
 
-/// The bytes that the word spells: lower-case hexadecimal, or `-` for none.
+/// The bytes that the word encodes: lower-case hexadecimal, or `-` for none.
 pub fn bytes_of(alloc: Global, word: &[u8]) -> Result<Option<IVec>, AllocError>
     ensures some { IfOk result (λ found. IfSome found (λ bytes. word.now ≡ bytes_word bytes)) }
     ensures bytes { IfOk result (λ found. IfSome found AreBytes) }
@@ -93,7 +93,7 @@ pub fn bytes_of(alloc: Global, word: &[u8]) -> Result<Option<IVec>, AllocError>
     Ok(Some(IVec::from_slice(alloc, &bytes)?))
 }
 
-/// The key and the value that the word spells, with `=` between them.
+/// The key and the value that the word encodes, with `=` between them.
 pub fn pair_of(alloc: Global, word: &[u8]) -> Result<Option<(IVec, IVec)>, AllocError>
     ensures some { IfOk result (λ found. IfSome found (λ pair. word.now ≡ pair_word pair)) }
     ensures bytes { IfOk result (λ found. IfSome found IsPairOfBytes) }
@@ -112,7 +112,7 @@ pub fn pair_of(alloc: Global, word: &[u8]) -> Result<Option<(IVec, IVec)>, Alloc
     Ok(Some((key, value)))
 }
 
-/// The pairs that the words behind a command's name spell.
+/// The pairs that the words behind a command's name encode.
 pub fn pairs_of(
     alloc: Global,
     words: Option<&[u8]>,

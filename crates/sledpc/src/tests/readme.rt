@@ -1,5 +1,4 @@
 //! The examples of the README. Each file begins with one, word for word, and runs it.
 
-mod first_page;
-mod opened_again;
+mod survives_a_crash;
 mod written_and_read;
