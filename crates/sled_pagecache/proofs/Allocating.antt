@@ -1,5 +1,6 @@
 -- Allocating a page, as a step of the machine.
 use Rattle.sled_pagecache.proofs.Names.{◌≡◌, ◌≢◌, ◌⊎◌, inl, inr, ⊎_elim, ◌≤◌, ◌<◌, ◌+◌, ◌-◌, ◌^◌, ℕ, zero, suc, Bool, true, false, cond, List, [], ◌∷◌, ◌++◌, length, take, Option, Some, None, Result, Ok, Err, slice_get, slice_set, get_or, refl, sym, ◌∙◌, ap, subst, arith, eq-eqb, ne_eqb, false≢true, none-some, same_Some, slice_get-get_or, slice_get_within, slice_get_read, Error, Unsupported, Refusal, PagesUsedUp, StampUsedUp, Event, Update, Node, Put, Change, IsUpdate, message_of, Ghosts, WholeNode, RefusesPage, Cache, chain_length, HasNoRoom, StepOver, IsIn, Steps, Went, IsCaused, begun_by, Logged, free_ids, page, State, with_page, free_token, later, greatest_free, Does, Outcome, outcome, unchanged, Allocates, RefusesSwap, IsRoots, IsCounter, AreOwn, IsBeside, IsConsistent, Token, token, Allocated, Allocate, Config, Journal, Kept}
+use Rattle.sled_pagecache.proofs.ByIds.{at-id}
 use Rattle.sled_base.specs.Errors.{error_of as error_by}
 use Rattle.sled_pagecache.proofs.Putting.{unless-clear, MayPut, may-set, may-add, nothing-told, put-refused, put-set, put-added}
 use Rattle.sled_pagecache.proofs.Standing.{AreKnown, known-length}
@@ -131,18 +132,9 @@ own-full (held.Counter n) own = refl
 own-full k own = ⊎_elim absurd absurd own
 
 pub free-from : (table : List KeptPage) (pid : ℕ) (q : KeptPage) → AreOwn table → slice_get table pid ≡ Some q → shown.is_free q.kept ≡ true → 2 ≤ pid
-free-from [] pid q own at free = absurd own
-free-from (roots ∷ []) pid q own at free = absurd own
-free-from (roots ∷ counter ∷ table) zero q own at free =
-    absurd (false≢true (sym (own-full roots.kept (inl own.0)) ∙ ap (λ (k : KeptPage). shown.is_free k.kept) (same_Some roots q at) ∙ free))
-free-from (roots ∷ counter ∷ table) (suc zero) q own at free =
-    absurd (false≢true (sym (own-full counter.kept (inr own.1)) ∙ ap (λ (k : KeptPage). shown.is_free k.kept) (same_Some counter q at) ∙ free))
-free-from (roots ∷ counter ∷ table) (suc (suc pid)) q own at free = omega arith
-
-pub own-long : (table : List KeptPage) → AreOwn table → 2 ≤ length table
-own-long [] own = absurd own
-own-long (roots ∷ []) own = absurd own
-own-long (roots ∷ counter ∷ table) own = omega arith
+free-from table zero q own at free = absurd (false≢true (sym (own-full q.kept (inl (at-id _ table 0 q own at))) ∙ free))
+free-from table (suc zero) q own at free = absurd (false≢true (sym (own-full q.kept (inr (at-id _ table 1 q own at))) ∙ free))
+free-from table (suc (suc pid)) q own at free = omega arith
 
 -- ---- what the machine tests
 
@@ -197,7 +189,7 @@ module _ {L : Type 0} (g : Ghosts L) (next : ℕ) (config : Config) (recovered :
         allocate_adds lengths no_room s node clear (none_in s are) (λ all. room (sym many ∙ all)) answer out (rw many done)
 
     may-new : length table ≢ 2 ^ 37 → (held : Logged) (s : State) → IsIn g (cache before table) held s → s.fault ≡ false → MayPut g before.log held (length table) node
-    may-new room held s is clear = may-add g next config recovered before table ready beside held s is clear node (own-long table kept.own) (let few = kept.few in omega (arith, few, room))
+    may-new room held s is clear = may-add g next config recovered before table ready beside held s is clear node kept.both (let few = kept.few in omega (arith, few, room))
 
     pub adds-refused : pages ≡ table → (refusal : Refusal) → RefusesPage (length table) refusal
         → (let told : Result ℕ Refusal = Err refusal in Went g.tells g.state g.moment g.left_since g.counts before after (begun_by told (Change (length table) (message_of (Put (Node node))) ∷ [])))

@@ -1,6 +1,7 @@
 -- What the table and the state of a cache hold at an id.
-use Rattle.sled_pagecache.proofs.Names.{◌≡◌, ◌≤◌, ℕ, zero, suc, ◌==◌, ◌||◌, false, List, [], ◌∷◌, map, Some, slice_get, slice_set, slice_index_or, refl, sym, ◌∙◌, ap, subst, arith, false≢true, or_parts, eqb-false, set-get_or, option_map, slice_get-map, none-some, same_Some, get_or_from_slice_get, AllByRecursion, AllZip, is_empty, Content, Chain, told, effect_of_entry, Holds, Hold, IsKept, IsUsers, is_reserved, meta_pid, counter_pid, batch_manifest_pid}
-use Rattle.sled_pagecache.specs.Proper.{AreOwn}
+use Rattle.sled_pagecache.proofs.Names.{◌≡◌, ◌≤◌, ℕ, zero, suc, ◌==◌, ◌||◌, false, List, [], ◌∷◌, map, Some, slice_get, slice_set, slice_index_or, refl, sym, ◌∙◌, ap, subst, arith, false≢true, or_parts, eqb-false, set-get_or, option_map, slice_get-map, get_or-map, none-some, get_or_from_slice_get, AllByRecursion, AllZip, is_empty, Content, Chain, Told, told, effect_of_entry, Holds, Hold, IsKept, IsUsers, is_reserved, meta_pid, counter_pid, batch_manifest_pid}
+use Rattle.sled_pagecache.proofs.ByIds.{all-by-id, at-id, past-two, zip-second}
+use Rattle.sled_pagecache.specs.Proper.{AreOwn, AreRoots, IsCounter, IsOwnAt}
 use Rattle.sled_pagecache.specs.State.{Page}
 use Rattle.sled_pagecache.specs.Table as table
 use Rattle.sled_pagecache.specs.declared.pagecache.page.Page.{Page as KeptPage}
@@ -20,9 +21,7 @@ pub put-back : {A : Type 0} (xs : List A) (i : ℕ) (x : A) → slice_get xs i �
 put-back xs i x at = ap (λ y. slice_set xs i y) (sym (get_or_from_slice_get xs i x x at)) ∙ set-get_or xs i x
 
 pub all-at : {A : Type 0} (P : A → Type 0) (xs : List A) (i : ℕ) (x : A) → AllByRecursion P xs → slice_get xs i ≡ Some x → P x
-all-at P [] i x all at = absurd (none-some x at)
-all-at P (y ∷ xs) zero x all at = subst P (same_Some y x at) all.0
-all-at P (y ∷ xs) (suc i) x all at = all-at P xs i x all.1 at
+all-at P xs i x all at = at-id (λ _. P) xs i x (all-by-id P xs all) at
 
 -- ---- ids
 
@@ -41,35 +40,22 @@ behind-own pid free =
 -- ---- the table
 
 pub kept-at : (chains : List Chain) (pages : List KeptPage) (pid : ℕ) (q : KeptPage) → AllZip IsKept chains pages → slice_get pages pid ≡ Some q → IsKept (slice_index_or chains pid []) q
-kept-at chains [] pid q kept at = absurd (none-some q at)
-kept-at [] (p ∷ pages) pid q kept at = absurd kept
-kept-at (chain ∷ chains) (p ∷ pages) zero q kept at = subst (IsKept chain) (same_Some p q at) kept.0
-kept-at (chain ∷ chains) (p ∷ pages) (suc pid) q kept at = kept-at chains pages pid q kept.1 at
+kept-at chains pages pid q kept at = zip-second IsKept chains pages pid q [] kept at
 
 pub own-at : (pages : List KeptPage) (pid : ℕ) (q : KeptPage) → table.AreOwn pages → 2 ≤ pid → slice_get pages pid ≡ Some q → table.IsFreeOrNode q.kept
-own-at [] pid q own from at = absurd own
-own-at (roots ∷ []) pid q own from at = absurd own
-own-at (roots ∷ counter ∷ pages) zero q own from at = absurd (omega (arith, from))
-own-at (roots ∷ counter ∷ pages) (suc zero) q own from at = absurd (omega (arith, from))
-own-at (roots ∷ counter ∷ pages) (suc (suc pid)) q own from at = all-at _ pages pid q own.2 at
+own-at pages pid q own from at = (past-two table.IsRoots table.IsCounter table.IsFreeOrNode pid q.kept from).1 (at-id _ pages pid q own at)
 
 -- ---- the state
 
 pub content-own : (contents : List Content) (pid : ℕ) (content : Content) → AreOwn contents → 2 ≤ pid → slice_get contents pid ≡ Some content → IsUsers content
-content-own [] pid content own from at = absurd (none-some content at)
-content-own (roots ∷ []) zero content own from at = absurd (omega (arith, from))
-content-own (roots ∷ []) (suc pid) content own from at = absurd (none-some content at)
-content-own (roots ∷ counter ∷ rest) zero content own from at = absurd (omega (arith, from))
-content-own (roots ∷ counter ∷ rest) (suc zero) content own from at = absurd (omega (arith, from))
-content-own (roots ∷ counter ∷ rest) (suc (suc pid)) content own from at = all-at IsUsers rest pid content own.2 at
+content-own contents pid content own from at = (past-two AreRoots IsCounter IsUsers pid content from).1 (at-id IsOwnAt contents pid content own at)
 
 -- a page of the state holds what its chain makes, or is damaged
 pub holds-at : (pages : List Page) (chains : List Chain) (pid : ℕ) (p : Page) → Hold (map told chains) (map (λ (p : Page). p.content) pages)
     → slice_get pages pid ≡ Some p → Holds (told (slice_index_or chains pid [])) p.content
-holds-at [] chains pid p hold at = absurd (none-some p at)
-holds-at (q ∷ pages) [] pid p hold at = absurd hold
-holds-at (q ∷ pages) (chain ∷ chains) zero p hold at = subst (λ (r : Page). Holds (told chain) r.content) (same_Some q p at) hold.0
-holds-at (q ∷ pages) (chain ∷ chains) (suc pid) p hold at = holds-at pages chains pid p hold.1 at
+holds-at pages chains pid p hold at =
+    subst (λ (t : Told). Holds t p.content) (get_or-map told chains pid [])
+    (zip-second Holds (map told chains) (map (λ (p : Page). p.content) pages) pid p.content [] hold (map-at (λ (p : Page). p.content) pages pid p at))
 
 -- the page stands where its chain isn't empty
 pub stands-full : (pages : List Page) (chains : List Chain) (pid : ℕ) → Hold (map told chains) (map (λ (p : Page). p.content) pages)

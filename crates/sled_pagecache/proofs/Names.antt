@@ -45,6 +45,7 @@ pub use Rattle.sled_node.specs.Payloads.Nodes.{ReadsNode}
 pub use Rattle.sled_node.specs.Payloads.Roots.{ReadsRoots}
 pub use Rattle.sled_pagecache.specs.Adding.{HasOneMore, RefusesPage}
 pub use Rattle.sled_pagecache.specs.Answers.{Keeps, stamped, swapped}
+pub use Rattle.sled_pagecache.specs.ByIds.{AllById, IsInOrder}
 pub use Rattle.sled_pagecache.specs.Cache.{Cache, IsAway, IsIn, IsResident, chain_length}
 pub use Rattle.sled_pagecache.specs.Calls.{HasNoRoom, IsBlamed, IsSameOpening, IsStep, StepOver, Steps}
 pub use Rattle.sled_pagecache.specs.ChainReads.{IsFoundAs, chain_at, more, place_of}
@@ -57,7 +58,7 @@ pub use Rattle.sled_pagecache.specs.Lending.{IsGot}
 pub use Rattle.sled_pagecache.specs.Limits.{batch_manifest_pid, counter_pid, meta_pid}
 pub use Rattle.sled_pagecache.specs.LinkTests.{IsTested, TestsFirst}
 pub use Rattle.sled_pagecache.specs.LinkedPages.{HadNoRoom, RefusesTold, RefusesUntold, TakesLink, TellsLink, WasBegun, update_by}
-pub use Rattle.sled_pagecache.specs.Loading.{AreFound, AreOwnSoFar, AreRead, AreRecovered, IsLoaded, IsOpenedWith, IsTable, IsUnread, RefusesOwn, RefusesPages, counter_told, next_id, roots_told, stamps_at_start, told_at_start, told_of_roots}
+pub use Rattle.sled_pagecache.specs.Loading.{AreFound, AreRead, AreRecovered, IsFoundAt, IsLoaded, IsOpenedWith, IsTable, IsUnread, RefusesOwn, RefusesPages, counter_told, next_id, roots_told, stamps_at_start, told_at_start, told_of_roots}
 pub use Rattle.sled_pagecache.specs.Logged.{Adds, AreKept, IsLogged, Logged}
 pub use Rattle.sled_pagecache.specs.Opening.{changes_of_start, fault_of, first_id, missing, opened}
 pub use Rattle.sled_pagecache.specs.Pages.{HoldsChain, IsKept, free_ids, freed_at, is_free, is_resident}
@@ -76,7 +77,7 @@ pub use Rattle.sled_pagecache.specs.Starts.{CrashLeaves, HasAdded, IsBlamedOpeni
 pub use Rattle.sled_pagecache.specs.State.{State, contents_of, free_token, greatest_free, later, page, page_at, stamps_of, with_page}
 pub use Rattle.sled_pagecache.specs.Step.{Allocates, Does, Fails, Finds, FindsContent, Flushes, Gets, IsCorruption, IsGone, IsHindered, IsRefused, Links, LinksContent, LinksNode, Outcome, Replaces, Sizes, Swapped, Swaps, SwapsContent, SwapsPage, UnlessFaulty, UnlessReserved, UnlessStale, is_reserved, outcome, unchanged}
 pub use Rattle.sled_pagecache.specs.Swaps.{IsLinked, IsRaised, RefusesLink, RefusesSwap, Wrote, infos_after, linked_length, update_of}
-pub use Rattle.sled_pagecache.specs.Table.{AreOwn, IsBeside, IsConsistent, IsCounter, IsFreeOrNode, IsRoots, resident_in, stamps_in}
+pub use Rattle.sled_pagecache.specs.Table.{AreOwn, IsBeside, IsConsistent, IsCounter, IsFreeOrNode, IsOwnAt, IsRoots, resident_in, stamps_in}
 pub use Rattle.sled_pagecache.specs.Token.{IsAnswered, Token, pid_of, token}
 pub use Rattle.sled_pagecache.specs.declared.pagecache.call.Answer.{Answer}
 pub use Rattle.sled_pagecache.specs.declared.pagecache.call.Answer.TheVariants.{Allocated, Flushed, Got, Linked, Replaced, Sized}
@@ -101,7 +102,7 @@ pub use Rattle.std.proofs.lemmas.Int.{to_z-of_z}
 pub use Rattle.std.proofs.lemmas.List.{append-nil, append_assoc, drop-map, drop_more, get_or-set_same, get_or_default, get_or_past, length-append, length-drop, length-map, length-set, map-append, map-set, set-get_or, take-append-drop, take-map, take_all, take_more}
 pub use Rattle.std.proofs.lemmas.List.Quantifiers.{Any-push}
 pub use Rattle.std.proofs.lemmas.List.Sums.{sum_by-cons}
-pub use Rattle.std.proofs.lemmas.Option.{get_or_from_slice_get, none-some, same_Some, slice_get-get_or, slice_get-map, slice_get_cases, slice_get_past, slice_get_read, slice_get_within}
+pub use Rattle.std.proofs.lemmas.Option.{IfSome_then, get_or_from_slice_get, none-some, same_Some, slice_get-get_or, slice_get-map, slice_get_cases, slice_get_past, slice_get_read, slice_get_within}
 pub use Rattle.std.proofs.lemmas.Result.{IfErr-weaker, IfOk-weaker, err_from_is_err_and, on_err_weaker, on_ok_weaker}
 pub use Rattle.std.proofs.lemmas.Slice.Zip.{AllZip-long}
 pub use Rattle.std.specs.List.{All, AllByRecursion, AllZip, Any, list_all, sum_by}

@@ -1,9 +1,10 @@
 -- Opening a cache over a log.
-use Rattle.sled_pagecache.proofs.Names.{Option, ⊎_elim, ◌≡◌, ◌≢◌, ◌≤◌, ◌<◌, ◌^◌, ℕ, zero, suc, Bool, false, List, [], ◌∷◌, ◌++◌, length, map, take, drop, None, Some, Result, Ok, Err, refl, sym, ◌∙◌, ap, subst, arith, drop-nil, take-append_seam, drop-append_seam, length-map, take-append-drop, take-map, drop-map, none-some, same_Some, AllZip-long, AllByRecursion, error_of, Read, Write, Error, Refusal, ReportableBug, Io, Corruption, OutOfMemory, LogFull, is_open, open_after, Content, Counter, Roots, Update, Put, contents_after, Event, Change, Pin, Seal, Cancel, seen, holds-after, Message, Entry, Chain, Told, told, effect_of, effect_of_entry, Holds, Hold, AreTold, told-take, reads-open, told_state, is_open-told, now-told, message_of, CanWrite, written-update, Ghosts, Cache, IsOpenedWith, counter_told, told_at_start, Logged, IsLogged, fault_of, missing, changes_of_start, opened, is_fault, Comes, LacksRoom, Proceeds, AreRoots, IsProper, StayProper, Starts, IsFit, RefusesOpening, IsHindrance, HasAdded, CrashLeaves, LacksRoomFor, WasFull, Opens, IsBlamedOpening, MayBeOpened, page, contents_of, Config, Journal}
+use Rattle.sled_pagecache.proofs.Names.{Option, ⊎_elim, ◌≡◌, ◌≢◌, ◌≤◌, ◌<◌, ◌^◌, ℕ, zero, suc, Bool, false, List, [], ◌∷◌, ◌++◌, length, map, take, drop, None, Some, Result, Ok, Err, refl, sym, ◌∙◌, ap, subst, arith, drop-nil, take-append_seam, drop-append_seam, length-map, take-append-drop, take-map, drop-map, none-some, AllZip-long, error_of, Read, Write, Error, Refusal, ReportableBug, Io, Corruption, OutOfMemory, LogFull, is_open, open_after, Content, Counter, Roots, Update, Put, contents_after, Event, Change, Pin, Seal, Cancel, seen, holds-after, Message, Entry, Chain, Told, told, effect_of, effect_of_entry, Holds, Hold, AreTold, told-take, reads-open, told_state, is_open-told, now-told, message_of, CanWrite, written-update, Ghosts, Cache, IsOpenedWith, counter_told, told_at_start, Logged, IsLogged, fault_of, missing, changes_of_start, opened, is_fault, Comes, LacksRoom, Proceeds, IsProper, StayProper, Starts, IsFit, RefusesOpening, IsHindrance, HasAdded, CrashLeaves, LacksRoomFor, WasFull, Opens, IsBlamedOpening, MayBeOpened, page, contents_of, Config, Journal}
 use Rattle.std.specs.List.{slice_get}
 use Rattle.sled_base.specs.declared.types.Error.TheVariants as errors
 use Rattle.sled_base.specs.declared.types.Refusal.TheVariants.{Unsupported}
 use Rattle.sled_log.specs.State as log
+use Rattle.sled_pagecache.proofs.ByIds.{add-by-id, at-id, zip-first}
 use Rattle.sled_pagecache.proofs.Carrying.{Carries, carries, leaves, proper-now}
 use Rattle.sled_pagecache.proofs.PagesAt.{holds_now}
 use Rattle.sled_pagecache.proofs.Lookups.{all-at, map-at}
@@ -11,7 +12,7 @@ use Rattle.sled_pagecache.proofs.Staying.{stay-none, stay-one, stay-take}
 use Rattle.sled_pagecache.proofs.Starting.{told-same, changes-closed}
 use Rattle.sled_pagecache.specs.Logged.{now}
 use Rattle.sled_pagecache.specs.Proceeding as proceeding
-use Rattle.sled_pagecache.specs.Proper.{IsCounter}
+use Rattle.sled_pagecache.specs.Proper.{AreOwn, IsOwnAt}
 use Rattle.sled_pagecache.specs.State.{Page}
 
 -- ---- what is told of the system pages that are missing
@@ -34,15 +35,15 @@ told-start (roots ∷ []) = ((refl, written-update (Put (Counter 0)) (omega arit
 told-start (roots ∷ counter ∷ held) = rw (drop-nil {A = Event Message} (length held), drop-nil {A = Event Update} (length held)) tt
 
 proper-one : IsProper ((message_of (Put (Roots [])) ∷ []) ∷ []) (Roots [] ∷ [])
-proper-one = record { own = tt; short = (omega arith, tt); few = omega arith }
+proper-one = record { own = add-by-id IsOwnAt [] (Roots []) (λ pid. tt) tt; short = (omega arith, tt); few = omega arith }
 
-proper-two : (p : Told) (roots : Content) → AreRoots roots → length p ≤ 10 → IsProper (p ∷ (message_of (Put (Counter 0)) ∷ []) ∷ []) (roots ∷ Counter 0 ∷ [])
-proper-two p roots own short = record { own = (own, tt, tt); short = (short, (omega arith, tt)); few = omega arith }
+proper-two : (p : Told) (roots : Content) → AreOwn (roots ∷ []) → length p ≤ 10 → IsProper (p ∷ (message_of (Put (Counter 0)) ∷ []) ∷ []) (roots ∷ Counter 0 ∷ [])
+proper-two p roots own short = record { own = add-by-id IsOwnAt (roots ∷ []) (Counter 0) own tt; short = (short, (omega arith, tt)); few = omega arith }
 
 stays-start : (pages : List Told) (held : List Content) → Hold pages held → IsProper pages held → StayProper pages held (told_at_start held) (changes_of_start held)
 stays-start [] [] hold proper zero = proper
 stays-start [] [] hold proper (suc n) =
-    stay-one ((message_of (Put (Roots [])) ∷ []) ∷ []) (Roots [] ∷ []) counter_told (Change 1 (Put (Counter 0))) proper-one (proper-two (message_of (Put (Roots [])) ∷ []) (Roots []) tt (omega arith)) n
+    stay-one ((message_of (Put (Roots [])) ∷ []) ∷ []) (Roots [] ∷ []) counter_told (Change 1 (Put (Counter 0))) proper-one (proper-two (message_of (Put (Roots [])) ∷ []) (Roots []) proper-one.own (omega arith)) n
 stays-start (p ∷ []) (roots ∷ []) hold proper n = stay-one (p ∷ []) (roots ∷ []) counter_told (Change 1 (Put (Counter 0))) proper (proper-two p roots proper.own proper.short.0) n
 stays-start (p ∷ q ∷ pages) (roots ∷ counter ∷ held) hold proper n =
     rw (drop-nil {A = Event Message} (length held), drop-nil {A = Event Update} (length held)) (stay-none (p ∷ q ∷ pages) (roots ∷ counter ∷ held) proper n)
@@ -71,30 +72,21 @@ no-fault refusal other = refl
 
 -- ---- a log that a cache left refuses no opening but for a hindrance
 
--- each page of a log that a cache left is fit, by the pages of which the first has this id
-later-fit : (chains : List Chain) (k : ℕ) (chain : Chain) → AllByRecursion (λ (told : Told). length told ≤ 10) (map told chains) → slice_get chains k ≡ Some chain → length chain ≤ 10
-later-fit chains k chain short is =
-    let fits : length (told chain) ≤ 10 = all-at (λ (told : Told). length told ≤ 10) (map told chains) k (told chain) short (map-at told chains k chain is) in
-    let same = length-map chain (λ (entry : Entry). entry.message) in
-    omega (arith, fits, same)
+content-fit : (pid : ℕ) (content : Content) (chain : Chain) → IsOwnAt pid content → Holds (told chain) content → length chain ≤ 10 → IsFit pid chain
+content-fit zero (Roots roots) chain own makes short = (roots, makes)
+content-fit (suc zero) (Counter n) chain own makes short = (n, makes)
+content-fit (suc (suc pid)) content chain own makes short = short
+content-fit pid content chain own makes short = absurd own
 
-roots-of : (content : Content) → AreRoots content → (chain : Chain) → Holds (told chain) content → IsFit 0 chain
-roots-of (Roots roots) are chain makes = (roots, makes)
-roots-of content are chain makes = absurd are
-
-counter-of : (content : Content) → IsCounter content → (chain : Chain) → Holds (told chain) content → IsFit 1 chain
-counter-of (Counter n) is chain makes = (n, makes)
-counter-of content is chain makes = absurd is
-
+-- each page of a log that a cache left is fit
 fit-at : (chains : List Chain) (held : List Content) → Hold (map told chains) held → IsProper (map told chains) held
     → (pid : ℕ) (chain : Chain) → slice_get chains pid ≡ Some chain → IsFit pid chain
-fit-at (c ∷ chains) [] hold proper pid chain is = absurd hold
-fit-at (c ∷ chains) (x ∷ []) hold proper zero chain is = subst (IsFit 0) (same_Some c chain is) (roots-of x proper.own c hold.0)
-fit-at (c ∷ chains) (x ∷ y ∷ held) hold proper zero chain is = subst (IsFit 0) (same_Some c chain is) (roots-of x proper.own.0 c hold.0)
-fit-at (c ∷ d ∷ chains) (x ∷ []) hold proper (suc pid) chain is = absurd hold.1
-fit-at (c ∷ d ∷ chains) (x ∷ y ∷ held) hold proper (suc zero) chain is = subst (IsFit 1) (same_Some d chain is) (counter-of y proper.own.1 d hold.1.0)
-fit-at (c ∷ d ∷ chains) (x ∷ y ∷ held) hold proper (suc (suc pid)) chain is = later-fit chains pid chain proper.short.1.1 is
-fit-at chains held hold proper pid chain is = absurd (none-some chain is)
+fit-at chains held hold proper pid chain is =
+    let at = map-at told chains pid chain is in
+    let holds = zip-first Holds (map told chains) held pid (told chain) hold at in
+    let fits : length (told chain) ≤ 10 = all-at (λ (told : Told). length told ≤ 10) (map told chains) pid (told chain) proper.short at in
+    let same = length-map chain (λ (entry : Entry). entry.message) in
+    content-fit pid holds.0 chain (at-id IsOwnAt held pid holds.0 proper.own holds.1) holds.2 (omega (arith, fits, same))
 
 hindrance : (config : Config) (chains : List Chain) (held : List Content) (refusal : Refusal) → fault_of config ≡ None
     → Hold (map told chains) held → IsProper (map told chains) held → RefusesOpening config chains (error_of refusal) → IsHindrance (error_of refusal)

@@ -1,33 +1,22 @@
 -- What a change of a page from 2 on makes of pages as a cache leaves them.
-use Rattle.sled_pagecache.proofs.Names.{◌≡◌, ◌≤◌, ◌<◌, ◌^◌, ℕ, zero, suc, Bool, true, false, cond, List, [], ◌∷◌, ◌++◌, length, set, Some, slice_get, slice_set, slice_index_or, sym, subst, arith, eq-eqb, ne_eqb, length-append, length-set, get_or_from_slice_get, slice_get_within, AllZip-long, AllByRecursion, applied, WholeNode, is_empty, linked, chains_from, Content, Free, Node, Put, Link, after_link, contents_from, Change, Message, Told, effect_of, Holds, Hold, message_of, IsUsers, IsProper}
+use Rattle.sled_pagecache.proofs.Names.{◌≡◌, ◌≤◌, ◌<◌, ◌^◌, ℕ, Bool, true, false, cond, List, [], ◌∷◌, ◌++◌, length, set, Some, slice_get, slice_set, slice_index_or, sym, subst, arith, eq-eqb, ne_eqb, length-append, length-set, get_or_from_slice_get, AllZip-long, AllByRecursion, applied, WholeNode, is_empty, linked, chains_from, Content, Free, Node, Put, Link, after_link, contents_from, Change, Message, Told, effect_of, Holds, Hold, message_of, IsUsers, IsProper}
 pub use Rattle.sled_node.proofs.Edits.{all_append as all-append}
+use Rattle.sled_pagecache.proofs.ByIds.{add-by-id, all-by-id, by-id-all, past-two, set-by-id}
 use Rattle.sled_node.specs.declared.node.link.Link.{Link as NodeLink}
-use Rattle.sled_pagecache.specs.Proper.{AreOwn}
+use Rattle.sled_pagecache.specs.Proper.{AreRoots, IsCounter, IsOwnAt}
 
 -- ---- lists
 
 pub all-set : {X : Type 0} (P : X → Type 0) (i : ℕ) (xs : List X) (x : X) → AllByRecursion P xs → P x → AllByRecursion P (set xs i x)
-all-set P i [] x h p = tt
-all-set P zero (y ∷ xs) x h p = (p, h.1)
-all-set P (suc i) (y ∷ xs) x h p = (h.0, all-set P i xs x h.1 p)
-
--- ---- the system pages stay
-
-own-set : (contents : List Content) (pid : ℕ) (content : Content) → AreOwn contents → 2 ≤ pid → pid < length contents → IsUsers content → AreOwn (slice_set contents pid content)
-own-set (roots ∷ counter ∷ rest) (suc (suc pid)) content own from lt node = (own.0, own.1, all-set IsUsers pid rest content own.2 node)
-own-set contents pid content own from lt node = absurd (omega (arith, from, lt))
-
-own-add : (contents : List Content) (content : Content) → AreOwn contents → 2 ≤ length contents → IsUsers content → AreOwn (contents ++ content ∷ [])
-own-add (roots ∷ counter ∷ rest) content own from node = (own.0, own.1, all-append IsUsers rest (content ∷ []) own.2 (node, tt))
-own-add contents content own from node = absurd (omega (arith, from))
+all-set P i xs x h p = by-id-all P (set xs i x) (set-by-id (λ _. P) xs i x (all-by-id P xs h) p)
 
 -- ---- a page changes, or is added
 
 pub proper-set : (pages : List Told) (contents : List Content) (pid : ℕ) (told : Told) (content : Content)
-    → IsProper pages contents → 2 ≤ pid → pid < length contents → length told ≤ 10 → IsUsers content
+    → IsProper pages contents → 2 ≤ pid → length told ≤ 10 → IsUsers content
     → IsProper (slice_set pages pid told) (slice_set contents pid content)
-proper-set pages contents pid told content proper from lt fits node = record {
-  own = own-set contents pid content proper.own from lt node;
+proper-set pages contents pid told content proper from fits node = record {
+  own = set-by-id IsOwnAt contents pid content proper.own ((past-two AreRoots IsCounter IsUsers pid content from).0 node);
   short = all-set _ pid pages told proper.short fits;
   few = subst (λ n. n ≤ 2 ^ 37) (sym (length-set contents pid content)) proper.few;
 }
@@ -36,7 +25,7 @@ pub proper-add : (pages : List Told) (contents : List Content) (told : Told) (co
     → IsProper pages contents → 2 ≤ length contents → length contents < 2 ^ 37 → length told ≤ 10 → IsUsers content
     → IsProper (pages ++ told ∷ []) (contents ++ content ∷ [])
 proper-add pages contents told content proper from room fits node = record {
-  own = own-add contents content proper.own from node;
+  own = add-by-id IsOwnAt contents content proper.own ((past-two AreRoots IsCounter IsUsers (length contents) content from).0 node);
   short = all-append _ pages (told ∷ []) proper.short (fits, tt);
   few = let l = length-append contents (content ∷ []) in omega (arith, l, room);
 }
@@ -48,7 +37,7 @@ module _ (pages : List Told) (contents : List Content) (hold : Hold pages conten
   put-proper node lt =
       let long = AllZip-long Holds pages contents hold in
       rw (ne_eqb pid (length pages) (λ same. omega (arith, same, lt, long)), ne_eqb pid (length contents) (λ same. omega (arith, same, lt)))
-      (proper-set pages contents pid (message_of (Put (Node node)) ∷ []) (Node node) proper from lt (omega arith) tt)
+      (proper-set pages contents pid (message_of (Put (Node node)) ∷ []) (Node node) proper from (omega arith) tt)
 
   -- a node on a new page
   pub add-proper : (node : WholeNode) → pid ≡ length contents → length contents < 2 ^ 37
@@ -72,4 +61,4 @@ module _ (pages : List Told) (contents : List Content) (hold : Hold pages conten
       subst (λ content. IsProper (chains_from effect_of pages (Change pid (message_of (Link link)))) (slice_set contents pid (after_link link content)))
       (sym (get_or_from_slice_get contents pid (Node node) Free at))
       (proper-set pages contents pid (linked effect_of (slice_index_or pages pid []) (message_of (Link link))) (Node (applied link node)) proper from
-      (slice_get_within contents pid (Node node) at) (linked-fits (slice_index_or pages pid []) (message_of (Link link)) short) tt)
+      (linked-fits (slice_index_or pages pid []) (message_of (Link link)) short) tt)

@@ -1,12 +1,12 @@
 -- The pages that a cache is opened with.
-use Rattle.sled_pagecache.proofs.Names.{◌≡◌, ◌≤◌, ◌<◌, ◌+◌, ◌^◌, ℕ, zero, suc, Bool, true, false, cond, List, [], ◌∷◌, ◌++◌, length, map, take, drop, set, get_or, slice_get, slice_index_or, Option, None, Some, is_some, Result, Ok, refl, sym, ◌∙◌, ap, subst, arith, eq-eqb, drop-nil, take-nil, take-append_seam, false≢true, nat_tests, length-append, length-map, append-nil, AllZip-long, slice_get-get_or, slice_get_past, slice_get_within, get_or_from_slice_get, none-some, same_Some, AllByRecursion, AllZip, IfSome, DiskPtr, Refusal, Io, Corruption, OutOfMemory, is_open, open_after, is_chain, is_empty, changed, Content, Put, Event, Change, Message, Entry, Chain, Told, told, placed, effect_of, effect_of_entry, holds-made, IsSized, Makes, Holds, Hold, IsLeft, now, told_state, message_of, zip-append, Ghosts, place_of, roots_told, IsLoaded, IsUnread, AreRecovered, AreRead, AreFound, AreOwnSoFar, IsTable, IsOpenedWith, RefusesOwn, RefusesPages, next_id, counter_told, told_of_roots, told_at_start, stamps_at_start, first_id, HoldsChain, IsKept, is_resident, freed_at, free_ids, Proceeds, refusal_in, is_misfit, AllFit, BeginsMisfit, IsFit, Wrote, IsRoots, IsCounter, IsFreeOrNode, AreOwn, IsConsistent, stamps_in, resident_in, CacheInfo, Config, Journal, Kept, Page}
+use Rattle.sled_pagecache.proofs.Names.{◌≡◌, ◌≤◌, ◌<◌, ◌^◌, ℕ, zero, suc, Bool, true, false, cond, List, [], ◌∷◌, ◌++◌, length, map, take, drop, set, get_or, slice_get, slice_index_or, Option, None, Some, is_some, Result, Ok, refl, sym, ◌∙◌, ap, subst, arith, eq-eqb, drop-nil, take-nil, take-append_seam, false≢true, nat_tests, length-append, length-map, append-nil, AllZip-long, slice_get-get_or, slice_get_past, slice_get_within, none-some, same_Some, AllByRecursion, AllZip, IfSome, DiskPtr, Refusal, Io, Corruption, OutOfMemory, is_open, open_after, is_chain, is_empty, changed, Content, Put, Event, Change, Message, Entry, Chain, Told, told, placed, effect_of, effect_of_entry, holds-made, IsSized, Makes, Holds, Hold, IsLeft, now, told_state, message_of, zip-append, Ghosts, place_of, roots_told, IsLoaded, IsUnread, AreRecovered, AreRead, AreFound, IsFoundAt, IsOwnAt, IfSome_then, IsTable, IsOpenedWith, RefusesOwn, RefusesPages, next_id, counter_told, told_of_roots, told_at_start, stamps_at_start, first_id, HoldsChain, IsKept, is_resident, freed_at, free_ids, Proceeds, refusal_in, is_misfit, AllFit, BeginsMisfit, IsFit, Wrote, IsRoots, IsCounter, IsFreeOrNode, AreOwn, IsConsistent, stamps_in, resident_in, CacheInfo, Config, Journal, Kept, Page}
 use Rattle.std.proofs.lemmas.List.{get_or-set_other}
 use Rattle.sled_base.specs.declared.kinds.LogKind.TheVariants as effects
 use Rattle.sled_log.specs.Chains.{begun as begin_page}
 use Rattle.sled_log.specs.Contents as contents
 use Rattle.sled_log.specs.ZipLaws.{zip-at}
-use Rattle.sled_node.proofs.Places.{all_so}
 use Rattle.sled_node.specs.Meta as meta
+use Rattle.sled_pagecache.proofs.ByIds.{add-by-id, all-by-id, at-id, by-id-all, past-two, zip-first, zip-second}
 use Rattle.sled_pagecache.proofs.ProperPages.{all-append}
 use Rattle.sled_pagecache.proofs.Linked.{full-free}
 use Rattle.sled_pagecache.proofs.OwnPages.{IsOwn, own-one, misfit-unfit, first-pointer}
@@ -20,10 +20,6 @@ use Rattle.sled_pagecache.specs.declared.pagecache.page.Kept.TheVariants as kept
 new-chain : (held : List Chain) (pid : ℕ) (entry : Entry) → pid ≡ length held → begin_page effect_of_entry held pid entry ≡ held ++ (entry ∷ []) ∷ []
 new-chain held pid entry is = ap (λ b. cond b (held ++ (entry ∷ []) ∷ []) (set held pid (entry ∷ []))) (eq-eqb pid (length held) is)
 
-pub own-two : (pages : List Page) (page : Page) → length pages ≡ 1 → AreOwnSoFar pages → IsCounter page.kept → AreOwnSoFar (pages ++ page ∷ [])
-own-two (roots ∷ []) page one own is = (own, is, tt)
-own-two pages page one own is = absurd (omega (arith, one))
-
 module _ {L : Type 0} (g : Ghosts L) where
   module _ (old new : Journal L) (pid stamp : ℕ) (content : Content) (info : CacheInfo) (wrote : Wrote g.tells g.state g.moment g.left_since g.counts g.is_full old new pid (Put content) stamp (Ok info)) where
     abbrev entry : Entry
@@ -35,7 +31,7 @@ module _ {L : Type 0} (g : Ghosts L) where
         → effect_of (message_of (Put content)) ≡ effects.Replace
         → page.infos.items ≡ info ∷ []
         → ((chain : Chain) → Makes (told chain) content → HoldsChain chain page.kept)
-        → AreOwnSoFar (pages ++ page ∷ [])
+        → IsOwnAt pid page.kept
         → IsTable g.tells (now effect_of_entry (g.state new.log)) after
     own-table pages before after page table more same last few effect infos holds own =
         let one = ap length infos in
@@ -48,7 +44,7 @@ module _ {L : Type 0} (g : Ghosts L) where
               wrote.chains known ∙ ap (λ kind. changed effect_of_entry kind held pid entry) effect ∙ new-chain held pid entry (last ∙ long) in
               let kept : IsKept (entry ∷ []) page = record { places = λ _. sym (ap (map place_of) infos); long = sym (ap length infos); holds = holds (entry ∷ []) (content, wrote.is, refl) } in
               subst (λ (l : List Chain). AllZip IsKept l (pages ++ page ∷ [])) (sym is) (zip-append IsKept held pages ((entry ∷ []) ∷ []) (page ∷ []) (table.kept known) (kept, tt));
-          hold = (own, all-append _ pages (page ∷ []) table.hold.1 ((omega (arith, one)), tt));
+          hold = (add-by-id _ pages page table.hold.0 (subst (λ n. IsOwnAt n page.kept) last own), all-append _ pages (page ∷ []) table.hold.1 ((omega (arith, one)), tt));
           few = let l = length-append pages (page ∷ []) in omega (arith, l, last, few);
           chains_are = λ known. went-chains g.tells g.state g.moment g.left_since g.counts old new (Change pid (message_of (Put content)) ∷ []) wrote.went known wrote.cause.fault (table.chains_are known);
           sized = wrote.sized;
@@ -64,10 +60,6 @@ module _ {L : Type 0} (g : Ghosts L) where
       subst (λ (l : List Page). Proceeds g old new (told_of_roots l) (refusal_in result)) (sym empty)
       (subst (λ (r : meta.Roots). Proceeds g old new (Change 0 (message_of (Put (contents.Roots r))) ∷ []) (refusal_in result)) none
       (proceeds-told g old new (Change 0 (message_of (Put (contents.Roots roots)))) result only clear usable wrote.went wrote.cause))
-
-pub own-first : (pages : List Page) (page : Page) → pages ≡ [] → IsRoots page.kept → AreOwnSoFar (pages ++ page ∷ [])
-own-first [] page none is = is
-own-first (other ∷ pages) page none is = (let e = none in cc)
 
 -- ---- the contents of the system pages
 
@@ -103,12 +95,17 @@ module _ {tells : Type 0} (held : List Chain) (roots : meta.Roots) (n : ℕ) (ma
       → AreRead tells held (set (set pages 0 first) 1 second) (Some n)
   read-both then (x ∷ y ∷ pages) p q first second same are long p-is p-stamp p-infos p-kept q-is q-stamp q-infos q-kept counts = record {
     kept = λ known. by held (makes known) (same known) (are.kept known) (counts known);
-    hold = (subst IsRoots (sym p-kept) tt, n, q-kept, refl, are.hold.1.1);
+    hold = (found, λ few. absurd (omega (arith, few)));
     few = are.few;
     chains_are = are.chains_are;
     sized = are.sized;
   }
     where
+      found : (k : ℕ) → IfSome (slice_get (first ∷ second ∷ pages) k) (λ page. IsFoundAt (Some n) k page.kept)
+      found zero = subst IsRoots (sym p-kept) tt
+      found (suc zero) = (n, q-kept, refl)
+      found (suc (suc k)) = all-by-id _ pages are.hold.1.1 k
+
       by : (held : List Chain) → Makes (told (slice_index_or held 0 [])) (contents.Roots roots) → then ≡ held → AllZip IsLoaded held (x ∷ y ∷ pages) → Makes (told (slice_index_or then 1 [])) (contents.Counter n)
           → AllZip IsLoaded held (set (set (x ∷ y ∷ pages) 0 first) 1 second)
       by (c ∷ d ∷ rest) makes same loaded counts =
@@ -147,32 +144,27 @@ own-refuses pid held then pages refusal same are known lt first r = absurd r
 
 -- ---- the first page that no cache leaves so
 
-roots-fit : (chain : Chain) (held : Kept) → IsRoots held → HoldsChain chain held → IsFit 0 chain
-roots-fit chain (kept.Roots roots) is holds = (roots, holds)
-roots-fit chain held is holds = absurd is
-
 short-by : (pid : ℕ) (page : Page) → is_misfit pid page ≡ false → length page.infos.items ≤ 10
 short-by pid page fits = grind (arith, nat_tests)
 
-later-fit : (pid k : ℕ) (held : List Chain) (pages : List Page) → AllZip IsLoaded held pages
-    → IfSome (slice_get pages k) (λ page. is_misfit pid page ≡ false) → IfSome (slice_get held k) (λ chain. length chain ≤ 10)
-later-fit pid k [] [] loaded fits = tt
-later-fit pid zero (c ∷ held) (p ∷ pages) loaded fits =
-    let short = short-by pid p fits in
-    let same = loaded.0.kept.long in
-    omega (arith, short, same)
-later-fit pid (suc k) (c ∷ held) (p ∷ pages) loaded fits = later-fit pid k held pages loaded.1 fits
-later-fit pid k held pages loaded fits = absurd loaded
+kept-fit : (counter : Option ℕ) (pid : ℕ) (chain : Chain) (held : Kept) → HoldsChain chain held → IsFoundAt counter pid held → length chain ≤ 10 → IsFit pid chain
+kept-fit counter zero chain (kept.Roots roots) holds found short = (roots, holds)
+kept-fit counter (suc zero) chain held holds found short = (found.0, subst (HoldsChain chain) found.1 holds)
+kept-fit counter (suc (suc pid)) chain held holds found short = short
+kept-fit counter pid chain held holds found short = absurd found
 
 fits-at : (held : List Chain) (pages : List Page) (counter : Option ℕ) → AllZip IsLoaded held pages → AreFound pages counter
     → (k : ℕ) → IfSome (slice_get pages k) (λ page. is_misfit k page ≡ false) → IfSome (slice_get held k) (IsFit k)
-fits-at (c ∷ held) [] counter loaded found k fits = absurd loaded
-fits-at (c ∷ held) (p ∷ []) counter loaded found zero fits = roots-fit c p.kept found.0 loaded.0.kept.holds
-fits-at (c ∷ held) (p ∷ q ∷ pages) counter loaded found zero fits = roots-fit c p.kept found.0 loaded.0.kept.holds
-fits-at (c ∷ d ∷ held) (p ∷ []) counter loaded found (suc k) fits = absurd loaded.1
-fits-at (c ∷ d ∷ held) (p ∷ q ∷ pages) counter loaded found (suc zero) fits = (found.1, subst (HoldsChain d) found.2 loaded.1.0.kept.holds)
-fits-at (c ∷ d ∷ held) (p ∷ q ∷ pages) counter loaded found (suc (suc k)) fits = later-fit (suc (suc k)) k held pages loaded.1.1 fits
-fits-at held pages counter loaded found k fits = tt
+fits-at held pages counter loaded found k fits = by (slice_get held k) refl
+  where
+    by : (o : Option Chain) → slice_get held k ≡ o → IfSome o (IsFit k)
+    by None at = tt
+    by (Some chain) at =
+        let paired = zip-first IsLoaded held pages k chain loaded at in
+        let page = paired.0 in
+        let short = short-by k page (subst (λ (o : Option Page). IfSome o (λ page. is_misfit k page ≡ false)) paired.1 fits) in
+        let same = paired.2.kept.long in
+        kept-fit counter k chain page.kept paired.2.kept.holds (at-id _ pages k page found.0 paired.1) (omega (arith, short, same))
 
 pub begins-amiss : {tells : Type 0} (held : List Chain) (pages : List Page) (counter : Option ℕ) (pointer : DiskPtr) → AreRead tells held pages counter → tells → BeginsMisfit pages pointer
     → RefusesPages held (Corruption (Some pointer))
@@ -181,7 +173,7 @@ begins-amiss held pages counter pointer are known begins =
     let page = begins.page in
     let chain = slice_index_or held begins.pid [] in
     let lt = slice_get_within pages begins.pid page begins.is in
-    let at : IsLoaded chain page = subst (IsLoaded chain) (get_or_from_slice_get pages begins.pid page page begins.is) (zip-at IsLoaded begins.pid held pages [] page loaded lt) in
+    let at = zip-second IsLoaded held pages begins.pid page [] loaded begins.is in
     amiss-refuses begins.pid held pages pointer loaded are.few lt (λ before le. fits-at held pages counter loaded are.hold before (begins.first before le))
     (misfit-unfit begins.pid chain page at begins.misfit, first-pointer chain page.infos.items pointer at.at begins.begins)
 
@@ -192,20 +184,18 @@ all-kept [] [] loaded = tt
 all-kept (c ∷ held) (p ∷ pages) loaded = (loaded.0.kept, all-kept held pages loaded.1)
 all-kept held pages loaded = absurd loaded
 
-all-short : (n : ℕ) (pages : List Page) → ((k : ℕ) → IfSome (slice_get pages k) (λ page. is_misfit (n + k) page ≡ false)) → AllByRecursion (λ page. length page.infos.items ≤ 10) pages
-all-short n [] fit = tt
-all-short n (p ∷ pages) fit =
-    (short-by (n + 0) p (fit 0), all-short (n + 1) pages (λ k. subst (λ m. IfSome (slice_get pages k) (λ (page : Page). is_misfit m page ≡ false)) (let e : n + suc k ≡ n + 1 + k = omega arith in e) (fit (suc k))))
-
-own-found : (pages : List Page) (counter : Option ℕ) → AreFound pages counter → AreOwnSoFar pages
-own-found [] counter found = tt
-own-found (p ∷ []) counter found = found.0
-own-found (p ∷ q ∷ pages) counter found = (found.0, subst IsCounter (sym found.2) tt, all_so {P = λ (page : Page). IsUnread page.kept} {Q = λ (page : Page). IsFreeOrNode page.kept} (λ page. unread-node page.kept) pages found.4)
+own-found : (pages : List Page) (counter : Option ℕ) → AreFound pages counter → AreOwn pages
+own-found pages counter found k = IfSome_then (slice_get pages k) (found.0 k) (λ page. by k page.kept)
+  where
+    by : (k : ℕ) (held : Kept) → IsFoundAt counter k held → IsOwnAt k held
+    by zero held is = is
+    by (suc zero) held is = subst IsCounter (sym is.1) tt
+    by (suc (suc k)) held is = unread-node held is
 
 pub read-table : (tells : Type 0) (held : List Chain) (pages : List Page) (counter : Option ℕ) → AreRead tells held pages counter → AllFit pages → IsTable tells held pages
 read-table tells held pages counter are fit = record {
   kept = λ known. all-kept held pages (are.kept known);
-  hold = (own-found pages counter are.hold, all-short 0 pages (λ k. subst (λ m. IfSome (slice_get pages k) (λ (page : Page). is_misfit m page ≡ false)) (let e : k ≡ 0 + k = omega arith in e) (fit k)));
+  hold = (own-found pages counter are.hold, by-id-all _ pages (λ k. IfSome_then (slice_get pages k) (fit k) (λ page. short-by k page)));
   few = are.few;
   chains_are = are.chains_are;
   sized = are.sized;
@@ -228,19 +218,8 @@ all-fresh held pages loaded = absurd loaded
 
 -- ---- which contents lie in memory
 
-all-at : (pages : List Page) (k : ℕ) → AllByRecursion (λ page. IsUnread page.kept) pages → IfSome (slice_get pages k) (λ page. IsUnread page.kept)
-all-at [] k all = tt
-all-at (p ∷ pages) zero all = all.0
-all-at (p ∷ pages) (suc k) all = all-at pages k all.1
-
 pub read-unread : {tells : Type 0} (held : List Chain) (pages : List Page) (counter : Option ℕ) → AreRead tells held pages counter → (pid : ℕ) → 2 ≤ pid → IfSome (slice_get pages pid) (λ page. IsUnread page.kept)
-read-unread held pages counter are = by pages are.hold
-  where
-    by : (pages : List Page) → AreFound pages counter → (pid : ℕ) → 2 ≤ pid → IfSome (slice_get pages pid) (λ page. IsUnread page.kept)
-    by [] found pid from = tt
-    by (p ∷ []) found (suc pid) from = tt
-    by (p ∷ q ∷ pages) found (suc (suc pid)) from = all-at pages pid found.4
-    by pages found pid from = absurd (omega (arith, from))
+read-unread held pages counter are pid from = IfSome_then (slice_get pages pid) (are.hold.0 pid) (λ page. (past-two IsRoots _ IsUnread pid page.kept from).1)
 
 -- no page is there
 pub past-both : (old new : List Page) → length old < 2 → length new ≡ 2 → (pid : ℕ) → 2 ≤ pid → slice_get new pid ≡ slice_get old pid
@@ -314,15 +293,12 @@ module _ {L : Type 0} (g : Ghosts L) where
       → IsConsistent g.tells g.state new pages free
   table-consistent old new before pages free done closed table both frees = record {
     beside = λ clear. record { usable = done.reaches.usable clear; closed = stays-closed old new (told_at_start before) done closed (told-closed before); kept = table.kept; chains = table.chains_are; sized = table.sized };
-    own = whole pages both table.hold.0;
+    own = table.hold.0;
+    both = omega (arith, both);
     short = table.hold.1;
     few = table.few;
     free = frees;
   }
-    where
-      whole : (pages : List Page) → 1 < length pages → AreOwnSoFar pages → AreOwn pages
-      whole (p ∷ q ∷ pages) both own = own
-      whole pages both own = absurd (omega (arith, both))
 
 -- ---- what the cache is opened with
 
@@ -344,15 +320,16 @@ opened-with config chains pages counter stamps next recovered are known stamps-a
   where
     by : (chains : List Chain) (pages : List Page) → AllZip IsLoaded chains pages → AreFound pages counter → stamps ≡ stamps_at_start pages
         → (held : List Content) → Hold (map told chains) held → IsOpenedWith config held stamps next recovered
-    by [] [] loaded found stamps-are [] hold = record { stamps_are = stamps-are; next_is = next-is ∙ ap (next_id config.idgen_persist_interval) found; recovered_is = recovered-is ∙ ap is_some found }
-    by (c ∷ []) (p ∷ []) loaded found stamps-are (x ∷ []) hold = record { stamps_are = stamps-are; next_is = next-is ∙ ap (next_id config.idgen_persist_interval) found.1; recovered_is = recovered-is ∙ ap is_some found.1 }
+    by [] [] loaded found stamps-are [] hold = record { stamps_are = stamps-are; next_is = next-is ∙ ap (next_id config.idgen_persist_interval) (found.1 (omega arith)); recovered_is = recovered-is ∙ ap is_some (found.1 (omega arith)) }
+    by (c ∷ []) (p ∷ []) loaded found stamps-are (x ∷ []) hold = record { stamps_are = stamps-are; next_is = next-is ∙ ap (next_id config.idgen_persist_interval) (found.1 (omega arith)); recovered_is = recovered-is ∙ ap is_some (found.1 (omega arith)) }
     by (c ∷ d ∷ chains) (p ∷ q ∷ pages) loaded found stamps-are (x ∷ y ∷ held) hold =
         let wide : length pages ≡ length chains = AllZip-long IsLoaded chains pages loaded.1.1 in
         let long : length held ≡ length (map told chains) = AllZip-long Holds (map told chains) held hold.1.1 in
         let same = length-map chains told in
+        let read = found.0 1 in
         record {
           stamps_are = rw (drop-nil {A = Content} (length held)) (stamps-are ∙ zeros (p ∷ q ∷ pages) (x ∷ y ∷ held) (omega (arith, wide, long, same)));
-          next_is = next-is ∙ counted config.idgen_persist_interval found.1 q.kept counter d x y held found.2 found.3 loaded.1.0.kept.holds hold.1.0;
-          recovered_is = recovered-is ∙ ap is_some found.3;
+          next_is = next-is ∙ counted config.idgen_persist_interval read.0 q.kept counter d x y held read.1 read.2 loaded.1.0.kept.holds hold.1.0;
+          recovered_is = recovered-is ∙ ap is_some read.2;
         }
     by chains pages loaded found stamps-are held hold = absurd (assumption (loaded, hold))

@@ -1,7 +1,8 @@
 -- What always holds of a cache's table stays so where a page from 2 on changes, or one is added.
-use Rattle.sled_pagecache.proofs.Names.{◌≡◌, ◌≤◌, ◌<◌, ◌+◌, ◌^◌, ℕ, zero, suc, Bool, true, false, cond, List, [], ◌∷◌, ◌++◌, length, map, Some, Result, Ok, Err, slice_get, slice_set, refl, sym, ◌∙◌, ap, subst, arith, length-append, length-set, none-some, same_Some, AllByRecursion, AllZip, list_all, LogKind, Read, Write, Refusal, Io, is_open, open_after, Counts, is_linking, may_follow, is_chain, Event, Change, Message, Entry, Chain, Told, told, effect_of, effect_of_entry, IsSized, AreChains, chains-are, now-told, zip-append, zip-set, WholeNode, chain_at, Went, begun_by, now-Went, IsKept, is_free, free_ids, IsFreeOrNode, AreOwn, IsConsistent, Journal, Page}
+use Rattle.sled_pagecache.proofs.Names.{◌≡◌, ◌≤◌, ◌<◌, ◌+◌, ◌^◌, ℕ, zero, suc, Bool, true, false, cond, List, [], ◌∷◌, ◌++◌, length, map, Some, Result, Ok, Err, slice_get, slice_set, refl, sym, ◌∙◌, ap, subst, arith, length-append, length-set, none-some, same_Some, AllByRecursion, AllZip, list_all, LogKind, Read, Write, Refusal, Io, is_open, open_after, Counts, is_linking, may_follow, is_chain, Event, Change, Message, Entry, Chain, Told, told, effect_of, effect_of_entry, IsSized, AreChains, chains-are, now-told, zip-append, zip-set, WholeNode, chain_at, Went, begun_by, now-Went, IsKept, is_free, free_ids, IsCounter, IsFreeOrNode, IsRoots, IsConsistent, Journal, Page}
 use Rattle.sled_base.specs.declared.kinds.LogKind.TheVariants as kinds
 use Rattle.sled_log.specs.State as log
+use Rattle.sled_pagecache.proofs.ByIds.{add-by-id, past-two, set-by-id}
 use Rattle.sled_pagecache.proofs.ProperPages.{all-set, all-append}
 use Rattle.sled_pagecache.specs.declared.pagecache.page.Kept.TheVariants as kept
 
@@ -63,18 +64,6 @@ pub record IsSet (tells : Type 0) (old new : log.State Entry) (pid : ℕ) (page 
   pub chains : tells → AreChains effect_of_entry (log.now effect_of_entry new)
   pub sized : tells → AllByRecursion IsSized (log.now effect_of_entry new)
 
-own-set : (pages : List Page) (pid : ℕ) (page : Page) → AreOwn pages → 2 ≤ pid → IsFreeOrNode page.kept → AreOwn (slice_set pages pid page)
-own-set [] pid page own from node = absurd own
-own-set (roots ∷ []) pid page own from node = absurd own
-own-set (roots ∷ counter ∷ rest) zero page own from node = absurd (omega (arith, from))
-own-set (roots ∷ counter ∷ rest) (suc zero) page own from node = absurd (omega (arith, from))
-own-set (roots ∷ counter ∷ rest) (suc (suc pid)) page own from node = (own.0, own.1, all-set _ pid rest page own.2 node)
-
-own-add : (pages : List Page) (page : Page) → AreOwn pages → IsFreeOrNode page.kept → AreOwn (pages ++ page ∷ [])
-own-add [] page own node = absurd own
-own-add (roots ∷ []) page own node = absurd own
-own-add (roots ∷ counter ∷ rest) page own node = (own.0, own.1, all-append _ rest (page ∷ []) own.2 (node, tt))
-
 module _ {L : Type 0} (tells : Type 0) (state : L → log.State Entry) (old new : Journal L) (pages : List Page) (free free_then : List ℕ) (c : IsConsistent tells state old pages free) (ready : old.fault ≡ false) where
   pub consistent-set : (pid : ℕ) (page : Page) → 2 ≤ pid → IsFreeOrNode page.kept → length page.infos.items ≤ 10
       → (new.fault ≡ false → IsSet tells (state old.log) (state new.log) pid page)
@@ -93,7 +82,8 @@ module _ {L : Type 0} (tells : Type 0) (state : L → log.State Entry) (old new 
           chains = done.chains;
           sized = done.sized;
         };
-    own = own-set pages pid page c.own from node;
+    own = set-by-id _ pages pid page c.own ((past-two IsRoots IsCounter IsFreeOrNode pid page.kept from).0 node);
+    both = subst (λ n. 2 ≤ n) (sym (length-set pages pid page)) c.both;
     short = all-set _ pid pages page c.short short;
     few = subst (λ n. n ≤ 2 ^ 37) (sym (length-set pages pid page)) c.few;
     free = frees;
@@ -115,6 +105,7 @@ module _ {L : Type 0} (tells : Type 0) (state : L → log.State Entry) (old new 
           sized = λ known. subst (AllByRecursion IsSized) (sym (same known clear)) (beside.sized known);
         };
     own = c.own;
+    both = c.both;
     short = c.short;
     few = c.few;
     free = c.free;
@@ -152,7 +143,8 @@ module _ {L : Type 0} (tells : Type 0) (state : L → log.State Entry) (old new 
         chains = still-chains clear;
         sized = sized;
       };
-      own = own-add pages page c.own holds-node;
+      own = add-by-id _ pages page c.own ((past-two IsRoots IsCounter IsFreeOrNode (length pages) page.kept c.both).0 holds-node);
+      both = let l = length-append pages (page ∷ []) in let b = c.both in omega (arith, l, b);
       short = all-append _ pages (page ∷ []) c.short (short, tt);
       few = let l = length-append pages (page ∷ []) in omega (arith, l, room);
       free = frees;

@@ -1,5 +1,6 @@
 pub mod Limits
 pub mod Token
+pub mod ByIds
 pub mod State
 pub mod Step
 pub mod Proper

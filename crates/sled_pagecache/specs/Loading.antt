@@ -10,6 +10,7 @@ use Rattle.sled_log.specs.Events.{Event, Change}
 use Rattle.sled_log.specs.Messages.{Message, Chain, effect_of_entry}
 use Rattle.sled_log.specs.Pages.{IsSized, freed_of}
 use Rattle.sled_log.specs.Writing.{message_of}
+use Rattle.sled_pagecache.specs.ByIds.{AllById, IsInOrder}
 use Rattle.sled_pagecache.specs.Opening.{opened, first_id}
 use Rattle.sled_pagecache.specs.Pages.{IsKept, freed_at}
 use Rattle.sled_pagecache.specs.Starts.{IsFit, BeginsAmiss, has_own}
@@ -34,16 +35,11 @@ IsUnread Away = Unit {0}
 IsUnread other = ⊥
 
 -- The named roots and the counter were read, as far as their pages are there, and no other content.
-abbrev pub AreFound : List Page → Option ℕ → Type 0
-AreFound [] counter = counter ≡ None
-AreFound (roots ∷ []) counter = IsRoots roots.kept × (counter ≡ None)
-AreFound (roots ∷ own ∷ pages) counter = IsRoots roots.kept × (n : ℕ) × (own.kept ≡ Counter n) × (counter ≡ Some n) × AllByRecursion (λ page. IsUnread page.kept) pages
+abbrev pub IsFoundAt : Option ℕ → ℕ → Kept → Type 0
+IsFoundAt counter = IsInOrder IsRoots (λ kept. (n : ℕ) × (kept ≡ Counter n) × (counter ≡ Some n)) IsUnread
 
--- the system pages are kept so, as far as they are there
-abbrev pub AreOwnSoFar : List Page → Type 0
-AreOwnSoFar [] = Unit {0}
-AreOwnSoFar (roots ∷ []) = IsRoots roots.kept
-AreOwnSoFar (roots ∷ counter ∷ pages) = AreOwn (roots ∷ counter ∷ pages)
+abbrev pub AreFound : List Page → Option ℕ → Type 0
+AreFound pages counter = AllById (λ pid page. IsFoundAt counter pid page.kept) pages × (length pages < 2 → counter ≡ None)
 
 -- Pages beside the chains of a log: each is so by its chain, and all of them together hold such contents.
 pub record AreBeside (tells : Type 0) (chains : List Chain) (pages : List Page) (Is : Chain → Page → Type 0) (Hold : List Page → Type 0) : Type 0 where
@@ -63,7 +59,7 @@ AreRead tells chains pages counter = AreBeside tells chains pages IsLoaded (λ r
 
 -- the table of a cache
 abbrev pub IsTable : Type 0 → List Chain → List Page → Type 0
-IsTable tells chains pages = AreBeside tells chains pages IsKept (λ kept. AreOwnSoFar kept × AllByRecursion (λ page. length page.infos.items ≤ most_messages) kept)
+IsTable tells chains pages = AreBeside tells chains pages IsKept (λ kept. AreOwn kept × AllByRecursion (λ page. length page.infos.items ≤ most_messages) kept)
 
 -- ---- why pages are refused
 

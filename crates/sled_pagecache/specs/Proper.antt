@@ -1,10 +1,11 @@
 -- Pages as a cache leaves them.
-use Rattle.std.specs.Prelude.{◌≤◌, ℕ, List, [], ◌∷◌, length, take}
+use Rattle.std.specs.Prelude.{◌≤◌, ℕ, List, length, take}
 use Rattle.std.specs.List.{AllByRecursion}
 use Rattle.sled_log.specs.Chains.{chains_after}
 use Rattle.sled_log.specs.Contents.{Content, Free, Counter, Roots, Node, Damaged, Update, contents_after}
 use Rattle.sled_log.specs.Events.{Event}
 use Rattle.sled_log.specs.Messages.{Message, Told, effect_of}
+use Rattle.sled_pagecache.specs.ByIds.{AllById, IsInOrder}
 use Rattle.sled_pagecache.specs.Limits.{most_messages, most_pages}
 
 abbrev pub AreRoots : Content → Type 0
@@ -23,10 +24,11 @@ IsUsers Damaged = Unit {0}
 IsUsers other = ⊥
 
 -- page 0 holds the named roots and page 1 the counter, as far as they are there, and no other page does
+abbrev pub IsOwnAt : ℕ → Content → Type 0
+IsOwnAt = IsInOrder AreRoots IsCounter IsUsers
+
 abbrev pub AreOwn : List Content → Type 0
-AreOwn [] = Unit {0}
-AreOwn (roots ∷ []) = AreRoots roots
-AreOwn (roots ∷ counter ∷ contents) = AreRoots roots × IsCounter counter × AllByRecursion IsUsers contents
+AreOwn contents = AllById IsOwnAt contents
 
 -- at most 10 messages make a page, and there are at most 2^37 pages
 pub record IsProper (pages : List Told) (contents : List Content) : Type 0 where

@@ -4,6 +4,7 @@ use Rattle.sled_base.specs.declared.types.DiskPtr.{DiskPtr}
 use Rattle.sled_base.specs.declared.types.page_state.PageState.{PageState}
 use Rattle.sled_base.specs.declared.types.page_state.PageState.TheVariants as said
 use Rattle.sled_log.specs.Limits.{head_size}
+use Rattle.sled_pagecache.specs.ByIds.{AllById}
 use Rattle.sled_pagecache.specs.Limits.{most_messages}
 use Rattle.sled_pagecache.specs.Pages.{is_free}
 use Rattle.sled_pagecache.specs.declared.pagecache.chain.CacheInfo.{CacheInfo}
@@ -38,7 +39,7 @@ is_misfit pid page = nat_lt most_messages (length page.infos.items) || (nat_lt p
 
 -- there is no such page
 abbrev pub AllFit : List Page → Type 0
-AllFit pages = (pid : ℕ) → IfSome (slice_get pages pid) (λ page. is_misfit pid page ≡ false)
+AllFit pages = AllById (λ pid page. is_misfit pid page ≡ false) pages
 
 -- the pointer is that of the first message of the first such page, by id
 pub record BeginsMisfit (pages : List Page) (pointer : DiskPtr) : Type 0 where

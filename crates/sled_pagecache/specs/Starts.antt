@@ -1,5 +1,5 @@
 -- What opening a page cache over a log does.
-use Rattle.std.specs.Prelude.{◌≡◌, ◌≢◌, ◌⊎◌, ◌<◌, ◌≤◌, ℕ, zero, suc, Bool, true, false, List, [], ◌∷◌, ◌++◌, length, map, slice_get, Some, None, Result, Ok, Err, IfErr, IfSome, ⊤}
+use Rattle.std.specs.Prelude.{◌≡◌, ◌≢◌, ◌⊎◌, ◌<◌, ◌≤◌, ℕ, Bool, true, false, List, [], ◌∷◌, ◌++◌, length, map, slice_get, Some, None, Result, Ok, Err, IfErr, IfSome, ⊤}
 use Rattle.sled_base.specs.declared.types.Device.TheVariants.{Read, Write}
 use Rattle.sled_base.specs.declared.types.DiskPtr.{DiskPtr}
 use Rattle.sled_base.specs.declared.types.Error.{Error}
@@ -16,6 +16,7 @@ use Rattle.sled_log.specs.Messages.{Message, Chain, Told, told, effect_of_entry}
 use Rattle.sled_log.specs.Reading.{Makes}
 use Rattle.sled_log.specs.State.{State, StopsLeave, told_state}
 use Rattle.sled_log.specs.declared.log.Log.{Ghosts}
+use Rattle.sled_pagecache.specs.ByIds.{IsInOrder}
 use Rattle.sled_pagecache.specs.Cache.{Cache, IsResident, IsIn}
 use Rattle.sled_pagecache.specs.Calls.{HasNoRoom}
 use Rattle.sled_pagecache.specs.ChainReads.{chain_at}
@@ -44,9 +45,7 @@ has_own (roots ∷ counter ∷ contents) = true
 
 -- the chain is that of a page as a cache leaves it at this id
 abbrev pub IsFit : ℕ → Chain → Type 0
-IsFit zero chain = (roots : meta.Roots) × Makes (told chain) (content.Roots roots)
-IsFit (suc zero) chain = (n : ℕ) × Makes (told chain) (content.Counter n)
-IsFit (suc (suc pid)) chain = length chain ≤ most_messages
+IsFit = IsInOrder (λ chain. (roots : meta.Roots) × Makes (told chain) (content.Roots roots)) (λ chain. (n : ℕ) × Makes (told chain) (content.Counter n)) (λ chain. length chain ≤ most_messages)
 
 -- the pointer is that of the first message of the first page, by id, that isn't so
 pub record BeginsAmiss (chains : List Chain) (pointer : DiskPtr) : Type 0 where

@@ -1,11 +1,12 @@
 -- What always holds of a page cache: its table of pages beside what its log holds.
-use Rattle.std.specs.Prelude.{◌≡◌, ◌≤◌, ℕ, Bool, false, true, List, ◌∷◌, length, map}
+use Rattle.std.specs.Prelude.{◌≡◌, ◌≤◌, ℕ, Bool, false, true, List, length, map}
 use Rattle.std.specs.List.{AllByRecursion, AllZip}
 use Rattle.sled_log.specs.Batches.{is_open}
 use Rattle.sled_log.specs.Chains.{is_chain}
 use Rattle.sled_log.specs.Messages.{Entry, effect_of_entry}
 use Rattle.sled_log.specs.Pages.{IsSized}
 use Rattle.sled_log.specs.State as log
+use Rattle.sled_pagecache.specs.ByIds.{AllById, IsInOrder}
 use Rattle.sled_pagecache.specs.Pages.{IsKept, is_resident, free_ids}
 use Rattle.sled_pagecache.specs.Limits.{most_messages, most_pages}
 use Rattle.sled_pagecache.specs.declared.pagecache.journal.Journal.{Journal}
@@ -33,10 +34,12 @@ IsFreeOrNode Away = Unit {0}
 IsFreeOrNode (Node node) = Unit {0}
 IsFreeOrNode other = ⊥
 
--- the named roots are on page 0 and the counter on page 1, in memory; no other page is kept so
+-- the named roots are on page 0 and the counter on page 1, in memory, as far as they are there; no other page is kept so
+abbrev pub IsOwnAt : ℕ → Kept → Type 0
+IsOwnAt = IsInOrder IsRoots IsCounter IsFreeOrNode
+
 abbrev pub AreOwn : List Page → Type 0
-AreOwn (roots ∷ counter ∷ pages) = IsRoots roots.kept × IsCounter counter.kept × AllByRecursion (λ page. IsFreeOrNode page.kept) pages
-AreOwn pages = ⊥
+AreOwn pages = AllById (λ pid page. IsOwnAt pid page.kept) pages
 
 module _ {L : Type 0} (tells : Type 0) (state : L → log.State Entry) where
   -- What the log is beside the table. Where its device tells its bytes, the pages are kept as their chains say.
@@ -51,6 +54,7 @@ module _ {L : Type 0} (tells : Type 0) (state : L → log.State Entry) where
   pub record IsConsistent (journal : Journal L) (pages : List Page) (free_pids : List ℕ) : Type 0 where
     pub beside : journal.fault ≡ false → IsBeside journal.log pages
     pub own : AreOwn pages
+    pub both : 2 ≤ length pages
     pub short : AllByRecursion (λ page. length page.infos.items ≤ most_messages) pages
     pub few : length pages ≤ most_pages
     pub free : free_pids ≡ free_ids 0 pages

@@ -15,7 +15,7 @@ abbrev pub nothing : Logged
 nothing = record { stable = []; pending = [] }
 
 proper-none : IsProper [] []
-proper-none = record { own = tt; short = tt; few = omega arith }
+proper-none = record { own = λ pid. tt; short = tt; few = omega arith }
 
 stay-none : StayProper [] [] [] []
 stay-none zero = proper-none

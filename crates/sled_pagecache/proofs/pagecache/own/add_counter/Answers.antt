@@ -1,6 +1,6 @@
 use Rattle.sled_pagecache.proofs.Names.{[], ◌∷◌, ◌++◌, List, sym, refl, ap, ◌∙◌, arith, Err, OutOfMemory, Counter, counter_told, CacheInfo}
 use Rattle.sled_pagecache.proofs.Proceeding.{proceeds-none, proceeds-refused, proceeds-first, proceeds-told}
-use Rattle.sled_pagecache.proofs.Starting.{own-table, own-two}
+use Rattle.sled_pagecache.proofs.Starting.{own-table}
 use Rattle.sled_pagecache.proofs.Refused.{refused-is}
 use Rattle.sled_pagecache.proofs.pagecache.own.add_counter.Goals as goal
 
@@ -21,5 +21,4 @@ returns-clause-table g c =
     let pages = c.args.pages.now.items in
     let infos = c.push_reserved.ensures.items ∙ ap (λ (l : List CacheInfo). l ++ c.in_ok-info.info ∷ []) c.in-Ok-Ok.ensures'.items in
     own-table g.L.Log c.args.journal.now c.write_counter.new.journal 1 1 (Counter 0) c.in_ok-info.info c.in_ok-info.ensures pages c.reserve.new.self.items c.push_reserved-2.new.self.items _
-    c.requires.table c.push_reserved-2.ensures.items c.reserve.ensures.items (sym c.requires.one) (omega arith) refl infos (λ chain makes. makes)
-    (own-two pages _ c.requires.one c.requires.table.hold.0 tt)
+    c.requires.table c.push_reserved-2.ensures.items c.reserve.ensures.items (sym c.requires.one) (omega arith) refl infos (λ chain makes. makes) tt

@@ -1,6 +1,7 @@
-use Rattle.sled_pagecache.proofs.Names.{◌≡◌, [], ◌∷◌, ◌++◌, List, length, sym, refl, ap, ◌∙◌, arith, rules, Err, OutOfMemory, Roots, told_of_roots, CacheInfo}
+use Rattle.sled_pagecache.proofs.Names.{[], ◌∷◌, ◌++◌, List, length, sym, refl, ap, ◌∙◌, arith, rules, Err, OutOfMemory, Roots, told_of_roots, CacheInfo}
+use Rattle.std.proofs.lemmas.List.{nil_from_length}
 use Rattle.sled_pagecache.proofs.Proceeding.{proceeds-none, proceeds-refused, proceeds-first}
-use Rattle.sled_pagecache.proofs.Starting.{wrote-roots, own-table, own-first}
+use Rattle.sled_pagecache.proofs.Starting.{wrote-roots, own-table}
 use Rattle.sled_pagecache.proofs.Refused.{refused-is}
 use Rattle.sled_pagecache.proofs.pagecache.own.add_roots.Goals as goal
 
@@ -15,13 +16,12 @@ returns-in_err-info-clause-proceeds g c =
     let journal = c.args.journal.now in
     rw (refused-is c.from_residual.result _ c.from_residual.ensures.1)
     (wrote-roots g.L.Log journal c.write_roots.new.journal 1 (Err c.in_err-info.field-0.0) c.default-roots.result c.args.pages.now.items (g.met.L.Log.only_now journal.log) c.requires.ready c.requires.usable
-    c.default-roots.ensures (search rules) c.in_err-info.ensures)
+    c.default-roots.ensures (nil_from_length c.args.pages.now.items (search rules)) c.in_err-info.ensures)
 
 pub returns-clause-table : goal.returns-clause-table
 returns-clause-table g c =
     let pages = c.args.pages.now.items in
-    let none : pages ≡ [] = search rules in
+    let none = nil_from_length pages (search rules) in
     let infos = c.push_reserved.ensures.items ∙ ap (λ (l : List CacheInfo). l ++ c.in_ok-info.info ∷ []) c.in-Ok-Ok.ensures'.items in
     own-table g.L.Log c.args.journal.now c.write_roots.new.journal 0 1 (Roots c.default-roots.result) c.in_ok-info.info c.in_ok-info.ensures pages c.reserve.new.self.items c.push_reserved-2.new.self.items _
-    c.requires.table c.push_reserved-2.ensures.items c.reserve.ensures.items (sym (ap length none)) (omega arith) refl infos (λ chain makes. makes)
-    (own-first pages _ none tt)
+    c.requires.table c.push_reserved-2.ensures.items c.reserve.ensures.items (sym (ap length none)) (omega arith) refl infos (λ chain makes. makes) tt
