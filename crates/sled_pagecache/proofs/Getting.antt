@@ -1,5 +1,7 @@
 -- A get as a step of the machine: a page is brought in, and then its node is lent.
-use Rattle.sled_pagecache.proofs.Names.{◌≡◌, inl, inr, ℕ, Bool, true, false, List, [], Option, Some, None, Result, Ok, Err, slice_get, slice_index_or, refl, sym, ◌∙◌, ap, subst, false≢true, false_from_ne_true, error_of, IsOk, IsErrOf, Write, Error, Refusal, Io, Corruption, OutOfMemory, ReservedId, Content, Free, Node, Damaged, Chain, told, holds-made, Makes, Holds, Ghosts, WholeNode, Keeps, Cache, IsIn, IsResident, IsAway, Steps, IsBlamed, chain_at, ReportsWrong, is_write_fault, Logged, journal_of, RefusesReading, BringsIn, IsNodeAt, IsUsers, RefusesPull, ReadsPage, page, State, page_at, Outcome, unchanged, is_reserved, Finds, FindsContent, Gets, Token, Got, Get, NodeView, IsGot}
+use Rattle.std.specs.Prelude.{MatchOption}
+use Rattle.sled_pagecache.specs.Memory.{HasNode, HasNoNode, IsBounded, KeepsMemory, AccessesPage, FindsPage}
+use Rattle.sled_pagecache.proofs.Names.{◌≡◌, inl, inr, ℕ, Bool, true, false, List, [], Option, Some, None, Result, Ok, Err, slice_get, slice_index_or, refl, sym, ◌∙◌, ap, subst, false≢true, false_from_ne_true, error_of, IsOk, IsErrOf, Write, Error, Refusal, Io, Corruption, OutOfMemory, ReservedId, Content, Free, Node, Damaged, Chain, told, holds-made, Makes, Holds, Ghosts, WholeNode, Keeps, Cache, IsIn, IsResident, IsAway, Steps, IsBlamed, chain_at, ReportsWrong, is_write_fault, Logged, journal_of, RefusesReading, BringsIn, IsNodeAt, IsUsers, RefusesPull, ReadsPage, page, State, page_at, is_reserved, Finds, FindsContent, Token, Got, Get, NodeView, IsGot, Outcome, unchanged, Gets}
 use Rattle.std.specs.Prelude.{IfSome}
 use Rattle.sled_base.specs.declared.types.Error.TheVariants as error
 use Rattle.sled_pagecache.proofs.Answers.{keeps-stuck, keeps-err, keeps-ok}
@@ -105,8 +107,9 @@ module _ {L : Type 0} (g : Ghosts L) (old new : Cache L) (pid : ℕ) where
   pub got-found : (found : Option NodeView)
       → (let ok : Result (Unit {0}) Refusal = Ok tt in old.fault ≡ true → IsErrOf ok (Io Write) × (new ≡ old))
       → (let ok : Result (Unit {0}) Refusal = Ok tt in old.fault ≡ false → BringsIn g old pid ok new)
-      → ReadsPage g old pid new → IsNodeAt g new pid found → IsGot g old pid (Ok found) new
-  got-found found stuck brings reads at =
+      → ReadsPage g old pid new → IsNodeAt g new pid found → MatchOption found (HasNoNode new pid) (λ _. (size : ℕ) × HasNode new pid size)
+      → FindsPage old pid new → IsBounded g new → IsGot g old pid (Ok found) new
+  got-found found stuck brings reads at there accesses bounded =
       let ready : old.fault ≡ false = false_from_ne_true old.fault (λ kept. absurd (let h = (stuck kept).0 in cc)) in
       let seen = by found ready at in
       record {
@@ -119,8 +122,18 @@ module _ {L : Type 0} (g : Ghosts L) (old new : Cache L) (pid : ℕ) where
         kept_out = tt;
         damaged = λ meets. absurd ((brings ready).sound meets.tells meets.damaged);
         always = λ _ _ _. refl;
+        accesses = accessed found there accesses;
+        same = tt;
+        bounded = bounded;
       }
     where
+      accessed : (found : Option NodeView) → MatchOption found (HasNoNode new pid) (λ _. (size : ℕ) × HasNode new pid size) → FindsPage old pid new
+          → MatchOption found (KeepsMemory old new) (λ _. AccessesPage old pid new)
+      accessed None none (inl (accesses, there)) = absurd (none there.0 there.1)
+      accessed None none (inr (keeps, _)) = keeps
+      accessed (Some view) there (inl (accesses, _)) = accesses
+      accessed (Some view) there (inr (_, none)) = absurd (none there.0 there.1)
+
       by : (found : Option NodeView) → old.fault ≡ false → IsNodeAt g new pid found
           → IsBlamed g old new (answered (Ok found)) × Keeps old new (answered (Ok found)) (λ _. old.stamps) × IfSome found (λ view. IsResident new pid) × IfSome found (λ view. view.token.pid ≡ pid)
       by None ready at = (record { read = λ h. cc; write = λ h. cc }, keeps-ok old new (λ _. old.stamps) None ready (brings ready).cause.fault (brings ready).left.stamps, tt, tt)
@@ -134,8 +147,9 @@ module _ {L : Type 0} (g : Ghosts L) (old new : Cache L) (pid : ℕ) where
   pub got-refused : (refusal : Refusal)
       → (let err : Result (Unit {0}) Refusal = Err refusal in old.fault ≡ true → IsErrOf err (Io Write) × (new ≡ old))
       → (let err : Result (Unit {0}) Refusal = Err refusal in old.fault ≡ false → BringsIn g old pid err new)
-      → ReadsPage g old pid new → (IsAway old pid → IsAway new pid) → (old.fault ≡ false → is_reserved pid ≡ false → IsResident old pid → (let err : Result (Unit {0}) Refusal = Err refusal in IsOk err)) → IsGot g old pid (Err refusal) new
-  got-refused refusal stuck brings reads kept_out always = by old.fault refl
+      → ReadsPage g old pid new → (IsAway old pid → IsAway new pid) → (old.fault ≡ false → is_reserved pid ≡ false → IsResident old pid → (let err : Result (Unit {0}) Refusal = Err refusal in IsOk err))
+      → KeepsMemory old new → IsBounded g new → IsGot g old pid (Err refusal) new
+  got-refused refusal stuck brings reads kept_out always same bounded = by old.fault refl
     where
       is_write : (let err : Result (Unit {0}) Refusal = Err refusal in IsErrOf err (Io Write)) → refusal ≡ Io Write
       is_write h = let of : Result (Unit {0}) Refusal → Refusal = elim [ Ok answer ↦ refusal | Err other ↦ other ] in ap of h
@@ -159,6 +173,9 @@ module _ {L : Type 0} (g : Ghosts L) (old new : Cache L) (pid : ℕ) where
             kept_out = kept_out;
             damaged = λ meets. absurd (false≢true (sym meets.ready ∙ kept));
             always = always;
+            accesses = tt;
+            same = same;
+            bounded = bounded;
           }
       by false ready =
           let done = brings ready in
@@ -172,4 +189,7 @@ module _ {L : Type 0} (g : Ghosts L) (old new : Cache L) (pid : ℕ) where
             kept_out = kept_out;
             damaged = λ meets. record { reported = reported-wrong (chain_at (g.state old.log) pid) refusal (pulls meets.behind (done.refused meets.tells)); left = done.left };
             always = always;
+            accesses = tt;
+            same = same;
+            bounded = bounded;
           }

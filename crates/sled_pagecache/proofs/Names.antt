@@ -46,7 +46,7 @@ pub use Rattle.sled_node.specs.Payloads.Roots.{ReadsRoots}
 pub use Rattle.sled_pagecache.specs.Adding.{HasOneMore, RefusesPage}
 pub use Rattle.sled_pagecache.specs.Answers.{Keeps, stamped, swapped}
 pub use Rattle.sled_pagecache.specs.ByIds.{AllById, IsInOrder}
-pub use Rattle.sled_pagecache.specs.Cache.{Cache, IsAway, IsIn, IsResident, chain_length}
+pub use Rattle.sled_pagecache.specs.Cache.{Cache, IsAway, IsIn, IsResident, chain_length, chain_size, unlisted}
 pub use Rattle.sled_pagecache.specs.Calls.{HasNoRoom, IsBlamed, IsSameOpening, IsStep, StepOver, Steps}
 pub use Rattle.sled_pagecache.specs.ChainReads.{IsFoundAs, chain_at, more, place_of}
 pub use Rattle.sled_pagecache.specs.Changes.{link_update}
@@ -77,7 +77,7 @@ pub use Rattle.sled_pagecache.specs.Starts.{CrashLeaves, HasAdded, IsBlamedOpeni
 pub use Rattle.sled_pagecache.specs.State.{State, contents_of, free_token, greatest_free, later, page, page_at, stamps_of, with_page}
 pub use Rattle.sled_pagecache.specs.Step.{Allocates, Does, Fails, Finds, FindsContent, Flushes, Gets, IsCorruption, IsGone, IsHindered, IsRefused, Links, LinksContent, LinksNode, Outcome, Replaces, Sizes, Swapped, Swaps, SwapsContent, SwapsPage, UnlessFaulty, UnlessReserved, UnlessStale, is_reserved, outcome, unchanged}
 pub use Rattle.sled_pagecache.specs.Swaps.{IsLinked, IsRaised, RefusesLink, RefusesSwap, Wrote, infos_after, linked_length, update_of}
-pub use Rattle.sled_pagecache.specs.Table.{AreOwn, IsBeside, IsConsistent, IsCounter, IsFreeOrNode, IsOwnAt, IsRoots, resident_in, stamps_in}
+pub use Rattle.sled_pagecache.specs.Table.{AreOwn, IsBeside, IsConsistent, IsCounter, IsFreeOrNode, IsOwnAt, IsRoots, nodes_in, resident_in, stamps_in}
 pub use Rattle.sled_pagecache.specs.Token.{IsAnswered, Token, pid_of, token}
 pub use Rattle.sled_pagecache.specs.declared.pagecache.call.Answer.{Answer}
 pub use Rattle.sled_pagecache.specs.declared.pagecache.call.Answer.TheVariants.{Allocated, Flushed, Got, Linked, Replaced, Sized}

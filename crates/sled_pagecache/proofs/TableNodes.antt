@@ -1,5 +1,5 @@
 -- The node that the table of a cache keeps at an id, in the words of the cache's model.
-use Rattle.sled_pagecache.proofs.Names.{◌≡◌, ◌≤◌, inl, inr, ℕ, Bool, false, List, [], length, Some, None, slice_get, refl, sym, ◌∙◌, ap, subst, arith, false≢true, get_or_past, AllZip-long, Chain, told, effect_of_entry, Makes, one_content, Ghosts, WholeNode, Cache, chain_at, HoldsChain, IsKept, is_resident, IsNodeAt, stamps_in, resident_in, IsConsistent, Token, token, Config, Journal, Kept, Page, NodeView}
+use Rattle.sled_pagecache.proofs.Names.{◌≡◌, ◌≤◌, inl, inr, ℕ, Bool, false, List, [], length, Some, None, slice_get, refl, sym, ◌∙◌, ap, subst, arith, false≢true, get_or_past, AllZip-long, Chain, told, effect_of_entry, Makes, one_content, Ghosts, WholeNode, Cache, chain_at, HoldsChain, IsKept, is_resident, IsNodeAt, stamps_in, resident_in, nodes_in, unlisted, IsConsistent, Token, token, Config, Journal, Kept, Page, NodeView}
 use Rattle.sled_log.specs.Contents as content
 use Rattle.sled_log.specs.State as log
 use Rattle.sled_pagecache.proofs.Lookups.{map-at, kept-at}
@@ -9,7 +9,7 @@ use Rattle.sled_pagecache.specs.declared.pagecache.page.Kept.TheVariants as kept
 -- a cache over a log and a table, of which all else is the same
 abbrev pub view : {L : Type 0} → ℕ → Config → Bool → Journal L → List Page → Cache L
 view next config recovered journal pages =
-    record { stamps = stamps_in pages; resident = resident_in pages; next = next; fault = journal.fault; config = config; recovered = recovered; log = journal.log }
+    record { stamps = stamps_in pages; resident = resident_in pages; nodes = nodes_in pages; next = next; fault = journal.fault; config = config; recovered = recovered; lru = unlisted; log = journal.log }
 
 module _ {L : Type 0} (g : Ghosts L) (next : ℕ) (config : Config) (recovered : Bool) (journal : Journal L) (pages : List Page) (free : List ℕ) (pid : ℕ)
     (is : IsConsistent g.tells g.state journal pages free) where

@@ -1,5 +1,7 @@
 -- What contracts see of a page cache over a log, and which state it is in.
-use Rattle.std.specs.Prelude.{◌≡◌, ℕ, Bool, true, false, List, [], length, Some, slice_get, slice_index_or}
+use Rattle.std.specs.Prelude.{◌≡◌, ℕ, Bool, true, false, List, [], length, Option, Some, slice_get, slice_index_or}
+use Rattle.std.specs.List.{sum_by}
+use Rattle.sled_base.specs.Lru.{Recency}
 use Rattle.sled_log.specs.Batches.{is_open}
 use Rattle.sled_log.specs.Messages.{Entry, effect_of_entry}
 use Rattle.sled_log.specs.State as log
@@ -8,15 +10,18 @@ use Rattle.sled_pagecache.specs.Logged.{Logged, IsLogged, now}
 use Rattle.sled_pagecache.specs.State.{State, contents_of, stamps_of}
 use Rattle.sled_pagecache.specs.declared.pagecache.config.Config.{Config}
 
--- The stamps of the pages, which of them lie in memory, the next generated id, whether a write fault is kept, the settings,
--- whether both system pages were found in the log, and the log.
+-- The stamps of the pages, which of them lie in memory, how much of the log the messages of each page take whose node does, the
+-- next generated id, whether a write fault is kept, the settings, whether both system pages were found in the log, the pages by
+-- their recent use, and the log.
 pub record Cache (L : Type 0) : Type 0 where
   pub stamps : List ℕ
   pub resident : List Bool
+  pub nodes : List (Option ℕ)
   pub next : ℕ
   pub fault : Bool
   pub config : Config
   pub recovered : Bool
+  pub lru : Recency
   pub log : L
 
 -- the page lies in memory, or doesn't; a free one does
@@ -26,10 +31,18 @@ IsResident cache pid = slice_get cache.resident pid ≡ Some true
 abbrev pub IsAway : {L : Type 0} → Cache L → ℕ → Type 0
 IsAway cache pid = slice_get cache.resident pid ≡ Some false
 
+-- no page is listed
+abbrev pub unlisted : Recency
+unlisted = record { capacity = 0; shards = [] }
+
 module _ {L : Type 0} (state : L → log.State Entry) where
   -- how many messages make a page
   abbrev pub chain_length : Cache L → ℕ → ℕ
   chain_length cache pid = length (slice_index_or (log.now effect_of_entry (state cache.log)) pid [])
+
+  -- how much of the log they take together
+  abbrev pub chain_size : Cache L → ℕ → ℕ
+  chain_size cache pid = sum_by (λ entry. entry.place.log_size) (slice_index_or (log.now effect_of_entry (state cache.log)) pid [])
 
 module _ {L : Type 0} (g : Ghosts L) where
   -- what is known of the log, which holds that

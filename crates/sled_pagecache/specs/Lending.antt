@@ -1,5 +1,5 @@
 -- What a page cache lends, and what it is once the loan is over.
-use Rattle.std.specs.Prelude.{◌≡◌, ℕ, false, ⊤, Option, Some, None, Result, Ok, Err, IsOk, OnErr, IfOk, IfSome}
+use Rattle.std.specs.Prelude.{◌≡◌, ℕ, false, ⊤, Option, Some, None, Result, Ok, Err, IsOk, OnErr, IfOk, IfSome, MatchOption}
 use Rattle.std.specs.Borrow.{Fml, RattleType, MutBor, follows_so}
 use mathlib.Core.Option.{none}
 use Rattle.sled_base.specs.Errors.{error_of}
@@ -11,6 +11,7 @@ use Rattle.sled_pagecache.specs.Answers.{Keeps}
 use Rattle.sled_pagecache.specs.Cache.{Cache, IsResident, IsAway}
 use Rattle.sled_pagecache.specs.Calls.{Steps, IsBlamed}
 use Rattle.sled_pagecache.specs.Damage.{MeetsDamage, ReportsDamage}
+use Rattle.sled_pagecache.specs.Memory.{IsBounded, KeepsMemory, AccessesPage}
 use Rattle.sled_pagecache.specs.Reads.{ReadsPage}
 use Rattle.sled_pagecache.specs.Step.{is_reserved}
 use Rattle.sled_pagecache.specs.Token.{Token}
@@ -40,6 +41,10 @@ pub record IsGot {L : Type 0} (g : Ghosts L) (old : Cache L) (pid : ℕ) (result
   pub damaged : MeetsDamage g old pid → ReportsDamage g old pid (told result) new
   -- a page that lies in memory is lent without memory and without the device
   pub always : old.fault ≡ false → is_reserved pid ≡ false → IsResident old pid → IsOk result
+  -- a page whose node it finds is accessed, and else nothing changes in memory
+  pub accesses : IfOk result (λ found. MatchOption found (KeepsMemory old new) (λ view. AccessesPage old pid new))
+  pub same : OnErr result (KeepsMemory old new)
+  pub bounded : IsBounded g new
 
 -- The cache is so once what it lent has come back. (`follows_so` is the toolchain's word for what a loan becomes at its end.)
 abbrev pub OnceGivenBack : (L : RattleType) (g : Ghosts L.Denot) → MutBor (Cache L.Denot) → (Cache L.Denot → Type 0) → Fml

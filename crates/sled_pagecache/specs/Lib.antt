@@ -1,4 +1,5 @@
 pub mod Limits
+pub mod Accesses
 pub mod Token
 pub mod ByIds
 pub mod State
@@ -34,4 +35,8 @@ pub mod PagesIn
 pub mod Damage
 pub mod LinkTests
 pub mod LinkedPages
+pub mod Memory
+pub mod PagingOut
+pub mod Touching
+pub mod Relisting
 pub mod Lending

@@ -1,5 +1,6 @@
 -- How the cache keeps a page, beside the chain that the log has of it.
-use Rattle.std.specs.Prelude.{◌≡◌, ◌+◌, ◌-◌, ℕ, ℤ, Bool, true, false, List, [], ◌∷◌, length, map, slice_get, Some, if◌then◌else◌}
+use Rattle.std.specs.Prelude.{◌≡◌, ◌+◌, ◌-◌, ℕ, nat_lt, ℤ, Bool, true, false, List, [], ◌∷◌, length, map, slice_get, Option, Some, None, if◌then◌else◌}
+use Rattle.std.specs.List.{sum_by}
 use Rattle.sled_base.specs.declared.types.DiskPtr.{DiskPtr}
 use Rattle.sled_base.specs.declared.types.page_state.PageState.{PageState}
 use Rattle.sled_base.specs.declared.types.page_state.PageState.TheVariants as said
@@ -8,7 +9,10 @@ use Rattle.sled_log.specs.Contents as content
 use Rattle.sled_log.specs.Messages.{Chain, told, effect_of_entry}
 use Rattle.sled_log.specs.Pages.{said_of}
 use Rattle.sled_log.specs.Reading.{Makes}
+use Rattle.sled_log.specs.Limits.{head_size}
+use Rattle.sled_pagecache.specs.Accesses.{capped}
 use Rattle.sled_pagecache.specs.ChainReads.{place_of}
+use Rattle.sled_pagecache.specs.Limits.{most_messages}
 use Rattle.sled_pagecache.specs.declared.pagecache.chain.CacheInfo.{CacheInfo}
 use Rattle.sled_pagecache.specs.declared.pagecache.page.Kept.{Kept}
 use Rattle.sled_pagecache.specs.declared.pagecache.page.Kept.TheVariants.{Free, Away, Counter, Roots, Node}
@@ -36,6 +40,29 @@ is_free Away = false
 is_free (Counter n) = false
 is_free (Roots roots) = false
 is_free (Node node) = false
+
+-- how much of the log messages take together
+abbrev pub size_in : List CacheInfo → ℕ
+size_in infos = sum_by (λ info. info.log_size) infos
+
+-- how much the messages of a page take, as it is accessed with
+abbrev pub size_of : Page → ℕ
+size_of page = capped (size_in page.infos.items)
+
+-- the same, where what is kept is a node
+abbrev pub size_if : ℕ → Kept → Option ℕ
+size_if size (Node node) = Some size
+size_if size Free = None
+size_if size Away = None
+size_if size (Counter n) = None
+size_if size (Roots roots) = None
+
+abbrev pub node_size : Page → Option ℕ
+node_size page = size_if (size_of page) page.kept
+
+-- how much messages take with that of a link, whose payload is so long, or with that of the node, where they are as many as may be
+abbrev pub size_linked : List CacheInfo → ℕ → ℕ
+size_linked infos payload = (if nat_lt (length infos) most_messages then size_in infos else 0) + head_size + payload
 
 -- The page is kept as its chain says, with the places of its messages. How much the message of a free page takes up isn't known.
 pub record IsKept (chain : Chain) (page : Page) : Type 0 where

@@ -1,5 +1,5 @@
 -- What always holds of a page cache: its table of pages beside what its log holds.
-use Rattle.std.specs.Prelude.{◌≡◌, ◌≤◌, ℕ, Bool, false, true, List, length, map}
+use Rattle.std.specs.Prelude.{◌≡◌, ◌≤◌, ℕ, Bool, false, true, List, length, map, Option}
 use Rattle.std.specs.List.{AllByRecursion, AllZip}
 use Rattle.sled_log.specs.Batches.{is_open}
 use Rattle.sled_log.specs.Chains.{is_chain}
@@ -7,7 +7,7 @@ use Rattle.sled_log.specs.Messages.{Entry, effect_of_entry}
 use Rattle.sled_log.specs.Pages.{IsSized}
 use Rattle.sled_log.specs.State as log
 use Rattle.sled_pagecache.specs.ByIds.{AllById, IsInOrder}
-use Rattle.sled_pagecache.specs.Pages.{IsKept, is_resident, free_ids}
+use Rattle.sled_pagecache.specs.Pages.{IsKept, is_resident, free_ids, node_size}
 use Rattle.sled_pagecache.specs.Limits.{most_messages, most_pages}
 use Rattle.sled_pagecache.specs.declared.pagecache.journal.Journal.{Journal}
 use Rattle.sled_pagecache.specs.declared.pagecache.page.Kept.{Kept}
@@ -19,6 +19,9 @@ stamps_in pages = map (λ page. page.stamp) pages
 
 abbrev pub resident_in : List Page → List Bool
 resident_in pages = map (λ page. is_resident page.kept) pages
+
+abbrev pub nodes_in : List Page → List (Option ℕ)
+nodes_in pages = map (λ page. node_size page) pages
 
 abbrev pub IsRoots : Kept → Type 0
 IsRoots (Roots roots) = Unit {0}

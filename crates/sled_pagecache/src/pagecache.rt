@@ -1,5 +1,6 @@
 //! The page cache: a list of stamped pages over a log.
 
+mod accesses;
 mod add;
 mod cache;
 mod call;
@@ -9,6 +10,7 @@ mod journal;
 mod judge;
 mod own;
 mod page;
+mod pages;
 mod pull;
 mod reading;
 mod recovered;

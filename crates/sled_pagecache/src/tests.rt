@@ -1,5 +1,7 @@
 mod crashes;
+mod eviction;
 mod failing;
+mod full;
 mod generic;
 mod memory;
 mod reads;

@@ -1,6 +1,6 @@
 //! The making of a page.
 
-ghost use Rattle.std.specs.Prelude.{◌≡◌, ◌≢◌, ◌++◌, [], ◌∷◌, false, true, length, IfOk, IfErr, OnOk, OnErr};
+ghost use Rattle.std.specs.Prelude.{◌≡◌, ◌≢◌, ◌⊎◌, ◌++◌, [], ◌∷◌, false, true, length, slice_get, IfOk, IfErr, IfSome, OnOk, OnErr};
 ghost use Rattle.std.specs.List.{AllByRecursion};
 ghost use Rattle.sled_log.specs.Contents as contents;
 ghost use Rattle.sled_log.specs.Events.{Change};
@@ -9,16 +9,19 @@ ghost use Rattle.sled_log.specs.Pages.{IsSized};
 ghost use Rattle.sled_log.specs.Reading.{IsUpdate};
 ghost use Rattle.sled_log.specs.State.{now};
 ghost use Rattle.sled_log.specs.Writing.{message_of};
+ghost use Rattle.sled_pagecache.specs.Accesses.{WasAccessed, IsTouched};
 ghost use Rattle.sled_pagecache.specs.Adding.{HasOneMore, RefusesPage};
 ghost use Rattle.sled_pagecache.specs.ChainReads.{chain_at};
 ghost use Rattle.sled_pagecache.specs.Limits.{most_pages};
-ghost use Rattle.sled_pagecache.specs.Journal.{Went, IsCaused, begun_by};
+ghost use Rattle.sled_pagecache.specs.Journal.{Went, IsCaused, IsOfLog, begun_by};
+ghost use Rattle.sled_pagecache.specs.Pages.{size_of};
 
 use super::MAX_PAGES;
+use super::accesses::{Accesses, size_with};
 use super::journal::Journal;
 use super::page::{Kept, Page};
 use super::write::write_node;
-use sled_base::{PageId, Refusal, Why};
+use sled_base::{PageId, Refusal, Serialize, Why};
 use sled_log::Log;
 use sled_node::Node;
 use std::alloc::Global;
@@ -27,6 +30,7 @@ use std::alloc::Global;
 pub(super) fn add_page<L: Log>(
     alloc: Global,
     journal: &mut Journal<L>,
+    accesses: &mut Accesses,
     pages: &mut Vec<Page>,
     node: Node,
 ) -> Result<PageId, Refusal>
@@ -45,6 +49,9 @@ pub(super) fn add_page<L: Log>(
     ensures cause { IsCaused L.tells L.state L.moment L.left_since L.counts journal.old journal.new (L.is_full journal.old.log (length (message_of (contents.Put (contents.Node node))).payload)) result }
     ensures reads { (L.counts journal.new.log).reads ≡ (L.counts journal.old.log).reads }
     ensures sized { L.tells → OnOk result (AllByRecursion IsSized (now effect_of_entry (L.state journal.new.log))) }
+    ensures accessed { OnOk result (IfSome (slice_get pages.new.items (length pages.old.items)) (λ page. WasAccessed accesses.old (length pages.old.items) (size_of page) accesses.new)) }
+    ensures touched { OnErr result (IsTouched accesses.old (length pages.old.items) accesses.new) }
+    ensures unasked { L.tells → IfErr result (λ refusal. IsOfLog refusal ⊎ (accesses.new ≡ accesses.old)) }
 {
     // Every node is well-formed.
     let _ = node.data();
@@ -56,6 +63,9 @@ pub(super) fn add_page<L: Log>(
         return Err(Refusal::OutOfMemory);
     };
     let Ok(mut infos) = Vec::with_capacity(alloc, 1) else {
+        return Err(Refusal::OutOfMemory);
+    };
+    let Ok(()) = accesses.access(pid, size_with(0, node.serialized_size())) else {
         return Err(Refusal::OutOfMemory);
     };
     let info = write_node(alloc, journal, pid, &node, 1)?;

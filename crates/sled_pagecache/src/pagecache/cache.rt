@@ -1,6 +1,6 @@
-//! The cache. Each call is one step of a machine.
+//! The cache: pages, and their accesses. Each call is one step of a machine.
 
-ghost use Rattle.std.specs.Prelude.{◌≡◌, ◌≢◌, ◌+◌, [], false, true, length, None, Some, Err, slice_get, IfOk, IfErr, IsOk, OnOk, OnErr, IsErrOf};
+ghost use Rattle.std.specs.Prelude.{◌≡◌, ◌≢◌, ℕ, [], false, true, length, None, Some, Err, slice_get, IfOk, IfErr, IsOk, OnOk, OnErr, IsErrOf, MatchOption};
 ghost use Rattle.std.specs.Borrow.{sem};
 ghost use Rattle.sled_base.specs.declared.types.Device.TheVariants.{Write};
 ghost use Rattle.sled_base.specs.declared.types.Error.TheVariants.{Unsupported, Io};
@@ -16,9 +16,11 @@ ghost use Rattle.sled_pagecache.specs.Damage.{MeetsDamage, ReportsDamage};
 ghost use Rattle.sled_pagecache.specs.LinkTests.{TestsFirst};
 ghost use Rattle.sled_pagecache.specs.Lending.{IsGot, OnceGivenBack};
 ghost use Rattle.sled_pagecache.specs.Logged.{Logged, IsLogged};
+ghost use Rattle.sled_pagecache.specs.Memory.{HasNode, HasNoNode, IsBounded, ListsResident, KeepsMemory, AccessesPage, FindsPage, LeavesMemory, LeavesNodes};
 ghost use Rattle.sled_pagecache.specs.Opening.{fault_of};
 ghost use Rattle.sled_pagecache.specs.PagesIn.{BringsIn, IsNodeAt};
 ghost use Rattle.sled_pagecache.specs.Reads.{ReadsNothing, ReadsPage, HasRead, own_among};
+ghost use Rattle.sled_pagecache.specs.Relisting.{Settles, lost_by};
 ghost use Rattle.sled_pagecache.specs.Starts.{RefusesOpening, Opens, IsBlamedOpening, MayBeOpened, HoldsNoNode, log_after};
 ghost use Rattle.sled_pagecache.specs.Step.{is_reserved};
 ghost use Rattle.sled_pagecache.specs.Swaps.{linked_length};
@@ -27,16 +29,12 @@ ghost use Rattle.sled_pagecache.specs.declared.pagecache.call.Answer.TheVariants
 ghost use Rattle.sled_pagecache.specs.declared.pagecache.call.Call.TheVariants.{Allocate, Flush, SizeOnDisk};
 ghost use Rattle.sled_pagecache.specs.declared.pagecache.call.Call.TheVariants as call;
 
-use super::add::add_page;
+use super::accesses::Accesses;
 use super::config::Config;
-use super::journal::Journal;
-use super::judge::{Judgement, is_reserved, judge};
-use super::page::{Kept, Page};
-use super::pull::{pull, pull_and_link};
-use super::start::{fault_of, open};
-use super::swap::replace_page;
+use super::pages::Pages;
+use super::start::fault_of;
 use super::view::{NodeView, PageView};
-use sled_base::{Device, Error, PageId, Refusal, Why};
+use sled_base::{Error, Lru, PageId, Refusal};
 use sled_log::Log;
 use sled_node::{Link, Node};
 use std::alloc::Global;
@@ -44,18 +42,17 @@ use std::marker::Model;
 
 /// Stamped pages by their ids, over a log. Pages 0 and 1 are the cache's own.
 ///
-/// Contracts see the stamps, which pages lie in memory, the next generated id, whether a write fault is kept, the config,
-/// whether the system pages were found in the log, and the log.
+/// Each append accesses its page, and so does each `get` that finds a node. The pages are spread over 256 shards by their ids, and a
+/// shard takes its part of the capacity, by what the messages of its pages take of the log, each page rounded up to a power of two.
+/// Where they take more, the nodes that were accessed longest ago leave memory. The page that was accessed last stays.
+///
+/// Contracts see the stamps, which pages lie in memory, how much the messages of each node there take, the next generated id,
+/// whether a write fault is kept, the config, whether the system pages were found in the log, the pages by their recent use, and
+/// the log.
 #[derive(Drop)]
 pub struct PageCache<L: Log> {
-    alloc: Global,
-    config: Config,
-    pages: Vec<Page>,
-    // the ids of the free pages, the least first
-    free: Vec<PageId>,
-    next: u128,
-    recovered: bool,
-    journal: Journal<L>,
+    pages: Pages<L>,
+    accesses: Accesses,
 }
 
 impl<L: Log> Model for PageCache<L> {
@@ -63,11 +60,11 @@ impl<L: Log> Model for PageCache<L> {
 
     ghost Value = { Cache L };
 
-    ghost use Rattle.sled_pagecache.specs.Table.{stamps_in, resident_in, IsConsistent};
+    ghost use Rattle.sled_pagecache.specs.Relisting.{relisted, IsSettled};
 
-    ghost view = { λ c. record { stamps = stamps_in c.pages.items; resident = resident_in c.pages.items; next = c.next; fault = c.journal.fault; config = c.config; recovered = c.recovered; log = c.journal.log } };
+    ghost view = { λ c. relisted c.pages c.accesses.lru };
 
-    ghost invariant = { λ c. IsConsistent L.tells L.state c.journal c.pages.items c.free.items };
+    ghost invariant = { λ c. IsSettled L.Log c.pages c.accesses };
 }
 
 impl<L: Log> PageCache<L> {
@@ -95,22 +92,22 @@ impl<L: Log> PageCache<L> {
         ensures again { IfErr result (λ e. e.0 ≢ Io Write → MayBeOpened L.Log e.1) }
         ensures unread { L.tells → IfOk result (HoldsNoNode L.Log) }
         ensures reads { L.tells → HasRead L.counts log (log_after result) (own_among (length (now effect_of_entry (L.state log)))) result }
+        ensures bounded { IfOk result (IsBounded L.Log) }
+        ensures listed { IfOk result ListsResident }
     {
         if let Some(why) = fault_of(config) {
             return Err((Error::Unsupported(why), log));
         }
-        let mut journal = Journal { log, fault: false };
-        match open(alloc, config, &mut journal) {
-            Ok(opening) => Ok(PageCache {
-                alloc,
-                config,
-                pages: opening.pages,
-                free: opening.free,
-                next: opening.next,
-                recovered: opening.recovered,
-                journal,
-            }),
-            Err(refusal) => Err((Error::from(refusal), journal.log)),
+        let Ok(lru) = Lru::new(alloc, config.cache_capacity) else {
+            return Err((Error::OutOfMemory, log));
+        };
+        match Pages::start(alloc, config, log) {
+            Ok(pages) => {
+                pages.know_sizes();
+                let accesses = Accesses { lru, dropped: None };
+                Ok(PageCache { pages, accesses })
+            }
+            Err(refused) => Err(refused),
         }
     }
 
@@ -118,7 +115,7 @@ impl<L: Log> PageCache<L> {
     pub fn was_recovered(&self) -> bool
         ensures { result ≡ self.now.recovered }
     {
-        self.recovered
+        self.pages.was_recovered()
     }
 
     /// Puts a node on a page: the free page with the greatest id at its next stamp, or else a new one at stamp 1.
@@ -133,19 +130,13 @@ impl<L: Log> PageCache<L> {
         ensures keeps { Keeps self.old self.new result (λ made. stamped self.old.stamps made.1) }
         ensures token { IfOk result (λ made. (pid_of made.1 ≡ made.0) × (slice_get self.new.stamps made.0 ≡ Some (stamp_of made.1))) }
         ensures resident { IfOk result (λ made. IsResident self.new made.0) }
+        ensures bounded { IsBounded L.Log self.new }
+        ensures accesses { IfOk result (λ made. AccessesPage self.old made.0 self.new) }
+        ensures leaves { IfErr result (LeavesNodes L.tells self.old self.new) }
     {
-        let stuck = self.journal.fault;
-        if stuck {
-            return Err(Error::Io(Device::Write));
-        }
-        let Some(pid) = self.free.last().copied() else {
-            let pid = add_page(self.alloc, &mut self.journal, &mut self.pages, node)?;
-            return Ok((pid, PageView::new(pid, 1)));
-        };
-        let page = &mut self.pages[pid as usize];
-        replace_page(self.alloc, &mut self.journal, pid, page, node)?;
-        self.free.pop();
-        Ok((pid, PageView::new(pid, page.stamp)))
+        let made = self.pages.allocate(&mut self.accesses, node);
+        settle(&mut self.pages, &mut self.accesses, None);
+        made
     }
 
     /// The node of a page with the page's token, lent. None where the page is absent or free.
@@ -187,16 +178,15 @@ impl<L: Log> PageCache<L> {
         ensures length { L.tells → IfOk result (λ swapped. OnOk swapped (chain_length L.state self.new pid ≡ linked_length (chain_length L.state self.old pid))) }
         ensures resident { IfOk result (λ swapped. OnOk swapped (IsResident self.new pid)) }
         ensures kept_out { OnErr result (IsAway self.old pid → IsAway self.new pid) }
+        ensures bounded { IsBounded L.Log self.new }
+        ensures accesses { IfOk result (λ swapped. OnOk swapped (AccessesPage self.old pid self.new)) }
+        ensures same { IfOk result (λ swapped. OnErr swapped (KeepsMemory self.old self.new)) }
+        ensures leaves { IfErr result (LeavesMemory self.old pid self.new L.tells) }
     {
-        match judge(self.journal.fault, &self.pages, pid, old)? {
-            Judgement::Stale(present) => return Ok(Err(Some((present, link)))),
-            Judgement::Gone => return Ok(Err(None)),
-            Judgement::Fresh => {}
-        }
-        let page = &mut self.pages[pid as usize];
-        pull_and_link(self.alloc, &mut self.journal, pid, page, &link)?;
-        let linked = PageView::new(pid, page.stamp);
-        Ok(Ok(linked))
+        let swapped = self.pages.link(&mut self.accesses, pid, old, link);
+        let lost = lost_by(&swapped, pid);
+        settle(&mut self.pages, &mut self.accesses, lost);
+        swapped
     }
 
     /// Puts a node on a page that is still at the stamp of the token, in place of what it held, and raises the stamp by
@@ -220,15 +210,15 @@ impl<L: Log> PageCache<L> {
         ensures unread { ReadsNothing L.Log self.old self.new }
         ensures length { L.tells → IfOk result (λ swapped. OnOk swapped (chain_length L.state self.new pid ≡ 1)) }
         ensures resident { IfOk result (λ swapped. OnOk swapped (IsResident self.new pid)) }
+        ensures bounded { IsBounded L.Log self.new }
+        ensures accesses { IfOk result (λ swapped. OnOk swapped (AccessesPage self.old pid self.new)) }
+        ensures same { IfOk result (λ swapped. OnErr swapped (KeepsMemory self.old self.new)) }
+        ensures leaves { IfErr result (LeavesMemory self.old pid self.new L.tells) }
     {
-        match judge(self.journal.fault, &self.pages, pid, old)? {
-            Judgement::Stale(present) => return Ok(Err(Some((present, node)))),
-            Judgement::Gone => return Ok(Err(None)),
-            Judgement::Fresh => {}
-        }
-        let page = &mut self.pages[pid as usize];
-        replace_page(self.alloc, &mut self.journal, pid, page, node)?;
-        Ok(Ok(PageView::new(pid, page.stamp)))
+        let swapped = self.pages.replace(&mut self.accesses, pid, old, node);
+        let lost = lost_by(&swapped, pid);
+        settle(&mut self.pages, &mut self.accesses, lost);
+        swapped
     }
 
     /// Makes all that is pending in the log stable, and answers how many bytes that wrote.
@@ -241,11 +231,12 @@ impl<L: Log> PageCache<L> {
         ensures unread { ReadsNothing L.Log self.old self.new }
         ensures stable { OnOk result ((L.state self.new.log).pending ≡ []) }
         ensures number { IfOk result (λ n. n ≡ L.to_write self.old.log) }
+        ensures bounded { IsBounded L.Log self.new }
+        ensures same { KeepsMemory self.old self.new }
     {
-        if self.journal.fault {
-            return Err(Error::Io(Device::Write));
-        }
-        Ok(self.journal.make_stable()?)
+        let flushed = self.pages.flush();
+        self.pages.know_sizes();
+        flushed
     }
 
     /// How many bytes the log has.
@@ -254,10 +245,7 @@ impl<L: Log> PageCache<L> {
         ensures keeps { Keeps self.now self.now result (λ _. self.now.stamps) }
         ensures size { IfOk result (λ size. size ≡ L.bytes self.now.log) }
     {
-        if self.journal.fault {
-            return Err(Error::Io(Device::Write));
-        }
-        Ok(self.journal.log.size())
+        self.pages.size_on_disk()
     }
 
     /// Ends the cache and hands its log back. Nothing is flushed.
@@ -267,39 +255,53 @@ impl<L: Log> PageCache<L> {
         ensures log { result ≡ self.log }
         ensures again { self.fault ≡ false → MayBeOpened L.Log result }
     {
-        self.journal.log
+        self.pages.into_log()
     }
 
-    // Refuses what can't be read, and reads the page from the log where it doesn't lie in memory.
+    // Refuses what can't be read, reads the page from the log where it doesn't lie in memory, and accesses it.
     fn page_in(&mut self, pid: PageId) -> Result<(), Refusal>
         ensures stuck { self.old.fault ≡ true → IsErrOf result (refusal.Io Write) × (self.new ≡ self.old) }
         ensures brings { self.old.fault ≡ false → BringsIn L.Log self.old pid result self.new }
         ensures always { self.old.fault ≡ false → is_reserved pid ≡ false → IsResident self.old pid → IsOk result }
         ensures reads { ReadsPage L.Log self.old pid self.new }
         ensures kept_out { OnErr result (IsAway self.old pid → IsAway self.new pid) }
+        ensures bounded { IsBounded L.Log self.new }
+        ensures accesses { OnOk result (FindsPage self.old pid self.new) }
+        ensures same { OnErr result (KeepsMemory self.old self.new) }
     {
-        if self.journal.fault {
-            return Err(Refusal::Io(Device::Write));
-        }
-        if is_reserved(pid) {
-            return Err(Refusal::Unsupported(Why::ReservedId));
-        }
-        let count = self.pages.len() as PageId;
-        if pid >= count {
-            return Ok(());
-        }
-        let page = &mut self.pages[pid as usize];
-        pull(self.alloc, &mut self.journal, pid, page)
+        let read = self.pages.page_in(&mut self.accesses, pid);
+        settle(&mut self.pages, &mut self.accesses, None);
+        read
     }
 
     // The node at an id that lies in memory, with the page's token.
     fn node_at(&self, pid: PageId) -> Option<NodeView<'_>>
-        ensures { IsNodeAt L.Log self.now pid result }
+        ensures is { IsNodeAt L.Log self.now pid result }
+        ensures node { MatchOption result (HasNoNode self.now pid) (λ _. (size : ℕ) × HasNode self.now pid size) }
     {
-        let page = self.pages.get(pid as usize)?;
-        let Kept::Node(node) = &page.kept else {
-            return None;
-        };
-        Some(NodeView::new(node, PageView::new(pid, page.stamp)))
+        self.pages.node_at(pid)
     }
+}
+
+// The page of a swap that was refused.
+fn lost_by<T>(swapped: &Result<T, Error>, pid: PageId) -> Option<PageId>
+    ensures { result ≡ lost_by swapped.now pid }
+{
+    match swapped {
+        Ok(_) => None,
+        Err(_) => Some(pid),
+    }
+}
+
+// Pages out what the list dropped in the present call, and with it the page whose append was refused then.
+fn settle<L: Log>(pages: &mut Pages<L>, accesses: &mut Accesses, lost: Option<PageId>)
+    ensures { Settles L.Log accesses.old lost pages.old pages.new accesses.new }
+{
+    if let Some(dropped) = accesses.dropped.take() {
+        pages.page_out(&dropped);
+        if let Some(pid) = lost {
+            pages.page_out_at(pid);
+        }
+    }
+    pages.know_sizes();
 }

@@ -1,6 +1,6 @@
 //! Pages as the cache keeps them.
 
-ghost use Rattle.std.specs.Prelude.{◌≡◌, ◌<◌, ◌^◌, length, vec_len, map, IfOk};
+ghost use Rattle.std.specs.Prelude.{◌≡◌, ◌<◌, ◌-◌, ◌^◌, min, length, vec_len, map, IfOk};
 ghost use Rattle.std.specs.List.{sum_by};
 ghost use Rattle.sled_pagecache.specs.ChainReads.{place_of};
 ghost use Rattle.sled_pagecache.specs.Stamps.{stamps_to};
@@ -37,6 +37,7 @@ pub(super) enum Kept {
 
 impl Page {
     ghost use Rattle.sled_pagecache.specs.Pages.{is_free, IsLast, IsSaidBy};
+    ghost use Rattle.sled_pagecache.specs.PagingOut.{IsPagedOut};
 
     /// Where the log keeps the messages that make the page, in the order of its chain.
     pub fn cache_infos(&self) -> &[CacheInfo]
@@ -49,11 +50,7 @@ impl Page {
     pub fn log_size(&self) -> u64
         ensures { sum_by (λ info. info.log_size) self.now.infos.items < 2 ^ 64 → result ≡ sum_by (λ info. info.log_size) self.now.infos.items }
     {
-        let mut total: u64 = 0;
-        for info in &self.infos {
-            total = total.saturating_add(info.log_size);
-        }
-        total
+        total_size(&self.infos)
     }
 
     /// The lsn of the last of these messages.
@@ -68,6 +65,15 @@ impl Page {
         ensures { result ≡ is_free self.now.kept }
     {
         matches!(self.kept, Kept::Free)
+    }
+
+    // Lets go of the node, where one lies in memory.
+    pub(super) fn page_out(&mut self)
+        ensures { IsPagedOut self.old self.new }
+    {
+        if let Kept::Node(_) = self.kept {
+            self.kept = Kept::Away;
+        }
     }
 
     /// The page as a log says it: by the places of its messages.
@@ -112,6 +118,17 @@ impl Clone for Kept {
             Kept::Node(node) => Kept::Node(node.clone()?),
         })
     }
+}
+
+// How much of the log messages take up together, in bytes, or `u64::MAX` where it is no less.
+pub(super) fn total_size(infos: &[CacheInfo]) -> u64
+    ensures { result ≡ min (sum_by (λ info. info.log_size) infos.now) (2 ^ 64 - 1) }
+{
+    let mut total: u64 = 0;
+    for info in infos {
+        total = total.saturating_add(info.log_size);
+    }
+    total
 }
 
 // The places of messages, as a log says them.

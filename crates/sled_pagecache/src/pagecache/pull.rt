@@ -1,19 +1,24 @@
 //! The reading of a page that doesn't lie in memory.
 
-ghost use Rattle.std.specs.Prelude.{◌≡◌, ℕ, ◌≤◌, ◌<◌, [], false, true, length, IfErr, IsOk, OnOk, OnErr};
+ghost use Rattle.std.specs.Prelude.{◌≡◌, ◌⊎◌, ℕ, ◌≤◌, ◌<◌, [], false, true, length, IfErr, IsOk, OnOk, OnErr};
+ghost use Rattle.sled_base.specs.declared.types.Refusal.TheVariants as refusal;
 ghost use Rattle.sled_log.specs.Messages.{effect_of_entry, told};
 ghost use Rattle.sled_log.specs.State.{now};
+ghost use Rattle.sled_pagecache.specs.Accesses.{WasAccessed, IsTouched};
 ghost use Rattle.sled_pagecache.specs.ChainReads.{chain_at, more};
-ghost use Rattle.sled_pagecache.specs.Journal.{Went, IsCaused};
+ghost use Rattle.sled_pagecache.specs.Journal.{Went, IsCaused, IsOfLog};
 ghost use Rattle.sled_pagecache.specs.LinkedPages.{TakesLink, RefusesTold, HadNoRoom, WasBegun};
-ghost use Rattle.sled_pagecache.specs.Pages.{IsKept, is_free, is_resident};
+ghost use Rattle.sled_pagecache.specs.Pages.{IsKept, is_free, is_resident, size_of};
 ghost use Rattle.sled_pagecache.specs.Pulling.{RefusesPull};
 ghost use Rattle.sled_pagecache.specs.Swaps.{RefusesLink};
 ghost use Rattle.sled_pagecache.specs.Table.{IsFreeOrNode};
+ghost use Rattle.sled_pagecache.specs.Touching.{IsListedAt, AccessesNode};
+ghost use Rattle.sled_pagecache.specs.declared.pagecache.page.Kept.TheVariants as kept;
 
+use super::accesses::Accesses;
 use super::chain::read_chain;
 use super::journal::Journal;
-use super::page::{Kept, Page};
+use super::page::{Kept, Page, total_size};
 use super::reading::node_of;
 use super::swap::link_page;
 use sled_base::{PageId, Refusal};
@@ -56,10 +61,64 @@ pub(super) fn pull<L: Log>(
     Ok(())
 }
 
+// Reads the node of a page and accesses the page, which takes no memory where it is listed with its size. What a refused access has
+// read isn't kept.
+pub(super) fn pull_and_access<L: Log>(
+    alloc: Global,
+    journal: &mut Journal<L>,
+    accesses: &mut Accesses,
+    pid: PageId,
+    page: &mut Page,
+) -> Result<(), Refusal>
+    requires ready { journal.old.fault ≡ false }
+    requires usable { (L.state journal.old.log).usable ≡ true }
+    requires kept { L.tells → IsKept (chain_at (L.state journal.old.log) pid) page.old }
+    ensures kept { L.tells → IsKept (chain_at (L.state journal.old.log) pid) page.new }
+    ensures same { L.tells → journal.new.fault ≡ false → now effect_of_entry (L.state journal.new.log) ≡ now effect_of_entry (L.state journal.old.log) }
+    ensures stamp { page.new.stamp ≡ page.old.stamp }
+    ensures infos { page.new.infos.items ≡ page.old.infos.items }
+    ensures resident { OnOk result (is_resident page.new.kept ≡ true) }
+    ensures err { OnErr result (page.new.kept ≡ page.old.kept) }
+    ensures left { OnErr result (accesses.new ≡ accesses.old) }
+    ensures free { is_free page.new.kept ≡ is_free page.old.kept }
+    ensures own { IsFreeOrNode page.old.kept → IsFreeOrNode page.new.kept }
+    ensures is_there { is_resident page.old.kept ≡ true → IsListedAt pid page.old accesses.old.lru → IsOk result }
+    ensures stays { is_resident page.old.kept ≡ true → page.new.kept ≡ page.old.kept }
+    ensures unread { is_resident page.old.kept ≡ true → journal.new ≡ journal.old }
+    ensures went { Went L.tells L.state L.moment L.left_since L.counts journal.old journal.new [] }
+    ensures cause { IsCaused L.tells L.state L.moment L.left_since L.counts journal.old journal.new ⊥ result }
+    ensures reads { is_resident page.old.kept ≡ false → OnOk result ((L.counts journal.new.log).reads ≡ more (length page.old.infos.items) (L.counts journal.old.log).reads) }
+    ensures at_most { OnErr result ((times : ℕ) × (times ≤ length page.old.infos.items) × ((L.counts journal.new.log).reads ≡ more times (L.counts journal.old.log).reads)) }
+    ensures refused { L.tells → IfErr result (RefusesPull (chain_at (L.state journal.old.log) pid)) }
+    ensures accessed { OnOk result (AccessesNode accesses.old pid page.new accesses.new) }
+{
+    let was_away = matches!(page.kept, Kept::Away);
+    pull(alloc, journal, pid, page)?;
+    let outcome = access_node(accesses, pid, page);
+    if was_away && outcome.is_err() {
+        page.kept = Kept::Away;
+    }
+    outcome
+}
+
+// Accesses a page of which the node lies in memory.
+fn access_node(accesses: &mut Accesses, pid: PageId, page: &Page) -> Result<(), Refusal>
+    ensures accessed { OnOk result (AccessesNode accesses.old pid page.now accesses.new) }
+    ensures err { OnErr result (accesses.new ≡ accesses.old) }
+    ensures refused { IfErr result (λ why. why ≡ refusal.OutOfMemory) }
+    ensures always { IsListedAt pid page.now accesses.old.lru → IsOk result }
+{
+    match page.kept {
+        Kept::Node(_) => accesses.access(pid, total_size(&page.infos)),
+        _ => Ok(()),
+    }
+}
+
 // Applies a link to the node of a page, which is read where it doesn't lie in memory. What a refused link has read isn't kept.
 pub(super) fn pull_and_link<L: Log>(
     alloc: Global,
     journal: &mut Journal<L>,
+    accesses: &mut Accesses,
     pid: PageId,
     page: &mut Page,
     link: &Link,
@@ -83,11 +142,15 @@ pub(super) fn pull_and_link<L: Log>(
     ensures unread { is_resident page.old.kept ≡ true → (L.counts journal.new.log).reads ≡ (L.counts journal.old.log).reads }
     ensures reads { is_resident page.old.kept ≡ false → OnOk result ((L.counts journal.new.log).reads ≡ more (length page.old.infos.items) (L.counts journal.old.log).reads) }
     ensures kept_out { is_resident page.old.kept ≡ false → OnErr result (is_resident page.new.kept ≡ false) }
+    ensures accessed { OnOk result (WasAccessed accesses.old pid (size_of page.new) accesses.new) }
+    ensures touched { OnErr result (IsTouched accesses.old pid accesses.new) }
+    ensures lost { OnErr result ((page.new.kept ≡ page.old.kept) ⊎ (page.new.kept ≡ kept.Away)) }
+    ensures unasked { L.tells → IfErr result (λ refusal. IsOfLog refusal ⊎ ((page.new.kept ≡ page.old.kept) × (accesses.new ≡ accesses.old))) }
     ensures at_most { OnErr result ((times : ℕ) × (times ≤ length page.old.infos.items) × ((L.counts journal.new.log).reads ≡ more times (L.counts journal.old.log).reads)) }
 {
     let was_away = matches!(page.kept, Kept::Away);
     pull(alloc, journal, pid, page)?;
-    let outcome = link_page(alloc, journal, pid, page, link);
+    let outcome = link_page(alloc, journal, accesses, pid, page, link);
     if was_away && outcome.is_err() {
         page.kept = Kept::Away;
     }

@@ -60,7 +60,7 @@ fn infos_of(
 ) -> Result<Vec<CacheInfo>, AllocError>
     ensures { IfOk result (λ infos. infos.items ≡ map info_at (base ∷ frags.now)) }
 {
-    let mut infos = Vec::new(alloc);
+    let mut infos = Vec::with_capacity(alloc, frags.len().saturating_add(1))?;
     infos.push(info_at(base))?;
     for frag in frags {
         infos.push(info_at(*frag))?;

@@ -1,6 +1,6 @@
 //! The swaps of a page that stands and lies in memory.
 
-ghost use Rattle.std.specs.Prelude.{◌≡◌, ◌+◌, ◌-◌, ◌<◌, ◌^◌, ◌↔◌, ◌++◌, [], ◌∷◌, false, true, length, map, slice_set, vec_len, vec_capacity, IfErr, OnOk, OnErr, IsErrOf, IsTrue};
+ghost use Rattle.std.specs.Prelude.{◌≡◌, ◌⊎◌, ◌+◌, ◌-◌, ◌<◌, ◌≤◌, ◌^◌, ◌↔◌, ◌++◌, [], ◌∷◌, false, true, length, map, slice_set, max, vec_len, vec_capacity, IfErr, OnOk, OnErr, IsErrOf, IsTrue};
 ghost use Rattle.std.specs.List.{AllByRecursion, sum_by};
 ghost use Rattle.sled_base.specs.declared.types.Device.TheVariants.{Write};
 ghost use Rattle.sled_base.specs.declared.types.Refusal.TheVariants.{Io};
@@ -14,21 +14,23 @@ ghost use Rattle.sled_log.specs.State.{now};
 ghost use Rattle.sled_log.specs.Writing.{message_of};
 ghost use Rattle.sled_node.specs.Links.{Accepts, applied};
 ghost use Rattle.sled_node.specs.Payloads.Links.{CanWriteLink};
+ghost use Rattle.sled_pagecache.specs.Accesses.{WasAccessed, IsTouched, capped};
 ghost use Rattle.sled_pagecache.specs.ChainReads.{chain_at};
-ghost use Rattle.sled_pagecache.specs.Journal.{Went, IsCaused, begun_by};
+ghost use Rattle.sled_pagecache.specs.Journal.{Went, IsCaused, IsOfLog, begun_by};
 ghost use Rattle.sled_pagecache.specs.Limits.{most_messages};
-ghost use Rattle.sled_pagecache.specs.Pages.{IsKept, is_free};
+ghost use Rattle.sled_pagecache.specs.Pages.{IsKept, is_free, size_of, size_linked};
 ghost use Rattle.sled_pagecache.specs.Swaps.{IsRaised, IsLinked, RefusesSwap, RefusesLink, Wrote, infos_after, linked_length, update_of};
 ghost use Rattle.sled_pagecache.specs.Changes.{link_update};
 ghost use Rattle.sled_pagecache.specs.Table.{IsFreeOrNode};
 ghost use Rattle.sled_pagecache.specs.declared.pagecache.page.Kept.TheVariants as kept;
 
 use super::PAGE_CONSOLIDATION_THRESHOLD;
+use super::accesses::{Accesses, size_with};
 use super::chain::CacheInfo;
 use super::journal::Journal;
-use super::page::{Kept, Page};
+use super::page::{Kept, Page, total_size};
 use super::write::{write_link, write_node};
-use sled_base::{Bug, PageId, Refusal, Why};
+use sled_base::{Bug, PageId, Refusal, Serialize, Why};
 use sled_log::Log;
 use sled_node::{Link, Node};
 use std::alloc::{AllocError, Global};
@@ -37,6 +39,7 @@ use std::alloc::{AllocError, Global};
 pub(super) fn replace_page<L: Log>(
     alloc: Global,
     journal: &mut Journal<L>,
+    accesses: &mut Accesses,
     pid: PageId,
     page: &mut Page,
     node: Node,
@@ -57,12 +60,18 @@ pub(super) fn replace_page<L: Log>(
     ensures cause { IsCaused L.tells L.state L.moment L.left_since L.counts journal.old journal.new (L.is_full journal.old.log (length (message_of (contents.Put (contents.Node node))).payload)) result }
     ensures reads { (L.counts journal.new.log).reads ≡ (L.counts journal.old.log).reads }
     ensures sized { L.tells → OnOk result (AllByRecursion IsSized (now effect_of_entry (L.state journal.new.log))) }
+    ensures accessed { OnOk result (WasAccessed accesses.old pid (size_of page.new) accesses.new) }
+    ensures touched { OnErr result (IsTouched accesses.old pid accesses.new) }
+    ensures unasked { L.tells → IfErr result (λ refusal. IsOfLog refusal ⊎ (accesses.new ≡ accesses.old)) }
 {
     // Every node is well-formed.
     let _ = node.data();
     if page.stamp == u64::MAX {
         return Err(Refusal::Unsupported(Why::StampUsedUp));
     }
+    let Ok(()) = accesses.access(pid, size_with(0, node.serialized_size())) else {
+        return Err(Refusal::OutOfMemory);
+    };
     let info = write_node(alloc, journal, pid, &node, page.stamp + 1)?;
     page.kept = Kept::Node(node);
     keep_alone(page, info);
@@ -78,6 +87,7 @@ fn keep_alone(page: &mut Page, info: CacheInfo)
     ensures kept { page.new.kept ≡ page.old.kept }
 {
     page.infos.clear();
+    page.infos.shrink_to(1);
     page.infos.push_reserved(info);
     page.stamp += 1;
 }
@@ -89,6 +99,7 @@ fn keep_alone(page: &mut Page, info: CacheInfo)
 pub(super) fn link_page<L: Log>(
     alloc: Global,
     journal: &mut Journal<L>,
+    accesses: &mut Accesses,
     pid: PageId,
     page: &mut Page,
     link: &Link,
@@ -114,6 +125,10 @@ pub(super) fn link_page<L: Log>(
     ensures sized { L.tells → OnOk result (AllByRecursion IsSized (now effect_of_entry (L.state journal.new.log))) }
     ensures free { is_free page.new.kept ≡ is_free page.old.kept }
     ensures own { IsFreeOrNode page.old.kept → IsFreeOrNode page.new.kept }
+    ensures accessed { OnOk result (WasAccessed accesses.old pid (size_of page.new) accesses.new) }
+    ensures touched { OnErr result (IsTouched accesses.old pid accesses.new) }
+    ensures lost { OnErr result ((page.new.kept ≡ page.old.kept) ⊎ (page.new.kept ≡ kept.Away)) }
+    ensures unasked { L.tells → IfErr result (λ refusal. IsOfLog refusal ⊎ ((page.new.kept ≡ page.old.kept) × (accesses.new ≡ accesses.old))) }
 {
     let Kept::Node(node) = &mut page.kept else {
         return Err(Refusal::Corruption(None));
@@ -125,6 +140,10 @@ pub(super) fn link_page<L: Log>(
         return Err(Refusal::Unsupported(Why::StampUsedUp));
     }
     let Ok(()) = prepare(&mut page.infos, node, link) else {
+        return Err(Refusal::OutOfMemory);
+    };
+    let Ok(()) = access_linked(accesses, pid, &page.infos, node, link) else {
+        page.kept = Kept::Away;
         return Err(Refusal::OutOfMemory);
     };
     let messages = page.infos.len();
@@ -165,9 +184,43 @@ fn prepare(infos: &mut Vec<CacheInfo>, node: &mut Node, link: &Link) -> Result<(
     ensures err { OnErr result (node.new ≡ node.old) }
 {
     if infos.len() < PAGE_CONSOLIDATION_THRESHOLD {
-        infos.reserve(1)?;
+        make_room(infos)?;
     }
     node.apply(link)
+}
+
+// Makes room for one more message where there is none: for twice as many, or for 10 where that is less.
+fn make_room(infos: &mut Vec<CacheInfo>) -> Result<(), AllocError>
+    requires { vec_len infos.old < most_messages }
+    ensures infos { infos.new.items ≡ infos.old.items }
+    ensures len { vec_len infos.new ≡ vec_len infos.old }
+    ensures room { OnOk result (vec_len infos.new < vec_capacity infos.new) }
+    ensures most { OnOk result (vec_capacity infos.new ≤ max (vec_capacity infos.old) most_messages) }
+{
+    let len = infos.len();
+    if len < infos.capacity() {
+        return Ok(());
+    }
+    let more = len.clamp(1, PAGE_CONSOLIDATION_THRESHOLD - len);
+    infos.reserve_exact(more)
+}
+
+// Accesses a page with what its messages will take: the link beside them, or the node that it made where they are as many as may be.
+fn access_linked(
+    accesses: &mut Accesses,
+    pid: PageId,
+    infos: &[CacheInfo],
+    node: &Node,
+    link: &Link,
+) -> Result<(), Refusal>
+    requires { CanWriteLink link.now }
+    ensures accessed { OnOk result (WasAccessed accesses.old pid (capped (size_linked infos.now (length (message_of (link_update (length infos.now) link.now node.now)).payload))) accesses.new) }
+    ensures err { OnErr result (accesses.new ≡ accesses.old) }
+{
+    if infos.len() < PAGE_CONSOLIDATION_THRESHOLD {
+        return accesses.access(pid, size_with(total_size(infos), link.serialized_size()));
+    }
+    accesses.access(pid, size_with(0, node.serialized_size()))
 }
 
 // Writes a link to the log, or the node that it made where so many messages make the page as may be.

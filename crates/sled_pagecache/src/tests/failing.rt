@@ -1,6 +1,6 @@
-// A log in memory of which one read and one write fail.
+// A log in memory of which one read and one write fail, or that is full.
 
-ghost use Rattle.std.specs.Prelude.{⊤, ◌≡◌, ◌==◌, ℕ, ◌+◌, ◌≤◌, ◌^◌, pos, [], true};
+ghost use Rattle.std.specs.Prelude.{⊤, ◌≡◌, ◌==◌, ℕ, pos, [], true};
 ghost use Rattle.sled_log.specs.Calls.{one_more};
 ghost use Rattle.sled_log.specs.Items.{left_now, left_earlier, stable_left};
 ghost use Rattle.sled_log.specs.Memory.{state_of, clock_of, might_have_left, size_of, stable_size_of, pending_size_of};
@@ -9,12 +9,13 @@ use super::*;
 use sled_base::Lsn;
 
 // A log in memory. The read with one number fails, and the write with the other, each counted from 1, and no other. A write that
-// fails writes nothing.
+// fails writes nothing. It takes no message that would make it larger than it may be.
 #[derive(Drop)]
 pub(super) struct FailingLog {
     log: MemLog,
     fails_to_read: u64,
     fails_to_write: u64,
+    room: u64,
     reads: u64,
     writes: u64,
     failed: u64,
@@ -45,11 +46,22 @@ impl FailingLog {
             log,
             fails_to_read,
             fails_to_write,
+            room: u64::MAX,
             reads: 0,
             writes: 0,
             failed: 0,
             faults: 0,
         }
+    }
+
+    // A log of which no call fails, with room for so many bytes.
+    pub(super) fn with_room(log: MemLog, room: u64) -> FailingLog
+        ensures log { result.log ≡ log }
+        ensures usable { result.faults ≡ 0 }
+    {
+        let mut full = FailingLog::new(log, 0, 0);
+        full.room = room;
+        full
     }
 
     // What is left of it.
@@ -77,7 +89,7 @@ impl Log for FailingLog {
 
     ghost to_write = { λ log. pending_size_of log.log };
 
-    ghost is_full = { λ log n. 2 ^ 63 ≤ size_of log.log + 17 + n };
+    ghost is_full = { λ _ _. ⊤ };
 
     ghost is_full_for_batch = { λ _. ⊥ };
 
@@ -93,6 +105,10 @@ impl Log for FailingLog {
         pid: PageId,
         payload: &[u8],
     ) -> Result<(Lsn, DiskPtr, u64), LogError> {
+        let added = (payload.len() as u64).saturating_add(17);
+        if self.log.size().saturating_add(added) > self.room {
+            return Err(LogError::Full);
+        }
         if is_next(&mut self.writes, self.fails_to_write) {
             self.faults = one_more(self.faults);
             return Err(LogError::WriteFault);

@@ -1,4 +1,9 @@
-use Rattle.sled_pagecache.proofs.Names.{inr, ◌≡◌, [], ◌∷◌, length, ◌∙◌, refl, rules, Node, Put, message_of, written-update, Went-none, IsCaused-handed_on}
+use Rattle.sled_pagecache.proofs.Names.{inl, subst, ap, ◌+◌, ◌-◌, ◌^◌, inr, ◌≡◌, [], ◌∷◌, length, ◌∙◌, refl, rules, err_from_is_err_and, Node, Put, message_of, written-update, Went-none, IsCaused-handed_on}
+use Rattle.std.specs.Prelude.{min}
+use Rattle.sled_log.specs.Limits.{head_size}
+use Rattle.sled_pagecache.proofs.InMemory.{accessed-added}
+use Rattle.sled_pagecache.proofs.Sizes.{size-alone}
+use Rattle.sled_pagecache.specs.Accesses.{WasAccessed, capped}
 use Rattle.sled_pagecache.proofs.NewPages.{only-one, added-others, new-kept, has-one-more, new-page-went}
 use Rattle.sled_pagecache.proofs.Refused.{refused-is}
 use Rattle.sled_pagecache.proofs.pagecache.add.add_page.Goals as goal
@@ -61,4 +66,36 @@ returns-clause-cause g c = record { fault = c.in_ok-info.ensures.cause.fault; re
 
 pub returns-in_err-info-clause-refused : goal.returns-in_err-info-clause-refused
 returns-in_err-info-clause-refused g c = λ told.
-    rw (refused-is c.from_residual.result _ c.from_residual.ensures.1) (inr ((λ all. c.if-len-eq-MAX_PAGES.false (c.len.ensures ∙ c.args.pages.now.ok.0 ∙ all)), c.in_err-info.ensures.of_log told))
+    let p = err_from_is_err_and c.from_residual.result c.from_residual.ensures.1 in
+    rw (p.1, p.2) (inr ((λ all. c.if-len-eq-MAX_PAGES.false (c.len.ensures ∙ c.args.pages.now.ok.0 ∙ all)), c.in_err-info.ensures.of_log told))
+
+pub returns-in_default-access-clause-is : goal.returns-in_default-access-clause-is
+returns-in_default-access-clause-is g c = written-update (Put (Node c.args.node)) c.data.ensures.well_formed
+
+pub returns-in_default-access-clause-went : goal.returns-in_default-access-clause-went
+returns-in_default-access-clause-went g c =
+    Went-none g.L.Log.tells g.L.Log.state g.L.Log.moment g.L.Log.left_since g.L.Log.counts c.args.journal.now c.requires.usable (g.met.L.Log.only_now c.args.journal.now.log)
+
+pub returns-in_default-access-clause-cause : goal.returns-in_default-access-clause-cause
+returns-in_default-access-clause-cause g c = record { fault = c.requires.ready; read = λ is. absurd cc; write = λ is. absurd cc; full = λ is. absurd cc }
+
+pub returns-in_err-info-clause-touched : goal.returns-in_err-info-clause-touched
+returns-in_err-info-clause-touched g c =
+    let p = err_from_is_err_and c.from_residual.result c.from_residual.ensures.1 in
+    let at : c.len-pid.result ≡ length c.args.pages.now.items = c.len-pid.ensures ∙ c.args.pages.now.ok.0 in
+    rw (p.1, ← at) (inr (capped c.size_with.result, c.in-Ok-access.ensures.accessed))
+
+pub returns-in_err-info-clause-unasked : goal.returns-in_err-info-clause-unasked
+returns-in_err-info-clause-unasked g c = λ told.
+    let p = err_from_is_err_and c.from_residual.result c.from_residual.ensures.1 in
+    rw (p.1, p.2) (inl (c.in_err-info.ensures.of_log told))
+
+pub returns-clause-accessed : goal.returns-clause-accessed
+returns-clause-accessed g c =
+    let at : c.len-pid.result ≡ length c.args.pages.now.items = c.len-pid.ensures ∙ c.args.pages.now.ok.0 in
+    let done = c.in_ok-info in
+    let alone : c.push_reserved.new.self.items ≡ done.info ∷ [] = only-one c.push_reserved.new.self.items c.in-Ok-with_capacity.infos.items done.info c.push_reserved.ensures.items c.in-Ok-with_capacity.ensures.items in
+    accessed-added c.args.accesses.now c.access.new.self c.args.pages.now.items c.reserve.new.self.items c.push_reserved-2.new.self.items _ c.len-pid.result at c.reserve.ensures.items c.push_reserved-2.ensures.items
+    (subst (λ n. WasAccessed c.args.accesses.now c.len-pid.result n c.access.new.self)
+    (ap capped (c.size_with.ensures ∙ ap (λ n. min (0 + head_size + n) (2 ^ 64 - 1)) c.serialized_size.ensures) ∙ size-alone c.push_reserved.new.self.items done.info (length (message_of (Put (Node c.args.node))).payload) alone done.ensures.size.0)
+    c.in-Ok-access.ensures.accessed)

@@ -25,6 +25,10 @@ returns-then-is_err g c =
       unread = search rules;
       reads = search rules;
       kept_out = search rules;
+      accessed = search rules;
+      touched = search rules;
+      lost = search rules;
+      unasked = search rules;
       at_most = read-at_most g.L.Log c.args.journal.now c.pull.new.journal c.link_page-outcome.new.journal c.args.pid c.args.page.now c.pull.new.page c.link_page-outcome.new.page c.args.link.now read.went read.cause.fault read.same read.kept read.stamp read.infos read.resident result read.unread read.reads done.reads;
     }
 
@@ -47,6 +51,10 @@ returns-else-was_away g c =
       unread = search rules;
       reads = search rules;
       kept_out = search rules;
+      accessed = search rules;
+      touched = search rules;
+      lost = search rules;
+      unasked = search rules;
       at_most = read-at_most g.L.Log c.args.journal.now c.pull.new.journal c.link_page-outcome.new.journal c.args.pid c.args.page.now c.pull.new.page c.link_page-outcome.new.page c.args.link.now read.went read.cause.fault read.same read.kept read.stamp read.infos read.resident result read.unread read.reads done.reads;
     }
 

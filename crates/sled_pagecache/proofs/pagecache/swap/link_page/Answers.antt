@@ -1,5 +1,7 @@
 use Rattle.sled_pagecache.proofs.Names.{[], ◌∷◌, length, ap, subst, ◌∙◌, inr, refl, rules, Update, Change, effect_of_entry, now, message_of, Went, Went-none, CacheInfo, infos_after}
 use Rattle.sled_pagecache.specs.declared.pagecache.page.Kept.TheVariants as kept
+use Rattle.sled_pagecache.proofs.Sizes.{linked-size}
+use Rattle.sled_pagecache.specs.Accesses.{WasAccessed}
 use Rattle.sled_pagecache.proofs.Linked.{refuses-node, kept-away, kept-still, page-full, page-kept, page-others, update-is, infos-length, went-handed, cause-handed}
 use Rattle.sled_pagecache.proofs.pagecache.swap.link_page.Goals as goal
 
@@ -61,3 +63,21 @@ returns-in-Err-clause-still g c = λ told.
 pub returns-in-Err-clause-refused : goal.returns-in-Err-clause-refused
 returns-in-Err-clause-refused g c = λ told.
     refuses-node c.args.page.now.stamp c.args.page.now.kept c.args.link.now c.in-Node.node c.in-Err.refusal c.in-Node.is (inr (c.accepts.ensures.accepted.0 c.if-not-accepts.false, inr (c.if-page.false, c.in-Err.ensures.of_log told)))
+
+pub returns-in_default-access_linked-clause-went : goal.returns-in_default-access_linked-clause-went
+returns-in_default-access_linked-clause-went g c =
+    Went-none g.L.Log.tells g.L.Log.state g.L.Log.moment g.L.Log.left_since g.L.Log.counts c.args.journal.now c.requires.usable (g.met.L.Log.only_now c.args.journal.now.log)
+
+pub returns-in_default-access_linked-clause-still : goal.returns-in_default-access_linked-clause-still
+returns-in_default-access_linked-clause-still g c = λ told.
+    λ clear.
+    kept-away _ c.args.page.now _ (c.requires.kept told)
+    (page-full _ c.args.pid (c.requires.there told) c.args.page.now (c.requires.kept told) c.args.link.now c.in-Node.node c.prepare.new.node c.in-Node.is (c.accepts.ensures.accepted.0 c.if-not-accepts.false) c.in-Ok.ensures.applied (length c.args.page.now.infos.items) refl)
+    c.prepare.ensures.infos refl
+
+pub returns-in-Ok-write_linked-clause-accessed : goal.returns-in-Ok-write_linked-clause-accessed
+returns-in-Ok-write_linked-clause-accessed g c =
+    let done = c.in-Ok-write_linked in
+    subst (λ n. WasAccessed c.args.accesses.now c.args.pid n c.access_linked.new.accesses)
+    (linked-size c.deref.result.now c.prepare.new.infos.items c.len-messages.result c.args.link.now c.prepare.new.node c.keep_linked.new.page done.info c.deref.ensures.value (search rules) c.keep_linked.ensures.infos done.ensures.size.0)
+    c.in-Ok-access_linked.ensures.accessed

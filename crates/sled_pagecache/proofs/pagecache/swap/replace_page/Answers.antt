@@ -1,4 +1,9 @@
-use Rattle.sled_pagecache.proofs.Names.{[], ◌∷◌, length, map, sym, ap, ◌∙◌, rules, Node, Put, message_of, written-update, chain_at, CacheInfo, Went-none, IsCaused-handed_on}
+use Rattle.sled_pagecache.proofs.Names.{inr, refl, subst, ◌+◌, ◌-◌, ◌^◌, arith, le-leb, effect_of_entry, now, [], ◌∷◌, length, map, sym, ap, ◌∙◌, rules, err_from_is_err_and, Node, Put, message_of, written-update, chain_at, CacheInfo, Went-none, IsCaused-handed_on}
+use Rattle.std.specs.Prelude.{min}
+use Rattle.sled_log.specs.Limits.{head_size}
+use Rattle.sled_pagecache.proofs.Linked.{went-handed}
+use Rattle.sled_pagecache.proofs.Sizes.{size-alone}
+use Rattle.sled_pagecache.specs.Accesses.{WasAccessed, capped}
 use Rattle.sled_pagecache.proofs.Swaps.{at-page, other-pages, put-chains, kept-put}
 use Rattle.sled_pagecache.proofs.Refused.{refused-is}
 use Rattle.sled_pagecache.proofs.pagecache.swap.replace_page.Goals as goal
@@ -34,3 +39,34 @@ returns-in_err-info-clause-cause g c =
     rw (refused-is c.from_residual.result _ c.from_residual.ensures.1)
     (IsCaused-handed_on g.L.Log.tells g.L.Log.state g.L.Log.moment g.L.Log.left_since g.L.Log.counts c.args.journal.now c.write_node.new.journal
     (g.L.Log.is_full c.args.journal.now.log (length (message_of (Put (Node c.args.node))).payload)) c.in_err-info.field-0.0 c.in_err-info.ensures.cause)
+
+pub returns-in_default-clause-is : goal.returns-in_default-clause-is
+returns-in_default-clause-is g c = written-update (Put (Node c.args.node)) c.data.ensures.well_formed
+
+pub returns-in_default-clause-went : goal.returns-in_default-clause-went
+returns-in_default-clause-went g c =
+    Went-none g.L.Log.tells g.L.Log.state g.L.Log.moment g.L.Log.left_since g.L.Log.counts c.args.journal.now c.requires.usable (g.met.L.Log.only_now c.args.journal.now.log)
+
+pub returns-in_default-clause-cause : goal.returns-in_default-clause-cause
+returns-in_default-clause-cause g c = record { fault = c.requires.ready; read = λ is. absurd cc; write = λ is. absurd cc; full = λ is. absurd cc }
+
+pub write_node-requires-clause-can : goal.write_node-requires-clause-can
+write_node-requires-clause-can g c = λ told. le-leb c.args.pid (length (now effect_of_entry (g.L.Log.state c.args.journal.now.log))) (let there = c.requires.there told in omega (arith, there))
+
+pub returns-in_err-info-clause-refused : goal.returns-in_err-info-clause-refused
+returns-in_err-info-clause-refused g c = λ told.
+    let p = err_from_is_err_and c.from_residual.result c.from_residual.ensures.1 in
+    rw (p.1, p.2) (inr (c.if-page.false, c.in_err-info.ensures.of_log told))
+
+pub returns-in_err-info-clause-went : goal.returns-in_err-info-clause-went
+returns-in_err-info-clause-went g c =
+    let p = err_from_is_err_and c.from_residual.result c.from_residual.ensures.1 in
+    rw (p.1, p.2)
+    (went-handed g.L.Log.tells g.L.Log.state g.L.Log.moment g.L.Log.left_since g.L.Log.counts g.L.Log.is_full c.args.journal.now c.write_node.new.journal c.args.pid (Put (Node c.args.node)) (Put (Node c.args.node)) refl
+    c.in_err-info.field-0.0 CacheInfo (Unit {0}) c.in_err-info.ensures.went)
+
+pub returns-clause-accessed : goal.returns-clause-accessed
+returns-clause-accessed g c =
+    subst (λ n. WasAccessed c.args.accesses.now c.args.pid n c.access.new.self)
+    (ap capped (c.size_with.ensures ∙ ap (λ n. min (0 + head_size + n) (2 ^ 64 - 1)) c.serialized_size.ensures) ∙ size-alone c.keep_alone.new.page.infos.items c.in_ok-info.info (length (message_of (Put (Node c.args.node))).payload) c.keep_alone.ensures.infos c.in_ok-info.ensures.size.0)
+    c.in-Ok.ensures.accessed

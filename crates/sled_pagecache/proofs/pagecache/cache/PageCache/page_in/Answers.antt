@@ -1,50 +1,39 @@
-use Rattle.sled_pagecache.proofs.Names.{◌≡◌, false, [], Some, Result, Ok, slice_get, refl, sym, ◌∙◌, ap, subst, arith, slice_get_read, Refusal, BringsIn, is_reserved}
-use Rattle.sled_pagecache.proofs.PagingIn.{page-kept-at, page-own-at, same-consistent, brings-none, brings-pulled, kept_out-pulled, reads-pulled, part-pulled, always-pulled}
+use Rattle.sled_pagecache.proofs.Names.{None, on_err_weaker}
+use Rattle.sled_pagecache.proofs.Settling.{settled-same, settled-resident, settled-away, makes-found, page-config, brings-moved, reads-moved}
+use Rattle.sled_pagecache.specs.Relisting.{relisted}
 use Rattle.sled_pagecache.proofs.pagecache.cache.PageCache.page_in.Goals as goal
 
-pub pull-requires-clause-kept : goal.pull-requires-clause-kept
-pull-requires-clause-kept g c =
-    let inside = c.self.inside in
-    let q = c.index_mut-page.result.now in
-    let behind : is_reserved c.args.pid ≡ false = sym c.is_reserved.ensures ∙ c.if-is_reserved.false in
-    let at : slice_get inside.pages.items c.args.pid ≡ Some q = slice_get_read inside.pages.items _ c.args.pid q refl (omega (arith, c.if-pid-count.false, c.len-count.ensures)) c.index_mut-page.ensures.value in
-    page-kept-at g.L.Log inside.journal inside.journal inside.pages.items inside.free.items c.args.pid q q c.self.invariant c.if-self.false behind at
+pub page_in-read-requires : goal.page_in-read-requires
+page_in-read-requires g c = record { listed = c.self.invariant.bounded.listed }
 
 pub invariant_of-self : goal.invariant_of-self
 invariant_of-self g c =
     let inside = c.self.inside in
-    let q = c.index_mut-page.result.now in
-    let behind : is_reserved c.args.pid ≡ false = sym c.is_reserved.ensures ∙ c.if-is_reserved.false in
-    let at : slice_get inside.pages.items c.args.pid ≡ Some q = slice_get_read inside.pages.items _ c.args.pid q refl (omega (arith, c.if-pid-count.false, c.len-count.ensures)) c.index_mut-page.ensures.value in
-    let done = c.pull.ensures in
-    same-consistent g.L.Log inside.journal c.pull.new.journal inside.pages.items inside.free.items c.args.pid q c.pull.new.page c.self.invariant c.if-self.false behind at
-    [] done.went refl done.same (λ known _. done.kept known) done.infos done.free
-    (done.own (page-own-at g.L.Log inside.journal inside.journal inside.pages.items inside.free.items c.args.pid q q c.self.invariant c.if-self.false behind at))
-
-pub returns-then-pid-count-clause-brings : goal.returns-then-pid-count-clause-brings
-returns-then-pid-count-clause-brings g c =
-    let inside = c.self.inside in
-    let ok : Result (Unit {0}) Refusal = Ok tt in
-    λ ready.
-    subst (λ cache. BringsIn g.L.Log cache c.args.pid ok cache) c.self.view_is
-    (brings-none g.L.Log inside.next inside.config inside.recovered inside.journal inside.pages.items inside.free.items c.args.pid c.self.invariant (sym c.is_reserved.ensures ∙ c.if-is_reserved.false) c.if-self.false
-    (omega (arith, c.if-pid-count.true, c.len-count.ensures)) (g.met.L.Log.only_now inside.journal.log))
+    let done = c.page_in-read.ensures in
+    record {
+      none = c.settle.ensures.none;
+      bounded = (makes-found g.L.Log inside.pages c.page_in-read.new.self c.settle.new.pages inside.accesses c.page_in-read.new.accesses c.settle.new.accesses c.self.invariant (page-config g.L.Log inside.pages c.page_in-read.new.self c.args.pid c.page_in-read.result done.stuck done.brings) c.args.pid c.page_in-read.result c.settle.ensures done.stuck done.takes done.refused done.left).bounded;
+    }
 
 pub returns : goal.returns
 returns g c =
     let inside = c.self.inside in
-    let q = c.index_mut-page.result.now in
-    let behind : is_reserved c.args.pid ≡ false = sym c.is_reserved.ensures ∙ c.if-is_reserved.false in
-    let at : slice_get inside.pages.items c.args.pid ≡ Some q = slice_get_read inside.pages.items _ c.args.pid q refl (omega (arith, c.if-pid-count.false, c.len-count.ensures)) c.index_mut-page.ensures.value in
-    let done = c.pull.ensures in
+    let mid = c.page_in-read.new.self in
+    let between = c.page_in-read.new.accesses in
+    let result = c.page_in-read.result in
+    let done = c.page_in-read.ensures in
+    let new = c.settle.new.pages in
+    let after = c.settle.new.accesses in
+    let upper = relisted new after.lru in
+    let same = settled-same g.L.Log between None mid new after c.settle.ensures in
+    let made = makes-found g.L.Log inside.pages mid new inside.accesses between after c.self.invariant (page-config g.L.Log inside.pages mid c.args.pid result done.stuck done.brings) c.args.pid result c.settle.ensures done.stuck done.takes done.refused done.left in
     rw (← c.self.view_is) (record {
-      stuck = λ kept. absurd (let clear = c.if-self.false in cc);
-      brings = λ ready. brings-pulled g.L.Log inside.next inside.config inside.recovered inside.journal c.pull.new.journal inside.pages.items inside.free.items c.args.pid q c.pull.new.page c.self.invariant c.if-self.false behind at
-          c.pull.result done.same done.stamp done.resident done.err done.is_there done.went done.cause done.kept
-          (done.own (page-own-at g.L.Log inside.journal inside.journal inside.pages.items inside.free.items c.args.pid q q c.self.invariant c.if-self.false behind at)) done.refused;
-      always = λ ready free. always-pulled g.L.Log inside.next inside.config inside.recovered inside.journal c.pull.new.journal inside.pages.items inside.free.items c.args.pid q c.pull.new.page c.self.invariant c.if-self.false behind at c.pull.result done.is_there;
-      reads = reads-pulled g.L.Log inside.next inside.config inside.recovered inside.journal c.pull.new.journal inside.pages.items inside.free.items c.args.pid q c.pull.new.page c.self.invariant c.if-self.false behind at
-          c.pull.result (λ held. ap (λ journal. (g.L.Log.counts journal.log).reads) (done.unread held)) done.reads (part-pulled q c.pull.new.page _ c.pull.result done.err done.at_most);
-      kept_out = kept_out-pulled g.L.Log inside.next inside.config inside.recovered inside.journal c.pull.new.journal inside.pages.items inside.free.items c.args.pid q c.pull.new.page c.self.invariant c.if-self.false behind at
-          c.pull.result done.same done.stamp done.resident done.err done.is_there;
+      stuck = made.stuck;
+      brings = λ ready. brings-moved g.L.Log inside.pages mid inside.accesses.lru upper same c.args.pid result made.back (done.brings ready);
+      always = done.always;
+      reads = reads-moved g.L.Log inside.pages mid inside.accesses.lru upper same c.args.pid (settled-resident g.L.Log between None mid new after c.settle.ensures c.args.pid) done.reads;
+      kept_out = on_err_weaker result (λ out away. settled-away g.L.Log between None mid new after c.settle.ensures c.args.pid (out away)) done.kept_out;
+      bounded = made.bounded;
+      accesses = made.accessed;
+      same = made.same;
     })

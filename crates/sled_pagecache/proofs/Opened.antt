@@ -1,0 +1,78 @@
+-- What lies in memory, and what is listed, once a cache was opened.
+use Rattle.sled_base.specs.Containing.{contains_none}
+use Rattle.sled_base.specs.Lru.{Listing, listing, Recency, IsSound, IsUnused}
+use Rattle.sled_base.specs.LruLaws.{each_at}
+use Rattle.std.specs.Prelude.{◌/◌, ◌%◌, Contains}
+use Rattle.sled_pagecache.proofs.Names.{◌≡◌, ◌≤◌, ℕ, zero, suc, Bool, List, [], Option, None, Some, Result, Ok, slice_get, refl, sym, ◌∙◌, ap, subst, arith, none-some, Error, IfSome, Ghosts, Cache, AreOwn, IsRoots, IsCounter, IsOwnAt, Opens, IsUnread, Logged, Config, Journal, Kept, Page, slice_get-map, option_map}
+use Rattle.sled_pagecache.proofs.ByIds.{at-id}
+use Rattle.sled_pagecache.proofs.InMemory.{none-at}
+use Rattle.sled_pagecache.proofs.TableNodes.{view}
+use Rattle.sled_pagecache.specs.Memory.{HasNoNode, AreSized, IsBounded, ListsResident}
+use Rattle.sled_pagecache.specs.Pages.{node_size, size_of, size_if}
+use Rattle.sled_pagecache.specs.Relisting.{relisted}
+use Rattle.sled_pagecache.specs.Touching.{LacksNodes}
+use Rattle.sled_pagecache.specs.declared.pagecache.page.Kept.TheVariants as kept
+
+-- ---- the pages that are opened
+
+roots-none : (size : ℕ) (k : Kept) → IsRoots k → size_if size k ≡ None
+roots-none size (kept.Roots roots) is = refl
+roots-none size k is = absurd is
+
+counter-none : (size : ℕ) (k : Kept) → IsCounter k → size_if size k ≡ None
+counter-none size (kept.Counter n) is = refl
+counter-none size k is = absurd is
+
+unread-none : (size : ℕ) (k : Kept) → IsUnread k → size_if size k ≡ None
+unread-none size kept.Free unread = refl
+unread-none size kept.Away unread = refl
+unread-none size k unread = absurd unread
+
+none-kept : (pid : ℕ) (q : Page) → IsOwnAt pid q.kept → (2 ≤ pid → IsUnread q.kept) → node_size q ≡ None
+none-kept zero q own unread = roots-none (size_of q) q.kept own
+none-kept (suc zero) q own unread = counter-none (size_of q) q.kept own
+none-kept (suc (suc pid)) q own unread = unread-none (size_of q) q.kept (unread (omega arith))
+
+pub lacks-nodes : {L : Type 0} (next : ℕ) (config : Config) (recovered : Bool) (journal : Journal L) (pages : List Page) → AreOwn pages
+    → ((pid : ℕ) → 2 ≤ pid → IfSome (slice_get pages pid) (λ page. IsUnread page.kept)) → LacksNodes (view next config recovered journal pages)
+lacks-nodes next config recovered journal pages own unread pid = by (slice_get pages pid) refl
+  where
+    by : (o : Option Page) → slice_get pages pid ≡ o → HasNoNode (view next config recovered journal pages) pid
+    by None past = λ size has. none-some (Some size) (sym (slice_get-map (λ (p : Page). node_size p) pages pid ∙ ap (option_map (λ (p : Page). node_size p)) past) ∙ has)
+    by (Some q) at =
+        none-at next next config recovered journal journal pages pid q at
+        (none-kept pid q (at-id (λ (id : ℕ) (page : Page). IsOwnAt id page.kept) pages pid q own at) (λ from. subst (λ (o : Option Page). IfSome o (λ page. IsUnread page.kept)) at (unread pid from)))
+
+-- ---- the cache
+
+module _ {L : Type 0} (g : Ghosts L) (cache : Cache L) (lru : Recency) (unused : IsUnused cache.config.cache_capacity lru) where
+  pub opened-bounded : LacksNodes cache → IsSound lru → AreSized g cache → IsBounded g (relisted cache lru)
+  opened-bounded none sound sized = record {
+    listed = λ pid size has. absurd (none pid size has);
+    sized = sized;
+    sound = sound;
+    capacity = unused.capacity;
+  }
+
+  pub opened-lists : ListsResident (relisted cache lru)
+  opened-lists pid size listed =
+      absurd (contains_none (listing (pid / 256) size) (subst (λ shard. Contains shard (listing (pid / 256) size)) (each_at (λ (shard : List Listing). shard ≡ []) lru.shards (pid % 256) [] refl unused.empty) listed))
+
+pub opens-relisted : {L : Type 0} (g : Ghosts L) (log : L) (config : Config) (held : Logged) (cache : Cache L) (lru : Recency)
+    → (let opened : Result (Cache L) (Error × L) = Ok cache in Opens g log config held opened) → (let opened : Result (Cache L) (Error × L) = Ok (relisted cache lru) in Opens g log config held opened)
+opens-relisted g log config held cache lru opens = record {
+  stop = opens.stop;
+  held_then = opens.held_then;
+  added = opens.added;
+  stable = opens.stable;
+  is = record {
+    tells = opens.is.tells;
+    stamps = opens.is.stamps;
+    next = opens.is.next;
+    fault = opens.is.fault;
+    batch = opens.is.batch;
+    known = λ clear. let known = opens.is.known clear in record { usable = known.usable; logged = known.logged; contents = known.contents };
+  };
+  config_is = opens.config_is;
+  recovered = opens.recovered;
+}

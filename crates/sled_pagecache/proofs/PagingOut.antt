@@ -1,0 +1,189 @@
+-- A page leaves memory, and its cache stays as it always is.
+use Rattle.std.proofs.lemmas.Bool.Decides.{eqb_tells}
+use Rattle.std.proofs.lemmas.List.Elements.{Contains-append_left, Contains-append_right, Contains-append_cases}
+use Rattle.std.specs.Prelude.{Contains}
+use Rattle.sled_pagecache.proofs.Names.{◌++◌, ◌≡◌, ◌≢◌, ◌⊎◌, ◌≤◌, inl, inr, ℕ, zero, suc, Bool, true, false, List, [], ◌∷◌, length, length-set, ◌^◌, map, Some, None, slice_get, slice_set, refl, sym, ◌∙◌, ap, subst, arith, false≢true, none-some, same_Some, map-set, AllZip, Chain, effect_of_entry, Ghosts, Cache, IsResident, IsAway, HoldsChain, IsKept, place_of, is_free, is_resident, AreOwn, IsRoots, IsCounter, IsFreeOrNode, IsOwnAt, IsConsistent, stamps_in, Config, CacheInfo, Journal, Kept, Page}
+use Rattle.sled_log.specs.State as log
+use Rattle.sled_pagecache.proofs.InMemory.{stays-same, stays-then, set-others, set-none}
+use Rattle.sled_pagecache.proofs.ByIds.{at-id, set-by-id}
+use Rattle.sled_pagecache.proofs.Lookups.{map-at, set-at, put-back, all-at}
+use Rattle.sled_pagecache.proofs.ProperPages.{all-set}
+use Rattle.sled_pagecache.proofs.Standing.{node-full}
+use Rattle.sled_pagecache.proofs.TableNodes.{view}
+use Rattle.sled_pagecache.proofs.Tables.{free-same}
+use Rattle.sled_pagecache.specs.Memory.{HasNode, HasNoNode, StaysAt}
+use Rattle.sled_pagecache.specs.Pages.{size_of, size_if}
+use Rattle.sled_pagecache.specs.PagingOut.{paged_out, IsPagedOut, PagesOut}
+use Rattle.sled_pagecache.specs.declared.pagecache.page.Kept.TheVariants as kept
+
+-- ---- what a page holds then
+
+holds-out : (chain : Chain) (k : Kept) → HoldsChain chain k → HoldsChain chain (paged_out k)
+holds-out chain (kept.Node node) holds = node-full chain node holds
+holds-out chain kept.Free holds = holds
+holds-out chain kept.Away holds = holds
+holds-out chain (kept.Counter n) holds = holds
+holds-out chain (kept.Roots roots) holds = holds
+
+free-out : (k : Kept) → is_free (paged_out k) ≡ is_free k
+free-out (kept.Node node) = refl
+free-out kept.Free = refl
+free-out kept.Away = refl
+free-out (kept.Counter n) = refl
+free-out (kept.Roots roots) = refl
+
+roots-out : (k : Kept) → IsRoots k → IsRoots (paged_out k)
+roots-out (kept.Roots roots) is = tt
+roots-out k is = absurd is
+
+counter-out : (k : Kept) → IsCounter k → IsCounter (paged_out k)
+counter-out (kept.Counter n) is = tt
+counter-out k is = absurd is
+
+own-out : (k : Kept) → IsFreeOrNode k → IsFreeOrNode (paged_out k)
+own-out (kept.Node node) is = tt
+own-out kept.Free is = tt
+own-out kept.Away is = tt
+own-out k is = absurd is
+
+no-node-out : (size : ℕ) (k : Kept) → size_if size (paged_out k) ≡ None
+no-node-out size (kept.Node node) = refl
+no-node-out size kept.Free = refl
+no-node-out size kept.Away = refl
+no-node-out size (kept.Counter n) = refl
+no-node-out size (kept.Roots roots) = refl
+
+resident-out : (k : Kept) → is_resident (paged_out k) ≡ true → is_resident k ≡ true
+resident-out (kept.Node node) is = refl
+resident-out kept.Free is = refl
+resident-out kept.Away is = is
+resident-out (kept.Counter n) is = refl
+resident-out (kept.Roots roots) is = refl
+
+away-out : (k : Kept) → is_resident k ≡ false → is_resident (paged_out k) ≡ false
+away-out kept.Away is = refl
+away-out k is = absurd (false≢true (sym is))
+
+kept-out : (chain : Chain) (q page : Page) → IsKept chain q → IsPagedOut q page → IsKept chain page
+kept-out chain q page is out = record {
+  places = λ full. is.places (sym (ap is_free out.kept ∙ free-out q.kept) ∙ full) ∙ ap (map place_of) (sym out.infos);
+  long = is.long ∙ ap length (sym out.infos);
+  holds = subst (HoldsChain chain) (sym out.kept) (holds-out chain q.kept is.holds);
+}
+
+-- ---- the table
+
+zip-out : (chains : List Chain) (pages : List Page) (pid : ℕ) (q page : Page) → AllZip IsKept chains pages → slice_get pages pid ≡ Some q → IsPagedOut q page → AllZip IsKept chains (slice_set pages pid page)
+zip-out chains [] pid q page zip at out = absurd (none-some q at)
+zip-out [] (p ∷ pages) pid q page zip at out = absurd zip
+zip-out (chain ∷ chains) (p ∷ pages) zero q page zip at out = (kept-out chain q page (subst (IsKept chain) (same_Some p q at) zip.0) out, zip.1)
+zip-out (chain ∷ chains) (p ∷ pages) (suc pid) q page zip at out = (zip.0, zip-out chains pages pid q page zip.1 at out)
+
+own-kept : (pid : ℕ) (k : Kept) → IsOwnAt pid k → IsOwnAt pid (paged_out k)
+own-kept zero k own = roots-out k own
+own-kept (suc zero) k own = counter-out k own
+own-kept (suc (suc pid)) k own = own-out k own
+
+owns-out : (pages : List Page) (pid : ℕ) (q page : Page) → AreOwn pages → slice_get pages pid ≡ Some q → IsPagedOut q page → AreOwn (slice_set pages pid page)
+owns-out pages pid q page own at out =
+    set-by-id (λ (id : ℕ) (p : Page). IsOwnAt id p.kept) pages pid page own (subst (IsOwnAt pid) (sym out.kept) (own-kept pid q.kept (at-id (λ (id : ℕ) (p : Page). IsOwnAt id p.kept) pages pid q own at)))
+
+pub consistent-out : {L : Type 0} (g : Ghosts L) (journal : Journal L) (pages : List Page) (free : List ℕ) (pid : ℕ) (q page : Page)
+    → IsConsistent g.tells g.state journal pages free → slice_get pages pid ≡ Some q → IsPagedOut q page → IsConsistent g.tells g.state journal (slice_set pages pid page) free
+consistent-out g journal pages free pid q page is at out = record {
+  beside = λ clear.
+      let beside = is.beside clear in
+      record {
+        usable = beside.usable;
+        closed = beside.closed;
+        kept = λ known. zip-out (log.now effect_of_entry (g.state journal.log)) pages pid q page (beside.kept known) at out;
+        chains = beside.chains;
+        sized = beside.sized;
+      };
+  own = owns-out pages pid q page is.own at out;
+  both = subst (λ n. 2 ≤ n) (sym (length-set pages pid page)) is.both;
+  short = all-set _ pid pages page is.short (subst (λ (l : List CacheInfo). length l ≤ 10) (sym out.infos) (all-at (λ (p : Page). length p.infos.items ≤ 10) pages pid q is.short at));
+  few = subst (λ n. n ≤ 2 ^ 37) (sym (length-set pages pid page)) is.few;
+  free = is.free ∙ sym (free-same 0 pages pid page q at (ap is_free out.kept ∙ free-out q.kept));
+}
+
+-- ---- the cache
+
+module _ {L : Type 0} where
+  pub out-none : (P : ℕ → Type 0) (cache : Cache L) → ((pid : ℕ) → P pid → HasNoNode cache pid) → PagesOut P cache cache
+  out-none P cache none = record {
+    rest = refl;
+    out = none;
+    stays = λ pid _. stays-same cache pid;
+    nodes = λ pid size has. has;
+    resident = λ pid there. there;
+    away = λ pid away. away;
+  }
+
+  -- one after the other
+  pub out-then : (P Q R : ℕ → Type 0) (old mid new : Cache L) → ((pid : ℕ) → R pid → P pid ⊎ Q pid) → ((pid : ℕ) → P pid → R pid) → ((pid : ℕ) → Q pid → R pid)
+      → PagesOut P old mid → PagesOut Q mid new → PagesOut R old new
+  out-then P Q R old mid new split first second one two = record {
+    rest = two.rest ∙ ap (λ (cache : Cache L). record cache { resident = new.resident; nodes = new.nodes }) one.rest;
+    out = λ pid is. by pid (split pid is);
+    stays = λ pid isnt. stays-then old mid new pid (one.stays pid (λ is. isnt (first pid is))) (two.stays pid (λ is. isnt (second pid is)));
+    nodes = λ pid size has. one.nodes pid size (two.nodes pid size has);
+    resident = λ pid there. one.resident pid (two.resident pid there);
+    away = λ pid away. two.away pid (one.away pid away);
+  }
+    where
+      by : (pid : ℕ) → P pid ⊎ Q pid → HasNoNode new pid
+      by pid (inl is) size has = one.out pid is size (two.nodes pid size has)
+      by pid (inr is) size has = two.out pid is size has
+
+  pub out-one : (pids : List ℕ) (pid : ℕ) (old mid new : Cache L) → PagesOut (Contains pids) old mid → PagesOut (λ other. other ≡ pid) mid new → PagesOut (Contains (pids ++ pid ∷ [])) old new
+  out-one pids pid old mid new =
+      out-then (Contains pids) (λ other. other ≡ pid) (Contains (pids ++ pid ∷ [])) old mid new (λ other within. by other (Contains-append_cases pids (pid ∷ []) other within))
+      (λ other within. Contains-append_left pids (pid ∷ []) other within) (λ other same. Contains-append_right pids (pid ∷ []) other (0, omega arith, sym same))
+    where
+      by : (other : ℕ) → Contains pids other ⊎ Contains (pid ∷ []) other → Contains pids other ⊎ (other ≡ pid)
+      by other (inl within) = inl within
+      by other (inr (zero, lt, is)) = inr (sym is)
+      by other (inr (suc k, lt, is)) = absurd (omega (arith, lt))
+
+  -- the node of a page
+  module _ (next : ℕ) (config : Config) (recovered : Bool) (journal : Journal L) (pages : List Page) (pid : ℕ) (q page : Page) (at : slice_get pages pid ≡ Some q) (out : IsPagedOut q page) where
+    abbrev old : Cache L
+    old = view next config recovered journal pages
+
+    abbrev new : Cache L
+    new = view next config recovered journal (slice_set pages pid page)
+
+    others : (other : ℕ) → other ≢ pid → StaysAt old new other
+    others = set-others next next config recovered journal journal pages pid q page at
+
+    gone : HasNoNode new pid
+    gone = set-none next next config recovered journal journal pages pid q page at (ap (λ (k : Kept). size_if (size_of page) k) out.kept ∙ no-node-out (size_of page) q.kept)
+
+    new-at : slice_get new.resident pid ≡ Some (is_resident page.kept)
+    new-at = map-at (λ (p : Page). is_resident p.kept) (slice_set pages pid page) pid page (set-at pages pid q page at)
+
+    old-at : (b : Bool) → is_resident q.kept ≡ b → slice_get old.resident pid ≡ Some b
+    old-at b is = map-at (λ (p : Page). is_resident p.kept) pages pid q at ∙ ap (λ (b : Bool). Some b) is
+
+    was-is : (b : Bool) → slice_get old.resident pid ≡ Some b → is_resident q.kept ≡ b
+    was-is b is = same_Some (is_resident q.kept) b (sym (map-at (λ (p : Page). is_resident p.kept) pages pid q at) ∙ is)
+
+    out-is : (b : Bool) → slice_get new.resident pid ≡ Some b → is_resident (paged_out q.kept) ≡ b
+    out-is b is = ap is_resident (sym out.kept) ∙ same_Some (is_resident page.kept) b (sym new-at ∙ is)
+
+    either : {P : Type 0} (other : ℕ) → (other ≡ pid → P) → (other ≢ pid → P) → P
+    either other same apart = elim (eqb_tells other pid) [ inl is ↦ same is.1 | inr isnt ↦ apart isnt.1 ]
+
+    pub out-page : PagesOut (λ other. other ≡ pid) old new
+    out-page = record {
+      rest = ap (λ (stamps : List ℕ). record new { stamps = stamps }) (map-set (λ (p : Page). p.stamp) pages pid page ∙ ap (λ (n : ℕ). slice_set (stamps_in pages) pid n) out.stamp ∙ put-back (stamps_in pages) pid q.stamp (map-at (λ (p : Page). p.stamp) pages pid q at));
+      out = λ other same. subst (HasNoNode new) (sym same) gone;
+      stays = others;
+      nodes = λ other size has. either other (λ same. absurd (gone size (subst (λ n. HasNode new n size) same has))) (λ apart. sym (others other apart).node ∙ has);
+      resident = λ other there. either other
+          (λ same. subst (λ n. IsResident old n) (sym same) (old-at true (resident-out q.kept (out-is true (subst (λ n. IsResident new n) same there))))) (λ apart. sym (others other apart).resident ∙ there);
+      away = λ other away. either other
+          (λ same. subst (λ n. IsAway new n) (sym same) (new-at ∙ ap (λ (b : Bool). Some b) (ap is_resident out.kept ∙ away-out q.kept (was-is false (subst (λ n. IsAway old n) same away)))))
+          (λ apart. (others other apart).resident ∙ away);
+    }

@@ -1,0 +1,472 @@
+-- What holds of pages holds of the cache that stands on them, and what a call makes of memory once it is settled.
+use Rattle.std.proofs.Math.Dec.{eqb}
+use Rattle.std.proofs.lemmas.Bool.Decides.{eqb_tells}
+use Rattle.std.specs.Global.{Vec}
+use Rattle.std.specs.Prelude.{Contains, IfOk, IfErr, IsSomeAnd, MatchOption, OnOk, OnErr}
+use Rattle.sled_base.specs.Lru.{Recency, IsAccessed, IsListed, IsSound, rounded}
+use Rattle.sled_base.specs.LruLaws.{itself_stays, itself_is_listed, others_stay_or_leave}
+use Rattle.sled_pagecache.proofs.Names.{◌≡◌, ◌≢◌, ◌⊎◌, inl, inr, ℕ, Bool, true, false, List, Option, Some, None, Result, Ok, Err, refl, sym, ◌∙◌, ap, subst, same_Some, none-some, IsErrOf, Error, IsNodeAt, NodeView, Write, Refusal, Ghosts, Keeps, Cache, IsIn, IsResident, IsAway, chain_length, IsBlamed, IsCaused, Steps, is_reserved, ReadsNothing, ReadsPage, TestsFirst, MeetsDamage, ReportsDamage, BringsIn, journal_of, Logged, State, Answer, Call, Token, IsHindrance}
+use Rattle.sled_base.specs.declared.types.Error.TheVariants.{Io}
+use Rattle.sled_base.specs.declared.types.Refusal.TheVariants as refusal
+use Rattle.sled_node.specs.declared.node.link.Link.{Link as NodeLink}
+use Rattle.sled_pagecache.proofs.InMemory.{stays-then, stays-has, stay-is}
+use Rattle.sled_pagecache.specs.ChainReads.{more}
+use Rattle.sled_pagecache.specs.Accesses.{WasAccessed, IsTouched}
+use Rattle.sled_pagecache.specs.Memory.{HasNode, HasNoNode, AreSized, IsBounded, StaysAt, KeepsMemory, AccessesPage, FindsPage, LeavesOthers, LeavesMemory, LeavesNodes}
+use Rattle.sled_pagecache.specs.PagesIn.{LeavesPages}
+use Rattle.sled_pagecache.specs.PagingOut.{PagesOut}
+use Rattle.sled_pagecache.specs.Relisting.{relisted, IsSettled, Settles, lost_by}
+use Rattle.sled_pagecache.specs.Step.{Swapped}
+use Rattle.sled_pagecache.specs.Touching.{AllStay, TakesNode, FindsNode, LosesAtMost, LosesNone}
+use Rattle.sled_pagecache.specs.declared.pagecache.accesses.Accesses.{Accesses}
+
+-- the two differ in nothing but what lies in memory and what is listed
+pub record IsSameBut {L : Type 0} (old new : Cache L) : Type 0 where
+  pub is : new ≡ record old { resident = new.resident; nodes = new.nodes; lru = new.lru }
+
+pub moved-as : {L : Type 0} (old new : Cache L) → IsSameBut old new → (P : Cache L → Type 0) → ((resident : List Bool) (nodes : List (Option ℕ)) (lru : Recency) → P (record old { resident = resident; nodes = nodes; lru = lru })) → P new
+moved-as old new same P moved = subst P (sym same.is) (moved new.resident new.nodes new.lru)
+
+pub same-relisted : {L : Type 0} (cache : Cache L) (lru : Recency) → IsSameBut cache (relisted cache lru)
+same-relisted cache lru = record { is = refl }
+
+-- with a write fault kept nothing changes
+pub on-kept : {L T : Type 0} (old new : Cache L) (lru : Recency) (result : Result T Error) → OnErr result (old.fault ≡ true → new ≡ old → relisted new lru ≡ relisted old lru)
+on-kept old new lru (Ok done) = tt
+on-kept old new lru (Err error) = λ kept same. ap (λ cache. relisted cache lru) same
+
+module _ {L : Type 0} (g : Ghosts L) (between : Accesses) (lost : Option ℕ) (mid new : Cache L) (after : Accesses) (settles : Settles g between lost mid new after) where
+  -- what holds of the pages before and after they were settled, whichever way
+  by-out : (P : Cache L → Type 0) → P mid → ((dropped : List ℕ) → PagesOut (λ pid. Contains dropped pid ⊎ (lost ≡ Some pid)) mid new → P new) → P new
+  by-out P stays leaves = by between.dropped settles.out
+    where
+      by : (dropped : Option (Vec ℕ)) → MatchOption dropped (new ≡ mid) (λ dropped. PagesOut (λ pid. Contains dropped.items pid ⊎ (lost ≡ Some pid)) mid new) → P new
+      by None out = subst P (sym out) stays
+      by (Some dropped) out = leaves dropped.items out
+
+  pub settled-same : IsSameBut mid (relisted new after.lru)
+  settled-same = record { is = ap (λ cache. relisted cache after.lru) (by-out (λ cache. cache ≡ record mid { resident = cache.resident; nodes = cache.nodes }) refl (λ dropped out. out.rest)) }
+
+  pub settled-nodes : (pid size : ℕ) → HasNode new pid size → HasNode mid pid size
+  settled-nodes pid size = by-out (λ cache. HasNode cache pid size → HasNode mid pid size) (λ has. has) (λ dropped out. out.nodes pid size)
+
+  pub settled-resident : (pid : ℕ) → IsResident new pid → IsResident mid pid
+  settled-resident pid = by-out (λ cache. IsResident cache pid → IsResident mid pid) (λ there. there) (λ dropped out. out.resident pid)
+
+  pub settled-away : (pid : ℕ) → IsAway mid pid → IsAway new pid
+  settled-away pid = by-out (λ cache. IsAway mid pid → IsAway cache pid) (λ away. away) (λ dropped out. out.away pid)
+
+-- ---- the machine
+
+module _ {L : Type 0} (g : Ghosts L) (old new : Cache L) (lru : Recency) where
+  in-before : (held : Logged) (s : State) → IsIn g (relisted old lru) held s → IsIn g old held s
+  in-before held s is = record {
+    tells = is.tells;
+    stamps = is.stamps;
+    next = is.next;
+    fault = is.fault;
+    batch = is.batch;
+    known = λ clear. let known = is.known clear in record { usable = known.usable; logged = known.logged; contents = known.contents };
+  }
+
+  module _ (resident : List Bool) (nodes : List (Option ℕ)) (lru_then : Recency) where
+    abbrev moved : Cache L
+    moved = record new { resident = resident; nodes = nodes; lru = lru_then }
+
+    in-moved : (held : Logged) (s : State) → IsIn g new held s → IsIn g moved held s
+    in-moved held s is = record {
+      tells = is.tells;
+      stamps = is.stamps;
+      next = is.next;
+      fault = is.fault;
+      batch = is.batch;
+      known = λ clear. let known = is.known clear in record { usable = known.usable; logged = known.logged; contents = known.contents };
+    }
+
+    steps-record : (call : Call) (answer : Answer) → Steps g old call answer new → Steps g (relisted old lru) call answer moved
+    steps-record call answer steps = record {
+      opening = record { config = steps.opening.config; recovered = steps.opening.recovered };
+      from_each = λ held s is.
+          let step = steps.from_each held s (in-before held s is) in
+          record {
+            out = step.out;
+            step = step.step;
+            held_then = step.held_then;
+            is = in-moved step.held_then step.out.state step.is;
+            added = step.added;
+            stop = step.stop;
+            stuck = step.stuck;
+          };
+    }
+
+    left-record : LeavesPages g old new → LeavesPages g (relisted old lru) moved
+    left-record left = record {
+      opening = record { config = left.opening.config; recovered = left.opening.recovered };
+      stamps = left.stamps;
+      next = left.next;
+      went = left.went;
+      same = left.same;
+    }
+
+  module _ (upper : Cache L) (same : IsSameBut new upper) where
+    carried : (P : Cache L → Type 0) → P (moved upper.resident upper.nodes upper.lru) → P upper
+    carried P = subst P (sym same.is)
+
+    pub steps-moved : (call : Call) (answer : Answer) → Steps g old call answer new → Steps g (relisted old lru) call answer upper
+    steps-moved call answer steps = carried (Steps g (relisted old lru) call answer) (steps-record upper.resident upper.nodes upper.lru call answer steps)
+
+    pub blamed-moved : {T : Type 0} (result : Result T Error) → IsBlamed g old new result → IsBlamed g (relisted old lru) upper result
+    blamed-moved result blamed = carried (λ cache. IsBlamed g (relisted old lru) cache result) (record { read = blamed.read; write = blamed.write })
+
+    pub unread-moved : ReadsNothing g old new → ReadsNothing g (relisted old lru) upper
+    unread-moved = carried (λ cache. ReadsNothing g old new → ReadsNothing g (relisted old lru) cache) (λ unread. unread)
+
+    pub length-moved : (pid messages : ℕ) → chain_length g.state new pid ≡ messages → chain_length g.state upper pid ≡ messages
+    length-moved pid messages = carried (λ cache. chain_length g.state new pid ≡ messages → chain_length g.state cache pid ≡ messages) (λ is. is)
+
+    pub reads-moved : (pid : ℕ) → (IsResident upper pid → IsResident new pid) → ReadsPage g old pid new → ReadsPage g (relisted old lru) pid upper
+    reads-moved pid back reads = record {
+      in_memory = λ not_away. unread-moved (reads.in_memory not_away);
+      whole = λ known away there. carried (λ cache. (g.counts cache.log).reads ≡ more (chain_length g.state old pid) (g.counts old.log).reads) (reads.whole known away (back there));
+      times = reads.times;
+      most = reads.most;
+      is = carried (λ cache. (g.counts cache.log).reads ≡ more reads.times (g.counts old.log).reads) reads.is;
+    }
+
+    pub damaged-moved : {T : Type 0} (pid : ℕ) (result : Result T Error) → (MeetsDamage g old pid → ReportsDamage g old pid result new) → MeetsDamage g (relisted old lru) pid → ReportsDamage g (relisted old lru) pid result upper
+    damaged-moved pid result reports meets =
+        let done = reports (record { tells = meets.tells; ready = meets.ready; behind = meets.behind; damaged = meets.damaged }) in
+        carried (ReportsDamage g (relisted old lru) pid result) (record { reported = done.reported; left = left-record upper.resident upper.nodes upper.lru done.left })
+
+    pub keeps-moved : {T : Type 0} (result : Result T Error) (stamps : T → List ℕ) → Keeps old new result stamps → OnErr result (old.fault ≡ true → new ≡ old → upper ≡ relisted old lru) → Keeps (relisted old lru) upper result stamps
+    keeps-moved result stamps keeps stuck = record {
+      fault = ap (λ cache. cache.fault) same.is ∙ keeps.fault;
+      stuck = λ kept. ((keeps.stuck kept).0, by result (keeps.stuck kept).0 stuck kept (keeps.stuck kept).1);
+      done = carried (λ cache. IfOk result (λ answer. cache.stamps ≡ stamps answer)) keeps.done;
+      refused = carried (λ cache. OnErr result (cache.stamps ≡ old.stamps)) keeps.refused;
+    }
+      where
+        by : {T : Type 0} (result : Result T Error) → IsErrOf result (Io Write) → OnErr result (old.fault ≡ true → new ≡ old → upper ≡ relisted old lru) → old.fault ≡ true → new ≡ old → upper ≡ relisted old lru
+        by (Ok done) is stuck = absurd cc
+        by (Err error) is stuck = stuck
+
+    pub brings-moved : (pid : ℕ) (result : Result (Unit {0}) Refusal) → OnOk result (IsAway upper pid → IsAway new pid) → BringsIn g old pid result new → BringsIn g (relisted old lru) pid result upper
+    brings-moved pid result back brings = record {
+      left = carried (LeavesPages g (relisted old lru)) (left-record upper.resident upper.nodes upper.lru brings.left);
+      cause = carried (λ cache. IsCaused g.tells g.state g.moment g.left_since g.counts (journal_of old) (journal_of cache) ⊥ result) brings.cause;
+      in_memory = by result back brings.in_memory;
+      sound = brings.sound;
+      refused = brings.refused;
+    }
+      where
+        by : (result : Result (Unit {0}) Refusal) → OnOk result (IsAway upper pid → IsAway new pid) → OnOk result ((is_reserved pid ≡ false) × ¬ IsAway new pid) → OnOk result ((is_reserved pid ≡ false) × ¬ IsAway upper pid)
+        by (Ok done) back (behind, there) = (behind, λ away. there (back away))
+        by (Err refusal) back there = tt
+
+  pub tested-moved : (token : Token) (link : NodeLink) (answer : Swapped NodeLink) → TestsFirst g old token link answer → TestsFirst g (relisted old lru) token link answer
+  tested-moved token link answer tests held s node is = tests held s node (in-before held s is)
+
+-- ---- memory
+
+module _ {L : Type 0} (g : Ghosts L) (old mid new : Cache L) (accesses between after : Accesses) (lost : Option ℕ)
+    (settled : IsSettled g old accesses) (config : mid.config ≡ old.config) (settles : Settles g between lost mid new after) where
+  abbrev before : Cache L
+  before = relisted old accesses.lru
+
+  abbrev then : Cache L
+  then = relisted new after.lru
+
+  capacity : after.lru.capacity ≡ accesses.lru.capacity → then.lru.capacity ≡ then.config.cache_capacity
+  capacity same = same ∙ settled.bounded.capacity ∙ sym (ap (λ cache. cache.config.cache_capacity) (settled-same g between lost mid new after settles).is ∙ ap (λ config. config.cache_capacity) config)
+
+  -- nothing was accessed
+  module _ (none : between ≡ accesses) where
+    lru-same : after.lru ≡ accesses.lru
+    lru-same = settles.lru ∙ ap (λ a. a.lru) none
+
+    pub pages-same : new ≡ mid
+    pages-same = by between.dropped (ap (λ a. a.dropped) none ∙ settled.none) settles.out
+      where
+        by : (dropped : Option (Vec ℕ)) → dropped ≡ None → MatchOption dropped (new ≡ mid) (λ dropped. PagesOut (λ pid. Contains dropped.items pid ⊎ (lost ≡ Some pid)) mid new) → new ≡ mid
+        by None is out = out
+        by (Some dropped) is out = absurd cc
+
+    stay-new : (pid : ℕ) → StaysAt old mid pid → StaysAt before then pid
+    stay-new pid stays = subst (λ cache. StaysAt before (relisted cache after.lru) pid) (sym pages-same) (record { resident = stays.resident; node = stays.node })
+
+    pub same-memory : AllStay old mid → KeepsMemory before then
+    same-memory stay = record { stay = λ pid. stay-new pid (stay pid); lru = lru-same }
+
+    pub same-all : mid ≡ old → then ≡ before
+    same-all is = ap (λ cache. relisted cache after.lru) (pages-same ∙ is) ∙ ap (relisted old) lru-same
+
+    same-bounded : ((pid size : ℕ) → HasNode mid pid size → HasNode old pid size) → IsBounded g then
+    same-bounded back = record {
+      listed = λ pid size has. subst (IsListed pid (rounded size)) (sym lru-same) (settled.bounded.listed pid size (back pid size (subst (λ cache. HasNode cache pid size) pages-same has)));
+      sized = settles.sized;
+      sound = subst IsSound (sym lru-same) settled.bounded.sound;
+      capacity = capacity (ap (λ lru. lru.capacity) lru-same);
+    }
+
+    pub stay-bounded : AllStay old mid → IsBounded g then
+    stay-bounded stay = same-bounded (λ pid size has. stays-has old mid pid size (stay pid) has)
+
+  -- a page was accessed
+  module _ (pid : ℕ) where
+    record IsDropped (size : ℕ) : Type 0 where
+      dropped : List ℕ
+      is : IsAccessed pid (rounded size) accesses.lru after.lru dropped
+      sound : IsSound after.lru
+      out : PagesOut (λ other. Contains dropped other ⊎ (lost ≡ Some other)) mid new
+
+    drops : (size : ℕ) → WasAccessed accesses pid size between → IsDropped size
+    drops size was = by between.dropped was.is settles.out
+      where
+        by : (dropped : Option (Vec ℕ)) → IsSomeAnd dropped (λ dropped. IsAccessed pid (rounded size) accesses.lru between.lru dropped.items)
+            → MatchOption dropped (new ≡ mid) (λ dropped. PagesOut (λ pid. Contains dropped.items pid ⊎ (lost ≡ Some pid)) mid new) → IsDropped size
+        by None is out = absurd is
+        by (Some dropped) is out = record {
+          dropped = dropped.items;
+          is = subst (λ lru. IsAccessed pid (rounded size) accesses.lru lru dropped.items) (sym settles.lru) is;
+          sound = subst IsSound (sym settles.lru) was.sound;
+          out = out;
+        }
+
+    module _ (size : ℕ) (was : IsDropped size) (others : (other : ℕ) → other ≢ pid → StaysAt old mid other) (only : (other : ℕ) → lost ≡ Some other → other ≡ pid) where
+      accessed-page : AccessesPage before pid then
+      accessed-page = record {
+        size = size;
+        dropped = was.dropped;
+        accessed = was.is;
+        others = λ other apart outside.
+            let stays = was.out.stays other (λ gone. either other apart outside gone) in
+            let both = stays-then old mid new other (others other apart) stays in
+            record { resident = both.resident; node = both.node };
+      }
+        where
+          either : (other : ℕ) → other ≢ pid → ¬ Contains was.dropped other → Contains was.dropped other ⊎ (lost ≡ Some other) → ⊥
+          either other apart outside (inl inside) = outside inside
+          either other apart outside (inr is) = apart (only other is)
+
+      accessed-bounded : ((its : ℕ) → HasNode new pid its → IsListed pid (rounded its) after.lru) → IsBounded g then
+      accessed-bounded own = record {
+        listed = λ other its has. by other its has (eqb_tells other pid);
+        sized = settles.sized;
+        sound = was.sound;
+        capacity = capacity was.is.capacity;
+      }
+        where
+          by : (other its : ℕ) → HasNode new other its → ((eqb other pid ≡ true) × (other ≡ pid)) ⊎ ((eqb other pid ≡ false) × (other ≢ pid)) → IsListed other (rounded its) after.lru
+          by other its has (inl (_, same)) = subst (λ n. IsListed n (rounded its) after.lru) (sym same) (own its (subst (λ n. HasNode new n its) same has))
+          by other its has (inr (_, apart)) =
+              either (others_stay_or_leave pid (rounded size) accesses.lru after.lru was.dropped was.is settled.bounded.sound.count other (rounded its) apart
+              (settled.bounded.listed other its (stays-has old mid other its (others other apart) (was.out.nodes other its has))))
+            where
+              either : IsListed other (rounded its) after.lru ⊎ Contains was.dropped other → IsListed other (rounded its) after.lru
+              either (inl listed) = listed
+              either (inr gone) = absurd (was.out.out other (inl gone) its has)
+
+    -- its node lies in memory
+    module _ (takes : TakesNode old accesses pid mid between) (none : lost ≡ None) where
+      was : IsDropped takes.size
+      was = drops takes.size takes.accessed
+
+      outside : (other : ℕ) → lost ≡ Some other → ⊥
+      outside other is = none-some other (sym none ∙ is)
+
+      own-stays : StaysAt mid new pid
+      own-stays = was.out.stays pid (either)
+        where
+          either : Contains was.dropped pid ⊎ (lost ≡ Some pid) → ⊥
+          either (inl inside) = itself_stays pid (rounded takes.size) accesses.lru after.lru was.dropped was.is inside
+          either (inr is) = outside pid is
+
+      pub takes-page : AccessesPage before pid then
+      takes-page = accessed-page takes.size was takes.others (λ other is. absurd (outside other is))
+
+      pub takes-resident : IsResident mid pid → IsResident new pid
+      takes-resident there = own-stays.resident ∙ there
+
+      pub takes-away : IsAway new pid → IsAway mid pid
+      takes-away away = sym own-stays.resident ∙ away
+
+      pub takes-node : HasNode new pid takes.size
+      takes-node = own-stays.node ∙ takes.node
+
+      pub takes-bounded : IsBounded g then
+      takes-bounded =
+          accessed-bounded takes.size was takes.others (λ other is. absurd (outside other is))
+          (λ its has. subst (λ n. IsListed pid (rounded n) after.lru) (same_Some takes.size its (same_Some (Some takes.size) (Some its) (sym takes-node ∙ has)))
+          (itself_is_listed pid (rounded takes.size) accesses.lru after.lru was.dropped was.is settled.bounded.sound.count))
+
+    -- the call was refused, and so the page is lost, or it has no node
+    module _ (tells : Type 0) (error : Error) (loses : LosesAtMost old accesses pid mid between tells error) (only : (other : ℕ) → lost ≡ Some other → other ≡ pid) (gone : (lost ≡ Some pid) ⊎ HasNoNode mid pid) where
+      no-node : (size : ℕ) → IsDropped size → HasNoNode new pid
+      no-node size was = by gone
+        where
+          by : (lost ≡ Some pid) ⊎ HasNoNode mid pid → HasNoNode new pid
+          by (inl is) = was.out.out pid (inr is)
+          by (inr none) = λ its has. none its (was.out.nodes pid its has)
+
+      back : (other its : ℕ) → HasNode mid other its → HasNode old other its
+      back other its has = by (eqb_tells other pid)
+        where
+          of : StaysAt old mid pid ⊎ HasNoNode mid pid → HasNode mid pid its → HasNode old pid its
+          of (inl stays) at = stays-has old mid pid its stays at
+          of (inr none) at = absurd (none its at)
+
+          by : ((eqb other pid ≡ true) × (other ≡ pid)) ⊎ ((eqb other pid ≡ false) × (other ≢ pid)) → HasNode old other its
+          by (inl (_, same)) = subst (λ n. HasNode old n its) (sym same) (of loses.lost (subst (λ n. HasNode mid n its) same has))
+          by (inr (_, apart)) = stays-has old mid other its (loses.others other apart) has
+
+      pub loses-bounded : IsBounded g then
+      loses-bounded = by loses.touched
+        where
+          by : IsTouched accesses pid between → IsBounded g then
+          by (inl same) = same-bounded same back
+          by (inr (size, accessed)) = let was = drops size accessed in accessed-bounded size was loses.others only (λ its has. absurd (no-node size was its has))
+
+      pub loses-memory : LeavesMemory before pid then tells error
+      loses-memory = record { others = by loses.touched; unasked = λ told. or (loses.unasked told) }
+        where
+          by : IsTouched accesses pid between → AccessesPage before pid then ⊎ LeavesOthers before pid then
+          by (inl same) = inr (record { lru = lru-same same; others = λ other apart. stay-new same other (loses.others other apart) })
+          by (inr (size, accessed)) = inl (accessed-page size (drops size accessed) loses.others only)
+
+          or : IsHindrance error ⊎ (AllStay old mid × (between ≡ accesses)) → IsHindrance error ⊎ KeepsMemory before then
+          or (inl hindered) = inl hindered
+          or (inr (stay, same)) = inr (same-memory same stay)
+
+-- what a swap or an allocation makes of memory
+module _ {L : Type 0} (g : Ghosts L) (old mid new : Cache L) (accesses between after : Accesses) (settled : IsSettled g old accesses) (config : mid.config ≡ old.config) where
+  abbrev pub earlier : Cache L
+  earlier = relisted old accesses.lru
+
+  abbrev pub later : Cache L
+  later = relisted new after.lru
+
+  pub record MakesSwap (pid : ℕ) {T R : Type 0} (result : Result (Result T R) Error) : Type 0 where
+    pub bounded : IsBounded g later
+    pub accessed : IfOk result (λ swapped. OnOk swapped (AccessesPage earlier pid later))
+    pub same : IfOk result (λ swapped. OnErr swapped (KeepsMemory earlier later))
+    pub leaves : IfErr result (LeavesMemory earlier pid later g.tells)
+    pub resident : IfOk result (λ swapped. OnOk swapped (IsResident later pid))
+    pub stuck : OnErr result (old.fault ≡ true → mid ≡ old → later ≡ earlier)
+
+  pub makes-swap : (pid : ℕ) {T R : Type 0} (result : Result (Result T R) Error) → Settles g between (lost_by result pid) mid new after
+      → IfOk result (λ swapped. OnOk swapped (TakesNode old accesses pid mid between)) → IfOk result (λ swapped. OnErr swapped ((mid ≡ old) × (between ≡ accesses)))
+      → IfErr result (LosesAtMost old accesses pid mid between g.tells) → IfOk result (λ swapped. OnOk swapped (IsResident mid pid)) → MakesSwap pid result
+  makes-swap pid (Ok (Ok token)) settles takes same loses there = record {
+    bounded = takes-bounded g old mid new accesses between after None settled config settles pid takes refl;
+    accessed = takes-page g old mid new accesses between after None settled config settles pid takes refl;
+    same = tt;
+    leaves = tt;
+    resident = takes-resident g old mid new accesses between after None settled config settles pid takes refl there;
+    stuck = tt;
+  }
+  makes-swap pid (Ok (Err rejected)) settles takes same loses there = record {
+    bounded = stay-bounded g old mid new accesses between after None settled config settles same.1 (stay-is old mid same.0);
+    accessed = tt;
+    same = same-memory g old mid new accesses between after None settled config settles same.1 (stay-is old mid same.0);
+    leaves = tt;
+    resident = tt;
+    stuck = tt;
+  }
+  makes-swap pid (Err error) settles takes same loses there = record {
+    bounded = loses-bounded g old mid new accesses between after (Some pid) settled config settles pid g.tells error loses (λ other is. sym (same_Some pid other is)) (inl refl);
+    accessed = tt;
+    same = tt;
+    leaves = loses-memory g old mid new accesses between after (Some pid) settled config settles pid g.tells error loses (λ other is. sym (same_Some pid other is)) (inl refl);
+    resident = tt;
+    stuck = λ kept is. same-all g old mid new accesses between after (Some pid) settled config settles (loses.stuck kept) is;
+  }
+
+  pub record MakesPage (result : Result (ℕ × Token) Error) : Type 0 where
+    pub bounded : IsBounded g later
+    pub accessed : IfOk result (λ made. AccessesPage earlier made.0 later)
+    pub leaves : IfErr result (LeavesNodes g.tells earlier later)
+    pub resident : IfOk result (λ made. IsResident later made.0)
+    pub stuck : OnErr result (old.fault ≡ true → mid ≡ old → later ≡ earlier)
+
+  pub makes-page : (result : Result (ℕ × Token) Error) → Settles g between None mid new after
+      → IfOk result (λ made. TakesNode old accesses made.0 mid between) → IfErr result (LosesNone g.tells old accesses mid between)
+      → IfOk result (λ made. IsResident mid made.0) → MakesPage result
+  makes-page (Ok (pid, token)) settles takes loses there = record {
+    bounded = takes-bounded g old mid new accesses between after None settled config settles pid takes refl;
+    accessed = takes-page g old mid new accesses between after None settled config settles pid takes refl;
+    leaves = tt;
+    resident = takes-resident g old mid new accesses between after None settled config settles pid takes refl there;
+    stuck = tt;
+  }
+  makes-page (Err error) settles takes (pid, none, loses) there =
+      let gone : HasNoNode mid pid = of loses.lost in
+      record {
+        bounded = loses-bounded g old mid new accesses between after None settled config settles pid g.tells error loses (λ other is. absurd (none-some other is)) (inr gone);
+        accessed = tt;
+        leaves = (pid, none, loses-memory g old mid new accesses between after None settled config settles pid g.tells error loses (λ other is. absurd (none-some other is)) (inr gone));
+        resident = tt;
+        stuck = λ kept is. same-all g old mid new accesses between after None settled config settles (loses.stuck kept) is;
+      }
+    where
+      of : StaysAt old mid pid ⊎ HasNoNode mid pid → HasNoNode mid pid
+      of (inl stays) = λ its has. none its (stays-has old mid pid its stays has)
+      of (inr gone) = gone
+
+  -- what reading a page makes of memory
+  pub record MakesFound (pid : ℕ) (result : Result (Unit {0}) Refusal) : Type 0 where
+    pub bounded : IsBounded g later
+    pub accessed : OnOk result (FindsPage earlier pid later)
+    pub same : OnErr result (KeepsMemory earlier later)
+    pub back : OnOk result (IsAway later pid → IsAway mid pid)
+    pub stuck : old.fault ≡ true → IsErrOf result (refusal.Io Write) × (later ≡ earlier)
+
+  pub makes-found : (pid : ℕ) (result : Result (Unit {0}) Refusal) → Settles g between None mid new after
+      → (old.fault ≡ true → IsErrOf result (refusal.Io Write) × (mid ≡ old)) → OnOk result (FindsNode old accesses pid mid between)
+      → OnErr result (AllStay old mid) → OnErr result (between ≡ accesses) → MakesFound pid result
+  makes-found pid (Ok done) settles stuck (inl takes) refused left = record {
+    bounded = takes-bounded g old mid new accesses between after None settled config settles pid takes refl;
+    accessed = inl (takes-page g old mid new accesses between after None settled config settles pid takes refl, (takes.size, takes-node g old mid new accesses between after None settled config settles pid takes refl));
+    same = tt;
+    back = takes-away g old mid new accesses between after None settled config settles pid takes refl;
+    stuck = λ kept. absurd (let h = (stuck kept).0 in cc);
+  }
+  makes-found pid (Ok done) settles stuck (inr (none, stay, same)) refused left = record {
+    bounded = stay-bounded g old mid new accesses between after None settled config settles same stay;
+    accessed = inr (same-memory g old mid new accesses between after None settled config settles same stay, λ size has. none size (settled-nodes g between None mid new after settles pid size has));
+    same = tt;
+    back = λ away. subst (λ cache. IsAway cache pid) (pages-same g old mid new accesses between after None settled config settles same) away;
+    stuck = λ kept. absurd (let h = (stuck kept).0 in cc);
+  }
+  makes-found pid (Err error) settles stuck takes refused left = record {
+    bounded = stay-bounded g old mid new accesses between after None settled config settles left refused;
+    accessed = tt;
+    same = same-memory g old mid new accesses between after None settled config settles left refused;
+    back = tt;
+    stuck = λ kept. ((stuck kept).0, same-all g old mid new accesses between after None settled config settles left (stuck kept).1);
+  }
+
+-- ---- a call that accesses nothing
+
+module _ {L : Type 0} (g : Ghosts L) (old new : Cache L) where
+  pub flushed-bounded : (accesses : Accesses) → IsSettled g old accesses → AllStay old new → new.config ≡ old.config → AreSized g new → IsBounded g (relisted new accesses.lru)
+  flushed-bounded accesses settled stay config sized = record {
+    listed = λ pid size has. settled.bounded.listed pid size (stays-has old new pid size (stay pid) has);
+    sized = sized;
+    sound = settled.bounded.sound;
+    capacity = settled.bounded.capacity ∙ sym (ap (λ config. config.cache_capacity) config);
+  }
+
+  pub flushed-same : (lru : Recency) → AllStay old new → KeepsMemory (relisted old lru) (relisted new lru)
+  flushed-same lru stay = record { stay = λ pid. record { resident = (stay pid).resident; node = (stay pid).node }; lru = refl }
+
+pub node-relisted : {L : Type 0} (g : Ghosts L) (cache : Cache L) (lru : Recency) (pid : ℕ) (found : Option NodeView) → IsNodeAt g cache pid found → IsNodeAt g (relisted cache lru) pid found
+node-relisted g cache lru pid (Some view) is = is
+node-relisted g cache lru pid None is = is
+
+pub page-config : {L : Type 0} (g : Ghosts L) (old new : Cache L) (pid : ℕ) (result : Result (Unit {0}) Refusal) → (old.fault ≡ true → IsErrOf result (refusal.Io Write) × (new ≡ old))
+    → (old.fault ≡ false → BringsIn g old pid result new) → new.config ≡ old.config
+page-config g old new pid result stuck brings = by old.fault refl
+  where
+    by : (fault : Bool) → old.fault ≡ fault → new.config ≡ old.config
+    by true kept = ap (λ cache. cache.config) (stuck kept).1
+    by false ready = (brings ready).left.opening.config

@@ -1,0 +1,86 @@
+-- How much of the log the messages of a page take, beside those of its chain.
+use Rattle.sled_pagecache.proofs.Names.{◌≡◌, ◌<◌, ◌^◌, ◌+◌, ℕ, ℤ, false, true, Bool, List, [], ◌∷◌, ◌++◌, map, Option, None, Some, slice_get, refl, sym, ◌∙◌, ap, subst, arith, none-some, same_Some, slice_get-map, option_map, slice_index_or, zero, suc, length, AllZip, AllByRecursion, ◌-◌, sum_by, sum_by-cons, DiskPtr, Chain, Entry, effect_of_entry, said_of, IsSized, Ghosts, chain_size, place_of, IsKept, is_free, IsConsistent, infos_after, message_of, link_update, WholeNode, Config, CacheInfo, Journal, Kept, Page}
+use Rattle.std.proofs.lemmas.List.Sums.{sum_by_push}
+use Rattle.std.specs.Prelude.{nat_lt, min, if◌then◌else◌}
+use Rattle.sled_log.specs.Limits.{head_size}
+use Rattle.sled_log.specs.State as log
+use Rattle.sled_node.specs.declared.node.link.Link.{Link as NodeLink}
+use Rattle.sled_pagecache.proofs.TableNodes.{view}
+use Rattle.sled_pagecache.specs.Accesses.{capped}
+use Rattle.sled_pagecache.specs.Memory.{AreSized}
+use Rattle.sled_pagecache.specs.Pages.{size_in, size_of, size_if, node_size, size_linked}
+use Rattle.sled_pagecache.specs.declared.pagecache.page.Kept.TheVariants as kept
+
+abbrev Place : Type 0
+Place = ℤ × DiskPtr × ℕ
+
+places-said : (chain : Chain) → sum_by (λ (place : Place). place.2) (map said_of chain) ≡ sum_by (λ (entry : Entry). entry.place.log_size) chain
+places-said [] = refl
+places-said (entry ∷ chain) = sum_by-cons (λ (place : Place). place.2) (said_of entry) (map said_of chain) ∙ ap (λ (n : ℕ). entry.place.log_size + n) (places-said chain) ∙ sym (sum_by-cons (λ (entry : Entry). entry.place.log_size) entry chain)
+
+places-kept : (infos : List CacheInfo) → sum_by (λ (place : Place). place.2) (map place_of infos) ≡ size_in infos
+places-kept [] = refl
+places-kept (info ∷ infos) = sum_by-cons (λ (place : Place). place.2) (place_of info) (map place_of infos) ∙ ap (λ (n : ℕ). info.log_size + n) (places-kept infos) ∙ sym (sum_by-cons (λ (info : CacheInfo). info.log_size) info infos)
+
+-- a page that isn't free takes what its chain takes, which is little enough
+page-size : (chain : Chain) (page : Page) → IsKept chain page → IsSized chain → is_free page.kept ≡ false → size_of page ≡ sum_by (λ (entry : Entry). entry.place.log_size) chain
+page-size chain page is sized full =
+    let same : size_in page.infos.items ≡ sum_by (λ (entry : Entry). entry.place.log_size) chain = sym (places-kept page.infos.items) ∙ ap (λ (l : List Place). sum_by (λ (place : Place). place.2) l) (sym (is.places full)) ∙ places-said chain in
+    let few = sized.total in
+    ap capped same ∙ fits (sum_by (λ (entry : Entry). entry.place.log_size) chain) few
+  where
+    fits : (size : ℕ) → size < 2 ^ 63 → capped size ≡ size
+    fits size few = omega (arith, few)
+
+node-full : (size its : ℕ) (k : Kept) → size_if size k ≡ Some its → (is_free k ≡ false) × (its ≡ size)
+node-full size its (kept.Node node) is = (refl, sym (same_Some size its is))
+node-full size its k is = absurd cc
+
+-- what the messages of a node in memory take is what those of its chain take
+pub sized-view : {L : Type 0} (g : Ghosts L) (next : ℕ) (config : Config) (recovered : Bool) (journal : Journal L) (pages : List Page) (free : List ℕ)
+    → IsConsistent g.tells g.state journal pages free → AreSized g (view next config recovered journal pages)
+sized-view g next config recovered journal pages free is told clear pid size has = by (slice_get pages pid) refl
+  where
+    chains : List Chain
+    chains = log.now effect_of_entry (g.state journal.log)
+
+    sized-at : (chains : List Chain) (pages : List Page) (pid : ℕ) (q : Page) → AllZip IsKept chains pages → AllByRecursion IsSized chains → slice_get pages pid ≡ Some q → is_free q.kept ≡ false
+        → size_of q ≡ sum_by (λ (entry : Entry). entry.place.log_size) (slice_index_or chains pid [])
+    sized-at chains [] pid q zip all at full = absurd (none-some q at)
+    sized-at [] (p ∷ pages) pid q zip all at full = absurd zip
+    sized-at (chain ∷ chains) (p ∷ pages) zero q zip all at full = page-size chain q (subst (IsKept chain) (same_Some p q at) zip.0) all.0 full
+    sized-at (chain ∷ chains) (p ∷ pages) (suc pid) q zip all at full = sized-at chains pages pid q zip.1 all.1 at full
+
+    by : (o : Option Page) → slice_get pages pid ≡ o → size ≡ chain_size g.state (view next config recovered journal pages) pid
+    by None past = absurd (none-some (Some size) (sym (slice_get-map (λ (p : Page). node_size p) pages pid ∙ ap (option_map (λ (p : Page). node_size p)) past) ∙ has))
+    by (Some q) at =
+        let full = node-full (size_of q) size q.kept (same_Some (node_size q) (Some size) (sym (slice_get-map (λ (p : Page). node_size p) pages pid ∙ ap (option_map (λ (p : Page). node_size p)) at) ∙ has)) in
+        full.1 ∙ sized-at chains pages pid q ((is.beside clear).kept told) ((is.beside clear).sized told) at full.0
+
+-- ---- what is accessed
+
+-- a page of one message, which is so long
+pub size-alone : (infos : List CacheInfo) (info : CacheInfo) (payload : ℕ) → infos ≡ info ∷ [] → info.log_size ≡ head_size + payload → capped (min (0 + head_size + payload) (2 ^ 64 - 1)) ≡ capped (size_in infos)
+size-alone infos info payload alone is = sized (info.log_size) is ∙ ap (λ (infos : List CacheInfo). capped (size_in infos)) (sym alone)
+  where
+    sized : (size : ℕ) → size ≡ head_size + payload → capped (min (0 + head_size + payload) (2 ^ 64 - 1)) ≡ capped (size_in (info ∷ []))
+    sized size same = let one : size_in (info ∷ []) ≡ head_size + payload = sum_by-cons (λ (info : CacheInfo). info.log_size) info [] ∙ omega (arith, is) in omega (arith, one)
+
+-- a page with the message of a link
+pub size-link : (infos : List CacheInfo) (page : Page) (info : CacheInfo) (payload : ℕ) → page.infos.items ≡ infos_after infos info → info.log_size ≡ head_size + payload → capped (size_linked infos payload) ≡ size_of page
+size-link infos page info payload after is = ap capped (by (nat_lt (length infos) 10)) ∙ ap (λ (infos : List CacheInfo). capped (size_in infos)) (sym after)
+  where
+    by : (few : Bool) → (if few then size_in infos else 0) + head_size + payload ≡ size_in (if few then infos ++ info ∷ [] else info ∷ [])
+    by true = let last = sum_by_push (λ (info : CacheInfo). info.log_size) infos info in omega (arith, last, is)
+    by false = let one = sum_by-cons (λ (info : CacheInfo). info.log_size) info [] in omega (arith, one, is)
+
+-- the same, where so many messages make the page
+pub linked-size : (lent infos : List CacheInfo) (messages : ℕ) (link : NodeLink) (node : WholeNode) (page : Page) (info : CacheInfo) → lent ≡ infos → messages ≡ length infos
+    → page.infos.items ≡ infos_after infos info → info.log_size ≡ head_size + length (message_of (link_update messages link node)).payload
+    → capped (size_linked lent (length (message_of (link_update (length lent) link node)).payload)) ≡ size_of page
+linked-size lent infos messages link node page info same count after is =
+    ap (λ (l : List CacheInfo). capped (size_linked l (length (message_of (link_update (length l) link node)).payload))) same
+    ∙ size-link infos page info (length (message_of (link_update (length infos) link node)).payload) after (is ∙ ap (λ n. head_size + length (message_of (link_update n link node)).payload) count)
+
+pub capped-total : (size total : ℕ) → total ≡ min size (2 ^ 64 - 1) → capped total ≡ capped size
+capped-total size total is = omega (arith, is)

@@ -1,0 +1,24 @@
+use Rattle.sled_base.specs.declared.types.Error.TheVariants.{Io}
+use Rattle.sled_pagecache.proofs.Names.{◌∙◌, Err, refl, ap, err_from_is_err_and, error_of, Write, Flushed, Flush}
+use Rattle.sled_pagecache.proofs.CacheSteps.{steps-stuck}
+use Rattle.sled_pagecache.proofs.Flushing.{flushes, flush_is_refused}
+use Rattle.sled_pagecache.proofs.pagecache.pages.Pages.flush.Goals as goal
+
+pub returns-clause-step : goal.returns-clause-step
+returns-clause-step g c =
+    let inside = c.self.inside in
+    let done = c.in_ok-make_stable.ensures in
+    rw (← c.self.view_is)
+    (flushes g.L.Log inside.next inside.config inside.recovered inside.pages.items inside.journal c.if-self.false (c.self.invariant.beside c.if-self.false).closed c.make_stable.new.self done.went _ done.cause.fault)
+
+pub returns-in_err-make_stable-clause-step : goal.returns-in_err-make_stable-clause-step
+returns-in_err-make_stable-clause-step g c =
+    let inside = c.self.inside in
+    let refused = c.in_err-make_stable.ensures in
+    let p = err_from_is_err_and c.from_residual.result c.from_residual.ensures.1 in
+    rw (p.1, p.2 ∙ ap error_of refused.only, ← c.self.view_is)
+    (flush_is_refused g.L.Log inside.next inside.config inside.recovered inside.pages.items inside.journal c.if-self.false (c.self.invariant.beside c.if-self.false).closed c.make_stable.new.self refused.went
+    (refused.cause.fault ∙ rw refused.only refl))
+
+pub returns-then-self-clause-step : goal.returns-then-self-clause-step
+returns-then-self-clause-step g c = rw (← c.self.view_is) (steps-stuck g.L.Log _ Flush (Flushed (Err (Io Write))) c.if-self.true (λ s kept. rw kept (refl, refl)))

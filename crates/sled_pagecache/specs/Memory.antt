@@ -1,0 +1,71 @@
+-- Which pages of a cache lie in memory, beside the list of their recent use.
+use Rattle.std.specs.Prelude.{◌≡◌, ◌≢◌, ◌⊎◌, ℕ, false, List, Some, slice_get, Contains}
+use Rattle.sled_base.specs.Lru.{Recency, IsAccessed, IsListed, IsSound, rounded}
+use Rattle.sled_base.specs.declared.types.Error.{Error}
+use Rattle.sled_log.specs.declared.log.Log.{Ghosts}
+use Rattle.sled_pagecache.specs.Cache.{Cache, IsResident, chain_size}
+use Rattle.sled_pagecache.specs.Starts.{IsHindrance}
+
+-- the node of the page lies in memory, and the messages of the page take so much of the log
+abbrev pub HasNode : {L : Type 0} → Cache L → ℕ → ℕ → Type 0
+HasNode cache pid size = slice_get cache.nodes pid ≡ Some (Some size)
+
+abbrev pub HasNoNode : {L : Type 0} → Cache L → ℕ → Type 0
+HasNoNode cache pid = (size : ℕ) → ¬ HasNode cache pid size
+
+-- each page whose node lies in memory is listed with what its messages take, rounded
+abbrev pub AreListed : {L : Type 0} → Cache L → Recency → Type 0
+AreListed cache lru = (pid size : ℕ) → HasNode cache pid size → IsListed pid (rounded size) lru
+
+-- That is what the messages of its chain take, where the device tells its bytes.
+abbrev pub AreSized : {L : Type 0} → Ghosts L → Cache L → Type 0
+AreSized g cache = g.tells → cache.fault ≡ false → (pid size : ℕ) → HasNode cache pid size → size ≡ chain_size g.state cache pid
+
+-- Every node in memory is listed. In each shard of the list the sizes add up to at most its part of the capacity, or one page is
+-- listed.
+pub record IsBounded {L : Type 0} (g : Ghosts L) (cache : Cache L) : Type 0 where
+  pub listed : AreListed cache cache.lru
+  pub sized : AreSized g cache
+  pub sound : IsSound cache.lru
+  pub capacity : cache.lru.capacity ≡ cache.config.cache_capacity
+
+-- nothing is listed that doesn't lie in memory
+abbrev pub ListsResident : {L : Type 0} → Cache L → Type 0
+ListsResident cache = (pid size : ℕ) → IsListed pid size cache.lru → IsResident cache pid
+
+-- the page lies in memory as it did, or doesn't as it didn't
+pub record StaysAt {L : Type 0} (old new : Cache L) (pid : ℕ) : Type 0 where
+  pub resident : slice_get new.resident pid ≡ slice_get old.resident pid
+  pub node : slice_get new.nodes pid ≡ slice_get old.nodes pid
+
+-- all pages do, and nothing was accessed
+pub record KeepsMemory {L : Type 0} (old new : Cache L) : Type 0 where
+  pub stay : (pid : ℕ) → StaysAt old new pid
+  pub lru : new.lru ≡ old.lru
+
+module _ {L : Type 0} (old : Cache L) (pid : ℕ) (new : Cache L) where
+  -- The page was accessed. Of the others all stay as they were, but those that the list dropped for it.
+  pub record AccessesPage : Type 0 where
+    pub size : ℕ
+    pub dropped : List ℕ
+    pub accessed : IsAccessed pid (rounded size) old.lru new.lru dropped
+    pub others : (other : ℕ) → other ≢ pid → ¬ Contains dropped other → StaysAt old new other
+
+  -- the page was accessed and its node lies in memory, or there is none and nothing changes
+  abbrev pub FindsPage : Type 0
+  FindsPage = (AccessesPage × ((size : ℕ) × HasNode new pid size)) ⊎ (KeepsMemory old new × HasNoNode new pid)
+
+  -- nothing was accessed, and all other pages stay as they were
+  pub record LeavesOthers : Type 0 where
+    pub lru : new.lru ≡ old.lru
+    pub others : (other : ℕ) → other ≢ pid → StaysAt old new other
+
+  -- What an error leaves in memory: no page leaves it but that of a refused append, and what its access drops. Other errors leave
+  -- all as it was.
+  pub record LeavesMemory (tells : Type 0) (error : Error) : Type 0 where
+    pub others : AccessesPage ⊎ LeavesOthers
+    pub unasked : tells → IsHindrance error ⊎ KeepsMemory old new
+
+-- the same of a page that has no node in memory
+abbrev pub LeavesNodes : {L : Type 0} → Type 0 → Cache L → Cache L → Error → Type 0
+LeavesNodes tells old new error = (pid : ℕ) × HasNoNode old pid × LeavesMemory old pid new tells error
