@@ -99,6 +99,11 @@ impl DoublyLinkedList {
         ensures slot { result ≡ slot }
         ensures promoted { IsPromoted slot self.old self.new }
     {
+        if let Some(first) = self.links.first()
+            && first.0 == slot.0
+        {
+            return slot;
+        }
         let item = self.links.unlink(slot);
         self.links.link_head(slot, item);
         slot

@@ -2,7 +2,7 @@
 use Rattle.std.proofs.Common.{inl, inr, ◌≡◌, ℕ, zero, suc, ◌+◌, ◌<◌, ◌≤◌, true, cond, eqb, Option, Some, None, List, [], ◌∷◌, ◌++◌, refl, sym, ap, ◌∙◌, subst, eq-eqb, arith}
 use Rattle.std.specs.Prelude.{Contains, IfSome, IfNone}
 use Rattle.std.proofs.lemmas.Bool.{cases_Bool, eqb-true}
-use Rattle.std.proofs.lemmas.Option.{same_Some}
+use Rattle.std.proofs.lemmas.Option.{none-some, same_Some}
 use Rattle.std.proofs.lemmas.List.{map-append}
 use Rattle.sled_base.specs.Dll.{Listed, listed, slots, last_slot_or, last_slot, AreDistinct, IsPromoted}
 use Rattle.sled_base.specs.Links.{first_slot_or, times, TakesOut}
@@ -123,6 +123,19 @@ last_live list (Some slot) is =
 pub last_empty : (list : List Listed) (at : Option Slot) → at ≡ last_slot list → IfNone at (list ≡ [])
 last_empty list None is = none_last list (sym is)
 last_empty list (Some slot) is = tt
+
+-- the first item stands where it is put
+pub promotes-first : (slot first : Slot) (list : List Listed) → first_slot_or None list ≡ Some first → first.0 ≡ slot.0 → IsPromoted slot list list
+promotes-first slot first [] is same = absurd (none-some first is)
+promotes-first slot first (l ∷ list) is same =
+    let named : l ≡ listed slot l.item = ap (λ (s : Slot). listed s l.item) (same_Some l.slot first is ∙ ap (λ n. record { 0 = n }) same) in
+    record {
+      before = [];
+      item = l.item;
+      after = list;
+      is = ap (λ (x : Listed). x ∷ list) named;
+      then = ap (λ (x : Listed). x ∷ list) named;
+    }
 
 -- an item that was taken out stands first
 pub promotes : (slot : Slot) (item : ℕ) (found old middle new : List Listed) → found ≡ old → Contains (slots old) slot → TakesOut slot item found middle → new ≡ listed slot item ∷ middle → IsPromoted slot old new
