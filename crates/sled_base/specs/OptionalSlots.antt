@@ -1,6 +1,6 @@
 -- A slot or none as one number.
 use Rattle.std.specs.Prelude.{◌≡◌, ℕ, Option, Some, None, if◌then◌else◌, ◌==◌, refl}
-use Rattle.std.proofs.Common.{inl, inr, ap, sym, ◌∙◌, cond}
+use Rattle.std.proofs.Common.{inl, inr, sym}
 use Rattle.std.proofs.lemmas.Bool.{cases_eq, eq-eqb, ne_eqb}
 use Rattle.sled_base.specs.declared.dll.Slot.{Slot}
 

@@ -42,7 +42,7 @@ impl Model for IVec {
 }
 
 impl IVec {
-    /// A copy of the bytes. Up to [`CUTOFF`] of them need no allocation.
+    /// A copy of the bytes. Up to [`CUTOFF`] of them need no allocation. An error means that an allocation failed.
     pub fn from_slice(alloc: Global, bytes: &[u8]) -> Result<IVec, AllocError>
         ensures ok { IfOk result (λ v. v ≡ bytes.now) }
         ensures few { length bytes.now ≤ inline_limit → IsOk result }
@@ -67,7 +67,7 @@ impl IVec {
         Ok(IVec::inline(&bytes))
     }
 
-    /// The bytes of a boxed slice, which is taken as [`IVec::from_vec`] takes a list.
+    /// The bytes of a boxed slice, which is taken as [`IVec::from_vec`] takes a list, with the same error.
     pub fn from_box(alloc: Global, bytes: BoxedSlice<u8>) -> Result<IVec, AllocError>
         ensures ok { IfOk result (λ v. v ≡ boxed_slice_items bytes) }
         ensures few { length (boxed_slice_items bytes) ≤ inline_limit → IsOk result }
@@ -88,7 +88,7 @@ impl IVec {
         Ok(IVec::inline(&bytes))
     }
 
-    /// A copy of the bytes of a text. Up to [`CUTOFF`] of them need no allocation.
+    /// A copy of the bytes of a text. Up to [`CUTOFF`] of them need no allocation. An error means that an allocation failed.
     pub fn from_str(alloc: Global, text: &str) -> Result<IVec, AllocError>
         ensures ok { IfOk result (λ v. v ≡ text.now) }
         ensures few { length text.now ≤ inline_limit → IsOk result }
@@ -96,7 +96,7 @@ impl IVec {
         IVec::from_slice(alloc, text.as_bytes())
     }
 
-    /// The bytes of an array. Up to [`CUTOFF`] of them need no allocation.
+    /// A copy of the bytes of an array. Up to [`CUTOFF`] of them need no allocation. An error means that an allocation failed.
     pub fn from_array<const N: usize>(alloc: Global, bytes: [u8; N]) -> Result<IVec, AllocError>
         ensures ok { IfOk result (λ v. v ≡ bytes.entry) }
         ensures few { N ≤ inline_limit → IsOk result }
@@ -104,9 +104,10 @@ impl IVec {
         IVec::from_slice(alloc, &bytes)
     }
 
-    /// `len` bytes from `offset` on. Up to [`CUTOFF`] of them need no allocation, and more are shared with these.
+    /// `len` bytes from `offset` on, which have to lie within these: `offset + len` is at most [`len`](IVec::len).
     ///
-    /// An error means that there are more holders than can be counted.
+    /// It allocates nothing: up to [`CUTOFF`] bytes are copied in place and never refused, and more are shared with these. An
+    /// error means that there are more holders than can be counted.
     pub fn subslice(&self, offset: usize, len: usize) -> Result<IVec, AllocError>
         requires start { offset ≤ length self.now }
         requires end { len ≤ length self.now - offset }
@@ -123,7 +124,8 @@ impl IVec {
         Ok(IVec::inline(&self.as_slice()[offset..offset + len]))
     }
 
-    /// The bytes, shared. Where these are all the bytes of what is shared, it is that itself, and else a copy.
+    /// The bytes, shared. Where these are all the bytes of what is shared, it is that itself, and nothing is allocated; else it
+    /// is a copy.
     ///
     /// An error means that the copy could not be allocated, and the bytes are let go.
     pub fn into_arc(self, alloc: Global) -> Result<Arc<Vec<u8>>, AllocError>
@@ -213,7 +215,7 @@ impl FromIterator<u8> for IVec {
 
     ghost from_iter_gives = { λ bytes v. v ≡ bytes };
 
-    /// The bytes that come, in their order. They are first put into a list.
+    /// The bytes that come, in their order. They are first put into a list. An error means that an allocation failed.
     fn from_iter<U: IntoIterator<Item = u8>>(alloc: Global, iter: U) -> Result<IVec, AllocError> {
         IVec::from_vec(alloc, Vec::from_iter(alloc, iter)?)
     }
@@ -236,6 +238,9 @@ impl Clone for IVec {
 
     ghost is_infallible = { IsShort };
 
+    /// The same bytes. It allocates nothing: up to [`CUTOFF`] bytes are copied in place and never refused, and more are shared.
+    ///
+    /// An error means that there are more holders than can be counted.
     fn clone(&self) -> Result<IVec, AllocError> {
         self.subslice(0, self.len())
     }

@@ -17,7 +17,9 @@ pub fn empty() -> IVec
     IVec::default()
 }
 
-/// The whole key: the prefix and then the key that is kept without it. Up to [`CUTOFF`] bytes need no allocation.
+/// The whole key: the prefix and then the key that is kept without it.
+///
+/// Up to [`CUTOFF`] bytes together need no allocation. An error means that an allocation failed.
 pub fn decode(alloc: Global, prefix: &[u8], key: &[u8]) -> Result<IVec, AllocError>
     ensures ok { IfOk result (λ whole. whole ≡ prefix.now ++ key.now) }
     ensures few { length (prefix.now ++ key.now) ≤ inline_limit → IsOk result }
@@ -47,7 +49,7 @@ fn decode_few(alloc: Global, prefix: &[u8], key: &[u8]) -> Result<IVec, AllocErr
 
 /// The whole key without its first `n` bytes, as it is kept under a prefix of so many. It is empty if there are fewer.
 ///
-/// Up to [`CUTOFF`] bytes need no allocation.
+/// Up to [`CUTOFF`] bytes need no allocation. An error means that an allocation failed.
 pub fn reencode(alloc: Global, prefix: &[u8], key: &[u8], n: usize) -> Result<IVec, AllocError>
     ensures ok { IfOk result (λ rest. rest ≡ drop n (prefix.now ++ key.now)) }
     ensures few { length (drop n (prefix.now ++ key.now)) ≤ inline_limit → IsOk result }
@@ -66,7 +68,7 @@ pub fn fastcmp(l: &[u8], r: &[u8]) -> Ordering
 
 /// The greatest place whose item equals the key. Where none does, the error is how many items are below the key.
 ///
-/// The items are sorted, and there may be doubles.
+/// The items have to ascend, and there may be doubles. It allocates nothing.
 pub fn binary_search(key: &[u8], s: &[IVec]) -> Result<usize, usize>
     requires { IsSorted s.now }
     ensures found { IfOk result (IsLastEqual key.now s.now) }
@@ -78,7 +80,7 @@ pub fn binary_search(key: &[u8], s: &[IVec]) -> Result<usize, usize>
 
 /// The greatest place whose item isn't above the key, or None where every item is above.
 ///
-/// The items are sorted, and there may be doubles.
+/// The items have to ascend, and there may be doubles. It allocates nothing.
 pub fn binary_search_lub(key: &[u8], s: &[IVec]) -> Option<usize>
     requires { IsSorted s.now }
     ensures found { IfSome result (IsLastAtMost key.now s.now) }

@@ -35,6 +35,8 @@ impl<V> Keyed for (IVec, V) {
 }
 
 /// How many items aren't above the key, found by halving. They stand before those that are.
+///
+/// The keys of the items have to ascend, and there may be doubles.
 pub fn count_at_most<T: Keyed>(key: &[u8], items: &[T]) -> usize
     requires { IsSorted (map T.key_of items.now) }
     ensures bound { result ≤ length items.now }
@@ -44,6 +46,8 @@ pub fn count_at_most<T: Keyed>(key: &[u8], items: &[T]) -> usize
 }
 
 /// The greatest place whose item isn't above the key, or None where every item is above.
+///
+/// The keys of the items have to ascend, and there may be doubles.
 pub fn last_at_most<T: Keyed>(key: &[u8], items: &[T]) -> Option<usize>
     requires { IsSorted (map T.key_of items.now) }
     ensures found { IfSome result (IsLastAtMost key.now (map T.key_of items.now)) }
@@ -53,6 +57,8 @@ pub fn last_at_most<T: Keyed>(key: &[u8], items: &[T]) -> Option<usize>
 }
 
 /// The greatest place whose item equals the key. Where none does, the error is how many items are below the key.
+///
+/// The keys of the items have to ascend, and there may be doubles.
 pub fn last_equal<T: Keyed>(key: &[u8], items: &[T]) -> Result<usize, usize>
     requires { IsSorted (map T.key_of items.now) }
     ensures found { IfOk result (IsLastEqual key.now (map T.key_of items.now)) }

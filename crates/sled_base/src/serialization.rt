@@ -1,7 +1,7 @@
 //! Payloads: values as bytes, and back.
 
-ghost use Rattle.std.specs.Prelude.{◌≡◌, ℕ, ◌+◌, ◌<◌, ◌≤◌, ◌^◌, List, length, drop, ◌++◌, IfOk, IfErr, OnErr};
-ghost use Rattle.sled_base.specs.Payloads.Reading.{IsRefusal, IsGrammar};
+ghost use Rattle.std.specs.Prelude.{◌≡◌, ℕ, ◌+◌, ◌<◌, ◌≤◌, ◌^◌, Bool, true, List, length, drop, ◌++◌, IfOk, IfErr, OnErr};
+ghost use Rattle.sled_base.specs.Payloads.Reading.{IsRefusal, IsGrammar, TakesAByte};
 
 pub mod bytes;
 mod consume;
@@ -34,7 +34,10 @@ pub trait Serialize: Drop {
     /// How many bytes each encoding has at least.
     ghost least_size: { ℕ };
 
-    /// How many bytes the value is written as.
+    /// Whether each reading of an input that isn't empty takes a byte of it.
+    ghost takes_a_byte: { Bool } = { true };
+
+    /// How many bytes the value is written as. The value has to keep its limits (`can_write`), and fewer than 2^64 bytes.
     fn serialized_size(&self) -> u64
         requires can_write { can_write self.now }
         requires fits { length (written self.now) < 2 ^ 64 }
@@ -42,7 +45,8 @@ pub trait Serialize: Drop {
 
     /// Writes the value at the front, and answers how many bytes it took. The other bytes stay as they were.
     ///
-    /// It allocates nothing.
+    /// The value has to keep its limits (`can_write`), and `out` to have room for it:
+    /// [`serialized_size`](Serialize::serialized_size) bytes. It allocates nothing.
     fn serialize_into(&self, out: &mut [u8]) -> usize
         requires can_write { can_write self.now }
         requires room { length (written self.now) ≤ length out.old }
@@ -58,7 +62,9 @@ pub trait Serialize: Drop {
         ensures refused { IfErr result (IsRefusal asks reads input.old.now) }
         ensures stays { OnErr result (input.new ≡ input.old) };
 
-    /// The value as bytes of their own.
+    /// The value as bytes of their own. The value has to keep its limits (`can_write`), and fewer than 2^64 bytes.
+    ///
+    /// An error means that an allocation failed.
     fn serialize(&self, alloc: Global) -> Result<Vec<u8>, AllocError>
         requires can_write { can_write self.now }
         requires fits { length (written self.now) < 2 ^ 64 }
@@ -73,6 +79,9 @@ pub trait Serialize: Drop {
     /// At most one value and one rest are read, what was written is read again with what may follow it as the rest, and
     /// a reading takes at least so many bytes.
     ghost grammar: { IsGrammar reads written can_write can_follow least_size };
+
+    /// Where it is said that a reading takes a byte of an input that isn't empty, it does.
+    ghost takes: { takes_a_byte ≡ true → TakesAByte reads };
 }
 
 #[cfg(test)]

@@ -18,10 +18,10 @@ pub type PageId = u64;
 /// A place in a log, in bytes from its beginning.
 pub type LogOffset = u64;
 
-/// The place of a message in a log, as a log sequence number.
+/// The place of a message in a log, as a log sequence number: in bytes, like a [`LogOffset`].
 pub type Lsn = i64;
 
-/// The place of the message that first held a blob.
+/// The place of the message that first held a blob, as an [`Lsn`].
 pub type BlobPointer = i64;
 
 /// What the mark of a batch in a log holds: the place of the batch's last record.
@@ -31,7 +31,9 @@ pub struct BatchManifest(pub Lsn);
 /// Where a message stands in a log, and whether its payload is a blob.
 #[derive(Clone, Copy, Debug, PartialEq, Eq)]
 pub enum DiskPtr {
+    /// The message at this place holds its payload.
     Inline(LogOffset),
+    /// The payload of the message at this place is a blob, with the pointer to it.
     Blob(LogOffset, BlobPointer),
 }
 
@@ -52,7 +54,7 @@ impl DiskPtr {
         matches!(self, DiskPtr::Blob(_, _))
     }
 
-    /// The place of the message and the pointer to its blob.
+    /// The place of the message and the pointer to its blob, where [`is_blob`](DiskPtr::is_blob) holds.
     pub fn blob(self) -> (LogOffset, BlobPointer)
         requires { IsBlob self }
         ensures { IsBlobAt self result.0 result.1 }
@@ -127,6 +129,7 @@ impl Bug {
 /// Which work of the device failed.
 #[derive(Clone, Copy, Debug, PartialEq, Eq)]
 pub enum Device {
+    /// A read.
     Read,
     /// A write or a sync.
     Write,
@@ -140,8 +143,10 @@ pub enum Error {
     /// No root has this name.
     #[error("error collection")]
     CollectionNotFound(IVec),
+    /// The call isn't supported as it was made.
     #[error("error unsupported {}", .0.number())]
     Unsupported(Why),
+    /// A node was misused, or a page is of the wrong kind.
     #[error("error bug {}", .0.number())]
     ReportableBug(Bug),
     /// The device failed in this call, or a write failed in an earlier one.
@@ -158,14 +163,19 @@ pub enum Error {
 /// An [`Error`] that owns no memory. The calls that lend from the cache answer it, and `?` makes an [`Error`] of it.
 #[derive(Clone, Copy, Debug, PartialEq, Eq, Error)]
 pub enum Refusal {
+    /// The call isn't supported as it was made.
     #[error("error unsupported {}", .0.number())]
     Unsupported(Why),
+    /// A node was misused, or a page is of the wrong kind.
     #[error("error bug {}", .0.number())]
     ReportableBug(Bug),
+    /// The device failed in this call, or a write failed in an earlier one.
     #[error("error {}", match .0 {Device::Read => "read", Device::Write => "write"})]
     Io(Device),
+    /// The log holds what no cache wrote; where it was a page that was read, at this place.
     #[error("error corruption")]
     Corruption(Option<DiskPtr>),
+    /// An allocation failed.
     #[error("error memory")]
     OutOfMemory,
 }

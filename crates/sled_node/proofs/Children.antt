@@ -18,7 +18,7 @@ use Rattle.sled_node.specs.Pairs.{IsWithinLimit, IsRising, set_pair, HasPairs}
 use Rattle.sled_node.specs.Node.{Item, Child, WholeNode, whole, IsInRange, IsWellFormed, ItemFits}
 use Rattle.sled_node.specs.Parts.{node_of, HoldsData}
 use Rattle.sled_node.specs.Inserts.{HasKey, inserted}
-use Rattle.sled_node.specs.Children.{BeginsAtMost, HasChildFor, IsLastAtMost, with_child}
+use Rattle.sled_node.specs.Children.{BeginsAtMost, HasChildFor, AcceptsChild, IsLastAtMost, with_child}
 use Rattle.sled_node.proofs.Rising.{all_at}
 use Rattle.sled_node.proofs.Edits.{rising_set, all_set}
 use Rattle.sled_node.proofs.NodeEdits.{made, set_under}
@@ -159,6 +159,14 @@ module _ (n : WholeNode) (pairs : List (Bytes × ℕ)) (holds : HoldsData n (Ind
   pub room_stored : (length n.pairs < 2 ^ 24) ⊎ HasKey n.pairs key → (length pairs < 2 ^ 24) ⊎ HasKey pairs stored
   room_stored (inl few) = inl (omega (arith, few, ap length holds.pairs, length-map pairs (made front (λ page. Child page))))
   room_stored (inr there) = inr (has_key_stored there)
+
+  room_whole : (length pairs < 2 ^ 24) ⊎ HasKey pairs stored → (length n.pairs < 2 ^ 24) ⊎ HasKey n.pairs key
+  room_whole (inl few) = inl (omega (arith, few, ap length holds.pairs, length-map pairs (made front (λ page. Child page))))
+  room_whole (inr there) = inr (has_key there)
+
+  -- so the node accepts a child at the key where the stored keys have room for it
+  pub accepts_with_room : (answer : Bool) → IsInRange n key → IsWithinLimit key → IsTrue answer ↔ ((length pairs < 2 ^ 24) ⊎ HasKey pairs stored) → IsTrue answer ↔ AcceptsChild n key
+  accepts_with_room answer inside short tells = (λ so. record { index = holds.kind; range = inside; limit = short; room = room_whole (tells.0 so) }, λ accepts. tells.1 (room_stored accepts.room))
 
   pub missing_alike : (is_new : Bool) → IsTrue is_new ↔ (HasKey pairs stored → ⊥) → IsTrue is_new ↔ (HasKey n.pairs key → ⊥)
   missing_alike is_new tells = (λ so there. tells.0 so (has_key_stored there), λ missing. tells.1 (λ there. missing (has_key there)))

@@ -1,8 +1,10 @@
 -- The children of an index, by whole keys.
-use Rattle.std.specs.Prelude.{◌≡◌, ℕ, ◌+◌, true, false, List, [], ◌∷◌, drop, None, Some, slice_get}
+use Rattle.std.specs.Prelude.{◌≡◌, ◌⊎◌, ℕ, ◌+◌, ◌<◌, true, false, List, [], ◌∷◌, length, drop, None, Some, slice_get}
 use Rattle.std.specs.List.{AllByRecursion}
 use Rattle.sled_base.specs.Order.{Bytes, IsBelow, IsAtMost}
-use Rattle.sled_node.specs.Pairs.{set_pair}
+use Rattle.sled_node.specs.Limits.{pairs_limit}
+use Rattle.sled_node.specs.Pairs.{IsWithinLimit, set_pair}
+use Rattle.sled_node.specs.Inserts.{HasKey}
 use Rattle.sled_node.specs.Node.{Item, Child, WholeNode, IsInRange}
 
 -- an index of these pairs, over all keys
@@ -24,6 +26,13 @@ pub record IsLastAtMost {V : Type 0} (pairs : List (Bytes × V)) (key : Bytes) (
   pub here : slice_get pairs i ≡ Some (found, item)
   pub at_most : IsAtMost found key
   pub behind : AllByRecursion (λ later. IsBelow key later.0) (drop (i + 1) pairs)
+
+-- an index that may be asked to lead to another child from a key on: it has the key, or room for another pair
+pub record AcceptsChild (n : WholeNode) (key : Bytes) : Type 0 where
+  pub index : n.is_index ≡ true
+  pub range : IsInRange n key
+  pub limit : IsWithinLimit key
+  pub room : (length n.pairs < pairs_limit) ⊎ HasKey n.pairs key
 
 -- the index with the key mapped to the page
 abbrev pub with_child : Bytes → ℕ → WholeNode → WholeNode

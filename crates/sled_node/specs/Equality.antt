@@ -53,36 +53,53 @@ pages_Decides None (Some q) = (λ h. absurd cc, λ e. absurd cc)
 pages_Decides (Some p) None = (λ h. absurd cc, λ e. absurd cc)
 pages_Decides (Some p) (Some q) = let same = unsigned_Decides p q in (λ h. ap (λ x. Some x) (same.0 h), λ e. same.1 cc)
 
--- the kinds and the pairs
+abbrev pub same_bytes : Bytes → Bytes → Bool
+same_bytes = pointwise nat_eq
+
+abbrev pub same_pages : Option ℕ → Option ℕ → Bool
+same_pages = option_eq nat_eq
+
+-- Two nodes are compared by their ranges, by the pages and marks beside them, and by what they hold.
+abbrev pub same_ranges : WholeNode → WholeNode → Bool
+same_ranges v w = (same_bytes v.lo w.lo && same_bytes v.hi w.hi) && nat_eq v.prefix_len w.prefix_len
+
+abbrev pub same_marks : WholeNode → WholeNode → Bool
+same_marks v w = (same_pages v.next w.next && same_pages v.child w.child) && beq v.capped w.capped
+
 abbrev pub same_contents : Bool → Bool → List (Bytes × Item) → List (Bytes × Item) → Bool
 same_contents a b xs ys = beq a b && same_pairs same_items xs ys
 
--- two nodes, by all that they are
 abbrev pub same_nodes : WholeNode → WholeNode → Bool
-same_nodes v w = pointwise nat_eq v.lo w.lo && (pointwise nat_eq v.hi w.hi && (nat_eq v.prefix_len w.prefix_len && (option_eq nat_eq v.next w.next && (option_eq nat_eq v.child w.child && (beq v.capped w.capped && same_contents v.is_index w.is_index v.pairs w.pairs)))))
+same_nodes v w = (same_ranges v w && same_marks v w) && same_contents v.is_index w.is_index v.pairs w.pairs
 
 -- it holds just where the nodes are the same
-pub node_Decides : (v w : WholeNode) → Decides (same_nodes v w) (v ≡ w)
-node_Decides v w =
-    Decides-like (same_nodes v w)
-    (λ h i. record {
-      lo = h.0 i;
-      hi = h.1.0 i;
-      prefix_len = h.1.1.0 i;
-      next = h.1.1.1.0 i;
-      child = h.1.1.1.1.0 i;
-      capped = h.1.1.1.1.1.0 i;
-      is_index = h.1.1.1.1.1.1.0 i;
-      pairs = h.1.1.1.1.1.1.1 i;
-    })
-    (λ e. (ap (λ n. n.lo) e, (ap (λ n. n.hi) e, (ap (λ n. n.prefix_len) e, (ap (λ n. n.next) e, (ap (λ n. n.child) e, (ap (λ n. n.capped) e, (ap (λ n. n.is_index) e, ap (λ n. n.pairs) e))))))))
-    (Decides-and (pointwise nat_eq v.lo w.lo) _ (bytes_decides v.lo w.lo)
-    (Decides-and (pointwise nat_eq v.hi w.hi) _ (bytes_decides v.hi w.hi)
-    (Decides-and (nat_eq v.prefix_len w.prefix_len) _ (unsigned_Decides v.prefix_len w.prefix_len)
-    (Decides-and (option_eq nat_eq v.next w.next) _ (pages_Decides v.next w.next)
-    (Decides-and (option_eq nat_eq v.child w.child) _ (pages_Decides v.child w.child)
-    (Decides-and (beq v.capped w.capped) _ (booleans_Decides v.capped w.capped)
-    (Decides-and (beq v.is_index w.is_index) _ (booleans_Decides v.is_index w.is_index) (same_pairs_Decides same_items items_Decides v.pairs w.pairs))))))))
+module _ (v w : WholeNode) where
+  ranges_Decides : Decides (same_ranges v w) (((v.lo ≡ w.lo) × (v.hi ≡ w.hi)) × (v.prefix_len ≡ w.prefix_len))
+  ranges_Decides =
+      Decides-and (same_bytes v.lo w.lo && same_bytes v.hi w.hi) _ (Decides-and (same_bytes v.lo w.lo) _ (bytes_decides v.lo w.lo) (bytes_decides v.hi w.hi)) (unsigned_Decides v.prefix_len w.prefix_len)
+
+  marks_Decides : Decides (same_marks v w) (((v.next ≡ w.next) × (v.child ≡ w.child)) × (v.capped ≡ w.capped))
+  marks_Decides =
+      Decides-and (same_pages v.next w.next && same_pages v.child w.child) _ (Decides-and (same_pages v.next w.next) _ (pages_Decides v.next w.next) (pages_Decides v.child w.child)) (booleans_Decides v.capped w.capped)
+
+  contents_Decides : Decides (same_contents v.is_index w.is_index v.pairs w.pairs) ((v.is_index ≡ w.is_index) × (v.pairs ≡ w.pairs))
+  contents_Decides = Decides-and (beq v.is_index w.is_index) _ (booleans_Decides v.is_index w.is_index) (same_pairs_Decides same_items items_Decides v.pairs w.pairs)
+
+  pub node_Decides : Decides (same_nodes v w) (v ≡ w)
+  node_Decides =
+      Decides-like (same_nodes v w)
+      (λ h i. record {
+        lo = h.0.0.0.0 i;
+        hi = h.0.0.0.1 i;
+        prefix_len = h.0.0.1 i;
+        next = h.0.1.0.0 i;
+        child = h.0.1.0.1 i;
+        capped = h.0.1.1 i;
+        is_index = h.1.0 i;
+        pairs = h.1.1 i;
+      })
+      (λ e. (((((ap (λ n. n.lo) e, ap (λ n. n.hi) e), ap (λ n. n.prefix_len) e), ((ap (λ n. n.next) e, ap (λ n. n.child) e), ap (λ n. n.capped) e)), (ap (λ n. n.is_index) e, ap (λ n. n.pairs) e))))
+      (Decides-and (same_ranges v w && same_marks v w) _ (Decides-and (same_ranges v w) _ ranges_Decides marks_Decides) contents_Decides)
 
 pub node_equiv : IsEquivalence same_nodes
 node_equiv = decided same_nodes node_Decides

@@ -34,6 +34,14 @@ abbrev pub without_merged : Option ℕ → List (Bytes × Item) → List (Bytes 
 without_merged None pairs = pairs
 without_merged (Some page) pairs = without_child page pairs
 
+-- applying the link allocates nothing: only for a pair that is put in memory may be asked
+abbrev pub AllocatesNothing : Link → Type 0
+AllocatesNothing (Set key value) = ⊥
+AllocatesNothing (Del key) = ⊤
+AllocatesNothing (ParentMergeIntention page) = ⊤
+AllocatesNothing ParentMergeConfirm = ⊤
+AllocatesNothing ChildMergeCap = ⊤
+
 -- the node with the link applied
 abbrev pub applied : Link → WholeNode → WholeNode
 applied (Set key value) n = record n { pairs = set_pair (whole n key) (Value value) n.pairs }

@@ -1,12 +1,11 @@
 -- A finite map from names to root pages, as the list of its names with their roots, in the order of names.
-use Rattle.std.specs.Prelude.{◌≡◌, ℕ, ◌+◌, ◌<◌, ◌^◌, Bool, List, map, length, Option, None}
+use Rattle.std.specs.Prelude.{◌≡◌, ℕ, ◌+◌, ◌<◌, ◌^◌, Bool, List, [], ◌∷◌, ◌++◌, map, length, Option, Some, None, if◌then◌else◌}
 use Rattle.std.specs.BTreeMap.{BTreeMap}
 use Rattle.std.specs.Global.{Vec}
 use Rattle.std.specs.List.{fold, sum_by}
-use Rattle.std.specs.Map.{lookup}
 use Rattle.std.specs.Ordering.{is_eq}
 use Rattle.sled_base.specs.Order.{Bytes, bytes_cmp}
-use Rattle.sled_node.specs.Pairs.{set_pair, del_pair, HasPairs}
+use Rattle.sled_node.specs.Pairs.{pairs_below, pairs_above, HasPairs}
 use Rattle.sled_node.specs.Limits.{names_limit, page_bytes}
 
 abbrev pub Roots : Type 0
@@ -19,20 +18,22 @@ named entries = map (λ entry. (entry.0.items, entry.1)) entries
 abbrev pub named_pages : BTreeMap (Vec ℕ) ℕ → Roots
 named_pages pages = named pages.entries
 
--- whether the names are one
+-- whether two names are the same
 abbrev pub is_name : Bytes → Bytes → Bool
 is_name name other = is_eq (bytes_cmp name other)
 
--- the root of the name, if it has one
+-- the root that stands behind the name, or none where the name is missing
 abbrev pub root_of : Bytes → Roots → Option ℕ
-root_of name roots = lookup (is_name name) roots
+root_of name [] = None
+root_of name (pair ∷ roots) = if is_name name pair.0 then Some pair.1 else root_of name roots
 
--- the map with that name set, and with that name taken out; all other names as before
+-- the map with that name set: the names below it, the name with its root, and the names above it
 abbrev pub with_root : Bytes → ℕ → Roots → Roots
-with_root name root roots = set_pair name root roots
+with_root name root roots = pairs_below name roots ++ (name, root) ∷ pairs_above name roots
 
+-- the map with that name taken out: the names below it, and the names above it
 abbrev pub without_root : Bytes → Roots → Roots
-without_root name roots = del_pair name roots
+without_root name roots = pairs_below name roots ++ pairs_above name roots
 
 -- the map with the pairs set one after the other, so that a later pair of a name wins
 abbrev pub with_roots : List (Bytes × ℕ) → Roots → Roots

@@ -1,13 +1,17 @@
 -- The laws of the root map.
-use Rattle.std.specs.Prelude.{◌≡◌, ℕ, true, false, [], ◌∷◌, ◌++◌, refl}
-use Rattle.std.proofs.Common.{sym, ap, subst, ◌∙◌, append_assoc}
+use Rattle.std.specs.Prelude.{◌≡◌, ◌≢◌, ℕ, Bool, true, false, [], ◌∷◌, ◌++◌, filter, Option, Some, None, refl}
+use Rattle.std.proofs.Common.{cond, sym, ap, subst, ◌∙◌, append_assoc}
 use Rattle.std.proofs.lemmas.List.{append-nil}
 use Rattle.std.specs.List.{AllByRecursion}
-use Rattle.std.specs.Ordering.{is_lt}
-use Rattle.sled_base.specs.Order.{Bytes, is_below, IsBelow}
-use Rattle.sled_base.specs.OrderLaws.{below_is_above}
+use Rattle.std.specs.declared.cmp.Ordering.{Ordering}
+use Rattle.std.specs.declared.cmp.Ordering.TheVariants.{Less, Equal, Greater}
+use Rattle.std.specs.Ordering.{is_lt, is_eq, ordering_reverse}
+use Rattle.std.specs.Cmp.Lexicographic.{nat_list_cmp_total}
+use Rattle.std.proofs.lemmas.Cmp.{tied_itself}
+use Rattle.sled_base.specs.Order.{Bytes, bytes_cmp, is_below, IsBelow}
+use Rattle.sled_base.specs.OrderLaws.{below_is_above, equal_is_same, reversed}
 use Rattle.sled_node.specs.Pairs.{IsRising, pairs_below, pairs_above}
-use Rattle.sled_node.specs.Meta.{Roots, with_root, with_roots}
+use Rattle.sled_node.specs.Meta.{Roots, is_name, root_of, with_root, without_root, with_roots}
 
 module _ (name : Bytes) where
   -- where all names are below, all of them stay before the name
@@ -44,3 +48,105 @@ put_behind front (pair ∷ pairs) rising =
 -- ascending pairs, put into the empty map in their order, are the map
 pub put_in_order : (pairs : Roots) → IsRising pairs → with_roots pairs [] ≡ pairs
 put_in_order pairs rising = put_behind [] pairs rising
+
+-- ---- what a name that was set, or taken out, reads
+
+-- what the first names read, or else the others
+abbrev or_else : Option ℕ → Option ℕ → Option ℕ
+or_else (Some root) other = Some root
+or_else None other = other
+
+or_none : (found : Option ℕ) → or_else found None ≡ found
+or_none (Some root) = refl
+or_none None = refl
+
+module _ (name : Bytes) where
+  one_of : (b : Bool) (root : ℕ) (found other : Option ℕ) → cond b (Some root) (or_else found other) ≡ or_else (cond b (Some root) found) other
+  one_of true root found other = refl
+  one_of false root found other = refl
+
+  read_in_turn : (front back : Roots) → root_of name (front ++ back) ≡ or_else (root_of name front) (root_of name back)
+  read_in_turn [] back = refl
+  read_in_turn (pair ∷ front) back =
+      ap (cond (is_name name pair.0) (Some pair.1)) (read_in_turn front back) ∙ one_of (is_name name pair.0) pair.1 (root_of name front) (root_of name back)
+
+  -- names that are picked by what they are
+  module _ (picks : Bytes → Bool) where
+    abbrev picked : Roots → Roots
+    picked roots = filter (λ pair. picks pair.0) roots
+
+    dropped_one : (o : Ordering) (b : Bool) (root : ℕ) (pair : Bytes × ℕ) (roots : Roots) → (o ≡ Equal → b ≡ false) → bytes_cmp name pair.0 ≡ o → root_of name roots ≡ None → root_of name (cond b (pair ∷ roots) roots) ≡ None
+    dropped_one o false root pair roots drops is missing = missing
+    dropped_one Less true root pair roots drops is missing = ap (λ o. cond (is_eq o) (Some pair.1) (root_of name roots)) is ∙ missing
+    dropped_one Greater true root pair roots drops is missing = ap (λ o. cond (is_eq o) (Some pair.1) (root_of name roots)) is ∙ missing
+    dropped_one Equal true root pair roots drops is missing = absurd (let e = drops refl in cc)
+
+    pub dropped : picks name ≡ false → (roots : Roots) → root_of name (picked roots) ≡ None
+    dropped drops [] = refl
+    dropped drops (pair ∷ roots) =
+        dropped_one (bytes_cmp name pair.0) (picks pair.0) pair.1 pair (picked roots) (λ same. sym (ap picks (equal_is_same name pair.0 same)) ∙ drops) refl (dropped drops roots)
+
+    kept_one : (o : Ordering) (b : Bool) (pair : Bytes × ℕ) (some all : Roots) → (o ≡ Equal → b ≡ true) → bytes_cmp name pair.0 ≡ o → root_of name some ≡ root_of name all → root_of name (cond b (pair ∷ some) some) ≡ root_of name (pair ∷ all)
+    kept_one o true pair some all keeps is same = ap (cond (is_name name pair.0) (Some pair.1)) same
+    kept_one Less false pair some all keeps is same = same ∙ sym (ap (λ o. cond (is_eq o) (Some pair.1) (root_of name all)) is)
+    kept_one Greater false pair some all keeps is same = same ∙ sym (ap (λ o. cond (is_eq o) (Some pair.1) (root_of name all)) is)
+    kept_one Equal false pair some all keeps is same = absurd (let e = keeps refl in cc)
+
+    pub kept : picks name ≡ true → (roots : Roots) → root_of name (picked roots) ≡ root_of name roots
+    kept keeps [] = refl
+    kept keeps (pair ∷ roots) =
+        kept_one (bytes_cmp name pair.0) (picks pair.0) pair (picked roots) roots (λ same. sym (ap picks (equal_is_same name pair.0 same)) ∙ keeps) refl (kept keeps roots)
+
+  not_below_itself : is_below name name ≡ false
+  not_below_itself = ap is_lt (tied_itself nat_list_cmp_total name)
+
+  below_missing : (roots : Roots) → root_of name (pairs_below name roots) ≡ None
+  below_missing roots = dropped (λ other. is_below other name) not_below_itself roots
+
+  above_missing : (roots : Roots) → root_of name (pairs_above name roots) ≡ None
+  above_missing roots = dropped (λ other. is_below name other) not_below_itself roots
+
+  -- a name that was set reads its root
+  pub reads_back : (root : ℕ) (roots : Roots) → root_of name (with_root name root roots) ≡ Some root
+  reads_back root roots =
+      read_in_turn (pairs_below name roots) ((name, root) ∷ pairs_above name roots)
+      ∙ ap (λ found. or_else found (root_of name ((name, root) ∷ pairs_above name roots))) (below_missing roots)
+      ∙ ap (λ o. cond (is_eq o) (Some root) (root_of name (pairs_above name roots))) (tied_itself nat_list_cmp_total name)
+
+  -- a name that was taken out reads none
+  pub reads_none : (roots : Roots) → root_of name (without_root name roots) ≡ None
+  reads_none roots =
+      read_in_turn (pairs_below name roots) (pairs_above name roots) ∙ ap (λ found. or_else found (root_of name (pairs_above name roots))) (below_missing roots) ∙ above_missing roots
+
+-- another name reads what it did
+module _ (name other : Bytes) (roots : Roots) where
+  abbrev lows : Roots
+  lows = pairs_below name roots
+
+  abbrev highs : Roots
+  highs = pairs_above name roots
+
+  -- among the names below and those above
+  aside : (o : Ordering) → bytes_cmp other name ≡ o → other ≢ name → or_else (root_of other lows) (root_of other highs) ≡ root_of other roots
+  aside Less is apart =
+      let high : is_below name other ≡ false = ap is_lt (below_is_above other name is) in
+      ap (or_else (root_of other lows)) (dropped other (λ k. is_below name k) high roots) ∙ or_none (root_of other lows) ∙ kept other (λ k. is_below k name) (ap is_lt is) roots
+  aside Equal is apart = absurd (apart (equal_is_same other name is))
+  aside Greater is apart =
+      let low : is_below other name ≡ false = ap is_lt is in
+      let high : is_below name other ≡ true = ap is_lt (reversed name other ∙ ap ordering_reverse is) in
+      ap (λ found. or_else found (root_of other highs)) (dropped other (λ k. is_below k name) low roots) ∙ kept other (λ k. is_below name k) high roots
+
+  not_name : (o : Ordering) → bytes_cmp other name ≡ o → other ≢ name → is_name other name ≡ false
+  not_name Less is apart = ap is_eq is
+  not_name Equal is apart = absurd (apart (equal_is_same other name is))
+  not_name Greater is apart = ap is_eq is
+
+  pub stays_where_set : (root : ℕ) → other ≢ name → root_of other (with_root name root roots) ≡ root_of other roots
+  stays_where_set root apart =
+      read_in_turn other lows ((name, root) ∷ highs)
+      ∙ ap (λ b. or_else (root_of other lows) (cond b (Some root) (root_of other highs))) (not_name (bytes_cmp other name) refl apart)
+      ∙ aside (bytes_cmp other name) refl apart
+
+  pub stays_where_taken_out : other ≢ name → root_of other (without_root name roots) ≡ root_of other roots
+  stays_where_taken_out apart = read_in_turn other lows highs ∙ aside (bytes_cmp other name) refl apart

@@ -80,7 +80,8 @@ impl Meta {
 
     /// Gives a name its root page, and answers the page that it had before.
     ///
-    /// The map keeps a copy of the name. An allocation failure leaves the map unchanged.
+    /// The name isn't longer than [`MAX_BYTES`](crate::node::MAX_BYTES), and the map [`has_room`](Meta::has_room) for it, of
+    /// which it keeps a copy. An error means that an allocation failed, and leaves the map unchanged.
     pub fn set_root(&mut self, name: IVec, root: PageId) -> Result<Option<PageId>, AllocError>
         requires name { IsWithinLimit name }
         requires room { HasRoom name self.old }
@@ -107,7 +108,7 @@ impl Meta {
         self.roots.clone()
     }
 
-    /// How large the map is: for each name its length, and 8 for the page.
+    /// How large the map is, in bytes: for each name its length, and 8 for the page.
     pub fn rss(&self) -> u64
         ensures { result ≡ roots_size self.now }
     {
@@ -132,6 +133,7 @@ impl Clone for Meta {
 
     ghost is_clone = { λ v w. w ≡ v };
 
+    /// The same names with their root pages. An error means that an allocation failed.
     fn clone(&self) -> Result<Meta, AllocError> {
         Ok(Meta {
             alloc: self.alloc,

@@ -1,12 +1,12 @@
 //! Nodes: a range of keys, and the pairs whose keys lie in it.
 
-ghost use Rattle.std.specs.Prelude.{◌≡◌, ◌↔◌, ◌<◌, ◌≤◌, length, Some, IsTrue, OnOk, OnErr, slice_get};
+ghost use Rattle.std.specs.Prelude.{◌≡◌, ◌↔◌, ◌<◌, ◌≤◌, length, Some, IsTrue, IsOk, OnOk, OnErr, slice_get};
 ghost use Rattle.std.specs.Option.{option_map, SomeIff};
 ghost use Rattle.std.specs.Int.NonZero.{non_zero_u64_get};
 ghost use Rattle.std.specs.Cmp.{partial_equiv_from_equiv};
 ghost use Rattle.sled_node.specs.Equality.{same_nodes, node_equiv};
 ghost use Rattle.sled_node.specs.Node.{whole, IsWellFormed, IsInRange, empty_leaf};
-ghost use Rattle.sled_node.specs.Links.{Accepts, AcceptsHere, applied};
+ghost use Rattle.sled_node.specs.Links.{Accepts, AcceptsHere, AllocatesNothing, applied};
 ghost use Rattle.sled_node.specs.Pairs.{IsWithinLimit};
 ghost use Rattle.sled_node.specs.Parts.{node_of, HoldsData, item_of};
 ghost use Rattle.sled_node.specs.declared.node.link.Link.TheVariants.{Set, Del, ParentMergeConfirm};
@@ -87,7 +87,7 @@ impl Node {
         }
     }
 
-    /// The node of these parts, or none where they are ill-formed.
+    /// The node of these parts, or none where they are ill-formed. It allocates nothing.
     ///
     /// They are well-formed where `lo` is below `hi` or `hi` is empty, `lo` and `hi` have `prefix_len` bytes in common,
     /// which is 0 where `hi` is empty, each whole key is in the range, and no bound or whole key is above the limit.
@@ -189,7 +189,9 @@ impl Node {
         self.contents.len()
     }
 
-    /// The stored key of the pair at place `i`, and what stands behind it.
+    /// The stored key of the pair at place `i`, which is below [`len`](Node::len), and what stands behind it.
+    ///
+    /// The first pair is at place 0, and the keys ascend.
     pub fn pair(&self, i: usize) -> (&[u8], Item<'_>)
         requires { i < length self.now.pairs }
         ensures { slice_get self.now.pairs i ≡ Some (whole self.now result.0.now, item_of result.1) }
@@ -225,10 +227,16 @@ impl Node {
         !self.merging && self.accepts_here(link)
     }
 
-    /// Applies a link that the node accepts. An error leaves the node unchanged.
+    /// Applies a link that the node [`accepts`](Node::accepts).
+    ///
+    /// `Set` maps the key to the value, over the present value if there is one; `Del` takes the key out, or does nothing
+    /// where it is absent; `ParentMergeIntention` marks the child as being merged; `ParentMergeConfirm` takes out the
+    /// first pair that leads to the marked child, and the mark; `ChildMergeCap` marks the node itself. An error means that
+    /// an allocation failed, which happens for a `Set` alone, and leaves the node unchanged.
     pub fn apply(&mut self, link: &Link) -> Result<(), AllocError>
         requires { Accepts self.old link.now }
         ensures ok { OnOk result (self.new ≡ applied link.now self.old) }
+        ensures never { AllocatesNothing link.now → IsOk result }
         ensures err { OnErr result (self.new ≡ self.old) }
     {
         match link {
@@ -241,9 +249,29 @@ impl Node {
         Ok(())
     }
 
-    /// Maps a stored key to a value, over the present value if there is one. A merging node does so too.
+    /// Whether the node may take the pair by [`set_leaf`](Node::set_leaf).
     ///
-    /// An error leaves the node unchanged.
+    /// It is a leaf with the whole key in its range, neither the whole key nor the value is above
+    /// [`MAX_BYTES`] bytes, and the leaf has the key, or fewer than [`MAX_PAIRS`] pairs. A merging node may take it too.
+    pub fn accepts_set(&self, key: &IVec, value: &IVec) -> bool
+        ensures { IsTrue result ↔ AcceptsHere self.now (Set key.now value.now) }
+    {
+        let stored = key.as_slice();
+        match &self.contents {
+            Data::Leaf(leaf) => {
+                self.spans(stored)
+                    && self.is_short(stored)
+                    && value.len() <= MAX_BYTES
+                    && leaf.has_room(stored)
+            }
+            Data::Index(_) => false,
+        }
+    }
+
+    /// Maps a stored key to a value, over the present value if there is one, where the node
+    /// [`accepts`](Node::accepts_set) the pair. A merging node does so too.
+    ///
+    /// An error means that an allocation failed, and leaves the node unchanged.
     pub fn set_leaf(&mut self, key: IVec, value: IVec) -> Result<(), AllocError>
         requires { AcceptsHere self.old (Set key value) }
         ensures ok { OnOk result (self.new ≡ applied (Set key value) self.old) }
@@ -253,7 +281,16 @@ impl Node {
         Ok(())
     }
 
-    /// Takes a stored key and its value out, or does nothing where the key is absent. A merging node does so too.
+    /// Whether the node may be asked to take out the stored key by [`del_leaf`](Node::del_leaf): it is a leaf, and the
+    /// whole key is at most [`MAX_BYTES`] bytes long. The key may be absent or out of the range, and the node merging.
+    pub fn accepts_del(&self, key: &IVec) -> bool
+        ensures { IsTrue result ↔ AcceptsHere self.now (Del key.now) }
+    {
+        !self.is_index() && self.is_short(key.as_slice())
+    }
+
+    /// Takes a stored key and its value out, or does nothing where the key is absent, of a node that
+    /// [`accepts`](Node::accepts_del) the key. A merging node does so too. It allocates nothing.
     pub fn del_leaf(&mut self, key: &IVec)
         requires { AcceptsHere self.old (Del key.now) }
         ensures { self.new ≡ applied (Del key.now) self.old }
@@ -267,26 +304,10 @@ impl Node {
     {
         match link {
             Link::Set(key, value) => self.accepts_set(key, value),
-            Link::Del(key) => !self.is_index() && self.is_short(key.as_slice()),
+            Link::Del(key) => self.accepts_del(key),
             Link::ParentMergeIntention(page) => *page != 0 && self.merging_child.is_none(),
             Link::ParentMergeConfirm => self.leads_to_merging_child(),
             Link::ChildMergeCap => true,
-        }
-    }
-
-    // Whether the pair may stand in the node, which is a leaf.
-    fn accepts_set(&self, key: &IVec, value: &IVec) -> bool
-        ensures { IsTrue result ↔ AcceptsHere self.now (Set key.now value.now) }
-    {
-        let stored = key.as_slice();
-        match &self.contents {
-            Data::Leaf(leaf) => {
-                self.spans(stored)
-                    && self.is_short(stored)
-                    && value.len() <= MAX_BYTES
-                    && leaf.has_room(stored)
-            }
-            Data::Index(_) => false,
         }
     }
 
@@ -333,6 +354,7 @@ impl Clone for Node {
 
     ghost is_clone = { λ v w. w ≡ v };
 
+    /// The same node; byte strings above 22 bytes are shared. An error means that an allocation failed.
     fn clone(&self) -> Result<Node, AllocError> {
         Ok(Node {
             prefix_len: self.prefix_len,

@@ -1,3 +1,6 @@
+mod corners;
+mod edits;
+
 use super::*;
 use sled_base::{Error, IVec};
 use std::alloc::{AllocError, Global};

@@ -1,5 +1,5 @@
 -- Reading values to the end of an input.
-use Rattle.std.specs.Prelude.{◌≡◌, ◌≢◌, ◌⊎◌, ℕ, Bool, true, false, List, [], length, Option, Some, None, Result, Ok, Err, ◌==◌, if◌then◌else◌}
+use Rattle.std.specs.Prelude.{◌≡◌, ◌≢◌, ◌⊎◌, ℕ, Bool, true, false, List, [], length, Option, Some, None, Result, Ok, Err, if◌then◌else◌}
 use Rattle.std.specs.Iterator.{Count, at_most, endless}
 use Rattle.sled_base.specs.declared.types.Error.{Error}
 use Rattle.sled_base.specs.Payloads.Reading.{IsRefusal}
@@ -15,6 +15,11 @@ Consumes asks reads before None after = ((before.refused ≡ true) ⊎ (before.r
 Consumes asks reads before (Some (Ok value)) after = (before.refused ≡ false) × (before.rest ≢ []) × reads before.rest value after.rest × (after.refused ≡ false)
 Consumes asks reads before (Some (Err e)) after = (before.refused ≡ false) × (before.rest ≢ []) × IsRefusal asks reads before.rest e × (after.rest ≡ before.rest) × (after.refused ≡ true)
 
--- how many values still come: none behind a refusal, else no more than there are bytes; without end where a value may take no byte
-abbrev pub values_left : ℕ → Consuming → Count
-values_left least before = if least == 0 then endless else at_most (if before.refused then 0 else length before.rest)
+-- how many bytes are left to be read: none behind a refusal
+abbrev pub bytes_left : Consuming → ℕ
+bytes_left before = if before.refused then 0 else length before.rest
+
+-- how many values still come: no more than there are bytes left, where each takes a byte
+abbrev pub values_left : Bool → Consuming → Count
+values_left true before = at_most (bytes_left before)
+values_left false before = endless

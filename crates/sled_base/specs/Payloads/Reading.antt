@@ -1,11 +1,15 @@
 -- What it is to read a value from the front of an input.
-use Rattle.std.specs.Prelude.{◌≡◌, ℕ, List, [], Some, None, ◌+◌, ◌≤◌, ◌++◌, ◌⊎◌, length}
+use Rattle.std.specs.Prelude.{◌≡◌, ◌≢◌, ℕ, List, [], Some, None, ◌+◌, ◌<◌, ◌≤◌, ◌++◌, ◌⊎◌, length}
 use Rattle.sled_base.specs.declared.types.Error.{Error}
 use Rattle.sled_base.specs.declared.types.Error.TheVariants.{CollectionNotFound, Unsupported, ReportableBug, Io, Corruption, OutOfMemory}
 
 -- no value is read from the input
 abbrev pub ReadsNothing : {V : Type 0} → (List ℕ → V → List ℕ → Type 0) → List ℕ → Type 0
 ReadsNothing {V} reads input = (value : V) (rest : List ℕ) → reads input value rest → ⊥
+
+-- a reading takes a byte at least of an input that has one
+abbrev pub TakesAByte : {V : Type 0} → (List ℕ → V → List ℕ → Type 0) → Type 0
+TakesAByte {V} reads = (input : List ℕ) (value : V) (rest : List ℕ) → input ≢ [] → reads input value rest → length rest < length input
 
 -- A reader answers an error where an allocation failed, for an input that asks for one, or Corruption(None) where no value is read.
 abbrev pub IsRefusal : {V : Type 0} → (List ℕ → Type 0) → (List ℕ → V → List ℕ → Type 0) → List ℕ → Error → Type 0

@@ -1,7 +1,7 @@
 -- The laws of one reading after another.
-use Rattle.std.specs.Prelude.{◌≡◌, ℕ, ◌+◌, List, ◌∷◌, ◌++◌, length, refl}
+use Rattle.std.specs.Prelude.{◌≡◌, ◌≢◌, ℕ, suc, ◌+◌, ◌<◌, ◌≤◌, ◌||◌, Bool, true, false, List, [], ◌∷◌, ◌++◌, length, refl}
 use Rattle.std.proofs.Common.{get_or, sym, ap, subst, ◌∙◌, append_assoc, arith}
-use Rattle.sled_base.specs.Payloads.Reading.{ReadsUnit, written_unit, ReadsPair, ReadsTriple, IsGrammar}
+use Rattle.sled_base.specs.Payloads.Reading.{TakesAByte, ReadsUnit, written_unit, ReadsPair, ReadsTriple, IsGrammar}
 
 pub Unit-grammar : IsGrammar ReadsUnit written_unit (λ _. Unit {0}) (λ _ _. Unit {0}) 0
 Unit-grammar = record {
@@ -67,3 +67,55 @@ module _
         (λ t rest. follows_first t.0 ((write_second t.1 ++ write_third t.2) ++ rest) × (follows_second t.1 (write_third t.2 ++ rest) × follows_third t.2 rest)) (m + (n + o))
     Triple-grammar one two three =
         By-grammar (λ (t : V × W × X). (t.0, (t.1, t.2))) (λ v w e. (λ i. ((e i).0, (e i).1.0, (e i).1.1))) (Pair-grammar one (Pair-grammar two three))
+
+-- ---- which readings take a byte of an input that has one
+
+-- those that always take one
+module _ {V : Type 0} {reads : List ℕ → V → List ℕ → Type 0} {written : V → List ℕ} {can_write : V → Type 0} {can_follow : V → List ℕ → Type 0} {n : ℕ} where
+  pub some_taken : IsGrammar reads written can_write can_follow (suc n) → true ≡ true → TakesAByte reads
+  some_taken grammar so input value rest some found = omega (arith, grammar.takes input value rest found)
+
+pub Unit-takes : false ≡ true → TakesAByte ReadsUnit
+Unit-takes never = absurd cc
+
+pub some_bytes : (input : List ℕ) → input ≢ [] → 0 < length input
+some_bytes [] some = absurd (some refl)
+some_bytes (x ∷ input) some = omega arith
+
+-- of what another reading left
+module _ {V : Type 0} {reads : List ℕ → V → List ℕ → Type 0} where
+  taken_behind : TakesAByte reads → (input middle : List ℕ) (value : V) (rest : List ℕ) → input ≢ [] → length middle ≤ length input → length rest ≤ length middle → reads middle value rest → length rest < length input
+  taken_behind takes input [] value rest some shorter less found = omega (arith, some_bytes input some, shorter, less)
+  taken_behind takes input (x ∷ middle) value rest some shorter less found =
+      let fewer = takes (x ∷ middle) value rest (λ none. absurd cc) found in
+      omega (arith, shorter, fewer)
+
+module _
+    {V W : Type 0} {first : List ℕ → V → List ℕ → Type 0} {second : List ℕ → W → List ℕ → Type 0}
+    {write_first : V → List ℕ} {write_second : W → List ℕ} {can_first : V → Type 0} {can_second : W → Type 0}
+    {follows_first : V → List ℕ → Type 0} {follows_second : W → List ℕ → Type 0} {m n : ℕ}
+  where
+    -- a pair, where one of its parts does
+    pub Pair-takes : (a b : Bool) → (a ≡ true → TakesAByte first) → (b ≡ true → TakesAByte second)
+        → IsGrammar first write_first can_first follows_first m → IsGrammar second write_second can_second follows_second n
+        → a || b ≡ true → TakesAByte (ReadsPair first second)
+    Pair-takes true b first_takes second_takes one two so input value rest some found =
+        let front = first_takes refl input value.0 found.0 some found.1 in
+        omega (arith, front, two.takes found.0 value.1 rest found.2)
+    Pair-takes false true first_takes second_takes one two so input value rest some found =
+        let shorter = one.takes input value.0 found.0 found.1 in
+        let less = two.takes found.0 value.1 rest found.2 in
+        taken_behind (second_takes refl) input found.0 value.1 rest some (omega (arith, shorter)) (omega (arith, less)) found.2
+    Pair-takes false false first_takes second_takes one two so input value rest some found = absurd cc
+
+module _
+    {V W X : Type 0} {first : List ℕ → V → List ℕ → Type 0} {second : List ℕ → W → List ℕ → Type 0} {third : List ℕ → X → List ℕ → Type 0}
+    {write_first : V → List ℕ} {write_second : W → List ℕ} {write_third : X → List ℕ} {can_first : V → Type 0} {can_second : W → Type 0} {can_third : X → Type 0}
+    {follows_first : V → List ℕ → Type 0} {follows_second : W → List ℕ → Type 0} {follows_third : X → List ℕ → Type 0} {m n o : ℕ}
+  where
+    -- a triple, where one of its parts does
+    pub Triple-takes : (a b c : Bool) → (a ≡ true → TakesAByte first) → (b ≡ true → TakesAByte second) → (c ≡ true → TakesAByte third)
+        → IsGrammar first write_first can_first follows_first m → IsGrammar second write_second can_second follows_second n → IsGrammar third write_third can_third follows_third o
+        → a || (b || c) ≡ true → TakesAByte (ReadsTriple first second third)
+    Triple-takes a b c first_takes second_takes third_takes one two three so input value rest some found =
+        Pair-takes a (b || c) first_takes (Pair-takes b c second_takes third_takes two three) one (Pair-grammar two three) so input (value.0, (value.1, value.2)) rest some found

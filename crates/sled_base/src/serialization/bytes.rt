@@ -4,6 +4,7 @@ ghost use Rattle.std.specs.Prelude.{◌≡◌, IfSome, IfNone};
 ghost use Rattle.sled_base.specs.Payloads.Reading.{ReadsNothing};
 ghost use Rattle.sled_base.specs.Payloads.ByteStrings.{ReadsBytes, AsksBytes, written_bytes, CanWriteBytes};
 ghost use Rattle.sled_base.specs.Payloads.ByteStringLaws.{Bytes-grammar};
+ghost use Rattle.sled_base.specs.Payloads.ReadingLaws.{some_taken};
 
 use super::Serialize;
 use super::numbers::read_u64;
@@ -35,6 +36,8 @@ impl Serialize for IVec {
     ghost least_size = { 1 };
 
     ghost grammar = { Bytes-grammar };
+
+    ghost takes = { some_taken Bytes-grammar };
 
     fn serialized_size(&self) -> u64 {
         let len = self.len() as u64;

@@ -9,7 +9,8 @@ use std::marker::{Model, PhantomData};
 
 /// Gives the values of an input in order, to its end or to the first refusal, which is the last item.
 ///
-/// It ends, unless a value of the type may take no byte.
+/// Each item but a refusal takes a byte of the input at least, so there is an end. That isn't so for `()` and for tuples of
+/// `()` alone, which take no byte: of an input that isn't empty they come without end.
 #[derive(Drop)]
 pub struct ConsumeSequence<'a, T> {
     alloc: Global,
@@ -47,7 +48,7 @@ impl<'a, T: Serialize> Iterator for ConsumeSequence<'a, T> {
 
     ghost next_gives = { Consumes T.asks T.reads };
 
-    ghost remaining = { values_left T.least_size };
+    ghost remaining = { values_left T.takes_a_byte };
 
     fn next(&mut self) -> Option<Result<T, Error>> {
         if self.refused || self.rest.is_empty() {

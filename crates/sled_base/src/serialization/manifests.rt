@@ -4,6 +4,7 @@ ghost use Rattle.std.specs.Prelude.{◌≡◌};
 ghost use Rattle.sled_base.specs.Payloads.Manifests.{place_in, ReadsManifest, written_manifest, CanWriteManifest};
 ghost use Rattle.sled_base.specs.Payloads.Reading.{AsksNever};
 ghost use Rattle.sled_base.specs.Payloads.ManifestLaws.{Manifest-grammar};
+ghost use Rattle.sled_base.specs.Payloads.ReadingLaws.{some_taken};
 
 use super::Serialize;
 use crate::types::{BatchManifest, Error, Lsn};
@@ -21,6 +22,8 @@ impl Serialize for BatchManifest {
     ghost least_size = { 8 };
 
     ghost grammar = { Manifest-grammar };
+
+    ghost takes = { some_taken Manifest-grammar };
 
     fn serialized_size(&self) -> u64 {
         self.0.serialized_size()

@@ -8,6 +8,7 @@ ghost use Rattle.sled_base.specs.Payloads.Numbers.{from_low_bytes, low_bytes, by
 ghost use Rattle.sled_base.specs.Payloads.NumberLaws.{U64-grammar, U32-grammar, I64-grammar, Bool-grammar, U8-grammar};
 ghost use Rattle.sled_base.specs.Payloads.PlainNumbers.{u64_at};
 ghost use Rattle.sled_base.specs.Payloads.Reading.{ReadsNothing, AsksNever};
+ghost use Rattle.sled_base.specs.Payloads.ReadingLaws.{some_taken};
 
 use super::Serialize;
 use crate::types::Error;
@@ -120,6 +121,8 @@ impl Serialize for u64 {
 
     ghost grammar = { U64-grammar };
 
+    ghost takes = { some_taken U64-grammar };
+
     fn serialized_size(&self) -> u64 {
         match *self {
             0..=240 => 1,
@@ -179,6 +182,8 @@ impl Serialize for u32 {
 
     ghost grammar = { U32-grammar };
 
+    ghost takes = { some_taken U32-grammar };
+
     fn serialized_size(&self) -> u64 {
         4
     }
@@ -211,6 +216,8 @@ impl Serialize for i64 {
     ghost least_size = { 8 };
 
     ghost grammar = { I64-grammar };
+
+    ghost takes = { some_taken I64-grammar };
 
     fn serialized_size(&self) -> u64 {
         8
@@ -245,6 +252,8 @@ impl Serialize for bool {
 
     ghost grammar = { Bool-grammar };
 
+    ghost takes = { some_taken Bool-grammar };
+
     fn serialized_size(&self) -> u64 {
         1
     }
@@ -277,6 +286,8 @@ impl Serialize for u8 {
     ghost least_size = { 1 };
 
     ghost grammar = { U8-grammar };
+
+    ghost takes = { some_taken U8-grammar };
 
     fn serialized_size(&self) -> u64 {
         1

@@ -6,6 +6,7 @@ ghost use Rattle.std.specs.Int.RustNames.{FitsSigned};
 ghost use Rattle.sled_base.specs.Payloads.Options.{number_of, ReadsOption, written_option, CanWriteOption, signed_of, ReadsSigned, written_signed, CanWriteSigned, page_number, ReadsPage, written_page, CanWritePage};
 ghost use Rattle.sled_base.specs.Payloads.Reading.{AsksNever};
 ghost use Rattle.sled_base.specs.Payloads.OptionLaws.{Option-grammar, Signed-grammar, Page-grammar};
+ghost use Rattle.sled_base.specs.Payloads.ReadingLaws.{some_taken};
 
 use super::Serialize;
 use crate::types::Error;
@@ -24,6 +25,8 @@ impl Serialize for Option<u64> {
     ghost least_size = { 1 };
 
     ghost grammar = { Option-grammar };
+
+    ghost takes = { some_taken Option-grammar };
 
     fn serialized_size(&self) -> u64 {
         number_of(self).serialized_size()
@@ -64,6 +67,8 @@ impl Serialize for Option<i64> {
     ghost least_size = { 8 };
 
     ghost grammar = { Signed-grammar };
+
+    ghost takes = { some_taken Signed-grammar };
 
     fn serialized_size(&self) -> u64 {
         8
@@ -115,6 +120,8 @@ impl Serialize for Option<NonZeroU64> {
     ghost least_size = { 1 };
 
     ghost grammar = { Page-grammar };
+
+    ghost takes = { some_taken Page-grammar };
 
     fn serialized_size(&self) -> u64 {
         page_number(self).serialized_size()

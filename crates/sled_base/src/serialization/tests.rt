@@ -242,3 +242,45 @@ fn values_come_to_the_end(rt: HostRuntime) {
         assert!(rt; gives(rt.alloc(), input, numbers, is_refused), "{row}");
     }
 }
+
+// The second of the last pair, or none where none is read. The loop ends, since a pair takes a byte where a part of it does.
+fn last_of(alloc: Global, input: &[u8]) -> Option<u64> {
+    let mut last = None;
+    for pair in ConsumeSequence::<((), u64)>::new(alloc, input) {
+        last = pair.ok().map(|pair| pair.1);
+    }
+    last
+}
+
+#[test]
+fn pairs_come_to_an_end(rt: HostRuntime) {
+    for (row, input, last) in [
+        ("no byte", [].as_slice(), None),
+        ("one pair", &[7], Some(7)),
+        ("three pairs", &[1, 241, 1, 2], Some(2)),
+        ("a torn pair", &[1, 241], None),
+    ] {
+        assert!(rt; last_of(rt.alloc(), input) == last, "{row}");
+    }
+}
+
+fn comes(values: &mut ConsumeSequence<'_, ()>) -> bool {
+    matches!(values.next(), Some(Ok(())))
+}
+
+// Whether so many values of no byte come.
+fn come_again(alloc: Global, input: &[u8], count: u32) -> bool {
+    let mut values = ConsumeSequence::<()>::new(alloc, input);
+    let mut come = true;
+    for _ in 0..count {
+        come &= comes(&mut values);
+    }
+    come
+}
+
+// Values that take no byte come without end, unless there is no byte.
+#[test]
+fn nothing_comes_again_and_again(rt: HostRuntime) {
+    assert!(rt; !come_again(rt.alloc(), &[], 1));
+    assert!(rt; come_again(rt.alloc(), &[7], 1_000));
+}

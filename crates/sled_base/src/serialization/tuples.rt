@@ -1,14 +1,14 @@
 //! One part after the other.
 
-ghost use Rattle.std.specs.Prelude.{◌≡◌, ◌<◌, ◌≤◌, ◌^◌, ◌++◌, ◌+◌, length, take, drop};
+ghost use Rattle.std.specs.Prelude.{◌≡◌, ◌<◌, ◌≤◌, ◌^◌, ◌++◌, ◌+◌, ◌||◌, false, length, take, drop};
 ghost use Rattle.sled_base.specs.Payloads.Reading.{ReadsUnit, written_unit, AsksNever, ReadsPair, AsksPair, ReadsTriple, AsksTriple};
-ghost use Rattle.sled_base.specs.Payloads.ReadingLaws.{Unit-grammar, Pair-grammar, Triple-grammar};
+ghost use Rattle.sled_base.specs.Payloads.ReadingLaws.{Unit-grammar, Pair-grammar, Triple-grammar, Unit-takes, Pair-takes, Triple-takes};
 
 use super::Serialize;
 use crate::types::Error;
 use std::alloc::Global;
 
-/// Writes one value after the other at the front, and answers how many bytes they took.
+/// Writes one value after the other at the front, where there is room for both, and answers how many bytes they took.
 pub fn write_both<A: Serialize, B: Serialize>(first: &A, second: &B, out: &mut [u8]) -> usize
     requires can_write_first { A.can_write first.now }
     requires can_write_second { B.can_write second.now }
@@ -20,7 +20,7 @@ pub fn write_both<A: Serialize, B: Serialize>(first: &A, second: &B, out: &mut [
     end + second.serialize_into(&mut out[end..])
 }
 
-/// Writes a value from a place on, and answers where it ends.
+/// Writes a value from a place on, where there is room for it, and answers where it ends.
 pub fn write_at<T: Serialize>(value: &T, out: &mut [u8], start: usize) -> usize
     requires can_write { T.can_write value.now }
     requires room { start + length (T.written value.now) ≤ length out.old }
@@ -30,7 +30,7 @@ pub fn write_at<T: Serialize>(value: &T, out: &mut [u8], start: usize) -> usize
     start + value.serialize_into(&mut out[start..])
 }
 
-/// Writes one value after the other at the front, and answers how many bytes they took.
+/// Writes one value after the other at the front, where there is room for all, and answers how many bytes they took.
 pub fn write_three<A: Serialize, B: Serialize, C: Serialize>(
     first: &A,
     second: &B,
@@ -48,7 +48,7 @@ pub fn write_three<A: Serialize, B: Serialize, C: Serialize>(
     end + write_both(second, third, &mut out[end..])
 }
 
-/// Writes one value after the other from a place on, and answers where they end.
+/// Writes one value after the other from a place on, where there is room for all, and answers where they end.
 pub fn write_three_at<A: Serialize, B: Serialize, C: Serialize>(
     first: &A,
     second: &B,
@@ -66,7 +66,7 @@ pub fn write_three_at<A: Serialize, B: Serialize, C: Serialize>(
     start + write_three(first, second, third, &mut out[start..])
 }
 
-/// How many bytes the values are written as.
+/// How many bytes the values are written as together, fewer than 2^64.
 pub fn size_of_three<A: Serialize, B: Serialize, C: Serialize>(
     first: &A,
     second: &B,
@@ -92,7 +92,11 @@ impl Serialize for () {
 
     ghost least_size = { 0 };
 
+    ghost takes_a_byte = { false };
+
     ghost grammar = { Unit-grammar };
+
+    ghost takes = { Unit-takes };
 
     fn serialized_size(&self) -> u64 {
         0
@@ -120,7 +124,11 @@ impl<A: Serialize, B: Serialize> Serialize for (A, B) {
 
     ghost least_size = { A.least_size + B.least_size };
 
+    ghost takes_a_byte = { A.takes_a_byte || B.takes_a_byte };
+
     ghost grammar = { Pair-grammar A.grammar B.grammar };
+
+    ghost takes = { Pair-takes A.takes_a_byte B.takes_a_byte A.takes B.takes A.grammar B.grammar };
 
     fn serialized_size(&self) -> u64 {
         self.0.serialized_size() + self.1.serialized_size()
@@ -152,7 +160,11 @@ impl<A: Serialize, B: Serialize, C: Serialize> Serialize for (A, B, C) {
 
     ghost least_size = { A.least_size + (B.least_size + C.least_size) };
 
+    ghost takes_a_byte = { A.takes_a_byte || (B.takes_a_byte || C.takes_a_byte) };
+
     ghost grammar = { Triple-grammar A.grammar B.grammar C.grammar };
+
+    ghost takes = { Triple-takes A.takes_a_byte B.takes_a_byte C.takes_a_byte A.takes B.takes C.takes A.grammar B.grammar C.grammar };
 
     fn serialized_size(&self) -> u64 {
         size_of_three(&self.0, &self.1, &self.2)

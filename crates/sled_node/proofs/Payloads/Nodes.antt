@@ -1,5 +1,5 @@
 -- The parts of a node, written one after the other.
-use Rattle.std.proofs.Common.{◌≡◌, ℕ, ◌+◌, ◌≤◌, ◌^◌, Bool, true, false, List, ◌++◌, length, take, Option, Some, None, refl, sym, ap, subst, ◌∙◌, append_assoc, arith}
+use Rattle.std.proofs.Common.{◌≡◌, ℕ, ◌+◌, ◌≤◌, ◌^◌, Bool, true, false, List, ◌++◌, length, take, Option, Some, None, inl, inr, refl, sym, ap, subst, ◌∙◌, append_assoc, arith}
 use Rattle.std.specs.Prelude.{IfSome}
 use Rattle.std.proofs.lemmas.List.{length-append, length-take-le}
 use Rattle.std.specs.declared.num.NonZeroU64.{NonZeroU64}
@@ -7,12 +7,12 @@ use Rattle.std.specs.Int.NonZero.{non_zero_u64_get}
 use Rattle.std.specs.Option.{option_map}
 use Rattle.sled_node.specs.Node.{WholeNode, IsPage, IsWellFormed}
 use Rattle.sled_node.specs.Parts.{HasStored}
-use Rattle.sled_base.specs.Payloads.Reading.{ReadsNothing}
-use Rattle.sled_base.specs.Payloads.Numbers.{written_u64, written_bool, written_u8}
-use Rattle.sled_base.specs.Payloads.Options.{page_number, written_page, CanWritePage}
-use Rattle.sled_base.specs.Payloads.ByteStrings.{written_bytes}
-use Rattle.sled_node.specs.Payloads.Data.{written_data}
-use Rattle.sled_node.specs.Payloads.Nodes.{NodeParts, ReadsParts, node_from, ReadsNode, written_node}
+use Rattle.sled_base.specs.Payloads.Reading.{ReadsNothing, AsksNever, ReadsTriple, AsksTriple}
+use Rattle.sled_base.specs.Payloads.Numbers.{ReadsBool, ReadsU8, written_u64, written_bool, written_u8}
+use Rattle.sled_base.specs.Payloads.Options.{page_number, ReadsPage, written_page, CanWritePage}
+use Rattle.sled_base.specs.Payloads.ByteStrings.{ReadsBytes, AsksBytes, written_bytes}
+use Rattle.sled_node.specs.Payloads.Data.{AsksData, written_data}
+use Rattle.sled_node.specs.Payloads.Nodes.{NodeParts, ReadsParts, AsksNode, node_from, ReadsNode, written_node}
 use Rattle.sled_node.specs.Payloads.NodeLaws.{number_of_page, stored_again, formed_stored, one_parts}
 use Rattle.sled_node.proofs.WholeKeys.{prefix_within}
 use Rattle.sled_node.proofs.Payloads.Sizes.{number_size, string_size}
@@ -71,3 +71,16 @@ only_parts input parts rest read ill n others (found, reading, is, formed) =
 
 pub no_parts : (input : List ℕ) → ReadsNothing ReadsParts input → ReadsNothing ReadsNode input
 no_parts input nothing n rest found = nothing found.0 rest found.1
+
+-- the parts, as a triple of triples, ask for memory only where the node does
+abbrev pub AsksParts : List ℕ → Type 0
+AsksParts = AsksTriple (AsksTriple AsksNever ReadsPage AsksNever ReadsPage AsksNever) (ReadsTriple ReadsPage ReadsPage ReadsBool) (AsksTriple AsksNever ReadsU8 AsksBytes ReadsBytes AsksBytes) (ReadsTriple ReadsU8 ReadsBytes ReadsBytes) AsksData
+
+pub asks_node : (input : List ℕ) → AsksParts input → AsksNode input
+asks_node input (inl (inl never)) = absurd never
+asks_node input (inl (inr (next, middle, read, inl never))) = absurd never
+asks_node input (inl (inr (next, middle, read, inr (child, rest, also, never)))) = absurd never
+asks_node input (inr (head, middle, read, inl (inl never))) = absurd never
+asks_node input (inr (head, middle, read, inl (inr (p, at, skips, inl asks)))) = (at, inl ((head, middle, p, read, skips), asks))
+asks_node input (inr (head, middle, read, inl (inr (p, at, skips, inr (lo, behind, low, asks))))) = (behind, inr (inl ((lo, at, (head, middle, p, read, skips), low), asks)))
+asks_node input (inr (head, middle, read, inr ((p, lo, hi), behind, (at, skips, (next, low, high)), asks))) = (behind, inr (inr ((hi, next, (lo, at, (head, middle, p, read, skips), low), high), asks)))

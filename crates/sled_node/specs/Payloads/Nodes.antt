@@ -1,5 +1,5 @@
 -- How nodes are encoded.
-use Rattle.std.specs.Prelude.{◌≡◌, ℕ, Bool, true, false, List, [], ◌++◌, map, drop, Option, Some, None}
+use Rattle.std.specs.Prelude.{◌≡◌, ◌⊎◌, ℕ, Bool, true, false, List, [], ◌++◌, map, drop, Option, Some, None}
 use Rattle.std.specs.declared.num.NonZeroU64.{NonZeroU64}
 use Rattle.std.specs.Int.NonZero.{non_zero_u64_get}
 use Rattle.std.specs.Option.{option_map}
@@ -8,7 +8,7 @@ use Rattle.sled_node.specs.declared.node.data.Data.{Data}
 use Rattle.sled_node.specs.declared.node.data.Data.TheVariants.{Leaf, Index}
 use Rattle.sled_node.specs.Node.{Item, Value, Child, WholeNode, IsWellFormed}
 use Rattle.sled_node.specs.Parts.{node_of}
-use Rattle.sled_base.specs.Payloads.Reading.{AsksNever, ReadsTriple, AsksTriple}
+use Rattle.sled_base.specs.Payloads.Reading.{ReadsTriple}
 use Rattle.sled_base.specs.Payloads.Numbers.{written_u64, ReadsBool, written_bool, ReadsU8, written_u8}
 use Rattle.sled_base.specs.Payloads.Options.{ReadsPage}
 use Rattle.sled_base.specs.Payloads.ByteStrings.{ReadsBytes, AsksBytes, written_bytes}
@@ -21,9 +21,19 @@ NodeParts = (Option NonZeroU64 × Option NonZeroU64 × Bool) × (ℕ × Bytes ×
 abbrev pub ReadsParts : List ℕ → NodeParts → List ℕ → Type 0
 ReadsParts = ReadsTriple (ReadsTriple ReadsPage ReadsPage ReadsBool) (ReadsTriple ReadsU8 ReadsBytes ReadsBytes) ReadsData
 
--- memory is asked for by a bound that doesn't fit in place, and by the pairs
-abbrev pub AsksParts : List ℕ → Type 0
-AsksParts = AsksTriple (AsksTriple AsksNever ReadsPage AsksNever ReadsPage AsksNever) (ReadsTriple ReadsPage ReadsPage ReadsBool) (AsksTriple AsksNever ReadsU8 AsksBytes ReadsBytes AsksBytes) (ReadsTriple ReadsU8 ReadsBytes ReadsBytes) AsksData
+-- lo begins behind next, the merging child, the mark and the prefix length; hi begins behind lo, and the pairs behind hi
+abbrev pub BeginsLo : List ℕ → List ℕ → Type 0
+BeginsLo input at = (head : Option NonZeroU64 × Option NonZeroU64 × Bool) × (middle : List ℕ) × (prefix_len : ℕ) × ReadsTriple ReadsPage ReadsPage ReadsBool input head middle × ReadsU8 middle prefix_len at
+
+abbrev pub BeginsHi : List ℕ → List ℕ → Type 0
+BeginsHi input at = (lo middle : List ℕ) × BeginsLo input middle × ReadsBytes middle lo at
+
+abbrev pub BeginPairs : List ℕ → List ℕ → Type 0
+BeginPairs input at = (hi middle : List ℕ) × BeginsHi input middle × ReadsBytes middle hi at
+
+-- memory is asked for by a bound that doesn't fit in place, or by the pairs
+abbrev pub AsksNode : List ℕ → Type 0
+AsksNode input = (at : List ℕ) × ((BeginsLo input at × AsksBytes at) ⊎ (BeginsHi input at × AsksBytes at) ⊎ (BeginPairs input at × AsksData at))
 
 -- the node of these parts
 abbrev pub node_from : NodeParts → WholeNode

@@ -21,13 +21,23 @@ ReadsPairs reads input pairs rest = (keys items : List ℕ) × ReadsU64 input (l
 abbrev pub IsBehindKeys : ℕ → List ℕ → List ℕ → Type 0
 IsBehindKeys count input rest = (keys : List Bytes) × ReadsCount count ReadsBytes input keys rest
 
--- a count that keeps the limit, where so many keys begin, which have room with as many items, and where the items begin
-abbrev pub SplitsPairs : List ℕ → ℕ → List ℕ → List ℕ → Type 0
-SplitsPairs input count keys items = ReadsU64 input count keys × (count ≤ pairs_limit) × (2 * count ≤ length keys) × IsBehindKeys count keys items
+-- where the keys and the items of so many pairs begin in an input
+pub record SplitsPairs (input : List ℕ) (count : ℕ) (keys items : List ℕ) : Type 0 where
+  -- the count stands first, and the keys begin behind it
+  pub counted : ReadsU64 input count keys
+  pub few : count ≤ pairs_limit
+  -- there is room for them: a pair takes two bytes at least
+  pub room : 2 * count ≤ length keys
+  -- the items begin behind so many keys
+  pub skipped : IsBehindKeys count keys items
 
--- memory is asked for behind a count of at least one that has room, and so many keys
-abbrev pub AsksPairs : List ℕ → Type 0
-AsksPairs input = (count : ℕ) × (keys items : List ℕ) × SplitsPairs input count keys items × (1 ≤ count)
+-- memory is asked for where the input splits so, for one pair at least
+pub record AsksPairs (input : List ℕ) : Type 0 where
+  pub count : ℕ
+  pub keys : List ℕ
+  pub items : List ℕ
+  pub split : SplitsPairs input count keys items
+  pub some : 1 ≤ count
 
 -- so many keys up to the input of the items, and from there as many items
 abbrev pub ReadsBoth : {V : Type 0} → (List ℕ → V → List ℕ → Type 0) → ℕ → List ℕ → List ℕ → List (Bytes × V) → List ℕ → Type 0

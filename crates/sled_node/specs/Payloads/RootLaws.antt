@@ -1,13 +1,13 @@
 -- The laws of the encoding of root maps.
-use Rattle.std.specs.Prelude.{◌≡◌, ℕ, ◌<◌, ◌^◌, List, [], ◌∷◌, ◌++◌, length, refl}
+use Rattle.std.specs.Prelude.{◌≡◌, true, ℕ, ◌<◌, ◌^◌, List, [], ◌∷◌, ◌++◌, length, refl}
 use Rattle.std.proofs.Common.{sym, ap, subst, ◌∙◌, arith}
 use Rattle.std.specs.List.{AllByRecursion}
 use Rattle.sled_base.specs.Order.{Bytes}
 use Rattle.sled_node.specs.Pairs.{IsWithinLimit}
 use Rattle.sled_node.specs.Meta.{Roots, with_roots, IsRootMap}
 use Rattle.sled_node.specs.MetaLaws.{put_in_order}
-use Rattle.sled_base.specs.Payloads.Reading.{IsGrammar}
-use Rattle.sled_base.specs.Payloads.ReadingLaws.{Pair-grammar}
+use Rattle.sled_base.specs.Payloads.Reading.{IsGrammar, TakesAByte}
+use Rattle.sled_base.specs.Payloads.ReadingLaws.{Pair-grammar, some_bytes}
 use Rattle.sled_base.specs.Payloads.NumberLaws.{U64-grammar}
 use Rattle.sled_node.specs.Payloads.ShortStringLaws.{Short-grammar}
 use Rattle.sled_node.specs.Payloads.Sequences.{ReadsAll}
@@ -69,3 +69,7 @@ Roots-grammar = record {
   read_again = map_again;
   takes = λ input roots rest found. omega (arith, ap length found.0);
 }
+
+-- a map takes all bytes
+pub Roots-take : true ≡ true → TakesAByte ReadsRoots
+Roots-take so input roots rest some found = omega (arith, some_bytes input some, ap length found.0)

@@ -7,7 +7,7 @@ ghost use Rattle.sled_base.specs.Payloads.ByteStrings.{written_bytes};
 ghost use Rattle.sled_base.specs.Payloads.Reading.{IsRefusal};
 ghost use Rattle.sled_node.specs.Payloads.ShortStrings.{AsksShort};
 ghost use Rattle.sled_node.specs.Payloads.Roots.{ReadsRoot, ReadsRoots, AsksRoots, written_root, written_roots};
-ghost use Rattle.sled_node.specs.Payloads.RootLaws.{Roots-grammar};
+ghost use Rattle.sled_node.specs.Payloads.RootLaws.{Roots-grammar, Roots-take};
 
 use super::Meta;
 use crate::serialization::Serialize;
@@ -30,6 +30,8 @@ impl Serialize for Meta {
     ghost least_size = { 0 };
 
     ghost grammar = { Roots-grammar };
+
+    ghost takes = { Roots-take };
 
     fn serialized_size(&self) -> u64
         ensures { result ≡ length (written_roots self.now) }

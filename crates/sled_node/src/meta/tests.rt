@@ -1,3 +1,5 @@
+mod corners;
+
 use super::*;
 use crate::node::MAX_BYTES;
 use crate::serialization::Serialize;

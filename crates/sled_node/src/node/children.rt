@@ -4,11 +4,11 @@ ghost use Rattle.std.specs.Prelude.{◌≡◌, ◌≢◌, ◌↔◌, ◌⊎◌, 
 ghost use Rattle.sled_node.specs.Pairs.{IsWithinLimit, IsRising, HasPairs};
 ghost use Rattle.sled_node.specs.Node.{IsInRange, Child};
 ghost use Rattle.sled_node.specs.Inserts.{HasKey, inserted};
-ghost use Rattle.sled_node.specs.Children.{index_of, BeginsAtMost, HasChildFor, IsLastAtMost, with_child};
+ghost use Rattle.sled_node.specs.Children.{index_of, BeginsAtMost, HasChildFor, IsLastAtMost, AcceptsChild, with_child};
 ghost use Rattle.sled_node.specs.Limits.{pairs_limit};
 
 use super::pairs::is_below;
-use super::{Data, Index, Node};
+use super::{Data, Index, MAX_BYTES, Node};
 use sled_base::{IVec, PageId};
 use std::alloc::{AllocError, Global};
 
@@ -23,7 +23,7 @@ impl Node {
 
     /// An index over all keys, which leads to one child below a key and to another from it on.
     ///
-    /// The key isn't empty and is within the limit. An error means that the index could not be allocated.
+    /// The key isn't empty, and isn't longer than [`MAX_BYTES`]. An error means that the index could not be allocated.
     pub fn new_hoisted_root(
         alloc: Global,
         left: PageId,
@@ -50,9 +50,8 @@ impl Node {
         }
     }
 
-    /// The place of the last pair whose whole key isn't above the key, and the page that it leads to.
-    ///
-    /// It takes a node that [`has_child_for`](Node::has_child_for) the key.
+    /// The place of the last pair whose whole key isn't above the key, and the page that it leads to, of a node that
+    /// [`has_child_for`](Node::has_child_for) the key.
     pub fn index_next_node(&self, key: &[u8]) -> (usize, PageId)
         requires { HasChildFor self.now key.now }
         ensures { IsLastAtMost self.now.pairs key.now result.0 (Child result.1) }
@@ -63,17 +62,30 @@ impl Node {
         }
     }
 
+    /// Whether the node may be asked to lead to another child from the key on, by [`parent_split`](Node::parent_split).
+    ///
+    /// It is an index with the whole key in its range, the key is at most [`MAX_BYTES`](super::MAX_BYTES) bytes long, and
+    /// the index has the key, or fewer than [`MAX_PAIRS`](super::MAX_PAIRS) pairs.
+    pub fn accepts_child(&self, at: &[u8]) -> bool
+        ensures { IsTrue result ↔ AcceptsChild self.now at.now }
+    {
+        match &self.contents {
+            Data::Leaf(_) => false,
+            Data::Index(index) => {
+                self.contains_key(at)
+                    && at.len() <= MAX_BYTES
+                    && index.has_room(self.without_prefix(at))
+            }
+        }
+    }
+
     /// Leads from the key on to another child, and answers true; where the index has the key it stays as it is, and the
     /// answer is false.
     ///
-    /// The key is whole, in the range and within the limit, and there is room for it: the index has it, or fewer than
-    /// [`MAX_PAIRS`](super::MAX_PAIRS) pairs. An allocation failure leaves the node unchanged; a key that is there
-    /// allocates nothing.
+    /// The key is whole, and one that the node [`accepts`](Node::accepts_child). An error means that an allocation
+    /// failed, and leaves the node unchanged; a key that is there allocates nothing.
     pub fn parent_split(&mut self, at: &[u8], to: PageId) -> Result<bool, AllocError>
-        requires index { self.old.is_index ≡ true }
-        requires range { IsInRange self.old at.now }
-        requires limit { IsWithinLimit at.now }
-        requires room { (length self.old.pairs < pairs_limit) ⊎ HasKey self.old.pairs at.now }
+        requires { AcceptsChild self.old at.now }
         ensures new { IfOk result (λ is_new. IsTrue is_new ↔ (HasKey self.old.pairs at.now → ⊥)) }
         ensures value { IfOk result (λ is_new. self.new ≡ inserted is_new (with_child at.now to self.old) self.old) }
         ensures there { HasKey self.old.pairs at.now → IsOk result }

@@ -1,14 +1,23 @@
 //! What a node's data is, for those who have no more of the node.
 
-ghost use Rattle.std.specs.Prelude.{◌≡◌};
+ghost use Rattle.std.specs.Prelude.{◌≡◌, ◌↔◌, [], IsTrue};
 ghost use Rattle.std.specs.Option.{option_map};
 ghost use Rattle.sled_node.specs.Parts.{is_index, LeadsTo, without_stored};
+ghost use Rattle.sled_node.specs.declared.node.data.Data.TheVariants.{Leaf as Stored};
 ghost use Rattle.sled_node.specs.Contents.{count_of, leaf_in, index_in};
 
 use super::{Data, Index, Leaf};
 use sled_base::PageId;
+use std::alloc::Global;
 
 impl Data {
+    /// A leaf with no pairs. It allocates nothing.
+    pub fn default(alloc: Global) -> Data
+        ensures { result ≡ Stored [] }
+    {
+        Data::Leaf(Leaf::default(alloc))
+    }
+
     /// How many pairs there are.
     pub fn len(&self) -> usize
         ensures { result ≡ count_of self.now }
@@ -49,12 +58,32 @@ impl Data {
         }
     }
 
-    /// Takes the first pair that leads to the page out of an index that has one.
+    /// Whether this is an index of which a pair leads to the page.
+    pub fn leads_to(&self, pid: PageId) -> bool
+        ensures { IsTrue result ↔ LeadsTo pid self.now }
+    {
+        match self {
+            Data::Leaf(_) => false,
+            Data::Index(index) => index.leads_to(pid),
+        }
+    }
+
+    /// Takes the first pair that leads to the page out of an index that [`leads_to`](Data::leads_to) it.
+    ///
+    /// Other pairs that lead to the page stay. It allocates nothing.
     pub fn parent_merge_confirm(&mut self, pid: PageId)
         requires { LeadsTo pid self.old }
         ensures { self.new ≡ without_stored pid self.old }
     {
         self.remove_page(pid);
+    }
+
+    // Where the pairs come from.
+    pub(super) fn allocator(&self) -> Global {
+        match self {
+            Data::Leaf(leaf) => leaf.allocator(),
+            Data::Index(index) => index.allocator(),
+        }
     }
 }
 

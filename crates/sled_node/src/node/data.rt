@@ -20,7 +20,9 @@ use std::marker::Model;
 /// What stands behind a key of a node.
 #[derive(Clone, Copy, Debug, PartialEq, Eq)]
 pub enum Item<'a> {
+    /// The value of a leaf's key.
     Value(&'a [u8]),
+    /// The page that an index's key leads to.
     Child(PageId),
 }
 
@@ -51,8 +53,10 @@ impl Index {
         }
     }
 
-    /// An index of these pairs, or none where the keys don't rise strictly or a limit of a node is passed. It takes no
-    /// memory.
+    /// An index of these pairs, or none where a key isn't above the one before it or is longer than
+    /// [`MAX_BYTES`](super::MAX_BYTES), or there are more than [`MAX_PAIRS`].
+    ///
+    /// It allocates nothing, so it answers no error.
     pub fn from_pairs(
         _alloc: Global,
         pairs: Vec<(IVec, PageId)>,
@@ -67,13 +71,24 @@ impl Index {
         Ok(Some(Index { pairs }))
     }
 
-    pub(super) fn len(&self) -> usize
+    /// How many pairs there are.
+    pub fn len(&self) -> usize
         ensures { result ≡ length self.now }
     {
         self.pairs.len()
     }
 
-    pub(super) fn pair(&self, i: usize) -> (&[u8], PageId)
+    /// Whether there are no pairs.
+    pub fn is_empty(&self) -> bool
+        ensures { IsTrue result ↔ (self.now ≡ []) }
+    {
+        self.pairs.is_empty()
+    }
+
+    /// The stored key of the pair at place `i`, which is below [`len`](Index::len), and the page that it leads to.
+    ///
+    /// The first pair is at place 0, and the keys ascend. A stored key lacks the first bytes of its node's `lo`.
+    pub fn pair(&self, i: usize) -> (&[u8], PageId)
         requires { i < length self.now }
         ensures { slice_get self.now i ≡ Some (result.0.now, result.1) }
     {
@@ -95,6 +110,18 @@ impl Index {
         ensures { result ≡ pairs.items }
     {
         Index { pairs }
+    }
+
+    // Where its pairs come from.
+    pub(super) fn allocator(&self) -> Global {
+        *self.pairs.allocator()
+    }
+
+    // Whether the key is there, or there is room for another pair.
+    pub(super) fn has_room(&self, key: &[u8]) -> bool
+        ensures { IsTrue result ↔ ((length self.now < pairs_limit) ⊎ HasKey self.now key.now) }
+    {
+        self.pairs.len() < MAX_PAIRS || has_key(&self.pairs, key)
     }
 
     // Puts the pair in, unless the key is there, and answers whether it was put in.
@@ -173,6 +200,17 @@ fn insert_in(pairs: &mut Vec<(IVec, PageId)>, key: &[u8], page: PageId) -> Resul
     Ok(true)
 }
 
+// Whether the key is there.
+fn has_key(pairs: &[(IVec, PageId)], key: &[u8]) -> bool
+    requires { IsRising pairs.now }
+    ensures { IsTrue result ↔ HasKey pairs.now key.now }
+{
+    match place_of(pairs, key) {
+        Ok(_) => true,
+        Err(_) => false,
+    }
+}
+
 // Where the first pair stands that leads to the page.
 fn first_to(pairs: &[(IVec, PageId)], page: PageId) -> Option<usize>
     ensures { result ≡ position (λ pair. pair.1 == page) pairs.now }
@@ -185,6 +223,7 @@ impl Clone for Index {
 
     ghost is_clone = { λ v w. w ≡ v };
 
+    /// The same pairs; keys above 22 bytes are shared. An error means that an allocation failed.
     fn clone(&self) -> Result<Index, AllocError> {
         Ok(Index {
             pairs: self.pairs.clone()?,
@@ -209,7 +248,9 @@ impl Eq for Index {
 /// Stored keys, with the values of a leaf or the pages of an index.
 #[derive(Debug, Drop, PartialEq, Eq)]
 pub enum Data {
+    /// Keys with values.
     Leaf(Leaf),
+    /// Keys with pages.
     Index(Index),
 }
 
@@ -218,6 +259,7 @@ impl Clone for Data {
 
     ghost is_clone = { λ v w. w ≡ v };
 
+    /// The same pairs; byte strings above 22 bytes are shared. An error means that an allocation failed.
     fn clone(&self) -> Result<Data, AllocError> {
         Ok(match self {
             Data::Leaf(leaf) => Data::Leaf(leaf.clone()?),
@@ -246,16 +288,6 @@ impl Data {
         match self {
             Data::Leaf(leaf) => leaf.del(key),
             Data::Index(_) => {}
-        }
-    }
-
-    // Whether an index leads to the page.
-    pub(super) fn leads_to(&self, page: PageId) -> bool
-        ensures { IsTrue result ↔ LeadsTo page self.now }
-    {
-        match self {
-            Data::Leaf(_) => false,
-            Data::Index(index) => index.leads_to(page),
         }
     }
 

@@ -42,8 +42,10 @@ impl Leaf {
         }
     }
 
-    /// A leaf of these pairs, or none where the keys don't rise strictly or a limit of a node is passed. It takes no
-    /// memory.
+    /// A leaf of these pairs, or none where a key isn't above the one before it, a key or a value is longer than
+    /// [`MAX_BYTES`], or there are more than [`MAX_PAIRS`].
+    ///
+    /// It allocates nothing, so it answers no error.
     pub fn from_pairs(_alloc: Global, pairs: Vec<(IVec, IVec)>) -> Result<Option<Leaf>, AllocError>
         ensures taken { IsOk result }
         ensures value { IfOk result (λ leaf. SomeIff leaf (HasPairs IsWithinLimit pairs.items) pairs.items) }
@@ -58,13 +60,24 @@ impl Leaf {
         Ok(Some(Leaf { pairs }))
     }
 
-    pub(super) fn len(&self) -> usize
+    /// How many pairs there are.
+    pub fn len(&self) -> usize
         ensures { result ≡ length self.now }
     {
         self.pairs.len()
     }
 
-    pub(super) fn pair(&self, i: usize) -> (&[u8], &[u8])
+    /// Whether there are no pairs.
+    pub fn is_empty(&self) -> bool
+        ensures { IsTrue result ↔ (self.now ≡ []) }
+    {
+        self.pairs.is_empty()
+    }
+
+    /// The stored key and the value of the pair at place `i`, which is below [`len`](Leaf::len).
+    ///
+    /// The first pair is at place 0, and the keys ascend. A stored key lacks the first bytes of its node's `lo`.
+    pub fn pair(&self, i: usize) -> (&[u8], &[u8])
         requires { i < length self.now }
         ensures { slice_get self.now i ≡ Some (result.0.now, result.1.now) }
     {
@@ -103,6 +116,11 @@ impl Leaf {
         self.pairs.len() < MAX_PAIRS || place_of(&self.pairs, key).is_ok()
     }
 
+    // Where its pairs come from.
+    pub(super) fn allocator(&self) -> Global {
+        *self.pairs.allocator()
+    }
+
     pub(super) fn set(&mut self, key: IVec, value: IVec) -> Result<(), AllocError>
         requires key { IsWithinLimit key }
         requires value { IsWithinLimit value }
@@ -126,6 +144,7 @@ impl Clone for Leaf {
 
     ghost is_clone = { λ v w. w ≡ v };
 
+    /// The same pairs; byte strings above 22 bytes are shared. An error means that an allocation failed.
     fn clone(&self) -> Result<Leaf, AllocError> {
         Ok(Leaf {
             pairs: self.pairs.clone()?,

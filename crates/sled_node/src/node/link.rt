@@ -8,11 +8,12 @@ use std::alloc::AllocError;
 /// The key of `Set` and `Del` is a stored key: it lacks the first `prefix_len` bytes of the node's `lo`.
 #[derive(Debug, Drop, PartialEq, Eq)]
 pub enum Link {
-    /// Maps the key to the value, in a leaf.
+    /// Maps the key to the value, in a leaf. Neither the whole key nor the value is longer than
+    /// [`MAX_BYTES`](super::MAX_BYTES).
     Set(IVec, IVec),
-    /// Takes the key out of a leaf.
+    /// Takes the key out of a leaf, if it is there. The whole key isn't longer than [`MAX_BYTES`](super::MAX_BYTES).
     Del(IVec),
-    /// Marks the child on this page as being merged into its left neighbour.
+    /// Marks the child on this page, which isn't 0, as being merged into its left neighbour.
     ParentMergeIntention(PageId),
     /// Takes the marked child out of an index, and the mark away.
     ParentMergeConfirm,
@@ -25,6 +26,7 @@ impl Clone for Link {
 
     ghost is_clone = { λ v w. w ≡ v };
 
+    /// The same link; byte strings above 22 bytes are shared. An error means that there are more holders than can be counted.
     fn clone(&self) -> Result<Link, AllocError> {
         Ok(match self {
             Link::Set(key, value) => Link::Set(key.clone()?, value.clone()?),

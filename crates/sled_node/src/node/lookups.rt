@@ -11,12 +11,12 @@ ghost use Rattle.sled_node.specs.Lookups.{HasValue, LacksKey};
 use super::pairs::{is_below, place_of};
 use super::{Data, Node};
 use sled_base::IVec;
-use std::alloc::{AllocError, Global};
+use std::alloc::AllocError;
 
 impl Node {
     /// The stored key and the value of a whole key, or none where the leaf lacks the key.
     ///
-    /// The key may be out of the range.
+    /// The node has to be a leaf; the key may be out of its range. It allocates nothing.
     pub fn leaf_pair_for_key(&self, key: &[u8]) -> Option<(&[u8], &[u8])>
         requires leaf { self.now.is_index ≡ false }
         ensures key { IfSome result (λ pair. whole self.now pair.0.now ≡ key.now) }
@@ -32,14 +32,10 @@ impl Node {
         }
     }
 
-    /// The stored key of a whole key in the leaf's range, and the key's value, or no value where the leaf lacks the key.
+    /// The stored key of a whole key, and the key's value, or no value where the leaf lacks the key.
     ///
-    /// An error means that a copy could not be allocated.
-    pub fn node_kv_pair(
-        &self,
-        alloc: Global,
-        key: &[u8],
-    ) -> Result<(IVec, Option<IVec>), AllocError>
+    /// The node has to be a leaf that [`contains_key`](Node::contains_key), whether the key is there or not. An error means that a copy could not be allocated.
+    pub fn node_kv_pair(&self, key: &[u8]) -> Result<(IVec, Option<IVec>), AllocError>
         requires leaf { self.now.is_index ≡ false }
         requires in_range { IsInRange self.now key.now }
         ensures stored { IfOk result (λ pair. pair.0 ≡ drop self.now.prefix_len key.now) }
@@ -52,7 +48,10 @@ impl Node {
                 let pair = &self.leaf_pairs()[at];
                 Ok((pair.0.clone()?, Some(pair.1.clone()?)))
             }
-            Err(_) => Ok((IVec::from_slice(alloc, self.without_prefix(key))?, None)),
+            Err(_) => {
+                let alloc = self.contents.allocator();
+                Ok((IVec::from_slice(alloc, self.without_prefix(key))?, None))
+            }
         }
     }
 

@@ -8,11 +8,11 @@ ghost use Rattle.sled_node.specs.Restoring.{restored, restored_data, joined_data
 use super::stored::{own_prefix, store_without};
 use super::{Data, Index, Leaf, MAX_PAIRS, Node};
 use sled_base::IVec;
-use std::alloc::{AllocError, Global};
+use std::alloc::AllocError;
 
 impl Node {
-    /// Whether this node can take in `right`: both are of one kind, `right` begins where this one ends, and a node may
-    /// have the pairs of both.
+    /// Whether this node can take in `right`: both are of one kind, this one has an end, `right` begins there, and together
+    /// they have at most [`MAX_PAIRS`] pairs.
     pub fn can_receive(&self, right: &Node) -> bool
         ensures { IsTrue result ↔ CanReceive self.now right.now }
     {
@@ -22,11 +22,11 @@ impl Node {
             && self.len() <= MAX_PAIRS - right.len()
     }
 
-    /// This node with the pairs of its right neighbour behind its own, where it can receive them.
+    /// This node with the pairs of its right neighbour behind its own, where it [`can_receive`](Node::can_receive) them.
     ///
     /// It has this node's marks, and the neighbour's end and next. Stored keys lack what its bounds have in common, up to
     /// 255 bytes. Both nodes are left as they are. An error means that an allocation failed.
-    pub fn receive_merge(&self, alloc: Global, right: &Node) -> Result<Node, AllocError>
+    pub fn receive_merge(&self, right: &Node) -> Result<Node, AllocError>
         requires { CanReceive self.now right.now }
         ensures { IfOk result (λ node. node ≡ merged self.now right.now) }
     {
@@ -34,7 +34,6 @@ impl Node {
         let hi = right.hi.clone()?;
         let prefix_len = own_prefix(lo.as_slice(), hi.as_slice());
         let contents = self.contents.joined(
-            alloc,
             self.prefix(),
             &right.contents,
             right.prefix(),
@@ -56,7 +55,6 @@ impl Data {
     // The pairs of both, with stored keys that lack so many bytes in place of those of the prefixes.
     fn joined(
         &self,
-        alloc: Global,
         prefix: &[u8],
         right: &Data,
         right_prefix: &[u8],
@@ -70,13 +68,13 @@ impl Data {
             (Data::Leaf(left), Data::Leaf(right)) => {
                 let left = left.clone()?.into_pairs();
                 let right = right.clone()?.into_pairs();
-                let pairs = joined_pairs(alloc, left, prefix, right, right_prefix, skipped)?;
+                let pairs = joined_pairs(left, prefix, right, right_prefix, skipped)?;
                 Ok(Data::Leaf(Leaf::of(pairs)))
             }
             (Data::Index(left), Data::Index(right)) => {
                 let left = left.clone()?.into_pairs();
                 let right = right.clone()?.into_pairs();
-                let pairs = joined_pairs(alloc, left, prefix, right, right_prefix, skipped)?;
+                let pairs = joined_pairs(left, prefix, right, right_prefix, skipped)?;
                 Ok(Data::Index(Index::of(pairs)))
             }
             _ => unreachable!(),
@@ -86,7 +84,6 @@ impl Data {
 
 // The pairs of both, with stored keys that lack so many bytes in place of those of the prefixes.
 fn joined_pairs<V: Drop>(
-    alloc: Global,
     mut left: Vec<(IVec, V)>,
     prefix: &[u8],
     mut right: Vec<(IVec, V)>,
@@ -95,8 +92,8 @@ fn joined_pairs<V: Drop>(
 ) -> Result<Vec<(IVec, V)>, AllocError>
     ensures { IfOk result (λ pairs. pairs.items ≡ restored prefix.now skipped left.items ++ restored right_prefix.now skipped right.items) }
 {
-    store_without(alloc, &mut left, prefix, skipped)?;
-    store_without(alloc, &mut right, right_prefix, skipped)?;
+    store_without(&mut left, prefix, skipped)?;
+    store_without(&mut right, right_prefix, skipped)?;
     left.append(&mut right)?;
     Ok(left)
 }

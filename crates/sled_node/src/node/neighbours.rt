@@ -8,44 +8,38 @@ ghost use Rattle.sled_node.specs.Neighbours.{IsBehind, IsBefore, IsLeast, IsGrea
 use super::Node;
 use sled_base::IVec;
 use sled_base::prefix::decode;
-use std::alloc::{AllocError, Global};
+use std::alloc::AllocError;
 use std::ops::Bound;
 
 impl Node {
     /// The whole key and the value of the leaf's first pair behind the bound, or none where no pair is behind it.
     ///
-    /// The bound may be out of the range. An error means that the copy could not be allocated.
-    pub fn successor(
-        &self,
-        alloc: Global,
-        bound: &Bound<IVec>,
-    ) -> Result<Option<(IVec, IVec)>, AllocError>
+    /// An included key is behind its own bound, and without a bound all keys are. The node has to be a leaf; the bound may be
+    /// out of its range. An error means that the copy could not be allocated.
+    pub fn successor(&self, bound: &Bound<IVec>) -> Result<Option<(IVec, IVec)>, AllocError>
         requires leaf { self.now.is_index ≡ false }
         ensures least { IfOk result (λ found. IfSome found (IsLeast (IsBehind bound.now) self.now)) }
         ensures none { IfOk result (λ found. IfNone found (HasNone (IsBehind bound.now) self.now)) }
     {
         let first = self.first_behind(bound);
         match self.leaf_pairs().get(first) {
-            Some(pair) => Ok(Some(self.whole_pair(alloc, pair)?)),
+            Some(pair) => Ok(Some(self.whole_pair(pair)?)),
             None => Ok(None),
         }
     }
 
     /// The whole key and the value of the leaf's last pair before the bound, or none where no pair is before it.
     ///
-    /// The bound may be out of the range. An error means that the copy could not be allocated.
-    pub fn predecessor(
-        &self,
-        alloc: Global,
-        bound: &Bound<IVec>,
-    ) -> Result<Option<(IVec, IVec)>, AllocError>
+    /// An included key is before its own bound, and without a bound all keys are. The node has to be a leaf; the bound may be
+    /// out of its range. An error means that the copy could not be allocated.
+    pub fn predecessor(&self, bound: &Bound<IVec>) -> Result<Option<(IVec, IVec)>, AllocError>
         requires leaf { self.now.is_index ≡ false }
         ensures greatest { IfOk result (λ found. IfSome found (IsGreatest (IsBefore bound.now) self.now)) }
         ensures none { IfOk result (λ found. IfNone found (HasNone (IsBefore bound.now) self.now)) }
     {
         let end = self.end_before(bound);
         match self.leaf_pairs()[..end].last() {
-            Some(pair) => Ok(Some(self.whole_pair(alloc, pair)?)),
+            Some(pair) => Ok(Some(self.whole_pair(pair)?)),
             None => Ok(None),
         }
     }
@@ -97,10 +91,11 @@ impl Node {
     }
 
     // A copy of a stored pair, with its whole key.
-    fn whole_pair(&self, alloc: Global, pair: &(IVec, IVec)) -> Result<(IVec, IVec), AllocError>
+    fn whole_pair(&self, pair: &(IVec, IVec)) -> Result<(IVec, IVec), AllocError>
         ensures key { IfOk result (λ copy. copy.0 ≡ whole self.now pair.now.0) }
         ensures value { IfOk result (λ copy. copy.1 ≡ pair.now.1) }
     {
+        let alloc = self.contents.allocator();
         let key = decode(alloc, self.prefix(), pair.0.as_slice())?;
         Ok((key, pair.1.clone()?))
     }

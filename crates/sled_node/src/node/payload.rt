@@ -3,12 +3,13 @@
 ghost use Rattle.std.specs.Prelude.{◌≡◌, ◌<◌, ◌≤◌, ◌^◌, ◌++◌, length, drop, IfOk, IfErr, OnErr};
 ghost use Rattle.sled_node.specs.Parts.{HasStored};
 ghost use Rattle.sled_base.specs.Payloads.Reading.{IsRefusal};
+ghost use Rattle.sled_base.specs.Payloads.ReadingLaws.{some_taken};
 ghost use Rattle.sled_base.specs.Payloads.Numbers.{written_u64};
 ghost use Rattle.sled_base.specs.Payloads.ByteStrings.{written_bytes};
 ghost use Rattle.sled_node.specs.Payloads.Pairs.{AsksPairs, written_pairs};
 ghost use Rattle.sled_node.specs.Payloads.Data.{ReadsLeaf, ReadsIndex, ReadsData, AsksData, written_data};
 ghost use Rattle.sled_node.specs.Payloads.DataLaws.{Data-grammar};
-ghost use Rattle.sled_node.specs.Payloads.Nodes.{ReadsNode, AsksParts, written_node};
+ghost use Rattle.sled_node.specs.Payloads.Nodes.{ReadsNode, AsksNode, written_node};
 ghost use Rattle.sled_node.specs.Payloads.NodeLaws.{Node-grammar};
 ghost use Rattle.sled_node.specs.Node.{IsWellFormed};
 
@@ -32,6 +33,8 @@ impl Serialize for Data {
     ghost least_size = { 2 };
 
     ghost grammar = { Data-grammar };
+
+    ghost takes = { some_taken Data-grammar };
 
     fn serialized_size(&self) -> u64
         ensures { result ≡ length (written_data self.now) }
@@ -159,7 +162,7 @@ type Parts = (
 impl Serialize for Node {
     ghost reads = { ReadsNode };
 
-    ghost asks = { AsksParts };
+    ghost asks = { AsksNode };
 
     ghost written = { written_node };
 
@@ -168,6 +171,8 @@ impl Serialize for Node {
     ghost least_size = { 8 };
 
     ghost grammar = { Node-grammar };
+
+    ghost takes = { some_taken Node-grammar };
 
     fn serialized_size(&self) -> u64
         ensures { result ≡ length (written_node self.now) }

@@ -59,7 +59,7 @@ impl Node {
         self.is_unmarked()
     }
 
-    /// How large the node is: 128, the lengths of its bounds, and for each pair the lengths of the stored key and of the
+    /// How large the node is, in bytes: 128, the lengths of its bounds, and for each pair the lengths of the stored key and of the
     /// value, or 8 for a page.
     pub fn rss(&self) -> u64
         ensures value { result ≡ node_size self.now }
@@ -77,7 +77,7 @@ impl Node {
 }
 
 impl Data {
-    /// How large the pairs are: for each the lengths of the stored key and of the value, or 8 for a page.
+    /// How large the pairs are, in bytes: for each the lengths of the stored key and of the value, or 8 for a page.
     pub fn rss(&self) -> u64
         ensures value { result ≡ data_size self.now }
         ensures bound { result ≤ 2 ^ 56 }

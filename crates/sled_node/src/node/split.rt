@@ -9,32 +9,27 @@ use super::stored::{common_len, own_prefix, store_without};
 use super::{Data, Index, Leaf, Node};
 use sled_base::IVec;
 use sled_base::prefix::decode;
-use std::alloc::{AllocError, Global};
+use std::alloc::AllocError;
 
 impl Node {
-    /// Parts a node of three pairs or more in two. The left has the first `len / 2 + 1` of them, the right the others.
+    /// Splits a node of three pairs or more in two. The left has the first `len / 2 + 1` of them, the right the others.
     ///
     /// The left begins where the node did, and the right ends where it did. They meet at a separator, the least key of
     /// the right, which in a leaf is cut to one byte past what it shares with the greatest key of the left. The left
     /// keeps the marks and has no next; the right keeps the next and has no marks. Stored keys lack what the bounds of
     /// their own part have in common, up to 255 bytes. An error means that an allocation failed, and the node is let go.
-    pub fn split(self, alloc: Global) -> Result<(Node, Node), AllocError>
+    pub fn split(self) -> Result<(Node, Node), AllocError>
         requires { 3 ≤ length self.pairs }
         ensures parts { IfOk result (λ parts. Splits self parts.0 parts.1) }
         ensures merge { IfOk result (λ parts. MergeBack self parts.0 parts.1) }
     {
         let count = self.len() / 2 + 1;
-        let separator = self.separator(alloc, count)?;
-        self.split_at(alloc, count, separator)
+        let separator = self.separator(count)?;
+        self.split_at(count, separator)
     }
 
     // The parts that meet at the separator, of which the left has so many pairs.
-    fn split_at(
-        self,
-        alloc: Global,
-        count: usize,
-        separator: IVec,
-    ) -> Result<(Node, Node), AllocError>
+    fn split_at(self, count: usize, separator: IVec) -> Result<(Node, Node), AllocError>
         requires many { 3 ≤ length self.pairs }
         requires half { count ≡ length self.pairs / 2 + 1 }
         requires separates { SeparatesAt self.is_index (greatest (take count self.pairs)) (least (drop count self.pairs)) separator }
@@ -54,13 +49,7 @@ impl Node {
         let left_len = own_prefix(lo.as_slice(), separator.as_slice());
         let right_len = own_prefix(low.as_slice(), hi.as_slice());
         let prefix = &lo.as_slice()[..prefix_len as usize];
-        let (left, right) = contents.split(
-            alloc,
-            count,
-            prefix,
-            left_len as usize,
-            right_len as usize,
-        )?;
+        let (left, right) = contents.split(count, prefix, left_len as usize, right_len as usize)?;
         let left = Node {
             prefix_len: left_len,
             next: None,
@@ -84,11 +73,12 @@ impl Node {
 
     // A string that parts the keys of the first pairs from those of the others: of an index the least key of the others,
     // and of a leaf a shortest string.
-    fn separator(&self, alloc: Global, count: usize) -> Result<IVec, AllocError>
+    fn separator(&self, count: usize) -> Result<IVec, AllocError>
         requires some { 1 ≤ count }
         requires others { count < length self.now.pairs }
         ensures { IfOk result (λ s. SeparatesAt self.now.is_index (greatest (take count self.now.pairs)) (least (drop count self.now.pairs)) s) }
     {
+        let alloc = self.contents.allocator();
         let prefix = self.prefix();
         let (left, _) = self.pair(count - 1);
         let (right, _) = self.pair(count);
@@ -106,7 +96,6 @@ impl Data {
     // The first pairs and the others, with stored keys that lack so many bytes in place of those of the prefix.
     fn split(
         self,
-        alloc: Global,
         count: usize,
         prefix: &[u8],
         left_skipped: usize,
@@ -121,26 +110,12 @@ impl Data {
         match self {
             Data::Leaf(leaf) => {
                 let mut left = leaf.into_pairs();
-                let right = split_pairs(
-                    alloc,
-                    &mut left,
-                    count,
-                    prefix,
-                    left_skipped,
-                    right_skipped,
-                )?;
+                let right = split_pairs(&mut left, count, prefix, left_skipped, right_skipped)?;
                 Ok((Data::Leaf(Leaf::of(left)), Data::Leaf(Leaf::of(right))))
             }
             Data::Index(index) => {
                 let mut left = index.into_pairs();
-                let right = split_pairs(
-                    alloc,
-                    &mut left,
-                    count,
-                    prefix,
-                    left_skipped,
-                    right_skipped,
-                )?;
+                let right = split_pairs(&mut left, count, prefix, left_skipped, right_skipped)?;
                 Ok((Data::Index(Index::of(left)), Data::Index(Index::of(right))))
             }
         }
@@ -151,7 +126,6 @@ impl Data {
 //
 // An error leaves some pairs changed and others not.
 fn split_pairs<V: Drop>(
-    alloc: Global,
     pairs: &mut Vec<(IVec, V)>,
     count: usize,
     prefix: &[u8],
@@ -163,8 +137,8 @@ fn split_pairs<V: Drop>(
     ensures right { IfOk result (λ right. right.items ≡ restored prefix.now right_skipped (drop count pairs.old.items)) }
 {
     let mut right = pairs.split_off(count)?;
-    store_without(alloc, pairs, prefix, left_skipped)?;
-    store_without(alloc, &mut right, prefix, right_skipped)?;
+    store_without(pairs, prefix, left_skipped)?;
+    store_without(&mut right, prefix, right_skipped)?;
     Ok(right)
 }
 

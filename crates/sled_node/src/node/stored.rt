@@ -32,7 +32,6 @@ pub fn own_prefix(lo: &[u8], hi: &[u8]) -> u8
 ///
 /// The keys stay as they are where these are as many. An error leaves some of them changed and others not.
 pub fn store_without<V>(
-    alloc: Global,
     pairs: &mut Vec<(IVec, V)>,
     front: &[u8],
     skipped: usize,
@@ -42,6 +41,7 @@ pub fn store_without<V>(
     if skipped == front.len() {
         return Ok(());
     }
+    let alloc = *pairs.allocator();
     for pair in pairs.iter_mut() {
         pair.0 = key_without(alloc, front, &pair.0, skipped)?;
     }

@@ -2,6 +2,7 @@
 
 ghost use Rattle.std.specs.Prelude.{◌≡◌, IfOk, IfErr, OnErr};
 ghost use Rattle.sled_base.specs.Payloads.Reading.{IsRefusal, ReadsPair, AsksPair};
+ghost use Rattle.sled_base.specs.Payloads.ReadingLaws.{some_taken};
 ghost use Rattle.sled_node.specs.Payloads.ShortStrings.{ReadsShort, AsksShort};
 ghost use Rattle.sled_node.specs.Payloads.Links.{ReadsLink, AsksLink, written_link, CanWriteLink};
 ghost use Rattle.sled_node.specs.Payloads.LinkLaws.{Link-grammar};
@@ -25,6 +26,8 @@ impl Serialize for Link {
     ghost least_size = { 1 };
 
     ghost grammar = { Link-grammar };
+
+    ghost takes = { some_taken Link-grammar };
 
     fn serialized_size(&self) -> u64 {
         match self {

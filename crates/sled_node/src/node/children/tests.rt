@@ -1,5 +1,5 @@
 use super::*;
-use crate::node::{MAX_BYTES, MAX_PAIRS};
+use crate::node::MAX_BYTES;
 use crate::tests::{EMPTY, bytes, is_node, let_go, node_of};
 use sled_base::Error;
 use std::test::Fail;
@@ -60,11 +60,7 @@ fn whole_keys_lead_to_children(rt: HostRuntime) -> Result<(), Fail> {
 
 // Whether the key was new, or none where the node can't take it.
 fn split(node: &mut Node, at: &[u8], to: PageId) -> Result<Option<bool>, AllocError> {
-    if !node.is_index()
-        || !node.contains_key(at)
-        || at.len() > MAX_BYTES
-        || node.len() >= MAX_PAIRS
-    {
+    if !node.accepts_child(at) {
         return Ok(None);
     }
     Ok(Some(node.parent_split(at, to)?))
@@ -108,6 +104,28 @@ fn new_children_come_in_order(rt: HostRuntime) -> Result<(), Fail> {
             splits(rt.alloc(), before, at, to, is_new, after)?,
             "{at:?}"
         );
+    }
+    Ok(())
+}
+
+fn takes_child(alloc: Global, payload: &[u8], at: &[u8]) -> Result<bool, Error> {
+    let node = node_of(alloc, payload)?;
+    Ok(node.accepts_child(at))
+}
+
+#[test]
+fn children_begin_in_the_range_of_an_index(rt: HostRuntime) -> Result<(), Fail> {
+    for (row, payload, at, is_so) in [
+        ("a new key", HOISTED, b"q".as_slice(), true),
+        ("a key that is there", HOISTED, b"m", true),
+        ("lo", INDEX, b"ba", true),
+        ("below hi", INDEX, b"byy", true),
+        ("below lo", INDEX, b"b", false),
+        ("hi", INDEX, b"bz", false),
+        ("above hi", INDEX, b"c", false),
+        ("a leaf", EMPTY, b"a", false),
+    ] {
+        assert!(rt; takes_child(rt.alloc(), payload, at)? == is_so, "{row}");
     }
     Ok(())
 }

@@ -1,6 +1,7 @@
 use super::*;
 use crate::tests::node_of;
 use sled_base::Error;
+use std::alloc::Global;
 use std::test::Fail;
 
 // Over "ba" to "bz", without the first byte: "b" to "v".
@@ -68,7 +69,7 @@ fn gives(
     if node.is_index() || !node.contains_key(key) {
         return Ok(false);
     }
-    let pair = node.node_kv_pair(alloc, key)?;
+    let pair = node.node_kv_pair(key)?;
     Ok(pair.0.eq_bytes(stored) && is_value(&pair.1, value))
 }
 

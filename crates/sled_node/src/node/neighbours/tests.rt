@@ -1,6 +1,7 @@
 use super::*;
 use crate::tests::{EMPTY, bound_of, node_of};
 use sled_base::Error;
+use std::alloc::Global;
 use std::test::Fail;
 
 // Over "ba" to "bz", without the first byte: "b" to "v".
@@ -44,7 +45,7 @@ fn behind(alloc: Global, node: &Node, kind: u8, key: &[u8]) -> Result<u8, AllocE
         return Ok(b'?');
     }
     let bound = bound_of(alloc, kind, key)?;
-    Ok(value_of(node.successor(alloc, &bound)?))
+    Ok(value_of(node.successor(&bound)?))
 }
 
 fn before(alloc: Global, node: &Node, kind: u8, key: &[u8]) -> Result<u8, AllocError> {
@@ -52,7 +53,7 @@ fn before(alloc: Global, node: &Node, kind: u8, key: &[u8]) -> Result<u8, AllocE
         return Ok(b'?');
     }
     let bound = bound_of(alloc, kind, key)?;
-    Ok(value_of(node.predecessor(alloc, &bound)?))
+    Ok(value_of(node.predecessor(&bound)?))
 }
 
 // The values of the nearest pairs at or above the key, above it, at or below it, and below it, and of the first and the last.

@@ -1,6 +1,7 @@
 use super::*;
 use crate::tests::{is_node, let_go, node_of};
 use sled_base::Error;
+use std::alloc::Global;
 use std::process::Abort;
 use std::test::Fail;
 
@@ -36,7 +37,7 @@ fn merges(alloc: Global, left: &Node, right: &Node, text: &[u8]) -> Result<bool,
     if !left.can_receive(right) {
         return Ok(false);
     }
-    let merged = left.receive_merge(alloc, right)?;
+    let merged = left.receive_merge(right)?;
     is_in(alloc, &merged, text)
 }
 
@@ -52,7 +53,7 @@ fn splits(alloc: Global, whole: &[u8], texts: [&[u8]; 3]) -> Result<bool, Error>
     if node.len() < 3 {
         return Ok(false);
     }
-    let (left, right) = node.split(alloc)?;
+    let (left, right) = node.split()?;
     let done = are_parts(alloc, &left, &right, texts);
     let_go(left);
     let_go(right);

@@ -14,4 +14,4 @@ returns-in_err-pairs-clause-refused g c =
     let keys = c.in-Some.keys.now in
     let items = c.in-Some.behind.now in
     let split = c.in-Some.ensures.found in
-    rw (p.1, p.2) (refused_so (λ _. 1 ≤ count) AsksPairs (ReadsBoth reads count keys) (ReadsPairs reads) items input c.in_err-pairs.field-0.0 (λ some. (count, keys, items, split, some)) (no_both reads g.met.V.Serialize.grammar input count keys split.0 items split.3) c.in_err-pairs.ensures.refused)
+    rw (p.1, p.2) (refused_so (λ _. 1 ≤ count) AsksPairs (ReadsBoth reads count keys) (ReadsPairs reads) items input c.in_err-pairs.field-0.0 (λ some. record { count = count; keys = keys; items = items; split = split; some = some }) (no_both reads g.met.V.Serialize.grammar input count keys split.counted items split.skipped) c.in_err-pairs.ensures.refused)
