@@ -1,5 +1,5 @@
 -- The lines that were answered so far.
-use Rattle.std.proofs.Common.{true, ◌≡◌, ◌≤◌, List, [], ◌∷◌, ◌++◌, length, Option, None, Some, Ok, Err, refl, sym, ap, subst, ◌∙◌, arith, append_assoc, append-nil}
+use Rattle.std.proofs.Common.{Bool, length-append, true, ◌≡◌, ◌≤◌, List, [], ◌∷◌, ◌++◌, length, Option, None, Some, Ok, Err, refl, sym, ap, subst, ◌∙◌, arith, append_assoc, append-nil}
 use Rattle.std.specs.Prelude.{codes, ⊤}
 use Rattle.std.specs.Io.KnownBytes.{Appends, Keeps}
 use Rattle.std.specs.List.{AllZip}
@@ -21,7 +21,7 @@ use Rattle.sledpc.specs.declared.lines.ReadError.TheVariants as unread
 use Rattle.sledpc.specs.Settings.{longest_line}
 use Rattle.sledpc.specs.declared.script.run.RunError.{RunError}
 use Rattle.sledpc.specs.declared.script.run.RunError.TheVariants.{Read, Write, Memory}
-use Rattle.sledpc.proofs.LinesOf.{has_line, not_empty}
+use Rattle.sledpc.proofs.LinesOf.{has_line, no_length, not_empty}
 
 -- ---- one more line
 
@@ -67,11 +67,11 @@ read_ends None rest served behind = tt
 read_ends (Some input) None served behind = absurd behind
 read_ends (Some input) (Some rest) served (answered, lines, asked) = (answered, lines_of rest, lines, asked, tt)
 
-memory_ends : (input rest next : Option Bytes) (served : List Served) (line : Bytes) → IsBehind input rest served → (E : Type 0) → ReadsLine {E = E} rest next (Ok read.Whole) line → Answers input (Err Memory) served
-memory_ends None rest next served line behind E at = tt
-memory_ends (Some input) None next served line behind E at = absurd behind
-memory_ends (Some input) (Some rest) None served line behind E at = absurd at
-memory_ends (Some input) (Some rest) (Some next) served line (answered, lines, asked) E at =
+memory_ends : (input rest next : Option Bytes) (served : List Served) (line : Bytes) → IsBehind input rest served → (E : Type 0) (f : Bool) → ReadsLine {E = E} rest next (Ok (read.Whole f)) line → Answers input (Err Memory) served
+memory_ends None rest next served line behind E f at = tt
+memory_ends (Some input) None next served line behind E f at = absurd behind
+memory_ends (Some input) (Some rest) None served line behind E f at = absurd at
+memory_ends (Some input) (Some rest) (Some next) served line (answered, lines, asked) E f at =
     (answered, lines_of rest, lines, asked, λ none. let first = at.1 in absurd cc)
 
 write_ends : (input rest next : Option Bytes) (served : List Served) (one : Served) → IsBehind input rest served → IsNext rest next one → Answers input (Err Write) (served ++ one ∷ [])
@@ -82,10 +82,10 @@ write_ends (Some input) (Some rest) (Some next) served one (answered, lines, ask
     (answered ++ line ∷ [], lines_of next, lines ∙ ap (λ left. answered ++ left) first ∙ sym (append_assoc answered (line ∷ []) (lines_of next)), asks_more answered served line one asked asks, not_empty answered line [])
 
 -- a line that was kept is the next, and so is one that is too long
-kept_next : (E : Type 0) (rest next : Option Bytes) (line : Bytes) (one : Served) → ReadsLine {E = E} rest next (Ok read.Whole) line → AsksFor line one → IsNext rest next one
-kept_next E None next line one at asks = tt
-kept_next E (Some rest) None line one at asks = absurd at
-kept_next E (Some rest) (Some next) line one at asks = (line, at.1, asks)
+kept_next : (E : Type 0) (f : Bool) (rest next : Option Bytes) (line : Bytes) (one : Served) → ReadsLine {E = E} rest next (Ok (read.Whole f)) line → AsksFor line one → IsNext rest next one
+kept_next E f None next line one at asks = tt
+kept_next E f (Some rest) None line one at asks = absurd at
+kept_next E f (Some rest) (Some next) line one at asks = (line, at.1, asks)
 
 long_next : (E : Type 0) (rest next : Option Bytes) (kept : Bytes) → ReadsLine {E = E} rest next (Ok read.TooLong) kept → IsNext rest next None
 long_next E None next kept at = tt
@@ -139,9 +139,9 @@ module _ {L : Type 0} (g : Ghosts L) where
       ends : (input rest next : Option Bytes) → IsBehind input rest so.served → IsUnread unread.Memory rest next kept → Answers input (Err Memory) so.served
       ends None rest next behind why = tt
       ends (Some input) None next behind why = absurd behind
-      ends (Some input) (Some rest) None behind why = absurd why.1
+      ends (Some input) (Some rest) None behind why = absurd why.0
       ends (Some input) (Some rest) (Some next) (answered, lines, asked) why =
-          (answered, lines_of rest, lines, asked, has_line rest (λ none. not_empty kept why.0 next (sym (append_assoc kept (why.0 ∷ []) next) ∙ sym why.1 ∙ none)))
+          (answered, lines_of rest, lines, asked, has_line rest (λ none. why.1 (none ∙ sym (no_length kept (omega (arith, ap length (sym why.0 ∙ none), length-append kept next))))))
 
   -- the input is at its end
   pub ends_here : (E : Type 0) (cache after : Cache L) (input rest next old new : Option Bytes) (kept : Bytes) → SoFar cache input rest old new after → ReadsLine {E = E} rest next (Ok read.End) kept → Serves g cache input old new (Ok tt) after
@@ -181,23 +181,23 @@ module _ {L : Type 0} (g : Ghosts L) where
     }
 
     -- a line that was kept is answered
-    pub line_done : (E : Type 0) (kept : Bytes) → ReadsLine {E = E} rest next (Ok read.Whole) kept → RepliesLine g mid kept between new (Ok tt) after → SoFar cache input next old new after
-    line_done E kept at (one, asks, goes, wrote) = goes_on one (kept_next E rest next kept one at asks) goes wrote
+    pub line_done : (E : Type 0) (f : Bool) (kept : Bytes) → ReadsLine {E = E} rest next (Ok (read.Whole f)) kept → RepliesLine g mid kept between new (Ok tt) after → SoFar cache input next old new after
+    line_done E f kept at (one, asks, goes, wrote) = goes_on one (kept_next E f rest next kept one at asks) goes wrote
 
-    pub line_stops : (E : Type 0) (kept : Bytes) (e : RunError) → ReadsLine {E = E} rest next (Ok read.Whole) kept → RepliesLine g mid kept between new (Err e) after → Serves g cache input old new (Err e) after
-    line_stops E kept Read at told = absurd told
-    line_stops E kept Write at (one, asks, goes, wrote) = breaks_off one (kept_next E rest next kept one at asks) goes wrote
-    line_stops E kept Memory at (same, none) = record {
+    pub line_stops : (E : Type 0) (f : Bool) (kept : Bytes) (e : RunError) → ReadsLine {E = E} rest next (Ok (read.Whole f)) kept → RepliesLine g mid kept between new (Err e) after → Serves g cache input old new (Err e) after
+    line_stops E f kept Read at told = absurd told
+    line_stops E f kept Write at (one, asks, goes, wrote) = breaks_off one (kept_next E f rest next kept one at asks) goes wrote
+    line_stops E f kept Memory at (same, none) = record {
       served = so.served;
-      answers = memory_ends input rest next so.served kept so.behind E at;
+      answers = memory_ends input rest next so.served kept so.behind E f at;
       made = subst (AreMade g cache (calls_of so.served)) (sym same) so.made;
       row = subst (StepInRow g cache (calls_of so.served)) (sym same) so.row;
       written = subst (Appends old new) (append-nil (text_of so.served)) (Appends-trans old between new (text_of so.served) [] so.written none);
     }
 
     -- the reply is not flushed
-    pub unflushed : (E : Type 0) (kept : Bytes) (last : Option Bytes) → ReadsLine {E = E} rest next (Ok read.Whole) kept → RepliesLine g mid kept between last (Ok tt) after → Keeps last new → Serves g cache input old new (Err Write) after
-    unflushed E kept last at (one, asks, goes, wrote) keeps = breaks_off one (kept_next E rest next kept one at asks) goes (stands between last new (reply_to one ++ 10 ∷ []) wrote keeps)
+    pub unflushed : (E : Type 0) (f : Bool) (kept : Bytes) (last : Option Bytes) → ReadsLine {E = E} rest next (Ok (read.Whole f)) kept → RepliesLine g mid kept between last (Ok tt) after → Keeps last new → Serves g cache input old new (Err Write) after
+    unflushed E f kept last at (one, asks, goes, wrote) keeps = breaks_off one (kept_next E f rest next kept one at asks) goes (stands between last new (reply_to one ++ 10 ∷ []) wrote keeps)
 
   -- ---- a line that is too long
 

@@ -3,6 +3,7 @@ pub mod Cut
 pub mod Words
 pub mod Written
 pub mod LinesOf
+pub mod Taken
 pub mod Entries
 pub mod Answered
 pub mod Making

@@ -1,15 +1,19 @@
 -- The lines of a text, and what reading one of them found.
-use Rattle.std.proofs.Common.{◌≡◌, ◌≢◌, ◌<◌, ◌≤◌, ◌⊎◌, List, inl, inr, Bool, true, false, eqb, ℕ, [], ◌∷◌, ◌++◌, length, Option, None, Some, Ok, Err, sym, ap, ◌∙◌, arith, refl, append_assoc, append-nil, length-append}
+use Rattle.std.proofs.Common.{subst, IfSome, IfOk, Result, ◌≡◌, ◌≢◌, ◌<◌, ◌≤◌, ◌⊎◌, List, inl, inr, Bool, true, false, eqb, ℕ, [], ◌∷◌, ◌++◌, length, Option, None, Some, Ok, Err, sym, ap, ◌∙◌, arith, refl, append_assoc, append-nil, length-append}
 use Rattle.std.specs.Io.BufRead.{drop_through, DropsThrough}
-use Rattle.std.specs.Io.KnownBytes.{Consumes}
+use Rattle.std.specs.Io.KnownBytes.{Consumes, Keeps, IsAtEnd}
+use Rattle.std.proofs.KnownBytes.{Consumes-trans, Consumes-kept}
 use Rattle.std.proofs.lemmas.Bool.Decides.{nat_tests}
 use Rattle.sled_base.specs.Order.{Bytes}
 use Rattle.sledpc.specs.Cut.{HasNo}
-use Rattle.sledpc.specs.Lines.{onto_first, lines_of, ReadsLine}
-use Rattle.sledpc.specs.NextByte.{TakesByte}
+use Rattle.sledpc.specs.Lines.{onto_first, lines_of, ReadsLine, IsUnread}
+use Rattle.sledpc.specs.Parts.{TakesPart}
 use Rattle.sledpc.specs.Settings.{longest_line}
+use Rattle.sledpc.specs.declared.lines.Ended.TheVariants as Ended
+use Rattle.sledpc.specs.declared.lines.Line.{Line}
 use Rattle.sledpc.specs.declared.lines.Line.TheVariants as read
 use Rattle.sledpc.specs.declared.lines.ReadError.{ReadError}
+use Rattle.sledpc.specs.declared.lines.ReadError.TheVariants as unread
 use Rattle.sledpc.proofs.Cut.{none_in_both}
 
 -- a byte that isn't a newline stands in the first line
@@ -71,27 +75,17 @@ pub has_line : (text : Bytes) → text ≢ [] → lines_of text ≢ []
 has_line [] some = absurd (some refl)
 has_line (byte ∷ text) some = line_by_test byte text (eqb byte 10) refl
 
+-- a text of no bytes
+pub no_length : (text : Bytes) → length text ≡ 0 → text ≡ []
+no_length [] none = refl
+no_length (byte ∷ text) none = absurd (omega (arith, none))
+
 -- a list that something stands in is not empty
 pub not_empty : {A : Type 0} (before : List A) (item : A) (after : List A) → before ++ item ∷ after ≢ []
 not_empty [] item after none = absurd cc
 not_empty (first ∷ before) item after none = absurd cc
 
 -- ---- what reading a line found
-
--- a newline behind the bytes that were kept
-pub found_line : (old mid new : Option Bytes) (kept : Bytes) → HasNo 10 kept → length kept ≤ longest_line → Consumes old mid kept → TakesByte {E = ReadError} mid new (Ok (Some 10)) → ReadsLine {E = ReadError} old new (Ok read.Whole) kept
-found_line None mid new kept clean short taken byte = tt
-found_line (Some x) None new kept clean short taken byte = absurd taken
-found_line (Some x) (Some y) None kept clean short taken byte = absurd byte
-found_line (Some x) (Some y) (Some z) kept clean short taken byte = (short, ap lines_of (taken ∙ ap (λ l. kept ++ l) byte) ∙ whole_line kept z clean)
-
--- the end of the input behind them
-pub found_last : (old mid new : Option Bytes) (kept : Bytes) → HasNo 10 kept → length kept ≤ longest_line → 0 < length kept → Consumes old mid kept → TakesByte {E = ReadError} mid new (Ok None) → ReadsLine {E = ReadError} old new (Ok read.Whole) kept
-found_last None mid new kept clean short some taken byte = tt
-found_last (Some x) None new kept clean short some taken byte = absurd taken
-found_last (Some x) (Some y) None kept clean short some taken byte = absurd byte
-found_last (Some x) (Some y) (Some z) kept clean short some taken byte =
-    (short, ap lines_of (taken ∙ ap (λ l. kept ++ l) byte.0 ∙ append-nil kept) ∙ last_line kept clean some ∙ ap (λ l. kept ∷ lines_of l) (sym byte.1))
 
 -- more bytes than a line may have, and the rest of their line
 pub found_long : (old mid new : Option Bytes) (kept : Bytes) → HasNo 10 kept → longest_line < length kept → Consumes old mid kept → DropsThrough mid new 10 → ReadsLine {E = ReadError} old new (Ok read.TooLong) kept
@@ -103,9 +97,69 @@ found_long (Some x) (Some y) (Some z) kept clean long taken skipped =
     let rest : z ≡ drop_through 10 y = cc in
     (line, omega arith, ap lines_of taken ∙ lines ∙ ap (λ l. line ∷ lines_of l) (sym rest))
 
--- the input is not read behind what was kept
-pub unread_behind : {E : Type 0} (old mid new : Option Bytes) (kept : Bytes) (e : E) → Consumes old mid kept → TakesByte mid new (Err e) → Consumes old new kept
-unread_behind None mid new kept e taken byte = tt
-unread_behind (Some x) None new kept e taken byte = absurd taken
-unread_behind (Some x) (Some y) None kept e taken byte = absurd byte
-unread_behind (Some x) (Some y) (Some z) kept e taken byte = taken ∙ ap (λ l. kept ++ l) (sym byte)
+-- the same, where passing over the rest may fail
+pub skipped : (old mid new : Option Bytes) (kept : Bytes) (result : Result Line ReadError) → HasNo 10 kept → longest_line < length kept → Consumes old mid kept → IfOk result (λ line. (line ≡ read.TooLong) × DropsThrough mid new 10) → ReadsLine old new result kept
+skipped old mid new kept (Ok line) clean long taken ok = rw ok.0 (found_long old mid new kept clean long taken ok.1)
+skipped None mid new kept (Err e) clean long taken ok = tt
+skipped (Some x) mid new kept (Err e) clean long taken ok = tt
+
+-- what was kept of a line, and a part behind it
+module _ (old mid new : Option Bytes) (before kept : Bytes) (clean : HasNo 10 before) (taken : Consumes old mid before) where
+  -- the newline behind the part
+  pub part_line : (f : Bool) → TakesPart mid new before kept (Ok (Ended.Line f)) → length kept ≤ longest_line → ReadsLine {E = ReadError} old new (Ok (read.Whole f)) kept
+  part_line f (part, fresh, e, more) short = found old new line
+    where
+      whole : HasNo 10 kept
+      whole = subst (HasNo 10) (sym e) (none_in_both 10 before part clean fresh)
+
+      line : Consumes old new (kept ++ 10 ∷ [])
+      line = subst (Consumes old new) (sym (append_assoc before part (10 ∷ [])) ∙ ap (λ l. l ++ 10 ∷ []) (sym e)) (Consumes-trans old mid new before (part ++ 10 ∷ []) taken more)
+
+      found : (a c : Option Bytes) → Consumes a c (kept ++ 10 ∷ []) → ReadsLine {E = ReadError} a c (Ok (read.Whole f)) kept
+      found None c p = tt
+      found (Some x) None p = absurd p
+      found (Some x) (Some z) p = (short, ap lines_of (p ∙ append_assoc kept (10 ∷ []) z) ∙ whole_line kept z whole)
+
+  -- the end of the input behind it
+  nothing : (part : Bytes) → kept ≡ before ++ part → part ≡ [] → kept ≡ before
+  nothing part e none = e ∙ ap (λ l. before ++ l) none ∙ append-nil before
+
+  pub part_end : TakesPart mid new before kept (Ok Ended.Input) → length kept ≡ 0 → ReadsLine {E = ReadError} old new (Ok read.End) kept
+  part_end (part, fresh, e, (none, end, keeps)) zero = found old mid new taken end keeps
+    where
+      found : (a b c : Option Bytes) → Consumes a b before → IsAtEnd b → Keeps b c → ReadsLine {E = ReadError} a c (Ok read.End) kept
+      found None b c p q r = tt
+      found (Some x) None c p q r = absurd p
+      found (Some x) (Some y) None p q r = absurd r
+      found (Some x) (Some y) (Some z) p q r = (p ∙ ap (λ l. l ++ y) (sym (nothing part e none) ∙ no_length kept zero) ∙ q, r ∙ q)
+
+  pub part_last : (f : Bool) → TakesPart mid new before kept (Ok Ended.Input) → 0 < length kept → length kept ≤ longest_line → ReadsLine {E = ReadError} old new (Ok (read.Whole f)) kept
+  part_last f (part, fresh, e, (none, end, keeps)) some short = found old mid new taken end keeps
+    where
+      same : kept ≡ before
+      same = nothing part e none
+
+      found : (a b c : Option Bytes) → Consumes a b before → IsAtEnd b → Keeps b c → ReadsLine {E = ReadError} a c (Ok (read.Whole f)) kept
+      found None b c p q r = tt
+      found (Some x) None c p q r = absurd p
+      found (Some x) (Some y) None p q r = absurd r
+      found (Some x) (Some y) (Some z) p q r =
+          (short, ap lines_of (p ∙ ap (λ l. before ++ l) q ∙ append-nil before ∙ sym same) ∙ last_line kept (subst (HasNo 10) (sym same) clean) some ∙ ap (λ l. kept ∷ lines_of l) (sym (r ∙ q)))
+
+  -- more of the line
+  pub part_more : TakesPart mid new before kept (Ok Ended.Part) → HasNo 10 kept × Consumes old new kept
+  part_more (part, fresh, e, more) =
+      (subst (HasNo 10) (sym e) (none_in_both 10 before part clean fresh), subst (Consumes old new) (sym e) (Consumes-trans old mid new before part taken more))
+
+  -- no more was taken
+  stays : (part : Bytes) → kept ≡ before ++ part → part ≡ [] → Keeps mid new → Consumes old new kept
+  stays part e none keeps = subst (Consumes old new) (sym (nothing part e none)) (Consumes-kept old mid new before taken keeps)
+
+  pub part_unread : (e : ReadError) → TakesPart mid new before kept (Err e) → IsUnread e old new kept
+  part_unread unread.Read (part, fresh, e, (none, keeps)) = inl (stays part e none keeps)
+  part_unread unread.Memory (part, fresh, e, (none, keeps, left)) = (stays part e none keeps, more old mid taken left)
+    where
+      more : (a b : Option Bytes) → Consumes a b before → IfSome b (λ rest. rest ≢ []) → IfSome a (λ input. input ≢ kept)
+      more None b p q = tt
+      more (Some x) None p q = absurd p
+      more (Some x) (Some y) p q = λ all. q (no_length y (omega (arith, ap length (sym p ∙ all ∙ nothing part e none), length-append before y)))

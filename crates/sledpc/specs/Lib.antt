@@ -2,7 +2,7 @@ pub mod Settings
 pub mod Words
 pub mod Cut
 pub mod Lines
-pub mod NextByte
+pub mod Parts
 pub mod Output
 pub mod Commands
 pub mod Replies

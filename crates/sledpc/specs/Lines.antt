@@ -1,5 +1,5 @@
 -- The lines of an input.
-use Rattle.std.specs.Prelude.{◌≡◌, ◌⊎◌, ℕ, ◌<◌, ◌≤◌, ◌==◌, List, [], ◌∷◌, ◌++◌, length, Option, None, Some, Result, Ok, Err, ⊤, if◌then◌else◌}
+use Rattle.std.specs.Prelude.{◌≡◌, ◌≢◌, IfSome, ◌⊎◌, ℕ, ◌<◌, ◌≤◌, ◌==◌, List, [], ◌∷◌, ◌++◌, length, Option, None, Some, Result, Ok, Err, ⊤, if◌then◌else◌}
 use Rattle.std.specs.Io.KnownBytes.{Consumes}
 use Rattle.sled_base.specs.Order.{Bytes}
 use Rattle.sledpc.specs.Settings.{longest_line}
@@ -21,7 +21,7 @@ lines_of (byte ∷ bytes) = if byte == 10 then [] ∷ lines_of bytes else onto_f
 -- What reading a line of the input found, which bytes it kept, and what it left: the end, a line, or a line that is too long to be kept.
 abbrev pub FindsLine : Bytes → Line → Bytes → Bytes → Type 0
 FindsLine input read.End kept rest = (input ≡ []) × (rest ≡ [])
-FindsLine input read.Whole kept rest = (length kept ≤ longest_line) × (lines_of input ≡ kept ∷ lines_of rest)
+FindsLine input (read.Whole is_followed) kept rest = (length kept ≤ longest_line) × (lines_of input ≡ kept ∷ lines_of rest)
 FindsLine input read.TooLong kept rest = (line : Bytes) × (longest_line < length line) × (lines_of input ≡ line ∷ lines_of rest)
 
 -- the same, where the reader tells its bytes
@@ -31,7 +31,7 @@ ReadsLine (Some input) (Some rest) (Ok line) kept = FindsLine input line kept re
 ReadsLine (Some input) None (Ok line) kept = ⊥
 ReadsLine (Some input) new (Err e) kept = ⊤
 
--- Why a line was not read. An allocation failed for one more byte of it, which was taken; or the input was not read behind what was kept, or in a line that is too long.
+-- Why a line was not read. An allocation failed for bytes of it that are left behind those that were kept; or the input was not read behind what was kept, or in a line that is too long.
 abbrev pub IsUnread : ReadError → Option Bytes → Option Bytes → Bytes → Type 0
-IsUnread Memory old new kept = (byte : ℕ) × Consumes old new (kept ++ byte ∷ [])
+IsUnread Memory old new kept = Consumes old new kept × IfSome old (λ input. input ≢ kept)
 IsUnread Read old new kept = Consumes old new kept ⊎ (longest_line < length kept)

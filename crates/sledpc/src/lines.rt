@@ -1,11 +1,13 @@
 //! Lines of an input, one at a time.
 
-ghost use Rattle.std.specs.Prelude.{◌≡◌, ◌+◌, ◌≤◌, length, Ok, IfErr};
+ghost use Rattle.std.specs.Prelude.{◌≡◌, ◌⊎◌, ◌+◌, ◌≤◌, length, Bool, Ok, Err, IfOk, IfErr};
+ghost use Rattle.std.specs.Io.BufRead.{DropsThrough};
 ghost use Rattle.sledpc.specs.Lines.{ReadsLine, IsUnread};
-ghost use Rattle.sledpc.specs.NextByte.{TakesByte};
+ghost use Rattle.sledpc.specs.Parts.{TakesPart, FitsLine};
 ghost use Rattle.sledpc.specs.Settings.{longest_line};
 
-use std::io::{BufRead, ErrorKind, Read};
+use crate::cuts::cut_at;
+use std::io::{BufRead, Error, ErrorKind};
 
 /// The greatest length of a line that is read, in bytes without its newline.
 pub const MAX_LINE: usize = 65_536;
@@ -15,8 +17,8 @@ pub const MAX_LINE: usize = 65_536;
 pub enum Line {
     /// Nothing: the input is at its end.
     End,
-    /// A line, which was kept.
-    Whole,
+    /// A line, which was kept. Where it is followed, the reader has another whole line buffered, and the next read does not wait.
+    Whole { is_followed: bool },
     /// A line above [`MAX_LINE`] bytes, which was passed over.
     TooLong,
 }
@@ -28,48 +30,92 @@ pub enum ReadError {
     Memory,
 }
 
+/// What ended a part of a line.
+#[derive(Clone, Copy)]
+enum Ended {
+    /// The newline, which was taken too. Where the line is followed, the reader has another whole line buffered.
+    Line { is_followed: bool },
+    /// The end of the input: the part is empty.
+    Input,
+    /// Nothing: the line goes on, as far as is known.
+    Part,
+}
+
 /// Reads the next line into `kept`, without its newline. Of a line that is too long at most [`MAX_LINE`] bytes and one are kept.
+///
+/// At [`ReadError::Memory`] an allocation failed for bytes that the reader still has. At [`ReadError::Read`] the input was not
+/// read behind what was kept.
 pub fn read_line<R: BufRead>(reader: &mut R, kept: &mut Vec<u8>) -> Result<Line, ReadError>
     ensures reads { ReadsLine (R.remaining reader.old) (R.remaining reader.new) result kept.new.items }
-    ensures whole { result ≡ Ok Line.Whole → length kept.new.items ≤ longest_line }
+    ensures whole { (is_followed : Bool) → result ≡ Ok (Line.Whole is_followed) → length kept.new.items ≤ longest_line }
     ensures unread { IfErr result (λ e. IsUnread e (R.remaining reader.old) (R.remaining reader.new) kept.new.items) }
     ensures few { length kept.new.items ≤ longest_line + 1 }
 {
     kept.clear();
-    while kept.len() <= MAX_LINE {
-        match next_byte(reader)? {
-            Some(b'\n') => return Ok(Line::Whole),
-            Some(byte) => {
-                if kept.push(byte).is_err() {
-                    return Err(ReadError::Memory);
-                }
-            }
-            None if kept.is_empty() => return Ok(Line::End),
-            None => return Ok(Line::Whole),
-        }
-    }
-    match reader.skip_until(b'\n') {
-        Ok(_) => Ok(Line::TooLong),
-        Err(_) => Err(ReadError::Read),
-    }
-}
-
-/// Takes the next byte, if the input is not at its end.
-fn next_byte<R: BufRead>(reader: &mut R) -> Result<Option<u8>, ReadError>
-    ensures takes { TakesByte (R.remaining reader.old) (R.remaining reader.new) result }
-    ensures err { IfErr result (λ e. e ≡ ReadError.Read) }
-{
-    let mut byte = [0];
     for _ in 0..u64::MAX {
-        match reader.read(&mut byte) {
-            Ok(0) => return Ok(None),
-            Ok(_) => return Ok(Some(byte[0])),
-            Err(error) => {
-                if error.kind() != ErrorKind::Interrupted {
-                    return Err(ReadError::Read);
+        match take_part(reader, kept)? {
+            Ended::Line { is_followed } => return Ok(Line::Whole { is_followed }),
+            Ended::Input if kept.is_empty() => return Ok(Line::End),
+            Ended::Input => return Ok(Line::Whole { is_followed: false }),
+            Ended::Part => {
+                if kept.len() > MAX_LINE {
+                    return skip_line(reader);
                 }
             }
         }
     }
     Err(ReadError::Read)
+}
+
+/// Takes what the reader has buffered of a line, behind what was kept of it, and no more than says that it is too long.
+fn take_part<R: BufRead>(reader: &mut R, kept: &mut Vec<u8>) -> Result<Ended, ReadError>
+    requires { length kept.old.items ≤ longest_line }
+    ensures takes { TakesPart (R.remaining reader.old) (R.remaining reader.new) kept.old.items kept.new.items result }
+    ensures fits { FitsLine kept.new.items result }
+{
+    let buffered = match reader.fill_buf() {
+        Ok(buffered) => buffered,
+        Err(error) => return unless_interrupted(&error),
+    };
+    if buffered.is_empty() {
+        return Ok(Ended::Input);
+    }
+    let room = MAX_LINE + 1 - kept.len();
+    let (part, behind) = cut_at(&buffered[..buffered.len().min(room)], b'\n');
+    if kept.extend_from_slice(part).is_err() {
+        return Err(ReadError::Memory);
+    }
+    let count = part.len();
+    match behind {
+        Some(_) => {
+            let is_followed = buffered[count + 1..].contains(&b'\n');
+            reader.consume(count + 1);
+            Ok(Ended::Line { is_followed })
+        }
+        None => {
+            reader.consume(count);
+            Ok(Ended::Part)
+        }
+    }
+}
+
+/// What a read comes to that failed: nothing more was taken, where it was interrupted.
+fn unless_interrupted(error: &Error) -> Result<Ended, ReadError>
+    ensures { result ≡ Ok Ended.Part ⊎ (result ≡ Err ReadError.Read) }
+{
+    if error.kind() == ErrorKind::Interrupted {
+        return Ok(Ended::Part);
+    }
+    Err(ReadError::Read)
+}
+
+/// Passes over the rest of a line that is too long.
+fn skip_line<R: BufRead>(reader: &mut R) -> Result<Line, ReadError>
+    ensures ok { IfOk result (λ line. (line ≡ Line.TooLong) × DropsThrough (R.remaining reader.old) (R.remaining reader.new) 10) }
+    ensures err { IfErr result (λ e. e ≡ ReadError.Read) }
+{
+    match reader.skip_until(b'\n') {
+        Ok(_) => Ok(Line::TooLong),
+        Err(_) => Err(ReadError::Read),
+    }
 }

@@ -1,6 +1,7 @@
 //! A page cache behind a script: lines in, reply lines out.
 #![tactic(auto)]
 
+mod cuts;
 mod lines;
 mod output;
 mod program;

@@ -104,6 +104,9 @@ fn spell_pairs(
     })
 }
 
+/// A line that no other follows.
+const LAST: Line = Line::Whole { is_followed: false };
+
 // Whether the next line of the input is found to be this, and kept so.
 fn finds(input: &mut &[u8], kept: &mut Vec<u8>, want: Line, text: &str) -> bool {
     read_line(input, kept) == Ok(want) && kept.as_slice() == text.as_bytes()
@@ -124,7 +127,7 @@ fn finds_long(alloc: Global, count: usize, want: Line) -> Result<bool, AllocErro
     Ok(
         is_found
             && is_kept
-            && finds(&mut input, &mut kept, Line::Whole, "b")
+            && finds(&mut input, &mut kept, LAST, "b")
             && finds(&mut input, &mut kept, Line::End, ""),
     )
 }
@@ -239,15 +242,18 @@ fn reads_pairs_behind_a_name(rt: HostRuntime) -> Result<(), Fail> {
 fn reads_lines(rt: HostRuntime) {
     let mut kept = Vec::new(rt.alloc());
     for (text, lines) in [
-        ("a\n\nb\r\nc", &["a", "", "b\r", "c"] as &[&str]),
-        ("a\n", &["a"]),
+        (
+            "a\n\nb\r\nc",
+            &[("a", true), ("", true), ("b\r", false), ("c", false)] as &[(&str, bool)],
+        ),
+        ("a\n", &[("a", false)]),
     ] {
         let mut input = text.as_bytes();
-        for line in lines {
-            assert!(rt;
-                finds(&mut input, &mut kept, Line::Whole, line),
-                "at {line}"
-            );
+        for (line, is_followed) in lines {
+            let want = Line::Whole {
+                is_followed: *is_followed,
+            };
+            assert!(rt; finds(&mut input, &mut kept, want, line), "at {line}");
         }
         assert!(rt;
             finds(&mut input, &mut kept, Line::End, ""),
@@ -258,7 +264,8 @@ fn reads_lines(rt: HostRuntime) {
 
 #[test]
 fn reads_long_lines(rt: HostRuntime) -> Result<(), Fail> {
-    for (count, want) in [(65_536, Line::Whole), (65_537, Line::TooLong)] {
+    let whole = Line::Whole { is_followed: true };
+    for (count, want) in [(65_536, whole), (65_537, Line::TooLong)] {
         assert!(rt; finds_long(rt.alloc(), count, want)?, "of {count} bytes");
     }
     Ok(())

@@ -36,6 +36,45 @@ impl Write for Broken {
     }
 }
 
+/// A stream that gives a piece at each read, as a pipe does.
+#[derive(Drop)]
+struct Pieces<'a> {
+    left: &'a [&'a str],
+}
+
+impl Read for Pieces<'_> {
+    fn read(&mut self, buf: &mut [u8]) -> io::Result<usize> {
+        let [piece, rest @ ..] = self.left else {
+            return Ok(0);
+        };
+        let bytes = piece.as_bytes();
+        if buf.len() < bytes.len() {
+            return Err(io::Error::from(ErrorKind::BrokenPipe));
+        }
+        buf[..bytes.len()].copy_from_slice(bytes);
+        self.left = rest;
+        Ok(bytes.len())
+    }
+}
+
+/// A stream that keeps what is written, with a bar wherever it is flushed.
+#[derive(Drop)]
+struct Barred {
+    got: Vec<u8>,
+}
+
+impl Write for Barred {
+    fn write(&mut self, buf: &[u8]) -> io::Result<usize> {
+        self.got.extend_from_slice(buf)?;
+        Ok(buf.len())
+    }
+
+    fn flush(&mut self) -> io::Result<()> {
+        self.got.push(b'|')?;
+        Ok(())
+    }
+}
+
 // Steps of the tests. Each runs the program once, and what it made is let go here: a test that let it go itself would be
 // proved for each way in which a run may end.
 
@@ -66,6 +105,15 @@ fn replies(alloc: Global, mut script: &[u8], want: &str) -> Result<bool, AllocEr
     let mut output = Vec::new(alloc);
     let is_done = ends_so(alloc, &mut script, &mut output, 0, "")?;
     Ok(is_done && output.as_slice() == want.as_bytes())
+}
+
+// Whether a script that is given in these pieces is replied to so, and flushed where bars stand.
+fn flushes_so(alloc: Global, pieces: &[&str], want: &str) -> Result<bool, AllocError> {
+    let mut output = Barred {
+        got: Vec::new(alloc),
+    };
+    let is_done = ends_so(alloc, &mut Pieces { left: pieces }, &mut output, 0, "")?;
+    Ok(is_done && output.got.as_slice() == want.as_bytes())
 }
 
 // Whether a script whose first line has so many digits of a value is answered so.
@@ -192,6 +240,28 @@ fn replies_to_lines(rt: HostRuntime) -> Result<(), Fail> {
             replies(rt.alloc(), script.as_bytes(), want)?,
             "at {script}"
         );
+    }
+    Ok(())
+}
+
+#[test]
+fn replies_go_out_before_a_read_that_may_wait(rt: HostRuntime) -> Result<(), Fail> {
+    let together: &[&str] = &["alloc\nget 2\nget 3\n"];
+    for (pieces, want) in [
+        (together, "page 2 1\nleaf 1\nnone\n|"),
+        (
+            &["alloc\n", "get 2\n", "get 3\n"],
+            "page 2 1\n|leaf 1\n|none\n|",
+        ),
+        (
+            &["alloc\nge", "t 2\nget", " 3\n"],
+            "page 2 1\n|leaf 1\n|none\n|",
+        ),
+        (&["alloc\nget 2\nget", " 3"], "page 2 1\nleaf 1\n|none\n|"),
+        (&["x"], "error line\n|"),
+        (&["\n\n", "\n"], "error line\nerror line\n|error line\n|"),
+    ] {
+        assert!(rt; flushes_so(rt.alloc(), pieces, want)?, "at {want}");
     }
     Ok(())
 }

@@ -1,6 +1,7 @@
 //! The engine: it reads lines, and writes the replies to them.
 
 ghost use Rattle.std.specs.Prelude.{◌≡◌, ◌≤◌, ◌++◌, [], ◌∷◌, length, codes, IfOk, IfSome, IfNone, IfErr};
+ghost use Rattle.std.specs.Io.KnownBytes.{Keeps};
 ghost use Rattle.sledpc.specs.Commands.{Spells};
 ghost use Rattle.sledpc.specs.Output.{Writes};
 ghost use Rattle.sledpc.specs.Runs.{Serves, error_of};
@@ -69,6 +70,9 @@ impl From<io::Error> for RunError {
 /// steps in a row: what they write is added to the log in order, and a crash at any moment leaves what the log held and a
 /// prefix of that which splits no batch. Apart from the pages and the log, at most one line is held in memory.
 ///
+/// The writer is flushed behind each line that is not followed by another whole one in what the reader has buffered: so
+/// always before a read that may wait, and once for lines that were read together.
+///
 /// At an error a prefix of the lines was answered. At [`RunError::Read`] and [`RunError::Memory`] the replies to them
 /// were written, and at [`RunError::Write`] a prefix of these replies.
 pub fn run<L: Log, R: BufRead, W: Write>(
@@ -81,14 +85,30 @@ pub fn run<L: Log, R: BufRead, W: Write>(
 {
     let mut line = Vec::new(alloc);
     for _ in 0..u64::MAX {
-        match read_line(reader, &mut line)? {
+        let is_followed = match read_line(reader, &mut line)? {
             Line::End => return Ok(()),
-            Line::Whole => serve_line(alloc, cache, &line, writer)?,
-            Line::TooLong => write_text(writer, b"error line\n")?,
-        }
-        writer.flush()?;
+            Line::Whole { is_followed } => {
+                serve_line(alloc, cache, &line, writer)?;
+                is_followed
+            }
+            Line::TooLong => {
+                write_text(writer, b"error line\n")?;
+                false
+            }
+        };
+        flush_unless(is_followed, writer)?;
     }
     Err(RunError::Read)
+}
+
+// Flushes the replies, unless another line can be read without a wait.
+fn flush_unless<W: Write>(is_followed: bool, writer: &mut W) -> io::Result<()>
+    ensures { Keeps (W.contents writer.old) (W.contents writer.new) }
+{
+    if is_followed {
+        return Ok(());
+    }
+    writer.flush()
 }
 
 // Serves one line: its reply is written as a line.

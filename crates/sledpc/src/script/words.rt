@@ -4,9 +4,10 @@ ghost use Rattle.std.specs.Prelude.{◌≡◌, ◌≢◌, ◌↔◌, ℕ, ◌/�
 ghost use Rattle.std.specs.Option.{option_map};
 ghost use Rattle.std.specs.Fmt.{decimal};
 ghost use Rattle.sled_base.specs.Order.{Bytes};
-ghost use Rattle.sledpc.specs.Cut.{HasPlainFront, IsCutAt};
+ghost use Rattle.sledpc.specs.Cut.{HasPlainFront};
 ghost use Rattle.sledpc.specs.Words.{AreBytes, ArePairs, IsPairOfBytes, hex_digit, bytes_word, pair_word, BeginsLine, SpellPairs};
 
+use crate::cuts::cut_at;
 use sled_base::IVec;
 use std::alloc::{AllocError, Global};
 
@@ -15,16 +16,6 @@ pub fn first_word(line: &[u8]) -> (&[u8], Option<&[u8]>)
     ensures { BeginsLine line.now result.0.now (option_map (λ rest. rest.now) result.1) }
 {
     cut_at(line, b' ')
-}
-
-/// What stands before the first such byte, and what stands behind it, if the byte is there.
-fn cut_at(text: &[u8], mark: u8) -> (&[u8], Option<&[u8]>)
-    ensures { IsCutAt mark text.now result.0.now (option_map (λ rest. rest.now) result.1) }
-{
-    match text.iter().position(|byte| *byte == mark) {
-        Some(at) => (&text[..at], Some(&text[at + 1..])),
-        None => (text, None),
-    }
 }
 
 /// The number that the word encodes: decimal digits without a leading zero, at most `u64::MAX`.

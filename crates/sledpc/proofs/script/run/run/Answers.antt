@@ -26,7 +26,7 @@ returns-in-End g c =
     ends_here g.L.Log ReadError c.args.cache.now c.loop.cache (read c.args.reader.now) (read c.loop.reader) (read c.read_line.new.reader) (contents c.args.writer.now) (contents c.loop.writer) c.read_line.new.kept.items c.loop.invariant at
 
 pub serve_line-requires : goal.serve_line-requires
-serve_line-requires g c = rw c.deref.ensures.value (c.in_ok-read_line.ensures.whole (ap Ok c.in-Whole.is))
+serve_line-requires g c = rw c.deref.ensures.value (c.in_ok-read_line.ensures.whole c.in-Whole.is_followed (ap Ok c.in-Whole.is))
 
 pub returns-in_err-serve_line-in-Whole : goal.returns-in_err-serve_line-in-Whole
 returns-in_err-serve_line-in-Whole g c =
@@ -35,7 +35,7 @@ returns-in_err-serve_line-in-Whole g c =
     let at = rw (c.in-Whole.is) at c.in_ok-read_line.ensures.reads in
     let replied = subst (λ line. RepliesLine g.L.Log c.loop.cache line (contents c.loop.writer) (contents c.serve_line.new.writer) (Err c.in_err-serve_line-in-Whole.field-0.0) c.serve_line.new.cache) c.deref.ensures.value c.in_err-serve_line-in-Whole.ensures in
     let told = err_from_is_err_and c.from_residual-in_err-serve_line-in-Whole.result c.from_residual-in_err-serve_line-in-Whole.ensures.1 in
-    rw (told.1, told.2) (line_stops g.L.Log c.args.cache.now c.loop.cache c.serve_line.new.cache (read c.args.reader.now) (read c.loop.reader) (read c.read_line.new.reader) (contents c.args.writer.now) (contents c.loop.writer) (contents c.serve_line.new.writer) c.loop.invariant ReadError c.read_line.new.kept.items c.in_err-serve_line-in-Whole.field-0.0 at replied)
+    rw (told.1, told.2) (line_stops g.L.Log c.args.cache.now c.loop.cache c.serve_line.new.cache (read c.args.reader.now) (read c.loop.reader) (read c.read_line.new.reader) (contents c.args.writer.now) (contents c.loop.writer) (contents c.serve_line.new.writer) c.loop.invariant ReadError c.in-Whole.is_followed c.read_line.new.kept.items c.in_err-serve_line-in-Whole.field-0.0 at replied)
 
 pub returns-in_err-write_text-in-TooLong : goal.returns-in_err-write_text-in-TooLong
 returns-in_err-write_text-in-TooLong g c =
@@ -46,23 +46,23 @@ returns-in_err-write_text-in-TooLong g c =
     rw (told.1, told.2) (long_stops g.L.Log c.args.cache.now c.loop.cache (read c.args.reader.now) (read c.loop.reader) (read c.read_line.new.reader) (contents c.args.writer.now) (contents c.loop.writer) (contents c.write_text.new.writer) c.loop.invariant ReadError c.read_line.new.kept.items at c.in_err-write_text-in-TooLong.ensures)
 
 -- the reply is written, whichever line it was, and not flushed
-pub returns-in_err-flush : goal.returns-in_err-flush
-returns-in_err-flush g c =
+pub returns-in_err-flush_unless : goal.returns-in_err-flush_unless
+returns-in_err-flush_unless g c =
     let read = g.R.Read.remaining in
     let contents = g.W.Write.contents in
-    let stopped : Serves g.L.Log c.args.cache.now (read c.args.reader.now) (contents c.args.writer.now) (contents c.flush.new.self) (Err Write) c.match-branch-2.cache =
+    let stopped : Serves g.L.Log c.args.cache.now (read c.args.reader.now) (contents c.args.writer.now) (contents c.flush_unless.new.writer) (Err Write) c.match-branch-2.cache =
     elim c.match-branch-2.branch [
       | in-Whole+in_ok-serve_line-in-Whole w ↦
           let at = rw (w.in-Whole.is) at c.in_ok-read_line.ensures.reads in
           let replied = rw (w.deref.ensures.value) at w.in_ok-serve_line-in-Whole.ensures in
-          let kept = rw (w.writer-is) at c.flush.ensures.bytes in
-          rw (w.cache-is) (unflushed g.L.Log c.args.cache.now c.loop.cache w.serve_line.new.cache (read c.args.reader.now) (read c.loop.reader) (read c.read_line.new.reader) (contents c.args.writer.now) (contents c.loop.writer) (contents c.flush.new.self) c.loop.invariant ReadError c.read_line.new.kept.items (contents w.serve_line.new.writer) at replied kept)
+          let kept = rw (w.writer-is) at c.flush_unless.ensures in
+          rw (w.cache-is) (unflushed g.L.Log c.args.cache.now c.loop.cache w.serve_line.new.cache (read c.args.reader.now) (read c.loop.reader) (read c.read_line.new.reader) (contents c.args.writer.now) (contents c.loop.writer) (contents c.flush_unless.new.writer) c.loop.invariant ReadError w.in-Whole.is_followed c.read_line.new.kept.items (contents w.serve_line.new.writer) at replied kept)
       | in-TooLong+in_ok-write_text-in-TooLong w ↦
           let at = rw (w.in-TooLong.is) at c.in_ok-read_line.ensures.reads in
-          let kept = rw (w.writer-is) at c.flush.ensures.bytes in
-          rw (w.cache-is) (long_unflushed g.L.Log c.args.cache.now c.loop.cache (read c.args.reader.now) (read c.loop.reader) (read c.read_line.new.reader) (contents c.args.writer.now) (contents c.loop.writer) (contents c.flush.new.self) c.loop.invariant ReadError c.read_line.new.kept.items at (contents w.write_text.new.writer) w.in_ok-write_text-in-TooLong.ensures kept)
+          let kept = rw (w.writer-is) at c.flush_unless.ensures in
+          rw (w.cache-is) (long_unflushed g.L.Log c.args.cache.now c.loop.cache (read c.args.reader.now) (read c.loop.reader) (read c.read_line.new.reader) (contents c.args.writer.now) (contents c.loop.writer) (contents c.flush_unless.new.writer) c.loop.invariant ReadError c.read_line.new.kept.items at (contents w.write_text.new.writer) w.in_ok-write_text-in-TooLong.ensures kept)
     ] in
-    let told = err_from_is_err_and c.from_residual-in_err-flush.result c.from_residual-in_err-flush.ensures.1 in
+    let told = err_from_is_err_and c.from_residual-in_err-flush_unless.result c.from_residual-in_err-flush_unless.ensures.1 in
     rw (told.1, told.2) stopped
 
 pub loop-preserved : goal.loop-preserved
@@ -74,12 +74,12 @@ loop-preserved g c =
       | in-Whole+in_ok-serve_line-in-Whole w ↦
           let at = rw (w.in-Whole.is) at c.in_ok-read_line.ensures.reads in
           let replied = rw (w.deref.ensures.value) at w.in_ok-serve_line-in-Whole.ensures in
-          rw (w.writer-is, w.cache-is) (line_done g.L.Log c.args.cache.now c.loop.cache w.serve_line.new.cache (read c.args.reader.now) (read c.loop.reader) (read c.read_line.new.reader) (contents c.args.writer.now) (contents c.loop.writer) (contents w.serve_line.new.writer) c.loop.invariant ReadError c.read_line.new.kept.items at replied)
+          rw (w.writer-is, w.cache-is) (line_done g.L.Log c.args.cache.now c.loop.cache w.serve_line.new.cache (read c.args.reader.now) (read c.loop.reader) (read c.read_line.new.reader) (contents c.args.writer.now) (contents c.loop.writer) (contents w.serve_line.new.writer) c.loop.invariant ReadError w.in-Whole.is_followed c.read_line.new.kept.items at replied)
       | in-TooLong+in_ok-write_text-in-TooLong w ↦
           let at = rw (w.in-TooLong.is) at c.in_ok-read_line.ensures.reads in
           rw (w.writer-is, w.cache-is) (long_done g.L.Log c.args.cache.now c.loop.cache (read c.args.reader.now) (read c.loop.reader) (read c.read_line.new.reader) (contents c.args.writer.now) (contents c.loop.writer) (contents w.write_text.new.writer) c.loop.invariant ReadError c.read_line.new.kept.items at w.in_ok-write_text-in-TooLong.ensures)
     ] in
-    flushed g.L.Log c.args.cache.now c.match-branch-2.cache (read c.args.reader.now) (read c.read_line.new.reader) (contents c.args.writer.now) (contents c.match-branch-2.writer) (contents c.flush.new.self) so c.flush.ensures.bytes
+    flushed g.L.Log c.args.cache.now c.match-branch-2.cache (read c.args.reader.now) (read c.read_line.new.reader) (contents c.args.writer.now) (contents c.match-branch-2.writer) (contents c.flush_unless.new.writer) so c.flush_unless.ensures
 
 -- the loop gives up
 pub returns : goal.returns

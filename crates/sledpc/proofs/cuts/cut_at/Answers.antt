@@ -4,7 +4,7 @@ use Rattle.std.proofs.lemmas.Iterator.{IsFirst-from_position, YieldsList-from_sl
 use Rattle.std.proofs.lemmas.List.{take_all}
 use Rattle.sledpc.specs.Cut.{HasNo}
 use Rattle.sledpc.proofs.Cut.{none_before, around}
-use Rattle.sledpc.proofs.script.words.cut_at.Goals as goal
+use Rattle.sledpc.proofs.cuts.cut_at.Goals as goal
 
 pub returns-in-Some : goal.returns-in-Some
 returns-in-Some c =
