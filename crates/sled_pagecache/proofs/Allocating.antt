@@ -1,5 +1,5 @@
 -- Allocating a page, as a step of the machine.
-use Rattle.sled_pagecache.proofs.Names.{◌≡◌, ◌≢◌, ◌⊎◌, inl, inr, ⊎_elim, ◌≤◌, ◌<◌, ◌+◌, ◌-◌, ◌^◌, ℕ, zero, suc, Bool, true, false, cond, List, [], ◌∷◌, ◌++◌, length, take, Option, Some, None, Result, Ok, Err, slice_get, slice_set, get_or, refl, sym, ◌∙◌, ap, subst, arith, eq-eqb, ne_eqb, false≢true, none-some, same_Some, slice_get-get_or, slice_get_within, slice_get_read, Error, Unsupported, Refusal, PagesUsedUp, StampUsedUp, Event, Update, Node, Put, Change, IsUpdate, message_of, Ghosts, WholeNode, RefusesPage, Cache, chain_length, HasNoRoom, StepOver, IsIn, Steps, Went, IsCaused, begun_by, Logged, free_ids, page, State, with_page, free_token, later, greatest_free, Does, Outcome, outcome, unchanged, Allocates, RefusesSwap, IsRoots, IsCounter, AreOwn, IsBeside, IsConsistent, Token, token, Allocated, Allocate, Config, Journal, Kept}
+use Rattle.sled_pagecache.proofs.Names.{◌≡◌, ◌≢◌, ◌⊎◌, inl, inr, ⊎_elim, ◌≤◌, ◌<◌, ◌+◌, ◌-◌, ◌^◌, ℕ, zero, suc, Bool, true, false, cond, List, [], ◌∷◌, ◌++◌, length, take, Option, Some, None, Result, Ok, Err, slice_get, slice_set, refl, sym, ◌∙◌, ap, subst, arith, eq-eqb, ne_eqb, false≢true, none-some, same_Some, slice_get-get_or, slice_get_within, Error, Unsupported, Refusal, PagesUsedUp, StampUsedUp, Event, Update, Node, Put, Change, IsUpdate, message_of, Ghosts, WholeNode, RefusesPage, Cache, chain_length, HasNoRoom, StepOver, IsIn, Steps, Went, IsCaused, begun_by, Logged, free_ids, page, State, with_page, free_token, later, greatest_free, Does, Outcome, outcome, unchanged, Allocates, RefusesSwap, IsRoots, IsCounter, AreOwn, IsBeside, IsConsistent, Token, token, Allocated, Allocate, Config, Journal, Kept}
 use Rattle.sled_pagecache.proofs.ByIds.{at-id}
 use Rattle.sled_base.specs.Errors.{error_of as error_by}
 use Rattle.sled_pagecache.proofs.Putting.{unless-clear, MayPut, may-set, may-add, nothing-told, put-refused, put-set, put-added}
@@ -114,11 +114,8 @@ last-read table seen free read last pid kept same at copied is =
     last-free 0 table (take (length free - 1) free) pid (sym kept ∙ ends-with free pid (read-last seen free read last (Some pid) same at copied is))
 
 -- and this is its page
-pub last-found : (table : List KeptPage) (front : List ℕ) (pid : ℕ) (last : IsLastFree 0 table front pid) (q : KeptPage) → q ≡ get_or table pid q → slice_get table pid ≡ Some q
-last-found table front pid last q read = slice_get_read table (length table) pid q refl (slice_get_within table pid last.page (last-at table front pid last)) read
-
-pub last-same : (table : List KeptPage) (front : List ℕ) (pid : ℕ) (last : IsLastFree 0 table front pid) (q : KeptPage) → q ≡ get_or table pid q → last.page ≡ q
-last-same table front pid last q read = same_Some last.page q (sym (last-at table front pid last) ∙ last-found table front pid last q read)
+pub last-same : (table : List KeptPage) (front : List ℕ) (pid : ℕ) (last : IsLastFree 0 table front pid) (q : KeptPage) → slice_get table pid ≡ Some q → last.page ≡ q
+last-same table front pid last q at = same_Some last.page q (sym (last-at table front pid last) ∙ at)
 
 -- it is free no more
 pub taken-last : (table : List KeptPage) (front : List ℕ) (pid : ℕ) (last : IsLastFree 0 table front pid) (changed : KeptPage) → shown.is_free changed.kept ≡ false → front ≡ free_ids 0 (slice_set table pid changed)

@@ -1,5 +1,5 @@
 -- What the tests of a swap answer is a step of the machine, for each call that makes them.
-use Rattle.sled_pagecache.proofs.Names.{◌≡◌, ◌<◌, ◌+◌, ℕ, Bool, true, false, List, [], length, Option, Some, None, Ok, Err, slice_get, slice_set, get_or, refl, sym, ◌∙◌, ap, subst, ne_eqb, map-set, slice_get_within, slice_get_read, MatchBool, Write, Unsupported, Refusal, ReservedId, Content, Put, Node, Told, effect_of, Ghosts, WholeNode, Keeps, swapped, Cache, chain_length, HasNoRoom, StepOver, Steps, Went-none, Judges, IsJudged, State, page_at, Outcome, unchanged, is_reserved, Swapped, SwapsPage, Swaps, SwapsContent, LinksContent, stamps_in, IsBeside, Token, token, IsAnswered, Answer, Linked, Replaced, Call, Config, Journal, Judgement, Fresh, Stale, Gone, Page}
+use Rattle.sled_pagecache.proofs.Names.{◌≡◌, ◌<◌, ◌+◌, ℕ, Bool, true, false, List, [], length, Option, Some, None, Ok, Err, slice_get, slice_set, refl, sym, ◌∙◌, ap, subst, ne_eqb, map-set, slice_get_within, MatchBool, Write, Unsupported, Refusal, ReservedId, Content, Put, Node, Told, effect_of, Ghosts, WholeNode, Keeps, swapped, Cache, chain_length, HasNoRoom, StepOver, Steps, Went-none, Judges, IsJudged, State, page_at, Outcome, unchanged, is_reserved, Swapped, SwapsPage, Swaps, SwapsContent, LinksContent, stamps_in, IsBeside, Token, token, IsAnswered, Answer, Linked, Replaced, Call, Config, Journal, Judgement, Fresh, Stale, Gone, Page}
 use Rattle.sled_base.specs.Errors.{error_of as error_by}
 use Rattle.sled_base.specs.declared.types.Error.TheVariants.{Io}
 use Rattle.sled_base.specs.declared.types.Refusal.TheVariants as refusals
@@ -85,9 +85,8 @@ module _ {L : Type 0} (g : Ghosts L) (next : ℕ) (config : Config) (recovered :
 
 -- ---- what was judged, in the words of the table
 
-pub judged-by : (fault : Bool) (pages table : List Page) (pid : ℕ) (old : Token) (judgement other : Judgement) → pages ≡ table → judgement ≡ other → Judges fault pages pid old (Ok judgement) → Judges fault table pid old (Ok other)
-judged-by fault pages table pid old judgement other same is judges =
-    subst (λ (l : List Page). Judges fault l pid old (Ok other)) same (subst (λ (j : Judgement). Judges fault pages pid old (Ok j)) is judges)
+pub judged-by : (fault : Bool) (table : List Page) (pid : ℕ) (old : Token) (judgement other : Judgement) → judgement ≡ other → Judges fault table pid old (Ok judgement) → Judges fault table pid old (Ok other)
+judged-by fault table pid old judgement other is judges = subst (λ (j : Judgement). Judges fault table pid old (Ok j)) is judges
 
 -- the page that the token names, at its stamp
 pub record IsFresh (fault : Bool) (table : List Page) (pid : ℕ) (old : Token) (q : Page) : Type 0 where
@@ -105,16 +104,14 @@ module _ (fault : Bool) (table : List Page) (pid : ℕ) (old : Token) (fresh : J
       by None at judged = absurd cc
       by (Some q) at judged = slice_get_within table pid q at
 
-  pub fresh-is : (q : Page) → q ≡ get_or table pid q → IsFresh fault table pid old q
-  fresh-is q read =
-      let at : slice_get table pid ≡ Some q = slice_get_read table (length table) pid q refl fresh-within read in
+  pub fresh-is : (q : Page) → slice_get table pid ≡ Some q → IsFresh fault table pid old q
+  fresh-is q at =
       let found : IsJudged (Some q) pid old Fresh = subst (λ (o : Option Page). IsJudged o pid old Fresh) at fresh.2 in
       record { clear = fresh.0; behind = fresh.1; at = at; full = found.0; stamp = found.1 }
 
 -- what was read there is that page
-pub fresh-at : (fault : Bool) (pages table : List Page) (pid : ℕ) (old : Token) (judgement : Judgement) (q : Page) → pages ≡ table → judgement ≡ Fresh → Judges fault pages pid old (Ok judgement) → q ≡ get_or table pid q
-    → IsFresh fault table pid old q
-fresh-at fault pages table pid old judgement q same is judges read = fresh-is fault table pid old (judged-by fault pages table pid old judgement Fresh same is judges) q read
+pub fresh-at : (fault : Bool) (table : List Page) (pid : ℕ) (old : Token) (judgement : Judgement) (q : Page) → judgement ≡ Fresh → Judges fault table pid old (Ok judgement) → slice_get table pid ≡ Some q → IsFresh fault table pid old q
+fresh-at fault table pid old judgement q is judges at = fresh-is fault table pid old (judged-by fault table pid old judgement Fresh is judges) q at
 
 -- ---- what is known over any log
 

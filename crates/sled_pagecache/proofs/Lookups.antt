@@ -1,5 +1,5 @@
 -- What the table and the state of a cache hold at an id.
-use Rattle.sled_pagecache.proofs.Names.{◌≡◌, ◌≤◌, ℕ, zero, suc, ◌==◌, ◌||◌, false, List, [], ◌∷◌, map, Some, slice_get, slice_set, slice_index_or, refl, sym, ◌∙◌, ap, subst, arith, false≢true, or_parts, eqb-false, set-get_or, option_map, slice_get-map, get_or-map, none-some, get_or_from_slice_get, AllByRecursion, AllZip, is_empty, Content, Chain, Told, told, effect_of_entry, Holds, Hold, IsKept, IsUsers, is_reserved, meta_pid, counter_pid, batch_manifest_pid}
+use Rattle.sled_pagecache.proofs.Names.{◌≡◌, ◌≤◌, ℕ, zero, suc, ◌==◌, ◌||◌, false, List, [], ◌∷◌, length, map, None, Some, slice_get, slice_set, slice_index_or, refl, sym, ◌∙◌, ap, subst, arith, false≢true, or_parts, eqb-false, set-get_or, option_map, slice_get-map, get_or-map, none-some, get_or_from_slice_get, AllByRecursion, AllZip, is_empty, Content, Chain, Told, told, effect_of_entry, Holds, Hold, IsKept, IsUsers, is_reserved, meta_pid, counter_pid, batch_manifest_pid}
 use Rattle.sled_pagecache.proofs.ByIds.{all-by-id, at-id, past-two, zip-second}
 use Rattle.sled_pagecache.specs.Proper.{AreOwn, AreRoots, IsCounter, IsOwnAt}
 use Rattle.sled_pagecache.specs.State.{Page}
@@ -15,6 +15,11 @@ pub set-at : {A : Type 0} (xs : List A) (i : ℕ) (x y : A) → slice_get xs i �
 set-at [] i x y at = absurd (none-some x at)
 set-at (z ∷ xs) zero x y at = refl
 set-at (z ∷ xs) (suc i) x y at = set-at xs i x y at
+
+pub past-end : {A : Type 0} (xs : List A) (i : ℕ) → slice_get xs i ≡ None → length xs ≤ i
+past-end [] i none = omega arith
+past-end (x ∷ xs) zero none = absurd cc
+past-end (x ∷ xs) (suc i) none = omega (arith, past-end xs i none)
 
 -- what is put back leaves the list
 pub put-back : {A : Type 0} (xs : List A) (i : ℕ) (x : A) → slice_get xs i ≡ Some x → slice_set xs i x ≡ xs

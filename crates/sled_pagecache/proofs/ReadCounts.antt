@@ -29,6 +29,10 @@ own-some zero some = absurd (omega (arith, some))
 own-some (suc zero) some = omega arith
 own-some (suc (suc n)) some = omega arith
 
+pub own-one : (n : ℕ) → 0 < n → n < 2 → 1 ≡ own_among n
+own-one (suc zero) some few = refl
+own-one n some few = absurd (omega (arith, some, few))
+
 pub own-two : (n : ℕ) → 1 < n → 2 ≡ own_among n
 own-two (suc (suc n)) more = refl
 own-two n more = absurd (omega (arith, more))

@@ -1,5 +1,6 @@
 -- Pages as they are recovered are kept as their chains say, and the first of them that no cache leaves so.
-use Rattle.sled_pagecache.proofs.Names.{◌≡◌, ◌+◌, ◌<◌, ◌≤◌, ℕ, ℤ, true, false, List, [], ◌∷◌, ◌++◌, length, map, take, drop, get_or, Option, Some, refl, sym, ◌∙◌, ap, subst, inl, inr, arith, false≢true, length-map, take_more, slice_get_read, slice_get_cases, zip-append, AllZip, AllByRecursion, IfSome, DiskPtr, PageState, Chain, IsPageState, said_of, freed_of, place_of, IsLoaded, IsUnread, HoldsChain, IsKept, is_free, freed_at, info_at, kept_by, IsRecovered, is_misfit, AllFit, BeginsMisfit, CacheInfo, Kept, Page}
+use Rattle.sled_pagecache.proofs.Names.{◌≡◌, ◌+◌, ◌<◌, ◌≤◌, ℕ, ℤ, true, false, List, [], ◌∷◌, ◌++◌, length, map, take, drop, get_or, Option, Some, refl, sym, ◌∙◌, ap, subst, inl, inr, arith, false≢true, length-map, take_more, slice_get_cases, zip-append, AllZip, AllByRecursion, IfSome, DiskPtr, PageState, Chain, IsPageState, said_of, freed_of, place_of, IsLoaded, IsUnread, HoldsChain, IsKept, is_free, freed_at, info_at, kept_by, IsRecovered, is_misfit, AllFit, BeginsMisfit, CacheInfo, Kept, Page, Bool, drop_more, free_ids, append_assoc, slice_get_within, get_or_from_slice_get}
+use Rattle.std.specs.Bool.{if◌then◌else◌}
 use Rattle.std.specs.List.{slice_get}
 use Rattle.sled_base.specs.declared.types.page_state.PageState.TheVariants as said
 
@@ -63,10 +64,6 @@ recovered-more states i state pages page lt is all one =
 -- ---- the first page that no cache leaves so
 
 module _ (pages : List Page) where
-  pub fits-here : (k : ℕ) (page : Page) → k < length pages → page ≡ get_or pages k page → is_misfit k page ≡ false → IfSome (slice_get pages k) (λ (page : Page). is_misfit k page ≡ false)
-  fits-here k page lt is fits =
-      subst (λ (o : Option Page). IfSome o (λ (page : Page). is_misfit k page ≡ false)) (sym (slice_get_read pages (length pages) k page refl lt is)) fits
-
   pub all-fit : (n : ℕ) → length pages ≤ n → ((k : ℕ) → k < n → IfSome (slice_get pages k) (λ (page : Page). is_misfit k page ≡ false)) → AllFit pages
   all-fit n le fit k =
       elim (slice_get_cases pages k).1 [
@@ -79,16 +76,36 @@ first-place [] info lt is = absurd (omega arith)
 first-place (x ∷ infos) info lt is = sym (ap (λ (info : CacheInfo). Some info.pointer) is)
 
 pub begins-misfit : (pages : List Page) (k : ℕ) (page : Page) (info : CacheInfo)
-    → k < length pages → page ≡ get_or pages k page → is_misfit k page ≡ true → 0 < length page.infos.items → info ≡ get_or page.infos.items 0 info
+    → slice_get pages k ≡ Some page → is_misfit k page ≡ true → 0 < length page.infos.items → info ≡ get_or page.infos.items 0 info
     → ((before : ℕ) → before < k → IfSome (slice_get pages before) (λ (page : Page). is_misfit before page ≡ false)) → BeginsMisfit pages info.pointer
-begins-misfit pages k page info lt is misfit some first before = record {
+begins-misfit pages k page info at misfit some first before = record {
   pid = k;
   page = page;
-  is = slice_get_read pages (length pages) k page refl lt is;
+  is = at;
   misfit = misfit;
   first = before;
   begins = first-place page.infos.items info some first;
 }
+
+-- ---- the ids of the free pages
+
+drop-at : (pages : List Page) (pid : ℕ) (page : Page) → slice_get pages pid ≡ Some page → drop pid pages ≡ page ∷ drop (pid + 1) pages
+drop-at pages pid page at = drop_more pages pid page (slice_get_within pages pid page at) ∙ ap (λ (p : Page). p ∷ drop (pid + 1) pages) (get_or_from_slice_get pages pid page page at)
+
+module _ (pages : List Page) (ids now : List ℕ) (pid : ℕ) (so_far : ids ++ free_ids pid (drop pid pages) ≡ free_ids 0 pages) where
+  abbrev rest : List ℕ
+  rest = free_ids (pid + 1) (drop (pid + 1) pages)
+
+  -- those so far, with the page at this id
+  pub free-taken : (page : Page) → slice_get pages pid ≡ Some page → is_free page.kept ≡ true → now ≡ ids ++ pid ∷ [] → now ++ rest ≡ free_ids 0 pages
+  free-taken page at free is =
+      let step = ap (free_ids pid) (drop-at pages pid page at) ∙ ap (λ (b : Bool). if b then pid ∷ rest else rest) free in
+      ap (λ (l : List ℕ). l ++ rest) is ∙ append_assoc ids (pid ∷ []) rest ∙ ap (λ (l : List ℕ). ids ++ l) (sym step) ∙ so_far
+
+  pub free-passed : (page : Page) → slice_get pages pid ≡ Some page → is_free page.kept ≡ false → now ≡ ids → now ++ rest ≡ free_ids 0 pages
+  free-passed page at full is =
+      let step = ap (free_ids pid) (drop-at pages pid page at) ∙ ap (λ (b : Bool). if b then pid ∷ rest else rest) full in
+      ap (λ (l : List ℕ). l ++ rest) is ∙ ap (λ (l : List ℕ). ids ++ l) (sym step) ∙ so_far
 
 -- ---- a page as a log says it
 

@@ -1,6 +1,6 @@
 -- The pages that a cache is opened with.
 use Rattle.sled_pagecache.proofs.Names.{◌≡◌, ◌≤◌, ◌<◌, ◌^◌, ℕ, zero, suc, Bool, true, false, cond, List, [], ◌∷◌, ◌++◌, length, map, take, drop, set, get_or, slice_get, slice_index_or, Option, None, Some, is_some, Result, Ok, refl, sym, ◌∙◌, ap, subst, arith, eq-eqb, drop-nil, take-nil, take-append_seam, false≢true, nat_tests, length-append, length-map, append-nil, AllZip-long, slice_get-get_or, slice_get_past, slice_get_within, none-some, same_Some, AllByRecursion, AllZip, IfSome, DiskPtr, Refusal, Io, Corruption, OutOfMemory, is_open, open_after, is_chain, is_empty, changed, Content, Put, Event, Change, Message, Entry, Chain, Told, told, placed, effect_of, effect_of_entry, holds-made, IsSized, Makes, Holds, Hold, IsLeft, now, told_state, message_of, zip-append, Ghosts, place_of, roots_told, IsLoaded, IsUnread, AreRecovered, AreRead, AreFound, IsFoundAt, IsOwnAt, IfSome_then, IsTable, IsOpenedWith, RefusesOwn, RefusesPages, next_id, counter_told, told_of_roots, told_at_start, stamps_at_start, first_id, HoldsChain, IsKept, is_resident, freed_at, free_ids, Proceeds, refusal_in, is_misfit, AllFit, BeginsMisfit, IsFit, Wrote, IsRoots, IsCounter, IsFreeOrNode, AreOwn, IsConsistent, stamps_in, resident_in, CacheInfo, Config, Journal, Kept, Page}
-use Rattle.std.proofs.lemmas.List.{get_or-set_other}
+use Rattle.std.proofs.lemmas.Option.{get_or_from_slice_get}
 use Rattle.sled_base.specs.declared.kinds.LogKind.TheVariants as effects
 use Rattle.sled_log.specs.Chains.{begun as begin_page}
 use Rattle.sled_log.specs.Contents as contents
@@ -80,12 +80,21 @@ unread-node kept.Free unread = tt
 unread-node kept.Away unread = tt
 unread-node held unread = absurd unread
 
+-- a page that was recovered
+pub loaded-at : {tells : Type 0} (pid : ℕ) (held then : List Chain) (pages : List Page) (page : Page) → AreRecovered tells held pages → tells → then ≡ held → slice_get pages pid ≡ Some page → IsLoaded (slice_index_or then pid []) page
+loaded-at pid held then pages page are known same at =
+    subst (λ (l : List Chain). IsLoaded (slice_index_or l pid []) page) (sym same)
+    (subst (IsLoaded (slice_index_or held pid [])) (get_or_from_slice_get pages pid page page at) (zip-at IsLoaded pid held pages [] page (are.kept known) (slice_get_within pages pid page at)))
+
 -- the second page, where the first was read
-pub second-loaded : {tells : Type 0} (held then : List Chain) (pages : List Page) (other page : Page) → AreRecovered tells held pages → tells → then ≡ held → 1 < length pages → page ≡ get_or (set pages 0 other) 1 page
-    → IsLoaded (slice_index_or then 1 []) page
-second-loaded held then pages other page are known same long is =
-    let at = is ∙ get_or-set_other pages 0 1 other page (λ e. absurd (omega (arith, e))) in
-    subst (λ (l : List Chain). IsLoaded (slice_index_or l 1 []) page) (sym same) (subst (IsLoaded (slice_index_or held 1 [])) (sym at) (zip-at IsLoaded 1 held pages [] page (are.kept known) long))
+pub second-found : (pages : List Page) (other page : Page) → slice_get (set pages 0 other) 1 ≡ Some page → slice_get pages 1 ≡ Some page
+second-found [] other page at = absurd cc
+second-found (x ∷ pages) other page at = at
+
+pub second-none : (pages : List Page) (other : Page) → slice_get (set pages 0 other) 1 ≡ None → length pages < 2
+second-none [] other none = omega arith
+second-none (x ∷ []) other none = omega arith
+second-none (x ∷ y ∷ pages) other none = absurd cc
 
 module _ {tells : Type 0} (held : List Chain) (roots : meta.Roots) (n : ℕ) (makes : tells → Makes (told (slice_index_or held 0 [])) (contents.Roots roots)) where
   pub read-both : (then : List Chain) (pages : List Page) (p q first second : Page) → (tells → then ≡ held) → AreRecovered tells held pages → 1 < length pages
@@ -115,6 +124,28 @@ module _ {tells : Type 0} (held : List Chain) (roots : meta.Roots) (n : ℕ) (ma
           )
       by held makes same loaded counts = absurd (assumption loaded)
   read-both then pages p q first second same are long p-is p-stamp p-infos p-kept q-is q-stamp q-infos q-kept counts = absurd (omega (arith, long))
+
+-- the first alone, where there is no other
+pub read-first : {tells : Type 0} (held : List Chain) (roots : meta.Roots) (pages : List Page) (p first : Page) → (tells → Makes (told (slice_index_or held 0 [])) (contents.Roots roots)) → AreRecovered tells held pages → length pages < 2
+    → slice_get pages 0 ≡ Some p → first.stamp ≡ p.stamp → first.infos.items ≡ p.infos.items → first.kept ≡ kept.Roots roots → AreRead tells held (set pages 0 first) None
+read-first held roots [] p first makes are few at p-stamp p-infos p-kept = absurd cc
+read-first held roots (x ∷ []) p first makes are few at p-stamp p-infos p-kept = record {
+  kept = λ known. by held (makes known) (are.kept known);
+  hold = (found, λ few. refl);
+  few = are.few;
+  chains_are = are.chains_are;
+  sized = are.sized;
+}
+  where
+    found : (k : ℕ) → IfSome (slice_get (first ∷ []) k) (λ page. IsFoundAt None k page.kept)
+    found zero = subst IsRoots (sym p-kept) tt
+    found (suc k) = tt
+
+    by : (held : List Chain) → Makes (told (slice_index_or held 0 [])) (contents.Roots roots) → AllZip IsLoaded held (x ∷ []) → AllZip IsLoaded held (first ∷ [])
+    by (c ∷ rest) makes loaded =
+        (loaded-with c p first (contents.Roots roots) (subst (IsLoaded c) (same_Some x p at) loaded.0) tt makes p-stamp p-infos (subst (HoldsChain c) (sym p-kept) makes), loaded.1)
+    by held makes loaded = absurd (assumption loaded)
+read-first held roots (x ∷ y ∷ pages) p first makes are few at p-stamp p-infos p-kept = absurd (omega (arith, few))
 
 -- ---- why they weren't read
 

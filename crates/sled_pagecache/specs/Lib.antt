@@ -30,6 +30,8 @@ pub mod Starting
 pub mod Judging
 pub mod Swaps
 pub mod Adding
+pub mod PageTables
+pub mod TableLoans
 pub mod Table
 pub mod PagesIn
 pub mod Damage

@@ -22,3 +22,10 @@ pid_bits = 37
 
 abbrev pub most_pages : ℕ
 most_pages = 2 ^ pid_bits
+
+-- a chunk of the table of pages keeps at most 2 to this power pages
+abbrev pub chunk_bits : ℕ
+chunk_bits = 18
+
+abbrev pub chunk_length : ℕ
+chunk_length = 2 ^ chunk_bits

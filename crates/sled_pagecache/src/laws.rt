@@ -7,7 +7,7 @@ ghost use Rattle.sled_log.specs.Messages.{Told};
 ghost use Rattle.sled_log.specs.State.{IsBeginning};
 ghost use Rattle.sled_pagecache.specs.Cache.{Cache, IsIn};
 ghost use Rattle.sled_pagecache.specs.Calls.{StepOver, Steps};
-ghost use Rattle.sled_pagecache.specs.Limits.{meta_pid, counter_pid, batch_manifest_pid, most_messages, pid_bits};
+ghost use Rattle.sled_pagecache.specs.Limits.{meta_pid, counter_pid, batch_manifest_pid, most_messages, pid_bits, chunk_bits, chunk_length};
 ghost use Rattle.sled_pagecache.specs.Logged.{Logged, IsLogged, IsLeft, now};
 ghost use Rattle.sled_pagecache.specs.Opening.{changes_of_start};
 ghost use Rattle.sled_pagecache.specs.Reopening.{CrashReopens};
@@ -21,7 +21,8 @@ ghost use Rattle.sled_pagecache.specs.declared.pagecache.config.Config.{Config};
 ghost use Rattle.sled_base.specs.declared.types.Error.{Error};
 
 use crate::pagecache::{
-    BATCH_MANIFEST_PID, COUNTER_PID, MAX_PID_BITS, META_PID, PAGE_CONSOLIDATION_THRESHOLD,
+    BATCH_MANIFEST_PID, CHUNK_BITS, CHUNK_LENGTH, COUNTER_PID, MAX_PID_BITS, META_PID,
+    PAGE_CONSOLIDATION_THRESHOLD,
 };
 use sled_log::Log;
 
@@ -32,6 +33,8 @@ pub fn constants_are_the_numbers()
     ensures batch { BATCH_MANIFEST_PID ≡ batch_manifest_pid }
     ensures messages { PAGE_CONSOLIDATION_THRESHOLD ≡ most_messages }
     ensures bits { MAX_PID_BITS ≡ pid_bits }
+    ensures chunk { CHUNK_BITS ≡ chunk_bits }
+    ensures length { CHUNK_LENGTH ≡ chunk_length }
 {}
 
 /// A log that was told nothing holds no page.

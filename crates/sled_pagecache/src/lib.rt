@@ -5,7 +5,9 @@ pub mod laws;
 pub mod pagecache;
 pub mod rows;
 
-pub use pagecache::{Answer, CacheInfo, Call, Config, NodeView, Page, PageCache, PageView};
+pub use pagecache::{
+    Answer, CacheInfo, Call, Config, NodeView, Page, PageCache, PageTable, PageView, split_fanout,
+};
 pub use sled_base::{
     self, BatchManifest, Bug, ConsumeSequence, Device, DiskPtr, Error, IVec, LogKind, MessageKind,
     PageId, PageState, Refusal, Serialize, Why,

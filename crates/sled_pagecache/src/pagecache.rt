@@ -11,6 +11,7 @@ mod judge;
 mod own;
 mod page;
 mod pages;
+mod pagetable;
 mod pull;
 mod reading;
 mod recovered;
@@ -24,6 +25,8 @@ pub use call::{Answer, Call};
 pub use chain::CacheInfo;
 pub use config::Config;
 pub use page::Page;
+pub use pagetable::{PageTable, split_fanout};
+pub(crate) use pagetable::{CHUNK_BITS, CHUNK_LENGTH};
 use sled_base::PageId;
 pub use view::{NodeView, PageView};
 

@@ -20,6 +20,7 @@ use super::MAX_PAGES;
 use super::accesses::{Accesses, size_with};
 use super::journal::Journal;
 use super::page::{Kept, Page};
+use super::pagetable::PageTable;
 use super::write::write_node;
 use sled_base::{PageId, Refusal, Serialize, Why};
 use sled_log::Log;
@@ -31,26 +32,26 @@ pub(super) fn add_page<L: Log>(
     alloc: Global,
     journal: &mut Journal<L>,
     accesses: &mut Accesses,
-    pages: &mut Vec<Page>,
+    pages: &mut PageTable,
     node: Node,
 ) -> Result<PageId, Refusal>
     requires ready { journal.old.fault ≡ false }
     requires usable { (L.state journal.old.log).usable ≡ true }
-    requires there { L.tells → length pages.old.items ≡ length (now effect_of_entry (L.state journal.old.log)) }
-    ensures pid { IfOk result (λ pid. pid ≡ length pages.old.items) }
-    ensures page { OnOk result (HasOneMore L.tells pages.old.items pages.new.items (chain_at (L.state journal.new.log) (length pages.old.items)) node) }
-    ensures others { L.tells → OnOk result (now effect_of_entry (L.state journal.new.log) ≡ now effect_of_entry (L.state journal.old.log) ++ chain_at (L.state journal.new.log) (length pages.old.items) ∷ []) }
-    ensures room { OnOk result (length pages.old.items ≢ most_pages) }
-    ensures left { OnErr result (pages.new.items ≡ pages.old.items) }
+    requires there { L.tells → length pages.old.pages ≡ length (now effect_of_entry (L.state journal.old.log)) }
+    ensures pid { IfOk result (λ pid. pid ≡ length pages.old.pages) }
+    ensures page { OnOk result (HasOneMore L.tells pages.old.pages pages.new.pages (chain_at (L.state journal.new.log) (length pages.old.pages)) node) }
+    ensures others { L.tells → OnOk result (now effect_of_entry (L.state journal.new.log) ≡ now effect_of_entry (L.state journal.old.log) ++ chain_at (L.state journal.new.log) (length pages.old.pages) ∷ []) }
+    ensures room { OnOk result (length pages.old.pages ≢ most_pages) }
+    ensures left { OnErr result (pages.new.pages ≡ pages.old.pages) }
     ensures same { L.tells → OnErr result (journal.new.fault ≡ false → now effect_of_entry (L.state journal.new.log) ≡ now effect_of_entry (L.state journal.old.log)) }
-    ensures refused { L.tells → IfErr result (RefusesPage (length pages.old.items)) }
+    ensures refused { L.tells → IfErr result (RefusesPage (length pages.old.pages)) }
     ensures is { IsUpdate (message_of (contents.Put (contents.Node node))) (contents.Put (contents.Node node)) }
-    ensures went { Went L.tells L.state L.moment L.left_since L.counts journal.old journal.new (begun_by result (Change (length pages.old.items) (message_of (contents.Put (contents.Node node))) ∷ [])) }
+    ensures went { Went L.tells L.state L.moment L.left_since L.counts journal.old journal.new (begun_by result (Change (length pages.old.pages) (message_of (contents.Put (contents.Node node))) ∷ [])) }
     ensures cause { IsCaused L.tells L.state L.moment L.left_since L.counts journal.old journal.new (L.is_full journal.old.log (length (message_of (contents.Put (contents.Node node))).payload)) result }
     ensures reads { (L.counts journal.new.log).reads ≡ (L.counts journal.old.log).reads }
     ensures sized { L.tells → OnOk result (AllByRecursion IsSized (now effect_of_entry (L.state journal.new.log))) }
-    ensures accessed { OnOk result (IfSome (slice_get pages.new.items (length pages.old.items)) (λ page. WasAccessed accesses.old (length pages.old.items) (size_of page) accesses.new)) }
-    ensures touched { OnErr result (IsTouched accesses.old (length pages.old.items) accesses.new) }
+    ensures accessed { OnOk result (IfSome (slice_get pages.new.pages (length pages.old.pages)) (λ page. WasAccessed accesses.old (length pages.old.pages) (size_of page) accesses.new)) }
+    ensures touched { OnErr result (IsTouched accesses.old (length pages.old.pages) accesses.new) }
     ensures unasked { L.tells → IfErr result (λ refusal. IsOfLog refusal ⊎ (accesses.new ≡ accesses.old)) }
 {
     // Every node is well-formed.
@@ -59,7 +60,7 @@ pub(super) fn add_page<L: Log>(
         return Err(Refusal::Unsupported(Why::PagesUsedUp));
     }
     let pid = pages.len() as PageId;
-    let Ok(()) = pages.reserve(1) else {
+    let Ok(()) = pages.reserve() else {
         return Err(Refusal::OutOfMemory);
     };
     let Ok(mut infos) = Vec::with_capacity(alloc, 1) else {

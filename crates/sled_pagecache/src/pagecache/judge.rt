@@ -4,7 +4,7 @@ ghost use Rattle.std.specs.Prelude.{◌≡◌};
 ghost use Rattle.sled_pagecache.specs.Judging.{Judges};
 ghost use Rattle.sled_pagecache.specs.Step.{is_reserved};
 
-use super::page::Page;
+use super::pagetable::PageTable;
 use super::view::PageView;
 use super::{BATCH_MANIFEST_PID, COUNTER_PID, META_PID};
 use sled_base::{Device, PageId, Refusal, Why};
@@ -23,11 +23,11 @@ pub(super) enum Judgement {
 // is gone, stale or fresh.
 pub(super) fn judge(
     fault: bool,
-    pages: &[Page],
+    pages: &PageTable,
     pid: PageId,
     old: PageView,
 ) -> Result<Judgement, Refusal>
-    ensures { Judges fault pages.now pid old result }
+    ensures { Judges fault pages.now.pages pid old result }
 {
     if fault {
         return Err(Refusal::Io(Device::Write));
@@ -35,7 +35,7 @@ pub(super) fn judge(
     if is_reserved(pid) {
         return Err(Refusal::Unsupported(Why::ReservedId));
     }
-    let Some(page) = pages.get(pid as usize) else {
+    let Some(page) = pages.get(pid) else {
         return Ok(Judgement::Gone);
     };
     if page.is_free() {

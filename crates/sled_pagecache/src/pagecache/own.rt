@@ -18,6 +18,7 @@ ghost use Rattle.sled_pagecache.specs.Table.{stamps_in};
 use super::chain::read_chain;
 use super::journal::Journal;
 use super::page::{Kept, Page};
+use super::pagetable::PageTable;
 use super::reading::{Found, whole};
 use super::recovered::is_misfit;
 use super::write::{write_counter, write_roots};
@@ -122,24 +123,24 @@ fn counter_of(found: &Found, alloc: Global) -> Result<u64, Refusal>
 pub(super) fn add_roots<L: Log>(
     alloc: Global,
     journal: &mut Journal<L>,
-    pages: &mut Vec<Page>,
+    pages: &mut PageTable,
 ) -> Result<(), Refusal>
     requires ready { journal.old.fault ≡ false }
     requires usable { (L.state journal.old.log).usable ≡ true }
-    requires table { IsTable L.tells (now effect_of_entry (L.state journal.old.log)) pages.old.items }
-    requires some { length pages.old.items < 2 }
-    requires fresh { L.tells → stamps_in pages.old.items ≡ map (λ _. 0) pages.old.items }
-    ensures proceeds { Proceeds L.Log journal.old journal.new (told_of_roots pages.old.items) (refusal_in result) }
+    requires table { IsTable L.tells (now effect_of_entry (L.state journal.old.log)) pages.old.pages }
+    requires some { length pages.old.pages < 2 }
+    requires fresh { L.tells → stamps_in pages.old.pages ≡ map (λ _. 0) pages.old.pages }
+    ensures proceeds { Proceeds L.Log journal.old journal.new (told_of_roots pages.old.pages) (refusal_in result) }
     ensures of_log { L.tells → IfErr result IsOfLog }
-    ensures table { OnOk result (IsTable L.tells (now effect_of_entry (L.state journal.new.log)) pages.new.items) }
-    ensures one { OnOk result (length pages.new.items ≡ 1) }
-    ensures stamps { L.tells → OnOk result (stamps_in pages.new.items ++ 1 ∷ [] ≡ stamps_at_start pages.old.items) }
+    ensures table { OnOk result (IsTable L.tells (now effect_of_entry (L.state journal.new.log)) pages.new.pages) }
+    ensures one { OnOk result (length pages.new.pages ≡ 1) }
+    ensures stamps { L.tells → OnOk result (stamps_in pages.new.pages ++ 1 ∷ [] ≡ stamps_at_start pages.old.pages) }
     ensures unread { (L.counts journal.new.log).reads ≡ (L.counts journal.old.log).reads }
 {
-    if !pages.is_empty() {
+    if pages.len() > 0 {
         return Ok(());
     }
-    let (Ok(()), Ok(mut infos)) = (pages.reserve(1), Vec::with_capacity(alloc, 1)) else {
+    let (Ok(()), Ok(mut infos)) = (pages.reserve(), Vec::with_capacity(alloc, 1)) else {
         return Err(Refusal::OutOfMemory);
     };
     let roots = Meta::default(alloc);
@@ -157,20 +158,20 @@ pub(super) fn add_roots<L: Log>(
 pub(super) fn add_counter<L: Log>(
     alloc: Global,
     journal: &mut Journal<L>,
-    pages: &mut Vec<Page>,
+    pages: &mut PageTable,
 ) -> Result<(), Refusal>
     requires ready { journal.old.fault ≡ false }
     requires usable { (L.state journal.old.log).usable ≡ true }
-    requires table { IsTable L.tells (now effect_of_entry (L.state journal.old.log)) pages.old.items }
-    requires one { length pages.old.items ≡ 1 }
+    requires table { IsTable L.tells (now effect_of_entry (L.state journal.old.log)) pages.old.pages }
+    requires one { length pages.old.pages ≡ 1 }
     ensures proceeds { Proceeds L.Log journal.old journal.new (counter_told ∷ []) (refusal_in result) }
     ensures of_log { L.tells → IfErr result IsOfLog }
-    ensures table { OnOk result (IsTable L.tells (now effect_of_entry (L.state journal.new.log)) pages.new.items) }
-    ensures stamps { OnOk result (stamps_in pages.new.items ≡ stamps_in pages.old.items ++ 1 ∷ []) }
+    ensures table { OnOk result (IsTable L.tells (now effect_of_entry (L.state journal.new.log)) pages.new.pages) }
+    ensures stamps { OnOk result (stamps_in pages.new.pages ≡ stamps_in pages.old.pages ++ 1 ∷ []) }
     ensures unread { (L.counts journal.new.log).reads ≡ (L.counts journal.old.log).reads }
-    ensures two { OnOk result (length pages.new.items ≡ 2) }
+    ensures two { OnOk result (length pages.new.pages ≡ 2) }
 {
-    let (Ok(()), Ok(mut infos)) = (pages.reserve(1), Vec::with_capacity(alloc, 1)) else {
+    let (Ok(()), Ok(mut infos)) = (pages.reserve(), Vec::with_capacity(alloc, 1)) else {
         return Err(Refusal::OutOfMemory);
     };
     let info = write_counter(alloc, journal, COUNTER_PID, 0, 1)?;

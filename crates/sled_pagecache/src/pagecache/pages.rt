@@ -33,7 +33,8 @@ use super::add::add_page;
 use super::config::Config;
 use super::journal::Journal;
 use super::judge::{Judgement, is_reserved, judge};
-use super::page::{Kept, Page};
+use super::page::Kept;
+use super::pagetable::PageTable;
 use super::pull::{pull_and_access, pull_and_link};
 use super::start::{fault_of, open};
 use super::swap::replace_page;
@@ -51,7 +52,7 @@ use std::marker::Model;
 pub(super) struct Pages<L: Log> {
     alloc: Global,
     config: Config,
-    pages: Vec<Page>,
+    pages: PageTable,
     // the ids of the free pages, the least first
     free: Vec<PageId>,
     next: u128,
@@ -66,9 +67,9 @@ impl<L: Log> Model for Pages<L> {
 
     ghost use Rattle.sled_pagecache.specs.Table.{stamps_in, resident_in, nodes_in, IsConsistent};
 
-    ghost view = { λ c. record { stamps = stamps_in c.pages.items; resident = resident_in c.pages.items; nodes = nodes_in c.pages.items; next = c.next; fault = c.journal.fault; config = c.config; recovered = c.recovered; lru = unlisted; log = c.journal.log } };
+    ghost view = { λ c. record { stamps = stamps_in c.pages.pages; resident = resident_in c.pages.pages; nodes = nodes_in c.pages.pages; next = c.next; fault = c.journal.fault; config = c.config; recovered = c.recovered; lru = unlisted; log = c.journal.log } };
 
-    ghost invariant = { λ c. IsConsistent L.tells L.state c.journal c.pages.items c.free.items };
+    ghost invariant = { λ c. IsConsistent L.tells L.state c.journal c.pages.pages c.free.items };
 }
 
 impl<L: Log> Pages<L> {
@@ -139,7 +140,7 @@ impl<L: Log> Pages<L> {
             )?;
             return Ok((pid, PageView::new(pid, 1)));
         };
-        let page = &mut self.pages[pid as usize];
+        let page = self.pages.get_mut(pid);
         replace_page(self.alloc, &mut self.journal, accesses, pid, page, node)?;
         self.free.pop();
         Ok((pid, PageView::new(pid, page.stamp)))
@@ -174,7 +175,7 @@ impl<L: Log> Pages<L> {
             Judgement::Gone => return Ok(Err(None)),
             Judgement::Fresh => {}
         }
-        let page = &mut self.pages[pid as usize];
+        let page = self.pages.get_mut(pid);
         pull_and_link(self.alloc, &mut self.journal, accesses, pid, page, &link)?;
         let linked = PageView::new(pid, page.stamp);
         Ok(Ok(linked))
@@ -205,7 +206,7 @@ impl<L: Log> Pages<L> {
             Judgement::Gone => return Ok(Err(None)),
             Judgement::Fresh => {}
         }
-        let page = &mut self.pages[pid as usize];
+        let page = self.pages.get_mut(pid);
         replace_page(self.alloc, &mut self.journal, accesses, pid, page, node)?;
         Ok(Ok(PageView::new(pid, page.stamp)))
     }
@@ -265,7 +266,7 @@ impl<L: Log> Pages<L> {
         if pid >= count {
             return Ok(());
         }
-        let page = &mut self.pages[pid as usize];
+        let page = self.pages.get_mut(pid);
         pull_and_access(self.alloc, &mut self.journal, accesses, pid, page)
     }
 
@@ -274,7 +275,7 @@ impl<L: Log> Pages<L> {
         ensures is { IsNodeAt L.Log self.now pid result }
         ensures node { MatchOption result (HasNoNode self.now pid) (λ _. (size : ℕ) × HasNode self.now pid size) }
     {
-        let page = self.pages.get(pid as usize)?;
+        let page = self.pages.get(pid)?;
         let Kept::Node(node) = &page.kept else {
             return None;
         };
@@ -302,7 +303,7 @@ impl<L: Log> Pages<L> {
         ensures { PagesOut (λ other. other ≡ pid) self.old self.new }
     {
         if pid < self.pages.len() as PageId {
-            self.pages[pid as usize].page_out();
+            self.pages.get_mut(pid).page_out();
         }
     }
 }

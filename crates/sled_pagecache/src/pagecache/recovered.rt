@@ -1,15 +1,17 @@
 //! The pages that a log recovers.
 
-ghost use Rattle.std.specs.Prelude.{◌≡◌, ◌∷◌, List, IfOk, MatchOption, map};
+ghost use Rattle.std.specs.Prelude.{◌≡◌, ◌≤◌, ◌∷◌, List, IfOk, MatchOption, length, map};
 ghost use Rattle.std.specs.List.{AllByRecursion, AllZip};
 ghost use Rattle.sled_log.specs.Messages.{Chain};
 ghost use Rattle.sled_log.specs.Pages.{IsPageState};
+ghost use Rattle.sled_pagecache.specs.Limits.{most_pages};
 ghost use Rattle.sled_pagecache.specs.Loading.{IsLoaded, IsUnread};
 ghost use Rattle.sled_pagecache.specs.Pages.{free_ids};
 ghost use Rattle.sled_pagecache.specs.Recovered.{IsRecovered, info_at, is_misfit, AllFit, BeginsMisfit};
 
 use super::chain::CacheInfo;
 use super::page::{Kept, Page};
+use super::pagetable::PageTable;
 use super::{COUNTER_PID, PAGE_CONSOLIDATION_THRESHOLD};
 use sled_base::{DiskPtr, Lsn, PageId, PageState};
 use std::alloc::{AllocError, Global};
@@ -18,14 +20,18 @@ use std::alloc::{AllocError, Global};
 const MAX_MSG_HEADER_LEN: u64 = 17;
 
 // The pages of a table, of which no content lies in memory, and each is at stamp 0.
-pub(super) fn pages_of(alloc: Global, states: &[PageState]) -> Result<Vec<Page>, AllocError>
-    ensures recovered { IfOk result (λ pages. AllZip IsRecovered states.now pages.items) }
-    ensures loaded { IfOk result (λ pages. (chains : List Chain) → AllZip IsPageState chains states.now → AllZip IsLoaded chains pages.items) }
-    ensures unread { IfOk result (λ pages. AllByRecursion (λ page. IsUnread page.kept) pages.items) }
+pub(super) fn pages_of(alloc: Global, states: &[PageState]) -> Result<PageTable, AllocError>
+    requires { length states.now ≤ most_pages }
+    ensures recovered { IfOk result (λ pages. AllZip IsRecovered states.now pages.pages) }
+    ensures loaded { IfOk result (λ pages. (chains : List Chain) → AllZip IsPageState chains states.now → AllZip IsLoaded chains pages.pages) }
+    ensures unread { IfOk result (λ pages. AllByRecursion (λ page. IsUnread page.kept) pages.pages) }
 {
-    let mut pages = Vec::with_capacity(alloc, states.len())?;
-    for state in states {
-        pages.push_reserved(page_of(alloc, state)?);
+    let mut pages = PageTable::default(alloc);
+    for (pid, state) in states.iter().enumerate() {
+        let page = page_of(alloc, state)?;
+        pages
+            .insert(pid as PageId, page)
+            .map_err(|refused| refused.1)?;
     }
     Ok(pages)
 }
@@ -82,11 +88,13 @@ fn info_at(place: (Lsn, DiskPtr, u64)) -> CacheInfo
 }
 
 // The pointer of the first message of the first page, by id, that no cache leaves so, if there is one.
-pub(super) fn misfit(pages: &[Page]) -> Option<DiskPtr>
-    ensures { MatchOption result (AllFit pages.now) (BeginsMisfit pages.now) }
+pub(super) fn misfit(pages: &PageTable) -> Option<DiskPtr>
+    ensures { MatchOption result (AllFit pages.now.pages) (BeginsMisfit pages.now.pages) }
 {
-    for (pid, page) in pages.iter().enumerate() {
-        if is_misfit(pid, page) {
+    for pid in 0..pages.len() {
+        if let Some(page) = pages.get(pid as PageId)
+            && is_misfit(pid, page)
+        {
             return Some(page.infos[0].pointer);
         }
     }
@@ -103,13 +111,15 @@ pub(super) fn is_misfit(pid: usize, page: &Page) -> bool
 }
 
 // The ids of the free pages, the least first.
-pub(super) fn free_of(alloc: Global, pages: &[Page]) -> Result<Vec<PageId>, AllocError>
-    ensures { IfOk result (λ ids. ids.items ≡ free_ids 0 pages.now) }
+pub(super) fn free_of(alloc: Global, pages: &PageTable) -> Result<Vec<PageId>, AllocError>
+    ensures { IfOk result (λ ids. ids.items ≡ free_ids 0 pages.now.pages) }
 {
     let mut ids = Vec::new(alloc);
-    for (pid, page) in pages.iter().enumerate() {
-        if page.is_free() {
-            ids.push(pid as PageId)?;
+    for pid in 0..pages.len() as PageId {
+        if let Some(page) = pages.get(pid)
+            && page.is_free()
+        {
+            ids.push(pid)?;
         }
     }
     Ok(ids)

@@ -17,12 +17,13 @@ ghost use Rattle.sled_pagecache.specs.Recovered.{AllFit};
 ghost use Rattle.sled_pagecache.specs.Starts.{RefusesOpening};
 ghost use Rattle.sled_pagecache.specs.Table.{IsConsistent, stamps_in};
 
-use super::MAX_PAGES;
 use super::config::Config;
 use super::journal::Journal;
 use super::own::{add_counter, add_roots, read_counter, read_roots};
-use super::page::{Kept, Page};
+use super::page::Kept;
+use super::pagetable::PageTable;
 use super::recovered::{free_of, misfit, pages_of};
+use super::{COUNTER_PID, MAX_PAGES, META_PID};
 use sled_base::{PageId, Refusal, Why};
 use sled_log::Log;
 use std::alloc::Global;
@@ -31,7 +32,7 @@ use std::alloc::Global;
 /// found in the log.
 #[derive(Drop)]
 pub(super) struct Opening {
-    pub(super) pages: Vec<Page>,
+    pub(super) pages: PageTable,
     pub(super) free: Vec<PageId>,
     pub(super) next: u128,
     pub(super) recovered: bool,
@@ -64,10 +65,10 @@ pub(super) fn open<L: Log>(
     requires closed { is_open (L.state journal.old.log).pending ≡ false }
     ensures proceeds { Starts L.Log journal.old journal.new (refusal_in result) }
     ensures refused { L.tells → IfErr result (λ refusal. RefusesOpening config (now effect_of_entry (L.state journal.old.log)) (error_of refusal)) }
-    ensures consistent { IfOk result (λ opening. IsConsistent L.tells L.state journal.new opening.pages.items opening.free.items) }
-    ensures opened { L.tells → IfOk result (λ opening. (held : List Content) → Hold (map told (now effect_of_entry (L.state journal.old.log))) held → IsOpenedWith config held (stamps_in opening.pages.items) opening.next opening.recovered) }
+    ensures consistent { IfOk result (λ opening. IsConsistent L.tells L.state journal.new opening.pages.pages opening.free.items) }
+    ensures opened { L.tells → IfOk result (λ opening. (held : List Content) → Hold (map told (now effect_of_entry (L.state journal.old.log))) held → IsOpenedWith config held (stamps_in opening.pages.pages) opening.next opening.recovered) }
     ensures stable { L.tells → OnOk result (length (now effect_of_entry (L.state journal.old.log)) < 2 → (L.state journal.new.log).pending ≡ []) }
-    ensures unread { IfOk result (λ opening. (pid : ℕ) → 2 ≤ pid → IfSome (slice_get opening.pages.items pid) (λ page. IsUnread page.kept)) }
+    ensures unread { IfOk result (λ opening. (pid : ℕ) → 2 ≤ pid → IfSome (slice_get opening.pages.pages pid) (λ page. IsUnread page.kept)) }
     ensures reads { L.tells → HasRead L.counts journal.old.log journal.new.log (own_among (length (now effect_of_entry (L.state journal.old.log)))) result }
 {
     let (pages, counter) = load(alloc, journal)?;
@@ -78,13 +79,13 @@ pub(super) fn open<L: Log>(
 fn load<L: Log>(
     alloc: Global,
     journal: &mut Journal<L>,
-) -> Result<(Vec<Page>, Option<u64>), Refusal>
+) -> Result<(PageTable, Option<u64>), Refusal>
     requires ready { journal.old.fault ≡ false }
     requires usable { (L.state journal.old.log).usable ≡ true }
     ensures proceeds { Proceeds L.Log journal.old journal.new [] (refusal_in result) }
     ensures same { L.tells → journal.new.fault ≡ false → now effect_of_entry (L.state journal.new.log) ≡ now effect_of_entry (L.state journal.old.log) }
-    ensures read { IfOk result (λ loaded. AreRead L.tells (now effect_of_entry (L.state journal.new.log)) loaded.0.items loaded.1) }
-    ensures fit { IfOk result (λ loaded. AllFit loaded.0.items) }
+    ensures read { IfOk result (λ loaded. AreRead L.tells (now effect_of_entry (L.state journal.new.log)) loaded.0.pages loaded.1) }
+    ensures fit { IfOk result (λ loaded. AllFit loaded.0.pages) }
     ensures refused { L.tells → IfErr result (RefusesPages (now effect_of_entry (L.state journal.old.log))) }
     ensures reads { L.tells → HasRead L.counts journal.old.log journal.new.log (own_among (length (now effect_of_entry (L.state journal.old.log)))) result }
 {
@@ -101,20 +102,20 @@ fn complete<L: Log>(
     alloc: Global,
     config: Config,
     journal: &mut Journal<L>,
-    mut pages: Vec<Page>,
+    mut pages: PageTable,
     counter: Option<u64>,
 ) -> Result<Opening, Refusal>
     requires ready { journal.old.fault ≡ false }
     requires usable { (L.state journal.old.log).usable ≡ true }
     requires closed { is_open (L.state journal.old.log).pending ≡ false }
-    requires read { AreRead L.tells (now effect_of_entry (L.state journal.old.log)) pages.items counter }
-    requires fit { AllFit pages.items }
-    ensures proceeds { Proceeds L.Log journal.old journal.new (told_at_start pages.items) (refusal_in result) }
+    requires read { AreRead L.tells (now effect_of_entry (L.state journal.old.log)) pages.pages counter }
+    requires fit { AllFit pages.pages }
+    ensures proceeds { Proceeds L.Log journal.old journal.new (told_at_start pages.pages) (refusal_in result) }
     ensures of_log { L.tells → IfErr result IsOfLog }
-    ensures consistent { IfOk result (λ opening. IsConsistent L.tells L.state journal.new opening.pages.items opening.free.items) }
-    ensures opened { L.tells → IfOk result (λ opening. (held : List Content) → Hold (map told (now effect_of_entry (L.state journal.old.log))) held → IsOpenedWith config held (stamps_in opening.pages.items) opening.next opening.recovered) }
-    ensures stable { OnOk result (length pages.items < 2 → (L.state journal.new.log).pending ≡ []) }
-    ensures unread { IfOk result (λ opening. (pid : ℕ) → 2 ≤ pid → IfSome (slice_get opening.pages.items pid) (λ page. IsUnread page.kept)) }
+    ensures consistent { IfOk result (λ opening. IsConsistent L.tells L.state journal.new opening.pages.pages opening.free.items) }
+    ensures opened { L.tells → IfOk result (λ opening. (held : List Content) → Hold (map told (now effect_of_entry (L.state journal.old.log))) held → IsOpenedWith config held (stamps_in opening.pages.pages) opening.next opening.recovered) }
+    ensures stable { OnOk result (length pages.pages < 2 → (L.state journal.new.log).pending ≡ []) }
+    ensures unread { IfOk result (λ opening. (pid : ℕ) → 2 ≤ pid → IfSome (slice_get opening.pages.pages pid) (λ page. IsUnread page.kept)) }
     ensures reads { (L.counts journal.new.log).reads ≡ (L.counts journal.old.log).reads }
 {
     add_missing(alloc, journal, &mut pages)?;
@@ -140,12 +141,12 @@ fn next_id(config: Config, counter: Option<u64>) -> u128
 }
 
 // The pages that the log holds, of which none was read yet.
-fn recover_pages<L: Log>(alloc: Global, journal: &mut Journal<L>) -> Result<Vec<Page>, Refusal>
+fn recover_pages<L: Log>(alloc: Global, journal: &mut Journal<L>) -> Result<PageTable, Refusal>
     requires ready { journal.old.fault ≡ false }
     requires usable { (L.state journal.old.log).usable ≡ true }
     ensures proceeds { Proceeds L.Log journal.old journal.new [] (refusal_in result) }
     ensures same { L.tells → journal.new.fault ≡ false → now effect_of_entry (L.state journal.new.log) ≡ now effect_of_entry (L.state journal.old.log) }
-    ensures pages { IfOk result (λ pages. AreRecovered L.tells (now effect_of_entry (L.state journal.old.log)) pages.items) }
+    ensures pages { IfOk result (λ pages. AreRecovered L.tells (now effect_of_entry (L.state journal.old.log)) pages.pages) }
     ensures refused { L.tells → IfErr result (RefusesPages (now effect_of_entry (L.state journal.old.log))) }
     ensures unread { (L.counts journal.new.log).reads ≡ (L.counts journal.old.log).reads }
 {
@@ -163,27 +164,27 @@ fn recover_pages<L: Log>(alloc: Global, journal: &mut Journal<L>) -> Result<Vec<
 fn read_system_pages<L: Log>(
     alloc: Global,
     journal: &mut Journal<L>,
-    pages: &mut Vec<Page>,
+    pages: &mut PageTable,
 ) -> Result<Option<u64>, Refusal>
     requires ready { journal.old.fault ≡ false }
     requires usable { (L.state journal.old.log).usable ≡ true }
-    requires recovered { AreRecovered L.tells (now effect_of_entry (L.state journal.old.log)) pages.old.items }
+    requires recovered { AreRecovered L.tells (now effect_of_entry (L.state journal.old.log)) pages.old.pages }
     ensures proceeds { Proceeds L.Log journal.old journal.new [] (refusal_in result) }
     ensures same { L.tells → journal.new.fault ≡ false → now effect_of_entry (L.state journal.new.log) ≡ now effect_of_entry (L.state journal.old.log) }
-    ensures read { IfOk result (AreRead L.tells (now effect_of_entry (L.state journal.old.log)) pages.new.items) }
+    ensures read { IfOk result (AreRead L.tells (now effect_of_entry (L.state journal.old.log)) pages.new.pages) }
     ensures refused { L.tells → IfErr result (RefusesPages (now effect_of_entry (L.state journal.old.log))) }
-    ensures reads { HasRead L.counts journal.old.log journal.new.log (own_among (length pages.old.items)) result }
+    ensures reads { HasRead L.counts journal.old.log journal.new.log (own_among (length pages.old.pages)) result }
 {
-    if pages.is_empty() {
+    let Some(page) = pages.get(META_PID) else {
         return Ok(None);
-    }
-    let roots = read_roots(alloc, journal, &pages[0])?;
-    pages[0].kept = Kept::Roots(roots);
-    if pages.len() == 1 {
+    };
+    let roots = read_roots(alloc, journal, page)?;
+    pages.get_mut(META_PID).kept = Kept::Roots(roots);
+    let Some(page) = pages.get(COUNTER_PID) else {
         return Ok(None);
-    }
-    let n = read_counter(alloc, journal, &pages[1])?;
-    pages[1].kept = Kept::Counter(n);
+    };
+    let n = read_counter(alloc, journal, page)?;
+    pages.get_mut(COUNTER_PID).kept = Kept::Counter(n);
     Ok(Some(n))
 }
 
@@ -191,20 +192,20 @@ fn read_system_pages<L: Log>(
 fn add_missing<L: Log>(
     alloc: Global,
     journal: &mut Journal<L>,
-    pages: &mut Vec<Page>,
+    pages: &mut PageTable,
 ) -> Result<(), Refusal>
     requires ready { journal.old.fault ≡ false }
     requires usable { (L.state journal.old.log).usable ≡ true }
     requires closed { is_open (L.state journal.old.log).pending ≡ false }
-    requires table { IsTable L.tells (now effect_of_entry (L.state journal.old.log)) pages.old.items }
-    requires fresh { L.tells → stamps_in pages.old.items ≡ map (λ _. 0) pages.old.items }
-    ensures proceeds { Proceeds L.Log journal.old journal.new (told_at_start pages.old.items) (refusal_in result) }
+    requires table { IsTable L.tells (now effect_of_entry (L.state journal.old.log)) pages.old.pages }
+    requires fresh { L.tells → stamps_in pages.old.pages ≡ map (λ _. 0) pages.old.pages }
+    ensures proceeds { Proceeds L.Log journal.old journal.new (told_at_start pages.old.pages) (refusal_in result) }
     ensures of_log { L.tells → IfErr result IsOfLog }
-    ensures table { OnOk result (IsTable L.tells (now effect_of_entry (L.state journal.new.log)) pages.new.items) }
-    ensures stamps { L.tells → OnOk result (stamps_in pages.new.items ≡ stamps_at_start pages.old.items) }
-    ensures both { OnOk result (1 < length pages.new.items) }
-    ensures others { OnOk result ((pid : ℕ) → 2 ≤ pid → slice_get pages.new.items pid ≡ slice_get pages.old.items pid) }
-    ensures stable { OnOk result (length pages.old.items < 2 → (L.state journal.new.log).pending ≡ []) }
+    ensures table { OnOk result (IsTable L.tells (now effect_of_entry (L.state journal.new.log)) pages.new.pages) }
+    ensures stamps { L.tells → OnOk result (stamps_in pages.new.pages ≡ stamps_at_start pages.old.pages) }
+    ensures both { OnOk result (1 < length pages.new.pages) }
+    ensures others { OnOk result ((pid : ℕ) → 2 ≤ pid → slice_get pages.new.pages pid ≡ slice_get pages.old.pages pid) }
+    ensures stable { OnOk result (length pages.old.pages < 2 → (L.state journal.new.log).pending ≡ []) }
     ensures unread { (L.counts journal.new.log).reads ≡ (L.counts journal.old.log).reads }
 {
     if pages.len() > 1 {

@@ -1,4 +1,4 @@
-use Rattle.sled_pagecache.proofs.Names.{inl, subst, ap, ◌+◌, ◌-◌, ◌^◌, inr, ◌≡◌, [], ◌∷◌, length, ◌∙◌, refl, rules, err_from_is_err_and, Node, Put, message_of, written-update, Went-none, IsCaused-handed_on}
+use Rattle.sled_pagecache.proofs.Names.{inl, subst, ap, ◌+◌, ◌-◌, ◌^◌, inr, ◌≡◌, [], ◌∷◌, length, ◌∙◌, refl, rules, err_from_is_err_and, arith, le-leb, effect_of_entry, now, Node, Put, message_of, written-update, Went-none, IsCaused-handed_on}
 use Rattle.std.specs.Prelude.{min}
 use Rattle.sled_log.specs.Limits.{head_size}
 use Rattle.sled_pagecache.proofs.InMemory.{accessed-added}
@@ -7,6 +7,10 @@ use Rattle.sled_pagecache.specs.Accesses.{WasAccessed, capped}
 use Rattle.sled_pagecache.proofs.NewPages.{only-one, added-others, new-kept, has-one-more, new-page-went}
 use Rattle.sled_pagecache.proofs.Refused.{refused-is}
 use Rattle.sled_pagecache.proofs.pagecache.add.add_page.Goals as goal
+
+pub write_node-requires-clause-can : goal.write_node-requires-clause-can
+write_node-requires-clause-can g c = λ told.
+    le-leb c.len-pid.result (length (now effect_of_entry (g.L.Log.state c.args.journal.now.log))) (let there = c.requires.there told in let at = c.len-pid.ensures.number in omega (arith, there, at))
 
 pub returns-then-len-eq-MAX_PAGES-clause-is : goal.returns-then-len-eq-MAX_PAGES-clause-is
 returns-then-len-eq-MAX_PAGES-clause-is g c = written-update (Put (Node c.args.node)) c.data.ensures.well_formed
@@ -35,10 +39,10 @@ returns-in_err-info-clause-same g c =
 
 pub returns-in_err-info-clause-went : goal.returns-in_err-info-clause-went
 returns-in_err-info-clause-went g c =
-    let last : c.len-pid.result ≡ length c.args.pages.now.items = c.len-pid.ensures ∙ c.args.pages.now.ok.0 in
+    let last : c.len-pid.result ≡ length c.args.pages.now.pages = c.len-pid.ensures.number in
     rw (refused-is c.from_residual.result _ c.from_residual.ensures.1)
     (new-page-went g.L.Log.tells g.L.Log.state g.L.Log.moment g.L.Log.left_since g.L.Log.counts g.L.Log.is_full c.args.journal.now c.write_node.new.journal c.args.node c.in_err-info.field-0.0
-    (length c.args.pages.now.items) c.len-pid.result last c.in_err-info.ensures.went)
+    (length c.args.pages.now.pages) c.len-pid.result last c.in_err-info.ensures.went)
 
 pub returns-in_err-info-clause-cause : goal.returns-in_err-info-clause-cause
 returns-in_err-info-clause-cause g c =
@@ -48,17 +52,17 @@ returns-in_err-info-clause-cause g c =
 
 pub returns-clause-page : goal.returns-clause-page
 returns-clause-page g c =
-    let at : c.len-pid.result ≡ length c.args.pages.now.items = c.len-pid.ensures ∙ c.args.pages.now.ok.0 in
+    let at : c.len-pid.result ≡ length c.args.pages.now.pages = c.len-pid.ensures.number in
     let done = c.in_ok-info in
     let alone : c.push_reserved.new.self.items ≡ done.info ∷ [] = only-one c.push_reserved.new.self.items c.in-Ok-with_capacity.infos.items done.info c.push_reserved.ensures.items c.in-Ok-with_capacity.ensures.items in
     rw (← at)
     (has-one-more g.L.Log.tells _ c.args.node done.info
-    c.args.pages.now.items c.reserve.new.self.items c.push_reserved-2.new.self.items _ c.reserve.ensures.items c.push_reserved-2.ensures.items refl refl alone done.ensures.stamp
+    c.args.pages.now.pages c.reserve.new.self.pages c.push_reserved-2.new.self.pages _ c.reserve.ensures.same c.push_reserved-2.ensures refl refl alone done.ensures.stamp
     (λ told. new-kept _ c.len-pid.result (at ∙ c.requires.there told) _ c.args.node done.info (done.ensures.chains told) _ refl alone done.ensures.is))
 
 pub returns-clause-others : goal.returns-clause-others
 returns-clause-others g c = λ told.
-    let at : c.len-pid.result ≡ length c.args.pages.now.items = c.len-pid.ensures ∙ c.args.pages.now.ok.0 in
+    let at : c.len-pid.result ≡ length c.args.pages.now.pages = c.len-pid.ensures.number in
     rw (← at) (added-others _ c.len-pid.result (at ∙ c.requires.there told) _ c.args.node c.in_ok-info.info (c.in_ok-info.ensures.chains told))
 
 pub returns-clause-cause : goal.returns-clause-cause
@@ -67,7 +71,7 @@ returns-clause-cause g c = record { fault = c.in_ok-info.ensures.cause.fault; re
 pub returns-in_err-info-clause-refused : goal.returns-in_err-info-clause-refused
 returns-in_err-info-clause-refused g c = λ told.
     let p = err_from_is_err_and c.from_residual.result c.from_residual.ensures.1 in
-    rw (p.1, p.2) (inr ((λ all. c.if-len-eq-MAX_PAGES.false (c.len.ensures ∙ c.args.pages.now.ok.0 ∙ all)), c.in_err-info.ensures.of_log told))
+    rw (p.1, p.2) (inr ((λ all. c.if-len-eq-MAX_PAGES.false (c.len.ensures.number ∙ all)), c.in_err-info.ensures.of_log told))
 
 pub returns-in_default-access-clause-is : goal.returns-in_default-access-clause-is
 returns-in_default-access-clause-is g c = written-update (Put (Node c.args.node)) c.data.ensures.well_formed
@@ -82,7 +86,7 @@ returns-in_default-access-clause-cause g c = record { fault = c.requires.ready; 
 pub returns-in_err-info-clause-touched : goal.returns-in_err-info-clause-touched
 returns-in_err-info-clause-touched g c =
     let p = err_from_is_err_and c.from_residual.result c.from_residual.ensures.1 in
-    let at : c.len-pid.result ≡ length c.args.pages.now.items = c.len-pid.ensures ∙ c.args.pages.now.ok.0 in
+    let at : c.len-pid.result ≡ length c.args.pages.now.pages = c.len-pid.ensures.number in
     rw (p.1, ← at) (inr (capped c.size_with.result, c.in-Ok-access.ensures.accessed))
 
 pub returns-in_err-info-clause-unasked : goal.returns-in_err-info-clause-unasked
@@ -92,10 +96,10 @@ returns-in_err-info-clause-unasked g c = λ told.
 
 pub returns-clause-accessed : goal.returns-clause-accessed
 returns-clause-accessed g c =
-    let at : c.len-pid.result ≡ length c.args.pages.now.items = c.len-pid.ensures ∙ c.args.pages.now.ok.0 in
+    let at : c.len-pid.result ≡ length c.args.pages.now.pages = c.len-pid.ensures.number in
     let done = c.in_ok-info in
     let alone : c.push_reserved.new.self.items ≡ done.info ∷ [] = only-one c.push_reserved.new.self.items c.in-Ok-with_capacity.infos.items done.info c.push_reserved.ensures.items c.in-Ok-with_capacity.ensures.items in
-    accessed-added c.args.accesses.now c.access.new.self c.args.pages.now.items c.reserve.new.self.items c.push_reserved-2.new.self.items _ c.len-pid.result at c.reserve.ensures.items c.push_reserved-2.ensures.items
+    accessed-added c.args.accesses.now c.access.new.self c.args.pages.now.pages c.reserve.new.self.pages c.push_reserved-2.new.self.pages _ c.len-pid.result at c.reserve.ensures.same c.push_reserved-2.ensures
     (subst (λ n. WasAccessed c.args.accesses.now c.len-pid.result n c.access.new.self)
     (ap capped (c.size_with.ensures ∙ ap (λ n. min (0 + head_size + n) (2 ^ 64 - 1)) c.serialized_size.ensures) ∙ size-alone c.push_reserved.new.self.items done.info (length (message_of (Put (Node c.args.node))).payload) alone done.ensures.size.0)
     c.in-Ok-access.ensures.accessed)

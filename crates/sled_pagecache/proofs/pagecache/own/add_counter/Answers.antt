@@ -18,7 +18,7 @@ returns-in_err-info-clause-proceeds g c =
 
 pub returns-clause-table : goal.returns-clause-table
 returns-clause-table g c =
-    let pages = c.args.pages.now.items in
+    let pages = c.args.pages.now.pages in
     let infos = c.push_reserved.ensures.items ∙ ap (λ (l : List CacheInfo). l ++ c.in_ok-info.info ∷ []) c.in-Ok-Ok.ensures'.items in
-    own-table g.L.Log c.args.journal.now c.write_counter.new.journal 1 1 (Counter 0) c.in_ok-info.info c.in_ok-info.ensures pages c.reserve.new.self.items c.push_reserved-2.new.self.items _
-    c.requires.table c.push_reserved-2.ensures.items c.reserve.ensures.items (sym c.requires.one) (omega arith) refl infos (λ chain makes. makes) tt
+    own-table g.L.Log c.args.journal.now c.write_counter.new.journal 1 1 (Counter 0) c.in_ok-info.info c.in_ok-info.ensures pages c.reserve.new.self.pages c.push_reserved-2.new.self.pages _
+    c.requires.table c.push_reserved-2.ensures c.reserve.ensures.same (sym c.requires.one) (omega arith) refl infos (λ chain makes. makes) tt

@@ -4,22 +4,22 @@ use Rattle.sled_pagecache.proofs.Starting.{read-table, all-fresh, read-unread, t
 use Rattle.sled_pagecache.proofs.pagecache.start.complete.Goals as goal
 
 pub add_missing-requires-clause-table : goal.add_missing-requires-clause-table
-add_missing-requires-clause-table g c = read-table g.L.Log.tells _ c.args.pages.items c.args.counter c.requires.read c.requires.fit
+add_missing-requires-clause-table g c = read-table g.L.Log.tells _ c.args.pages.pages c.args.counter c.requires.read c.requires.fit
 
 pub add_missing-requires-clause-fresh : goal.add_missing-requires-clause-fresh
-add_missing-requires-clause-fresh g c = λ told. all-fresh _ c.args.pages.items (c.requires.read.kept told)
+add_missing-requires-clause-fresh g c = λ told. all-fresh _ c.args.pages.pages (c.requires.read.kept told)
 
 pub returns-in_default-clause-proceeds : goal.returns-in_default-clause-proceeds
-returns-in_default-clause-proceeds g c = proceeds-refused g.L.Log c.args.journal.now c.add_missing.new.journal (told_at_start c.args.pages.items) OutOfMemory tt c.in_ok-add_missing.ensures.proceeds
+returns-in_default-clause-proceeds g c = proceeds-refused g.L.Log c.args.journal.now c.add_missing.new.journal (told_at_start c.args.pages.pages) OutOfMemory tt c.in_ok-add_missing.ensures.proceeds
 
 pub returns-clause-consistent : goal.returns-clause-consistent
 returns-clause-consistent g c =
-    table-consistent g.L.Log c.args.journal.now c.add_missing.new.journal c.args.pages.items c.add_missing.new.pages.items c.in-Ok.free.items c.in_ok-add_missing.ensures.proceeds c.requires.closed
+    table-consistent g.L.Log c.args.journal.now c.add_missing.new.journal c.args.pages.pages c.add_missing.new.pages.pages c.in-Ok.free.items c.in_ok-add_missing.ensures.proceeds c.requires.closed
     c.in_ok-add_missing.ensures.table c.in_ok-add_missing.ensures.both (search rules)
 
 pub returns-clause-opened : goal.returns-clause-opened
 returns-clause-opened g c = λ told.
-    opened-with c.args.config _ c.args.pages.items c.args.counter _ c.next_id.result c.is_some.result c.requires.read told (c.in_ok-add_missing.ensures.stamps told) c.next_id.ensures (search rules)
+    opened-with c.args.config _ c.args.pages.pages c.args.counter _ c.next_id.result c.is_some.result c.requires.read told (c.in_ok-add_missing.ensures.stamps told) c.next_id.ensures (search rules)
 
 pub returns-clause-unread : goal.returns-clause-unread
-returns-clause-unread g c = λ pid from. rw (c.in_ok-add_missing.ensures.others pid from) (read-unread _ c.args.pages.items c.args.counter c.requires.read pid from)
+returns-clause-unread g c = λ pid from. rw (c.in_ok-add_missing.ensures.others pid from) (read-unread _ c.args.pages.pages c.args.counter c.requires.read pid from)

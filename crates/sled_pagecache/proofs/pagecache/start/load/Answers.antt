@@ -18,7 +18,7 @@ pub returns-in-Some-clause-refused : goal.returns-in-Some-clause-refused
 returns-in-Some-clause-refused g c = λ told.
     let same = c.in_ok-pages.ensures.same told c.in_ok-pages.ensures.proceeds.fault in
     subst (λ (l : List Chain). RefusesPages l (Corruption (Some c.in-Some.pointer))) same
-    (begins-amiss _ c.read_system_pages.new.pages.items c.in_ok-counter.counter c.in-Some.pointer c.in_ok-counter.ensures.read told (rw (sym c.deref.ensures.value) c.in-Some.ensures))
+    (begins-amiss _ c.read_system_pages.new.pages.pages c.in_ok-counter.counter c.in-Some.pointer c.in_ok-counter.ensures.read told c.in-Some.ensures)
 
 pub returns-in-None-clause-proceeds : goal.returns-in-None-clause-proceeds
 returns-in-None-clause-proceeds g c =
@@ -36,7 +36,7 @@ returns-in_err-pages-clause-reads g c = λ told.
 pub returns-in_err-counter-clause-reads : goal.returns-in_err-counter-clause-reads
 returns-in_err-counter-clause-reads g c = λ told.
     let chains = now effect_of_entry (g.L.Log.state c.args.journal.now.log) in
-    let pages = c.in_ok-pages.pages.items in
+    let pages = c.in_ok-pages.pages.pages in
     let same : own_among (length pages) ≡ own_among (length chains) = ap own_among (AllZip-long IsLoaded chains pages (c.in_ok-pages.ensures.pages.kept told)) in
     rw (refused-is c.from_residual-in_err-counter.result _ c.from_residual-in_err-counter.ensures.1)
     (read-handed g.L.Log.counts c.args.journal.now.log c.read_system_pages.new.journal.log (own_among (length pages) + 0) (own_among (length chains)) c.in_err-counter.field-0.0 c.in_err-counter.field-0.0 (omega (arith, same))
@@ -44,8 +44,8 @@ returns-in_err-counter-clause-reads g c = λ told.
 
 pub returns-in-Some-clause-reads : goal.returns-in-Some-clause-reads
 returns-in-Some-clause-reads g c = λ told.
-    read-loaded g.L.Log.counts _ c.args.journal.now.log c.recover_pages.new.journal.log c.read_system_pages.new.journal.log _ c.in_ok-pages.pages.items (c.in_ok-pages.ensures.pages.kept told) c.in_ok-pages.ensures.unread c.in_ok-counter.ensures.reads.whole
+    read-loaded g.L.Log.counts _ c.args.journal.now.log c.recover_pages.new.journal.log c.read_system_pages.new.journal.log _ c.in_ok-pages.pages.pages (c.in_ok-pages.ensures.pages.kept told) c.in_ok-pages.ensures.unread c.in_ok-counter.ensures.reads.whole
 
 pub returns-in-None-clause-reads : goal.returns-in-None-clause-reads
 returns-in-None-clause-reads g c = λ told.
-    read-loaded g.L.Log.counts _ c.args.journal.now.log c.recover_pages.new.journal.log c.read_system_pages.new.journal.log _ c.in_ok-pages.pages.items (c.in_ok-pages.ensures.pages.kept told) c.in_ok-pages.ensures.unread c.in_ok-counter.ensures.reads.whole
+    read-loaded g.L.Log.counts _ c.args.journal.now.log c.recover_pages.new.journal.log c.read_system_pages.new.journal.log _ c.in_ok-pages.pages.pages (c.in_ok-pages.ensures.pages.kept told) c.in_ok-pages.ensures.unread c.in_ok-counter.ensures.reads.whole

@@ -15,7 +15,7 @@ returns-in_err-pages-clause-proceeds g c =
 
 pub returns-clause-proceeds : goal.returns-clause-proceeds
 returns-clause-proceeds g c =
-    let pages = c.in_ok-pages.pages.items in
+    let pages = c.in_ok-pages.pages.pages in
     let loaded = c.in_ok-pages.ensures in
     starts g.L.Log c.args.journal.now c.complete.new.journal pages _
     (λ known. told-same pages _ (AllZip-long IsLoaded _ pages (loaded.read.kept known)) ∙ ap (λ (l : List Chain). told_at_start l) (loaded.same known loaded.proceeds.fault))
@@ -23,6 +23,6 @@ returns-clause-proceeds g c =
 
 pub returns-clause-stable : goal.returns-clause-stable
 returns-clause-stable g c = λ told.
-    let pages = c.in_ok-pages.pages.items in
+    let pages = c.in_ok-pages.pages.pages in
     let loaded = c.in_ok-pages.ensures in
     on_ok_weaker c.complete.result (λ stable few. stable (read-fewer _ pages c.in_ok-pages.counter loaded.read told (rw (loaded.same told loaded.proceeds.fault) few))) c.complete.ensures.stable

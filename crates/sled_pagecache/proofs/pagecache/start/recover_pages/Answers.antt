@@ -15,5 +15,5 @@ returns-clause-pages g c =
     let made = c.in-Ok.ensures in
     let log = c.in_ok-states.ensures in
     let few : length c.in_ok-states.states.items ≤ 2 ^ 37 = search rules in
-    let long = AllZip-long IsRecovered c.in_ok-states.states.items c.in-Ok.pages.items (rw (sym c.deref.ensures.value) made.recovered) in
+    let long = AllZip-long IsRecovered c.in_ok-states.states.items c.in-Ok.pages.pages (rw (sym c.deref.ensures.value) made.recovered) in
     record { kept = λ known. made.loaded _ (rw c.deref.ensures.value (log.pages known)); hold = made.unread; few = omega (arith, long, few); chains_are = log.chains; sized = log.sized }

@@ -1,6 +1,6 @@
 use Rattle.sled_base.specs.declared.types.Error.TheVariants.{Io}
 use Rattle.sled_pagecache.proofs.Names.{◌≡◌, ◌<◌, ◌+◌, ◌-◌, ◌^◌, ℕ, List, [], ◌∷◌, ◌++◌, length, take, Some, None, Result, Err, rules, sym, ap, Write, Allocated, Allocate, subst, ◌∙◌, refl, arith, slice_get_within, slice_get, slice_set, Refusal, Node, Put, Change, message_of, begun_by, is_free, RefusesSwap, IsConsistent, resident_in, stamps_in, token, pid_of, Page}
-use Rattle.sled_pagecache.proofs.Allocating.{read-last, ends-nowhere, last-at, last-read, last-found, last-same, taken-last, free-from, adds-refused, adds-done, reuses-refused, reuses-done}
+use Rattle.sled_pagecache.proofs.Allocating.{read-last, ends-nowhere, last-at, last-read, last-same, taken-last, free-from, adds-refused, adds-done, reuses-refused, reuses-done}
 use Rattle.sled_pagecache.proofs.Answers.{keeps-err, keeps-ok, stamps-added, stamps-reused}
 use Rattle.sled_pagecache.proofs.CacheSteps.{steps-told, steps-stuck}
 use Rattle.sled_pagecache.proofs.InMemory.{loses-nothing, loses-none, stay-view, past-view, free-at, takes-node, adds-node}
@@ -17,12 +17,12 @@ returns-then-stuck-clause-step g c =
 
 pub add_page-requires-clause-there : goal.add_page-requires-clause-there
 add_page-requires-clause-there g c =
-    beside-long g.L.Log.tells g.L.Log.state c.self.inside.journal.log c.self.inside.pages.items (c.self.invariant.beside c.if-stuck.false)
+    beside-long g.L.Log.tells g.L.Log.state c.self.inside.journal.log c.self.inside.pages.pages (c.self.invariant.beside c.if-stuck.false)
 
 pub invariant_of-self : goal.invariant_of-self
 invariant_of-self g c =
     let inside = c.self.inside in
-    let table = inside.pages.items in
+    let table = inside.pages.pages in
     let refused = c.in_err-pid.ensures in
     let told : Result ℕ Refusal = Err c.in_err-pid.field-0.0 in
     rw refused.left
@@ -33,7 +33,7 @@ invariant_of-self g c =
 pub invariant_of-self-in_default : goal.invariant_of-self-in_default
 invariant_of-self-in_default g c =
     let inside = c.self.inside in
-    let table = inside.pages.items in
+    let table = inside.pages.pages in
     let done = c.in_ok-pid.ensures in
     let added = done.page in
     let room : length table < 2 ^ 37 = let few = c.self.invariant.few in let not_all = done.room in omega (arith, few, not_all) in
@@ -49,7 +49,7 @@ returns-in_err-pid g c =
     let refused = c.in_err-pid.ensures in
     let refusal = c.in_err-pid.field-0.0 in
     rw (refused-is c.from_residual.result _ c.from_residual.ensures.1, ← c.self.view_is) (record {
-      step = steps-told g.L.Log _ _ _ _ (record { config = refl; recovered = refl }) (λ told. adds-refused g.L.Log inside.next inside.config inside.recovered inside.journal inside.pages.items inside.free.items c.if-stuck.false c.self.invariant c.args.node c.add_page.new.journal c.add_page.new.pages.items refused.is
+      step = steps-told g.L.Log _ _ _ _ (record { config = refl; recovered = refl }) (λ told. adds-refused g.L.Log inside.next inside.config inside.recovered inside.journal inside.pages.pages inside.free.items c.if-stuck.false c.self.invariant c.args.node c.add_page.new.journal c.add_page.new.pages.pages refused.is
           none refused.left refusal (refused.refused told) refused.went refused.cause);
       blame = blamed g.L.Log _ _ _ refusal refused.cause;
       unread = refused.reads;
@@ -58,30 +58,30 @@ returns-in_err-pid g c =
       resident = tt;
       takes = tt;
       refused = (
-        length inside.pages.items,
-        past-view inside.next inside.next inside.config inside.recovered inside.journal inside.journal inside.pages.items (length inside.pages.items) (omega arith),
-        loses-none g.L.Log.tells _ c.args.accesses.now (length inside.pages.items) _ c.add_page.new.accesses c.if-stuck.false refusal refused.touched (stay-view inside.next inside.next inside.config inside.recovered inside.journal c.add_page.new.journal inside.pages.items c.add_page.new.pages.items refused.left) refused.unasked,
+        length inside.pages.pages,
+        past-view inside.next inside.next inside.config inside.recovered inside.journal inside.journal inside.pages.pages (length inside.pages.pages) (omega arith),
+        loses-none g.L.Log.tells _ c.args.accesses.now (length inside.pages.pages) _ c.add_page.new.accesses c.if-stuck.false refusal refused.touched (stay-view inside.next inside.next inside.config inside.recovered inside.journal c.add_page.new.journal inside.pages.pages c.add_page.new.pages.pages refused.left) refused.unasked,
       );
     })
 
 pub returns-in_default : goal.returns-in_default
 returns-in_default g c =
     let inside = c.self.inside in
-    let table = inside.pages.items in
+    let table = inside.pages.pages in
     let none : c.self.inside.free.items ≡ [] = ends-nowhere _ (read-last _ _ _ _ None c.deref.ensures.value c.last.ensures.value c.copied.ensures c.in_default.is) in
     let done = c.in_ok-pid.ensures in
     let added = done.page in
     let named : c.new.result ≡ token (length table) added.page.stamp = c.new.ensures ∙ ap (λ n. token n 1) done.pid ∙ ap (token (length table)) (sym added.stamp) in
-    let stamps = stamps-added table c.add_page.new.pages.items added.page c.new.result added.is named in
+    let stamps = stamps-added table c.add_page.new.pages.pages added.page c.new.result added.is named in
     rw (← c.self.view_is) (record {
-      step = steps-told g.L.Log _ _ _ _ (record { config = refl; recovered = refl }) (λ told. adds-done g.L.Log inside.next inside.config inside.recovered inside.journal table inside.free.items c.if-stuck.false c.self.invariant c.args.node c.add_page.new.journal c.add_page.new.pages.items done.is
+      step = steps-told g.L.Log _ _ _ _ (record { config = refl; recovered = refl }) (λ told. adds-done g.L.Log inside.next inside.config inside.recovered inside.journal table inside.free.items c.if-stuck.false c.self.invariant c.args.node c.add_page.new.journal c.add_page.new.pages.pages done.is
           none done.room done.went done.cause.fault added.page added.stamp added.is c.in_ok-pid.pid done.pid c.new.result c.new.ensures);
       blame = search rules;
       unread = done.reads;
       keeps = keeps-ok _ _ _ _ c.if-stuck.false done.cause.fault stamps.0;
-      token = (ap pid_of c.new.ensures, ap (slice_get (stamps_in c.add_page.new.pages.items)) done.pid ∙ stamps.1);
+      token = (ap pid_of c.new.ensures, ap (slice_get (stamps_in c.add_page.new.pages.pages)) done.pid ∙ stamps.1);
       resident = ap (λ (l : List Page). slice_get (resident_in l) c.in_ok-pid.pid) added.is ∙ ap (λ n. slice_get (resident_in (table ++ added.page ∷ [])) n) done.pid ∙ resident-add table added.page c.args.node added.holds;
-      takes = adds-node inside.next inside.config inside.recovered inside.journal c.add_page.new.journal table c.add_page.new.pages.items added.page c.args.node added.holds added.is c.args.accesses.now c.add_page.new.accesses c.in_ok-pid.pid done.pid done.accessed;
+      takes = adds-node inside.next inside.config inside.recovered inside.journal c.add_page.new.journal table c.add_page.new.pages.pages added.page c.args.node added.holds added.is c.args.accesses.now c.add_page.new.accesses c.in_ok-pid.pid done.pid done.accessed;
       refused = tt;
     })
 
@@ -89,49 +89,47 @@ pub returns-then-stuck-clause-refused : goal.returns-then-stuck-clause-refused
 returns-then-stuck-clause-refused g c =
     rw (← c.self.view_is)
     (let inside = c.self.inside in
-    (length inside.pages.items, past-view inside.next inside.next inside.config inside.recovered inside.journal inside.journal inside.pages.items (length inside.pages.items) (omega arith), loses-nothing g.L.Log.tells _ c.args.accesses.now (length inside.pages.items) _))
+    (length inside.pages.pages, past-view inside.next inside.next inside.config inside.recovered inside.journal inside.journal inside.pages.pages (length inside.pages.pages) (omega arith), loses-nothing g.L.Log.tells _ c.args.accesses.now (length inside.pages.pages) _))
 
-pub index_mut-page-requires : goal.index_mut-page-requires
-index_mut-page-requires g c =
+pub get_mut-page-requires : goal.get_mut-page-requires
+get_mut-page-requires g c =
     let pid = c.in-Some.pid in
     let last = last-read _ _ _ _ _ pid c.self.invariant.free c.deref.ensures.value c.last.ensures.value c.copied.ensures c.in-Some.is in
-    let within = slice_get_within c.self.inside.pages.items pid last.page (last-at _ _ pid last) in
-    omega (arith, within, c.self.inside.pages.ok.0)
+    slice_get_within c.self.inside.pages.pages pid last.page (last-at _ _ pid last)
 
 pub replace_page-requires-clause-there : goal.replace_page-requires-clause-there
 replace_page-requires-clause-there g c = λ told.
     let pid = c.in-Some.pid in
     let last = last-read _ _ _ _ _ pid c.self.invariant.free c.deref.ensures.value c.last.ensures.value c.copied.ensures c.in-Some.is in
-    let within = slice_get_within c.self.inside.pages.items pid last.page (last-at _ _ pid last) in
-    let long = beside-long g.L.Log.tells g.L.Log.state c.self.inside.journal.log c.self.inside.pages.items (c.self.invariant.beside c.if-stuck.false) told in
+    let within = slice_get_within c.self.inside.pages.pages pid last.page (last-at _ _ pid last) in
+    let long = beside-long g.L.Log.tells g.L.Log.state c.self.inside.journal.log c.self.inside.pages.pages (c.self.invariant.beside c.if-stuck.false) told in
     omega (arith, within, long)
 
 pub invariant_of-self-in_err-replace_page : goal.invariant_of-self-in_err-replace_page
 invariant_of-self-in_err-replace_page g c =
     let inside = c.self.inside in
     let pid = c.in-Some.pid in
-    let last = last-read _ _ _ _ _ pid c.self.invariant.free c.deref.ensures.value c.last.ensures.value c.copied.ensures c.in-Some.is in
     let refused = c.in_err-replace_page.ensures in
     let told : Result (Unit {0}) Refusal = Err c.in_err-replace_page.field-0.0 in
-    rw (put-back _ pid c.replace_page.new.page (last-found _ _ pid last c.index_mut-page.result.now c.index_mut-page.ensures.value ∙ ap (λ page. Some page) (sym refused.left)))
-    (consistent-same g.L.Log.tells g.L.Log.state inside.journal c.replace_page.new.journal inside.pages.items inside.free.items inside.free.items c.self.invariant c.if-stuck.false
+    rw (put-back inside.pages.pages pid c.replace_page.new.page (c.get_mut-page.ensures.page ∙ ap (λ page. Some page) (sym refused.left)))
+    (consistent-same g.L.Log.tells g.L.Log.state inside.journal c.replace_page.new.journal inside.pages.pages inside.free.items inside.free.items c.self.invariant c.if-stuck.false
     g.L.Log.moment g.L.Log.left_since g.L.Log.counts (begun_by told (Change pid (message_of (Put (Node c.args.node))) ∷ [])) refused.went
     (marks-begun told pid (message_of (Put (Node c.args.node)))) refused.same)
 
 pub returns-in_err-replace_page : goal.returns-in_err-replace_page
 returns-in_err-replace_page g c =
     let inside = c.self.inside in
-    let table = inside.pages.items in
+    let table = inside.pages.pages in
     let pid = c.in-Some.pid in
     let last = last-read _ _ _ _ _ pid c.self.invariant.free c.deref.ensures.value c.last.ensures.value c.copied.ensures c.in-Some.is in
-    let q = c.index_mut-page.result.now in
+    let q = c.get_mut-page.result.now in
     let refused = c.in_err-replace_page.ensures in
     let refusal = c.in_err-replace_page.field-0.0 in
     let after = c.replace_page.new.page in
-    let back : slice_set table pid after ≡ table = put-back _ pid after (last-found _ _ pid last q c.index_mut-page.ensures.value ∙ ap (λ page. Some page) (sym refused.left)) in
+    let back : slice_set table pid after ≡ table = put-back _ pid after (c.get_mut-page.ensures.page ∙ ap (λ page. Some page) (sym refused.left)) in
     rw (refused-is c.from_residual-in_err-replace_page.result _ c.from_residual-in_err-replace_page.ensures.1, ← c.self.view_is) (record {
       step = steps-told g.L.Log _ _ _ _ (record { config = refl; recovered = refl }) (λ told. reuses-refused g.L.Log inside.next inside.config inside.recovered inside.journal table inside.free.items c.if-stuck.false c.self.invariant c.args.node c.replace_page.new.journal (slice_set table pid after) refused.is
-          _ pid last back refusal (subst (λ (page : Page). RefusesSwap page.stamp refusal) (sym (last-same _ _ pid last q c.index_mut-page.ensures.value)) (refused.refused told)) refused.went refused.cause);
+          _ pid last back refusal (subst (λ (page : Page). RefusesSwap page.stamp refusal) (sym (last-same _ _ pid last q c.get_mut-page.ensures.page)) (refused.refused told)) refused.went refused.cause);
       blame = blamed g.L.Log _ _ _ refusal refused.cause;
       unread = refused.reads;
       keeps = keeps-err _ _ _ (Unit {0}) refusal c.if-stuck.false refused.cause.fault (ap stamps_in back);
@@ -152,7 +150,7 @@ invariant_of-self-2 g c =
     let last = last-read _ _ _ _ _ pid c.self.invariant.free c.deref.ensures.value c.last.ensures.value c.copied.ensures c.in-Some.is in
     let done = c.in_ok-replace_page.ensures in
     let after = c.replace_page.new.page in
-    consistent-put g.L.Log.tells g.L.Log.state inside.journal c.replace_page.new.journal inside.pages.items inside.free.items c.pop.new.self.items c.self.invariant c.if-stuck.false
+    consistent-put g.L.Log.tells g.L.Log.state inside.journal c.replace_page.new.journal inside.pages.pages inside.free.items c.pop.new.self.items c.self.invariant c.if-stuck.false
     g.L.Log.moment g.L.Log.left_since g.L.Log.counts pid (message_of (Put (Node c.args.node))) done.went after c.args.node done.holds (one-short after done.stamps) done.kept done.sized
     (free-from _ pid last.page c.self.invariant.own (last-at _ _ pid last) last.free) done.others
     (c.pop.ensures.rest ∙ ap (λ n. take (n - 1) inside.free.items) inside.free.ok.0 ∙ taken-last _ _ pid last after (ap is_free done.holds))
@@ -160,14 +158,14 @@ invariant_of-self-2 g c =
 pub returns : goal.returns
 returns g c =
     let inside = c.self.inside in
-    let table = inside.pages.items in
+    let table = inside.pages.pages in
     let pid = c.in-Some.pid in
     let last = last-read _ _ _ _ _ pid c.self.invariant.free c.deref.ensures.value c.last.ensures.value c.copied.ensures c.in-Some.is in
     let found = last-at _ _ pid last in
-    let q = c.index_mut-page.result.now in
+    let q = c.get_mut-page.result.now in
     let done = c.in_ok-replace_page.ensures in
     let after = c.replace_page.new.page in
-    let stamp : q.stamp ≡ last.page.stamp = ap (λ (page : Page). page.stamp) (sym (last-same _ _ pid last q c.index_mut-page.ensures.value)) in
+    let stamp : q.stamp ≡ last.page.stamp = ap (λ (page : Page). page.stamp) (sym (last-same _ _ pid last q c.get_mut-page.ensures.page)) in
     let stamps = stamps-reused table pid after last.page c.new-2.result found c.new-2.ensures in
     rw (← c.self.view_is) (record {
       step = steps-told g.L.Log _ _ _ _ (record { config = refl; recovered = refl }) (λ told. reuses-done g.L.Log inside.next inside.config inside.recovered inside.journal table inside.free.items c.if-stuck.false c.self.invariant c.args.node c.replace_page.new.journal (slice_set table pid after) done.is

@@ -1,6 +1,6 @@
 use Rattle.sled_pagecache.proofs.Names.{◌≡◌, length, Some, None, slice_get, refl, sym, ◌∙◌, ap, subst, arith, slice_get_read, IsNodeAt, Kept, Page}
 use Rattle.sled_pagecache.proofs.InMemory.{past-view, none-at, no-node-in}
-use Rattle.sled_pagecache.proofs.Lookups.{map-at}
+use Rattle.sled_pagecache.proofs.Lookups.{map-at, past-end}
 use Rattle.sled_pagecache.specs.Memory.{HasNode, HasNoNode}
 use Rattle.sled_pagecache.specs.Pages.{node_size, size_of, size_if}
 use Rattle.sled_pagecache.proofs.TableNodes.{no-page, no-node, a-node}
@@ -9,56 +9,44 @@ use Rattle.sled_pagecache.proofs.pagecache.pages.Pages.node_at.Goals as goal
 pub returns-in_err-page-clause-is : goal.returns-in_err-page-clause-is
 returns-in_err-page-clause-is g c =
     let inside = c.self.inside in
-    let same = ap length c.deref.ensures.value in
     rw c.from_residual.ensures
     (subst (λ cache. IsNodeAt g.L.Log cache c.args.pid None) c.self.view_is
-    (no-page g.L.Log inside.next inside.config inside.recovered inside.journal inside.pages.items inside.free.items c.args.pid c.self.invariant (omega (arith, same, c.in_err-page.ensures.lookup.3))))
+    (no-page g.L.Log inside.next inside.config inside.recovered inside.journal inside.pages.pages inside.free.items c.args.pid c.self.invariant (past-end inside.pages.pages c.args.pid c.in_err-page.ensures)))
 
 pub returns-in_default-clause-is : goal.returns-in_default-clause-is
 returns-in_default-clause-is g c =
     let inside = c.self.inside in
-    let found = c.in_ok-page.ensures.lookup in
-    let at : slice_get inside.pages.items c.args.pid ≡ Some c.in_ok-page.page.now =
-    sym (ap (λ pages. slice_get pages c.args.pid) c.deref.ensures.value) ∙ slice_get_read c.deref.result.now _ c.args.pid c.in_ok-page.page.now refl found.3.0 (found.3.1 c.in_ok-page.page.now) in
     subst (λ cache. IsNodeAt g.L.Log cache c.args.pid None) c.self.view_is
-    (no-node g.L.Log inside.next inside.config inside.recovered inside.journal inside.pages.items inside.free.items c.args.pid c.self.invariant c.in_ok-page.page.now at c.in_default.not-Node)
+    (no-node g.L.Log inside.next inside.config inside.recovered inside.journal inside.pages.pages inside.free.items c.args.pid c.self.invariant c.in_ok-page.page.now c.in_ok-page.ensures c.in_default.not-Node)
 
 pub returns-clause-is : goal.returns-clause-is
 returns-clause-is g c =
     let inside = c.self.inside in
-    let found = c.in_ok-page.ensures.lookup in
-    let at : slice_get inside.pages.items c.args.pid ≡ Some c.in_ok-page.page.now =
-    sym (ap (λ pages. slice_get pages c.args.pid) c.deref.ensures.value) ∙ slice_get_read c.deref.result.now _ c.args.pid c.in_ok-page.page.now refl found.3.0 (found.3.1 c.in_ok-page.page.now) in
     subst (λ cache. IsNodeAt g.L.Log cache c.args.pid (Some c.new-2.result)) c.self.view_is
-    (a-node g.L.Log inside.next inside.config inside.recovered inside.journal inside.pages.items inside.free.items c.args.pid c.self.invariant c.in_ok-page.page.now at
+    (a-node g.L.Log inside.next inside.config inside.recovered inside.journal inside.pages.pages inside.free.items c.args.pid c.self.invariant c.in_ok-page.page.now c.in_ok-page.ensures
     c.new-2.result c.in-Node.node c.in-Node.is (c.new-2.ensures.token ∙ c.new.ensures) c.new-2.ensures.node)
 
 pub returns-in_err-page-clause-node : goal.returns-in_err-page-clause-node
 returns-in_err-page-clause-node g c =
     let inside = c.self.inside in
-    let same = ap length c.deref.ensures.value in
     rw c.from_residual.ensures
     (subst (λ cache. HasNoNode cache c.args.pid) c.self.view_is
-    (past-view inside.next inside.next inside.config inside.recovered inside.journal inside.journal inside.pages.items c.args.pid (omega (arith, same, c.in_err-page.ensures.lookup.3))))
+    (past-view inside.next inside.next inside.config inside.recovered inside.journal inside.journal inside.pages.pages c.args.pid (past-end inside.pages.pages c.args.pid c.in_err-page.ensures)))
 
 pub returns-in_default-clause-node : goal.returns-in_default-clause-node
 returns-in_default-clause-node g c =
     let inside = c.self.inside in
-    let found = c.in_ok-page.ensures.lookup in
     let q = c.in_ok-page.page.now in
-    let at : slice_get inside.pages.items c.args.pid ≡ Some q =
-    sym (ap (λ pages. slice_get pages c.args.pid) c.deref.ensures.value) ∙ slice_get_read c.deref.result.now _ c.args.pid q refl found.3.0 (found.3.1 q) in
+    let at = c.in_ok-page.ensures in
     subst (λ cache. HasNoNode cache c.args.pid) c.self.view_is
-    (none-at inside.next inside.next inside.config inside.recovered inside.journal inside.journal inside.pages.items c.args.pid q at (no-node-in (size_of q) q.kept c.in_default.not-Node))
+    (none-at inside.next inside.next inside.config inside.recovered inside.journal inside.journal inside.pages.pages c.args.pid q at (no-node-in (size_of q) q.kept c.in_default.not-Node))
 
 pub returns-clause-node : goal.returns-clause-node
 returns-clause-node g c =
     let inside = c.self.inside in
-    let found = c.in_ok-page.ensures.lookup in
     let q = c.in_ok-page.page.now in
-    let at : slice_get inside.pages.items c.args.pid ≡ Some q =
-    sym (ap (λ pages. slice_get pages c.args.pid) c.deref.ensures.value) ∙ slice_get_read c.deref.result.now _ c.args.pid q refl found.3.0 (found.3.1 q) in (
+    let at = c.in_ok-page.ensures in (
       size_of q,
       subst (λ cache. HasNode cache c.args.pid (size_of q)) c.self.view_is
-          (map-at (λ (p : Page). node_size p) inside.pages.items c.args.pid q at ∙ ap (λ (k : Kept). Some (size_if (size_of q) k)) c.in-Node.is),
+          (map-at (λ (p : Page). node_size p) inside.pages.pages c.args.pid q at ∙ ap (λ (k : Kept). Some (size_if (size_of q) k)) c.in-Node.is),
     )

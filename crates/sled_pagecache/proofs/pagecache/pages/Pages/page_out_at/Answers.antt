@@ -1,4 +1,4 @@
-use Rattle.sled_pagecache.proofs.Names.{◌≡◌, Some, slice_get, refl, sym, subst, arith, slice_get_read}
+use Rattle.sled_pagecache.proofs.Names.{◌≡◌, sym, subst, arith}
 use Rattle.sled_pagecache.proofs.InMemory.{past-view}
 use Rattle.sled_pagecache.proofs.PagingOut.{consistent-out, out-page, out-none}
 use Rattle.sled_pagecache.proofs.TableNodes.{view}
@@ -8,19 +8,19 @@ use Rattle.sled_pagecache.proofs.pagecache.pages.Pages.page_out_at.Goals as goal
 pub invariant_of-self : goal.invariant_of-self
 invariant_of-self g c =
     let inside = c.self.inside in
-    let at : slice_get inside.pages.items c.args.pid ≡ Some c.index_mut.result.now = slice_get_read inside.pages.items _ c.args.pid c.index_mut.result.now refl (omega (arith, c.if-pid-len.true, c.len.ensures)) c.index_mut.ensures.value in
-    consistent-out g.L.Log inside.journal inside.pages.items inside.free.items c.args.pid c.index_mut.result.now c.page_out.new.self c.self.invariant at c.page_out.ensures
+    let at = c.get_mut.ensures.page in
+    consistent-out g.L.Log inside.journal inside.pages.pages inside.free.items c.args.pid c.get_mut.result.now c.page_out.new.self c.self.invariant at c.page_out.ensures
 
 pub returns-then-pid-len : goal.returns-then-pid-len
 returns-then-pid-len g c =
     let inside = c.self.inside in
-    let at : slice_get inside.pages.items c.args.pid ≡ Some c.index_mut.result.now = slice_get_read inside.pages.items _ c.args.pid c.index_mut.result.now refl (omega (arith, c.if-pid-len.true, c.len.ensures)) c.index_mut.ensures.value in
-    rw (← c.self.view_is) (out-page inside.next inside.config inside.recovered inside.journal inside.pages.items c.args.pid c.index_mut.result.now c.page_out.new.self at c.page_out.ensures)
+    let at = c.get_mut.ensures.page in
+    rw (← c.self.view_is) (out-page inside.next inside.config inside.recovered inside.journal inside.pages.pages c.args.pid c.get_mut.result.now c.page_out.new.self at c.page_out.ensures)
 
 pub returns-else-pid-len : goal.returns-else-pid-len
 returns-else-pid-len g c =
     let inside = c.self.inside in
     rw (← c.self.view_is)
-    (out-none (λ other. other ≡ c.args.pid) (view inside.next inside.config inside.recovered inside.journal inside.pages.items)
-    (λ other same. subst (HasNoNode (view inside.next inside.config inside.recovered inside.journal inside.pages.items)) (sym same)
-    (past-view inside.next inside.next inside.config inside.recovered inside.journal inside.journal inside.pages.items c.args.pid (omega (arith, c.if-pid-len.false, c.len.ensures)))))
+    (out-none (λ other. other ≡ c.args.pid) (view inside.next inside.config inside.recovered inside.journal inside.pages.pages)
+    (λ other same. subst (HasNoNode (view inside.next inside.config inside.recovered inside.journal inside.pages.pages)) (sym same)
+    (past-view inside.next inside.next inside.config inside.recovered inside.journal inside.journal inside.pages.pages c.args.pid (omega (arith, c.if-pid-len.false, c.len.ensures.number)))))

@@ -27,26 +27,25 @@ pub returns-in-Stale-clause-step : goal.returns-in-Stale-clause-step
 returns-in-Stale-clause-step g c =
     rw (← c.self.view_is)
     (judged-stale g.L.Log _ _ _ _ _ c.self.invariant.beside (g.met.L.Log.only_now _) c.args.old c.args.pid c.requires c.args.node (call.Replace c.args.old c.args.node) Replaced _ (replace-swap g.L.Log _ c.args.old c.args.node)
-    c.in-Stale.present (judged-by _ _ _ _ _ _ _ c.deref.ensures.value c.in-Stale.is c.in_ok-present.ensures))
+    c.in-Stale.present (judged-by c.self.inside.journal.fault c.self.inside.pages.pages c.args.pid c.args.old _ _ c.in-Stale.is c.in_ok-present.ensures))
 
 pub returns-in-Gone-clause-step : goal.returns-in-Gone-clause-step
 returns-in-Gone-clause-step g c =
     rw (← c.self.view_is)
     (judged-gone g.L.Log _ _ _ _ _ c.self.invariant.beside (g.met.L.Log.only_now _) c.args.old c.args.pid c.requires c.args.node (call.Replace c.args.old c.args.node) Replaced _ (replace-swap g.L.Log _ c.args.old c.args.node)
-    (judged-by _ _ _ _ _ _ _ c.deref.ensures.value c.in-Gone.is c.in_ok-present.ensures))
+    (judged-by c.self.inside.journal.fault c.self.inside.pages.pages c.args.pid c.args.old _ _ c.in-Gone.is c.in_ok-present.ensures))
 
-pub index_mut-page-requires : goal.index_mut-page-requires
-index_mut-page-requires g c =
+pub get_mut-page-requires : goal.get_mut-page-requires
+get_mut-page-requires g c =
     let inside = c.self.inside in
-    let within = fresh-within inside.journal.fault inside.pages.items c.args.pid c.args.old (judged-by inside.journal.fault c.deref.result.now inside.pages.items c.args.pid c.args.old c.in_ok-present.field-0 Fresh c.deref.ensures.value c.in-Fresh.is c.in_ok-present.ensures) in
-    omega (arith, within, inside.pages.ok.0)
+    fresh-within inside.journal.fault inside.pages.pages c.args.pid c.args.old (judged-by inside.journal.fault inside.pages.pages c.args.pid c.args.old c.in_ok-present.field-0 Fresh c.in-Fresh.is c.in_ok-present.ensures)
 
 pub replace_page-requires-clause-there : goal.replace_page-requires-clause-there
 replace_page-requires-clause-there g c = λ told.
     let inside = c.self.inside in
-    let table = inside.pages.items in
-    let q = c.index_mut-page.result.now in
-    let fresh = fresh-at inside.journal.fault c.deref.result.now table c.args.pid c.args.old c.in_ok-present.field-0 q c.deref.ensures.value c.in-Fresh.is c.in_ok-present.ensures c.index_mut-page.ensures.value in
+    let table = inside.pages.pages in
+    let q = c.get_mut-page.result.now in
+    let fresh = fresh-at inside.journal.fault table c.args.pid c.args.old c.in_ok-present.field-0 q c.in-Fresh.is c.in_ok-present.ensures c.get_mut-page.ensures.page in
     let within = slice_get_within table c.args.pid q fresh.at in
     let long = beside-long g.L.Log.tells g.L.Log.state inside.journal.log table (c.self.invariant.beside fresh.clear) told in
     omega (arith, within, long)
@@ -54,8 +53,8 @@ replace_page-requires-clause-there g c = λ told.
 pub invariant_of-self : goal.invariant_of-self
 invariant_of-self g c =
     let inside = c.self.inside in
-    let table = inside.pages.items in
-    let fresh = fresh-at inside.journal.fault c.deref.result.now table c.args.pid c.args.old c.in_ok-present.field-0 c.index_mut-page.result.now c.deref.ensures.value c.in-Fresh.is c.in_ok-present.ensures c.index_mut-page.ensures.value in
+    let table = inside.pages.pages in
+    let fresh = fresh-at inside.journal.fault table c.args.pid c.args.old c.in_ok-present.field-0 c.get_mut-page.result.now c.in-Fresh.is c.in_ok-present.ensures c.get_mut-page.ensures.page in
     let refused = c.in_err-replace_page.ensures in
     let told : Result (Unit {0}) Refusal = Err c.in_err-replace_page.field-0.0 in
     rw (put-back table c.args.pid c.replace_page.new.page (fresh.at ∙ ap (λ page. Some page) (sym refused.left)))
@@ -66,9 +65,9 @@ invariant_of-self g c =
 pub invariant_of-self-2 : goal.invariant_of-self-2
 invariant_of-self-2 g c =
     let inside = c.self.inside in
-    let table = inside.pages.items in
-    let q = c.index_mut-page.result.now in
-    let fresh = fresh-at inside.journal.fault c.deref.result.now table c.args.pid c.args.old c.in_ok-present.field-0 q c.deref.ensures.value c.in-Fresh.is c.in_ok-present.ensures c.index_mut-page.ensures.value in
+    let table = inside.pages.pages in
+    let q = c.get_mut-page.result.now in
+    let fresh = fresh-at inside.journal.fault table c.args.pid c.args.old c.in_ok-present.field-0 q c.in-Fresh.is c.in_ok-present.ensures c.get_mut-page.ensures.page in
     let done = c.in_ok-replace_page.ensures in
     let after = c.replace_page.new.page in
     consistent-put g.L.Log.tells g.L.Log.state inside.journal c.replace_page.new.journal table inside.free.items inside.free.items c.self.invariant fresh.clear
@@ -79,9 +78,9 @@ invariant_of-self-2 g c =
 pub returns-in_err-replace_page : goal.returns-in_err-replace_page
 returns-in_err-replace_page g c =
     let inside = c.self.inside in
-    let table = inside.pages.items in
-    let q = c.index_mut-page.result.now in
-    let fresh = fresh-at inside.journal.fault c.deref.result.now table c.args.pid c.args.old c.in_ok-present.field-0 q c.deref.ensures.value c.in-Fresh.is c.in_ok-present.ensures c.index_mut-page.ensures.value in
+    let table = inside.pages.pages in
+    let q = c.get_mut-page.result.now in
+    let fresh = fresh-at inside.journal.fault table c.args.pid c.args.old c.in_ok-present.field-0 q c.in-Fresh.is c.in_ok-present.ensures c.get_mut-page.ensures.page in
     let refused = c.in_err-replace_page.ensures in
     let refusal = c.in_err-replace_page.field-0.0 in
     let after = c.replace_page.new.page in
@@ -104,9 +103,9 @@ returns-in_err-replace_page g c =
 pub returns : goal.returns
 returns g c =
     let inside = c.self.inside in
-    let table = inside.pages.items in
-    let q = c.index_mut-page.result.now in
-    let fresh = fresh-at inside.journal.fault c.deref.result.now table c.args.pid c.args.old c.in_ok-present.field-0 q c.deref.ensures.value c.in-Fresh.is c.in_ok-present.ensures c.index_mut-page.ensures.value in
+    let table = inside.pages.pages in
+    let q = c.get_mut-page.result.now in
+    let fresh = fresh-at inside.journal.fault table c.args.pid c.args.old c.in_ok-present.field-0 q c.in-Fresh.is c.in_ok-present.ensures c.get_mut-page.ensures.page in
     let done = c.in_ok-replace_page.ensures in
     let after = c.replace_page.new.page in
     let made : c.new.result ≡ token c.args.pid (c.args.old.stamp + 1) = c.new.ensures ∙ ap (token c.args.pid) (done.stamp.1 ∙ ap (λ n. n + 1) fresh.stamp) in

@@ -13,7 +13,7 @@ returns-in-Ok-clause-opens g c =
     let opening = c.in-Ok.opening in
     let done = c.in-Ok.ensures in
     λ sound told held logged.
-    opens-done g.L.Log told c.args.config before held logged c.open.new.journal (stamps_in opening.pages.items) (resident_in opening.pages.items) (nodes_in opening.pages.items) opening.next opening.recovered
+    opens-done g.L.Log told c.args.config before held logged c.open.new.journal (stamps_in opening.pages.pages) (resident_in opening.pages.pages) (nodes_in opening.pages.pages) opening.next opening.recovered
     (subst (λ (l : List (Event Message)). Proceeds g.L.Log before c.open.new.journal l None) (done.proceeds.are told) done.proceeds.proceeds) (done.consistent.beside done.proceeds.proceeds.fault).closed (done.opened told (now held) (holds_now (g.L.Log.state c.args.log) held logged)) (done.stable told)
 
 pub returns-in-Err-clause-opens : goal.returns-in-Err-clause-opens
@@ -31,9 +31,9 @@ returns-in-Err-clause-again g c =
 pub returns-in-Ok-clause-unread : goal.returns-in-Ok-clause-unread
 returns-in-Ok-clause-unread g c =
     let done = c.in-Ok.ensures in
-    λ told pid from is. resident-empty (log_now effect_of_entry (g.L.Log.state c.open.new.journal.log)) c.in-Ok.opening.pages.items ((done.consistent.beside done.proceeds.proceeds.fault).kept told) pid (done.unread pid from) is
+    λ told pid from is. resident-empty (log_now effect_of_entry (g.L.Log.state c.open.new.journal.log)) c.in-Ok.opening.pages.pages ((done.consistent.beside done.proceeds.proceeds.fault).kept told) pid (done.unread pid from) is
 
 pub returns-in-Ok-clause-none : goal.returns-in-Ok-clause-none
 returns-in-Ok-clause-none g c =
     let opening = c.in-Ok.opening in
-    lacks-nodes opening.next c.args.config opening.recovered c.open.new.journal opening.pages.items c.in-Ok.ensures.consistent.own c.in-Ok.ensures.unread
+    lacks-nodes opening.next c.args.config opening.recovered c.open.new.journal opening.pages.pages c.in-Ok.ensures.consistent.own c.in-Ok.ensures.unread

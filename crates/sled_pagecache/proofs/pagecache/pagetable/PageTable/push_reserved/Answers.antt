@@ -1,0 +1,25 @@
+use Rattle.std.proofs.Common.{◌∷◌, ◌++◌, ◌∙◌, [], length, ap, arith}
+use Rattle.sled_pagecache.proofs.PageChunks.{some-last}
+use Rattle.sled_pagecache.proofs.PageTables.{pages-grow, grows-table}
+use Rattle.sled_pagecache.specs.PageTables.{TableView, has_room}
+use Rattle.sled_pagecache.specs.Limits.{chunk_length}
+use Rattle.sled_pagecache.proofs.pagecache.pagetable.PageTable.push_reserved.Goals as goal
+
+pub invariant_of-self : goal.invariant_of-self
+invariant_of-self c =
+    let chunks = c.self.inside.chunks in
+    let room = ap (λ (t : TableView). t.room) c.self.view_is ∙ c.requires.room in
+    let some = some-last (has_room chunk_length) chunks.items room in
+    let len = c.len-last.ensures in
+    let few = ap (λ (t : TableView). length t.pages) c.self.view_is in
+    let pushed = c.push_reserved.ensures.len in
+    grows-table _ _ (omega (arith, chunks.ok.0)) _ c.index_mut-chunk.ensures.value c.self.invariant c.push_reserved.new.self room (omega (arith, c.requires.few)) (omega arith)
+
+pub returns : goal.returns
+returns c =
+    let chunks = c.self.inside.chunks in
+    let room = ap (λ (t : TableView). t.room) c.self.view_is ∙ c.requires.room in
+    let some = some-last (has_room chunk_length) chunks.items room in
+    let len = c.len-last.ensures in
+    pages-grow _ _ (omega (arith, chunks.ok.0)) _ c.index_mut-chunk.ensures.value c.self.invariant _ _ c.push_reserved.ensures.items
+    ∙ ap (λ (t : TableView). t.pages ++ c.args.page ∷ []) c.self.view_is
