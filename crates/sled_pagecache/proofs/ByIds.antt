@@ -1,6 +1,5 @@
 -- Lists whose items are so by their ids.
-use Rattle.sled_pagecache.proofs.Names.{◌≡◌, ◌≤◌, ℕ, zero, suc, List, [], ◌∷◌, ◌++◌, length, slice_get, slice_set, slice_index_or, Option, Some, refl, subst, arith, none-some, same_Some, slice_get_within, get_or_from_slice_get, IfSome, AllByRecursion, AllZip, AllById, IsInOrder}
-use Rattle.sled_log.specs.ZipLaws.{zip-at}
+use Rattle.sled_pagecache.proofs.Names.{◌≡◌, ◌≤◌, ℕ, zero, suc, List, [], ◌∷◌, ◌++◌, length, slice_get, slice_set, slice_index_or, Option, Some, refl, subst, arith, none-some, same_Some, slice_get_within, get_or_from_slice_get, IfSome, AllByRecursion, AllZip, AllById, IsInOrder, zip-at}
 
 module _ {X : Type 0} where
   pub at-id : (P : ℕ → X → Type 0) (xs : List X) (i : ℕ) (x : X) → AllById P xs → slice_get xs i ≡ Some x → P i x

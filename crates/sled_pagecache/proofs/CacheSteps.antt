@@ -1,9 +1,8 @@
 -- One call of the cache is one step of the machine.
-use Rattle.sled_pagecache.proofs.Names.{◌≡◌, Bool, true, false, List, [], ◌++◌, refl, sym, ◌∙◌, ap, subst, false≢true, is_open, open_after, Update, contents_after, Event, open_after-append, is_open-drop, Message, effect_of, AreTold, Ghosts, Cache, IsIn, IsSameOpening, IsStep, StepOver, Steps, Went, Logged, IsLogged, Adds, StayProper, State, Outcome, unchanged, contents_of, stamps_of, Answer, Call, Journal}
+use Rattle.sled_pagecache.proofs.Names.{◌≡◌, Bool, true, false, List, [], ◌++◌, refl, sym, ◌∙◌, ap, subst, false≢true, is_open, open_after, Update, contents_after, Event, open_after-append, is_open-drop, Message, effect_of, AreTold, Ghosts, Cache, IsIn, IsSameOpening, IsStep, StepOver, Steps, Went, Logged, IsLogged, Adds, StayProper, State, Outcome, unchanged, contents_of, stamps_of, Answer, Call, Journal, KnowsLog}
 use Rattle.sled_log.specs.State as log
 use Rattle.sled_pagecache.proofs.Carrying.{carries, leaves, proper-now}
 use Rattle.sled_pagecache.proofs.Staying.{stay-none}
-use Rattle.sled_pagecache.specs.Cache.{KnowsLog}
 use Rattle.sled_pagecache.specs.Logged.{now, IsLeft}
 
 -- the changes leave a batch open or closed as they say, up to whatever cut they became stable

@@ -1,7 +1,5 @@
 -- A get as a step of the machine: a page is brought in, and then its node is lent.
-use Rattle.std.specs.Prelude.{MatchOption}
-use Rattle.sled_pagecache.specs.Memory.{HasNode, HasNoNode, IsBounded, KeepsMemory, AccessesPage, FindsPage}
-use Rattle.sled_pagecache.proofs.Names.{◌≡◌, inl, inr, ℕ, Bool, true, false, List, [], Option, Some, None, Result, Ok, Err, slice_get, slice_index_or, refl, sym, ◌∙◌, ap, subst, false≢true, false_from_ne_true, error_of, IsOk, IsErrOf, Write, Error, Refusal, Io, Corruption, OutOfMemory, ReservedId, Content, Free, Node, Damaged, Chain, told, holds-made, Makes, Holds, Ghosts, WholeNode, Keeps, Cache, IsIn, IsResident, IsAway, Steps, IsBlamed, chain_at, ReportsWrong, is_write_fault, Logged, journal_of, RefusesReading, BringsIn, IsNodeAt, IsUsers, RefusesPull, ReadsPage, page, State, page_at, is_reserved, Finds, FindsContent, Token, Got, Get, NodeView, IsGot, Outcome, unchanged, Gets}
+use Rattle.sled_pagecache.proofs.Names.{MatchOption, HasNode, HasNoNode, IsBounded, KeepsMemory, AccessesPage, FindsPage, ◌≡◌, inl, inr, ℕ, Bool, true, false, List, [], Option, Some, None, Result, Ok, Err, slice_get, slice_index_or, refl, sym, ◌∙◌, ap, subst, false≢true, false_from_ne_true, error_of, IsOk, IsErrOf, Write, Error, Refusal, Io, Corruption, OutOfMemory, ReservedId, Content, Free, Node, Damaged, Chain, told, holds-made, Makes, Holds, Ghosts, WholeNode, Keeps, Cache, IsIn, IsResident, IsAway, Steps, IsBlamed, chain_at, ReportsWrong, is_write_fault, Logged, journal_of, RefusesReading, BringsIn, IsNodeAt, IsUsers, RefusesPull, ReadsPage, page, State, page_at, is_reserved, Finds, FindsContent, Token, Got, Get, NodeView, IsGot, Outcome, unchanged, Gets}
 use Rattle.std.specs.Prelude.{IfSome}
 use Rattle.sled_base.specs.declared.types.Error.TheVariants as error
 use Rattle.sled_pagecache.proofs.Answers.{keeps-stuck, keeps-err, keeps-ok}

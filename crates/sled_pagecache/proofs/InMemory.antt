@@ -1,18 +1,9 @@
 -- Which pages of a table lie in memory, where one of them changes.
-use Rattle.std.proofs.Math.Dec.{eqb}
-use Rattle.std.proofs.lemmas.Bool.Decides.{eqb_tells}
-use Rattle.sled_pagecache.specs.Accesses.{capped}
-use Rattle.sled_pagecache.proofs.Names.{is_resident, IsFreeOrNode, CacheInfo, Result, Ok, Err, ◌≡◌, ◌≢◌, ◌⊎◌, ◌≤◌, inl, inr, ℕ, zero, suc, Bool, true, false, List, [], ◌∷◌, ◌++◌, length, map, Option, Some, None, slice_get, slice_set, refl, sym, ◌∙◌, ap, subst, arith, length-map, none-some, same_Some, slice_get-map, slice_get_past, option_map, error_of, Error, Refusal, OutOfMemory, Io, LogFull, IsOfLog, IsHindrance, WholeNode, Cache, is_free, nodes_in, resident_in, Config, Journal, Kept, Page}
+use Rattle.sled_pagecache.proofs.Names.{eqb, eqb_tells, capped, is_resident, IsFreeOrNode, CacheInfo, Result, Ok, Err, ◌≡◌, ◌≢◌, ◌⊎◌, ◌≤◌, inl, inr, ℕ, zero, suc, Bool, true, false, List, [], ◌∷◌, ◌++◌, length, map, Option, Some, None, slice_get, slice_set, refl, sym, ◌∙◌, ap, subst, arith, length-map, none-some, same_Some, slice_get-map, slice_get_past, option_map, error_of, Error, Refusal, OutOfMemory, Io, LogFull, IsOfLog, IsHindrance, WholeNode, Cache, is_free, nodes_in, resident_in, Config, Journal, Kept, Page, IsListed, rounded, IsTouched, WasAccessed, HasNode, HasNoNode, AreListed, StaysAt, node_size, size_of, size_if, size_in, AllStay, IsListedAt, AccessesNode, TakesNode, FindsNode, LosesAtMost, Accesses}
 use Rattle.std.specs.Prelude.{OnOk, OnErr, IfSome, MatchOption}
-use Rattle.sled_base.specs.Lru.{IsListed, rounded}
 use Rattle.sled_base.specs.declared.types.Refusal.TheVariants as refusals
 use Rattle.sled_pagecache.proofs.Lookups.{map-at, set-at}
 use Rattle.sled_pagecache.proofs.TableNodes.{view}
-use Rattle.sled_pagecache.specs.Accesses.{IsTouched, WasAccessed}
-use Rattle.sled_pagecache.specs.Memory.{HasNode, HasNoNode, AreListed, StaysAt}
-use Rattle.sled_pagecache.specs.Pages.{node_size, size_of, size_if, size_in}
-use Rattle.sled_pagecache.specs.Touching.{AllStay, IsListedAt, AccessesNode, TakesNode, FindsNode, LosesAtMost}
-use Rattle.sled_pagecache.specs.declared.pagecache.accesses.Accesses.{Accesses}
 use Rattle.sled_pagecache.specs.declared.pagecache.page.Kept.TheVariants as kept
 
 -- ---- lists

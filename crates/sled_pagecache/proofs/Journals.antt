@@ -1,7 +1,6 @@
 -- What one call of a log makes of the journal that makes it.
 use Rattle.sled_pagecache.proofs.Names.{◌≡◌, ◌||◌, ℕ, Bool, false, not, List, [], Result, Ok, Err, refl, sym, ◌∙◌, ap, subst, false≢true, IfOk, OnErr, is_open, open_after, Called, Counts, chains_after, Event, now-Adds, Message, Entry, Told, effect_of, effect_of_entry, now, IsLeft, StopsLeave, told_state, told_events, Adds-told, LogError, WriteFault, Went, told_by, begun_by, Journal}
-use Rattle.sled_log.specs.Calls.{begun_by as begun_of}
-use Rattle.sled_log.specs.Calls.{is_write_fault as log_met_fault}
+use Rattle.sled_log.specs.Calls.{begun_by as begun_of, is_write_fault as log_met_fault}
 use Rattle.sled_log.specs.State.{State, Adds}
 
 -- a fault is kept where there was none before

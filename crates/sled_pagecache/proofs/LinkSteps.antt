@@ -17,8 +17,7 @@ use Rattle.sled_pagecache.proofs.TableNodes.{view}
 use Rattle.sled_pagecache.proofs.Standing.{kept-free}
 use Rattle.sled_pagecache.specs.LinkedPages as linked
 use Rattle.sled_pagecache.specs.Logged.{now}
-use Rattle.sled_pagecache.specs.State.{Page}
-use Rattle.sled_pagecache.specs.State.{is_free as is_free_content}
+use Rattle.sled_pagecache.specs.State.{Page, is_free as is_free_content}
 use Rattle.sled_pagecache.specs.declared.pagecache.call.Call.TheVariants as call
 use Rattle.sled_pagecache.specs.declared.pagecache.page.Page.{Page as KeptPage}
 

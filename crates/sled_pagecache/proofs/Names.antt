@@ -1,6 +1,9 @@
 -- The names that the proofs of this crate have in common.
+pub use Rattle.sled_base.specs.Containing.{contains_none}
 pub use Rattle.sled_base.specs.Errors.{error_of}
 pub use Rattle.sled_base.specs.Kinds.{log_kind_of}
+pub use Rattle.sled_base.specs.Lru.{IsAccessed, IsListed, IsSound, IsUnused, Listing, Recency, listing, rounded}
+pub use Rattle.sled_base.specs.LruLaws.{each_at, itself_is_listed, itself_stays, others_stay_or_leave}
 pub use Rattle.sled_base.specs.Payloads.Numbers.{ReadsU64}
 pub use Rattle.sled_base.specs.declared.kinds.LogKind.{LogKind}
 pub use Rattle.sled_base.specs.declared.kinds.MessageKind.{MessageKind}
@@ -15,6 +18,7 @@ pub use Rattle.sled_base.specs.declared.types.Refusal.TheVariants.{Corruption, I
 pub use Rattle.sled_base.specs.declared.types.Why.{Why}
 pub use Rattle.sled_base.specs.declared.types.Why.TheVariants.{LogFull, PagesUsedUp, ReservedId, StampUsedUp}
 pub use Rattle.sled_base.specs.declared.types.page_state.PageState.{PageState}
+pub use Rattle.sled_log.proofs.Faulty.{called_over, called_unread, called_unwritten}
 pub use Rattle.sled_log.specs.Batches.{is_open, open_after}
 pub use Rattle.sled_log.specs.Calls.{Called, Counts, HasGrown, one_more}
 pub use Rattle.sled_log.specs.Chains.{chains_after, chains_from, changed, is_chain, is_empty, is_freeing, is_linking, linked, may_follow}
@@ -23,6 +27,7 @@ pub use Rattle.sled_log.specs.Events.{Cancel, Change, Event, Pin, Seal, seen}
 pub use Rattle.sled_log.specs.HoldingLaws.{holds-added, holds-after, holds-made, may-tell}
 pub use Rattle.sled_log.specs.Items.{left_now}
 pub use Rattle.sled_log.specs.Laws.{Adds-none, IsLeft-more, StopsLeave-none, is_open-drop, now-Adds, open_after-append}
+pub use Rattle.sled_log.specs.Limits.{head_size}
 pub use Rattle.sled_log.specs.Memory.{clock_of, counts_of, might_have_left, state_of}
 pub use Rattle.sled_log.specs.Messages.{Chain, Entry, Message, Told, blob_kind, effect_of, effect_of_entry, kind_at, message, message_in, placed, told}
 pub use Rattle.sled_log.specs.Pages.{IsAt, IsPageState, IsRead, IsSized, freed_of, said_of}
@@ -34,7 +39,7 @@ pub use Rattle.sled_log.specs.State.{IsBeginning, IsLeft, StopsLeave, now, told_
 pub use Rattle.sled_log.specs.TellingLaws.{Adds-told, is_open-told, now-told, told_events}
 pub use Rattle.sled_log.specs.Writing.{CanWrite, message_of}
 pub use Rattle.sled_log.specs.WritingLaws.{written-update}
-pub use Rattle.sled_log.specs.ZipLaws.{zip-append, zip-set}
+pub use Rattle.sled_log.specs.ZipLaws.{zip-append, zip-at, zip-set}
 pub use Rattle.sled_log.specs.declared.log.Log.{Ghosts}
 pub use Rattle.sled_log.specs.declared.log.LogError.{LogError}
 pub use Rattle.sled_log.specs.declared.log.LogError.TheVariants.{ReadFault, WriteFault}
@@ -43,10 +48,11 @@ pub use Rattle.sled_node.specs.Links.{Accepts, applied}
 pub use Rattle.sled_node.specs.Node.{WholeNode}
 pub use Rattle.sled_node.specs.Payloads.Nodes.{ReadsNode}
 pub use Rattle.sled_node.specs.Payloads.Roots.{ReadsRoots}
+pub use Rattle.sled_pagecache.specs.Accesses.{IsTouched, WasAccessed, capped}
 pub use Rattle.sled_pagecache.specs.Adding.{HasOneMore, RefusesPage}
 pub use Rattle.sled_pagecache.specs.Answers.{Keeps, stamped, swapped}
 pub use Rattle.sled_pagecache.specs.ByIds.{AllById, IsInOrder}
-pub use Rattle.sled_pagecache.specs.Cache.{Cache, IsAway, IsIn, IsResident, chain_length, chain_size, unlisted}
+pub use Rattle.sled_pagecache.specs.Cache.{Cache, IsAway, IsIn, IsResident, KnowsLog, chain_length, chain_size, unlisted}
 pub use Rattle.sled_pagecache.specs.Calls.{HasNoRoom, IsBlamed, IsSameOpening, IsStep, StepOver, Steps}
 pub use Rattle.sled_pagecache.specs.ChainReads.{IsFoundAs, chain_at, more, place_of}
 pub use Rattle.sled_pagecache.specs.Changes.{link_update}
@@ -55,20 +61,24 @@ pub use Rattle.sled_pagecache.specs.Journal.{IsCaused, IsOfLog, Went, begun_by, 
 pub use Rattle.sled_pagecache.specs.JournalLaws.{HasGrown-since, IsCaused-handed_on, IsCaused-since, Went-last, Went-none, Went-then, now-Went}
 pub use Rattle.sled_pagecache.specs.Judging.{IsJudged, Judges}
 pub use Rattle.sled_pagecache.specs.Lending.{IsGot}
-pub use Rattle.sled_pagecache.specs.Limits.{batch_manifest_pid, counter_pid, meta_pid}
+pub use Rattle.sled_pagecache.specs.Limits.{batch_manifest_pid, chunk_length, counter_pid, meta_pid}
 pub use Rattle.sled_pagecache.specs.LinkTests.{IsTested, TestsFirst}
 pub use Rattle.sled_pagecache.specs.LinkedPages.{HadNoRoom, RefusesTold, RefusesUntold, TakesLink, TellsLink, WasBegun, update_by}
 pub use Rattle.sled_pagecache.specs.Loading.{AreFound, AreRead, AreRecovered, IsFoundAt, IsLoaded, IsOpenedWith, IsTable, IsUnread, RefusesOwn, RefusesPages, counter_told, next_id, roots_told, stamps_at_start, told_at_start, told_of_roots}
 pub use Rattle.sled_pagecache.specs.Logged.{Adds, AreKept, IsLogged, Logged}
+pub use Rattle.sled_pagecache.specs.Memory.{AccessesPage, AreListed, AreSized, FindsPage, HasNoNode, HasNode, IsBounded, KeepsMemory, LeavesMemory, LeavesNodes, LeavesOthers, ListsResident, StaysAt}
 pub use Rattle.sled_pagecache.specs.Opening.{changes_of_start, fault_of, first_id, missing, opened}
-pub use Rattle.sled_pagecache.specs.Pages.{HoldsChain, IsKept, free_ids, freed_at, is_free, is_resident}
-pub use Rattle.sled_pagecache.specs.PagesIn.{BringsIn, IsNodeAt, RefusesReading, journal_of}
+pub use Rattle.sled_pagecache.specs.PageTables.{TableView, has_room}
+pub use Rattle.sled_pagecache.specs.Pages.{HoldsChain, IsKept, free_ids, freed_at, is_free, is_resident, node_size, size_if, size_in, size_linked, size_of}
+pub use Rattle.sled_pagecache.specs.PagesIn.{BringsIn, IsNodeAt, LeavesPages, RefusesReading, journal_of}
+pub use Rattle.sled_pagecache.specs.PagingOut.{IsPagedOut, PagesOut, paged_out}
 pub use Rattle.sled_pagecache.specs.Proceeding.{Comes, IsCutShort, LacksRoom, Proceeds, Reaches, TakesNoRoom, is_fault, refusal_in}
 pub use Rattle.sled_pagecache.specs.Proper.{AreRoots, IsProper, IsUsers, StayProper}
 pub use Rattle.sled_pagecache.specs.Pulling.{RefusesPull}
 pub use Rattle.sled_pagecache.specs.Reading.{BeginsFree, IsDamaged, IsFirstWrong, IsFoundWrong, IsWrongAt, Leads, MakesNode, RefusesMessage, RefusesNode, told_of}
 pub use Rattle.sled_pagecache.specs.Reads.{HasRead, ReadsNothing, ReadsPage, own_among}
 pub use Rattle.sled_pagecache.specs.Recovered.{AllFit, BeginsMisfit, IsRecovered, info_at, is_misfit, kept_by}
+pub use Rattle.sled_pagecache.specs.Relisting.{IsSettled, Settles, lost_by, relisted}
 pub use Rattle.sled_pagecache.specs.Reopening.{CrashReopens, Reopens, Started}
 pub use Rattle.sled_pagecache.specs.RowLaws.{made-row, row-none, row-one, row-then}
 pub use Rattle.sled_pagecache.specs.Stamps.{stamps_to}
@@ -78,7 +88,9 @@ pub use Rattle.sled_pagecache.specs.State.{State, contents_of, free_token, great
 pub use Rattle.sled_pagecache.specs.Step.{Allocates, Does, Fails, Finds, FindsContent, Flushes, Gets, IsCorruption, IsGone, IsHindered, IsRefused, Links, LinksContent, LinksNode, Outcome, Replaces, Sizes, Swapped, Swaps, SwapsContent, SwapsPage, UnlessFaulty, UnlessReserved, UnlessStale, is_reserved, outcome, unchanged}
 pub use Rattle.sled_pagecache.specs.Swaps.{IsLinked, IsRaised, RefusesLink, RefusesSwap, Wrote, infos_after, linked_length, update_of}
 pub use Rattle.sled_pagecache.specs.Table.{AreOwn, IsBeside, IsConsistent, IsCounter, IsFreeOrNode, IsOwnAt, IsRoots, nodes_in, resident_in, stamps_in}
-pub use Rattle.sled_pagecache.specs.Token.{IsAnswered, Token, pid_of, token}
+pub use Rattle.sled_pagecache.specs.Token.{IsAnswered, Token, pid_of, stamp_of, token}
+pub use Rattle.sled_pagecache.specs.Touching.{AccessesNode, AllStay, FindsNode, IsListedAt, LacksNodes, LosesAtMost, LosesNone, TakesNode}
+pub use Rattle.sled_pagecache.specs.declared.pagecache.accesses.Accesses.{Accesses}
 pub use Rattle.sled_pagecache.specs.declared.pagecache.call.Answer.{Answer}
 pub use Rattle.sled_pagecache.specs.declared.pagecache.call.Answer.TheVariants.{Allocated, Flushed, Got, Linked, Replaced, Sized}
 pub use Rattle.sled_pagecache.specs.declared.pagecache.call.Call.{Call}
@@ -92,20 +104,27 @@ pub use Rattle.sled_pagecache.specs.declared.pagecache.page.Kept.{Kept}
 pub use Rattle.sled_pagecache.specs.declared.pagecache.page.Page.{Page}
 pub use Rattle.sled_pagecache.specs.declared.pagecache.reading.Found.{Found}
 pub use Rattle.sled_pagecache.specs.declared.pagecache.view.NodeView.{NodeView}
-pub use Rattle.std.proofs.Common.{Bool, Err, List, None, Ok, Option, Result, SFits, Some, [], add-one, ap, arith, below_more, cond, drop, eq-eqb, false, get_or, inl, inr, is_some, length, ltb, map, not, of_z, pos, refl, rules, set, slice_get, slice_index_or, slice_set, subst, suc, sym, take, to_z, true, vec_capacity, vec_len, w64, zero, zero-add, ℕ, ℤ, ⊎_elim, ◌&&◌, ◌++◌, ◌+◌, ◌-◌, ◌<◌, ◌==◌, ◌^◌, ◌||◌, ◌∙◌, ◌∷◌, ◌≡◌, ◌≢◌, ◌≤◌, ◌⊎◌}
+pub use Rattle.std.proofs.Common.{Bool, Bor, Err, List, None, Ok, Option, Result, SFits, Some, [], add-one, ap, arith, below_more, cond, drop, eq-eqb, false, get_or, inl, inr, is_some, length, ltb, map, nat_lt, not, of_z, pos, refl, rules, set, slice_get, slice_index_or, slice_set, subst, suc, sym, take, to_z, true, vec_capacity, vec_len, w64, zero, zero-add, ℕ, ℤ, ⊎_elim, ◌%◌, ◌&&◌, ◌*◌, ◌++◌, ◌+◌, ◌-◌, ◌/◌, ◌<◌, ◌==◌, ◌^◌, ◌||◌, ◌∙◌, ◌∷◌, ◌≡◌, ◌≢◌, ◌≤◌, ◌⊎◌}
+pub use Rattle.std.proofs.Math.Dec.{eqb}
 pub use Rattle.std.proofs.Math.ListN.{get_or-map}
 pub use Rattle.std.proofs.Math.Seq.{drop-append_seam, drop-nil, take-append_seam, take-nil}
-pub use Rattle.std.proofs.lemmas.Bool.{eqb-false, eqb-true, false_from_ne_true, false≢true, le-leb, le-ltb, lt-ltb, ltb-true, ne_eqb, or_parts, true≢false}
-pub use Rattle.std.proofs.lemmas.Bool.Decides.{nat_tests}
+pub use Rattle.std.proofs.lemmas.Bool.{and_from, and_parts, eqb-false, eqb-true, false_from_ne_true, false≢true, le-leb, le-ltb, lt-ltb, ltb-false, ltb-true, ne_eqb, or_parts, true≢false}
+pub use Rattle.std.proofs.lemmas.Bool.Decides.{eqb_tells, nat_tests}
 pub use Rattle.std.proofs.lemmas.Grind.{get_or_after_one}
 pub use Rattle.std.proofs.lemmas.Int.{to_z-of_z}
-pub use Rattle.std.proofs.lemmas.List.{append-nil, append_assoc, drop-map, drop_more, get_or-set_same, get_or_default, get_or_past, length-append, length-drop, length-map, length-set, map-append, map-set, set-get_or, take-append-drop, take-map, take_all, take_more}
+pub use Rattle.std.proofs.lemmas.List.{append-nil, append_assoc, drop-map, drop_more, get_or-set_same, get_or_default, get_or_past, length-append, length-drop, length-map, length-set, length_push, map-append, map-set, nil_from_length, set-append_left, set-append_right, set-get_or, take-append-drop, take-map, take_all, take_more}
+pub use Rattle.std.proofs.lemmas.List.Elements.{Contains-append_cases, Contains-append_left, Contains-append_right}
 pub use Rattle.std.proofs.lemmas.List.Quantifiers.{Any-push}
-pub use Rattle.std.proofs.lemmas.List.Sums.{sum_by-cons}
-pub use Rattle.std.proofs.lemmas.Option.{IfSome_then, get_or_from_slice_get, none-some, same_Some, slice_get-get_or, slice_get-map, slice_get_cases, slice_get_past, slice_get_read, slice_get_within}
+pub use Rattle.std.proofs.lemmas.List.Sums.{sum_by-cons, sum_by_push}
+pub use Rattle.std.proofs.lemmas.Nat.{div-add-mod', mod_below}
+pub use Rattle.std.proofs.lemmas.Option.{IfSome_then, get_or_from_slice_get, none-some, option_and_then_some, same_Some, slice_get-get_or, slice_get-map, slice_get_cases, slice_get_past, slice_get_read, slice_get_within}
 pub use Rattle.std.proofs.lemmas.Result.{IfErr-weaker, IfOk-weaker, err_from_is_err_and, on_err_weaker, on_ok_weaker}
 pub use Rattle.std.proofs.lemmas.Slice.Zip.{AllZip-long}
+pub use Rattle.std.specs.Bool.{if◌then◌else◌}
+pub use Rattle.std.specs.Global.{Vec}
 pub use Rattle.std.specs.List.{All, AllByRecursion, AllZip, Any, list_all, sum_by}
-pub use Rattle.std.specs.Option.{IfSome, option_map}
-pub use Rattle.std.specs.Prelude.{IfErr, IfOk, IsErrOf, IsOk, MatchBool, OnErr, OnOk, ⊤}
+pub use Rattle.std.specs.Option.{IfSome, option_and_then, option_map}
+pub use Rattle.std.specs.Prelude.{Contains, IfErr, IfOk, IsErrOf, IsOk, IsSomeAnd, MatchBool, MatchOption, OnErr, OnOk, min, ⊤}
 pub use Rattle.std.specs.Result.{IsErrAnd}
+pub use Rattle.std.specs.Slice.{IsItemAt}
+pub use Rattle.std.specs.Vec.{with_item}

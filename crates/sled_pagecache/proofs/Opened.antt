@@ -1,16 +1,8 @@
 -- What lies in memory, and what is listed, once a cache was opened.
-use Rattle.sled_base.specs.Containing.{contains_none}
-use Rattle.sled_base.specs.Lru.{Listing, listing, Recency, IsSound, IsUnused}
-use Rattle.sled_base.specs.LruLaws.{each_at}
-use Rattle.std.specs.Prelude.{◌/◌, ◌%◌, Contains}
-use Rattle.sled_pagecache.proofs.Names.{◌≡◌, ◌≤◌, ℕ, zero, suc, Bool, List, [], Option, None, Some, Result, Ok, slice_get, refl, sym, ◌∙◌, ap, subst, arith, none-some, Error, IfSome, Ghosts, Cache, AreOwn, IsRoots, IsCounter, IsOwnAt, Opens, IsUnread, Logged, Config, Journal, Kept, Page, slice_get-map, option_map}
+use Rattle.sled_pagecache.proofs.Names.{◌≡◌, ◌≤◌, ℕ, zero, suc, Bool, List, Option, None, Some, slice_get, refl, sym, ◌∙◌, ap, subst, arith, none-some, IfSome, AreOwn, IsRoots, IsCounter, IsOwnAt, IsUnread, Config, Journal, Kept, Page, slice_get-map, option_map, HasNoNode, node_size, size_of, size_if, LacksNodes}
 use Rattle.sled_pagecache.proofs.ByIds.{at-id}
 use Rattle.sled_pagecache.proofs.InMemory.{none-at}
 use Rattle.sled_pagecache.proofs.TableNodes.{view}
-use Rattle.sled_pagecache.specs.Memory.{HasNoNode, AreSized, IsBounded, ListsResident}
-use Rattle.sled_pagecache.specs.Pages.{node_size, size_of, size_if}
-use Rattle.sled_pagecache.specs.Relisting.{relisted}
-use Rattle.sled_pagecache.specs.Touching.{LacksNodes}
 use Rattle.sled_pagecache.specs.declared.pagecache.page.Kept.TheVariants as kept
 
 -- ---- the pages that are opened
@@ -42,37 +34,3 @@ lacks-nodes next config recovered journal pages own unread pid = by (slice_get p
     by (Some q) at =
         none-at next next config recovered journal journal pages pid q at
         (none-kept pid q (at-id (λ (id : ℕ) (page : Page). IsOwnAt id page.kept) pages pid q own at) (λ from. subst (λ (o : Option Page). IfSome o (λ page. IsUnread page.kept)) at (unread pid from)))
-
--- ---- the cache
-
-module _ {L : Type 0} (g : Ghosts L) (cache : Cache L) (lru : Recency) (unused : IsUnused cache.config.cache_capacity lru) where
-  pub opened-bounded : LacksNodes cache → IsSound lru → AreSized g cache → IsBounded g (relisted cache lru)
-  opened-bounded none sound sized = record {
-    listed = λ pid size has. absurd (none pid size has);
-    sized = sized;
-    sound = sound;
-    capacity = unused.capacity;
-  }
-
-  pub opened-lists : ListsResident (relisted cache lru)
-  opened-lists pid size listed =
-      absurd (contains_none (listing (pid / 256) size) (subst (λ shard. Contains shard (listing (pid / 256) size)) (each_at (λ (shard : List Listing). shard ≡ []) lru.shards (pid % 256) [] refl unused.empty) listed))
-
-pub opens-relisted : {L : Type 0} (g : Ghosts L) (log : L) (config : Config) (held : Logged) (cache : Cache L) (lru : Recency)
-    → (let opened : Result (Cache L) (Error × L) = Ok cache in Opens g log config held opened) → (let opened : Result (Cache L) (Error × L) = Ok (relisted cache lru) in Opens g log config held opened)
-opens-relisted g log config held cache lru opens = record {
-  stop = opens.stop;
-  held_then = opens.held_then;
-  added = opens.added;
-  stable = opens.stable;
-  is = record {
-    tells = opens.is.tells;
-    stamps = opens.is.stamps;
-    next = opens.is.next;
-    fault = opens.is.fault;
-    batch = opens.is.batch;
-    known = λ clear. let known = opens.is.known clear in record { usable = known.usable; logged = known.logged; contents = known.contents };
-  };
-  config_is = opens.config_is;
-  recovered = opens.recovered;
-}

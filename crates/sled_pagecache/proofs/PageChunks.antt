@@ -1,14 +1,8 @@
 -- What the chunks of a table keep at an id, and what a change of one chunk makes of them.
 use Rattle.std.proofs.Common.{◌≡◌, ◌+◌, ◌-◌, ◌*◌, ◌/◌, ◌%◌, ◌<◌, ◌≤◌, ℕ, zero, suc, Bool, true, false, List, [], ◌∷◌, ◌++◌, length, Option, Some, None, slice_get, get_or, set, vec_len, Bor, refl, sym, ◌∙◌, ap, subst, arith, length-append}
-use Rattle.std.proofs.lemmas.Bool.{false≢true, ltb-false}
-use Rattle.std.proofs.lemmas.List.{append-nil, append_assoc, length-set, length_push, set-append_left, set-append_right, set-get_or, get_or-set_same}
-use Rattle.std.proofs.lemmas.Nat.{div-add-mod', mod_below}
-use Rattle.std.proofs.lemmas.Option.{slice_get-get_or, slice_get_past, slice_get_read, slice_get_within, option_and_then_some}
-use Rattle.std.specs.Global.{Vec}
+use Rattle.sled_pagecache.proofs.Names.{false≢true, ltb-false, append-nil, append_assoc, length-set, length_push, set-append_left, set-append_right, set-get_or, get_or-set_same, div-add-mod', mod_below, slice_get-get_or, slice_get_past, slice_get_read, slice_get_within, option_and_then_some, Vec, IsItemAt, Page}
 use Rattle.std.specs.Option.{MatchOption, option_and_then, option_map, unwrap_or}
-use Rattle.std.specs.Slice.{IsItemAt}
 use Rattle.sled_pagecache.specs.PageTables.{pages_in, AreFilled, at_last, is_open}
-use Rattle.sled_pagecache.specs.declared.pagecache.page.Page.{Page}
 
 -- ---- lists
 

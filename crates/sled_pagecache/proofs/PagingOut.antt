@@ -1,8 +1,5 @@
 -- A page leaves memory, and its cache stays as it always is.
-use Rattle.std.proofs.lemmas.Bool.Decides.{eqb_tells}
-use Rattle.std.proofs.lemmas.List.Elements.{Contains-append_left, Contains-append_right, Contains-append_cases}
-use Rattle.std.specs.Prelude.{Contains}
-use Rattle.sled_pagecache.proofs.Names.{◌++◌, ◌≡◌, ◌≢◌, ◌⊎◌, ◌≤◌, inl, inr, ℕ, zero, suc, Bool, true, false, List, [], ◌∷◌, length, length-set, ◌^◌, map, Some, None, slice_get, slice_set, refl, sym, ◌∙◌, ap, subst, arith, false≢true, none-some, same_Some, map-set, AllZip, Chain, effect_of_entry, Ghosts, Cache, IsResident, IsAway, HoldsChain, IsKept, place_of, is_free, is_resident, AreOwn, IsRoots, IsCounter, IsFreeOrNode, IsOwnAt, IsConsistent, stamps_in, Config, CacheInfo, Journal, Kept, Page}
+use Rattle.sled_pagecache.proofs.Names.{eqb_tells, Contains-append_left, Contains-append_right, Contains-append_cases, Contains, ◌++◌, ◌≡◌, ◌≢◌, ◌⊎◌, ◌≤◌, inl, inr, ℕ, zero, suc, Bool, true, false, List, [], ◌∷◌, length, length-set, ◌^◌, map, Some, None, slice_get, slice_set, refl, sym, ◌∙◌, ap, subst, arith, false≢true, none-some, same_Some, map-set, AllZip, Chain, effect_of_entry, Ghosts, Cache, IsResident, IsAway, HoldsChain, IsKept, place_of, is_free, is_resident, AreOwn, IsRoots, IsCounter, IsFreeOrNode, IsOwnAt, IsConsistent, stamps_in, Config, CacheInfo, Journal, Kept, Page, HasNode, HasNoNode, StaysAt, size_of, size_if, paged_out, IsPagedOut, PagesOut}
 use Rattle.sled_log.specs.State as log
 use Rattle.sled_pagecache.proofs.InMemory.{stays-same, stays-then, set-others, set-none}
 use Rattle.sled_pagecache.proofs.ByIds.{at-id, set-by-id}
@@ -11,9 +8,6 @@ use Rattle.sled_pagecache.proofs.ProperPages.{all-set}
 use Rattle.sled_pagecache.proofs.Standing.{node-full}
 use Rattle.sled_pagecache.proofs.TableNodes.{view}
 use Rattle.sled_pagecache.proofs.Tables.{free-same}
-use Rattle.sled_pagecache.specs.Memory.{HasNode, HasNoNode, StaysAt}
-use Rattle.sled_pagecache.specs.Pages.{size_of, size_if}
-use Rattle.sled_pagecache.specs.PagingOut.{paged_out, IsPagedOut, PagesOut}
 use Rattle.sled_pagecache.specs.declared.pagecache.page.Kept.TheVariants as kept
 
 -- ---- what a page holds then

@@ -1,6 +1,5 @@
 -- How often a call that may bring a page into memory reads its log.
-use Rattle.sled_pagecache.proofs.Names.{◌≡◌, ◌≤◌, ◌<◌, ◌+◌, ℕ, zero, suc, List, length, Result, Ok, Err, refl, ◌∙◌, ap, arith, AllZip-long, AllZip, Bool, true, false, Refusal, is_resident, Journal, Counts, Chain, Ghosts, Cache, chain_length, IsResident, IsAway, more, IsLoaded, Page, ReadsNothing, ReadsPage, HasRead, own_among}
-use Rattle.std.specs.Prelude.{OnErr}
+use Rattle.sled_pagecache.proofs.Names.{◌≡◌, ◌≤◌, ◌<◌, ◌+◌, ℕ, zero, suc, List, length, Result, Ok, Err, refl, ◌∙◌, ap, arith, AllZip-long, AllZip, Bool, true, false, Refusal, is_resident, Journal, Counts, Chain, Ghosts, Cache, chain_length, IsResident, IsAway, more, IsLoaded, Page, ReadsNothing, ReadsPage, HasRead, own_among, OnErr}
 use Rattle.sled_pagecache.proofs.ChainReads.{more-add}
 
 module _ {L : Type 0} (g : Ghosts L) (old new : Cache L) (pid : ℕ) where

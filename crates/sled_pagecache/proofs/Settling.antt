@@ -1,24 +1,9 @@
 -- What holds of pages holds of the cache that stands on them, and what a call makes of memory once it is settled.
-use Rattle.std.proofs.Math.Dec.{eqb}
-use Rattle.std.proofs.lemmas.Bool.Decides.{eqb_tells}
-use Rattle.std.specs.Global.{Vec}
-use Rattle.std.specs.Prelude.{Contains, IfOk, IfErr, IsSomeAnd, MatchOption, OnOk, OnErr}
-use Rattle.sled_base.specs.Lru.{Recency, IsAccessed, IsListed, IsSound, rounded}
-use Rattle.sled_base.specs.LruLaws.{itself_stays, itself_is_listed, others_stay_or_leave}
-use Rattle.sled_pagecache.proofs.Names.{◌≡◌, ◌≢◌, ◌⊎◌, inl, inr, ℕ, Bool, true, false, List, Option, Some, None, Result, Ok, Err, refl, sym, ◌∙◌, ap, subst, same_Some, none-some, IsErrOf, Error, IsNodeAt, NodeView, Write, Refusal, Ghosts, Keeps, Cache, IsIn, IsResident, IsAway, chain_length, IsBlamed, IsCaused, Steps, is_reserved, ReadsNothing, ReadsPage, TestsFirst, MeetsDamage, ReportsDamage, BringsIn, journal_of, Logged, State, Answer, Call, Token, IsHindrance}
+use Rattle.sled_pagecache.proofs.Names.{eqb, eqb_tells, Vec, Contains, IfOk, IfErr, IsSomeAnd, MatchOption, OnOk, OnErr, Recency, IsAccessed, IsListed, IsSound, rounded, itself_stays, itself_is_listed, others_stay_or_leave, ◌≡◌, ◌≢◌, ◌⊎◌, inl, inr, ℕ, Bool, true, false, List, Option, Some, None, Result, Ok, Err, refl, sym, ◌∙◌, ap, subst, same_Some, none-some, IsErrOf, Error, IsNodeAt, NodeView, Write, Refusal, Ghosts, Keeps, Cache, IsIn, IsResident, IsAway, chain_length, IsBlamed, IsCaused, Steps, is_reserved, ReadsNothing, ReadsPage, TestsFirst, MeetsDamage, ReportsDamage, BringsIn, journal_of, Logged, State, Answer, Call, Token, IsHindrance, more, WasAccessed, IsTouched, HasNode, HasNoNode, AreSized, IsBounded, StaysAt, KeepsMemory, AccessesPage, FindsPage, LeavesOthers, LeavesMemory, LeavesNodes, LeavesPages, PagesOut, relisted, IsSettled, Settles, lost_by, Swapped, AllStay, TakesNode, FindsNode, LosesAtMost, LosesNone, Accesses}
 use Rattle.sled_base.specs.declared.types.Error.TheVariants.{Io}
 use Rattle.sled_base.specs.declared.types.Refusal.TheVariants as refusal
 use Rattle.sled_node.specs.declared.node.link.Link.{Link as NodeLink}
 use Rattle.sled_pagecache.proofs.InMemory.{stays-then, stays-has, stay-is}
-use Rattle.sled_pagecache.specs.ChainReads.{more}
-use Rattle.sled_pagecache.specs.Accesses.{WasAccessed, IsTouched}
-use Rattle.sled_pagecache.specs.Memory.{HasNode, HasNoNode, AreSized, IsBounded, StaysAt, KeepsMemory, AccessesPage, FindsPage, LeavesOthers, LeavesMemory, LeavesNodes}
-use Rattle.sled_pagecache.specs.PagesIn.{LeavesPages}
-use Rattle.sled_pagecache.specs.PagingOut.{PagesOut}
-use Rattle.sled_pagecache.specs.Relisting.{relisted, IsSettled, Settles, lost_by}
-use Rattle.sled_pagecache.specs.Step.{Swapped}
-use Rattle.sled_pagecache.specs.Touching.{AllStay, TakesNode, FindsNode, LosesAtMost, LosesNone}
-use Rattle.sled_pagecache.specs.declared.pagecache.accesses.Accesses.{Accesses}
 
 -- the two differ in nothing but what lies in memory and what is listed
 pub record IsSameBut {L : Type 0} (old new : Cache L) : Type 0 where
@@ -120,9 +105,6 @@ module _ {L : Type 0} (g : Ghosts L) (old new : Cache L) (lru : Recency) where
 
     pub unread-moved : ReadsNothing g old new → ReadsNothing g (relisted old lru) upper
     unread-moved = carried (λ cache. ReadsNothing g old new → ReadsNothing g (relisted old lru) cache) (λ unread. unread)
-
-    pub length-moved : (pid messages : ℕ) → chain_length g.state new pid ≡ messages → chain_length g.state upper pid ≡ messages
-    length-moved pid messages = carried (λ cache. chain_length g.state new pid ≡ messages → chain_length g.state cache pid ≡ messages) (λ is. is)
 
     pub reads-moved : (pid : ℕ) → (IsResident upper pid → IsResident new pid) → ReadsPage g old pid new → ReadsPage g (relisted old lru) pid upper
     reads-moved pid back reads = record {

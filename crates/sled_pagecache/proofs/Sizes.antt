@@ -1,14 +1,9 @@
 -- How much of the log the messages of a page take, beside those of its chain.
-use Rattle.sled_pagecache.proofs.Names.{◌≡◌, ◌<◌, ◌^◌, ◌+◌, ℕ, ℤ, false, true, Bool, List, [], ◌∷◌, ◌++◌, map, Option, None, Some, slice_get, refl, sym, ◌∙◌, ap, subst, arith, none-some, same_Some, slice_get-map, option_map, slice_index_or, zero, suc, length, AllZip, AllByRecursion, ◌-◌, sum_by, sum_by-cons, DiskPtr, Chain, Entry, effect_of_entry, said_of, IsSized, Ghosts, chain_size, place_of, IsKept, is_free, IsConsistent, infos_after, message_of, link_update, WholeNode, Config, CacheInfo, Journal, Kept, Page}
-use Rattle.std.proofs.lemmas.List.Sums.{sum_by_push}
+use Rattle.sled_pagecache.proofs.Names.{◌≡◌, ◌<◌, ◌^◌, ◌+◌, ℕ, ℤ, false, true, Bool, List, [], ◌∷◌, ◌++◌, map, Option, None, Some, slice_get, refl, sym, ◌∙◌, ap, subst, arith, none-some, same_Some, slice_get-map, option_map, slice_index_or, zero, suc, length, AllZip, AllByRecursion, ◌-◌, sum_by, sum_by-cons, DiskPtr, Chain, Entry, effect_of_entry, said_of, IsSized, Ghosts, chain_size, place_of, IsKept, is_free, IsConsistent, infos_after, message_of, link_update, WholeNode, Config, CacheInfo, Journal, Kept, Page, sum_by_push, head_size, capped, AreSized, size_in, size_of, size_if, node_size, size_linked}
 use Rattle.std.specs.Prelude.{nat_lt, min, if◌then◌else◌}
-use Rattle.sled_log.specs.Limits.{head_size}
 use Rattle.sled_log.specs.State as log
 use Rattle.sled_node.specs.declared.node.link.Link.{Link as NodeLink}
 use Rattle.sled_pagecache.proofs.TableNodes.{view}
-use Rattle.sled_pagecache.specs.Accesses.{capped}
-use Rattle.sled_pagecache.specs.Memory.{AreSized}
-use Rattle.sled_pagecache.specs.Pages.{size_in, size_of, size_if, node_size, size_linked}
 use Rattle.sled_pagecache.specs.declared.pagecache.page.Kept.TheVariants as kept
 
 abbrev Place : Type 0

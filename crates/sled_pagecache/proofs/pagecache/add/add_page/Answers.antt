@@ -1,9 +1,6 @@
-use Rattle.sled_pagecache.proofs.Names.{inl, subst, ap, ◌+◌, ◌-◌, ◌^◌, inr, ◌≡◌, [], ◌∷◌, length, ◌∙◌, refl, rules, err_from_is_err_and, arith, le-leb, effect_of_entry, now, Node, Put, message_of, written-update, Went-none, IsCaused-handed_on}
-use Rattle.std.specs.Prelude.{min}
-use Rattle.sled_log.specs.Limits.{head_size}
+use Rattle.sled_pagecache.proofs.Names.{inl, subst, ap, ◌+◌, ◌-◌, ◌^◌, inr, ◌≡◌, [], ◌∷◌, length, ◌∙◌, refl, rules, err_from_is_err_and, arith, le-leb, effect_of_entry, now, Node, Put, message_of, written-update, Went-none, IsCaused-handed_on, min, head_size, WasAccessed, capped}
 use Rattle.sled_pagecache.proofs.InMemory.{accessed-added}
 use Rattle.sled_pagecache.proofs.Sizes.{size-alone}
-use Rattle.sled_pagecache.specs.Accesses.{WasAccessed, capped}
 use Rattle.sled_pagecache.proofs.NewPages.{only-one, added-others, new-kept, has-one-more, new-page-went}
 use Rattle.sled_pagecache.proofs.Refused.{refused-is}
 use Rattle.sled_pagecache.proofs.pagecache.add.add_page.Goals as goal

@@ -1,7 +1,5 @@
-use Rattle.std.specs.Prelude.{Contains}
-use Rattle.sled_pagecache.proofs.Names.{◌≡◌, ◌⊎◌, inl, inr, ℕ, List, Option, Some, None, refl, sym, ◌∙◌, ap, subst, none-some, same_Some, Cache}
+use Rattle.sled_pagecache.proofs.Names.{Contains, ◌≡◌, ◌⊎◌, inl, inr, ℕ, List, Option, Some, None, refl, sym, ◌∙◌, ap, subst, none-some, same_Some, Cache, PagesOut}
 use Rattle.sled_pagecache.proofs.PagingOut.{out-none, out-then}
-use Rattle.sled_pagecache.specs.PagingOut.{PagesOut}
 use Rattle.sled_pagecache.proofs.pagecache.cache.settle.Goals as goal
 use Rattle.sled_pagecache.proofs.pagecache.cache.settle.Goals.{in-Some, in-Some-lost, in_default-lost, in_default}
 

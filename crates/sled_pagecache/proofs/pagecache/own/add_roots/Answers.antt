@@ -1,5 +1,4 @@
-use Rattle.sled_pagecache.proofs.Names.{[], ◌∷◌, ◌++◌, List, length, sym, refl, ap, ◌∙◌, arith, rules, Err, OutOfMemory, Roots, told_of_roots, CacheInfo}
-use Rattle.std.proofs.lemmas.List.{nil_from_length}
+use Rattle.sled_pagecache.proofs.Names.{[], ◌∷◌, ◌++◌, List, length, sym, refl, ap, ◌∙◌, arith, rules, Err, OutOfMemory, Roots, told_of_roots, CacheInfo, nil_from_length}
 use Rattle.sled_pagecache.proofs.Proceeding.{proceeds-none, proceeds-refused, proceeds-first}
 use Rattle.sled_pagecache.proofs.Starting.{wrote-roots, own-table}
 use Rattle.sled_pagecache.proofs.Refused.{refused-is}

@@ -1,5 +1,4 @@
-use Rattle.sled_pagecache.proofs.Names.{◌≡◌, ◌-◌, ◌^◌, take, sum_by}
-use Rattle.std.specs.Prelude.{min}
+use Rattle.sled_pagecache.proofs.Names.{◌≡◌, ◌-◌, ◌^◌, take, sum_by, min}
 use Rattle.sled_pagecache.proofs.pagecache.page.total_size.Given as goal
 
 abbrev pub invariant-loop-info : goal.invariant-loop-info

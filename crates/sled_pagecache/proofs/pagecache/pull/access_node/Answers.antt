@@ -1,9 +1,6 @@
-use Rattle.sled_pagecache.proofs.Names.{◌≡◌, ◌∙◌, List, ap, sym, subst, on_ok_weaker, CacheInfo}
-use Rattle.sled_base.specs.Lru.{IsListed, rounded}
+use Rattle.sled_pagecache.proofs.Names.{◌≡◌, ◌∙◌, List, ap, sym, subst, on_ok_weaker, CacheInfo, IsListed, rounded, WasAccessed, capped, size_in, size_of}
 use Rattle.sled_pagecache.proofs.InMemory.{held-accessed, held-listed}
 use Rattle.sled_pagecache.proofs.Sizes.{capped-total}
-use Rattle.sled_pagecache.specs.Accesses.{WasAccessed, capped}
-use Rattle.sled_pagecache.specs.Pages.{size_in, size_of}
 use Rattle.sled_pagecache.proofs.pagecache.pull.access_node.Goals as goal
 
 pub returns-in-Node-clause-accessed : goal.returns-in-Node-clause-accessed

@@ -1,5 +1,4 @@
-use Rattle.sled_pagecache.proofs.Names.{◌≡◌, ◌+◌, [], ◌∷◌, ◌++◌, List, length, take, sym, ◌∙◌, ap, subst, rules, take_all, AllZip, PageState, IsRecovered, Page}
-use Rattle.std.proofs.lemmas.List.{length_push}
+use Rattle.sled_pagecache.proofs.Names.{◌≡◌, ◌+◌, [], ◌∷◌, ◌++◌, List, length, take, sym, ◌∙◌, ap, subst, rules, take_all, AllZip, PageState, IsRecovered, Page, length_push}
 use Rattle.sled_pagecache.proofs.RecoveredPages.{all-loaded, all-unread, recovered-more}
 use Rattle.sled_pagecache.proofs.pagecache.recovered.pages_of.Goals as goal
 

@@ -1,7 +1,6 @@
-use Rattle.sled_pagecache.proofs.Names.{[], ◌∷◌, length, ap, subst, ◌∙◌, inr, refl, rules, Update, Change, effect_of_entry, now, message_of, Went, Went-none, CacheInfo, infos_after}
+use Rattle.sled_pagecache.proofs.Names.{[], ◌∷◌, length, ap, subst, ◌∙◌, inr, refl, rules, Update, Change, effect_of_entry, now, message_of, Went, Went-none, CacheInfo, infos_after, WasAccessed}
 use Rattle.sled_pagecache.specs.declared.pagecache.page.Kept.TheVariants as kept
 use Rattle.sled_pagecache.proofs.Sizes.{linked-size}
-use Rattle.sled_pagecache.specs.Accesses.{WasAccessed}
 use Rattle.sled_pagecache.proofs.Linked.{refuses-node, kept-away, kept-still, page-full, page-kept, page-others, update-is, infos-length, went-handed, cause-handed}
 use Rattle.sled_pagecache.proofs.pagecache.swap.link_page.Goals as goal
 

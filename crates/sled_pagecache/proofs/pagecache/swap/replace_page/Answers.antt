@@ -1,9 +1,6 @@
-use Rattle.sled_pagecache.proofs.Names.{inr, refl, subst, ◌+◌, ◌-◌, ◌^◌, arith, le-leb, effect_of_entry, now, [], ◌∷◌, length, map, sym, ap, ◌∙◌, rules, err_from_is_err_and, Node, Put, message_of, written-update, chain_at, CacheInfo, Went-none, IsCaused-handed_on}
-use Rattle.std.specs.Prelude.{min}
-use Rattle.sled_log.specs.Limits.{head_size}
+use Rattle.sled_pagecache.proofs.Names.{inr, refl, subst, ◌+◌, ◌-◌, ◌^◌, arith, le-leb, effect_of_entry, now, [], ◌∷◌, length, map, sym, ap, ◌∙◌, rules, err_from_is_err_and, Node, Put, message_of, written-update, chain_at, CacheInfo, Went-none, IsCaused-handed_on, min, head_size, WasAccessed, capped}
 use Rattle.sled_pagecache.proofs.Linked.{went-handed}
 use Rattle.sled_pagecache.proofs.Sizes.{size-alone}
-use Rattle.sled_pagecache.specs.Accesses.{WasAccessed, capped}
 use Rattle.sled_pagecache.proofs.Swaps.{at-page, other-pages, put-chains, kept-put}
 use Rattle.sled_pagecache.proofs.Refused.{refused-is}
 use Rattle.sled_pagecache.proofs.pagecache.swap.replace_page.Goals as goal

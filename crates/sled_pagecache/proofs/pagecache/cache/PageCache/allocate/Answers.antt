@@ -1,8 +1,5 @@
-use Rattle.std.specs.Prelude.{IfOk}
-use Rattle.sled_pagecache.proofs.Names.{◌≡◌, None, Some, slice_get, pid_of, stamped, Allocate, Allocated}
+use Rattle.sled_pagecache.proofs.Names.{IfOk, ◌≡◌, None, Some, slice_get, pid_of, stamped, Allocate, Allocated, relisted, stamp_of}
 use Rattle.sled_pagecache.proofs.Settling.{settled-same, makes-page, moved-as, steps-moved, blamed-moved, unread-moved, keeps-moved}
-use Rattle.sled_pagecache.specs.Relisting.{relisted}
-use Rattle.sled_pagecache.specs.Token.{stamp_of}
 use Rattle.sled_pagecache.proofs.pagecache.cache.PageCache.allocate.Goals as goal
 
 pub invariant_of-self : goal.invariant_of-self

@@ -1,6 +1,5 @@
-use Rattle.sled_pagecache.proofs.Names.{Flush, Flushed}
+use Rattle.sled_pagecache.proofs.Names.{Flush, Flushed, relisted}
 use Rattle.sled_pagecache.proofs.Settling.{same-relisted, flushed-bounded, flushed-same, steps-moved, keeps-moved, on-kept}
-use Rattle.sled_pagecache.specs.Relisting.{relisted}
 use Rattle.sled_pagecache.proofs.pagecache.cache.PageCache.flush.Goals as goal
 
 pub invariant_of-self : goal.invariant_of-self

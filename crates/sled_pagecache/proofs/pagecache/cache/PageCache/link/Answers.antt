@@ -1,7 +1,5 @@
-use Rattle.std.specs.Prelude.{IfOk, OnOk, OnErr}
-use Rattle.sled_pagecache.proofs.Names.{◌≡◌, swapped, chain_length, linked_length, on_err_weaker, ReadsNothing}
+use Rattle.sled_pagecache.proofs.Names.{IfOk, OnOk, OnErr, ◌≡◌, swapped, chain_length, linked_length, on_err_weaker, ReadsNothing, relisted, lost_by, Settles}
 use Rattle.sled_pagecache.proofs.Settling.{settled-same, makes-swap, moved-as, steps-moved, blamed-moved, keeps-moved, tested-moved, damaged-moved, reads-moved, settled-resident, settled-away}
-use Rattle.sled_pagecache.specs.Relisting.{relisted, lost_by, Settles}
 use Rattle.sled_pagecache.specs.declared.pagecache.call.Answer.TheVariants as answer
 use Rattle.sled_pagecache.specs.declared.pagecache.call.Call.TheVariants as call
 use Rattle.sled_pagecache.proofs.pagecache.cache.PageCache.link.Goals as goal

@@ -1,6 +1,5 @@
-use Rattle.sled_pagecache.proofs.Names.{None, on_err_weaker}
+use Rattle.sled_pagecache.proofs.Names.{None, on_err_weaker, relisted}
 use Rattle.sled_pagecache.proofs.Settling.{settled-same, settled-resident, settled-away, makes-found, page-config, brings-moved, reads-moved}
-use Rattle.sled_pagecache.specs.Relisting.{relisted}
 use Rattle.sled_pagecache.proofs.pagecache.cache.PageCache.page_in.Goals as goal
 
 pub page_in-read-requires : goal.page_in-read-requires

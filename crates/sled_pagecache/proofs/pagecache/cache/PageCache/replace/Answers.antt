@@ -1,7 +1,5 @@
-use Rattle.std.specs.Prelude.{IfOk, OnOk}
-use Rattle.sled_pagecache.proofs.Names.{◌≡◌, swapped, chain_length}
+use Rattle.sled_pagecache.proofs.Names.{IfOk, OnOk, ◌≡◌, swapped, chain_length, relisted, lost_by, Settles}
 use Rattle.sled_pagecache.proofs.Settling.{settled-same, makes-swap, moved-as, steps-moved, blamed-moved, unread-moved, keeps-moved}
-use Rattle.sled_pagecache.specs.Relisting.{relisted, lost_by, Settles}
 use Rattle.sled_pagecache.specs.declared.pagecache.call.Answer.TheVariants as answer
 use Rattle.sled_pagecache.specs.declared.pagecache.call.Call.TheVariants as call
 use Rattle.sled_pagecache.proofs.pagecache.cache.PageCache.replace.Goals as goal

@@ -1,6 +1,5 @@
-use Rattle.sled_pagecache.proofs.Names.{SizeOnDisk, Sized}
+use Rattle.sled_pagecache.proofs.Names.{SizeOnDisk, Sized, relisted}
 use Rattle.sled_pagecache.proofs.Settling.{same-relisted, steps-moved, keeps-moved, on-kept}
-use Rattle.sled_pagecache.specs.Relisting.{relisted}
 use Rattle.sled_pagecache.proofs.pagecache.cache.PageCache.size_on_disk.Goals as goal
 
 pub returns : goal.returns

@@ -1,6 +1,5 @@
-use Rattle.sled_pagecache.proofs.Names.{subst}
+use Rattle.sled_pagecache.proofs.Names.{subst, AreSized}
 use Rattle.sled_pagecache.proofs.Sizes.{sized-view}
-use Rattle.sled_pagecache.specs.Memory.{AreSized}
 use Rattle.sled_pagecache.proofs.pagecache.pages.Pages.know_sizes.Goals as goal
 
 pub returns : goal.returns

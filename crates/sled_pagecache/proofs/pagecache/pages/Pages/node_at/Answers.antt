@@ -1,8 +1,6 @@
-use Rattle.sled_pagecache.proofs.Names.{◌≡◌, length, Some, None, slice_get, refl, sym, ◌∙◌, ap, subst, arith, slice_get_read, IsNodeAt, Kept, Page}
+use Rattle.sled_pagecache.proofs.Names.{◌≡◌, length, Some, None, slice_get, refl, sym, ◌∙◌, ap, subst, arith, slice_get_read, IsNodeAt, Kept, Page, HasNode, HasNoNode, node_size, size_of, size_if}
 use Rattle.sled_pagecache.proofs.InMemory.{past-view, none-at, no-node-in}
 use Rattle.sled_pagecache.proofs.Lookups.{map-at, past-end}
-use Rattle.sled_pagecache.specs.Memory.{HasNode, HasNoNode}
-use Rattle.sled_pagecache.specs.Pages.{node_size, size_of, size_if}
 use Rattle.sled_pagecache.proofs.TableNodes.{no-page, no-node, a-node}
 use Rattle.sled_pagecache.proofs.pagecache.pages.Pages.node_at.Goals as goal
 

@@ -1,7 +1,5 @@
-use Rattle.std.specs.Prelude.{IsOk}
+use Rattle.sled_pagecache.proofs.Names.{IsOk, AreListed, ◌≡◌, inr, true, is_resident, false, [], Some, Result, Ok, slice_get, refl, sym, ◌∙◌, ap, subst, arith, slice_get_read, Refusal, BringsIn, is_reserved}
 use Rattle.sled_pagecache.proofs.InMemory.{stays-same, past-view, listed-at, finds-node, refused-stay}
-use Rattle.sled_pagecache.specs.Memory.{AreListed}
-use Rattle.sled_pagecache.proofs.Names.{◌≡◌, inr, true, is_resident, false, [], Some, Result, Ok, slice_get, refl, sym, ◌∙◌, ap, subst, arith, slice_get_read, Refusal, BringsIn, is_reserved}
 use Rattle.sled_pagecache.proofs.PagingIn.{page-kept-at, page-own-at, same-consistent, brings-none, brings-pulled, kept_out-pulled, reads-pulled, part-pulled, always-pulled}
 use Rattle.sled_pagecache.proofs.pagecache.pages.Pages.page_in.Goals as goal
 

@@ -1,8 +1,5 @@
-use Rattle.std.proofs.Common.{ℕ, List, [], take, subst, sym, arith}
-use Rattle.std.proofs.lemmas.List.{take_more}
-use Rattle.std.specs.Prelude.{Contains}
+use Rattle.sled_pagecache.proofs.Names.{ℕ, List, [], take, subst, sym, arith, take_more, Contains, PagesOut}
 use Rattle.sled_pagecache.proofs.PagingOut.{out-none, out-one}
-use Rattle.sled_pagecache.specs.PagingOut.{PagesOut}
 use Rattle.sled_pagecache.proofs.pagecache.pages.Pages.page_out.Goals as goal
 
 pub loop-pid-init : goal.loop-pid-init

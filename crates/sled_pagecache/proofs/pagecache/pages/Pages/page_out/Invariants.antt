@@ -1,6 +1,4 @@
-use Rattle.std.proofs.Common.{take}
-use Rattle.std.specs.Prelude.{Contains}
-use Rattle.sled_pagecache.specs.PagingOut.{PagesOut}
+use Rattle.sled_pagecache.proofs.Names.{take, Contains, PagesOut}
 use Rattle.sled_pagecache.proofs.pagecache.pages.Pages.page_out.Given as goal
 
 -- those so far are out

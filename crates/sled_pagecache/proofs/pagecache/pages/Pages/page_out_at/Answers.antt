@@ -1,8 +1,7 @@
-use Rattle.sled_pagecache.proofs.Names.{◌≡◌, sym, subst, arith}
+use Rattle.sled_pagecache.proofs.Names.{◌≡◌, sym, subst, arith, HasNoNode}
 use Rattle.sled_pagecache.proofs.InMemory.{past-view}
 use Rattle.sled_pagecache.proofs.PagingOut.{consistent-out, out-page, out-none}
 use Rattle.sled_pagecache.proofs.TableNodes.{view}
-use Rattle.sled_pagecache.specs.Memory.{HasNoNode}
 use Rattle.sled_pagecache.proofs.pagecache.pages.Pages.page_out_at.Goals as goal
 
 pub invariant_of-self : goal.invariant_of-self

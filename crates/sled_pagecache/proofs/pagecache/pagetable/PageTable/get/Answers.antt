@@ -1,8 +1,6 @@
-use Rattle.std.proofs.Common.{◌≡◌, None, Some, Option, Bor, MatchOption, length, sym, subst, ◌∙◌, ap, arith, slice_get, get_or, List}
-use Rattle.std.specs.Global.{Vec}
+use Rattle.sled_pagecache.proofs.Names.{◌≡◌, None, Some, Option, Bor, MatchOption, length, sym, subst, ◌∙◌, ap, arith, slice_get, get_or, List, Vec, Page}
 use Rattle.sled_pagecache.proofs.PageChunks.{got-is}
 use Rattle.sled_pagecache.proofs.PageTables.{none-at, page-at}
-use Rattle.sled_pagecache.specs.declared.pagecache.page.Page.{Page}
 use Rattle.sled_pagecache.proofs.pagecache.pagetable.PageTable.get.Goals as goal
 
 -- what is told of an optional page, told of the same page

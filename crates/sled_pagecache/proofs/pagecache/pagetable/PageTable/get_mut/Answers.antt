@@ -1,4 +1,4 @@
-use Rattle.std.proofs.Common.{refl, arith}
+use Rattle.sled_pagecache.proofs.Names.{refl, arith}
 use Rattle.sled_pagecache.proofs.PageTables.{chunk-within, page-within, page-is, stays-table, seen-after}
 use Rattle.sled_pagecache.proofs.pagecache.pagetable.PageTable.get_mut.Goals as goal
 

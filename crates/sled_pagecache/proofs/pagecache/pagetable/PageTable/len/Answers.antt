@@ -1,6 +1,5 @@
-use Rattle.std.proofs.Common.{length, ap, arith}
+use Rattle.sled_pagecache.proofs.Names.{length, ap, arith, TableView}
 use Rattle.sled_pagecache.proofs.PageTables.{table-length}
-use Rattle.sled_pagecache.specs.PageTables.{TableView}
 use Rattle.sled_pagecache.proofs.pagecache.pagetable.PageTable.len.Goals as goal
 
 pub overflow_mul-result : goal.overflow_mul-result

@@ -1,8 +1,6 @@
-use Rattle.std.proofs.Common.{◌∷◌, ◌++◌, ◌∙◌, [], length, ap, arith}
+use Rattle.sled_pagecache.proofs.Names.{◌∷◌, ◌++◌, ◌∙◌, [], length, ap, arith, TableView, has_room, chunk_length}
 use Rattle.sled_pagecache.proofs.PageChunks.{some-last}
 use Rattle.sled_pagecache.proofs.PageTables.{pages-grow, grows-table}
-use Rattle.sled_pagecache.specs.PageTables.{TableView, has_room}
-use Rattle.sled_pagecache.specs.Limits.{chunk_length}
 use Rattle.sled_pagecache.proofs.pagecache.pagetable.PageTable.push_reserved.Goals as goal
 
 pub invariant_of-self : goal.invariant_of-self

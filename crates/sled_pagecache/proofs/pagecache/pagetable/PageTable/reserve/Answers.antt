@@ -1,9 +1,7 @@
-use Rattle.std.proofs.Common.{◌-◌, ◌∙◌, ap, arith}
-use Rattle.std.proofs.lemmas.Result.{on_ok_weaker}
+use Rattle.sled_pagecache.proofs.Names.{◌-◌, ◌∙◌, ap, arith, on_ok_weaker, chunk_length}
 use Rattle.sled_pagecache.proofs.PageChunks.{some-last}
 use Rattle.sled_pagecache.proofs.PageTables.{opened, stays-table, pages-stay, room-after}
 use Rattle.sled_pagecache.specs.PageTables.{TableView, is_open}
-use Rattle.sled_pagecache.specs.Limits.{chunk_length}
 use Rattle.sled_pagecache.proofs.pagecache.pagetable.PageTable.reserve.Goals as goal
 
 pub invariant_of-self-2 : goal.invariant_of-self-2

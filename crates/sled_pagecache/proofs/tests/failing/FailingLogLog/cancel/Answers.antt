@@ -1,6 +1,5 @@
-use Rattle.sled_pagecache.proofs.Names.{◌==◌, refl, arith}
+use Rattle.sled_pagecache.proofs.Names.{◌==◌, refl, arith, called_over}
 use Rattle.sled_pagecache.specs.declared.tests.failing.FailingLog.{FailingLog}
-use Rattle.sled_log.proofs.Faulty.{called_over}
 use Rattle.sled_pagecache.proofs.tests.failing.FailingLogLog.cancel.Goals as goal
 
 pub returns-clause-called : goal.returns-clause-called

@@ -1,6 +1,5 @@
-use Rattle.sled_pagecache.proofs.Names.{◌==◌, refl, ◌∙◌, ap, arith, eqb-true, one_more}
+use Rattle.sled_pagecache.proofs.Names.{◌==◌, refl, ◌∙◌, ap, arith, eqb-true, one_more, called_over, called_unwritten}
 use Rattle.sled_pagecache.specs.declared.tests.failing.FailingLog.{FailingLog}
-use Rattle.sled_log.proofs.Faulty.{called_over, called_unwritten}
 use Rattle.sled_pagecache.proofs.tests.failing.FailingLogLog.make_stable.Goals as goal
 
 pub returns-then-is_next-clause-called : goal.returns-then-is_next-clause-called

@@ -1,6 +1,5 @@
-use Rattle.sled_pagecache.proofs.Names.{◌==◌, refl, arith}
+use Rattle.sled_pagecache.proofs.Names.{◌==◌, refl, arith, called_over, called_unread}
 use Rattle.sled_pagecache.specs.declared.tests.failing.FailingLog.{FailingLog}
-use Rattle.sled_log.proofs.Faulty.{called_over, called_unread}
 use Rattle.sled_pagecache.proofs.tests.failing.FailingLogLog.read.Goals as goal
 
 pub returns-then-is_next-clause-called : goal.returns-then-is_next-clause-called
