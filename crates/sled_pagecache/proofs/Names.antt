@@ -95,7 +95,7 @@ pub use Rattle.sled_pagecache.specs.declared.pagecache.call.Answer.{Answer}
 pub use Rattle.sled_pagecache.specs.declared.pagecache.call.Answer.TheVariants.{Allocated, Flushed, Got, Linked, Replaced, Sized}
 pub use Rattle.sled_pagecache.specs.declared.pagecache.call.Call.{Call}
 pub use Rattle.sled_pagecache.specs.declared.pagecache.call.Call.TheVariants.{Allocate, Flush, Get, Replace, SizeOnDisk}
-pub use Rattle.sled_pagecache.specs.declared.pagecache.chain.CacheInfo.{CacheInfo}
+pub use Rattle.sled_pagecache.specs.declared.pagecache.page.CacheInfo.{CacheInfo}
 pub use Rattle.sled_pagecache.specs.declared.pagecache.config.Config.{Config}
 pub use Rattle.sled_pagecache.specs.declared.pagecache.journal.Journal.{Journal}
 pub use Rattle.sled_pagecache.specs.declared.pagecache.judge.Judgement.{Judgement}

@@ -17,16 +17,16 @@ stamps-none (place ∷ places) =
     let none : 0 ≡ 0 - length (map info_at places) = omega arith in
     ap (λ (k : ℕ). k ∷ map (λ (info : CacheInfo). info.ts) (map info_at places)) none ∙ ap (λ (l : List ℕ). (0 - length (map info_at places)) ∷ l) (stamps-none places)
 
-abbrev stamps_in : List CacheInfo → List ℕ
-stamps_in infos = map (λ (info : CacheInfo). info.ts) infos
+abbrev info_stamps : List CacheInfo → List ℕ
+info_stamps infos = map (λ (info : CacheInfo). info.ts) infos
 
 -- a message was kept behind others
-pub stamped-more : (stamp : ℕ) (infos after : List CacheInfo) (info : CacheInfo) → stamps_in infos ≡ stamps_to stamp (length infos) → info.ts ≡ stamp + 1 → after ≡ infos ++ info ∷ []
-    → stamps_in after ≡ stamps_to (stamp + 1) (length after)
+pub stamped-more : (stamp : ℕ) (infos after : List CacheInfo) (info : CacheInfo) → info_stamps infos ≡ stamps_to stamp (length infos) → info.ts ≡ stamp + 1 → after ≡ infos ++ info ∷ []
+    → info_stamps after ≡ stamps_to (stamp + 1) (length after)
 stamped-more stamp infos after info was at is =
     let one = length-append infos (info ∷ []) in
     let many : suc (length infos) ≡ length (infos ++ info ∷ []) = omega (arith, one) in
-    ap stamps_in is ∙ map-append (λ (info : CacheInfo). info.ts) infos (info ∷ []) ∙ ap (λ (l : List ℕ). l ++ info.ts ∷ []) was
+    ap info_stamps is ∙ map-append (λ (info : CacheInfo). info.ts) infos (info ∷ []) ∙ ap (λ (l : List ℕ). l ++ info.ts ∷ []) was
     ∙ ap (λ (k : ℕ). stamps_to stamp (length infos) ++ k ∷ []) at ∙ stamps-more stamp (length infos) ∙ ap (stamps_to (stamp + 1)) (many ∙ ap length (sym is))
 
 -- ---- the log sizes of a recovered page's messages

@@ -5,7 +5,7 @@ use Rattle.sled_log.specs.Calls.{one_more}
 use Rattle.sled_log.specs.Messages.{Entry, Chain, effect_of_entry}
 use Rattle.sled_log.specs.Pages.{IsRead}
 use Rattle.sled_log.specs.State.{State, now}
-use Rattle.sled_pagecache.specs.declared.pagecache.chain.CacheInfo.{CacheInfo}
+use Rattle.sled_pagecache.specs.declared.pagecache.page.CacheInfo.{CacheInfo}
 use Rattle.sled_pagecache.specs.declared.pagecache.reading.Found.{Found}
 
 -- the chain of a page

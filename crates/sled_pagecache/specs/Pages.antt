@@ -13,7 +13,7 @@ use Rattle.sled_log.specs.Limits.{head_size}
 use Rattle.sled_pagecache.specs.Accesses.{capped}
 use Rattle.sled_pagecache.specs.ChainReads.{place_of}
 use Rattle.sled_pagecache.specs.Limits.{most_messages}
-use Rattle.sled_pagecache.specs.declared.pagecache.chain.CacheInfo.{CacheInfo}
+use Rattle.sled_pagecache.specs.declared.pagecache.page.CacheInfo.{CacheInfo}
 use Rattle.sled_pagecache.specs.declared.pagecache.page.Kept.{Kept}
 use Rattle.sled_pagecache.specs.declared.pagecache.page.Kept.TheVariants.{Free, Away, Counter, Roots, Node}
 use Rattle.sled_pagecache.specs.declared.pagecache.page.Page.{Page}

@@ -7,7 +7,7 @@ use Rattle.sled_log.specs.Limits.{head_size}
 use Rattle.sled_pagecache.specs.ByIds.{AllById}
 use Rattle.sled_pagecache.specs.Limits.{most_messages}
 use Rattle.sled_pagecache.specs.Pages.{is_free}
-use Rattle.sled_pagecache.specs.declared.pagecache.chain.CacheInfo.{CacheInfo}
+use Rattle.sled_pagecache.specs.declared.pagecache.page.CacheInfo.{CacheInfo}
 use Rattle.sled_pagecache.specs.declared.pagecache.page.Kept.{Kept}
 use Rattle.sled_pagecache.specs.declared.pagecache.page.Kept.TheVariants.{Free, Away}
 use Rattle.sled_pagecache.specs.declared.pagecache.page.Page.{Page}

@@ -22,7 +22,7 @@ use Rattle.sled_pagecache.specs.Changes.{link_update}
 use Rattle.sled_pagecache.specs.ChainReads.{place_of}
 use Rattle.sled_pagecache.specs.Journal.{Went, IsCaused, IsOfLog, begun_by}
 use Rattle.sled_pagecache.specs.Limits.{most_messages}
-use Rattle.sled_pagecache.specs.declared.pagecache.chain.CacheInfo.{CacheInfo}
+use Rattle.sled_pagecache.specs.declared.pagecache.page.CacheInfo.{CacheInfo}
 use Rattle.sled_pagecache.specs.declared.pagecache.journal.Journal.{Journal}
 use Rattle.sled_pagecache.specs.declared.pagecache.page.Kept.{Kept}
 use Rattle.sled_pagecache.specs.declared.pagecache.page.Kept.TheVariants.{Free, Away, Counter, Roots, Node}

@@ -22,9 +22,8 @@ mod write;
 
 pub use cache::PageCache;
 pub use call::{Answer, Call};
-pub use chain::CacheInfo;
 pub use config::Config;
-pub use page::Page;
+pub use page::{CacheInfo, Page};
 pub use pagetable::{PageTable, split_fanout};
 pub(crate) use pagetable::{CHUNK_BITS, CHUNK_LENGTH};
 use sled_base::PageId;

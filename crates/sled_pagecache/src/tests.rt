@@ -9,6 +9,7 @@ mod recovery;
 mod stops;
 mod writes;
 
+use self::crashes::reopen;
 use super::*;
 use std::alloc::{AllocError, Global};
 use std::test::Fail;
@@ -60,6 +61,14 @@ fn is_fault(error: Error, fault: Option<Why>) -> bool {
 
 fn serves(alloc: Global, log: MemLog) -> bool {
     reopened(alloc, log).is_some()
+}
+
+// A cache over what a crash leaves of a log that keeps so many of the pending events, if it may.
+fn left_by(alloc: Global, log: MemLog, n: usize) -> Option<Cache> {
+    if !log.is_fair(n) {
+        return None;
+    }
+    reopen(alloc, CONFIG, log, n).ok()
 }
 
 // A cache over a log in which no batch is open.
@@ -289,6 +298,8 @@ fn is_answer(cache: &mut Cache, pid: PageId, stamp: u64, node: Node, wanted: Rep
     let_both_go(answer, wanted);
     is_so
 }
+
+fn let_replaced_go(_answer: Replaced) {}
 
 fn let_both_go(_answer: Replaced, _wanted: Replaced) {}
 

@@ -30,9 +30,8 @@ ghost use Rattle.sled_pagecache.specs.declared.pagecache.call.Call.TheVariants.{
 ghost use Rattle.sled_pagecache.specs.declared.pagecache.call.Call.TheVariants as call;
 
 use super::accesses::Accesses;
-use super::config::Config;
+use super::config::{Config, fault_of};
 use super::pages::Pages;
-use super::start::fault_of;
 use super::view::{NodeView, PageView};
 use sled_base::{Error, Lru, PageId, Refusal};
 use sled_log::Log;

@@ -9,20 +9,11 @@ ghost use Rattle.sled_pagecache.specs.ChainReads.{IsFoundAs, chain_at, place_of,
 ghost use Rattle.sled_pagecache.specs.Journal.{Went, IsCaused, IsOfLog};
 
 use super::journal::Journal;
+use super::page::CacheInfo;
 use super::reading::Found;
-use sled_base::{DiskPtr, Lsn, PageId, Refusal};
+use sled_base::{PageId, Refusal};
 use sled_log::Log;
 use std::alloc::Global;
-
-/// How a log keeps one message of a page: the stamp of the page once the message stood, or 0 where it was recovered, its
-/// place, and its log size in bytes.
-#[derive(Clone, Copy, Debug, PartialEq, Eq)]
-pub struct CacheInfo {
-    pub ts: u64,
-    pub lsn: Lsn,
-    pub pointer: DiskPtr,
-    pub log_size: u64,
-}
 
 // Reads all messages of a page, one read of the log for each, in the order of its chain. Memory is taken before the first
 // read, but for that of the payloads.

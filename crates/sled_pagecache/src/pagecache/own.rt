@@ -9,7 +9,7 @@ ghost use Rattle.sled_log.specs.State.{now};
 ghost use Rattle.sled_node.specs.Meta as meta;
 ghost use Rattle.sled_pagecache.specs.ChainReads.{IsFoundAs, chain_at};
 ghost use Rattle.sled_pagecache.specs.Journal.{IsOfLog};
-ghost use Rattle.sled_pagecache.specs.Loading.{IsLoaded, IsUnread, IsTable, RefusesOwn, told_of_roots, counter_told, stamps_at_start};
+ghost use Rattle.sled_pagecache.specs.Loading.{IsLoaded, IsTable, RefusesOwn, told_of_roots, counter_told, stamps_at_start};
 ghost use Rattle.sled_pagecache.specs.Proceeding.{Proceeds, refusal_in};
 ghost use Rattle.sled_pagecache.specs.Reading.{told_of, RefusesMessage};
 ghost use Rattle.sled_pagecache.specs.Reads.{HasRead};
@@ -37,7 +37,6 @@ pub(super) fn read_roots<L: Log>(
     requires ready { journal.old.fault ≡ false }
     requires usable { (L.state journal.old.log).usable ≡ true }
     requires loaded { L.tells → IsLoaded (chain_at (L.state journal.old.log) 0) page.now }
-    requires unread { IsUnread page.now.kept }
     ensures proceeds { Proceeds L.Log journal.old journal.new [] (refusal_in result) }
     ensures same { L.tells → journal.new.fault ≡ false → now effect_of_entry (L.state journal.new.log) ≡ now effect_of_entry (L.state journal.old.log) }
     ensures read { L.tells → IfOk result (λ roots. Makes (told (chain_at (L.state journal.old.log) 0)) (contents.Roots roots)) }
@@ -57,7 +56,6 @@ pub(super) fn read_counter<L: Log>(
     requires ready { journal.old.fault ≡ false }
     requires usable { (L.state journal.old.log).usable ≡ true }
     requires loaded { L.tells → IsLoaded (chain_at (L.state journal.old.log) 1) page.now }
-    requires unread { IsUnread page.now.kept }
     ensures proceeds { Proceeds L.Log journal.old journal.new [] (refusal_in result) }
     ensures same { L.tells → journal.new.fault ≡ false → now effect_of_entry (L.state journal.new.log) ≡ now effect_of_entry (L.state journal.old.log) }
     ensures read { L.tells → IfOk result (λ n. Makes (told (chain_at (L.state journal.old.log) 1)) (contents.Counter n)) }
@@ -79,7 +77,6 @@ fn read_own<L: Log>(
     requires usable { (L.state journal.old.log).usable ≡ true }
     requires own { pid < 2 }
     requires loaded { L.tells → IsLoaded (chain_at (L.state journal.old.log) pid) page.now }
-    requires unread { IsUnread page.now.kept }
     ensures proceeds { Proceeds L.Log journal.old journal.new [] (refusal_in result) }
     ensures same { L.tells → journal.new.fault ≡ false → now effect_of_entry (L.state journal.new.log) ≡ now effect_of_entry (L.state journal.old.log) }
     ensures found { L.tells → IfOk result (λ found. AllZip IsFoundAs (chain_at (L.state journal.old.log) pid) found.items) }

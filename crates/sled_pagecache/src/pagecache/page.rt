@@ -1,14 +1,26 @@
 //! Pages as the cache keeps them.
 
-ghost use Rattle.std.specs.Prelude.{◌≡◌, ◌<◌, ◌-◌, ◌^◌, min, length, vec_len, map, IfOk};
+ghost use Rattle.std.specs.Prelude.{◌≡◌, ◌+◌, ◌<◌, ◌-◌, ◌^◌, ◌++◌, [], ◌∷◌, min, length, vec_len, vec_capacity, map, IfOk};
 ghost use Rattle.std.specs.List.{sum_by};
 ghost use Rattle.sled_pagecache.specs.ChainReads.{place_of};
+ghost use Rattle.sled_pagecache.specs.Limits.{most_messages};
 ghost use Rattle.sled_pagecache.specs.Stamps.{stamps_to};
+ghost use Rattle.sled_pagecache.specs.Swaps.{infos_after};
 
-use super::chain::CacheInfo;
+use super::PAGE_CONSOLIDATION_THRESHOLD;
 use sled_base::{DiskPtr, Lsn, PageState};
 use sled_node::{Meta, Node};
 use std::alloc::{AllocError, Global};
+
+/// How a log keeps one message of a page: the stamp of the page once the message stood, or 0 where it was recovered, its
+/// place, and its log size in bytes.
+#[derive(Clone, Copy, Debug, PartialEq, Eq)]
+pub struct CacheInfo {
+    pub ts: u64,
+    pub lsn: Lsn,
+    pub pointer: DiskPtr,
+    pub log_size: u64,
+}
 
 /// A page of the cache: its stamp, where the log keeps the messages that make it, and what it holds, where that lies in
 /// memory.
@@ -118,6 +130,49 @@ impl Clone for Kept {
             Kept::Node(node) => Kept::Node(node.clone()?),
         })
     }
+}
+
+// Keeps how the message of a link is kept, at the next stamp of the page.
+pub(super) fn keep_linked(page: &mut Page, info: CacheInfo)
+    requires below { page.old.stamp < 2 ^ 64 - 1 }
+    requires room { vec_len page.old.infos < most_messages → vec_len page.old.infos < vec_capacity page.old.infos }
+    requires stamped { info.ts ≡ page.old.stamp + 1 }
+    ensures stamp { page.new.stamp ≡ page.old.stamp + 1 }
+    ensures infos { page.new.infos.items ≡ infos_after page.old.infos.items info }
+    ensures kept { page.new.kept ≡ page.old.kept }
+{
+    if page.infos.len() < PAGE_CONSOLIDATION_THRESHOLD {
+        keep_also(page, info);
+    } else {
+        keep_alone(page, info);
+    }
+}
+
+// Keeps how a message is kept as the only one of a page, at the next stamp.
+pub(super) fn keep_alone(page: &mut Page, info: CacheInfo)
+    requires below { page.old.stamp < 2 ^ 64 - 1 }
+    requires stamped { info.ts ≡ page.old.stamp + 1 }
+    ensures stamp { page.new.stamp ≡ page.old.stamp + 1 }
+    ensures infos { page.new.infos.items ≡ info ∷ [] }
+    ensures kept { page.new.kept ≡ page.old.kept }
+{
+    page.infos.clear();
+    page.infos.shrink_to(1);
+    page.infos.push_reserved(info);
+    page.stamp += 1;
+}
+
+// Keeps how a message is kept behind the others of a page, at the next stamp.
+fn keep_also(page: &mut Page, info: CacheInfo)
+    requires below { page.old.stamp < 2 ^ 64 - 1 }
+    requires room { vec_len page.old.infos < vec_capacity page.old.infos }
+    requires stamped { info.ts ≡ page.old.stamp + 1 }
+    ensures stamp { page.new.stamp ≡ page.old.stamp + 1 }
+    ensures infos { page.new.infos.items ≡ page.old.infos.items ++ info ∷ [] }
+    ensures kept { page.new.kept ≡ page.old.kept }
+{
+    page.infos.push_reserved(info);
+    page.stamp += 1;
 }
 
 // How much of the log messages take up together, in bytes, or `u64::MAX` where it is no less.

@@ -30,13 +30,13 @@ ghost use Rattle.sled_pagecache.specs.declared.pagecache.call.Call.TheVariants a
 
 use super::accesses::Accesses;
 use super::add::add_page;
-use super::config::Config;
+use super::config::{Config, fault_of};
 use super::journal::Journal;
 use super::judge::{Judgement, is_reserved, judge};
 use super::page::Kept;
 use super::pagetable::PageTable;
 use super::pull::{pull_and_access, pull_and_link};
-use super::start::{fault_of, open};
+use super::start::open;
 use super::swap::replace_page;
 use super::view::{NodeView, PageView};
 use sled_base::{Device, Error, PageId, Refusal, Why};

@@ -9,8 +9,7 @@ ghost use Rattle.sled_pagecache.specs.Loading.{IsLoaded, IsUnread};
 ghost use Rattle.sled_pagecache.specs.Pages.{free_ids};
 ghost use Rattle.sled_pagecache.specs.Recovered.{IsRecovered, info_at, is_misfit, AllFit, BeginsMisfit};
 
-use super::chain::CacheInfo;
-use super::page::{Kept, Page};
+use super::page::{CacheInfo, Kept, Page};
 use super::pagetable::PageTable;
 use super::{COUNTER_PID, PAGE_CONSOLIDATION_THRESHOLD};
 use sled_base::{DiskPtr, Lsn, PageId, PageState};

@@ -9,7 +9,6 @@ ghost use Rattle.sled_log.specs.Reading.{Hold};
 ghost use Rattle.sled_log.specs.State.{now};
 ghost use Rattle.sled_pagecache.specs.Journal.{IsOfLog};
 ghost use Rattle.sled_pagecache.specs.Loading.{AreRecovered, AreRead, IsTable, IsUnread, IsOpenedWith, RefusesPages, next_id, told_at_start, stamps_at_start};
-ghost use Rattle.sled_pagecache.specs.Opening.{fault_of};
 ghost use Rattle.sled_pagecache.specs.Proceeding.{Proceeds, refusal_in};
 ghost use Rattle.sled_pagecache.specs.Starting.{Starts};
 ghost use Rattle.sled_pagecache.specs.Reads.{HasRead, own_among};
@@ -24,7 +23,7 @@ use super::page::Kept;
 use super::pagetable::PageTable;
 use super::recovered::{free_of, misfit, pages_of};
 use super::{COUNTER_PID, MAX_PAGES, META_PID};
-use sled_base::{PageId, Refusal, Why};
+use sled_base::{PageId, Refusal};
 use sled_log::Log;
 use std::alloc::Global;
 
@@ -36,22 +35,6 @@ pub(super) struct Opening {
     pub(super) free: Vec<PageId>,
     pub(super) next: u128,
     pub(super) recovered: bool,
-}
-
-// What is wrong with a config, by the first of its faults.
-pub(super) fn fault_of(config: Config) -> Option<Why>
-    ensures { result ≡ fault_of config }
-{
-    if config.cache_capacity < 256 {
-        return Some(Why::CapacityTooSmall);
-    }
-    if config.idgen_persist_interval == 0 {
-        return Some(Why::IntervalZero);
-    }
-    if config.segment_size == 0 {
-        return Some(Why::SegmentZero);
-    }
-    None
 }
 
 // Reads what a log holds for a cache, and makes what is missing.

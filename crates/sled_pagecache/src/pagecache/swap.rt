@@ -19,16 +19,15 @@ ghost use Rattle.sled_pagecache.specs.ChainReads.{chain_at};
 ghost use Rattle.sled_pagecache.specs.Journal.{Went, IsCaused, IsOfLog, begun_by};
 ghost use Rattle.sled_pagecache.specs.Limits.{most_messages};
 ghost use Rattle.sled_pagecache.specs.Pages.{IsKept, is_free, size_of, size_linked};
-ghost use Rattle.sled_pagecache.specs.Swaps.{IsRaised, IsLinked, RefusesSwap, RefusesLink, Wrote, infos_after, linked_length, update_of};
+ghost use Rattle.sled_pagecache.specs.Swaps.{IsRaised, IsLinked, RefusesSwap, RefusesLink, Wrote, linked_length, update_of};
 ghost use Rattle.sled_pagecache.specs.Changes.{link_update};
 ghost use Rattle.sled_pagecache.specs.Table.{IsFreeOrNode};
 ghost use Rattle.sled_pagecache.specs.declared.pagecache.page.Kept.TheVariants as kept;
 
 use super::PAGE_CONSOLIDATION_THRESHOLD;
 use super::accesses::{Accesses, size_with};
-use super::chain::CacheInfo;
 use super::journal::Journal;
-use super::page::{Kept, Page, total_size};
+use super::page::{CacheInfo, Kept, Page, keep_alone, keep_linked, total_size};
 use super::write::{write_link, write_node};
 use sled_base::{Bug, PageId, Refusal, Serialize, Why};
 use sled_log::Log;
@@ -76,20 +75,6 @@ pub(super) fn replace_page<L: Log>(
     page.kept = Kept::Node(node);
     keep_alone(page, info);
     Ok(())
-}
-
-// Keeps how a message is kept as the only one of a page, at the next stamp.
-fn keep_alone(page: &mut Page, info: CacheInfo)
-    requires below { page.old.stamp < 2 ^ 64 - 1 }
-    requires stamped { info.ts ≡ page.old.stamp + 1 }
-    ensures stamp { page.new.stamp ≡ page.old.stamp + 1 }
-    ensures infos { page.new.infos.items ≡ info ∷ [] }
-    ensures kept { page.new.kept ≡ page.old.kept }
-{
-    page.infos.clear();
-    page.infos.shrink_to(1);
-    page.infos.push_reserved(info);
-    page.stamp += 1;
 }
 
 // Applies a link to the node of a page and writes it to the log: the link itself, or the node that it makes where 10 messages
@@ -244,33 +229,4 @@ fn write_linked<L: Log>(
         return write_link(alloc, journal, pid, link, stamp);
     }
     write_node(alloc, journal, pid, node, stamp)
-}
-
-// Keeps how the message of a link is kept, at the next stamp of the page.
-fn keep_linked(page: &mut Page, info: CacheInfo)
-    requires below { page.old.stamp < 2 ^ 64 - 1 }
-    requires room { vec_len page.old.infos < most_messages → vec_len page.old.infos < vec_capacity page.old.infos }
-    requires stamped { info.ts ≡ page.old.stamp + 1 }
-    ensures stamp { page.new.stamp ≡ page.old.stamp + 1 }
-    ensures infos { page.new.infos.items ≡ infos_after page.old.infos.items info }
-    ensures kept { page.new.kept ≡ page.old.kept }
-{
-    if page.infos.len() < PAGE_CONSOLIDATION_THRESHOLD {
-        keep_also(page, info);
-    } else {
-        keep_alone(page, info);
-    }
-}
-
-// Keeps how a message is kept behind the others of a page, at the next stamp.
-fn keep_also(page: &mut Page, info: CacheInfo)
-    requires below { page.old.stamp < 2 ^ 64 - 1 }
-    requires room { vec_len page.old.infos < vec_capacity page.old.infos }
-    requires stamped { info.ts ≡ page.old.stamp + 1 }
-    ensures stamp { page.new.stamp ≡ page.old.stamp + 1 }
-    ensures infos { page.new.infos.items ≡ page.old.infos.items ++ info ∷ [] }
-    ensures kept { page.new.kept ≡ page.old.kept }
-{
-    page.infos.push_reserved(info);
-    page.stamp += 1;
 }

@@ -18,8 +18,8 @@ ghost use Rattle.sled_pagecache.specs.ChainReads.{place_of};
 ghost use Rattle.sled_pagecache.specs.Journal.{Went, IsCaused, IsOfLog, begun_by};
 ghost use Rattle.sled_pagecache.specs.Swaps.{Wrote};
 
-use super::chain::CacheInfo;
 use super::journal::Journal;
+use super::page::CacheInfo;
 use sled_base::{MessageKind, PageId, Refusal, Serialize};
 use sled_log::Log;
 use sled_node::{Link, Meta, Node};

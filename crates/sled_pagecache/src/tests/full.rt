@@ -36,8 +36,6 @@ fn replaces(alloc: Global, cache: &mut Cramped) -> Result<bool, Fail> {
     done
 }
 
-fn let_replaced_go(_answer: Replaced) {}
-
 // How many calls were done before the first that was refused: an empty leaf is put on page 2, linked twice and replaced.
 fn calls_done(alloc: Global, cache: &mut Cramped) -> Result<usize, Fail> {
     let done = if !adds(alloc, cache)? {

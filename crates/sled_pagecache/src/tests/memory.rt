@@ -99,8 +99,6 @@ fn replaces_once(alloc: Global, cache: &mut Cache) -> Done {
     done
 }
 
-fn let_replaced_go(_answer: Replaced) {}
-
 fn replaces_page(alloc: Global, cache: &mut Cache) -> bool {
     match replaces_once(alloc, cache) {
         Some(done) => done,

@@ -11,35 +11,32 @@ fn page_and_link(alloc: Global) -> Result<Option<MemLog>, Fail> {
 }
 
 // A cache over what a crash leaves of it that keeps so many of the changes, if it may.
-fn left_by(alloc: Global, n: usize) -> Result<Option<Cache>, Fail> {
+fn first_changes(alloc: Global, n: usize) -> Result<Option<Cache>, Fail> {
     let Some(log) = page_and_link(alloc)? else {
         return Ok(None);
     };
-    if !log.is_fair(n) {
-        return Ok(None);
-    }
-    Ok(reopened(alloc, log.stop(n)))
+    Ok(left_by(alloc, log, n))
 }
 
 #[test]
 fn a_stop_leaves_the_first_changes(rt: HostRuntime) -> Result<(), Fail> {
     let alloc = rt.alloc();
-    let mut neither = left_by(alloc, 0)?.ok_or("none of the changes")?;
+    let mut neither = first_changes(alloc, 0)?.ok_or("none of the changes")?;
     assert!(rt; neither.was_recovered());
     assert!(rt; is_absent(&mut neither, 2));
     assert!(rt; adds_leaf(alloc, &mut neither, 2));
-    let mut page = left_by(alloc, 1)?.ok_or("the page")?;
+    let mut page = first_changes(alloc, 1)?.ok_or("the page")?;
     assert!(rt; is_empty(&mut page, 2, 0));
-    let mut both = left_by(alloc, 2)?.ok_or("the page and the link")?;
+    let mut both = first_changes(alloc, 2)?.ok_or("the page and the link")?;
     assert!(rt; has_pair(&mut both, 2, 0, b"b", b"v"));
-    assert!(rt; left_by(alloc, 3)?.is_none());
+    assert!(rt; first_changes(alloc, 3)?.is_none());
     Ok(())
 }
 
 #[test]
 fn stamps_begin_again_at_0(rt: HostRuntime) -> Result<(), Fail> {
     let alloc = rt.alloc();
-    let mut cache = left_by(alloc, 2)?.ok_or("the page and the link")?;
+    let mut cache = first_changes(alloc, 2)?.ok_or("the page and the link")?;
     let (link, same) = (set(alloc, b"c", b"w")?, set(alloc, b"c", b"w")?);
     assert!(rt; is_stale(&mut cache, 1, link, PageView::new(2, 0), same));
     Ok(())

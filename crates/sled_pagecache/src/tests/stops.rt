@@ -1,6 +1,5 @@
 // Every fair stop of a list of calls, opened again.
 
-use super::crashes::reopen;
 use super::*;
 
 // Two leaves, two links on the first, and a replacement of the second: five changes behind the flushed system pages.
@@ -27,21 +26,18 @@ fn replaces(alloc: Global, cache: &mut Cache) -> Result<bool, Fail> {
 }
 
 // A cache over what a crash leaves that keeps so many of the changes.
-fn left_by(alloc: Global, n: usize) -> Result<Option<Cache>, Fail> {
+fn first_changes(alloc: Global, n: usize) -> Result<Option<Cache>, Fail> {
     let Some(log) = five_changes(alloc)? else {
         return Ok(None);
     };
-    if !log.is_fair(n) {
-        return Ok(None);
-    }
-    Ok(reopen(alloc, CONFIG, log, n).ok())
+    Ok(left_by(alloc, log, n))
 }
 
 #[test]
 fn each_stop_leaves_a_beginning(rt: HostRuntime) -> Result<(), Fail> {
     let alloc = rt.alloc();
     for n in 0..6 {
-        let mut cache = left_by(alloc, n)?.ok_or("a fair cut")?;
+        let mut cache = first_changes(alloc, n)?.ok_or("a fair cut")?;
         let first = match n {
             0 => is_absent(&mut cache, 2),
             1 | 2 => is_empty(&mut cache, 2, 0),
@@ -55,6 +51,6 @@ fn each_stop_leaves_a_beginning(rt: HostRuntime) -> Result<(), Fail> {
         };
         assert!(rt; first && second, "{n} changes");
     }
-    assert!(rt; left_by(alloc, 6)?.is_none());
+    assert!(rt; first_changes(alloc, 6)?.is_none());
     Ok(())
 }

@@ -45,8 +45,6 @@ fn replaces(alloc: Global, cache: &mut PageCache<FailingLog>) -> Outcome {
     replaced
 }
 
-fn let_replaced_go(_answer: Replaced) {}
-
 // A page is added, linked, asked for and replaced; then the log is flushed, and its size is asked for.
 fn six_calls(alloc: Global, cache: &mut PageCache<FailingLog>, link: Link) -> [Outcome; 6] {
     [
@@ -59,16 +57,8 @@ fn six_calls(alloc: Global, cache: &mut PageCache<FailingLog>, link: Link) -> [O
     ]
 }
 
-// A cache over what a crash leaves of the log that keeps nothing of what was pending.
-fn left_by(alloc: Global, log: FailingLog) -> Option<Cache> {
-    let log = log.into_log();
-    if !log.is_fair(0) {
-        return None;
-    }
-    reopened(alloc, log.stop(0))
-}
-
-// The outcomes where the write with this number fails, if the cache was opened, and a cache over what is left then.
+// The outcomes where the write with this number fails, if the cache was opened, and a cache over what a crash leaves then that
+// keeps nothing of what was pending.
 fn outcomes(alloc: Global, fails_at: u64) -> Result<(Option<[Outcome; 6]>, Option<Cache>), Fail> {
     let log = FailingLog::new(MemLog::new(alloc, 512, 16), 0, fails_at);
     let link = set(alloc, b"b", b"v")?;
@@ -78,9 +68,9 @@ fn outcomes(alloc: Global, fails_at: u64) -> Result<(Option<[Outcome; 6]>, Optio
     match PageCache::start(alloc, CONFIG, log) {
         Ok(mut cache) => {
             let found = six_calls(alloc, &mut cache, link);
-            Ok((Some(found), left_by(alloc, cache.into_log())))
+            Ok((Some(found), left_by(alloc, cache.into_log().into_log(), 0)))
         }
-        Err((Error::Io(Device::Write), log)) => Ok((None, left_by(alloc, log))),
+        Err((Error::Io(Device::Write), log)) => Ok((None, left_by(alloc, log.into_log(), 0))),
         Err((error, _)) => Err(error.into()),
     }
 }

@@ -2,8 +2,7 @@ ghost use Rattle.std.specs.Prelude.{◌≡◌, ◌+◌, ◌<◌, ◌≤◌, leng
 ghost use Rattle.std.specs.Option.{option_map};
 ghost use Rattle.sled_pagecache.specs.Limits.{most_pages};
 
-use super::super::chain::CacheInfo;
-use super::super::page::Kept;
+use super::super::page::{CacheInfo, Kept};
 use super::*;
 use sled_base::DiskPtr;
 use std::test::Fail;

@@ -3,7 +3,7 @@ ghost use Rattle.sled_log.specs.Memory.{state_of};
 ghost use Rattle.sled_pagecache.specs.ChainReads.{chain_at};
 ghost use Rattle.sled_pagecache.specs.Pages.{IsKept};
 
-use super::super::chain::CacheInfo;
+use super::super::page::CacheInfo;
 use super::*;
 use sled_base::MessageKind;
 use sled_log::MemLog;

@@ -1,5 +1,4 @@
-use Rattle.sled_pagecache.proofs.Names.{[], length, refl, sym, ◌∙◌, ap, arith, slice_get_within, get_or_from_slice_get, more, own_among, IsUnread}
-use Rattle.sled_pagecache.proofs.Lookups.{all-at}
+use Rattle.sled_pagecache.proofs.Names.{[], length, refl, sym, ◌∙◌, ap, arith, slice_get_within, get_or_from_slice_get, more, own_among}
 use Rattle.sled_pagecache.proofs.Proceeding.{proceeds-then}
 use Rattle.sled_pagecache.proofs.ReadCounts.{own-some, own-one, own-two, read-known, read-handed, read-then}
 use Rattle.sled_pagecache.proofs.Starting.{loaded-at, second-found, second-none, read-first, read-both, first-fits, own-refuses}
@@ -13,9 +12,6 @@ returns-in_err-roots-clause-refused g c = λ told.
 pub read_counter-requires-clause-loaded : goal.read_counter-requires-clause-loaded
 read_counter-requires-clause-loaded g c = λ told.
     loaded-at 1 _ _ c.args.pages.now.pages _ c.requires.recovered told (c.in_ok-roots.ensures.same told c.in_ok-roots.ensures.proceeds.fault) (second-found _ _ _ c.in-Some-get.ensures)
-
-pub read_counter-requires-clause-unread : goal.read_counter-requires-clause-unread
-read_counter-requires-clause-unread g c = all-at (λ page. IsUnread page.kept) c.args.pages.now.pages 1 _ c.requires.recovered.hold (second-found _ _ _ c.in-Some-get.ensures)
 
 pub get_mut-requires-2 : goal.get_mut-requires-2
 get_mut-requires-2 g c = slice_get_within _ 1 _ c.in-Some-get.ensures

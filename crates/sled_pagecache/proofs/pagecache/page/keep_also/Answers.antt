@@ -1,6 +1,6 @@
 use Rattle.sled_pagecache.proofs.Names.{◌≡◌, length, map, rules, stamps_to, CacheInfo}
 use Rattle.sled_pagecache.proofs.Stamping.{stamped-more}
-use Rattle.sled_pagecache.proofs.pagecache.swap.keep_also.Goals as goal
+use Rattle.sled_pagecache.proofs.pagecache.page.keep_also.Goals as goal
 
 pub invariant_of-page-clause-stamped : goal.invariant_of-page-clause-stamped
 invariant_of-page-clause-stamped c =
