@@ -15,7 +15,7 @@ use thiserror::Error;
 /// The number of a page.
 pub type PageId = u64;
 
-/// A place in a log, in bytes from its beginning.
+/// A place in a log, in bytes from its front.
 pub type LogOffset = u64;
 
 /// The place of a message in a log, as a log sequence number: in bytes, like a [`LogOffset`].

@@ -12,8 +12,8 @@ use Rattle.sled_log.specs.State.{State, Adds, IsLeft, told_state, StopsLeave}
 use Rattle.sled_log.specs.declared.log.LogError.{LogError}
 use Rattle.sled_log.specs.declared.log.LogError.TheVariants.{Memory, Full, ReadFault, WriteFault, Corruption}
 
--- Whether a log may be told a message of that kind of a page: a content where the page is there or is the next new one, that
--- it is free where it is there, and a link where it has a content. Blobs are a log's own, and so are the other kinds.
+-- Whether a message of that kind may be appended for a page: a content where the page is there or is the next new one, one that
+-- frees it where it is there, and a link where it has a content. Blobs are a log's own, and so are the other kinds.
 abbrev pub can_tell : {E : Type 0} → (E → LogKind) → List (List E) → ℕ → MessageKind → Bool
 can_tell effect pages pid kinds.Free = nat_lt pid (length pages)
 can_tell effect pages pid kinds.Counter = nat_le pid (length pages)

@@ -1,4 +1,4 @@
--- What a log is told, in order: changes of pages, each said by an `E`, and the marks of batches.
+-- The events of a log, in order: changes of pages, each said by an `E`, and the marks of batches.
 use Rattle.std.specs.Prelude.{ℕ}
 
 pub data Event (E : Type 0) : Type 0 where

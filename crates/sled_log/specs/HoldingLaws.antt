@@ -153,7 +153,7 @@ holds-after pages contents (m ∷ ms) (u ∷ us) h r = holds-after (chains_from 
 holds-after pages contents [] (u ∷ us) h r = absurd r
 holds-after pages contents (m ∷ ms) [] h r = absurd r
 
--- ---- stops, and what a log adds
+-- ---- crashes, and what a log adds
 
 -- what a crash leaves holds the contents after a fair prefix of the changes
 pub reads-left : (old : State Message) (begun : List (Event Message)) (pages : List Told) (stable : List Content) (pending events : List (Event Update))
@@ -204,9 +204,9 @@ holds-added old new begun stable pending events held waits comes added =
           ∙ contents_after-append stable pending events,
     )
 
--- ---- what a log may be told
+-- ---- what may be appended
 
--- a log may be told a change that may be made of what its pages hold
+-- a change may be appended that may be made of what the pages of a log hold
 pub may-tell : (pages : List Told) (contents : List Content) (id : ℕ) (update : Update)
     → Hold pages contents → MayChange contents id update → can_tell effect_of pages id (message_of update).kind ≡ true
 may-tell pages contents id (Put Free) h may = lt-ltb id (length pages) (let l = AllZip-long Holds pages contents h in omega (arith, may))

@@ -207,7 +207,7 @@ module _ {E : Type 0} (effect : E → LogKind) where
   is_open-Adds old new events a =
       ap is_open a.pending ∙ is_open-drop (old.pending ++ events) a.cut a.fair ∙ open_after-append false old.pending events
 
--- ---- stops
+-- ---- crashes
 
 module _ {L : Type 0} (moment : L → ℕ) (left_since : L → ℕ → List Told → Type 0) where
   -- no call at all

@@ -1,4 +1,4 @@
--- What a log is told of a page, and where it keeps it.
+-- The messages of pages, and where a log keeps them.
 use Rattle.std.specs.Prelude.{ℕ, ◌+◌, ℤ, List, length, map}
 use Rattle.sled_base.specs.Kinds.{log_kind_of}
 use Rattle.sled_base.specs.declared.kinds.LogKind.{LogKind}
@@ -27,7 +27,7 @@ pub record Entry : Type 0 where
   pub message : Message
   pub place : Place
 
--- a page as a log keeps it, and as one knows it who knows nothing of places
+-- a page as a log keeps it, and without its places
 abbrev pub Chain : Type 0
 Chain = List Entry
 
@@ -58,7 +58,7 @@ blob_kind kinds.InlineNode = kinds.BlobNode
 blob_kind kinds.InlineLink = kinds.BlobLink
 blob_kind kind = kind
 
--- the kind that a reader of an entry is told
+-- the kind that a reader of an entry gets
 abbrev pub kind_at : DiskPtr → MessageKind → MessageKind
 kind_at (Inline place) kind = kind
 kind_at (Blob place pointer) kind = blob_kind kind

@@ -32,6 +32,6 @@ pub record IsSized (chain : Chain) : Type 0 where
 abbrev pub IsAt : ℤ → DiskPtr → Entry → Type 0
 IsAt lsn pointer entry = (entry.place.lsn ≡ lsn) × (entry.place.pointer ≡ pointer)
 
--- what a reader of an entry is told: its kind, or that of its blob, and its payload
+-- what a reader of an entry gets: its kind, or that of its blob, and its payload
 abbrev pub IsRead : Entry → MessageKind × Vec ℕ → Type 0
 IsRead entry found = (found.0 ≡ kind_at entry.place.pointer entry.message.kind) × (found.1.items ≡ entry.message.payload)

@@ -60,7 +60,7 @@ Holds messages (Counter n) = Makes messages (Counter n)
 Holds messages (Roots roots) = Makes messages (Roots roots)
 Holds messages (Node node) = Makes messages (Node node)
 
--- pages of which these messages were told hold such contents
+-- pages of these messages hold such contents
 abbrev pub Hold : List Told → List Content → Type 0
 Hold = AllZip Holds
 

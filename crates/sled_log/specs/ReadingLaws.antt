@@ -92,7 +92,7 @@ told-take contents (suc n) (m ∷ ms) (u ∷ us) h = (h.0, h.1, told-take (conte
 told-take contents (suc n) [] (u ∷ us) h = absurd h
 told-take contents (suc n) (m ∷ ms) [] h = absurd h
 
--- what is behind a cut is told of the contents after it
+-- what is behind a cut is events of the contents after it
 pub told-drop : (contents : List Content) (n : ℕ) (ms : List (Event Message)) (us : List (Event Update))
     → AreTold contents ms us → AreTold (contents_after contents (take n us)) (drop n ms) (drop n us)
 told-drop contents zero ms us h = h

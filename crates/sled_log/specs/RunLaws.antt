@@ -111,7 +111,7 @@ open-call old new call added =
 pub now-call : (old new : State Entry) (call : LogCall) → Adds effect_of (told_state old) (events_of call) (told_state new) → now effect_of (told_state new) ≡ chains_after effect_of (now effect_of (told_state old)) (events_of call)
 now-call old new call added = now-Adds effect_of (told_state old) (told_state new) (events_of call) added
 
--- a call that may be made tells what the log may be told
+-- a call that may be made appends what may be appended
 pub tells-call : (state : State Entry) (call : LogCall) (kind : MessageKind) (pid : ℕ) (payload : Vec ℕ) → call ≡ Append kind pid payload
     → can_make (now effect_of (told_state state)) (is_open state.pending) call ≡ true
     → can_tell effect_of_entry (now effect_of_entry state) pid kind ≡ true

@@ -119,7 +119,7 @@ module _ {E F : Type 0} (effect : E → LogKind) (seen_effect : F → LogKind) (
     is = ap (map (map see)) left.is ∙ cut-seen old.stable old.pending left.came left.cut;
   }
 
-  -- ---- what a log may be told
+  -- ---- what may be appended
 
   pub can_tell-seen : (chains : List (List E)) (pid : ℕ) (kind : MessageKind) → can_tell seen_effect (map (map see) chains) pid kind ≡ can_tell effect chains pid kind
   can_tell-seen chains pid message.Free = ap (nat_lt pid) (length-map chains (map see))

@@ -51,7 +51,7 @@ module _ {E : Type 0} (effect : E → LogKind) where
 abbrev pub seen_state : {E F : Type 0} → (E → F) → State E → State F
 seen_state see state = record { stable = map (map see) state.stable; pending = map (seen see) state.pending; usable = state.usable }
 
--- the state as one knows it who knows nothing of places
+-- the state without the places
 abbrev pub told_state : State Entry → State Message
 told_state state = seen_state message_in state
 

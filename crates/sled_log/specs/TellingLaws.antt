@@ -1,4 +1,4 @@
--- The log with its places, and as one knows it who knows nothing of them, agree.
+-- The log with its places, and without them, agree.
 use Rattle.std.proofs.Common.{◌≡◌, ℕ, false, List, map, refl, sym, ◌∙◌, ap}
 use Rattle.sled_base.specs.declared.kinds.MessageKind.{MessageKind}
 use Rattle.sled_log.specs.Batches.{open_after, is_open, IsFair}
@@ -14,7 +14,7 @@ use Rattle.sled_log.specs.State.{State, now, Adds, told_state}
 abbrev pub told_events : List (Event Entry) → List (Event Message)
 told_events events = seen_events message_in events
 
--- folding chains and folding what was told agree
+-- folding chains and folding them without their places agree
 pub chains_after-told : (chains : List Chain) (events : List (Event Entry)) → map told (chains_after effect_of_entry chains events) ≡ chains_after effect_of (map told chains) (told_events events)
 chains_after-told = chains_after-seen effect_of_entry effect_of message_in (λ entry. refl)
 
@@ -29,12 +29,12 @@ IsFair-told = IsFair-seen message_in
 pub Adds-told : (old new : State Entry) (events : List (Event Entry)) → Adds effect_of_entry old events new → Adds effect_of (told_state old) (told_events events) (told_state new)
 Adds-told = Adds-seen effect_of_entry effect_of message_in (λ entry. refl)
 
--- whether a batch is open is what the marks say that were told
+-- whether a batch is open is what the marks say
 pub opened-Adds : (old new : State Entry) (events : List (Event Entry)) (begun : List (Event Message)) → told_events events ≡ begun → Adds effect_of_entry old events new → is_open new.pending ≡ open_after (is_open old.pending) begun
 opened-Adds old new events begun tells a =
     is_open-Adds effect_of_entry old new events a ∙ sym (open_after-seen message_in (is_open old.pending) events) ∙ ap (open_after (is_open old.pending)) tells
 
--- what the log holds now, and what it may be told
+-- what the log holds now, and what may be appended to it
 pub now-told : (state : State Entry) → map told (now effect_of_entry state) ≡ now effect_of (told_state state)
 now-told = now-seen effect_of_entry effect_of message_in (λ entry. refl)
 

@@ -22,7 +22,7 @@ written-update (Put (Node node)) can = subst (λ (bytes : List ℕ). ReadsNode b
 written-update (Put Damaged) can = absurd can
 written-update (Link link) can = subst (λ (bytes : List ℕ). ReadsLink bytes link []) (append-nil (written_link link)) (Link-grammar.read_again link [] can tt)
 
--- a change that may be made is told by the message that it is written as
+-- a change that may be made is the event of the message that it is written as
 pub told-update : (contents : List Content) (id : ℕ) (update : Update)
     → MayChange contents id update → CanWrite update → AreTold contents (Change id (message_of update) ∷ []) (Change id update ∷ [])
 told-update contents id update may can = ((refl, written-update update can), may, tt)

@@ -1,4 +1,11 @@
 //! The log of the page cache: messages of pages, in order. A crash at any moment keeps a prefix of them that splits no batch.
+//!
+//! In reading order:
+//!
+//! - `log`: the log as a contract
+//! - `runs`: calls of a log in a row
+//! - `memory`: the log in memory
+//! - `laws`: what holds of the definitions that the contracts of a log cite
 #![tactic(auto)]
 
 pub mod laws;

@@ -87,8 +87,8 @@ pub trait Log: Drop {
 
     /// Adds a message of a page, and answers its place: its lsn, the pointer to it, and its log size.
     ///
-    /// A page is told a content where it is there or is the next new one, that it is free where it is there, and a link
-    /// where it has a content. The log sizes of one chain are together at most `i64::MAX`. Full: the log has no room for the
+    /// A content is put on a page that is there or is the next new one; a page is freed that is there; and a link is of a page
+    /// that has a content. The log sizes of one chain are together at most `i64::MAX`. Full: the log has no room for the
     /// message. An error other than WriteFault leaves the log's contents unchanged.
     fn append(
         &mut self,

@@ -1,4 +1,11 @@
 //! What a page holds: nodes of a tree, and the links that change them.
+//!
+//! In reading order:
+//!
+//! - `node`: nodes: a range of keys, and the pairs whose keys lie in it; links
+//! - `meta`: the root map: which page is the root of each named tree
+//! - `serialization`: payloads of links and nodes, beside those of the plain values of `sled_base`
+//! - `laws`: what holds of the definitions that contracts cite
 #![tactic(auto)]
 
 pub mod laws;

@@ -1,4 +1,4 @@
--- What a call keeps, by what it told its log.
+-- What a call keeps, by what it appended to its log.
 use Rattle.sled_pagecache.proofs.Names.{◌≡◌, ◌<◌, ℕ, Bool, true, false, cond, List, [], ◌∷◌, ◌++◌, length, Some, Result, Ok, Err, slice_get, slice_set, refl, sym, ◌∙◌, ap, arith, eq-eqb, false≢true, ne_eqb, length-map, map-append, map-set, slice_get_within, error_of, Read, Write, Error, Refusal, Io, Keeps, stamped, Cache, stamps_in, Token, token, Page}
 use Rattle.sled_base.specs.declared.types.Error.TheVariants as errors
 use Rattle.sled_pagecache.proofs.Lookups.{map-at, set-at}

@@ -50,7 +50,7 @@ module _ {L : Type 0} (g : Ghosts L) where
     pub opening : IsSameOpening old new
     pub from_each : (held : Logged) (s : State) → IsIn g old held s → IsStep old call answer new held s
 
--- A fault is told only where its count grew in the call, or a write fault was kept.
+-- A fault is reported only where its count grew in the call, or a write fault was kept.
 pub record IsBlamed {L T : Type 0} (g : Ghosts L) (old new : Cache L) (result : Result T Error) : Type 0 where
   pub read : IsErrOf result (Io Read) → HasGrown (g.counts old.log).failed_reads (g.counts new.log).failed_reads
   pub write : IsErrOf result (Io Write) → old.fault ≡ false → HasGrown (g.counts old.log).write_faults (g.counts new.log).write_faults

@@ -29,7 +29,7 @@ use Rattle.sled_pagecache.specs.declared.pagecache.journal.Journal.{Journal}
 use Rattle.sled_pagecache.specs.declared.pagecache.page.Kept.TheVariants as kept
 use Rattle.sled_pagecache.specs.declared.pagecache.page.Page.{Page}
 
--- why a link was refused of which nothing was told to the log
+-- why a link was refused of which nothing was appended to the log
 abbrev pub RefusesUntold : Chain → ℕ → NodeLink → Refusal → Type 0
 RefusesUntold chain stamp link OutOfMemory = ⊤
 RefusesUntold chain stamp link (Io device) = ⊤
@@ -40,12 +40,12 @@ RefusesUntold chain stamp link (Unsupported LogFull) = (node : WholeNode) × Mak
 -- there is no other reason
 RefusesUntold chain stamp link refusal = ⊥
 
--- what is told to the log where this node of a page takes the link
+-- what is appended to the log where this node of a page takes the link
 abbrev pub update_by : Page → NodeLink → WholeNode → Update
 update_by page link node = link_update (length page.infos.items) link (applied link node)
 
 module _ {L : Type 0} (g : Ghosts L) (old : Journal L) (pid : ℕ) (page : Page) (link : NodeLink) where
-  -- The update was told to the log, at most in part: the node accepts the link, and the stamp may rise.
+  -- The update was appended to the log, at most in part: the node accepts the link, and the stamp may rise.
   pub record TellsLink (new : Journal L) : Type 0 where
     pub node : WholeNode
     pub made : g.tells → Makes (told (chain_at (g.state old.log) pid)) (content.Node node)
@@ -64,7 +64,7 @@ module _ {L : Type 0} (g : Ghosts L) (old : Journal L) (pid : ℕ) (page : Page)
     pub others : g.tells → now effect_of_entry (g.state new.log) ≡ slice_set (now effect_of_entry (g.state old.log)) pid (chain_at (g.state new.log) pid)
     pub sized : g.tells → AllByRecursion IsSized (now effect_of_entry (g.state new.log))
 
-  -- Nothing was told, or a write failed while the update was.
+  -- Nothing was appended, or a write failed while the update was.
   abbrev pub RefusesTold : Journal L → Refusal → Type 0
   RefusesTold new refusal =
       (Went g.tells g.state g.moment g.left_since g.counts old new [] × RefusesUntold (chain_at (g.state old.log) pid) page.stamp link refusal)

@@ -80,7 +80,7 @@ RefusesPages chains (Corruption (Some pointer)) = (length chains ≤ most_pages)
 -- there is no other reason
 RefusesPages chains refusal = ⊥
 
--- ---- what is told of the system pages that are missing
+-- ---- what is appended for the system pages that are missing
 
 abbrev pub roots_told : Event Message
 roots_told = Change 0 (message_of (Put (contents.Roots [])))

@@ -28,7 +28,7 @@ pub record IsLogged (state : log.State Message) (logged : Logged) : Type 0 where
 abbrev pub Adds : Logged → List (Event Update) → Logged → Type 0
 Adds old changes new = AddsEvents contents_after old.stable old.pending changes new.stable new.pending
 
--- pages of which these messages were told hold such contents, and are as a cache leaves them
+-- pages of these messages hold such contents, and are as a cache leaves them
 pub record AreKept (pages : List Told) (contents : List Content) : Type 0 where
   pub holds : Hold pages contents
   pub proper : IsProper pages contents

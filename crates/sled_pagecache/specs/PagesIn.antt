@@ -31,7 +31,7 @@ RefusesReading chain pid refusal =
     ((is_reserved pid ≡ true) × (refusal ≡ Unsupported ReservedId))
     ⊎ ((is_reserved pid ≡ false) × (is_empty effect_of_entry chain ≡ false) × RefusesPull chain refusal)
 
--- No page changes, and nothing is told to the log.
+-- No page changes, and nothing is appended to the log.
 pub record LeavesPages {L : Type 0} (g : Ghosts L) (old new : Cache L) : Type 0 where
   pub opening : IsSameOpening old new
   pub stamps : new.stamps ≡ old.stamps

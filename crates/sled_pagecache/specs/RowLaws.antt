@@ -43,7 +43,7 @@ left-behind held mid first second pages = CrashKeeps-behind contents_after conte
 left-more : (held : Logged) (first all : List (Event Update)) (pages : List Told) → IsBeginning first all → IsLeft held first pages → IsLeft held all pages
 left-more held first all pages = CrashKeeps-more contents_after contents_after-append held.stable held.pending first all (AreKept pages)
 
--- ---- stops
+-- ---- crashes
 
 -- what has come of nothing
 none-came : {E : Type 0} (came : List (Event E)) → IsBeginning came [] → came ≡ []

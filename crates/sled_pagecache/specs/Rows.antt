@@ -37,13 +37,13 @@ module _ {L : Type 0} (g : Ghosts L) where
     pub opening : IsSameOpening old new
     pub from_each : (held : Logged) (s : State) → IsIn g old held s → IsRow old calls new held s
 
-  -- A flush that was made tells how many bytes were to be written, and nothing is pending behind it; a size is that of the log.
+  -- A flush that was made reports how many bytes were to be written, and nothing is pending behind it; a size is that of the log.
   abbrev pub TellsBytes : Cache L → Answer → Cache L → Type 0
   TellsBytes old (Flushed (Ok written)) new = (written ≡ g.to_write old.log) × ((g.state new.log).pending ≡ [])
   TellsBytes old (Sized (Ok bytes)) new = bytes ≡ g.bytes old.log
   TellsBytes old answer new = ⊤
 
-  -- A fault is told only where one was met. The size of a log asks no device.
+  -- A fault is reported only where one was met. The size of a log asks no device.
   abbrev pub TellsFaults : Cache L → Answer → Cache L → Type 0
   TellsFaults old (Allocated result) new = IsBlamed g old new result
   TellsFaults old (Got result) new = IsBlamed g old new result
@@ -52,7 +52,7 @@ module _ {L : Type 0} (g : Ghosts L) where
   TellsFaults old (Flushed result) new = IsBlamed g old new result
   TellsFaults old (Sized result) new = ⊤
 
-  -- the call was made of a cache: it is a step, and what its answer tells of the log is so
+  -- the call was made of a cache: it is a step, and what its answer reports of the log is so
   pub record IsMade (old : Cache L) (call : Call) (answer : Answer) (new : Cache L) : Type 0 where
     pub step : Steps g old call answer new
     pub bytes : TellsBytes old answer new

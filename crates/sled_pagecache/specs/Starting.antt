@@ -1,4 +1,4 @@
--- What opening a cache tells its log.
+-- What opening a cache appends to its log.
 use Rattle.std.specs.Prelude.{◌≡◌, false, List, ◌++◌, Option}
 use Rattle.sled_base.specs.declared.types.Refusal.{Refusal}
 use Rattle.sled_log.specs.Batches.{open_after}

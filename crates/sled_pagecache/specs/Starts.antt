@@ -125,7 +125,7 @@ module _ {L : Type 0} (g : Ghosts L) where
   Opens log config held (Ok cache) = IsOpened log config held cache
   Opens log config held (Err refused) = IsUnopened log held refused.0 refused.1
 
-  -- A fault is told only where its count grew.
+  -- A fault is reported only where its count grew.
   pub record IsBlamedOpening (log : L) (result : Result (Cache L) (Error × L)) : Type 0 where
     pub read : IfErr result (λ e. e.0 ≡ Io Read → HasGrown (g.counts log).failed_reads (g.counts e.1).failed_reads)
     pub write : IfErr result (λ e. e.0 ≡ Io Write → HasGrown (g.counts log).write_faults (g.counts e.1).write_faults)

@@ -37,7 +37,7 @@ pub fn constants_are_the_numbers()
     ensures length { CHUNK_LENGTH ≡ chunk_length }
 {}
 
-/// A log that was told nothing holds no page.
+/// A log to which nothing was appended holds no page.
 pub fn an_empty_log_is_logged()
     ensures { (usable : Bool) → IsLogged (only_stable [] usable) (only_stable_contents []) }
 {}

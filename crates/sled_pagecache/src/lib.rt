@@ -1,4 +1,10 @@
 //! The page cache: a list of stamped pages over a log.
+//!
+//! In reading order:
+//!
+//! - `pagecache`: the cache, its settings, its tokens and its calls
+//! - `rows`: what calls of the page cache in a row do
+//! - `laws`: what holds of the definitions that the contracts of a page cache cite: crashes first of all
 #![tactic(auto)]
 
 pub mod laws;

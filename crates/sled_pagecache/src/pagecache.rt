@@ -1,4 +1,17 @@
 //! The page cache: a list of stamped pages over a log.
+//!
+//! In reading order, from what is public down:
+//!
+//! - `cache`: the cache: pages, and their accesses; each call is one step of a machine
+//! - `call`, `view`, `config`: the calls and their answers; tokens, and nodes that are lent; the settings
+//! - `accesses`: the accesses to pages, by which pages leave memory
+//! - `pages`: the pages of a cache, which stay in memory until they are paged out
+//! - `start`, `recovered`, `own`: opening a cache, the pages that its log recovers, and the cache's own pages
+//! - `add`, `judge`, `swap`: making a page, what the token of a swap is worth, and the swaps
+//! - `pull`, `chain`, `reading`: reading a page that doesn't lie in memory, its chain, and the node of its messages
+//! - `write`: writing a page's messages to the log
+//! - `page`, `pagetable`: pages as the cache keeps them, and the table of them by their ids
+//! - `journal`: the log of a cache, and the write error that is kept of it
 
 mod accesses;
 mod add;

@@ -1,4 +1,4 @@
--- An answer that lends a node, told as an answer.
+-- The answers that are lent to a reply, as answers.
 use Rattle.sled_pagecache.specs.Lending.{told}
 use Rattle.sled_pagecache.specs.declared.pagecache.call.Answer.{Answer}
 use Rattle.sled_pagecache.specs.declared.pagecache.call.Answer.TheVariants.{Allocated, Got, Linked, Replaced, Flushed, Sized}

@@ -1,4 +1,11 @@
 //! A page cache behind a script: lines in, reply lines out.
+//!
+//! In reading order:
+//!
+//! - `program`: the program: its words, its streams and its status
+//! - `script`: lines that ask for calls, and the replies to them
+//! - `lines`, `cuts`: the lines of an input, one at a time, and texts that are cut in two
+//! - `output`: texts that are written piece by piece
 #![tactic(auto)]
 
 mod cuts;

@@ -55,7 +55,7 @@ enum Fault {
 /// failed, and 2 where the words are wrong.
 ///
 /// `words` are those after the program's own path, or none where the system's words are no text. What went wrong is
-/// told to `faults` in one line.
+/// reported to `faults` in one line.
 pub fn drive<R: Read, W: Write, F: Write>(
     alloc: Global,
     words: Option<&[String]>,

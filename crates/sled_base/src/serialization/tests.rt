@@ -50,7 +50,7 @@ fn is_encoding<T: Serialize + PartialEq>(
 }
 
 // Whether the bytes are an encoding of the value, and the one that is written where that is wanted. What is written has the
-// size that is told, and leaves the bytes behind it.
+// size that is answered, and leaves the bytes behind it.
 fn is_encoded<T: Serialize + PartialEq>(
     alloc: Global,
     value: &T,

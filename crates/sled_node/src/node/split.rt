@@ -1,4 +1,4 @@
-//! Parting a node in two.
+//! Splitting a node in two.
 
 ghost use Rattle.std.specs.Prelude.{◌≡◌, ◌+◌, ◌/◌, ◌<◌, ◌≤◌, take, drop, length, IfOk, OnOk};
 ghost use Rattle.sled_node.specs.Parts.{HasStored};

@@ -37,7 +37,7 @@ fn expect_read<T: Serialize + PartialEq>(
     Ok(())
 }
 
-// The bytes are the encoding that was written, of the size that was told, and they are read as the value.
+// The bytes are the encoding that was written, of the size that was answered, and they are read as the value.
 fn expect_same<T: Serialize + PartialEq>(
     rt: &impl Abort,
     alloc: Global,

@@ -84,7 +84,7 @@ impl PageTable {
 
     /// Puts a page in at its id, which is the next one.
     ///
-    /// It fails only where memory is wanting, and then the page comes back, and the table has the pages that it had.
+    /// It fails only where an allocation failed, and then the page comes back, and the table has the pages that it had.
     pub fn insert(&mut self, pid: PageId, page: Page) -> Result<(), (Page, AllocError)>
         requires next { pid ≡ length self.old.pages }
         requires few { pid < most_pages }

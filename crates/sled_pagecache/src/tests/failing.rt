@@ -29,7 +29,7 @@ fn one_more(count: u64) -> u64
     if count == u64::MAX { count } else { count + 1 }
 }
 
-// Counts one more, and tells whether it has this number.
+// Counts one more, and says whether it has this number.
 fn is_next(count: &mut u64, number: u64) -> bool
     ensures { count.new ≡ one_more count.old }
 {

@@ -3,7 +3,7 @@
 use super::failing::FailingLog;
 use super::*;
 
-// What a call answered: it was done, or a write fault was told, or something else.
+// What a call answered: it was done, or a write error was reported, or something else.
 #[derive(Clone, Copy, Debug, PartialEq, Eq)]
 enum Outcome {
     Done,

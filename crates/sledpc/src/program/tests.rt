@@ -86,7 +86,7 @@ fn texts(alloc: Global, from: &[&str]) -> Result<Vec<String>, AllocError> {
     Ok(words)
 }
 
-// Whether the program ends a script so, and tells this fault.
+// Whether the program ends a script so, and reports this fault.
 fn ends_so<R: Read, W: Write>(
     alloc: Global,
     input: &mut R,
@@ -100,7 +100,7 @@ fn ends_so<R: Read, W: Write>(
     Ok(ended == status && faults.as_slice() == fault.as_bytes())
 }
 
-// Whether the program answers a script so, ends with status 0 and tells no fault.
+// Whether the program answers a script so, ends with status 0 and reports no fault.
 fn replies(alloc: Global, mut script: &[u8], want: &str) -> Result<bool, AllocError> {
     let mut output = Vec::new(alloc);
     let is_done = ends_so(alloc, &mut script, &mut output, 0, "")?;
@@ -126,7 +126,7 @@ fn replies_to_long(alloc: Global, digits: usize, want: &str) -> Result<bool, All
     replies(alloc, &script, want)
 }
 
-// Whether these words, or such as are no text, are told to be wrong, and no stream is touched.
+// Whether these words, or such as are no text, are reported as wrong, and no stream is touched.
 fn are_wrong(alloc: Global, words: Option<&[&str]>) -> Result<bool, AllocError> {
     let words = match words {
         Some(words) => Some(texts(alloc, words)?),
