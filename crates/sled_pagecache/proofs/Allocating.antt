@@ -26,10 +26,6 @@ pub ends-nowhere : (xs : List ℕ) → slice_get xs (length xs - 1) ≡ None →
 ends-nowhere [] at = refl
 ends-nowhere (y ∷ xs) at = absurd (none-some _ (sym at ∙ slice_get-get_or (y ∷ xs) (length (y ∷ xs) - 1) y (omega arith)))
 
--- what was read at the end
-pub read-last : (seen free : List ℕ) (read last answer : Option ℕ) → seen ≡ free → last ≡ slice_get seen (length seen - 1) → read ≡ last → read ≡ answer → slice_get free (length free - 1) ≡ answer
-read-last seen free read last answer same at copied is = ap (λ (l : List ℕ). slice_get l (length l - 1)) (sym same) ∙ sym at ∙ sym copied ∙ is
-
 -- ---- the free page with the greatest id
 
 no-end : (before : List ℕ) (x : ℕ) → [] ≡ before ++ x ∷ [] → ⊥
@@ -108,10 +104,9 @@ pub last-at : (table : List KeptPage) (front : List ℕ) (pid : ℕ) (last : IsL
 last-at table front pid last = ap (slice_get table) (let is = last.is in let place : pid ≡ last.place = omega arith in place) ∙ last.at
 
 -- the last of the ids that are kept, which was read, is such a one
-pub last-read : (table : List KeptPage) (seen free : List ℕ) (read last : Option ℕ) (pid : ℕ) → free ≡ free_ids 0 table
-    → seen ≡ free → last ≡ slice_get seen (length seen - 1) → read ≡ last → read ≡ Some pid → IsLastFree 0 table (take (length free - 1) free) pid
-last-read table seen free read last pid kept same at copied is =
-    last-free 0 table (take (length free - 1) free) pid (sym kept ∙ ends-with free pid (read-last seen free read last (Some pid) same at copied is))
+pub last-read : (table : List KeptPage) (free : List ℕ) (read : Option ℕ) (pid : ℕ) → free ≡ free_ids 0 table
+    → read ≡ slice_get free (length free - 1) → read ≡ Some pid → IsLastFree 0 table (take (length free - 1) free) pid
+last-read table free read pid kept at is = last-free 0 table (take (length free - 1) free) pid (sym kept ∙ ends-with free pid (sym at ∙ is))
 
 -- and this is its page
 pub last-same : (table : List KeptPage) (front : List ℕ) (pid : ℕ) (last : IsLastFree 0 table front pid) (q : KeptPage) → slice_get table pid ≡ Some q → last.page ≡ q
@@ -185,7 +180,7 @@ module _ {L : Type 0} (g : Ghosts L) (next : ℕ) (config : Config) (recovered :
         let many = known-length s.pages table are in
         allocate_adds lengths no_room s node clear (none_in s are) (λ all. room (sym many ∙ all)) answer out (rw many done)
 
-    may-new : length table ≢ 2 ^ 37 → (held : Logged) (s : State) → IsIn g (cache before table) held s → s.fault ≡ false → MayPut g before.log held (length table) node
+    may-new : length table ≢ 2 ^ 37 → (held : Logged) (s : State) → IsIn g (cache before table) held s → s.fault ≡ false → MayPut g before.log held (length table) (Node node)
     may-new room held s is clear = may-add g next config recovered before table ready beside held s is clear node kept.both (let few = kept.few in omega (arith, few, room))
 
     pub adds-refused : pages ≡ table → (refusal : Refusal) → RefusesPage (length table) refusal
@@ -196,7 +191,7 @@ module _ {L : Type 0} (g : Ghosts L) (next : ℕ) (config : Config) (recovered :
         rw is (λ went cause. nothing-told g next config recovered before table ready beside after (Allocate node) pages back (Allocated (Err (Unsupported PagesUsedUp))) went cause.fault
         (λ s clear are. allocate_full lengths no_room s node clear (none_in s are) (known-length s.pages table are ∙ many)))
     adds-refused back refusal (inr (room, of)) =
-        put-refused g next config recovered before table ready beside after (Allocate node) (length table) node reads (may-new room) ℕ pages back (λ e. Allocated (Err e))
+        put-refused g next config recovered before table ready beside after (Allocate node) (length table) (Node node) reads (may-new room) ℕ pages back (λ e. Allocated (Err e))
         (λ s clear are e out fails. adds room s clear are (Err e) out fails)
         refusal of
 
@@ -205,7 +200,7 @@ module _ {L : Type 0} (g : Ghosts L) (next : ℕ) (config : Config) (recovered :
         → Steps g (cache before table) (Allocate node) (Allocated (Ok (pid, made))) (cache after pages)
     adds-done room went clear_after added first behind pid last made is =
         subst (λ (l : List KeptPage). Steps g (cache before table) (Allocate node) (Allocated (Ok (pid, made))) (cache after l)) (sym behind)
-        (put-added g next config recovered before table ready beside after (Allocate node) (length table) node reads (may-new room) went clear_after (Allocated (Ok (pid, made))) 1 added first refl
+        (put-added g next config recovered before table ready beside after (Allocate node) (length table) (Node node) reads (may-new room) went clear_after (Allocated (Ok (pid, made))) 1 added first refl
         (λ s clear are.
         adds room s clear are (Ok (pid, made)) (outcome (record s { pages = s.pages ++ page 1 (Node node) ∷ [] }) (Change (length table) (Put (Node node)) ∷ []))
         (refl, (last, is ∙ ap (λ n. token n 1) last, refl))))
@@ -218,8 +213,8 @@ module _ {L : Type 0} (g : Ghosts L) (next : ℕ) (config : Config) (recovered :
     there : pid < length table
     there = slice_get_within table pid last.page (last-at table front pid last)
 
-    may-reuse : (held : Logged) (s : State) → IsIn g (cache before table) held s → s.fault ≡ false → MayPut g before.log held pid node
-    may-reuse held s is clear = may-set g next config recovered before table ready beside held s is clear pid node from there
+    may-reuse : (held : Logged) (s : State) → IsIn g (cache before table) held s → s.fault ≡ false → MayPut g before.log held pid (Node node)
+    may-reuse held s is clear = may-set g next config recovered before table ready beside held s is clear pid (Node node) tt from there
 
     pub reuses-refused : pages ≡ table → (refusal : Refusal) → RefusesSwap last.page.stamp refusal
         → (let told : Result (Unit {0}) Refusal = Err refusal in Went g.tells g.state g.moment g.left_since g.counts before after (begun_by told (Change pid (message_of (Put (Node node))) ∷ [])))
@@ -229,7 +224,7 @@ module _ {L : Type 0} (g : Ghosts L) (next : ℕ) (config : Config) (recovered :
         rw is (λ went cause. nothing-told g next config recovered before table ready beside after (Allocate node) pages back (Allocated (Err (Unsupported StampUsedUp))) went cause.fault
         (λ s clear are. allocate_last lengths no_room s node clear (token pid last.page.stamp) (last.greatest s.pages are) greatest))
     reuses-refused back refusal (inr (below, of)) =
-        put-refused g next config recovered before table ready beside after (Allocate node) pid node reads may-reuse (Unit {0}) pages back (λ e. Allocated (Err e))
+        put-refused g next config recovered before table ready beside after (Allocate node) pid (Node node) reads may-reuse (Unit {0}) pages back (λ e. Allocated (Err e))
         (λ s clear are e out fails. allocate_reuses lengths no_room s node clear (token pid last.page.stamp) (last.greatest s.pages are) below (Err e) out fails)
         refusal of
 
@@ -238,7 +233,7 @@ module _ {L : Type 0} (g : Ghosts L) (next : ℕ) (config : Config) (recovered :
         → Steps g (cache before table) (Allocate node) (Allocated (Ok (pid, made))) (cache after pages)
     reuses-done below went clear_after changed risen back made is =
         subst (λ (l : List KeptPage). Steps g (cache before table) (Allocate node) (Allocated (Ok (pid, made))) (cache after l)) (sym back)
-        (put-set g next config recovered before table ready beside after (Allocate node) pid node reads may-reuse went clear_after (Allocated (Ok (pid, made))) (last.page.stamp + 1) changed risen there
+        (put-set g next config recovered before table ready beside after (Allocate node) pid (Node node) reads may-reuse went clear_after (Allocated (Ok (pid, made))) (last.page.stamp + 1) changed risen there
         (λ s clear are.
         allocate_reuses lengths no_room s node clear (token pid last.page.stamp) (last.greatest s.pages are) below (Ok (pid, made))
         (outcome (with_page s pid (page (last.page.stamp + 1) (Node node))) (Change pid (Put (Node node)) ∷ [])) (refl, (refl, is ∙ ap (λ n. token pid n) risen, refl))))

@@ -1,5 +1,5 @@
 -- Which pages of a table lie in memory, where one of them changes.
-use Rattle.sled_pagecache.proofs.Names.{eqb, eqb_tells, capped, is_resident, IsFreeOrNode, CacheInfo, Result, Ok, Err, ◌≡◌, ◌≢◌, ◌⊎◌, ◌≤◌, inl, inr, ℕ, zero, suc, Bool, true, false, List, [], ◌∷◌, ◌++◌, length, map, Option, Some, None, slice_get, slice_set, refl, sym, ◌∙◌, ap, subst, arith, length-map, none-some, same_Some, slice_get-map, slice_get_past, option_map, error_of, Error, Refusal, OutOfMemory, Io, LogFull, IsOfLog, IsHindrance, WholeNode, Cache, is_free, nodes_in, resident_in, Config, Journal, Kept, Page, IsListed, rounded, IsTouched, WasAccessed, HasNode, HasNoNode, AreListed, StaysAt, node_size, size_of, size_if, size_in, AllStay, IsListedAt, AccessesNode, TakesNode, FindsNode, LosesAtMost, Accesses}
+use Rattle.sled_pagecache.proofs.Names.{eqb, eqb_tells, capped, is_resident, IsFreeOrNode, CacheInfo, Result, Ok, Err, ◌≡◌, ◌≢◌, ◌⊎◌, ◌≤◌, inl, inr, ℕ, zero, suc, Bool, true, false, List, [], ◌∷◌, ◌++◌, length, map, Option, Some, None, slice_get, slice_set, refl, sym, ◌∙◌, ap, subst, arith, length-map, none-some, same_Some, slice_get-map, slice_get_past, option_map, error_of, Error, Refusal, OutOfMemory, Io, LogFull, IsOfLog, IsHindrance, WholeNode, Cache, is_free, nodes_in, resident_in, Config, Journal, Kept, Page, IsListed, rounded, IsTouched, WasAccessed, HasNode, HasNoNode, AreListed, StaysAt, node_size, size_of, size_if, size_in, AllStay, IsListedAt, AccessesNode, TakesNode, TakesPage, FindsNode, LosesAtMost, Accesses}
 use Rattle.std.specs.Prelude.{OnOk, OnErr, IfSome, MatchOption}
 use Rattle.sled_base.specs.declared.types.Refusal.TheVariants as refusals
 use Rattle.sled_pagecache.proofs.Lookups.{map-at, set-at}
@@ -210,6 +210,18 @@ module _ {L : Type 0} (next : ℕ) (config : Config) (recovered : Bool) (before 
       by : (o : Option ℕ) → node_size q ≡ o → IfSome o (λ size. IsListed pid (rounded size) accesses.lru)
       by None same = tt
       by (Some size) same = listed pid size (map-at (λ (p : Page). node_size p) pages pid q at ∙ ap (λ (o : Option ℕ). Some o) same)
+
+  pub takes-page : WasAccessed accesses pid (size_of page) then → TakesPage old_cache accesses pid new_cache then
+  takes-page was = record {
+    size = size_of page;
+    only = λ other has. own-size page.kept other (same_Some (node_size page) (Some other) (sym (set-size next next config recovered before after pages pid q page at (node_size page) refl) ∙ has));
+    accessed = was;
+    others = set-others next next config recovered before after pages pid q page at;
+  }
+    where
+      own-size : (k : Kept) (other : ℕ) → size_if (size_of page) k ≡ Some other → other ≡ size_of page
+      own-size (kept.Node node) other is = sym (same_Some (size_of page) other is)
+      own-size k other is = absurd cc
 
   pub takes-node : (node : WholeNode) → page.kept ≡ kept.Node node → WasAccessed accesses pid (size_of page) then → TakesNode old_cache accesses pid new_cache then
   takes-node node holds was = record {

@@ -1,5 +1,5 @@
 -- What the tests of a swap answer is a step of the machine, for each call that makes them.
-use Rattle.sled_pagecache.proofs.Names.{◌≡◌, ◌<◌, ◌+◌, ℕ, Bool, true, false, List, [], length, Option, Some, None, Ok, Err, slice_get, slice_set, refl, sym, ◌∙◌, ap, subst, ne_eqb, map-set, slice_get_within, MatchBool, Write, Unsupported, Refusal, ReservedId, Content, Put, Node, Told, effect_of, Ghosts, WholeNode, Keeps, swapped, Cache, chain_length, HasNoRoom, StepOver, Steps, Went-none, Judges, IsJudged, State, page_at, Outcome, unchanged, is_reserved, Swapped, SwapsPage, Swaps, SwapsContent, LinksContent, stamps_in, IsBeside, Token, token, IsAnswered, Answer, Linked, Replaced, Call, Config, Journal, Judgement, Fresh, Stale, Gone, Page}
+use Rattle.sled_pagecache.proofs.Names.{◌≡◌, ◌<◌, ◌+◌, ℕ, Bool, true, false, List, [], length, Option, Some, None, Ok, Err, slice_get, slice_set, refl, sym, ◌∙◌, ap, subst, ne_eqb, map-set, slice_get_within, MatchBool, Write, Unsupported, Refusal, ReservedId, Content, Free, Put, Node, Told, effect_of, Ghosts, WholeNode, Keeps, swapped, Cache, chain_length, HasNoRoom, StepOver, Steps, Went-none, Judges, IsJudged, State, page_at, Outcome, unchanged, is_reserved, Swapped, SwapsPage, Swaps, SwapsContent, LinksContent, stamps_in, IsBeside, Token, token, IsAnswered, Answer, Freed, Linked, Replaced, Call, Config, Journal, Judgement, Fresh, Stale, Gone, Page}
 use Rattle.sled_base.specs.Errors.{error_of as error_by}
 use Rattle.sled_base.specs.declared.types.Error.TheVariants.{Io}
 use Rattle.sled_base.specs.declared.types.Refusal.TheVariants as refusals
@@ -25,6 +25,9 @@ module _ {L : Type 0} (g : Ghosts L) (cache : Cache L) (old : Token) where
 
   pub replace-swap : (node : WholeNode) → IsSwap g cache old node (call.Replace old node) Replaced (λ s answer out content. SwapsContent (chain_length g.state cache) (HasNoRoom g cache.log) s old (Put (Node node)) (Node node) answer out)
   replace-swap node = record { step = λ s answer out h. h }
+
+  pub free-swap : IsSwap g cache old tt (call.Free old) Freed (λ s answer out content. SwapsContent (chain_length g.state cache) (HasNoRoom g cache.log) s old (Put Free) Free answer out)
+  free-swap = record { step = λ s answer out h. h }
 
 module _ {L : Type 0} (g : Ghosts L) (next : ℕ) (config : Config) (recovered : Bool) (journal : Journal L) (table : List Page) (beside : journal.fault ≡ false → IsBeside g.tells g.state journal.log table)
     (only : (pages : List Told) → g.tells → (g.state journal.log).usable ≡ true → g.left_since journal.log (g.moment journal.log) pages → log.IsLeft effect_of (log.told_state (g.state journal.log)) [] pages)

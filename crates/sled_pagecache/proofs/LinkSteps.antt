@@ -53,7 +53,7 @@ module _ (contents : List Content) (pages : List Told) (hold : Hold pages conten
       by : (b : Bool) → ltb n 10 ≡ b
           → IsProper (chains_from effect_of pages (Change pid (message_of (cond b (Link link) (Put (Node (applied link node))))))) (contents_from contents (Change pid (cond b (Link link) (Put (Node (applied link node))))))
       by true below = link-proper pages contents hold proper pid from link node at (let few = ltb-true n 10 below in omega (arith, few, count))
-      by false above = put-proper pages contents hold proper pid from (applied link node) within
+      by false above = put-proper pages contents hold proper pid from (Node (applied link node)) tt within
 
 -- ---- the machine
 

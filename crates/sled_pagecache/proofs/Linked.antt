@@ -25,7 +25,7 @@ written-chains chains pid there messages link after info full = by (ltb messages
         ≡ slice_set chains pid
         (cond b (slice_index_or chains pid [] ++ placed (message_of (Link link)) (place_of info) ∷ []) (placed (message_of (Put (Node after))) (place_of info) ∷ []))
     by true = ap (λ b. slice_set chains pid (cond b (slice_index_or chains pid []) (slice_index_or chains pid [] ++ placed (message_of (Link link)) (place_of info) ∷ []))) full
-    by false = put-chains chains pid there after info
+    by false = put-chains chains pid there (kept.Node after) tt info
 
 pub places-after : (chain : Chain) (infos : List CacheInfo) (link : NodeLink) (after : WholeNode) (info : CacheInfo)
     → map said_of chain ≡ map place_of infos → map said_of (chain_after (length infos) chain link after info) ≡ map place_of (infos_after infos info)

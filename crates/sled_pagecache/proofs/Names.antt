@@ -9,14 +9,14 @@ pub use Rattle.sled_base.specs.declared.kinds.LogKind.{LogKind}
 pub use Rattle.sled_base.specs.declared.kinds.MessageKind.{MessageKind}
 pub use Rattle.sled_base.specs.declared.types.Bug.TheVariants.{FreeInPull, LinkRefused}
 pub use Rattle.sled_base.specs.declared.types.Device.TheVariants.{Read, Write}
-pub use Rattle.sled_base.specs.declared.types.DiskPtr.{DiskPtr}
 pub use Rattle.sled_base.specs.declared.types.DiskPtr.TheVariants.{Blob, Inline}
-pub use Rattle.sled_base.specs.declared.types.Error.{Error}
+pub use Rattle.sled_base.specs.declared.types.DiskPtr.{DiskPtr}
 pub use Rattle.sled_base.specs.declared.types.Error.TheVariants.{Unsupported}
-pub use Rattle.sled_base.specs.declared.types.Refusal.{Refusal}
+pub use Rattle.sled_base.specs.declared.types.Error.{Error}
 pub use Rattle.sled_base.specs.declared.types.Refusal.TheVariants.{Corruption, Io, OutOfMemory, ReportableBug}
-pub use Rattle.sled_base.specs.declared.types.Why.{Why}
+pub use Rattle.sled_base.specs.declared.types.Refusal.{Refusal}
 pub use Rattle.sled_base.specs.declared.types.Why.TheVariants.{LogFull, PagesUsedUp, ReservedId, StampUsedUp}
+pub use Rattle.sled_base.specs.declared.types.Why.{Why}
 pub use Rattle.sled_base.specs.declared.types.page_state.PageState.{PageState}
 pub use Rattle.sled_log.proofs.Faulty.{called_over, called_unread, called_unwritten}
 pub use Rattle.sled_log.specs.Batches.{is_open, open_after}
@@ -41,8 +41,8 @@ pub use Rattle.sled_log.specs.Writing.{CanWrite, message_of}
 pub use Rattle.sled_log.specs.WritingLaws.{written-update}
 pub use Rattle.sled_log.specs.ZipLaws.{zip-append, zip-at, zip-set}
 pub use Rattle.sled_log.specs.declared.log.Log.{Ghosts}
-pub use Rattle.sled_log.specs.declared.log.LogError.{LogError}
 pub use Rattle.sled_log.specs.declared.log.LogError.TheVariants.{ReadFault, WriteFault}
+pub use Rattle.sled_log.specs.declared.log.LogError.{LogError}
 pub use Rattle.sled_log.specs.declared.memory.MemLog.{MemLog}
 pub use Rattle.sled_node.specs.Links.{Accepts, applied}
 pub use Rattle.sled_node.specs.Node.{WholeNode}
@@ -86,20 +86,20 @@ pub use Rattle.sled_pagecache.specs.Starting.{Starts}
 pub use Rattle.sled_pagecache.specs.Starts.{CrashLeaves, HasAdded, IsBlamedOpening, IsFit, IsHindrance, LacksRoomFor, MayBeOpened, Opens, RefusesOpening, WasFull, log_after, only_stable, only_stable_contents}
 pub use Rattle.sled_pagecache.specs.State.{State, contents_of, free_token, greatest_free, later, page, page_at, stamps_of, with_page}
 pub use Rattle.sled_pagecache.specs.Step.{Allocates, Does, Fails, Finds, FindsContent, Flushes, Gets, IsCorruption, IsGone, IsHindered, IsRefused, Links, LinksContent, LinksNode, Outcome, Replaces, Sizes, Swapped, Swaps, SwapsContent, SwapsPage, UnlessFaulty, UnlessReserved, UnlessStale, is_reserved, outcome, unchanged}
-pub use Rattle.sled_pagecache.specs.Swaps.{IsLinked, IsRaised, RefusesLink, RefusesSwap, Wrote, infos_after, linked_length, update_of}
+pub use Rattle.sled_pagecache.specs.Swaps.{CanPut, IsLinked, IsRaised, RefusesLink, RefusesSwap, Wrote, content_of, infos_after, linked_length, update_of}
 pub use Rattle.sled_pagecache.specs.Table.{AreOwn, IsBeside, IsConsistent, IsCounter, IsFreeOrNode, IsOwnAt, IsRoots, nodes_in, resident_in, stamps_in}
 pub use Rattle.sled_pagecache.specs.Token.{IsAnswered, Token, pid_of, stamp_of, token}
-pub use Rattle.sled_pagecache.specs.Touching.{AccessesNode, AllStay, FindsNode, IsListedAt, LacksNodes, LosesAtMost, LosesNone, TakesNode}
+pub use Rattle.sled_pagecache.specs.Touching.{AccessesNode, AllStay, FindsNode, IsListedAt, LacksNodes, LosesAtMost, LosesNone, TakesNode, TakesPage}
 pub use Rattle.sled_pagecache.specs.declared.pagecache.accesses.Accesses.{Accesses}
+pub use Rattle.sled_pagecache.specs.declared.pagecache.call.Answer.TheVariants.{Allocated, Flushed, Freed, Got, Linked, Replaced, Sized}
 pub use Rattle.sled_pagecache.specs.declared.pagecache.call.Answer.{Answer}
-pub use Rattle.sled_pagecache.specs.declared.pagecache.call.Answer.TheVariants.{Allocated, Flushed, Got, Linked, Replaced, Sized}
-pub use Rattle.sled_pagecache.specs.declared.pagecache.call.Call.{Call}
 pub use Rattle.sled_pagecache.specs.declared.pagecache.call.Call.TheVariants.{Allocate, Flush, Get, Replace, SizeOnDisk}
 pub use Rattle.sled_pagecache.specs.declared.pagecache.page.CacheInfo.{CacheInfo}
+pub use Rattle.sled_pagecache.specs.declared.pagecache.call.Call.{Call}
 pub use Rattle.sled_pagecache.specs.declared.pagecache.config.Config.{Config}
 pub use Rattle.sled_pagecache.specs.declared.pagecache.journal.Journal.{Journal}
-pub use Rattle.sled_pagecache.specs.declared.pagecache.judge.Judgement.{Judgement}
 pub use Rattle.sled_pagecache.specs.declared.pagecache.judge.Judgement.TheVariants.{Fresh, Gone, Stale}
+pub use Rattle.sled_pagecache.specs.declared.pagecache.judge.Judgement.{Judgement}
 pub use Rattle.sled_pagecache.specs.declared.pagecache.page.Kept.{Kept}
 pub use Rattle.sled_pagecache.specs.declared.pagecache.page.Page.{Page}
 pub use Rattle.sled_pagecache.specs.declared.pagecache.reading.Found.{Found}
@@ -108,14 +108,14 @@ pub use Rattle.std.proofs.Common.{Bool, Bor, Err, List, None, Ok, Option, Result
 pub use Rattle.std.proofs.Math.Dec.{eqb}
 pub use Rattle.std.proofs.Math.ListN.{get_or-map}
 pub use Rattle.std.proofs.Math.Seq.{drop-append_seam, drop-nil, take-append_seam, take-nil}
-pub use Rattle.std.proofs.lemmas.Bool.{and_from, and_parts, eqb-false, eqb-true, false_from_ne_true, false≢true, le-leb, le-ltb, lt-ltb, ltb-false, ltb-true, ne_eqb, or_parts, true≢false}
 pub use Rattle.std.proofs.lemmas.Bool.Decides.{eqb_tells, nat_tests}
+pub use Rattle.std.proofs.lemmas.Bool.{and_from, and_parts, eqb-false, eqb-true, false_from_ne_true, false≢true, le-leb, le-ltb, lt-ltb, ltb-false, ltb-true, ne_eqb, or_parts, true≢false}
 pub use Rattle.std.proofs.lemmas.Grind.{get_or_after_one}
 pub use Rattle.std.proofs.lemmas.Int.{to_z-of_z}
-pub use Rattle.std.proofs.lemmas.List.{append-nil, append_assoc, drop-map, drop_more, get_or-set_same, get_or_default, get_or_past, length-append, length-drop, length-map, length-set, length_push, map-append, map-set, nil_from_length, set-append_left, set-append_right, set-get_or, take-append-drop, take-map, take_all, take_more}
 pub use Rattle.std.proofs.lemmas.List.Elements.{Contains-append_cases, Contains-append_left, Contains-append_right}
 pub use Rattle.std.proofs.lemmas.List.Quantifiers.{Any-push}
 pub use Rattle.std.proofs.lemmas.List.Sums.{sum_by-cons, sum_by_push}
+pub use Rattle.std.proofs.lemmas.List.{append-nil, append_assoc, drop-map, drop_more, get_or-set_same, get_or_default, get_or_past, length-append, length-drop, length-map, length-set, length_push, map-append, map-set, nil_from_length, set-append_left, set-append_right, set-get_or, take-append-drop, take-map, take_all, take_more}
 pub use Rattle.std.proofs.lemmas.Nat.{div-add-mod', mod_below}
 pub use Rattle.std.proofs.lemmas.Option.{IfSome_then, get_or_from_slice_get, none-some, option_and_then_some, same_Some, slice_get-get_or, slice_get-map, slice_get_cases, slice_get_past, slice_get_read, slice_get_within}
 pub use Rattle.std.proofs.lemmas.Result.{IfErr-weaker, IfOk-weaker, err_from_is_err_and, on_err_weaker, on_ok_weaker}

@@ -31,7 +31,7 @@ module _ (chains : List Chain) (pid : ℕ) (last : pid ≡ length chains) (after
 
   -- it is kept so
   pub new-kept : (page : Page) → page.kept ≡ kept.Node node → page.infos.items ≡ info ∷ [] → IsUpdate (message_of (Put (Node node))) (Put (Node node)) → IsKept (slice_index_or after pid []) page
-  new-kept page holds infos reads = kept-put (slice_index_or after pid []) page node info added-at infos holds reads
+  new-kept page holds infos reads = kept-put (slice_index_or after pid []) page (kept.Node node) tt info added-at infos holds reads
 
 -- a page more
 pub has-one-more : (tells : Type 0) (chain : Chain) (node : WholeNode) (info : CacheInfo) (before mid pages : List Page) (page : Page)

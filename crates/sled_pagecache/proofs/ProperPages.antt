@@ -1,5 +1,5 @@
 -- What a change of a page from 2 on makes of pages as a cache leaves them.
-use Rattle.sled_pagecache.proofs.Names.{◌≡◌, ◌≤◌, ◌<◌, ◌^◌, ℕ, Bool, true, false, cond, List, [], ◌∷◌, ◌++◌, length, set, Some, slice_get, slice_set, slice_index_or, sym, subst, arith, eq-eqb, ne_eqb, length-append, length-set, get_or_from_slice_get, AllZip-long, AllByRecursion, applied, WholeNode, is_empty, linked, chains_from, Content, Free, Node, Put, Link, after_link, contents_from, Change, Message, Told, effect_of, Holds, Hold, message_of, IsUsers, IsProper}
+use Rattle.sled_pagecache.proofs.Names.{◌≡◌, ◌≤◌, ◌<◌, ◌^◌, ℕ, Bool, true, false, cond, List, [], ◌∷◌, ◌++◌, length, set, Some, slice_get, slice_set, slice_index_or, sym, subst, arith, eq-eqb, ne_eqb, length-append, length-set, get_or_from_slice_get, AllZip-long, AllByRecursion, applied, WholeNode, is_empty, linked, chains_from, Content, Free, Node, Put, Link, after_link, contents_from, Change, Message, Told, effect_of, Holds, Hold, message_of, IsUsers, IsProper, if◌then◌else◌, ◌==◌}
 pub use Rattle.sled_node.proofs.Edits.{all_append as all-append}
 use Rattle.sled_pagecache.proofs.ByIds.{add-by-id, all-by-id, by-id-all, past-two, set-by-id}
 use Rattle.sled_node.specs.declared.node.link.Link.{Link as NodeLink}
@@ -30,14 +30,26 @@ proper-add pages contents told content proper from room fits node = record {
   few = let l = length-append contents (content ∷ []) in omega (arith, l, room);
 }
 
+-- what is put on a page by its id: a node, or nothing
+abbrev pub IsPut : Content → Type 0
+IsPut Free = Unit {0}
+IsPut (Node node) = Unit {0}
+IsPut other = ⊥
+
 module _ (pages : List Told) (contents : List Content) (hold : Hold pages contents) (proper : IsProper pages contents) (pid : ℕ) (from : 2 ≤ pid) where
-  -- a node in place of what the page held
-  pub put-proper : (node : WholeNode) → pid < length contents
-      → IsProper (chains_from effect_of pages (Change pid (message_of (Put (Node node))))) (contents_from contents (Change pid (Put (Node node))))
-  put-proper node lt =
+  put-one : (m : Message) (content : Content) → IsUsers content → pid < length contents
+      → IsProper (if pid == length pages then pages ++ (m ∷ []) ∷ [] else slice_set pages pid (m ∷ [])) (if pid == length contents then contents ++ content ∷ [] else slice_set contents pid content)
+  put-one m content users lt =
       let long = AllZip-long Holds pages contents hold in
       rw (ne_eqb pid (length pages) (λ same. omega (arith, same, lt, long)), ne_eqb pid (length contents) (λ same. omega (arith, same, lt)))
-      (proper-set pages contents pid (message_of (Put (Node node)) ∷ []) (Node node) proper from (omega arith) tt)
+      (proper-set pages contents pid (m ∷ []) content proper from (omega arith) users)
+
+  -- a content in place of what the page held
+  pub put-proper : (content : Content) → IsPut content → pid < length contents
+      → IsProper (chains_from effect_of pages (Change pid (message_of (Put content)))) (contents_from contents (Change pid (Put content)))
+  put-proper Free put lt = put-one (message_of (Put Free)) Free tt lt
+  put-proper (Node node) put lt = put-one (message_of (Put (Node node))) (Node node) tt lt
+  put-proper content put lt = absurd put
 
   -- a node on a new page
   pub add-proper : (node : WholeNode) → pid ≡ length contents → length contents < 2 ^ 37

@@ -1,5 +1,5 @@
--- A call that puts a node on one page, as a step of the machine, told of the table that the cache keeps.
-use Rattle.sled_pagecache.proofs.Names.{◌≡◌, ◌≤◌, ◌<◌, ◌^◌, ℕ, Bool, true, false, List, [], ◌∷◌, ◌++◌, length, Result, Err, slice_set, refl, sym, ◌∙◌, ap, subst, arith, eq-eqb, ne_eqb, length-map, map-append, map-set, MatchBool, Read, Write, Error, Unsupported, Refusal, LogFull, chains_from, Node, Update, Put, contents_from, Event, Change, holds-after, effect_of, IsUpdate, MayChange, Hold, message_of, Ghosts, WholeNode, Cache, chain_length, IsIn, HasNoRoom, StepOver, Steps, IsBlamed, Went, IsCaused, IsOfLog, begun_by, Logged, journal_of, IsProper, page, State, with_page, Outcome, outcome, unchanged, IsRefused, UnlessFaulty, Fails, stamps_in, IsBeside, Answer, Call, Config, Journal}
+-- A call that puts a content on one page, as a step of the machine, told of the table that the cache keeps.
+use Rattle.sled_pagecache.proofs.Names.{◌≡◌, ◌≤◌, ◌<◌, ◌^◌, ℕ, Bool, true, false, List, [], ◌∷◌, ◌++◌, length, Result, Err, slice_set, refl, sym, ◌∙◌, ap, subst, arith, eq-eqb, ne_eqb, length-map, map-append, map-set, MatchBool, Read, Write, Error, Unsupported, Refusal, LogFull, chains_from, Node, Update, Put, contents_from, Content, Free, Event, Change, holds-after, effect_of, IsUpdate, MayChange, Hold, message_of, Ghosts, WholeNode, Cache, chain_length, IsIn, HasNoRoom, StepOver, Steps, IsBlamed, Went, IsCaused, IsOfLog, begun_by, Logged, journal_of, IsProper, page, State, with_page, Outcome, outcome, unchanged, IsRefused, UnlessFaulty, Fails, stamps_in, IsBeside, Answer, Call, Config, Journal}
 use Rattle.sled_base.specs.Errors.{error_of as error_by}
 use Rattle.sled_base.specs.declared.types.Error.TheVariants.{Io, OutOfMemory}
 use Rattle.sled_base.specs.declared.types.Refusal.TheVariants as refusals
@@ -7,7 +7,7 @@ use Rattle.sled_log.specs.State as log
 use Rattle.sled_pagecache.proofs.CacheSteps.{steps-went}
 use Rattle.sled_pagecache.proofs.Carrying.{proper-now}
 use Rattle.sled_pagecache.proofs.Changing.{leads-same, leads-begun, leads-set, leads-add}
-use Rattle.sled_pagecache.proofs.ProperPages.{put-proper, add-proper}
+use Rattle.sled_pagecache.proofs.ProperPages.{IsPut, put-proper, add-proper}
 use Rattle.sled_pagecache.proofs.Standing.{AreKnown, known-in, known-length}
 use Rattle.sled_pagecache.proofs.TableNodes.{view}
 use Rattle.sled_pagecache.specs.Logged.{now}
@@ -19,10 +19,10 @@ pub unless-clear : {T : Type 0} (s : State) (answer : Result T Error) (out : Out
 unless-clear s answer out goes_on clear h = subst (λ b. MatchBool b (IsRefused s answer out (Io Write)) goes_on) (sym clear) h
 
 module _ {L : Type 0} (g : Ghosts L) where
-  -- a node may be put on the page, which leaves pages as a cache does
-  pub record MayPut (l : L) (held : Logged) (pid : ℕ) (node : WholeNode) : Type 0 where
-    pub may : MayChange (now held) pid (Put (Node node))
-    pub proper : IsProper (chains_from effect_of (log.now effect_of (log.told_state (g.state l))) (Change pid (message_of (Put (Node node))))) (contents_from (now held) (Change pid (Put (Node node))))
+  -- a content may be put on the page, which leaves pages as a cache does
+  pub record MayPut (l : L) (held : Logged) (pid : ℕ) (content : Content) : Type 0 where
+    pub may : MayChange (now held) pid (Put content)
+    pub proper : IsProper (chains_from effect_of (log.now effect_of (log.told_state (g.state l))) (Change pid (message_of (Put content)))) (contents_from (now held) (Change pid (Put content)))
 
   -- what the log holds makes the contents, which are as many as the pages
   holds_told : (cache : Cache L) (held : Logged) (s : State) → IsIn g cache held s → s.fault ≡ false → Hold (log.now effect_of (log.told_state (g.state cache.log))) (now held)
@@ -43,16 +43,21 @@ module _ {L : Type 0} (g : Ghosts L) where
           ap length (sym (is.known clear).contents) ∙ length-map s.pages (λ (p : Page). p.content) ∙ known-length s.pages table (known held s is clear)
 
       -- on a page from 2 on, or on the next new one
-      pub may-set : (held : Logged) (s : State) → IsIn g (cache before table) held s → s.fault ≡ false → (pid : ℕ) (node : WholeNode) → 2 ≤ pid → pid < length table → MayPut before.log held pid node
-      may-set held s is clear pid node from there =
+      pub may-set : (held : Logged) (s : State) → IsIn g (cache before table) held s → s.fault ≡ false → (pid : ℕ) (content : Content) → IsPut content → 2 ≤ pid → pid < length table → MayPut before.log held pid content
+      may-set held s is clear pid content put from there =
           let same = many held s is clear in
           let within : pid < length (now held) = omega (arith, same, there) in
           record {
-            may = omega (arith, within);
-            proper = put-proper (log.now effect_of (log.told_state (g.state before.log))) (now held) (holds_told (cache before table) held s is clear) (proper-now (log.told_state (g.state before.log)) held (is.known clear).logged) pid from node within;
+            may = may-change content put within;
+            proper = put-proper (log.now effect_of (log.told_state (g.state before.log))) (now held) (holds_told (cache before table) held s is clear) (proper-now (log.told_state (g.state before.log)) held (is.known clear).logged) pid from content put within;
           }
+        where
+          may-change : (content : Content) → IsPut content → pid < length (now held) → MayChange (now held) pid (Put content)
+          may-change Free put within = within
+          may-change (Node node) put within = omega (arith, within)
+          may-change content put within = absurd put
 
-      pub may-add : (held : Logged) (s : State) → IsIn g (cache before table) held s → s.fault ≡ false → (node : WholeNode) → 2 ≤ length table → length table < 2 ^ 37 → MayPut before.log held (length table) node
+      pub may-add : (held : Logged) (s : State) → IsIn g (cache before table) held s → s.fault ≡ false → (node : WholeNode) → 2 ≤ length table → length table < 2 ^ 37 → MayPut before.log held (length table) (Node node)
       may-add held s is clear node from room =
           let same = many held s is clear in
           record {
@@ -69,27 +74,27 @@ module _ {L : Type 0} (g : Ghosts L) where
             steps-went g (cache before table) (cache after pages) before after call answer [] (record { config = refl; recovered = refl }) refl refl refl ready went
             (λ held s is clear. leads-same g (cache before table) (cache after pages) held s is clear call answer refl (step s clear (known held s is clear)) (ap stamps_in back) free)
 
-        module _ (pid : ℕ) (node : WholeNode) (reads : IsUpdate (message_of (Put (Node node))) (Put (Node node)))
-            (may : (held : Logged) (s : State) → IsIn g (cache before table) held s → s.fault ≡ false → MayPut before.log held pid node) where
+        module _ (pid : ℕ) (content : Content) (reads : IsUpdate (message_of (Put content)) (Put content))
+            (may : (held : Logged) (s : State) → IsIn g (cache before table) held s → s.fault ≡ false → MayPut before.log held pid content) where
           abbrev change : Event Update
-          change = Change pid (Put (Node node))
+          change = Change pid (Put content)
 
-          -- a write fault came while the node was told
-          put-failed : (pages : List KeptPage) → pages ≡ table → (answer : Answer) → Went g.tells g.state g.moment g.left_since g.counts before after (Change pid (message_of (Put (Node node))) ∷ []) → after.fault ≡ true
+          -- a write fault came while the content was told
+          put-failed : (pages : List KeptPage) → pages ≡ table → (answer : Answer) → Went g.tells g.state g.moment g.left_since g.counts before after (Change pid (message_of (Put content)) ∷ []) → after.fault ≡ true
               → ((s : State) → s.fault ≡ false → AreKnown s.pages table → StepOver g (cache before table) s call answer (outcome (record s { fault = true }) (change ∷ [])))
               → Steps g (cache before table) call answer (cache after pages)
           put-failed pages back answer went kept step =
-              steps-went g (cache before table) (cache after pages) before after call answer (Change pid (message_of (Put (Node node))) ∷ []) (record { config = refl; recovered = refl }) refl refl refl ready went
+              steps-went g (cache before table) (cache after pages) before after call answer (Change pid (message_of (Put content)) ∷ []) (record { config = refl; recovered = refl }) refl refl refl ready went
               (λ held s is clear.
               let m = may held s is clear in
-              leads-begun g (cache before table) (cache after pages) held s is clear call answer refl pid (Put (Node node)) reads m.may m.proper (step s clear (known held s is clear)) (ap stamps_in back) kept)
+              leads-begun g (cache before table) (cache after pages) held s is clear call answer refl pid (Put content) reads m.may m.proper (step s clear (known held s is clear)) (ap stamps_in back) kept)
 
           -- the log refused it, or failed
           pub put-refused : (T : Type 0) (pages : List KeptPage) → pages ≡ table → (answer : Error → Answer)
               → ((s : State) → s.fault ≡ false → AreKnown s.pages table → (e : Error) (out : Outcome) → Fails (chain_length g.state (cache before table)) (HasNoRoom g before.log) s change e out → StepOver g (cache before table) s call (answer e) out)
               → (refusal : Refusal) → IsOfLog refusal
-              → (let told : Result T Refusal = Err refusal in Went g.tells g.state g.moment g.left_since g.counts before after (begun_by told (Change pid (message_of (Put (Node node))) ∷ [])))
-              → (let told : Result T Refusal = Err refusal in IsCaused g.tells g.state g.moment g.left_since g.counts before after (g.is_full before.log (length (message_of (Put (Node node))).payload)) told)
+              → (let told : Result T Refusal = Err refusal in Went g.tells g.state g.moment g.left_since g.counts before after (begun_by told (Change pid (message_of (Put content)) ∷ [])))
+              → (let told : Result T Refusal = Err refusal in IsCaused g.tells g.state g.moment g.left_since g.counts before after (g.is_full before.log (length (message_of (Put content)).payload)) told)
               → Steps g (cache before table) call (answer (error_by refusal)) (cache after pages)
           put-refused T pages back answer step refusals.OutOfMemory of went cause =
               nothing-told pages back (answer OutOfMemory) went cause.fault (λ s clear are. step s clear are OutOfMemory (unchanged s) refl)
@@ -101,28 +106,28 @@ module _ {L : Type 0} (g : Ghosts L) where
               nothing-told pages back (answer (Unsupported LogFull)) went cause.fault (λ s clear are. step s clear are (Unsupported LogFull) (unchanged s) (cause.full refl, refl))
           put-refused T pages back answer step refusal of went cause = absurd of
 
-          module _ (went : Went g.tells g.state g.moment g.left_since g.counts before after (Change pid (message_of (Put (Node node))) ∷ [])) (free : after.fault ≡ false) (answer : Answer) (stamp : ℕ) (q : KeptPage) (at : q.stamp ≡ stamp) where
+          module _ (went : Went g.tells g.state g.moment g.left_since g.counts before after (Change pid (message_of (Put content)) ∷ [])) (free : after.fault ≡ false) (answer : Answer) (stamp : ℕ) (q : KeptPage) (at : q.stamp ≡ stamp) where
             -- the page that was there holds it
-            pub put-set : pid < length table → ((s : State) → s.fault ≡ false → AreKnown s.pages table → StepOver g (cache before table) s call answer (outcome (with_page s pid (page stamp (Node node))) (change ∷ [])))
+            pub put-set : pid < length table → ((s : State) → s.fault ≡ false → AreKnown s.pages table → StepOver g (cache before table) s call answer (outcome (with_page s pid (page stamp content)) (change ∷ [])))
                 → Steps g (cache before table) call answer (cache after (slice_set table pid q))
             put-set there step =
-                steps-went g (cache before table) (cache after (slice_set table pid q)) before after call answer (Change pid (message_of (Put (Node node))) ∷ []) (record { config = refl; recovered = refl }) refl refl refl ready went
+                steps-went g (cache before table) (cache after (slice_set table pid q)) before after call answer (Change pid (message_of (Put content)) ∷ []) (record { config = refl; recovered = refl }) refl refl refl ready went
                 (λ held s is clear.
                 let m = may held s is clear in
                 let same = many held s is clear in
-                leads-set g (cache before table) (cache after (slice_set table pid q)) held s is clear call answer refl pid (Put (Node node)) reads m.may m.proper stamp (Node node) (step s clear (known held s is clear))
+                leads-set g (cache before table) (cache after (slice_set table pid q)) held s is clear call answer refl pid (Put content) reads m.may m.proper stamp content (step s clear (known held s is clear))
                 (rw (ne_eqb pid (length (now held)) (λ last. omega (arith, last, there, same))) refl)
                 (map-set (λ (p : KeptPage). p.stamp) table pid q ∙ ap (λ n. slice_set (stamps_in table) pid n) at)
                 free)
 
             -- a new page holds it
-            pub put-added : pid ≡ length table → ((s : State) → s.fault ≡ false → AreKnown s.pages table → StepOver g (cache before table) s call answer (outcome (record s { pages = s.pages ++ page stamp (Node node) ∷ [] }) (change ∷ [])))
+            pub put-added : pid ≡ length table → ((s : State) → s.fault ≡ false → AreKnown s.pages table → StepOver g (cache before table) s call answer (outcome (record s { pages = s.pages ++ page stamp content ∷ [] }) (change ∷ [])))
                 → Steps g (cache before table) call answer (cache after (table ++ q ∷ []))
             put-added last step =
-                steps-went g (cache before table) (cache after (table ++ q ∷ [])) before after call answer (Change pid (message_of (Put (Node node))) ∷ []) (record { config = refl; recovered = refl }) refl refl refl ready went
+                steps-went g (cache before table) (cache after (table ++ q ∷ [])) before after call answer (Change pid (message_of (Put content)) ∷ []) (record { config = refl; recovered = refl }) refl refl refl ready went
                 (λ held s is clear.
                 let m = may held s is clear in
-                leads-add g (cache before table) (cache after (table ++ q ∷ [])) held s is clear call answer refl pid (Put (Node node)) reads m.may m.proper stamp (Node node) (step s clear (known held s is clear))
+                leads-add g (cache before table) (cache after (table ++ q ∷ [])) held s is clear call answer refl pid (Put content) reads m.may m.proper stamp content (step s clear (known held s is clear))
                 (rw (eq-eqb pid (length (now held)) (last ∙ sym (many held s is clear))) refl)
                 (map-append (λ (p : KeptPage). p.stamp) table (q ∷ []) ∙ ap (λ n. stamps_in table ++ n ∷ []) at)
                 free)

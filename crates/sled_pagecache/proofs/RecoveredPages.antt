@@ -2,6 +2,10 @@
 use Rattle.sled_pagecache.proofs.Names.{◌≡◌, ◌+◌, ◌<◌, ◌≤◌, ℕ, ℤ, true, false, List, [], ◌∷◌, ◌++◌, length, map, take, drop, get_or, Option, Some, refl, sym, ◌∙◌, ap, subst, inl, inr, arith, false≢true, length-map, take_more, slice_get_cases, zip-append, AllZip, AllByRecursion, IfSome, DiskPtr, PageState, Chain, IsPageState, said_of, freed_of, place_of, IsLoaded, IsUnread, HoldsChain, IsKept, is_free, freed_at, info_at, kept_by, IsRecovered, is_misfit, AllFit, BeginsMisfit, CacheInfo, Kept, Page, Bool, drop_more, free_ids, append_assoc, slice_get_within, get_or_from_slice_get, if◌then◌else◌}
 use Rattle.std.specs.List.{slice_get}
 use Rattle.sled_base.specs.declared.types.page_state.PageState.TheVariants as said
+use Rattle.std.specs.BTreeSet.{insert_key}
+use Rattle.std.specs.Ordering.{nat_cmp}
+use Rattle.sled_pagecache.proofs.FreeIds.{behind, later}
+use Rattle.sled_pagecache.proofs.ProperPages.{all-append}
 
 abbrev pub Place : Type 0
 Place = ℤ × DiskPtr × ℕ
@@ -91,20 +95,22 @@ begins-misfit pages k page info at misfit some first before = record {
 drop-at : (pages : List Page) (pid : ℕ) (page : Page) → slice_get pages pid ≡ Some page → drop pid pages ≡ page ∷ drop (pid + 1) pages
 drop-at pages pid page at = drop_more pages pid page (slice_get_within pages pid page at) ∙ ap (λ (p : Page). p ∷ drop (pid + 1) pages) (get_or_from_slice_get pages pid page page at)
 
-module _ (pages : List Page) (ids now : List ℕ) (pid : ℕ) (so_far : ids ++ free_ids pid (drop pid pages) ≡ free_ids 0 pages) where
+module _ (pages : List Page) (ids now : List ℕ) (pid : ℕ) (less : AllByRecursion (λ id. id < pid) ids) (so_far : ids ++ free_ids pid (drop pid pages) ≡ free_ids 0 pages) where
   abbrev rest : List ℕ
   rest = free_ids (pid + 1) (drop (pid + 1) pages)
 
   -- those so far, with the page at this id
-  pub free-taken : (page : Page) → slice_get pages pid ≡ Some page → is_free page.kept ≡ true → now ≡ ids ++ pid ∷ [] → now ++ rest ≡ free_ids 0 pages
-  free-taken page at free is =
+  pub free-taken : (page : Page) → slice_get pages pid ≡ Some page → is_free page.kept ≡ true → now ≡ insert_key nat_cmp ids pid → AllByRecursion (λ id. id < pid + 1) now × (now ++ rest ≡ free_ids 0 pages)
+  free-taken page at free put =
+      let is : now ≡ ids ++ pid ∷ [] = put ∙ behind pid ids less in
       let step = ap (free_ids pid) (drop-at pages pid page at) ∙ ap (λ (b : Bool). if b then pid ∷ rest else rest) free in
-      ap (λ (l : List ℕ). l ++ rest) is ∙ append_assoc ids (pid ∷ []) rest ∙ ap (λ (l : List ℕ). ids ++ l) (sym step) ∙ so_far
+      (subst (AllByRecursion (λ id. id < pid + 1)) (sym is) (all-append _ ids (pid ∷ []) (later pid ids less) (omega arith, tt)),
+      ap (λ (l : List ℕ). l ++ rest) is ∙ append_assoc ids (pid ∷ []) rest ∙ ap (λ (l : List ℕ). ids ++ l) (sym step) ∙ so_far)
 
-  pub free-passed : (page : Page) → slice_get pages pid ≡ Some page → is_free page.kept ≡ false → now ≡ ids → now ++ rest ≡ free_ids 0 pages
+  pub free-passed : (page : Page) → slice_get pages pid ≡ Some page → is_free page.kept ≡ false → now ≡ ids → AllByRecursion (λ id. id < pid + 1) now × (now ++ rest ≡ free_ids 0 pages)
   free-passed page at full is =
       let step = ap (free_ids pid) (drop-at pages pid page at) ∙ ap (λ (b : Bool). if b then pid ∷ rest else rest) full in
-      ap (λ (l : List ℕ). l ++ rest) is ∙ ap (λ (l : List ℕ). ids ++ l) (sym step) ∙ so_far
+      (subst (AllByRecursion (λ id. id < pid + 1)) (sym is) (later pid ids less), ap (λ (l : List ℕ). l ++ rest) is ∙ ap (λ (l : List ℕ). ids ++ l) (sym step) ∙ so_far)
 
 -- ---- a page as a log says it
 

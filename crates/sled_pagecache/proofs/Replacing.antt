@@ -1,7 +1,9 @@
--- Replacing a page, as a step of the machine.
-use Rattle.sled_pagecache.proofs.Names.{◌≡◌, ◌≢◌, inl, inr, ◌≤◌, ◌<◌, ◌+◌, ◌-◌, ◌^◌, ℕ, Bool, false, List, [], ◌∷◌, length, Some, Result, Ok, Err, slice_get, slice_set, refl, sym, ◌∙◌, ap, eq-eqb, ne_eqb, slice_get_within, Unsupported, Refusal, StampUsedUp, Event, Update, Node, Put, Change, IsUpdate, message_of, Ghosts, WholeNode, Cache, chain_length, HasNoRoom, StepOver, IsIn, Steps, Went, IsCaused, begun_by, Logged, page, State, page_at, with_page, is_reserved, Does, Outcome, outcome, unchanged, Swapped, Replaces, RefusesSwap, IsBeside, Token, token, Replaced, Replace, Config, Journal}
+-- Putting another content on a page, as a step of the machine.
+use Rattle.sled_pagecache.proofs.Names.{◌≡◌, ◌≢◌, inl, inr, ◌≤◌, ◌<◌, ◌+◌, ◌-◌, ◌^◌, ℕ, Bool, false, List, [], ◌∷◌, length, Some, Result, Ok, Err, slice_get, slice_set, refl, sym, ◌∙◌, ap, eq-eqb, ne_eqb, slice_get_within, Unsupported, Refusal, StampUsedUp, Content, Event, Update, Put, Change, IsUpdate, message_of, Ghosts, Cache, chain_length, HasNoRoom, StepOver, IsIn, Steps, Went, IsCaused, begun_by, Logged, page, State, page_at, with_page, is_reserved, Does, Outcome, outcome, unchanged, Swapped, Swaps, SwapsContent, RefusesSwap, IsBeside, Token, token, Answer, Call, Config, Journal}
 use Rattle.sled_base.specs.Errors.{error_of as error_by}
+use Rattle.sled_pagecache.proofs.Judging.{IsSwap}
 use Rattle.sled_pagecache.proofs.Lookups.{behind-own}
+use Rattle.sled_pagecache.proofs.ProperPages.{IsPut}
 use Rattle.sled_pagecache.proofs.Putting.{unless-clear, MayPut, may-set, nothing-told, put-refused, put-set}
 use Rattle.sled_pagecache.proofs.Standing.{AreKnown, found-known}
 use Rattle.sled_pagecache.proofs.TableNodes.{view}
@@ -11,65 +13,72 @@ use Rattle.sled_pagecache.specs.declared.pagecache.page.Page.{Page as KeptPage}
 
 -- ---- what the machine tests
 
-module _ (messages : ℕ → ℕ) (no_room : Event Update → Type 0) (s : State) (old : Token) (node : WholeNode) (clear : s.fault ≡ false) (free : is_reserved old.pid ≡ false)
+module _ (messages : ℕ → ℕ) (no_room : Event Update → Type 0) (s : State) (old : Token) {R : Type 0} (rejected : R) (content : Content) (clear : s.fault ≡ false) (free : is_reserved old.pid ≡ false)
     (p : Page) (at : page_at s old.pid ≡ Some p) (full : is_free p.content ≡ false) (same : p.stamp ≡ old.stamp) where
-  pub replace_last : p.stamp ≡ 2 ^ 64 - 1 → Replaces messages no_room s old node (Err (Unsupported StampUsedUp)) (unchanged s)
-  replace_last last = rw (clear, free, at, full, eq-eqb p.stamp old.stamp same) (rw (eq-eqb old.stamp (2 ^ 64 - 1) (sym same ∙ last)) (refl, refl))
+  abbrev Puts : Swapped R → Outcome → Type 0
+  Puts answer out = Swaps s old rejected answer out (λ _. SwapsContent messages no_room s old (Put content) content answer out)
 
-  pub replace_does : (answer : Swapped WholeNode) (out : Outcome) → p.stamp ≢ 2 ^ 64 - 1
-      → Does messages no_room s (Change old.pid (Put (Node node))) answer out (λ swapped t. (swapped ≡ Ok (token old.pid (old.stamp + 1))) × (t ≡ with_page s old.pid (page (old.stamp + 1) (Node node))))
-      → Replaces messages no_room s old node answer out
-  replace_does answer out below done =
+  swap_last : p.stamp ≡ 2 ^ 64 - 1 → Puts (Err (Unsupported StampUsedUp)) (unchanged s)
+  swap_last last = rw (clear, free, at, full, eq-eqb p.stamp old.stamp same) (rw (eq-eqb old.stamp (2 ^ 64 - 1) (sym same ∙ last)) (refl, refl))
+
+  swap_does : (answer : Swapped R) (out : Outcome) → p.stamp ≢ 2 ^ 64 - 1
+      → Does messages no_room s (Change old.pid (Put content)) answer out (λ swapped t. (swapped ≡ Ok (token old.pid (old.stamp + 1))) × (t ≡ with_page s old.pid (page (old.stamp + 1) content)))
+      → Puts answer out
+  swap_does answer out below done =
       unless-clear s answer out _ clear (rw (free, at, full, eq-eqb p.stamp old.stamp same) (rw (ne_eqb old.stamp (2 ^ 64 - 1) (λ h. below (same ∙ h))) done))
 
 -- ---- the call, told of the table
 
 module _ {L : Type 0} (g : Ghosts L) (next : ℕ) (config : Config) (recovered : Bool) (before : Journal L) (table : List KeptPage) (ready : before.fault ≡ false) (beside : IsBeside g.tells g.state before.log table)
-    (old : Token) (pid : ℕ) (node : WholeNode) (same : old.pid ≡ pid) (pages : List KeptPage) (back : pages ≡ table) where
+    (old : Token) (pid : ℕ) {R : Type 0} (rejected : R) (content : Content) (put : IsPut content) (call : Call) (answered : Swapped R → Answer)
+    (swap : let cache = view next config recovered before table in IsSwap g cache old rejected call answered (λ s answer out _. SwapsContent (chain_length g.state cache) (HasNoRoom g before.log) s old (Put content) content answer out))
+    (same : old.pid ≡ pid) (pages : List KeptPage) (back : pages ≡ table) where
   abbrev cache : Journal L → List KeptPage → Cache L
   cache journal kept = view next config recovered journal kept
 
-  -- the page is to be replaced
+  -- the page is to be changed
   module _ (after : Journal L) (free : is_reserved pid ≡ false) (q : KeptPage) (at : slice_get table pid ≡ Some q) (full : kept.is_free q.kept ≡ false) (stamp : q.stamp ≡ old.stamp)
-      (reads : IsUpdate (message_of (Put (Node node))) (Put (Node node))) where
+      (reads : IsUpdate (message_of (Put content)) (Put content)) where
     from : 2 ≤ pid
     from = behind-own pid free
 
     there : pid < length table
     there = slice_get_within table pid q at
 
-    may : (held : Logged) (s : State) → IsIn g (cache before table) held s → s.fault ≡ false → MayPut g before.log held pid node
-    may held s is clear = may-set g next config recovered before table ready beside held s is clear pid node from there
+    may : (held : Logged) (s : State) → IsIn g (cache before table) held s → s.fault ≡ false → MayPut g before.log held pid content
+    may held s is clear = may-set g next config recovered before table ready beside held s is clear pid content put from there
 
     module _ (s : State) (clear : s.fault ≡ false) (are : AreKnown s.pages table) where
-      does : q.stamp ≢ 2 ^ 64 - 1 → (answer : Swapped WholeNode) (out : Outcome)
-          → Does (chain_length g.state (cache before table)) (HasNoRoom g before.log) s (Change pid (Put (Node node))) answer out (λ swapped t. (swapped ≡ Ok (token pid (old.stamp + 1))) × (t ≡ with_page s pid (page (old.stamp + 1) (Node node))))
-          → StepOver g (cache before table) s (Replace old node) (Replaced answer) out
+      does : q.stamp ≢ 2 ^ 64 - 1 → (answer : Swapped R) (out : Outcome)
+          → Does (chain_length g.state (cache before table)) (HasNoRoom g before.log) s (Change pid (Put content)) answer out (λ swapped t. (swapped ≡ Ok (token pid (old.stamp + 1))) × (t ≡ with_page s pid (page (old.stamp + 1) content)))
+          → StepOver g (cache before table) s call (answered answer) out
       does below answer out done =
           let found = found-known s.pages table pid q are at in
-          replace_does (chain_length g.state (cache before table)) (HasNoRoom g before.log) s old node clear (ap is_reserved same ∙ free) found.page (ap (page_at s) same ∙ found.is) (found.known.free ∙ full)
-          (found.known.stamp ∙ stamp) answer out (λ last. below (sym found.known.stamp ∙ last)) (rw same done)
+          swap.step s answer out
+          (swap_does (chain_length g.state (cache before table)) (HasNoRoom g before.log) s old rejected content clear (ap is_reserved same ∙ free) found.page (ap (page_at s) same ∙ found.is) (found.known.free ∙ full)
+          (found.known.stamp ∙ stamp) answer out (λ last. below (sym found.known.stamp ∙ last)) (rw same done))
 
-      last-step : q.stamp ≡ 2 ^ 64 - 1 → StepOver g (cache before table) s (Replace old node) (Replaced (Err (Unsupported StampUsedUp))) (unchanged s)
+      last-step : q.stamp ≡ 2 ^ 64 - 1 → StepOver g (cache before table) s call (answered (Err (Unsupported StampUsedUp))) (unchanged s)
       last-step last =
           let found = found-known s.pages table pid q are at in
-          replace_last (chain_length g.state (cache before table)) (HasNoRoom g before.log) s old node clear (ap is_reserved same ∙ free) found.page (ap (page_at s) same ∙ found.is) (found.known.free ∙ full)
-          (found.known.stamp ∙ stamp) (found.known.stamp ∙ last)
+          swap.step s (Err (Unsupported StampUsedUp)) (unchanged s)
+          (swap_last (chain_length g.state (cache before table)) (HasNoRoom g before.log) s old rejected content clear (ap is_reserved same ∙ free) found.page (ap (page_at s) same ∙ found.is) (found.known.free ∙ full)
+          (found.known.stamp ∙ stamp) (found.known.stamp ∙ last))
 
-    pub replaces-refused : (refusal : Refusal) → RefusesSwap q.stamp refusal
-        → (let told : Result (Unit {0}) Refusal = Err refusal in Went g.tells g.state g.moment g.left_since g.counts before after (begun_by told (Change pid (message_of (Put (Node node))) ∷ [])))
-        → (let told : Result (Unit {0}) Refusal = Err refusal in IsCaused g.tells g.state g.moment g.left_since g.counts before after (g.is_full before.log (length (message_of (Put (Node node))).payload)) told)
-        → Steps g (cache before table) (Replace old node) (Replaced (Err (error_by refusal))) (cache after pages)
-    replaces-refused refusal (inl (last, is)) =
-        rw is (λ went cause. nothing-told g next config recovered before table ready beside after (Replace old node) pages back (Replaced (Err (Unsupported StampUsedUp))) went cause.fault (λ s clear are. last-step s clear are last))
-    replaces-refused refusal (inr (below, of)) =
-        put-refused g next config recovered before table ready beside after (Replace old node) pid node reads may (Unit {0}) pages back (λ e. Replaced (Err e))
+    pub swaps-refused : (refusal : Refusal) → RefusesSwap q.stamp refusal
+        → (let told : Result (Unit {0}) Refusal = Err refusal in Went g.tells g.state g.moment g.left_since g.counts before after (begun_by told (Change pid (message_of (Put content)) ∷ [])))
+        → (let told : Result (Unit {0}) Refusal = Err refusal in IsCaused g.tells g.state g.moment g.left_since g.counts before after (g.is_full before.log (length (message_of (Put content)).payload)) told)
+        → Steps g (cache before table) call (answered (Err (error_by refusal))) (cache after pages)
+    swaps-refused refusal (inl (last, is)) =
+        rw is (λ went cause. nothing-told g next config recovered before table ready beside after call pages back (answered (Err (Unsupported StampUsedUp))) went cause.fault (λ s clear are. last-step s clear are last))
+    swaps-refused refusal (inr (below, of)) =
+        put-refused g next config recovered before table ready beside after call pid content reads may (Unit {0}) pages back (λ e. answered (Err e))
         (λ s clear are e out fails. does s clear are below (Err e) out fails)
         refusal of
 
-    pub replaces-done : q.stamp ≢ 2 ^ 64 - 1 → Went g.tells g.state g.moment g.left_since g.counts before after (Change pid (message_of (Put (Node node))) ∷ []) → after.fault ≡ false
+    pub swaps-done : q.stamp ≢ 2 ^ 64 - 1 → Went g.tells g.state g.moment g.left_since g.counts before after (Change pid (message_of (Put content)) ∷ []) → after.fault ≡ false
         → (changed : KeptPage) → changed.stamp ≡ q.stamp + 1 → (made : Token) → made ≡ token pid (old.stamp + 1)
-        → Steps g (cache before table) (Replace old node) (Replaced (Ok (Ok made))) (cache after (slice_set table pid changed))
-    replaces-done below went clear_after changed risen made is =
-        put-set g next config recovered before table ready beside after (Replace old node) pid node reads may went clear_after (Replaced (Ok (Ok made))) (old.stamp + 1) changed (risen ∙ ap (λ n. n + 1) stamp) there
-        (λ s clear are. does s clear are below (Ok (Ok made)) (outcome (with_page s pid (page (old.stamp + 1) (Node node))) (Change pid (Put (Node node)) ∷ [])) (refl, (ap (λ t. Ok t) is, refl)))
+        → Steps g (cache before table) call (answered (Ok (Ok made))) (cache after (slice_set table pid changed))
+    swaps-done below went clear_after changed risen made is =
+        put-set g next config recovered before table ready beside after call pid content reads may went clear_after (answered (Ok (Ok made))) (old.stamp + 1) changed (risen ∙ ap (λ n. n + 1) stamp) there
+        (λ s clear are. does s clear are below (Ok (Ok made)) (outcome (with_page s pid (page (old.stamp + 1) content)) (Change pid (Put content) ∷ [])) (refl, (ap (λ t. Ok t) is, refl)))

@@ -1,5 +1,5 @@
 -- What holds of pages holds of the cache that stands on them, and what a call makes of memory once it is settled.
-use Rattle.sled_pagecache.proofs.Names.{eqb, eqb_tells, Vec, Contains, IfOk, IfErr, IsSomeAnd, MatchOption, OnOk, OnErr, Recency, IsAccessed, IsListed, IsSound, rounded, itself_stays, itself_is_listed, others_stay_or_leave, ◌≡◌, ◌≢◌, ◌⊎◌, inl, inr, ℕ, Bool, true, false, List, Option, Some, None, Result, Ok, Err, refl, sym, ◌∙◌, ap, subst, same_Some, none-some, IsErrOf, Error, IsNodeAt, NodeView, Write, Refusal, Ghosts, Keeps, Cache, IsIn, IsResident, IsAway, chain_length, IsBlamed, IsCaused, Steps, is_reserved, ReadsNothing, ReadsPage, TestsFirst, MeetsDamage, ReportsDamage, BringsIn, journal_of, Logged, State, Answer, Call, Token, IsHindrance, more, WasAccessed, IsTouched, HasNode, HasNoNode, AreSized, IsBounded, StaysAt, KeepsMemory, AccessesPage, FindsPage, LeavesOthers, LeavesMemory, LeavesNodes, LeavesPages, PagesOut, relisted, IsSettled, Settles, lost_by, Swapped, AllStay, TakesNode, FindsNode, LosesAtMost, LosesNone, Accesses}
+use Rattle.sled_pagecache.proofs.Names.{eqb, eqb_tells, Vec, Contains, IfOk, IfErr, IsSomeAnd, MatchOption, OnOk, OnErr, Recency, IsAccessed, IsListed, IsSound, rounded, itself_stays, itself_is_listed, others_stay_or_leave, ◌≡◌, ◌≢◌, ◌⊎◌, inl, inr, ℕ, Bool, true, false, List, Option, Some, None, Result, Ok, Err, refl, sym, ◌∙◌, ap, subst, same_Some, none-some, IsErrOf, Error, IsNodeAt, NodeView, Write, Refusal, Ghosts, Keeps, Cache, IsIn, IsResident, IsAway, chain_length, IsBlamed, IsCaused, Steps, is_reserved, ReadsNothing, ReadsPage, TestsFirst, MeetsDamage, ReportsDamage, BringsIn, journal_of, Logged, State, Answer, Call, Token, IsHindrance, more, WasAccessed, IsTouched, HasNode, HasNoNode, AreSized, IsBounded, StaysAt, KeepsMemory, AccessesPage, FindsPage, LeavesOthers, LeavesMemory, LeavesNodes, LeavesPages, PagesOut, relisted, IsSettled, Settles, lost_by, Swapped, AllStay, TakesNode, TakesPage, FindsNode, LosesAtMost, LosesNone, Accesses}
 use Rattle.sled_base.specs.declared.types.Error.TheVariants.{Io}
 use Rattle.sled_base.specs.declared.types.Refusal.TheVariants as refusal
 use Rattle.sled_node.specs.declared.node.link.Link.{Link as NodeLink}
@@ -248,8 +248,8 @@ module _ {L : Type 0} (g : Ghosts L) (old mid new : Cache L) (accesses between a
               either (inl listed) = listed
               either (inr gone) = absurd (was.out.out other (inl gone) its has)
 
-    -- its node lies in memory
-    module _ (takes : TakesNode old accesses pid mid between) (none : lost ≡ None) where
+    -- nothing is lost
+    module _ (takes : TakesPage old accesses pid mid between) (none : lost ≡ None) where
       was : IsDropped takes.size
       was = drops takes.size takes.accessed
 
@@ -272,13 +272,13 @@ module _ {L : Type 0} (g : Ghosts L) (old mid new : Cache L) (accesses between a
       pub takes-away : IsAway new pid → IsAway mid pid
       takes-away away = sym own-stays.resident ∙ away
 
-      pub takes-node : HasNode new pid takes.size
-      takes-node = own-stays.node ∙ takes.node
+      pub takes-there : HasNode mid pid takes.size → HasNode new pid takes.size
+      takes-there there = own-stays.node ∙ there
 
       pub takes-bounded : IsBounded g then
       takes-bounded =
           accessed-bounded takes.size was takes.others (λ other is. absurd (outside other is))
-          (λ its has. subst (λ n. IsListed pid (rounded n) after.lru) (same_Some takes.size its (same_Some (Some takes.size) (Some its) (sym takes-node ∙ has)))
+          (λ its has. subst (λ n. IsListed pid (rounded n) after.lru) (sym (takes.only its (sym own-stays.node ∙ has)))
           (itself_is_listed pid (rounded takes.size) accesses.lru after.lru was.dropped was.is settled.bounded.sound.count))
 
     -- the call was refused, and so the page is lost, or it has no node
@@ -319,6 +319,15 @@ module _ {L : Type 0} (g : Ghosts L) (old mid new : Cache L) (accesses between a
           or (inl hindered) = inl hindered
           or (inr (stay, same)) = inr (same-memory same stay)
 
+-- a page whose node lies in memory
+abbrev node-takes : {L : Type 0} (old mid : Cache L) (accesses between : Accesses) (pid : ℕ) → TakesNode old accesses pid mid between → TakesPage old accesses pid mid between
+node-takes old mid accesses between pid takes = record {
+  size = takes.size;
+  only = λ other has. sym (same_Some takes.size other (same_Some (Some takes.size) (Some other) (sym takes.node ∙ has)));
+  accessed = takes.accessed;
+  others = takes.others;
+}
+
 -- what a swap or an allocation makes of memory
 module _ {L : Type 0} (g : Ghosts L) (old mid new : Cache L) (accesses between after : Accesses) (settled : IsSettled g old accesses) (config : mid.config ≡ old.config) where
   abbrev pub earlier : Cache L
@@ -336,7 +345,7 @@ module _ {L : Type 0} (g : Ghosts L) (old mid new : Cache L) (accesses between a
     pub stuck : OnErr result (old.fault ≡ true → mid ≡ old → later ≡ earlier)
 
   pub makes-swap : (pid : ℕ) {T R : Type 0} (result : Result (Result T R) Error) → Settles g between (lost_by result pid) mid new after
-      → IfOk result (λ swapped. OnOk swapped (TakesNode old accesses pid mid between)) → IfOk result (λ swapped. OnErr swapped ((mid ≡ old) × (between ≡ accesses)))
+      → IfOk result (λ swapped. OnOk swapped (TakesPage old accesses pid mid between)) → IfOk result (λ swapped. OnErr swapped ((mid ≡ old) × (between ≡ accesses)))
       → IfErr result (LosesAtMost old accesses pid mid between g.tells) → IfOk result (λ swapped. OnOk swapped (IsResident mid pid)) → MakesSwap pid result
   makes-swap pid (Ok (Ok token)) settles takes same loses there = record {
     bounded = takes-bounded g old mid new accesses between after None settled config settles pid takes refl;
@@ -374,10 +383,10 @@ module _ {L : Type 0} (g : Ghosts L) (old mid new : Cache L) (accesses between a
       → IfOk result (λ made. TakesNode old accesses made.0 mid between) → IfErr result (LosesNone g.tells old accesses mid between)
       → IfOk result (λ made. IsResident mid made.0) → MakesPage result
   makes-page (Ok (pid, token)) settles takes loses there = record {
-    bounded = takes-bounded g old mid new accesses between after None settled config settles pid takes refl;
-    accessed = takes-page g old mid new accesses between after None settled config settles pid takes refl;
+    bounded = takes-bounded g old mid new accesses between after None settled config settles pid (node-takes old mid accesses between pid takes) refl;
+    accessed = takes-page g old mid new accesses between after None settled config settles pid (node-takes old mid accesses between pid takes) refl;
     leaves = tt;
-    resident = takes-resident g old mid new accesses between after None settled config settles pid takes refl there;
+    resident = takes-resident g old mid new accesses between after None settled config settles pid (node-takes old mid accesses between pid takes) refl there;
     stuck = tt;
   }
   makes-page (Err error) settles takes (pid, none, loses) there =
@@ -406,10 +415,10 @@ module _ {L : Type 0} (g : Ghosts L) (old mid new : Cache L) (accesses between a
       → (old.fault ≡ true → IsErrOf result (refusal.Io Write) × (mid ≡ old)) → OnOk result (FindsNode old accesses pid mid between)
       → OnErr result (AllStay old mid) → OnErr result (between ≡ accesses) → MakesFound pid result
   makes-found pid (Ok done) settles stuck (inl takes) refused left = record {
-    bounded = takes-bounded g old mid new accesses between after None settled config settles pid takes refl;
-    accessed = inl (takes-page g old mid new accesses between after None settled config settles pid takes refl, (takes.size, takes-node g old mid new accesses between after None settled config settles pid takes refl));
+    bounded = takes-bounded g old mid new accesses between after None settled config settles pid (node-takes old mid accesses between pid takes) refl;
+    accessed = inl (takes-page g old mid new accesses between after None settled config settles pid (node-takes old mid accesses between pid takes) refl, (takes.size, takes-there g old mid new accesses between after None settled config settles pid (node-takes old mid accesses between pid takes) refl takes.node));
     same = tt;
-    back = takes-away g old mid new accesses between after None settled config settles pid takes refl;
+    back = takes-away g old mid new accesses between after None settled config settles pid (node-takes old mid accesses between pid takes) refl;
     stuck = λ kept. absurd (let h = (stuck kept).0 in cc);
   }
   makes-found pid (Ok done) settles stuck (inr (none, stay, same)) refused left = record {
@@ -426,6 +435,13 @@ module _ {L : Type 0} (g : Ghosts L) (old mid new : Cache L) (accesses between a
     back = tt;
     stuck = λ kept. ((stuck kept).0, same-all g old mid new accesses between after None settled config settles left (stuck kept).1);
   }
+
+-- a page that was freed has no node
+pub freed-none : {L : Type 0} (g : Ghosts L) (between after : Accesses) (mid new : Cache L) (pid : ℕ) {T R : Type 0} (result : Result (Result T R) Error) → Settles g between (lost_by result pid) mid new after
+    → IfOk result (λ swapped. OnOk swapped (HasNoNode mid pid)) → IfOk result (λ swapped. OnOk swapped (HasNoNode (relisted new after.lru) pid))
+freed-none g between after mid new pid (Ok (Ok token)) settles none = λ size has. none size (settled-nodes g between None mid new after settles pid size has)
+freed-none g between after mid new pid (Ok (Err rejected)) settles none = tt
+freed-none g between after mid new pid (Err error) settles none = tt
 
 -- ---- a call that accesses nothing
 

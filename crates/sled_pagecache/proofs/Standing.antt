@@ -1,5 +1,5 @@
 -- The pages of the state that a cache is in, beside those of its table.
-use Rattle.sled_pagecache.proofs.Names.{◌≡◌, ◌≤◌, ◌<◌, ℕ, zero, suc, true, false, List, [], ◌∷◌, ◌++◌, length, map, Some, None, slice_get, slice_set, refl, sym, ◌∙◌, ap, subst, arith, length-map, none-some, same_Some, AllZip-long, AllZip, is_freeing, is_empty, Content, Free, Counter, Roots, Node, Damaged, Put, effect_of_update, Chain, Entry, Told, told, effect_of, effect_of_entry, LeadTo, Makes, Holds, Hold, reads_effect, Ghosts, applied, WholeNode, Cache, IsIn, Logged, HoldsChain, IsKept, State, stamps_in, resident_in, IsBeside, CacheInfo, Kept}
+use Rattle.sled_pagecache.proofs.Names.{◌≡◌, ◌≤◌, ◌<◌, ℕ, zero, suc, Bool, true, false, List, [], ◌∷◌, ◌++◌, length, map, Some, None, slice_get, slice_set, refl, sym, ◌∙◌, ap, subst, arith, length-map, none-some, same_Some, AllZip-long, AllZip, is_freeing, is_empty, Content, Free, Counter, Roots, Node, Damaged, Put, effect_of_update, Chain, Entry, Told, told, effect_of, effect_of_entry, LeadTo, Makes, Holds, Hold, reads_effect, Ghosts, applied, WholeNode, Cache, IsIn, Logged, HoldsChain, IsKept, State, stamps_in, resident_in, IsBeside, CacheInfo, Kept}
 use Rattle.sled_log.specs.State as log
 use Rattle.sled_pagecache.proofs.PagesAt.{holds_now}
 use Rattle.sled_pagecache.specs.Pages as kept
@@ -106,11 +106,11 @@ found-none (p ∷ pages) (k ∷ table) (suc pid) known at = found-none pages tab
 pub beside-long : {L : Type 0} (tells : Type 0) (state : L → log.State Entry) (l : L) (table : List KeptPage) → IsBeside tells state l table → tells → length table ≡ length (log.now effect_of_entry (state l))
 beside-long tells state l table beside told = AllZip-long IsKept (log.now effect_of_entry (state l)) table (beside.kept told)
 
--- a page that holds a node lies in memory
-pub resident-set : (table : List KeptPage) (pid : ℕ) (page : KeptPage) (node : WholeNode) → pid < length table → page.kept ≡ held.Node node → slice_get (resident_in (slice_set table pid page)) pid ≡ Some true
-resident-set [] pid page node there holds = absurd (omega (arith, there))
-resident-set (k ∷ table) zero page node there holds = ap (λ (q : Kept). Some (kept.is_resident q)) holds
-resident-set (k ∷ table) (suc pid) page node there holds = resident-set table pid page node (omega (arith, there)) holds
+-- a page lies in memory where its content does
+pub resident-set : (table : List KeptPage) (pid : ℕ) (page : KeptPage) → pid < length table → kept.is_resident page.kept ≡ true → slice_get (resident_in (slice_set table pid page)) pid ≡ Some true
+resident-set [] pid page there holds = absurd (omega (arith, there))
+resident-set (k ∷ table) zero page there holds = ap (λ (b : Bool). Some b) holds
+resident-set (k ∷ table) (suc pid) page there holds = resident-set table pid page (omega (arith, there)) holds
 
 pub resident-add : (table : List KeptPage) (page : KeptPage) (node : WholeNode) → page.kept ≡ held.Node node → slice_get (resident_in (table ++ page ∷ [])) (length table) ≡ Some true
 resident-add [] page node holds = ap (λ (q : Kept). Some (kept.is_resident q)) holds

@@ -112,25 +112,22 @@ module _ {L : Type 0} (tells : Type 0) (state : L → log.State Entry) (old new 
   }
 
   module _ (moment : L → ℕ) (left_since : L → ℕ → List Told → Type 0) (counts : L → Counts) (pid : ℕ) (m : Message) (went : Went tells state moment left_since counts old new (Change pid m ∷ []))
-      (page : Page) (node : WholeNode) (holds : page.kept ≡ kept.Node node) (short : length page.infos.items ≤ 10) (is_kept : tells → IsKept (chain_at (state new.log) pid) page)
+      (page : Page) (own : IsFreeOrNode page.kept) (short : length page.infos.items ≤ 10) (is_kept : tells → IsKept (chain_at (state new.log) pid) page)
       (sized : tells → AllByRecursion IsSized (log.now effect_of_entry (state new.log))) where
-    holds-node : IsFreeOrNode page.kept
-    holds-node = subst IsFreeOrNode (sym holds) tt
-
     still-closed : new.fault ≡ false → is_open (state new.log).pending ≡ false
     still-closed clear = went-closed tells state moment left_since counts old new (Change pid m ∷ []) went (λ was. refl) clear (c.beside ready).closed
 
     still-chains : new.fault ≡ false → tells → AreChains effect_of_entry (log.now effect_of_entry (state new.log))
     still-chains clear known = went-chains tells state moment left_since counts old new (Change pid m ∷ []) went known clear ((c.beside ready).chains known)
 
-    -- a node was put on a page
+    -- a content was put on a page
     pub consistent-put : 2 ≤ pid → (tells → log.now effect_of_entry (state new.log) ≡ slice_set (log.now effect_of_entry (state old.log)) pid (chain_at (state new.log) pid))
         → free_then ≡ free_ids 0 (slice_set pages pid page) → IsConsistent tells state new (slice_set pages pid page) free_then
     consistent-put from others frees =
-        consistent-set pid page from holds-node short
+        consistent-set pid page from own short
         (λ clear. record { usable = went.usable clear; closed = still-closed clear; kept = is_kept; others = others; chains = still-chains clear; sized = sized }) frees
 
-    -- a node was put on a new page
+    -- a content was put on a new page
     pub consistent-new : length pages < 2 ^ 37 → (tells → log.now effect_of_entry (state new.log) ≡ log.now effect_of_entry (state old.log) ++ chain_at (state new.log) pid ∷ [])
         → free_then ≡ free_ids 0 (pages ++ page ∷ []) → IsConsistent tells state new (pages ++ page ∷ []) free_then
     consistent-new room others frees = record {
@@ -143,7 +140,7 @@ module _ {L : Type 0} (tells : Type 0) (state : L → log.State Entry) (old new 
         chains = still-chains clear;
         sized = sized;
       };
-      own = add-by-id _ pages page c.own ((past-two IsRoots IsCounter IsFreeOrNode (length pages) page.kept c.both).0 holds-node);
+      own = add-by-id _ pages page c.own ((past-two IsRoots IsCounter IsFreeOrNode (length pages) page.kept c.both).0 own);
       both = let l = length-append pages (page ∷ []) in let b = c.both in omega (arith, l, b);
       short = all-append _ pages (page ∷ []) c.short (short, tt);
       few = let l = length-append pages (page ∷ []) in omega (arith, l, room);

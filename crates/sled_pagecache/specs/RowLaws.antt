@@ -22,8 +22,9 @@ use Rattle.sled_pagecache.specs.Rows.{AreSteps, IsRow, StepInRow, IsMade, AreMad
 use Rattle.sled_pagecache.specs.State.{State}
 use Rattle.sled_pagecache.specs.Step.{Outcome, unchanged}
 use Rattle.sled_pagecache.specs.declared.pagecache.call.Answer.{Answer}
-use Rattle.sled_pagecache.specs.declared.pagecache.call.Answer.TheVariants.{Allocated, Got, Linked, Replaced, Flushed, Sized}
+use Rattle.sled_pagecache.specs.declared.pagecache.call.Answer.TheVariants.{Allocated, Got, Linked, Replaced, Freed, Flushed, Sized}
 use Rattle.sled_pagecache.specs.declared.pagecache.call.Call.{Call}
+use Rattle.sled_pagecache.specs.declared.pagecache.call.Call.TheVariants as call
 use Rattle.sled_pagecache.specs.declared.pagecache.call.Call.TheVariants.{Allocate, Get, Link, Replace, Flush, SizeOnDisk}
 
 -- ---- changes that come behind others
@@ -95,9 +96,10 @@ module _ {L : Type 0} (g : Ghosts L) where
   step-stuck cache s (Get pid) (Got answer) out step kept = (taken _ _ s.fault kept step).1
   step-stuck cache s (Link old link) (Linked answer) out step kept = (taken _ _ s.fault kept step).1
   step-stuck cache s (Replace old node) (Replaced answer) out step kept = (taken _ _ s.fault kept step).1
+  step-stuck cache s (call.Free old) (Freed answer) out step kept = (taken _ _ s.fault kept step).1
   step-stuck cache s Flush (Flushed answer) out step kept = (taken _ _ s.fault kept step).1
   step-stuck cache s SizeOnDisk (Sized answer) out step kept = (taken _ _ s.fault kept step).1
-  step-stuck cache s call answer out step kept = absurd step
+  step-stuck cache s asked answer out step kept = absurd step
 
   steps-stuck : (s t : State) (calls : List (Call × Answer)) (changes : List (Event Update)) → AreSteps g s calls changes t → s.fault ≡ true → t ≡ s
   steps-stuck s t [] changes steps kept = steps.1

@@ -10,7 +10,7 @@ use Rattle.sled_pagecache.specs.Logged.{Logged, Adds, IsLeft}
 use Rattle.sled_pagecache.specs.State.{State}
 use Rattle.sled_pagecache.specs.Step.{Outcome}
 use Rattle.sled_pagecache.specs.declared.pagecache.call.Answer.{Answer}
-use Rattle.sled_pagecache.specs.declared.pagecache.call.Answer.TheVariants.{Allocated, Got, Linked, Replaced, Flushed, Sized}
+use Rattle.sled_pagecache.specs.declared.pagecache.call.Answer.TheVariants.{Allocated, Got, Linked, Replaced, Freed, Flushed, Sized}
 use Rattle.sled_pagecache.specs.declared.pagecache.call.Call.{Call}
 
 module _ {L : Type 0} (g : Ghosts L) where
@@ -49,6 +49,7 @@ module _ {L : Type 0} (g : Ghosts L) where
   TellsFaults old (Got result) new = IsBlamed g old new result
   TellsFaults old (Linked result) new = IsBlamed g old new result
   TellsFaults old (Replaced result) new = IsBlamed g old new result
+  TellsFaults old (Freed result) new = IsBlamed g old new result
   TellsFaults old (Flushed result) new = IsBlamed g old new result
   TellsFaults old (Sized result) new = ⊤
 

@@ -11,9 +11,10 @@ use Rattle.sled_node.specs.declared.node.link.Link.{Link as NodeLink}
 use Rattle.sled_pagecache.specs.Changes.{link_update}
 use Rattle.sled_pagecache.specs.Limits.{meta_pid, counter_pid, batch_manifest_pid, most_pages}
 use Rattle.sled_pagecache.specs.declared.pagecache.call.Answer.{Answer}
-use Rattle.sled_pagecache.specs.declared.pagecache.call.Answer.TheVariants.{Allocated, Got, Linked, Replaced, Flushed, Sized}
+use Rattle.sled_pagecache.specs.declared.pagecache.call.Answer.TheVariants.{Allocated, Got, Linked, Replaced, Freed, Flushed, Sized}
 use Rattle.sled_pagecache.specs.declared.pagecache.call.Call.{Call}
 use Rattle.sled_pagecache.specs.declared.pagecache.call.Call.TheVariants.{Allocate, Get, Link, Replace, Flush, SizeOnDisk}
+use Rattle.sled_pagecache.specs.declared.pagecache.call.Call.TheVariants as call
 use Rattle.sled_log.specs.Contents.{Content, Free, Counter, Roots, Node, Damaged, Update, Put}
 use Rattle.sled_log.specs.Events.{Event, Change}
 use Rattle.sled_pagecache.specs.State.{Page, page, State, page_at, with_page, is_free, greatest_free}
@@ -178,13 +179,18 @@ module _ (messages : ℕ → ℕ) (no_room : Event Update → Type 0) where
   abbrev pub Replaces : State → Token → WholeNode → Swapped WholeNode → Outcome → Type 0
   Replaces s old node answer out = Swaps s old node answer out (λ content. SwapsContent s old (Put (Node node)) (Node node) answer out)
 
+  -- the page is free, at its next stamp
+  abbrev pub Frees : State → Token → Swapped (Unit {0}) → Outcome → Type 0
+  Frees s old answer out = Swaps s old tt answer out (λ content. SwapsContent s old (Put Free) Free answer out)
+
   -- ---- From s, the cache may give this answer to the call, and leave this.
   abbrev pub Step : State → Call → Answer → Outcome → Type 0
   Step s (Allocate node) (Allocated answer) out = Allocates s node answer out
   Step s (Get pid) (Got answer) out = Gets s pid answer out
   Step s (Link old link) (Linked answer) out = Links s old link answer out
   Step s (Replace old node) (Replaced answer) out = Replaces s old node answer out
+  Step s (call.Free old) (Freed answer) out = Frees s old answer out
   Step s Flush (Flushed answer) out = Flushes s answer out
   Step s SizeOnDisk (Sized answer) out = Sizes s answer out
   -- a call gets no answer of another call
-  Step s call answer out = ⊥
+  Step s asked answer out = ⊥

@@ -1,5 +1,5 @@
 -- What a swap makes of a page that is at the stamp of the token.
-use Rattle.std.specs.Prelude.{◌≡◌, ◌≢◌, ◌⊎◌, ◌+◌, ◌-◌, ◌^◌, ◌<◌, ℕ, nat_lt, false, List, [], ◌∷◌, ◌++◌, length, None, Result, IfOk, IfErr, OnOk, OnErr, if◌then◌else◌}
+use Rattle.std.specs.Prelude.{◌≡◌, ◌≢◌, ◌⊎◌, ◌+◌, ◌-◌, ◌^◌, ◌<◌, ℕ, nat_lt, false, List, [], ◌∷◌, ◌++◌, length, None, Result, IfOk, IfErr, OnOk, OnErr, ⊤, if◌then◌else◌}
 use Rattle.std.specs.List.{AllByRecursion}
 use Rattle.sled_base.specs.declared.types.Bug.TheVariants.{LinkRefused}
 use Rattle.sled_base.specs.declared.types.Refusal.{Refusal}
@@ -17,6 +17,7 @@ use Rattle.sled_log.specs.Reading.{IsUpdate}
 use Rattle.sled_log.specs.State.{State, now}
 use Rattle.sled_log.specs.Writing.{message_of}
 use Rattle.sled_node.specs.Links.{Accepts, applied}
+use Rattle.sled_node.specs.Meta.{IsRootMap}
 use Rattle.sled_node.specs.declared.node.link.Link.{Link as NodeLink}
 use Rattle.sled_pagecache.specs.Changes.{link_update}
 use Rattle.sled_pagecache.specs.ChainReads.{place_of}
@@ -26,6 +27,22 @@ use Rattle.sled_pagecache.specs.declared.pagecache.page.CacheInfo.{CacheInfo}
 use Rattle.sled_pagecache.specs.declared.pagecache.journal.Journal.{Journal}
 use Rattle.sled_pagecache.specs.declared.pagecache.page.Kept.{Kept}
 use Rattle.sled_pagecache.specs.declared.pagecache.page.Kept.TheVariants.{Free, Away, Counter, Roots, Node}
+
+-- what is put on a page that is kept so
+abbrev pub content_of : Kept → content.Content
+content_of Free = content.Free
+content_of (Counter n) = content.Counter n
+content_of (Roots roots) = content.Roots roots
+content_of (Node node) = content.Node node
+content_of Away = content.Damaged
+
+-- it can be written
+abbrev pub CanPut : Kept → Type 0
+CanPut Free = ⊤
+CanPut (Counter n) = n < 2 ^ 64
+CanPut (Roots roots) = IsRootMap roots
+CanPut (Node node) = ⊤
+CanPut Away = ⊥
 
 -- the stamp could rise, and rose by one
 abbrev pub IsRaised : ℕ → ℕ → Type 0

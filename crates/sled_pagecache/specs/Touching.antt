@@ -26,6 +26,13 @@ abbrev pub AllStay : {L : Type 0} → Cache L → Cache L → Type 0
 AllStay old new = (pid : ℕ) → StaysAt old new pid
 
 module _ {L : Type 0} (old : Cache L) (accesses : Accesses) (pid : ℕ) (new : Cache L) (then : Accesses) where
+  -- The page was accessed. If its node lies in memory, it was with its size.
+  pub record TakesPage : Type 0 where
+    pub size : ℕ
+    pub only : (other : ℕ) → HasNode new pid other → other ≡ size
+    pub accessed : WasAccessed accesses pid size then
+    pub others : (other : ℕ) → other ≢ pid → StaysAt old new other
+
   -- The node of the page lies in memory, and the page was accessed with its size.
   pub record TakesNode : Type 0 where
     pub size : ℕ

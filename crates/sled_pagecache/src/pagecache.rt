@@ -19,6 +19,7 @@ mod cache;
 mod call;
 mod chain;
 mod config;
+mod free;
 mod journal;
 mod judge;
 mod own;

@@ -1,6 +1,7 @@
 mod crashes;
 mod eviction;
 mod failing;
+mod free;
 mod full;
 mod generic;
 mod memory;

@@ -25,7 +25,7 @@ ghost use Rattle.sled_pagecache.specs.Starts.{RefusesOpening, Opens, IsBlamedOpe
 ghost use Rattle.sled_pagecache.specs.Step.{is_reserved};
 ghost use Rattle.sled_pagecache.specs.Swaps.{linked_length};
 ghost use Rattle.sled_pagecache.specs.Token.{pid_of, stamp_of, IsAnswered};
-ghost use Rattle.sled_pagecache.specs.declared.pagecache.call.Answer.TheVariants.{Allocated, Linked, Replaced, Flushed, Sized};
+ghost use Rattle.sled_pagecache.specs.declared.pagecache.call.Answer.TheVariants.{Allocated, Linked, Replaced, Freed, Flushed, Sized};
 ghost use Rattle.sled_pagecache.specs.declared.pagecache.call.Call.TheVariants.{Allocate, Flush, SizeOnDisk};
 ghost use Rattle.sled_pagecache.specs.declared.pagecache.call.Call.TheVariants as call;
 
@@ -215,6 +215,38 @@ impl<L: Log> PageCache<L> {
         ensures leaves { IfErr result (LeavesMemory self.old pid self.new L.tells) }
     {
         let swapped = self.pages.replace(&mut self.accesses, pid, old, node);
+        let lost = lost_by(&swapped, pid);
+        settle(&mut self.pages, &mut self.accesses, lost);
+        swapped
+    }
+
+    /// Frees a page that is still at the stamp of the token, and raises its stamp by one. The page is absent for every other call, until
+    /// an `allocate` uses it again.
+    ///
+    /// At another stamp the page's present token comes back; where the page is absent or free, nothing does. `ReservedId` comes
+    /// for the cache's own pages, `StampUsedUp` where the stamp is the greatest, `LogFull` where the log has no room. These and
+    /// `OutOfMemory` leave every page and message unchanged. A write error is sticky: every later call answers it, until the log is
+    /// opened again.
+    pub fn free(
+        &mut self,
+        pid: PageId,
+        old: PageView,
+    ) -> Result<Result<PageView, Option<(PageView, ())>>, Error>
+        requires { pid_of old ≡ pid }
+        ensures step { Steps L.Log self.old (call.Free old) (Freed result) self.new }
+        ensures blame { IsBlamed L.Log self.old self.new result }
+        ensures keeps { Keeps self.old self.new result (swapped self.old.stamps) }
+        ensures token { IfOk result (IsAnswered self.old.stamps old tt) }
+        ensures unread { ReadsNothing L.Log self.old self.new }
+        ensures length { L.tells → IfOk result (λ swapped. OnOk swapped (chain_length L.state self.new pid ≡ 1)) }
+        ensures none { IfOk result (λ swapped. OnOk swapped (HasNoNode self.new pid)) }
+        ensures resident { IfOk result (λ swapped. OnOk swapped (IsResident self.new pid)) }
+        ensures bounded { IsBounded L.Log self.new }
+        ensures accesses { IfOk result (λ swapped. OnOk swapped (AccessesPage self.old pid self.new)) }
+        ensures same { IfOk result (λ swapped. OnErr swapped (KeepsMemory self.old self.new)) }
+        ensures leaves { IfErr result (LeavesMemory self.old pid self.new L.tells) }
+    {
+        let swapped = self.pages.free(&mut self.accesses, pid, old);
         let lost = lost_by(&swapped, pid);
         settle(&mut self.pages, &mut self.accesses, lost);
         swapped

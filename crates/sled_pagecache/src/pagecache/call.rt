@@ -11,6 +11,7 @@ pub enum Call {
     Get(PageId),
     Link(PageView, Link),
     Replace(PageView, Node),
+    Free(PageView),
     Flush,
     SizeOnDisk,
 }
@@ -22,6 +23,7 @@ pub enum Answer {
     Got(Result<Option<(PageView, Node)>, Error>),
     Linked(Result<Result<PageView, Option<(PageView, Link)>>, Error>),
     Replaced(Result<Result<PageView, Option<(PageView, Node)>>, Error>),
+    Freed(Result<Result<PageView, Option<(PageView, ())>>, Error>),
     Flushed(Result<usize, Error>),
     Sized(Result<u64, Error>),
 }

@@ -23,8 +23,8 @@ ghost use Rattle.sled_pagecache.specs.Starts.{RefusesOpening, Opens, IsBlamedOpe
 ghost use Rattle.sled_pagecache.specs.Step.{is_reserved};
 ghost use Rattle.sled_pagecache.specs.Swaps.{linked_length};
 ghost use Rattle.sled_pagecache.specs.Token.{pid_of, stamp_of, IsAnswered};
-ghost use Rattle.sled_pagecache.specs.Touching.{TakesNode, FindsNode, LosesAtMost, LosesNone, AllStay, LacksNodes};
-ghost use Rattle.sled_pagecache.specs.declared.pagecache.call.Answer.TheVariants.{Allocated, Linked, Replaced, Flushed, Sized};
+ghost use Rattle.sled_pagecache.specs.Touching.{TakesNode, TakesPage, FindsNode, LosesAtMost, LosesNone, AllStay, LacksNodes};
+ghost use Rattle.sled_pagecache.specs.declared.pagecache.call.Answer.TheVariants.{Allocated, Linked, Replaced, Freed, Flushed, Sized};
 ghost use Rattle.sled_pagecache.specs.declared.pagecache.call.Call.TheVariants.{Allocate, Flush, SizeOnDisk};
 ghost use Rattle.sled_pagecache.specs.declared.pagecache.call.Call.TheVariants as call;
 
@@ -32,12 +32,13 @@ use super::accesses::Accesses;
 use super::add::add_page;
 use super::config::{Config, fault_of};
 use super::journal::Journal;
+use super::free::FreeIds;
 use super::judge::{Judgement, is_reserved, judge};
 use super::page::Kept;
 use super::pagetable::PageTable;
 use super::pull::{pull_and_access, pull_and_link};
 use super::start::open;
-use super::swap::replace_page;
+use super::swap::{free_page, put_page};
 use super::view::{NodeView, PageView};
 use sled_base::{Device, Error, PageId, Refusal, Why};
 use sled_log::Log;
@@ -53,8 +54,7 @@ pub(super) struct Pages<L: Log> {
     alloc: Global,
     config: Config,
     pages: PageTable,
-    // the ids of the free pages, the least first
-    free: Vec<PageId>,
+    free: FreeIds,
     next: u128,
     recovered: bool,
     journal: Journal<L>,
@@ -69,7 +69,7 @@ impl<L: Log> Model for Pages<L> {
 
     ghost view = { λ c. record { stamps = stamps_in c.pages.pages; resident = resident_in c.pages.pages; nodes = nodes_in c.pages.pages; next = c.next; fault = c.journal.fault; config = c.config; recovered = c.recovered; lru = unlisted; log = c.journal.log } };
 
-    ghost invariant = { λ c. IsConsistent L.tells L.state c.journal c.pages.pages c.free.items };
+    ghost invariant = { λ c. IsConsistent L.tells L.state c.journal c.pages.pages c.free.ids.keys };
 }
 
 impl<L: Log> Pages<L> {
@@ -130,7 +130,7 @@ impl<L: Log> Pages<L> {
         if stuck {
             return Err(Error::Io(Device::Write));
         }
-        let Some(pid) = self.free.last().copied() else {
+        let Some(pid) = self.free.greatest() else {
             let pid = add_page(
                 self.alloc,
                 &mut self.journal,
@@ -141,8 +141,9 @@ impl<L: Log> Pages<L> {
             return Ok((pid, PageView::new(pid, 1)));
         };
         let page = self.pages.get_mut(pid);
-        replace_page(self.alloc, &mut self.journal, accesses, pid, page, node)?;
-        self.free.pop();
+        let kept = Kept::Node(node);
+        put_page(self.alloc, &mut self.journal, accesses, pid, page, kept)?;
+        self.free.take_greatest();
         Ok((pid, PageView::new(pid, page.stamp)))
     }
 
@@ -166,7 +167,7 @@ impl<L: Log> Pages<L> {
         ensures length { L.tells → IfOk result (λ swapped. OnOk swapped (chain_length L.state self.new pid ≡ linked_length (chain_length L.state self.old pid))) }
         ensures resident { IfOk result (λ swapped. OnOk swapped (IsResident self.new pid)) }
         ensures kept_out { OnErr result (IsAway self.old pid → IsAway self.new pid) }
-        ensures takes { IfOk result (λ swapped. OnOk swapped (TakesNode self.old accesses.old pid self.new accesses.new)) }
+        ensures takes { IfOk result (λ swapped. OnOk swapped (TakesPage self.old accesses.old pid self.new accesses.new)) }
         ensures same { IfOk result (λ swapped. OnErr swapped ((self.new ≡ self.old) × (accesses.new ≡ accesses.old))) }
         ensures refused { IfErr result (LosesAtMost self.old accesses.old pid self.new accesses.new L.tells) }
     {
@@ -197,7 +198,7 @@ impl<L: Log> Pages<L> {
         ensures unread { ReadsNothing L.Log self.old self.new }
         ensures length { L.tells → IfOk result (λ swapped. OnOk swapped (chain_length L.state self.new pid ≡ 1)) }
         ensures resident { IfOk result (λ swapped. OnOk swapped (IsResident self.new pid)) }
-        ensures takes { IfOk result (λ swapped. OnOk swapped (TakesNode self.old accesses.old pid self.new accesses.new)) }
+        ensures takes { IfOk result (λ swapped. OnOk swapped (TakesPage self.old accesses.old pid self.new accesses.new)) }
         ensures same { IfOk result (λ swapped. OnErr swapped ((self.new ≡ self.old) × (accesses.new ≡ accesses.old))) }
         ensures refused { IfErr result (LosesAtMost self.old accesses.old pid self.new accesses.new L.tells) }
     {
@@ -207,7 +208,45 @@ impl<L: Log> Pages<L> {
             Judgement::Fresh => {}
         }
         let page = self.pages.get_mut(pid);
-        replace_page(self.alloc, &mut self.journal, accesses, pid, page, node)?;
+        let kept = Kept::Node(node);
+        put_page(self.alloc, &mut self.journal, accesses, pid, page, kept)?;
+        Ok(Ok(PageView::new(pid, page.stamp)))
+    }
+
+    // Frees a page.
+    pub(super) fn free(
+        &mut self,
+        accesses: &mut Accesses,
+        pid: PageId,
+        old: PageView,
+    ) -> Result<Result<PageView, Option<(PageView, ())>>, Error>
+        requires { pid_of old ≡ pid }
+        ensures step { Steps L.Log self.old (call.Free old) (Freed result) self.new }
+        ensures blame { IsBlamed L.Log self.old self.new result }
+        ensures keeps { Keeps self.old self.new result (swapped self.old.stamps) }
+        ensures token { IfOk result (IsAnswered self.old.stamps old tt) }
+        ensures unread { ReadsNothing L.Log self.old self.new }
+        ensures length { L.tells → IfOk result (λ swapped. OnOk swapped (chain_length L.state self.new pid ≡ 1)) }
+        ensures none { IfOk result (λ swapped. OnOk swapped (HasNoNode self.new pid)) }
+        ensures resident { IfOk result (λ swapped. OnOk swapped (IsResident self.new pid)) }
+        ensures takes { IfOk result (λ swapped. OnOk swapped (TakesPage self.old accesses.old pid self.new accesses.new)) }
+        ensures same { IfOk result (λ swapped. OnErr swapped ((self.new ≡ self.old) × (accesses.new ≡ accesses.old))) }
+        ensures refused { IfErr result (LosesAtMost self.old accesses.old pid self.new accesses.new L.tells) }
+    {
+        match judge(self.journal.fault, &self.pages, pid, old)? {
+            Judgement::Stale(present) => return Ok(Err(Some((present, ())))),
+            Judgement::Gone => return Ok(Err(None)),
+            Judgement::Fresh => {}
+        }
+        let page = self.pages.get_mut(pid);
+        free_page(
+            self.alloc,
+            &mut self.journal,
+            accesses,
+            &mut self.free,
+            pid,
+            page,
+        )?;
         Ok(Ok(PageView::new(pid, page.stamp)))
     }
 

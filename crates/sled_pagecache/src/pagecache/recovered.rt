@@ -9,6 +9,7 @@ ghost use Rattle.sled_pagecache.specs.Loading.{IsLoaded, IsUnread};
 ghost use Rattle.sled_pagecache.specs.Pages.{free_ids};
 ghost use Rattle.sled_pagecache.specs.Recovered.{IsRecovered, info_at, is_misfit, AllFit, BeginsMisfit};
 
+use super::free::FreeIds;
 use super::page::{CacheInfo, Kept, Page};
 use super::pagetable::PageTable;
 use super::{COUNTER_PID, PAGE_CONSOLIDATION_THRESHOLD};
@@ -109,19 +110,19 @@ pub(super) fn is_misfit(pid: usize, page: &Page) -> bool
         || pid as PageId <= COUNTER_PID && (page.is_free() || len > 1)
 }
 
-// The ids of the free pages, the least first.
-pub(super) fn free_of(alloc: Global, pages: &PageTable) -> Result<Vec<PageId>, AllocError>
-    ensures { IfOk result (λ ids. ids.items ≡ free_ids 0 pages.now.pages) }
+// The ids of the free pages.
+pub(super) fn free_of(alloc: Global, pages: &PageTable) -> Result<FreeIds, AllocError>
+    ensures { IfOk result (λ free. free.ids.keys ≡ free_ids 0 pages.now.pages) }
 {
-    let mut ids = Vec::new(alloc);
+    let mut free = FreeIds::new(alloc);
     for pid in 0..pages.len() as PageId {
         if let Some(page) = pages.get(pid)
             && page.is_free()
         {
-            ids.push(pid)?;
+            free.put(pid)?;
         }
     }
-    Ok(ids)
+    Ok(free)
 }
 
 #[cfg(test)]

@@ -17,6 +17,7 @@ ghost use Rattle.sled_pagecache.specs.Starts.{RefusesOpening};
 ghost use Rattle.sled_pagecache.specs.Table.{IsConsistent, stamps_in};
 
 use super::config::Config;
+use super::free::FreeIds;
 use super::journal::Journal;
 use super::own::{add_counter, add_roots, read_counter, read_roots};
 use super::page::Kept;
@@ -32,7 +33,7 @@ use std::alloc::Global;
 #[derive(Drop)]
 pub(super) struct Opening {
     pub(super) pages: PageTable,
-    pub(super) free: Vec<PageId>,
+    pub(super) free: FreeIds,
     pub(super) next: u128,
     pub(super) recovered: bool,
 }
@@ -48,7 +49,7 @@ pub(super) fn open<L: Log>(
     requires closed { is_open (L.state journal.old.log).pending ≡ false }
     ensures proceeds { Starts L.Log journal.old journal.new (refusal_in result) }
     ensures refused { L.tells → IfErr result (λ refusal. RefusesOpening config (now effect_of_entry (L.state journal.old.log)) (error_of refusal)) }
-    ensures consistent { IfOk result (λ opening. IsConsistent L.tells L.state journal.new opening.pages.pages opening.free.items) }
+    ensures consistent { IfOk result (λ opening. IsConsistent L.tells L.state journal.new opening.pages.pages opening.free.ids.keys) }
     ensures opened { L.tells → IfOk result (λ opening. (held : List Content) → Hold (map told (now effect_of_entry (L.state journal.old.log))) held → IsOpenedWith config held (stamps_in opening.pages.pages) opening.next opening.recovered) }
     ensures stable { L.tells → OnOk result (length (now effect_of_entry (L.state journal.old.log)) < 2 → (L.state journal.new.log).pending ≡ []) }
     ensures unread { IfOk result (λ opening. (pid : ℕ) → 2 ≤ pid → IfSome (slice_get opening.pages.pages pid) (λ page. IsUnread page.kept)) }
@@ -95,7 +96,7 @@ fn complete<L: Log>(
     requires fit { AllFit pages.pages }
     ensures proceeds { Proceeds L.Log journal.old journal.new (told_at_start pages.pages) (refusal_in result) }
     ensures of_log { L.tells → IfErr result IsOfLog }
-    ensures consistent { IfOk result (λ opening. IsConsistent L.tells L.state journal.new opening.pages.pages opening.free.items) }
+    ensures consistent { IfOk result (λ opening. IsConsistent L.tells L.state journal.new opening.pages.pages opening.free.ids.keys) }
     ensures opened { L.tells → IfOk result (λ opening. (held : List Content) → Hold (map told (now effect_of_entry (L.state journal.old.log))) held → IsOpenedWith config held (stamps_in opening.pages.pages) opening.next opening.recovered) }
     ensures stable { OnOk result (length pages.pages < 2 → (L.state journal.new.log).pending ≡ []) }
     ensures unread { IfOk result (λ opening. (pid : ℕ) → 2 ≤ pid → IfSome (slice_get opening.pages.pages pid) (λ page. IsUnread page.kept)) }

@@ -1,7 +1,9 @@
 //! The swaps of a page that stands and lies in memory.
 
-ghost use Rattle.std.specs.Prelude.{◌≡◌, ◌⊎◌, ◌+◌, ◌-◌, ◌<◌, ◌≤◌, ◌^◌, ◌↔◌, ◌++◌, [], ◌∷◌, false, true, length, map, slice_set, max, vec_len, vec_capacity, IfErr, OnOk, OnErr, IsErrOf, IsTrue};
+ghost use Rattle.std.specs.Prelude.{◌≡◌, ◌≢◌, ◌⊎◌, ◌+◌, ◌-◌, ◌<◌, ◌≤◌, ◌^◌, ◌↔◌, ◌++◌, [], ◌∷◌, false, true, length, map, slice_set, max, vec_len, vec_capacity, IfErr, OnOk, OnErr, IsErrOf, IsTrue};
+ghost use Rattle.std.specs.BTreeSet.{insert_key};
 ghost use Rattle.std.specs.List.{AllByRecursion, sum_by};
+ghost use Rattle.std.specs.Ordering.{nat_cmp};
 ghost use Rattle.sled_base.specs.declared.types.Device.TheVariants.{Write};
 ghost use Rattle.sled_base.specs.declared.types.Refusal.TheVariants.{Io};
 ghost use Rattle.sled_log.specs.Chains.{is_empty};
@@ -19,62 +21,126 @@ ghost use Rattle.sled_pagecache.specs.ChainReads.{chain_at};
 ghost use Rattle.sled_pagecache.specs.Journal.{Went, IsCaused, IsOfLog, begun_by};
 ghost use Rattle.sled_pagecache.specs.Limits.{most_messages};
 ghost use Rattle.sled_pagecache.specs.Pages.{IsKept, is_free, size_of, size_linked};
-ghost use Rattle.sled_pagecache.specs.Swaps.{IsRaised, IsLinked, RefusesSwap, RefusesLink, Wrote, linked_length, update_of};
+ghost use Rattle.sled_pagecache.specs.Swaps.{CanPut, content_of, IsRaised, IsLinked, RefusesSwap, RefusesLink, Wrote, linked_length, update_of};
 ghost use Rattle.sled_pagecache.specs.Changes.{link_update};
 ghost use Rattle.sled_pagecache.specs.Table.{IsFreeOrNode};
 ghost use Rattle.sled_pagecache.specs.declared.pagecache.page.Kept.TheVariants as kept;
 
 use super::PAGE_CONSOLIDATION_THRESHOLD;
 use super::accesses::{Accesses, size_with};
+use super::free::FreeIds;
 use super::journal::Journal;
 use super::page::{CacheInfo, Kept, Page, keep_alone, keep_linked, total_size};
-use super::write::{write_link, write_node};
+use super::write::{write_kept, write_link, write_node};
 use sled_base::{Bug, PageId, Refusal, Serialize, Why};
 use sled_log::Log;
 use sled_node::{Link, Node};
 use std::alloc::{AllocError, Global};
 
-// Puts a node on a page in place of what it held. A refusal leaves the page.
-pub(super) fn replace_page<L: Log>(
+// Puts a content on a page in place of what it held. A refusal leaves the page.
+pub(super) fn put_page<L: Log>(
     alloc: Global,
     journal: &mut Journal<L>,
     accesses: &mut Accesses,
     pid: PageId,
     page: &mut Page,
-    node: Node,
+    kept: Kept,
 ) -> Result<(), Refusal>
+    requires can_put { CanPut kept }
     requires ready { journal.old.fault ≡ false }
     requires usable { (L.state journal.old.log).usable ≡ true }
     requires there { L.tells → pid < length (now effect_of_entry (L.state journal.old.log)) }
     ensures stamp { OnOk result (IsRaised page.old.stamp page.new.stamp) }
-    ensures holds { OnOk result (page.new.kept ≡ kept.Node node) }
+    ensures holds { OnOk result (page.new.kept ≡ kept) }
     ensures kept { L.tells → OnOk result (IsKept (chain_at (L.state journal.new.log) pid) page.new) }
     ensures stamps { OnOk result (map (λ info. info.ts) page.new.infos.items ≡ page.new.stamp ∷ []) }
     ensures others { L.tells → OnOk result (now effect_of_entry (L.state journal.new.log) ≡ slice_set (now effect_of_entry (L.state journal.old.log)) pid (chain_at (L.state journal.new.log) pid)) }
     ensures left { OnErr result (page.new ≡ page.old) }
     ensures same { L.tells → OnErr result (journal.new.fault ≡ false → now effect_of_entry (L.state journal.new.log) ≡ now effect_of_entry (L.state journal.old.log)) }
     ensures refused { L.tells → IfErr result (RefusesSwap page.old.stamp) }
-    ensures is { IsUpdate (message_of (contents.Put (contents.Node node))) (contents.Put (contents.Node node)) }
-    ensures went { Went L.tells L.state L.moment L.left_since L.counts journal.old journal.new (begun_by result (Change pid (message_of (contents.Put (contents.Node node))) ∷ [])) }
-    ensures cause { IsCaused L.tells L.state L.moment L.left_since L.counts journal.old journal.new (L.is_full journal.old.log (length (message_of (contents.Put (contents.Node node))).payload)) result }
+    ensures is { IsUpdate (message_of (contents.Put (content_of kept))) (contents.Put (content_of kept)) }
+    ensures went { Went L.tells L.state L.moment L.left_since L.counts journal.old journal.new (begun_by result (Change pid (message_of (contents.Put (content_of kept))) ∷ [])) }
+    ensures cause { IsCaused L.tells L.state L.moment L.left_since L.counts journal.old journal.new (L.is_full journal.old.log (length (message_of (contents.Put (content_of kept))).payload)) result }
     ensures reads { (L.counts journal.new.log).reads ≡ (L.counts journal.old.log).reads }
     ensures sized { L.tells → OnOk result (AllByRecursion IsSized (now effect_of_entry (L.state journal.new.log))) }
     ensures accessed { OnOk result (WasAccessed accesses.old pid (size_of page.new) accesses.new) }
     ensures touched { OnErr result (IsTouched accesses.old pid accesses.new) }
     ensures unasked { L.tells → IfErr result (λ refusal. IsOfLog refusal ⊎ (accesses.new ≡ accesses.old)) }
 {
-    // Every node is well-formed.
-    let _ = node.data();
+    let payload = payload_size(&kept);
     if page.stamp == u64::MAX {
         return Err(Refusal::Unsupported(Why::StampUsedUp));
     }
-    let Ok(()) = accesses.access(pid, size_with(0, node.serialized_size())) else {
+    let Ok(()) = accesses.access(pid, size_with(0, payload)) else {
         return Err(Refusal::OutOfMemory);
     };
-    let info = write_node(alloc, journal, pid, &node, page.stamp + 1)?;
-    page.kept = Kept::Node(node);
+    let info = write_kept(alloc, journal, pid, &kept, page.stamp + 1)?;
+    page.kept = kept;
     keep_alone(page, info);
     Ok(())
+}
+
+// Frees a page, and puts its id among those of the free ones. A refusal leaves both.
+pub(super) fn free_page<L: Log>(
+    alloc: Global,
+    journal: &mut Journal<L>,
+    accesses: &mut Accesses,
+    free: &mut FreeIds,
+    pid: PageId,
+    page: &mut Page,
+) -> Result<(), Refusal>
+    requires lacks { AllByRecursion (λ id. id ≢ pid) free.old.ids.keys }
+    requires ready { journal.old.fault ≡ false }
+    requires usable { (L.state journal.old.log).usable ≡ true }
+    requires there { L.tells → pid < length (now effect_of_entry (L.state journal.old.log)) }
+    ensures freed { OnOk result (free.new.ids.keys ≡ insert_key nat_cmp free.old.ids.keys pid) }
+    ensures unfreed { OnErr result (free.new.ids.keys ≡ free.old.ids.keys) }
+    ensures stamp { OnOk result (IsRaised page.old.stamp page.new.stamp) }
+    ensures holds { OnOk result (page.new.kept ≡ kept.Free) }
+    ensures kept { L.tells → OnOk result (IsKept (chain_at (L.state journal.new.log) pid) page.new) }
+    ensures stamps { OnOk result (map (λ info. info.ts) page.new.infos.items ≡ page.new.stamp ∷ []) }
+    ensures others { L.tells → OnOk result (now effect_of_entry (L.state journal.new.log) ≡ slice_set (now effect_of_entry (L.state journal.old.log)) pid (chain_at (L.state journal.new.log) pid)) }
+    ensures left { OnErr result (page.new ≡ page.old) }
+    ensures same { L.tells → OnErr result (journal.new.fault ≡ false → now effect_of_entry (L.state journal.new.log) ≡ now effect_of_entry (L.state journal.old.log)) }
+    ensures refused { L.tells → IfErr result (RefusesSwap page.old.stamp) }
+    ensures went { Went L.tells L.state L.moment L.left_since L.counts journal.old journal.new (begun_by result (Change pid (message_of (contents.Put contents.Free)) ∷ [])) }
+    ensures cause { IsCaused L.tells L.state L.moment L.left_since L.counts journal.old journal.new (L.is_full journal.old.log (length (message_of (contents.Put contents.Free)).payload)) result }
+    ensures reads { (L.counts journal.new.log).reads ≡ (L.counts journal.old.log).reads }
+    ensures sized { L.tells → OnOk result (AllByRecursion IsSized (now effect_of_entry (L.state journal.new.log))) }
+    ensures accessed { OnOk result (WasAccessed accesses.old pid (size_of page.new) accesses.new) }
+    ensures touched { OnErr result (IsTouched accesses.old pid accesses.new) }
+    ensures unasked { L.tells → IfErr result (λ refusal. IsOfLog refusal ⊎ (accesses.new ≡ accesses.old)) }
+{
+    if page.stamp == u64::MAX {
+        return Err(Refusal::Unsupported(Why::StampUsedUp));
+    }
+    let Ok(()) = free.put(pid) else {
+        return Err(Refusal::OutOfMemory);
+    };
+    let freed = put_page(alloc, journal, accesses, pid, page, Kept::Free);
+    if freed.is_err() {
+        free.take_back(pid);
+    }
+    freed
+}
+
+// How many bytes the payload has by which a content is put on a page.
+fn payload_size(kept: &Kept) -> u64
+    requires { CanPut kept.now }
+    ensures size { result ≡ length (message_of (contents.Put (content_of kept.now))).payload }
+    ensures is { IsUpdate (message_of (contents.Put (content_of kept.now))) (contents.Put (content_of kept.now)) }
+{
+    match kept {
+        Kept::Node(node) => {
+            // Every node is well-formed.
+            let _ = node.data();
+            node.serialized_size()
+        }
+        Kept::Roots(roots) => roots.serialized_size(),
+        Kept::Counter(n) => n.serialized_size(),
+        Kept::Free => 0,
+        Kept::Away => unreachable!(),
+    }
 }
 
 // Applies a link to the node of a page and writes it to the log: the link itself, or the node that it makes where 10 messages

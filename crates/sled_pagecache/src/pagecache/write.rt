@@ -16,10 +16,10 @@ ghost use Rattle.sled_node.specs.Meta.{IsRootMap};
 ghost use Rattle.sled_node.specs.Payloads.Links.{CanWriteLink};
 ghost use Rattle.sled_pagecache.specs.ChainReads.{place_of};
 ghost use Rattle.sled_pagecache.specs.Journal.{Went, IsCaused, IsOfLog, begun_by};
-ghost use Rattle.sled_pagecache.specs.Swaps.{Wrote};
+ghost use Rattle.sled_pagecache.specs.Swaps.{Wrote, CanPut, content_of};
 
 use super::journal::Journal;
-use super::page::CacheInfo;
+use super::page::{CacheInfo, Kept};
 use sled_base::{MessageKind, PageId, Refusal, Serialize};
 use sled_log::Log;
 use sled_node::{Link, Meta, Node};
@@ -114,6 +114,44 @@ pub(super) fn write_counter<L: Log>(
     // Its size has 64 bits.
     let _ = n.serialized_size();
     write(alloc, journal, MessageKind::Counter, pid, &n, stamp)
+}
+
+// Writes to the log that a page is free, and answers how that is kept, at that stamp.
+fn write_free<L: Log>(
+    alloc: Global,
+    journal: &mut Journal<L>,
+    pid: PageId,
+    stamp: u64,
+) -> Result<CacheInfo, Refusal>
+    requires ready { journal.old.fault ≡ false }
+    requires usable { (L.state journal.old.log).usable ≡ true }
+    requires there { L.tells → pid < length (now effect_of_entry (L.state journal.old.log)) }
+    ensures { Wrote L.tells L.state L.moment L.left_since L.counts L.is_full journal.old journal.new pid (contents.Put contents.Free) stamp result }
+{
+    write(alloc, journal, MessageKind::Free, pid, &(), stamp)
+}
+
+// Writes what is put on a page, and answers how it is kept, at that stamp.
+pub(super) fn write_kept<L: Log>(
+    alloc: Global,
+    journal: &mut Journal<L>,
+    pid: PageId,
+    kept: &Kept,
+    stamp: u64,
+) -> Result<CacheInfo, Refusal>
+    requires can_write { CanPut kept.now }
+    requires ready { journal.old.fault ≡ false }
+    requires usable { (L.state journal.old.log).usable ≡ true }
+    requires there { L.tells → pid < length (now effect_of_entry (L.state journal.old.log)) }
+    ensures { Wrote L.tells L.state L.moment L.left_since L.counts L.is_full journal.old journal.new pid (contents.Put (content_of kept.now)) stamp result }
+{
+    match kept {
+        Kept::Node(node) => write_node(alloc, journal, pid, node, stamp),
+        Kept::Roots(roots) => write_roots(alloc, journal, pid, roots, stamp),
+        Kept::Counter(n) => write_counter(alloc, journal, pid, *n, stamp),
+        Kept::Free => write_free(alloc, journal, pid, stamp),
+        Kept::Away => unreachable!(),
+    }
 }
 
 // Writes a value to the log as a message of a page, and answers how it is kept, at that stamp.

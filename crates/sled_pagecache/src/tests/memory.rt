@@ -106,6 +106,19 @@ fn replaces_page(alloc: Global, cache: &mut Cache) -> bool {
     }
 }
 
+// Frees page 3, which is at stamp 0.
+fn frees_once(cache: &mut Cache) -> Done {
+    let answer = cache.free(3, PageView::new(3, 0));
+    has_token(&answer, PageView::new(3, 1))
+}
+
+fn frees_page(cache: &mut Cache) -> bool {
+    match frees_once(cache) {
+        Some(done) => done,
+        None => frees_once(cache) == Some(true),
+    }
+}
+
 fn holds_once(cache: &mut Cache, pid: PageId, key: &[u8], value: &[u8]) -> Done {
     match cache.get(pid) {
         Ok(Some(view)) => Some(
@@ -144,5 +157,7 @@ fn refused_allocations_change_nothing(rt: HostRuntime) -> Result<(), Fail> {
     assert!(rt; holds_pair(&mut cache, 3, b"k", b"v"));
     assert!(rt; links_page(alloc, &mut cache, 0));
     assert!(rt; has_bytes(&cache, 385));
+    assert!(rt; frees_page(&mut cache));
+    assert!(rt; has_bytes(&cache, 402));
     Ok(())
 }

@@ -1,7 +1,7 @@
 use Rattle.sled_pagecache.proofs.Names.{err_from_is_err_and, ◌≡◌, ◌+◌, Result, Ok, Err, rules, refl, sym, ◌∙◌, ap, arith, slice_get_within, AllZip-long, Refusal, effect_of_entry, now, IsKept, token, Linked, Fresh, Stale, Gone}
 use Rattle.sled_pagecache.proofs.Answers.{keeps-err}
 use Rattle.sled_pagecache.proofs.CacheSteps.{steps-told}
-use Rattle.sled_pagecache.proofs.InMemory.{loses-nothing, loses-page, takes-node}
+use Rattle.sled_pagecache.proofs.InMemory.{loses-nothing, loses-page, takes-page}
 use Rattle.sled_pagecache.proofs.Judging.{link-swap, judged-by, judged-refused, judged-gone, judged-stale, fresh-within, fresh-at, fresh-answered, keeps-fresh}
 use Rattle.sled_pagecache.proofs.LinkSteps.{link-refused, link-taken}
 use Rattle.sled_pagecache.proofs.LinkTables.{refused-consistent, taken-consistent, taken-length, taken-resident, refused-out}
@@ -81,9 +81,9 @@ pull_and_link-requires g c =
           let long = AllZip-long IsKept (now effect_of_entry (g.L.Log.state inside.journal.log)) inside.pages.pages ((c.self.invariant.beside fresh.clear).kept told) in
           let within = slice_get_within inside.pages.pages c.args.pid q fresh.at in
           omega (arith, within, long);
-      kept = page-kept-at g.L.Log inside.journal inside.journal inside.pages.pages inside.free.items c.args.pid q q c.self.invariant fresh.clear fresh.behind fresh.at;
+      kept = page-kept-at g.L.Log inside.journal inside.journal inside.pages.pages inside.free.ids.keys c.args.pid q q c.self.invariant fresh.clear fresh.behind fresh.at;
       full = fresh.full;
-      own = page-own-at g.L.Log inside.journal inside.journal inside.pages.pages inside.free.items c.args.pid q q c.self.invariant fresh.clear fresh.behind fresh.at;
+      own = page-own-at g.L.Log inside.journal inside.journal inside.pages.pages inside.free.ids.keys c.args.pid q q c.self.invariant fresh.clear fresh.behind fresh.at;
     }
 
 pub invariant_of-self : goal.invariant_of-self
@@ -92,15 +92,15 @@ invariant_of-self g c =
     let q = c.get_mut-page.result.now in
     let fresh = fresh-at inside.journal.fault inside.pages.pages c.args.pid c.args.old c.in_ok-present.field-0 q c.in-Fresh.is c.in_ok-present.ensures c.get_mut-page.ensures.page in
     let done = c.in_err-pull_and_link.ensures in
-    refused-consistent g.L.Log inside.journal c.pull_and_link.new.journal inside.pages.pages inside.free.items c.args.pid q c.pull_and_link.new.page c.self.invariant fresh.clear fresh.behind fresh.at c.args.link
-    done.begun (λ told. done.same told) (λ told. done.still told) done.left.1 done.free (done.own (page-own-at g.L.Log inside.journal inside.journal inside.pages.pages inside.free.items c.args.pid q q c.self.invariant fresh.clear fresh.behind fresh.at))
+    refused-consistent g.L.Log inside.journal c.pull_and_link.new.journal inside.pages.pages inside.free.ids.keys c.args.pid q c.pull_and_link.new.page c.self.invariant fresh.clear fresh.behind fresh.at c.args.link
+    done.begun (λ told. done.same told) (λ told. done.still told) done.left.1 done.free (done.own (page-own-at g.L.Log inside.journal inside.journal inside.pages.pages inside.free.ids.keys c.args.pid q q c.self.invariant fresh.clear fresh.behind fresh.at))
 
 pub invariant_of-self-2 : goal.invariant_of-self-2
 invariant_of-self-2 g c =
     let inside = c.self.inside in
     let q = c.get_mut-page.result.now in
     let fresh = fresh-at inside.journal.fault inside.pages.pages c.args.pid c.args.old c.in_ok-present.field-0 q c.in-Fresh.is c.in_ok-present.ensures c.get_mut-page.ensures.page in
-    taken-consistent g.L.Log inside.journal c.pull_and_link.new.journal inside.pages.pages inside.free.items c.args.pid q c.pull_and_link.new.page c.self.invariant fresh.clear fresh.behind fresh.at c.args.link c.in_ok-pull_and_link.ensures.taken c.in_ok-pull_and_link.ensures.free
+    taken-consistent g.L.Log inside.journal c.pull_and_link.new.journal inside.pages.pages inside.free.ids.keys c.args.pid q c.pull_and_link.new.page c.self.invariant fresh.clear fresh.behind fresh.at c.args.link c.in_ok-pull_and_link.ensures.taken c.in_ok-pull_and_link.ensures.free
 
 pub returns-in_err-pull_and_link : goal.returns-in_err-pull_and_link
 returns-in_err-pull_and_link g c =
@@ -110,20 +110,20 @@ returns-in_err-pull_and_link g c =
     let done = c.in_err-pull_and_link.ensures in
     let refusal = c.in_err-pull_and_link.field-0.0 in
     let result : Result (Unit {0}) Refusal = Err refusal in
-    let stamps = stamps-same g.L.Log inside.next inside.config inside.recovered inside.journal c.pull_and_link.new.journal inside.pages.pages inside.free.items c.args.pid q c.pull_and_link.new.page c.self.invariant fresh.clear fresh.behind fresh.at done.left.0 in
+    let stamps = stamps-same g.L.Log inside.next inside.config inside.recovered inside.journal c.pull_and_link.new.journal inside.pages.pages inside.free.ids.keys c.args.pid q c.pull_and_link.new.page c.self.invariant fresh.clear fresh.behind fresh.at done.left.0 in
     rw (refused-is c.from_residual-in_err-pull_and_link.result _ c.from_residual-in_err-pull_and_link.ensures.1, ← c.self.view_is) (record {
-      tested = refused-tests g.L.Log inside.next inside.config inside.recovered inside.journal inside.pages.pages inside.free.items c.args.pid c.self.invariant c.args.old q fresh c.args.link c.requires refusal done.tested;
-      step = steps-told g.L.Log _ _ _ _ (record { config = refl; recovered = refl }) (λ told. link-refused g.L.Log inside.next inside.config inside.recovered inside.journal inside.pages.pages inside.free.items c.args.pid c.self.invariant fresh.clear c.args.old c.requires c.args.link fresh.behind q fresh.at fresh.full
+      tested = refused-tests g.L.Log inside.next inside.config inside.recovered inside.journal inside.pages.pages inside.free.ids.keys c.args.pid c.self.invariant c.args.old q fresh c.args.link c.requires refusal done.tested;
+      step = steps-told g.L.Log _ _ _ _ (record { config = refl; recovered = refl }) (λ told. link-refused g.L.Log inside.next inside.config inside.recovered inside.journal inside.pages.pages inside.free.ids.keys c.args.pid c.self.invariant fresh.clear c.args.old c.requires c.args.link fresh.behind q fresh.at fresh.full
           c.pull_and_link.new.journal c.pull_and_link.new.page fresh.stamp refusal (done.refused told) done.cause done.left.0);
       blame = search rules;
       keeps = keeps-err _ _ _ (Unit {0}) refusal fresh.clear done.cause.fault stamps;
       token = tt;
-      damaged = λ meets stamp. refused-damage g.L.Log inside.next inside.config inside.recovered inside.journal inside.pages.pages inside.free.items c.args.pid c.self.invariant c.args.old q fresh c.args.link meets c.pull_and_link.new.journal c.pull_and_link.new.page refusal (done.refused meets.tells) done.left.0 done.same;
-      reads = reads-pulled g.L.Log inside.next inside.config inside.recovered inside.journal c.pull_and_link.new.journal inside.pages.pages inside.free.items c.args.pid q c.pull_and_link.new.page c.self.invariant fresh.clear fresh.behind fresh.at result done.unread done.reads (λ away. (done.kept_out away, done.at_most.0, done.at_most.1, done.at_most.2));
+      damaged = λ meets stamp. refused-damage g.L.Log inside.next inside.config inside.recovered inside.journal inside.pages.pages inside.free.ids.keys c.args.pid c.self.invariant c.args.old q fresh c.args.link meets c.pull_and_link.new.journal c.pull_and_link.new.page refusal (done.refused meets.tells) done.left.0 done.same;
+      reads = reads-pulled g.L.Log inside.next inside.config inside.recovered inside.journal c.pull_and_link.new.journal inside.pages.pages inside.free.ids.keys c.args.pid q c.pull_and_link.new.page c.self.invariant fresh.clear fresh.behind fresh.at result done.unread done.reads (λ away. (done.kept_out away, done.at_most.0, done.at_most.1, done.at_most.2));
       unread = tt;
       length = λ told. tt;
       resident = tt;
-      kept_out = refused-out g.L.Log inside.journal c.pull_and_link.new.journal inside.pages.pages inside.free.items c.args.pid q c.pull_and_link.new.page c.self.invariant fresh.clear fresh.behind fresh.at c.args.link inside.next inside.config inside.recovered done.kept_out;
+      kept_out = refused-out g.L.Log inside.journal c.pull_and_link.new.journal inside.pages.pages inside.free.ids.keys c.args.pid q c.pull_and_link.new.page c.self.invariant fresh.clear fresh.behind fresh.at c.args.link inside.next inside.config inside.recovered done.kept_out;
       takes = tt;
       same = tt;
       refused = loses-page g.L.Log.tells inside.next inside.config inside.recovered inside.journal c.pull_and_link.new.journal inside.pages.pages c.args.pid q c.pull_and_link.new.page fresh.at c.args.accesses.now c.pull_and_link.new.accesses fresh.clear done.left.1 refusal done.lost done.touched done.unasked;
@@ -138,20 +138,20 @@ returns g c =
     let result : Result (Unit {0}) Refusal = Ok c.in_ok-pull_and_link.field-0 in
     let made : c.new-linked.result ≡ token c.args.pid (c.args.old.stamp + 1) = c.new-linked.ensures ∙ ap (token c.args.pid) (done.taken.raised.1 ∙ ap (λ n. n + 1) fresh.stamp) in
     rw (← c.self.view_is) (record {
-      tested = taken-tests g.L.Log inside.next inside.config inside.recovered inside.journal inside.pages.pages inside.free.items c.args.pid c.self.invariant c.args.old q fresh c.args.link c.requires c.pull_and_link.new.journal c.pull_and_link.new.page done.taken _;
+      tested = taken-tests g.L.Log inside.next inside.config inside.recovered inside.journal inside.pages.pages inside.free.ids.keys c.args.pid c.self.invariant c.args.old q fresh c.args.link c.requires c.pull_and_link.new.journal c.pull_and_link.new.page done.taken _;
       step = rw made
-          (link-taken g.L.Log inside.next inside.config inside.recovered inside.journal inside.pages.pages inside.free.items c.args.pid c.self.invariant fresh.clear c.args.old c.requires c.args.link fresh.behind q fresh.at fresh.full
+          (link-taken g.L.Log inside.next inside.config inside.recovered inside.journal inside.pages.pages inside.free.ids.keys c.args.pid c.self.invariant fresh.clear c.args.old c.requires c.args.link fresh.behind q fresh.at fresh.full
           c.pull_and_link.new.journal c.pull_and_link.new.page fresh.stamp done.taken done.cause.fault);
       blame = search rules;
       keeps = keeps-fresh inside.next inside.config inside.recovered inside.journal inside.pages.pages c.args.pid c.args.old q fresh _ c.pull_and_link.new.journal c.pull_and_link.new.page done.cause.fault done.taken.raised.1 c.new-linked.result made;
       token = fresh-answered inside.next inside.config inside.recovered inside.journal inside.pages.pages c.args.pid c.args.old q fresh c.requires _ c.args.link c.new-linked.result (made ∙ ap (λ n. token n (c.args.old.stamp + 1)) (sym c.requires));
-      damaged = λ meets stamp. absurd (taken-damage g.L.Log inside.next inside.config inside.recovered inside.journal inside.pages.pages inside.free.items c.args.pid c.self.invariant c.args.old q fresh c.args.link meets c.pull_and_link.new.journal c.pull_and_link.new.page done.taken);
-      reads = reads-pulled g.L.Log inside.next inside.config inside.recovered inside.journal c.pull_and_link.new.journal inside.pages.pages inside.free.items c.args.pid q c.pull_and_link.new.page c.self.invariant fresh.clear fresh.behind fresh.at result done.unread done.reads (λ away. tt);
+      damaged = λ meets stamp. absurd (taken-damage g.L.Log inside.next inside.config inside.recovered inside.journal inside.pages.pages inside.free.ids.keys c.args.pid c.self.invariant c.args.old q fresh c.args.link meets c.pull_and_link.new.journal c.pull_and_link.new.page done.taken);
+      reads = reads-pulled g.L.Log inside.next inside.config inside.recovered inside.journal c.pull_and_link.new.journal inside.pages.pages inside.free.ids.keys c.args.pid q c.pull_and_link.new.page c.self.invariant fresh.clear fresh.behind fresh.at result done.unread done.reads (λ away. tt);
       unread = tt;
-      length = λ told. taken-length g.L.Log inside.journal c.pull_and_link.new.journal inside.pages.pages inside.free.items c.args.pid q c.pull_and_link.new.page c.self.invariant fresh.clear fresh.behind fresh.at c.args.link inside.next inside.config inside.recovered told done.taken;
-      resident = taken-resident g.L.Log inside.journal c.pull_and_link.new.journal inside.pages.pages inside.free.items c.args.pid q c.pull_and_link.new.page c.self.invariant fresh.clear fresh.behind fresh.at c.args.link inside.next inside.config inside.recovered done.taken;
+      length = λ told. taken-length g.L.Log inside.journal c.pull_and_link.new.journal inside.pages.pages inside.free.ids.keys c.args.pid q c.pull_and_link.new.page c.self.invariant fresh.clear fresh.behind fresh.at c.args.link inside.next inside.config inside.recovered told done.taken;
+      resident = taken-resident g.L.Log inside.journal c.pull_and_link.new.journal inside.pages.pages inside.free.ids.keys c.args.pid q c.pull_and_link.new.page c.self.invariant fresh.clear fresh.behind fresh.at c.args.link inside.next inside.config inside.recovered done.taken;
       kept_out = tt;
-      takes = takes-node inside.next inside.config inside.recovered inside.journal c.pull_and_link.new.journal inside.pages.pages c.args.pid q c.pull_and_link.new.page fresh.at c.args.accesses.now c.pull_and_link.new.accesses _ done.taken.holds done.accessed;
+      takes = takes-page inside.next inside.config inside.recovered inside.journal c.pull_and_link.new.journal inside.pages.pages c.args.pid q c.pull_and_link.new.page fresh.at c.args.accesses.now c.pull_and_link.new.accesses done.accessed;
       same = tt;
       refused = tt;
     })

@@ -8,7 +8,7 @@ pub invariant_of-self : goal.invariant_of-self
 invariant_of-self g c =
     let inside = c.self.inside in
     let at = c.get_mut.ensures.page in
-    consistent-out g.L.Log inside.journal inside.pages.pages inside.free.items c.args.pid c.get_mut.result.now c.page_out.new.self c.self.invariant at c.page_out.ensures
+    consistent-out g.L.Log inside.journal inside.pages.pages inside.free.ids.keys c.args.pid c.get_mut.result.now c.page_out.new.self c.self.invariant at c.page_out.ensures
 
 pub returns-then-pid-len : goal.returns-then-pid-len
 returns-then-pid-len g c =

@@ -1,0 +1,9 @@
+use Rattle.sled_pagecache.proofs.Names.{ap, ◌∙◌, ℕ, List}
+use Rattle.std.specs.BTreeMap.{is_at}
+use Rattle.std.specs.Ordering.{nat_cmp}
+use Rattle.std.specs.Set.{remove_key}
+use Rattle.sled_pagecache.proofs.FreeIds.{back}
+use Rattle.sled_pagecache.proofs.pagecache.free.FreeIds.take_back.Goals as goal
+
+pub returns : goal.returns
+returns c = λ before lacks is. c.remove.ensures.keys ∙ ap (λ (l : List ℕ). remove_key (is_at (nat_cmp c.args.pid)) l) is ∙ back c.args.pid before lacks
