@@ -1,5 +1,5 @@
 -- What was taken of what a reader has buffered.
-use Rattle.std.proofs.Common.{◌≡◌, Bool, ℕ, ◌+◌, ◌≤◌, [], ◌∷◌, ◌++◌, length, length-append, length-take-le, take, Option, None, Some, IfSome, Ok, sym, ap, subst, ◌∙◌, arith, append_assoc}
+use Rattle.std.proofs.Common.{◌≡◌, Bool, ℕ, ◌+◌, ◌≤◌, [], ◌∷◌, ◌++◌, length, length-append, length-take-le, take, Option, IfSome, Ok, sym, ap, subst, ◌∙◌, arith, append_assoc}
 use Rattle.std.specs.Io.{StartsWith}
 use Rattle.std.specs.Io.KnownBytes.{Consumes, Keeps}
 use Rattle.std.specs.Io.BufRead.{DropsConsumable}

@@ -1,9 +1,7 @@
 -- Texts that are written one after another.
-use Rattle.std.proofs.Common.{◌≡◌, ℕ, ◌+◌, ◌-◌, ◌/◌, ◌%◌, ◌<◌, ◌≤◌, ◌^◌, [], ◌∷◌, ◌++◌, length, take, drop, get_or, zero, suc, Option, Result, Ok, Err, IsErr, sym, ap, ◌∙◌, subst, arith, refl, append_assoc, take-append-drop}
-use Rattle.std.specs.Fmt.{decimal}
+use Rattle.std.proofs.Common.{◌≡◌, ℕ, ◌+◌, ◌-◌, ◌/◌, ◌%◌, ◌<◌, [], ◌∷◌, ◌++◌, length, take, drop, get_or, Option, Result, Ok, Err, IsErr, sym, ap, ◌∙◌, subst, arith, refl, append_assoc, take-append-drop}
 use Rattle.std.specs.Io.KnownBytes.{Appends}
 use Rattle.std.proofs.KnownBytes.{Appends-trans}
-use Rattle.std.proofs.lemmas.Fmt.{decimal_digit, decimal_step}
 use Rattle.std.proofs.lemmas.List.{take_rest, take_more}
 use Rattle.sled_base.specs.Order.{Bytes}
 use Rattle.sledpc.specs.Output.{AppendsBeginning, Writes}
@@ -27,22 +25,6 @@ stops_before a b (Ok x) text rest whole failed now e = absurd cc
 stops_before a b (Err x) text rest whole failed now e =
     (now.0, now.1 ++ rest, e ∙ ap (λ l. l ++ rest) now.2 ∙ append_assoc now.0 now.1 rest, now.3)
 
--- ---- numbers
-
--- the last digit behind the others
-pub number_ends : {T E : Type 0} (a b c : Option Bytes) (result : Result T E) (n : ℕ) → 10 ≤ n → n < 2 ^ 64 → Appends a b (decimal (n / 10)) → Writes b c result ((48 + n % 10) ∷ []) → Writes a c result (decimal n)
-number_ends a b c result n large small before now = writes_more a b c result (decimal (n / 10)) ((48 + n % 10) ∷ []) (decimal n) before now (decimal_step n large small)
-
--- an error before the last digit
-pub number_stops : {T E : Type 0} (a b : Option Bytes) (result : Result T E) (n : ℕ) → 10 ≤ n → n < 2 ^ 64 → IsErr result → AppendsBeginning a b (decimal (n / 10)) → Writes a b result (decimal n)
-number_stops a b result n large small failed now = stops_before a b result (decimal (n / 10)) ((48 + n % 10) ∷ []) (decimal n) failed now (decimal_step n large small)
-
--- a number of one digit
-pub one_digit : {T E : Type 0} (a b : Option Bytes) (result : Result T E) (n : ℕ) → n < 10 → Writes a b result ((48 + n % 10) ∷ []) → Writes a b result (decimal n)
-one_digit a b result n small now =
-    let same : n % 10 ≡ n = omega arith in
-    subst (Writes a b result) (ap (λ d. (48 + d) ∷ []) same ∙ sym (decimal_digit n small)) now
-
 -- ---- byte strings
 
 pub hex_word : (bytes : Bytes) → 0 < length bytes → bytes_word bytes ≡ hex bytes
@@ -56,24 +38,9 @@ hex_next bytes i high low below p q =
     let front = take_more bytes i 0 below in
     cc
 
--- the digits of a byte among the others
-pub hex_around : (bytes : Bytes) (i : ℕ) → i < length bytes → hex bytes ≡ hex (take i bytes) ++ hex_digit (get_or bytes i 0 / 16) ∷ hex_digit (get_or bytes i 0 % 16) ∷ hex (drop (suc i) bytes)
-hex_around [] i below = absurd (omega arith)
-hex_around (byte ∷ bytes) zero below = refl
-hex_around (byte ∷ bytes) (suc i) below = ap (λ rest. hex_digit (byte / 16) ∷ hex_digit (byte % 16) ∷ rest) (hex_around bytes i (omega arith))
-
--- an error at the digits of a byte
-pub hex_stops : {T E : Type 0} (a b c : Option Bytes) (result : Result T E) (bytes : Bytes) (i high low : ℕ) → i < length bytes → high ≡ hex_digit (get_or bytes i 0 / 16) → low ≡ hex_digit (get_or bytes i 0 % 16)
-    → Appends a b (hex (take i bytes)) → IsErr result → AppendsBeginning b c (high ∷ low ∷ []) → Writes a c result (bytes_word bytes)
-hex_stops a b c result bytes i high low below p q before failed now =
-    let rest = hex (drop (suc i) bytes) in
-    let split = hex_around bytes i below in
-    let digits : hex_digit (get_or bytes i 0 / 16) ∷ hex_digit (get_or bytes i 0 % 16) ∷ rest ≡ high ∷ low ∷ rest = cc in
-    writes_more a b c result (hex (take i bytes)) (high ∷ low ∷ rest) (bytes_word bytes) before (stops_before b c result (high ∷ low ∷ []) rest (high ∷ low ∷ rest) failed now refl) (hex_word bytes (omega arith) ∙ split ∙ ap (λ l. hex (take i bytes) ++ l) digits)
-
 -- ---- keys of two parts
 
-hex_append : (a b : Bytes) → hex (a ++ b) ≡ hex a ++ hex b
+pub hex_append : (a b : Bytes) → hex (a ++ b) ≡ hex a ++ hex b
 hex_append [] b = refl
 hex_append (byte ∷ a) b = ap (λ rest. hex_digit (byte / 16) ∷ hex_digit (byte % 16) ∷ rest) (hex_append a b)
 

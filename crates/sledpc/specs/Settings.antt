@@ -14,6 +14,10 @@ log_settings = (512, 16)
 abbrev pub longest_line : ℕ
 longest_line = 65536
 
+-- a text of at most so many bytes is gathered before it is written
+abbrev pub piece_room : ℕ
+piece_room = 160
+
 -- the status where the words are wrong, and where they are right that of what they ask for
 abbrev pub wrong_words : ℕ
 wrong_words = 2

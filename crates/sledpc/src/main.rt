@@ -11,6 +11,7 @@
 mod cuts;
 mod lines;
 mod output;
+mod piece;
 mod program;
 mod script;
 

@@ -1,11 +1,10 @@
 //! Texts that are written piece by piece.
 
-ghost use Rattle.std.specs.Prelude.{◌≡◌, ◌<◌};
 ghost use Rattle.std.specs.Fmt.{decimal};
 ghost use Rattle.sledpc.specs.Output.{Writes};
-ghost use Rattle.sledpc.specs.Words as words;
-ghost use Rattle.sledpc.specs.Words.{bytes_word};
+ghost use Rattle.sledpc.specs.Words.{hex, bytes_word};
 
+use crate::piece::{Piece, ROOM};
 use std::io;
 use std::io::{ErrorKind, Write};
 
@@ -35,10 +34,9 @@ pub fn write_text<W: Write>(writer: &mut W, text: &[u8]) -> io::Result<()>
 pub fn write_number<W: Write>(writer: &mut W, number: u64) -> io::Result<()>
     ensures { Writes (W.contents writer.old) (W.contents writer.new) result (decimal number) }
 {
-    if number >= 10 {
-        write_number(writer, number / 10)?;
-    }
-    write_text(writer, &[b'0' + (number % 10) as u8])
+    let mut piece = Piece::new();
+    piece.put_number(number);
+    write_text(writer, piece.as_slice())
 }
 
 /// Writes a byte string as its word: in hexadecimal, or `-` where there are no bytes.
@@ -48,20 +46,20 @@ pub fn write_bytes_word<W: Write>(writer: &mut W, bytes: &[u8]) -> io::Result<()
     if bytes.is_empty() {
         return write_text(writer, b"-");
     }
-    for byte in bytes {
-        write_text(writer, &[hex_digit(*byte / 16), hex_digit(*byte % 16)])?;
-    }
-    Ok(())
+    write_hex(writer, bytes)
 }
 
-/// The hexadecimal digit of a number below 16.
-fn hex_digit(value: u8) -> u8
-    requires { value < 16 }
-    ensures { result ≡ words.hex_digit value }
+/// Writes a byte string in hexadecimal, as much in one piece as has room.
+fn write_hex<W: Write>(writer: &mut W, bytes: &[u8]) -> io::Result<()>
+    ensures { Writes (W.contents writer.old) (W.contents writer.new) result (hex bytes.now) }
 {
-    if value < 10 {
-        b'0' + value
-    } else {
-        b'a' + (value - 10)
+    let mut left = bytes;
+    while !left.is_empty() {
+        let (part, rest) = left.split_at(left.len().min(ROOM / 2));
+        let mut piece = Piece::new();
+        piece.put_hex(part);
+        write_text(writer, piece.as_slice())?;
+        left = rest;
     }
+    Ok(())
 }

@@ -141,7 +141,7 @@ fn takes_of_five(alloc: Global, room: usize, want: &str) -> bool {
 
 // Whether the numbers and byte strings, with a space behind each, are written as this text.
 fn are_written(alloc: Global, numbers: &[u64], strings: &[&[u8]], want: &str) -> io::Result<bool> {
-    let mut writer = slow_writer(alloc, 99);
+    let mut writer = slow_writer(alloc, 199);
     for number in numbers {
         write_number(&mut writer, *number)?;
         write_text(&mut writer, b" ")?;
@@ -173,6 +173,9 @@ fn reads_words_and_numbers(rt: HostRuntime) {
     for (word, number) in [
         ("0", Some(0)),
         ("1", Some(1)),
+        ("10", Some(10)),
+        ("9999999999999999999", Some(9_999_999_999_999_999_999)),
+        ("10000000000000000000", Some(10_000_000_000_000_000_000)),
         ("18446744073709551615", Some(18_446_744_073_709_551_615)),
         ("", None),
         ("00", None),
@@ -180,6 +183,8 @@ fn reads_words_and_numbers(rt: HostRuntime) {
         ("+1", None),
         ("-1", None),
         ("18446744073709551616", None),
+        ("99999999999999999999", None),
+        ("100000000000000000000", None),
         ("1 ", None),
         ("1a", None),
     ] {
@@ -199,6 +204,11 @@ fn reads_byte_strings(rt: HostRuntime) -> Result<(), Fail> {
         ("6A", None),
         ("61-", None),
         ("--", None),
+        ("6161616161616161616161616161616161616161616G", None),
+        ("G1616161616161616161616161616161616161616161", None),
+        ("616161616161616161616161616161616161616161616G", None),
+        ("G161616161616161616161616161616161616161616161", None),
+        ("6161616161616161616161616161616161616161616161616", None),
     ] {
         assert!(rt; spells_bytes(rt.alloc(), word, want)?, "at {word}");
     }
@@ -280,8 +290,19 @@ fn writes_a_beginning_before_an_error(rt: HostRuntime) {
 
 #[test]
 fn writes_numbers_and_byte_strings(rt: HostRuntime) -> Result<(), Fail> {
-    let text = "0 18446744073709551615 - 0061ff ";
-    assert!(rt; are_written(rt.alloc(), &[0, u64::MAX], &[b"", &[0, 0x61, 0xff]], text)?);
+    let numbers = [
+        0,
+        9,
+        10,
+        99,
+        1_000_000_000_000_000_000,
+        9_999_999_999_999_999_999,
+        10_000_000_000_000_000_000,
+        u64::MAX,
+    ];
+    let text =
+        "0 9 10 99 1000000000000000000 9999999999999999999 10000000000000000000 18446744073709551615 - 0061ff ";
+    assert!(rt; are_written(rt.alloc(), &numbers, &[b"", &[0, 0x61, 0xff]], text)?);
     Ok(())
 }
 

@@ -126,6 +126,35 @@ fn replies_to_long(alloc: Global, digits: usize, want: &str) -> Result<bool, All
     replies(alloc, &script, want)
 }
 
+// Puts the word of a byte string of so many bytes behind the text.
+fn put_word(text: &mut Vec<u8>, count: usize) -> Result<(), AllocError> {
+    let bytes: [&[u8]; 5] = [b"00", b"7f", b"a9", b"ff", b"3c"];
+    if count == 0 {
+        text.push(b'-')?;
+    }
+    for i in 0..count {
+        text.extend_from_slice(bytes[i % 5])?;
+    }
+    Ok(())
+}
+
+// Whether a pair whose key and value have so many bytes is replied as it was spelled.
+fn returns_pair(alloc: Global, key: usize, value: usize) -> Result<bool, AllocError> {
+    let mut pair = Vec::new(alloc);
+    put_word(&mut pair, key)?;
+    pair.push(b'=')?;
+    put_word(&mut pair, value)?;
+    let mut script = Vec::from_slice(alloc, b"alloc ")?;
+    script.extend_from_slice(&pair)?;
+    script.extend_from_slice(b"\nget 2\n")?;
+    let mut want = Vec::from_slice(alloc, b"page 2 1\nleaf 1 ")?;
+    want.extend_from_slice(&pair)?;
+    want.push(b'\n')?;
+    let mut output = Vec::new(alloc);
+    let is_done = ends_so(alloc, &mut script.as_slice(), &mut output, 0, "")?;
+    Ok(is_done && output.as_slice() == want.as_slice())
+}
+
 // Whether these words, or such as are no text, are reported as wrong, and no stream is touched.
 fn are_wrong(alloc: Global, words: Option<&[&str]>) -> Result<bool, AllocError> {
     let words = match words {
@@ -239,6 +268,40 @@ fn replies_to_lines(rt: HostRuntime) -> Result<(), Fail> {
         assert!(rt;
             replies(rt.alloc(), script.as_bytes(), want)?,
             "at {script}"
+        );
+    }
+    Ok(())
+}
+
+#[test]
+fn pairs_of_any_size_are_replied_as_they_were_spelled(rt: HostRuntime) -> Result<(), Fail> {
+    for count in [0, 1, 21, 22, 23, 24, 25, 30, 31, 79, 80, 81, 160, 161, 200] {
+        assert!(rt;
+            returns_pair(rt.alloc(), count, 1)?,
+            "with a key of {count} bytes"
+        );
+        assert!(rt;
+            returns_pair(rt.alloc(), 1, count)?,
+            "with a value of {count} bytes"
+        );
+    }
+    // Entries at the room of a piece.
+    for (key, value) in [
+        (0, 0),
+        (77, 1),
+        (78, 0),
+        (0, 78),
+        (39, 39),
+        (78, 1),
+        (79, 0),
+        (0, 79),
+        (40, 39),
+        (80, 80),
+        (200, 200),
+    ] {
+        assert!(rt;
+            returns_pair(rt.alloc(), key, value)?,
+            "with {key} and {value} bytes"
         );
     }
     Ok(())

@@ -1,14 +1,17 @@
 //! From an answer to the line that replies to it.
 
-ghost use Rattle.std.specs.Prelude.{◌≡◌, ◌<◌, ◌≤◌, [], ◌∷◌, ◌++◌, length, codes, flat_map, take, if◌then◌else◌};
+ghost use Rattle.std.specs.Prelude.{◌≡◌, ◌+◌, ◌<◌, ◌≤◌, [], ◌∷◌, ◌++◌, IsTrue, length, codes, flat_map, take, if◌then◌else◌};
 ghost use Rattle.std.specs.Fmt.{decimal};
+ghost use Rattle.sled_node.specs.Node.{Value};
 ghost use Rattle.sled_node.specs.Parts.{item_of};
 ghost use Rattle.sledpc.specs.Output.{Writes};
 ghost use Rattle.sledpc.specs.Replies.{entry_text, error_text, item_word, node_text, reply_of};
+ghost use Rattle.sledpc.specs.Settings.{piece_room};
 ghost use Rattle.sledpc.specs.Told.{answer_of};
 ghost use Rattle.sledpc.specs.Words.{bytes_word};
 
 use crate::output::{write_bytes_word, write_number, write_text};
+use crate::piece::Piece;
 use sled_pagecache::{Device, Error, Item, Link, Node, NodeView, PageId, PageView, Refusal};
 use std::io;
 use std::io::Write;
@@ -58,18 +61,26 @@ fn write_reply<W: Write>(writer: &mut W, told: Told<'_>) -> io::Result<()>
     }
 }
 
+// Writes a short label and a number.
 fn write_labelled<W: Write>(writer: &mut W, label: &[u8], number: u64) -> io::Result<()>
+    requires { length label.now ≤ 40 }
     ensures { Writes (W.contents writer.old) (W.contents writer.new) result (label.now ++ decimal number) }
 {
-    write_text(writer, label)?;
-    write_number(writer, number)
+    let mut piece = Piece::new();
+    piece.put_text(label);
+    piece.put_number(number);
+    write_text(writer, piece.as_slice())
 }
 
 fn write_page<W: Write>(writer: &mut W, pid: PageId, stamp: u64) -> io::Result<()>
     ensures { Writes (W.contents writer.old) (W.contents writer.new) result (codes "page " ++ decimal pid ++ codes " " ++ decimal stamp) }
 {
-    write_labelled(writer, b"page ", pid)?;
-    write_labelled(writer, b" ", stamp)
+    let mut piece = Piece::new();
+    piece.put_text(b"page ");
+    piece.put_number(pid);
+    piece.push(b' ');
+    piece.put_number(stamp);
+    write_text(writer, piece.as_slice())
 }
 
 fn write_error<W: Write>(writer: &mut W, error: &Error) -> io::Result<()>
@@ -122,8 +133,55 @@ fn front_of(node: &Node) -> &[u8]
     &node.lo().as_slice()[..node.prefix_len() as usize]
 }
 
+// The bytes of a key and its value of which the entry has room in a piece, with two digits a byte.
+const SHORT: usize = 78;
+
 // Writes a space, the whole key, of which the front and the rest are given, an equals sign, and the item.
 fn write_entry<W: Write>(
+    writer: &mut W,
+    front: &[u8],
+    rest: &[u8],
+    item: Item<'_>,
+) -> io::Result<()>
+    ensures { Writes (W.contents writer.old) (W.contents writer.new) result (entry_text (front.now ++ rest.now, item_of item.entry)) }
+{
+    match item {
+        Item::Value(value) if is_short(front, rest, value) => {
+            write_short_entry(writer, front, rest, value)
+        }
+        _ => write_entry_in_parts(writer, front, rest, item),
+    }
+}
+
+// Whether a piece has room for the entry.
+fn is_short(front: &[u8], rest: &[u8], value: &[u8]) -> bool
+    ensures { IsTrue result → length (entry_text (front.now ++ rest.now, Value value.now)) ≤ piece_room }
+{
+    front
+        .len()
+        .saturating_add(rest.len())
+        .saturating_add(value.len())
+        <= SHORT
+}
+
+fn write_short_entry<W: Write>(
+    writer: &mut W,
+    front: &[u8],
+    rest: &[u8],
+    value: &[u8],
+) -> io::Result<()>
+    requires { length (entry_text (front.now ++ rest.now, Value value.now)) ≤ piece_room }
+    ensures { Writes (W.contents writer.old) (W.contents writer.new) result (entry_text (front.now ++ rest.now, Value value.now)) }
+{
+    let mut piece = Piece::new();
+    piece.push(b' ');
+    piece.put_bytes_word(front, rest);
+    piece.push(b'=');
+    piece.put_bytes_word(value, &[]);
+    write_text(writer, piece.as_slice())
+}
+
+fn write_entry_in_parts<W: Write>(
     writer: &mut W,
     front: &[u8],
     rest: &[u8],

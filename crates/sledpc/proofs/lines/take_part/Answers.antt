@@ -1,6 +1,6 @@
 -- What is buffered up to a newline, or all of it, belongs to the line.
-use Rattle.std.proofs.Common.{◌≡◌, ◌≤◌, ◌+◌, ◌∷◌, ◌++◌, length, length-append, length-take-le, ap, subst, rules, arith}
-use Rattle.std.specs.Io.BufRead.{FillKeeps, DropsConsumable}
+use Rattle.std.proofs.Common.{◌≡◌, ◌≤◌, ◌+◌, ◌∷◌, ◌++◌, length, length-append, length-take-le, ap, subst, arith}
+use Rattle.std.specs.Io.BufRead.{FillKeeps}
 use Rattle.sledpc.proofs.Taken.{line_part}
 use Rattle.sledpc.proofs.lines.take_part.Goals as goal
 

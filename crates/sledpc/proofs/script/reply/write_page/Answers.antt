@@ -1,15 +1,18 @@
-use Rattle.std.proofs.Common.{◌++◌, append_assoc}
-use Rattle.std.specs.Prelude.{codes}
+-- The line is written in one piece.
+use Rattle.std.proofs.Common.{◌≤◌, ◌∷◌, [], length, length-append, ap, codes, arith}
 use Rattle.std.specs.Fmt.{decimal}
-use Rattle.sledpc.proofs.Written.{writes_more, stops_before}
+use Rattle.sledpc.proofs.Pieces.{length-number}
 use Rattle.sledpc.proofs.script.reply.write_page.Goals as goal
 
-pub returns-in_err-write_labelled : goal.returns-in_err-write_labelled
-returns-in_err-write_labelled g c =
-    let contents = g.W.Write.contents in
-    stops_before (contents c.args.writer.now) (contents c.write_labelled.new.writer) c.from_residual.result (codes "page " ++ decimal c.args.pid) (codes " " ++ decimal c.args.stamp) _ c.from_residual.ensures.0 c.in_err-write_labelled.ensures (append_assoc (codes "page " ++ decimal c.args.pid) (codes " ") (decimal c.args.stamp))
+pub put_number-requires : goal.put_number-requires
+put_number-requires g c =
+    omega (arith, ap length c.new-piece.ensures, ap length c.put_text.ensures, length-append c.new-piece.result (codes "page "), length-number c.args.pid c.ranges.pid.fits)
 
-pub returns : goal.returns
-returns g c =
-    let contents = g.W.Write.contents in
-    writes_more (contents c.args.writer.now) (contents c.write_labelled.new.writer) (contents c.write_labelled-2.new.writer) c.write_labelled-2.result (codes "page " ++ decimal c.args.pid) (codes " " ++ decimal c.args.stamp) _ c.in_ok-write_labelled.ensures c.write_labelled-2.ensures (append_assoc (codes "page " ++ decimal c.args.pid) (codes " ") (decimal c.args.stamp))
+pub push-requires : goal.push-requires
+push-requires g c =
+    omega (arith, ap length c.new-piece.ensures, ap length c.put_text.ensures, length-append c.new-piece.result (codes "page "), ap length c.put_number.ensures, length-append c.put_text.new.self (decimal c.args.pid), length-number c.args.pid c.ranges.pid.fits)
+
+pub put_number-requires-2 : goal.put_number-requires-2
+put_number-requires-2 g c =
+    let page : length c.put_number.new.self ≤ 25 = omega (arith, ap length c.new-piece.ensures, ap length c.put_text.ensures, length-append c.new-piece.result (codes "page "), ap length c.put_number.ensures, length-append c.put_text.new.self (decimal c.args.pid), length-number c.args.pid c.ranges.pid.fits) in
+    omega (arith, page, ap length c.push.ensures, length-append c.put_number.new.self (32 ∷ []), length-number c.args.stamp c.ranges.stamp.fits)

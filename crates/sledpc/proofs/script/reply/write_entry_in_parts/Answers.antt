@@ -3,7 +3,7 @@ use Rattle.sled_node.specs.Parts.{item_of}
 use Rattle.sledpc.specs.Replies.{item_word}
 use Rattle.sledpc.specs.Words.{bytes_word}
 use Rattle.sledpc.proofs.Entries.{stops_at_space, stops_at_key, stops_at_sign, ends_with_item}
-use Rattle.sledpc.proofs.script.reply.write_entry.Goals as goal
+use Rattle.sledpc.proofs.script.reply.write_entry_in_parts.Goals as goal
 
 pub returns-in_err-write_text : goal.returns-in_err-write_text
 returns-in_err-write_text g c =
