@@ -1,15 +1,18 @@
 //! The words of a line, and what they encode.
 
-ghost use Rattle.std.specs.Prelude.{◌≡◌, ◌≢◌, ◌↔◌, ℕ, ◌/◌, ◌%◌, ◌<◌, ◌^◌, List, IsTrue, IfOk, IfSome, IfNone};
+ghost use Rattle.std.specs.Prelude.{◌≡◌, ◌≢◌, ◌↔◌, ℕ, ◌*◌, ◌/◌, ◌%◌, ◌<◌, ◌^◌, List, false, length, IsTrue, IfOk, IfSome, IfNone};
 ghost use Rattle.std.specs.Option.{option_map};
 ghost use Rattle.std.specs.Fmt.{decimal};
 ghost use Rattle.sled_base.specs.Order.{Bytes};
 ghost use Rattle.sledpc.specs.Cut.{HasPlainFront};
-ghost use Rattle.sledpc.specs.Words.{AreBytes, ArePairs, IsPairOfBytes, hex_digit, bytes_word, pair_word, BeginsLine, SpellPairs};
+ghost use Rattle.sledpc.specs.Words.{AreBytes, ArePairs, IsPairOfBytes, hex_digit, hex, bytes_word, pair_word, BeginsLine, SpellPairs};
 
 use crate::cuts::cut_at;
 use sled_base::IVec;
 use std::alloc::{AllocError, Global};
+
+/// A byte string of at most so many bytes lies in place, and needs no allocation.
+const SHORT: usize = 22;
 
 /// The word at the front of a line, and what follows the space behind it, if a space is there.
 pub fn first_word(line: &[u8]) -> (&[u8], Option<&[u8]>)
@@ -62,6 +65,23 @@ fn hex_byte(high: u8, low: u8) -> Option<u8>
     Some(hex_value(high)? * 16 + hex_value(low)?)
 }
 
+/// Decodes the bytes of which a word has two hexadecimal digits each, and answers whether it has.
+fn decode(word: &[u8], bytes: &mut [u8]) -> bool
+    requires { length word.now ≡ 2 * length bytes.old }
+    ensures length { length bytes.new ≡ length bytes.old }
+    ensures some { IsTrue result → word.now ≡ hex bytes.new }
+    ensures bytes { IsTrue result → AreBytes bytes.new }
+    ensures none { result ≡ false → (spelled : Bytes) → AreBytes spelled → word.now ≢ hex spelled }
+{
+    for index in 0..bytes.len() {
+        match hex_byte(word[2 * index], word[2 * index + 1]) {
+            Some(byte) => bytes[index] = byte,
+            None => return false,
+        }
+    }
+    true
+}
+
 /// The bytes that the word encodes: lower-case hexadecimal, or `-` for none.
 pub fn bytes_of(alloc: Global, word: &[u8]) -> Result<Option<IVec>, AllocError>
     ensures some { IfOk result (λ found. IfSome found (λ bytes. word.now ≡ bytes_word bytes)) }
@@ -74,14 +94,20 @@ pub fn bytes_of(alloc: Global, word: &[u8]) -> Result<Option<IVec>, AllocError>
     if word.is_empty() || word.len() % 2 != 0 {
         return Ok(None);
     }
-    let mut bytes = Vec::with_capacity(alloc, word.len() / 2)?;
-    for index in 0..word.len() / 2 {
-        match hex_byte(word[2 * index], word[2 * index + 1]) {
-            Some(byte) => bytes.push(byte)?,
-            None => return Ok(None),
+    let count = word.len() / 2;
+    if count <= SHORT {
+        let mut room = [0; SHORT];
+        let bytes = &mut room[..count];
+        if !decode(word, bytes) {
+            return Ok(None);
         }
+        return Ok(Some(IVec::from_slice(alloc, bytes)?));
     }
-    Ok(Some(IVec::from_slice(alloc, &bytes)?))
+    let mut bytes = vec![in alloc; 0; count]?;
+    if !decode(word, &mut bytes) {
+        return Ok(None);
+    }
+    Ok(Some(IVec::from_vec(alloc, bytes)?))
 }
 
 /// The key and the value that the word encodes, with `=` between them.
