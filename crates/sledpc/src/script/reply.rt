@@ -31,25 +31,19 @@ pub enum Told<'a> {
 pub fn write_line<W: Write>(writer: &mut W, told: Told<'_>) -> io::Result<()>
     ensures { Writes (W.contents writer.old) (W.contents writer.new) result (reply_of (answer_of told.entry) ++ 10 ∷ []) }
 {
-    write_reply(writer, told)?;
-    write_text(writer, b"\n")
-}
-
-// Writes the reply to an answer, without a newline.
-fn write_reply<W: Write>(writer: &mut W, told: Told<'_>) -> io::Result<()>
-    ensures { Writes (W.contents writer.old) (W.contents writer.new) result (reply_of (answer_of told.entry)) }
-{
     match told {
         Told::Allocated(Ok((pid, token))) => write_page(writer, *pid, token.ts()),
         Told::Got(Ok(Some(view))) => write_node(writer, view.token().ts(), view.node()),
-        Told::Got(Ok(None)) => write_text(writer, b"none"),
+        Told::Got(Ok(None)) => write_text(writer, b"none\n"),
         Told::Linked(Ok(Ok(token))) | Told::Replaced(Ok(Ok(token))) => {
             write_labelled(writer, b"ok ", token.ts())
         }
         Told::Linked(Ok(Err(Some((token, _))))) | Told::Replaced(Ok(Err(Some((token, _))))) => {
             write_labelled(writer, b"stale ", token.ts())
         }
-        Told::Linked(Ok(Err(None))) | Told::Replaced(Ok(Err(None))) => write_text(writer, b"gone"),
+        Told::Linked(Ok(Err(None))) | Told::Replaced(Ok(Err(None))) => write_text(
+            writer, b"gone\n",
+        ),
         Told::Flushed(Ok(written)) => write_labelled(writer, b"flushed ", *written as u64),
         Told::Sized(Ok(bytes)) => write_labelled(writer, b"size ", *bytes),
         Told::Allocated(Err(error))
@@ -61,51 +55,62 @@ fn write_reply<W: Write>(writer: &mut W, told: Told<'_>) -> io::Result<()>
     }
 }
 
-// Writes a short label and a number.
-fn write_labelled<W: Write>(writer: &mut W, label: &[u8], number: u64) -> io::Result<()>
+// A short label and a number.
+fn labelled(label: &[u8], number: u64) -> Piece
     requires { length label.now ≤ 40 }
-    ensures { Writes (W.contents writer.old) (W.contents writer.new) result (label.now ++ decimal number) }
+    ensures { result ≡ label.now ++ decimal number }
 {
     let mut piece = Piece::new();
     piece.put_text(label);
     piece.put_number(number);
+    piece
+}
+
+// Writes a short label and a number as a line.
+fn write_labelled<W: Write>(writer: &mut W, label: &[u8], number: u64) -> io::Result<()>
+    requires { length label.now ≤ 40 }
+    ensures { Writes (W.contents writer.old) (W.contents writer.new) result (label.now ++ decimal number ++ 10 ∷ []) }
+{
+    let mut piece = labelled(label, number);
+    piece.push(b'\n');
     write_text(writer, piece.as_slice())
 }
 
 fn write_page<W: Write>(writer: &mut W, pid: PageId, stamp: u64) -> io::Result<()>
-    ensures { Writes (W.contents writer.old) (W.contents writer.new) result (codes "page " ++ decimal pid ++ codes " " ++ decimal stamp) }
+    ensures { Writes (W.contents writer.old) (W.contents writer.new) result (codes "page " ++ decimal pid ++ codes " " ++ decimal stamp ++ 10 ∷ []) }
 {
-    let mut piece = Piece::new();
-    piece.put_text(b"page ");
-    piece.put_number(pid);
+    let mut piece = labelled(b"page ", pid);
     piece.push(b' ');
     piece.put_number(stamp);
+    piece.push(b'\n');
     write_text(writer, piece.as_slice())
 }
 
 fn write_error<W: Write>(writer: &mut W, error: &Error) -> io::Result<()>
-    ensures { Writes (W.contents writer.old) (W.contents writer.new) result (error_text error.now) }
+    ensures { Writes (W.contents writer.old) (W.contents writer.new) result (error_text error.now ++ 10 ∷ []) }
 {
     match error {
-        Error::CollectionNotFound(_) => write_text(writer, b"error collection"),
+        Error::CollectionNotFound(_) => write_text(writer, b"error collection\n"),
         Error::Unsupported(why) => {
             write_labelled(writer, b"error unsupported ", u64::from(why.number()))
         }
         Error::ReportableBug(bug) => {
             write_labelled(writer, b"error bug ", u64::from(bug.number()))
         }
-        Error::Io(Device::Read) => write_text(writer, b"error read"),
-        Error::Io(Device::Write) => write_text(writer, b"error write"),
-        Error::Corruption(_) => write_text(writer, b"error corruption"),
-        Error::OutOfMemory => write_text(writer, b"error memory"),
+        Error::Io(Device::Read) => write_text(writer, b"error read\n"),
+        Error::Io(Device::Write) => write_text(writer, b"error write\n"),
+        Error::Corruption(_) => write_text(writer, b"error corruption\n"),
+        Error::OutOfMemory => write_text(writer, b"error memory\n"),
     }
 }
 
 fn write_node<W: Write>(writer: &mut W, stamp: u64, node: &Node) -> io::Result<()>
-    ensures { Writes (W.contents writer.old) (W.contents writer.new) result (node_text stamp node.now) }
+    ensures { Writes (W.contents writer.old) (W.contents writer.new) result (node_text stamp node.now ++ 10 ∷ []) }
 {
-    write_labelled(writer, label_of(node), stamp)?;
-    write_entries(writer, node)
+    let head = labelled(label_of(node), stamp);
+    write_text(writer, head.as_slice())?;
+    write_entries(writer, node)?;
+    write_text(writer, b"\n")
 }
 
 // What a reply calls the node.

@@ -1,8 +1,6 @@
--- The label and the number are written in one piece.
-use Rattle.std.proofs.Common.{length, length-append, ap, arith}
-use Rattle.sledpc.proofs.Pieces.{length-number}
+use Rattle.std.proofs.Common.{arith}
+use Rattle.sledpc.proofs.Pieces.{length-labelled}
 use Rattle.sledpc.proofs.script.reply.write_labelled.Goals as goal
 
-pub put_number-requires : goal.put_number-requires
-put_number-requires g c =
-    omega (arith, ap length c.new-piece.ensures, ap length c.put_text.ensures, length-append c.new-piece.result c.args.label.now, length-number c.args.number c.ranges.number.fits)
+pub push-requires : goal.push-requires
+push-requires g c = omega (arith, length-labelled c.labelled-piece.result c.args.label.now c.args.number c.labelled-piece.ensures c.ranges.number.fits)
