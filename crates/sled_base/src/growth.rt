@@ -11,6 +11,7 @@ use std::alloc::AllocError;
 pub fn reserve<T>(items: &mut Vec<T>, additional: usize) -> Result<(), AllocError>
     ensures items { items.new.items ≡ items.old.items }
     ensures len { vec_len items.new ≡ vec_len items.old }
+    ensures capacity { vec_capacity items.old ≤ vec_capacity items.new }
     ensures ok { OnOk result (vec_len items.new + additional ≤ vec_capacity items.new) }
     ensures always { vec_len items.old + additional ≤ vec_capacity items.old → IsOk result }
 {

@@ -14,7 +14,7 @@
 #![tactic(auto)]
 
 pub mod dll;
-mod growth;
+pub mod growth;
 pub mod ivec;
 mod kept;
 pub mod kinds;

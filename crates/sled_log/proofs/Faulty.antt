@@ -8,7 +8,7 @@ use Rattle.sled_log.specs.Calls.{Counts, Called, HasGrown, begun_by, one_more}
 use Rattle.sled_log.specs.Events.{Event}
 use Rattle.sled_log.specs.Items.{left_now}
 use Rattle.sled_log.specs.Laws.{Adds-none, IsLeft-more, StopsLeave-none}
-use Rattle.sled_log.specs.Memory.{state_of, clock_of, might_have_left, counts_of}
+use Rattle.sled_log.specs.Memory.{kept_in, state_of, clock_of, might_have_left, counts_of}
 use Rattle.sled_log.specs.Messages.{Entry, Message, Told, effect_of, effect_of_entry}
 use Rattle.sled_log.specs.Limits.{most_count}
 use Rattle.sled_log.specs.RunLaws.{StopsLeave-weaker, Called-stop}
@@ -77,7 +77,7 @@ stop-same log_of usable old new events same =
     let before = log_of old in
     let P = IsLeft effect_of (told_state (state_over before (usable old))) events in
     let left : (pages : List Told) → might_have_left before (clock_of before) pages → P pages =
-    λ pages now. IsLeft-more effect_of (told_state (state_over before (usable old))) [] events pages (left-over before (usable old) [] pages (left_now before.clock before.items.items pages now)) in
+    λ pages now. IsLeft-more effect_of (told_state (state_over before (usable old))) [] events pages (left-over before (usable old) [] pages (left_now before.clock (kept_in before) pages now)) in
     let stop : StopsLeave clock_of might_have_left before (log_of new) P =
     subst (λ l. StopsLeave clock_of might_have_left before l P) (sym same) (StopsLeave-none clock_of might_have_left before P left) in
     record { later = stop.later; each = stop.each; before = stop.before; kept = stop.kept }

@@ -1,20 +1,21 @@
 -- Each entry of a chain is kept by an item.
-use Rattle.std.proofs.Common.{◌≡◌, ◌<◌, ℕ, ℤ, zero, suc, Option, Some, None, IsSomeAnd, List, [], ◌∷◌, length, map, refl, sym, ◌∙◌, ap, subst, slice_index_or, Bor}
+use Rattle.std.proofs.Common.{◌≡◌, ◌<◌, ℕ, ℤ, zero, suc, Option, Some, IsSomeAnd, List, [], ◌∷◌, length, map, refl, sym, ◌∙◌, ap, subst, slice_index_or}
 use Rattle.std.proofs.lemmas.List.Elements.{All-from_recursion}
+use Rattle.std.specs.Global.{Vec}
 use Rattle.std.specs.List.{slice_get, AllByRecursion}
-use Rattle.sled_base.specs.Pointers.{place_of}
+use Rattle.sled_base.specs.declared.kinds.MessageKind.{MessageKind}
 use Rattle.sled_base.specs.declared.types.DiskPtr.{DiskPtr}
 use Rattle.sled_log.proofs.ChainLaws.{Says, AllIn, chains-all, all-get}
 use Rattle.sled_log.specs.Chains.{chains_after}
 use Rattle.sled_log.specs.Events.{Event}
 use Rattle.sled_log.specs.Items.{entry_of, event_of_mark, event_of, state_at, IsInOrder}
 use Rattle.sled_log.specs.Messages.{Entry, Chain, effect_of_entry}
-use Rattle.sled_log.specs.Pages.{IsAt}
+use Rattle.sled_log.specs.Pages.{IsAt, IsRead}
 use Rattle.sled_log.specs.State.{now}
-use Rattle.sled_log.specs.declared.memory.item.Change.{Change as KeptChange}
-use Rattle.sled_log.specs.declared.memory.item.Item.{Item}
-use Rattle.sled_log.specs.declared.memory.item.Mark.{Mark}
-use Rattle.sled_log.specs.declared.memory.item.Mark.TheVariants as kept
+use Rattle.sled_log.specs.Kept.{KeptChange}
+use Rattle.sled_log.specs.Kept.{Item}
+use Rattle.sled_log.specs.Kept.{Mark}
+use Rattle.sled_log.specs.Kept as kept
 use Rattle.sled_log.proofs.Moments.{now_is}
 
 -- an item keeps the entry
@@ -42,16 +43,11 @@ now-kept clock stable items order pid k d =
     let all : AllIn effect_of_entry (IsKept items) (now effect_of_entry (state_at clock items)) = subst (AllIn effect_of_entry (IsKept items)) (sym (now_is clock stable items order)) (all-kept items) in
     All-from_recursion (IsKept items) (slice_index_or (now effect_of_entry (state_at clock items)) pid []) (all-get (AllByRecursion (IsKept items)) pid (now effect_of_entry (state_at clock items)) [] all tt) k d
 
--- a search finds each change by its place
-abbrev pub Finds : List Item → ℕ → Option (Bor KeptChange) → Type 0
-Finds items place found = (i : ℕ) (item : Item) (change : KeptChange) → slice_get items i ≡ Some item → item.mark ≡ kept.Change change → place_of change.pointer ≡ place → IsSomeAnd found (λ found. found.now ≡ change)
+-- a search finds the message that a pointer leads to
+abbrev pub Finds : List Item → DiskPtr → Option (MessageKind × Vec ℕ) → Type 0
+Finds items pointer found = (i : ℕ) (item : Item) (change : KeptChange) → slice_get items i ≡ Some item → item.mark ≡ kept.Change change → change.pointer ≡ pointer → IsSomeAnd found (IsRead (entry_of change))
 
 -- so it finds each entry that is kept
-pub finds-entry : (items searched : List Item) (place : ℕ) (found : Option (Bor KeptChange)) (lsn : ℤ) (pointer : DiskPtr) (entry : Entry) → searched ≡ items → place ≡ place_of pointer → Finds searched place found
-    → IsKept items entry → IsAt lsn pointer entry → IsSomeAnd found (λ found. entry_of found.now ≡ entry)
-finds-entry items searched place found lsn pointer entry same there finds (i, item, change, is, mark, kept) at =
-    by found (finds i item change (subst (λ (l : List Item). slice_get l i ≡ Some item) (sym same) is) mark (ap (λ (e : Entry). place_of e.place.pointer) kept ∙ ap place_of at.1 ∙ sym there))
-  where
-    by : (found : Option (Bor KeptChange)) → IsSomeAnd found (λ found. found.now ≡ change) → IsSomeAnd found (λ found. entry_of found.now ≡ entry)
-    by None h = h
-    by (Some x) h = ap entry_of h ∙ kept
+pub finds-entry : (items : List Item) (found : Option (MessageKind × Vec ℕ)) (lsn : ℤ) (pointer : DiskPtr) (entry : Entry) → Finds items pointer found → IsKept items entry → IsAt lsn pointer entry → IsSomeAnd found (IsRead entry)
+finds-entry items found lsn pointer entry finds (i, item, change, is, mark, kept) at =
+    subst (λ (e : Entry). IsSomeAnd found (IsRead e)) kept (finds i item change is mark (ap (λ (e : Entry). e.place.pointer) kept ∙ at.1))

@@ -3,8 +3,10 @@ pub mod SizeLaws
 pub mod Filters
 pub mod Moments
 pub mod Places
+pub mod Stored
 pub mod MemCalls
 pub mod PageStates
+pub mod Recovering
 pub mod KeptEntries
 pub mod Batches
 pub mod CallLists

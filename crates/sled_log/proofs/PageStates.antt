@@ -11,7 +11,7 @@ use Rattle.sled_log.specs.Laws.{chains_after-append}
 use Rattle.sled_log.specs.Messages.{Entry, Chain, effect_of_entry}
 use Rattle.sled_log.specs.Pages.{IsPageState}
 use Rattle.sled_log.specs.ZipLaws.{zip-append, zip-set}
-use Rattle.sled_log.specs.declared.memory.item.Item.{Item}
+use Rattle.sled_log.specs.Kept.{Item}
 use Rattle.sled_base.specs.declared.types.page_state.PageState.{PageState}
 
 abbrev pub Shows : List Chain → List PageState → Type 0

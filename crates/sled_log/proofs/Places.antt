@@ -5,9 +5,9 @@ use Rattle.std.specs.List.Sorted.{IsNonDecreasingBy}
 use Rattle.std.proofs.lemmas.Bool.{and_parts, and_from, eqb-true}
 use Rattle.std.proofs.lemmas.List.Sums.{sum_by-cons}
 use Rattle.sled_base.specs.Pointers.{place_of}
-use Rattle.sled_log.specs.declared.memory.item.Change.{Change}
-use Rattle.sled_log.specs.declared.memory.item.Item.{Item}
-use Rattle.sled_log.specs.declared.memory.item.Mark.TheVariants as kept
+use Rattle.sled_log.specs.Kept.{KeptChange as Change}
+use Rattle.sled_log.specs.Kept.{Item}
+use Rattle.sled_log.specs.Kept as kept
 use Rattle.sled_log.specs.Limits.{head_size}
 use Rattle.sled_log.specs.Items.{size_of_mark, log_size, stands_at, is_placed, are_placed, settled_at, all_settled, restarted}
 
@@ -84,7 +84,7 @@ change-ends from (x ∷ items) all zero item change is mark =
     let same : x ≡ item = cc in
     let marked : x.mark ≡ kept.Change change = ap (λ (y : Item). y.mark) same ∙ mark in
     let end = eqb-true x.end (from + size_of_mark x.mark) b.1 in
-    let size : size_of_mark x.mark ≡ head_size + length change.payload.items = ap size_of_mark marked in
+    let size : size_of_mark x.mark ≡ head_size + length change.payload = ap size_of_mark marked in
     let stands : place_of change.pointer ≡ from = eqb-true (place_of change.pointer) from (sym (ap (stands_at from) marked) ∙ b.0) in
     let ends : item.end ≡ x.end = ap (λ (y : Item). y.end) (sym same) in
     (omega (arith, stands), omega (arith, stands, size, end, ends), λ j d lt. absurd (omega (arith, lt)))

@@ -6,15 +6,16 @@ use Rattle.sled_log.proofs.ChainLaws.{Says, chains-all}
 use Rattle.sled_log.specs.Chains.{chains_after}
 use Rattle.sled_log.specs.Items.{event_of_mark, event_of, size_of_mark, log_size, state_at}
 use Rattle.sled_log.specs.Limits.{size_limit}
+use Rattle.sled_log.specs.Memory.{kept_in}
 use Rattle.sled_log.specs.Messages.{Entry, Chain, effect_of_entry}
 use Rattle.sled_log.specs.Messages as messages
 use Rattle.sled_log.specs.Pages.{IsSized}
 use Rattle.sled_log.proofs.SizeLaws.{chain_size, chains_size, event_size, events_size, chains_after-size, each-below}
 use Rattle.sled_log.specs.State.{now}
 use Rattle.sled_log.specs.declared.memory.MemLog.{MemLog}
-use Rattle.sled_log.specs.declared.memory.item.Item.{Item}
-use Rattle.sled_log.specs.declared.memory.item.Mark.{Mark}
-use Rattle.sled_log.specs.declared.memory.item.Mark.TheVariants as kept
+use Rattle.sled_log.specs.Kept.{Item}
+use Rattle.sled_log.specs.Kept.{Mark}
+use Rattle.sled_log.specs.Kept as kept
 use Rattle.sled_log.proofs.Moments.{now_is}
 
 abbrev place_size : Entry → ℕ
@@ -50,9 +51,9 @@ both [] each total = tt
 both (chain ∷ chains) each total = (record { each = each.0; total = total.0 }, both chains each.1 total.1)
 
 -- its messages together are smaller than the limit, so each chain is
-pub chains-sized : (log : MemLog) → AllByRecursion IsSized (now effect_of_entry (state_at log.clock log.items.items))
+pub chains-sized : (log : MemLog) → AllByRecursion IsSized (now effect_of_entry (state_at log.clock (kept_in log)))
 chains-sized log =
-    let items = log.items.items in
+    let items = kept_in log in
     let chains : List Chain = chains_after effect_of_entry [] (map event_of items) in
     let small : chains_size effect_of_entry place_size chains < size_limit =
     (let most = chains_after-size effect_of_entry place_size [] (map event_of items) in let all = items-size items in let sized = log.sized in let fits = log.fits in omega (arith, most, all, sized, fits)) in

@@ -5,12 +5,10 @@ use Rattle.std.specs.List.{list_all}
 use Rattle.sled_base.specs.Pointers.{place_of}
 use Rattle.sled_base.specs.declared.types.DiskPtr.{DiskPtr}
 use Rattle.sled_base.specs.declared.types.DiskPtr.TheVariants.{Inline, Blob}
-use Rattle.sled_log.specs.declared.memory.item.Change.{Change as KeptChange}
-use Rattle.sled_log.specs.declared.memory.item.Item.{Item}
-use Rattle.sled_log.specs.declared.memory.item.Mark.{Mark}
-use Rattle.sled_log.specs.declared.memory.item.Mark.TheVariants as kept
 use Rattle.sled_log.specs.Chains.{chains_after}
 use Rattle.sled_log.specs.Events.{Event, Change, Pin, Seal, Cancel}
+use Rattle.sled_log.specs.Kept.{KeptChange, Mark, Item}
+use Rattle.sled_log.specs.Kept as kept
 use Rattle.sled_log.specs.Laws.{IsFair-none}
 use Rattle.sled_log.specs.Limits.{head_size}
 use Rattle.sled_log.specs.Messages.{Entry, Told, effect_of, effect_of_entry}
@@ -19,8 +17,8 @@ use Rattle.sled_log.specs.State.{State, IsLeft, told_state}
 -- the entry of a change, and the event that an item keeps
 abbrev pub entry_of : KeptChange → Entry
 entry_of change = record {
-  message = record { kind = change.kind; payload = change.payload.items };
-  place = record { lsn = change.lsn; pointer = change.pointer; log_size = head_size + length change.payload.items };
+  message = record { kind = change.kind; payload = change.payload };
+  place = record { lsn = change.lsn; pointer = change.pointer; log_size = head_size + length change.payload };
 }
 
 abbrev pub event_of_mark : Mark → Event Entry
@@ -34,7 +32,7 @@ event_of item = event_of_mark item.mark
 
 -- the log size of what is kept: a head and the payload for a change, none for a mark
 abbrev pub size_of_mark : Mark → ℕ
-size_of_mark (kept.Change change) = head_size + length change.payload.items
+size_of_mark (kept.Change change) = head_size + length change.payload
 size_of_mark kept.Pin = 0
 size_of_mark kept.Seal = 0
 size_of_mark kept.Cancel = 0

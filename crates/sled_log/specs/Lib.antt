@@ -18,7 +18,9 @@ pub mod ReadingLaws
 pub mod Writing
 pub mod HoldingLaws
 pub mod WritingLaws
+pub mod Kept
 pub mod Items
+pub mod Stored
 pub mod Memory
 pub mod Runs
 pub mod RunLaws

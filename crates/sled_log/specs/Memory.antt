@@ -3,20 +3,26 @@ use Rattle.std.specs.Prelude.{◌≡◌, ℕ, ◌+◌, ◌≤◌, List, ◌++◌
 use Rattle.sled_log.specs.Calls.{Counts}
 use Rattle.sled_log.specs.Events.{Event}
 use Rattle.sled_log.specs.Items.{state_at, WasLeft, log_size}
+use Rattle.sled_log.specs.Kept.{Item}
 use Rattle.sled_log.specs.Messages.{Entry, Told}
 use Rattle.sled_log.specs.State.{State}
+use Rattle.sled_log.specs.Stored.{kept_items}
 use Rattle.sled_log.specs.declared.log.LogError.{LogError}
 use Rattle.sled_log.specs.declared.memory.MemLog.{MemLog}
 
+-- what it keeps
+abbrev pub kept_in : MemLog → List Item
+kept_in log = kept_items log.blob_limit log.bytes.items log.items.items
+
 abbrev pub state_of : MemLog → State Entry
-state_of log = state_at log.clock log.items.items
+state_of log = state_at log.clock (kept_in log)
 
 abbrev pub clock_of : MemLog → ℕ
 clock_of log = log.clock
 
 -- what the log was at a moment
 abbrev pub was_at : ℕ → MemLog → State Entry
-was_at moment log = state_at moment log.items.items
+was_at moment log = state_at moment (kept_in log)
 
 -- A call takes one moment at most, and what the log was at earlier ones stays.
 pub record Remembers (old new : MemLog) : Type 0 where
@@ -26,21 +32,21 @@ pub record Remembers (old new : MemLog) : Type 0 where
 
 -- the crash states from that moment on
 abbrev pub might_have_left : MemLog → ℕ → List Told → Type 0
-might_have_left log since pages = WasLeft log.clock log.items.items since pages
+might_have_left log since pages = WasLeft log.clock (kept_in log) since pages
 
 -- the log sizes of all messages, of the durable ones, and of the pending ones
 abbrev pub size_of : MemLog → ℕ
-size_of log = log_size log.items.items
+size_of log = log_size (kept_in log)
 
 abbrev pub stable_size_of : MemLog → ℕ
-stable_size_of log = log_size (take log.stable log.items.items)
+stable_size_of log = log_size (take log.stable (kept_in log))
 
 abbrev pub pending_size_of : MemLog → ℕ
-pending_size_of log = log_size (drop log.stable log.items.items)
+pending_size_of log = log_size (drop log.stable (kept_in log))
 
 -- the log sizes of what a crash keeps: all that is durable, and so many of the pending events
 abbrev pub kept_size_of : MemLog → ℕ → ℕ
-kept_size_of log n = log_size (take (log.stable + n) log.items.items)
+kept_size_of log n = log_size (take (log.stable + n) (kept_in log))
 
 -- no device fails
 abbrev pub counts_of : MemLog → Counts

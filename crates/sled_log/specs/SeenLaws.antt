@@ -42,6 +42,15 @@ module _ {E F : Type 0} (see : E → F) where
         ∙ fair.no_part (sym (ap is_open (take-map (seen see) cut events) ∙ open_after-seen false (take cut events)) ∙ o);
   }
 
+  -- and the other way round
+  pub IsFair-unseen : (events : List (Event E)) (cut : ℕ) → IsFair (seen_events events) cut → IsFair events cut
+  IsFair-unseen events cut fair = record {
+    within = let w = fair.within in omega (arith, length-map events (seen see));
+    no_part = λ o.
+        sym (ap is_cancelled (drop-map (seen see) cut events) ∙ is_cancelled-seen (drop cut events))
+        ∙ fair.no_part (ap is_open (take-map (seen see) cut events) ∙ open_after-seen false (take cut events) ∙ o);
+  }
+
   pub IsBeginning-seen : (part events : List (Event E)) → IsBeginning part events → IsBeginning (seen_events part) (seen_events events)
   IsBeginning-seen part events b = (seen_events b.0, sym (map-append (seen see) part b.0) ∙ ap seen_events b.1)
 

@@ -4,10 +4,11 @@ ghost use Rattle.std.specs.Prelude.{◌≡◌, ◌+◌, ◌≤◌, ◌<◌, ◌�
 ghost use Rattle.sled_log.specs.Batches.{is_open, open_after, IsFair};
 ghost use Rattle.sled_log.specs.Calls.{one_more};
 ghost use Rattle.sled_log.specs.Chains.{chains_after};
-ghost use Rattle.sled_log.specs.Items.{event_of, event_of_mark, size_of_mark, log_size, IsInOrder, are_placed, stands_at};
+ghost use Rattle.sled_log.specs.Items.{event_of, event_of_mark, size_of_mark, log_size, IsInOrder, are_placed};
 ghost use Rattle.sled_log.specs.Limits.{size_limit};
 ghost use Rattle.sled_log.specs.Messages.{effect_of, effect_of_entry};
 ghost use Rattle.sled_log.specs.State.{State, Adds, IsLeft, StopsLeave, told_state};
+ghost use Rattle.sled_log.specs.Stored.{are_within, kept_items, kept_mark};
 ghost use Rattle.sled_log.specs.TellingLaws.{told_events};
 
 mod calls;
@@ -18,8 +19,9 @@ mod keeping;
 mod pages;
 
 use cuts::is_fair_cut;
-use item::{Item, Mark};
-use keeping::{keep_first, total_size};
+use finding::behind;
+use item::{Item, Mark, NEVER};
+use keeping::{keep_first, push};
 use std::alloc::Global;
 
 /// A log in memory. Each item keeps when it came and when it became durable, so the crash states of each moment are known
@@ -31,28 +33,32 @@ pub struct MemLog {
     blob_limit: usize,
     clean_every: u64,
     items: Vec<Item>,
+    // their payloads, one behind the other
+    bytes: Vec<u8>,
     // how many of them are stable
     stable: usize,
     // the log sizes of the stable messages, and of all
     stable_size: u64,
     size: u64,
-    clock: u128,
+    clock: u64,
     // whether a batch is open
     batch: bool,
     reads: u64,
-    ghost in_order: { IsInOrder clock stable items.items },
+    ghost within: { IsTrue (are_within 0 (length bytes.items) items.items) },
+    ghost fewer: { stable ≤ length items.items },
+    ghost in_order: { IsInOrder clock stable (kept_items blob_limit bytes.items items.items) },
     ghost counted: { clock ≤ length items.items + stable },
-    ghost sized: { size ≡ log_size items.items },
-    ghost stable_sized: { stable_size ≡ log_size (take stable items.items) },
+    ghost sized: { size ≡ log_size (kept_items blob_limit bytes.items items.items) },
+    ghost stable_sized: { stable_size ≡ log_size (take stable (kept_items blob_limit bytes.items items.items)) },
     ghost fits: { size < size_limit },
-    ghost placed: { IsTrue (are_placed 0 items.items) },
-    ghost batch_is: { batch ≡ is_open (map event_of (drop stable items.items)) },
+    ghost placed: { IsTrue (are_placed 0 (kept_items blob_limit bytes.items items.items)) },
+    ghost batch_is: { batch ≡ is_open (map event_of (drop stable (kept_items blob_limit bytes.items items.items))) },
     // a batch that is open has room for its closing mark
     ghost room: { batch ≡ true → vec_len items < vec_capacity items },
 }
 
 impl MemLog {
-    ghost use Rattle.sled_log.specs.Memory.{state_of, clock_of, might_have_left, counts_of, settings_of, size_of, stable_size_of, kept_size_of, Remembers};
+    ghost use Rattle.sled_log.specs.Memory.{kept_in, state_of, clock_of, might_have_left, counts_of, settings_of, size_of, stable_size_of, kept_size_of, Remembers};
 
     /// An empty log. It allocates nothing.
     ///
@@ -69,6 +75,7 @@ impl MemLog {
             blob_limit,
             clean_every,
             items: Vec::new(alloc),
+            bytes: Vec::new(alloc),
             stable: 0,
             stable_size: 0,
             size: 0,
@@ -102,6 +109,7 @@ impl MemLog {
             blob_limit,
             clean_every,
             mut items,
+            mut bytes,
             stable,
             stable_size: _,
             size: _,
@@ -109,15 +117,16 @@ impl MemLog {
             batch: _,
             reads: _,
         } = self;
-        let kept = stable + n;
-        keep_first(&mut items, kept);
-        let size = total_size(&items);
+        keep_first(&mut items, stable + n);
+        let (size, end) = behind(&items);
+        bytes.truncate(end);
         let stable = items.len();
         MemLog {
             alloc,
             blob_limit,
             clean_every,
             items,
+            bytes,
             stable,
             stable_size: size,
             size,
@@ -127,38 +136,39 @@ impl MemLog {
         }
     }
 
-    // Adds an item for which there is room. `batch` says whether a batch is open then.
-    fn add(&mut self, mark: Mark, batch: bool)
+    // Adds an item with its payload, for which there is room. `batch` says whether a batch is open then.
+    fn add(&mut self, mark: Mark, payload: &[u8], batch: bool)
         requires room { vec_len self.old.items < vec_capacity self.old.items }
         requires more_room { batch ≡ true → vec_len self.old.items + 1 < vec_capacity self.old.items }
-        requires fits { self.old.size + size_of_mark mark < size_limit }
-        requires stands { IsTrue (stands_at self.old.size mark) }
-        requires batch { batch ≡ open_after self.old.batch (event_of_mark mark ∷ []) }
-        ensures adds { Adds effect_of_entry (state_of self.old) (event_of_mark mark ∷ []) (state_of self.new) }
-        ensures stop { StopsLeave clock_of might_have_left self.old self.new (IsLeft effect_of (told_state (state_of self.old)) (told_events (event_of_mark mark ∷ []))) }
+        requires payload_room { vec_len self.old.bytes + length payload.now ≤ vec_capacity self.old.bytes }
+        requires fits { self.old.size + size_of_mark (kept_mark self.old.blob_limit self.old.size payload.now mark) < size_limit }
+        requires batch { batch ≡ open_after self.old.batch (event_of_mark (kept_mark self.old.blob_limit self.old.size payload.now mark) ∷ []) }
+        ensures adds { Adds effect_of_entry (state_of self.old) (event_of_mark (kept_mark self.old.blob_limit self.old.size payload.now mark) ∷ []) (state_of self.new) }
+        ensures stop { StopsLeave clock_of might_have_left self.old self.new (IsLeft effect_of (told_state (state_of self.old)) (told_events (event_of_mark (kept_mark self.old.blob_limit self.old.size payload.now mark) ∷ []))) }
         ensures reads { self.new.reads ≡ self.old.reads }
         ensures settings { settings_of self.new ≡ settings_of self.old }
         ensures stable { (state_of self.new).stable ≡ (state_of self.old).stable }
-        ensures pending { (state_of self.new).pending ≡ (state_of self.old).pending ++ event_of_mark mark ∷ [] }
+        ensures pending { (state_of self.new).pending ≡ (state_of self.old).pending ++ event_of_mark (kept_mark self.old.blob_limit self.old.size payload.now mark) ∷ [] }
         ensures past { Remembers self.old self.new }
     {
         self.clock += 1;
-        self.size += mark.size();
+        self.size += mark.size(payload);
         self.batch = batch;
         let item = Item {
             mark,
             end: self.size,
+            payload_end: self.bytes.len() + payload.len(),
             came: self.clock,
-            settled: None,
+            settled: NEVER,
         };
-        self.items.push_reserved(item);
+        push(&mut self.items, &mut self.bytes, item, payload);
     }
 
     // Counts a read.
     fn count_read(&mut self)
         ensures reads { self.new.reads ≡ one_more self.old.reads }
         ensures clock { self.new.clock ≡ self.old.clock }
-        ensures items { self.new.items.items ≡ self.old.items.items }
+        ensures kept { kept_in self.new ≡ kept_in self.old }
         ensures settings { settings_of self.new ≡ settings_of self.old }
     {
         if self.reads < u64::MAX {

@@ -14,37 +14,25 @@ ghost use Rattle.sled_log.specs.State.{now};
 ghost use Rattle.sled_log.specs.declared.log.LogError.TheVariants.{Memory, Full};
 
 use super::MemLog;
-use super::finding::{change_at, told};
-use super::item::{self, HEAD, Mark};
+use super::item::{HEAD, Mark};
 use super::keeping::settle_from;
-use super::pages::apply;
+use super::pages::{apply, said_at};
 use crate::{Log, LogError, PageState};
-use sled_base::{DiskPtr, LogOffset, Lsn, MessageKind, PageId};
+use sled_base::growth::reserve;
+use sled_base::{DiskPtr, Lsn, MessageKind, PageId};
 
 const MAX_SIZE: u64 = i64::MAX as u64;
 
-// The pointer to a message at that place: above the limit its payload is a blob.
-fn pointer_for(limit: usize, place: LogOffset, payload: &[u8]) -> DiskPtr
-    requires { place < size_limit }
-    ensures { result ≡ pointer_at limit place payload.now }
-{
-    if payload.len() <= limit {
-        DiskPtr::Inline(place)
-    } else {
-        DiskPtr::Blob(place, place as Lsn)
-    }
-}
-
 impl Log for MemLog {
-    ghost use Rattle.sled_log.specs.Memory.{state_of, clock_of, might_have_left, counts_of, size_of, stable_size_of, pending_size_of, settings_of, MovesNothing, Remembers};
+    ghost use Rattle.sled_log.specs.Memory.{kept_in, state_of, clock_of, might_have_left, counts_of, size_of, stable_size_of, pending_size_of, settings_of, MovesNothing, Remembers};
 
     ghost tells = { ⊤ };
 
-    ghost state = { λ log. state_at log.clock log.items.items };
+    ghost state = { λ log. state_at log.clock (kept_in log) };
 
     ghost moment = { λ log. log.clock };
 
-    ghost left_since = { λ log t pages. WasLeft log.clock log.items.items t pages };
+    ghost left_since = { λ log t pages. WasLeft log.clock (kept_in log) t pages };
 
     ghost counts = { λ log. record { reads = log.reads; failed_reads = 0; write_faults = 0 } };
 
@@ -58,11 +46,11 @@ impl Log for MemLog {
 
     ghost is_full_for_batch = { λ _. ⊥ };
 
-    ghost keeps_stable = { λ log told usable. stable_left log.clock log.items.items };
+    ghost keeps_stable = { λ log told usable. stable_left log.clock (kept_in log) };
 
-    ghost only_now = { λ log pages told usable left. left_now log.clock log.items.items pages left };
+    ghost only_now = { λ log pages told usable left. left_now log.clock (kept_in log) pages left };
 
-    ghost since_earlier = { λ log t u pages told le left. left_earlier log.clock log.items.items t u pages le left };
+    ghost since_earlier = { λ log t u pages told le left. left_earlier log.clock (kept_in log) t u pages le left };
 
     // Its place is the sum of the log sizes before it. It is Full exactly where the sum would pass the limit then.
     fn append(
@@ -85,19 +73,11 @@ impl Log for MemLog {
         if room < HEAD || room - HEAD < len {
             return Err(LogError::Full);
         }
-        let payload = payload.to_vec(self.alloc)?;
-        self.items.reserve(2)?;
-        let lsn = self.size as Lsn;
-        let pointer = pointer_for(self.blob_limit, self.size, &payload);
-        let change = item::Change {
-            kind,
-            pid,
-            payload,
-            lsn,
-            pointer,
-        };
-        self.add(Mark::Change(change), self.batch);
-        Ok((lsn, pointer, HEAD + len))
+        reserve(&mut self.items, 2)?;
+        reserve(&mut self.bytes, payload.len())?;
+        let said = said_at(self.blob_limit, self.size, HEAD + len);
+        self.add(Mark::Change { kind, pid }, payload, self.batch);
+        Ok(said)
     }
 
     fn read(
@@ -115,10 +95,7 @@ impl Log for MemLog {
         ensures past { Remembers self.old self.new }
     {
         self.count_read();
-        match change_at(&self.items, pointer.lid()) {
-            Some(change) => Ok(told(self.alloc, change)?),
-            None => Err(LogError::Corruption),
-        }
+        self.told(pointer)?.ok_or(LogError::Corruption)
     }
 
     // It is never refused.
@@ -150,8 +127,8 @@ impl Log for MemLog {
         ensures only { IfErr result (λ e. e ≡ Memory) }
         ensures past { Remembers self.old self.new }
     {
-        self.items.reserve(2)?;
-        self.add(Mark::Pin, true);
+        reserve(&mut self.items, 2)?;
+        self.add(Mark::Pin, &[], true);
         Ok(())
     }
 
@@ -163,7 +140,7 @@ impl Log for MemLog {
         ensures always { IsOk result }
         ensures past { Remembers self.old self.new }
     {
-        self.add(Mark::Seal, false);
+        self.add(Mark::Seal, &[], false);
         Ok(())
     }
 
@@ -175,7 +152,7 @@ impl Log for MemLog {
         ensures always { IsOk result }
         ensures past { Remembers self.old self.new }
     {
-        self.add(Mark::Cancel, false);
+        self.add(Mark::Cancel, &[], false);
         Ok(())
     }
 
@@ -190,10 +167,13 @@ impl Log for MemLog {
         ensures past { Remembers self.old self.new }
     {
         let mut pages = Vec::new(self.alloc);
+        let mut place = 0;
         for item in &self.items {
-            if let Mark::Change(change) = &item.mark {
-                apply(self.alloc, &mut pages, change)?;
+            if let Mark::Change { kind, pid } = item.mark {
+                let said = said_at(self.blob_limit, place, item.end - place);
+                apply(self.alloc, &mut pages, pid, kind, said)?;
             }
+            place = item.end;
         }
         Ok(pages)
     }

@@ -2,18 +2,18 @@
 
 ghost use Rattle.std.specs.Prelude.{◌≡◌, ◌↔◌, map, IsTrue};
 ghost use Rattle.sled_log.specs.Batches.{is_open, is_cancelled, IsFair};
-ghost use Rattle.sled_log.specs.Items.{event_of};
+ghost use Rattle.sled_log.specs.Stored.{bare_event};
 
 use super::item::{Item, Mark};
 
 // Whether these items leave a batch open.
 fn leaves_open(items: &[Item]) -> bool
-    ensures { result ≡ is_open (map event_of items.now) }
+    ensures { result ≡ is_open (map bare_event items.now) }
 {
     let mut open = false;
     for item in items {
         match &item.mark {
-            Mark::Change(_) => {}
+            Mark::Change { .. } => {}
             Mark::Pin => open = true,
             Mark::Seal | Mark::Cancel => open = false,
         }
@@ -23,11 +23,11 @@ fn leaves_open(items: &[Item]) -> bool
 
 // Whether these items cancel a batch that is open before them.
 fn cancels(items: &[Item]) -> bool
-    ensures { result ≡ is_cancelled (map event_of items.now) }
+    ensures { result ≡ is_cancelled (map bare_event items.now) }
 {
     for item in items {
         match &item.mark {
-            Mark::Change(_) | Mark::Pin => {}
+            Mark::Change { .. } | Mark::Pin => {}
             Mark::Seal => return false,
             Mark::Cancel => return true,
         }
@@ -37,7 +37,7 @@ fn cancels(items: &[Item]) -> bool
 
 // Whether a crash may keep the first `n` of these items.
 pub(super) fn is_fair_cut(items: &[Item], n: usize) -> bool
-    ensures { IsTrue result ↔ IsFair (map event_of items.now) n }
+    ensures { IsTrue result ↔ IsFair (map bare_event items.now) n }
 {
     if items.len() < n {
         return false;

@@ -1,17 +1,18 @@
 // How a message is found by its place.
 
-ghost use Rattle.std.specs.Prelude.{◌≡◌, ℕ, Some, IfOk, IsTrue, slice_get, IsSomeAnd};
+ghost use Rattle.std.specs.Prelude.{◌≡◌, ℕ, Some, IfOk, slice_get, IsSomeAnd};
 ghost use Rattle.sled_base.specs.Pointers.{place_of};
-ghost use Rattle.sled_log.specs.Items.{are_placed, entry_of};
+ghost use Rattle.sled_log.specs.Items.{entry_of};
+ghost use Rattle.sled_log.specs.Kept.{Item as KeptItem, KeptChange};
+ghost use Rattle.sled_log.specs.Kept as kept;
 ghost use Rattle.sled_log.specs.Messages.{kind_at};
 ghost use Rattle.sled_log.specs.Pages.{IsRead};
-ghost use Rattle.sled_log.specs.declared.memory.item.Change.{Change};
-ghost use Rattle.sled_log.specs.declared.memory.item.Item.{Item};
-ghost use Rattle.sled_log.specs.declared.memory.item.Mark.TheVariants as kept;
+ghost use Rattle.sled_log.specs.Stored.{place_after, start_after};
 
-use super::item::{Change, Item, Mark};
+use super::MemLog;
+use super::item::{Item, Mark};
 use sled_base::{DiskPtr, LogOffset, MessageKind};
-use std::alloc::{AllocError, Global};
+use std::alloc::AllocError;
 
 // The kind that a reader is told of a message of a kind that is kept there.
 fn kind_told(kind: MessageKind, pointer: DiskPtr) -> MessageKind
@@ -25,35 +26,43 @@ fn kind_told(kind: MessageKind, pointer: DiskPtr) -> MessageKind
     }
 }
 
-// Where the change at that place stands among the items, if there is one.
-fn index_of(items: &[Item], place: LogOffset) -> usize
-    requires { IsTrue (are_placed 0 items.now) }
-    ensures { (i : ℕ) (item : Item) (change : Change) → slice_get items.now i ≡ Some item → item.mark ≡ kept.Change change → place_of change.pointer ≡ place → result ≡ i }
+// Where a message behind these items stands in the log, and its payload in the buffer.
+pub(super) fn behind(items: &[Item]) -> (LogOffset, usize)
+    ensures place { result.0 ≡ place_after 0 items.now }
+    ensures start { result.1 ≡ start_after 0 items.now }
 {
-    items.partition_point(|item| item.end <= place)
-}
-
-// The change at that place, if there is one.
-pub(super) fn change_at(items: &[Item], place: LogOffset) -> Option<&Change>
-    requires { IsTrue (are_placed 0 items.now) }
-    ensures { (i : ℕ) (item : Item) (change : Change) → slice_get items.now i ≡ Some item → item.mark ≡ kept.Change change → place_of change.pointer ≡ place → IsSomeAnd result (λ found. found.now ≡ change) }
-{
-    let at = index_of(items, place);
-    match items.get(at) {
-        Some(
-            Item {
-                mark: Mark::Change(change),
-                ..
-            },
-        ) => Some(change),
-        _ => None,
+    match items.last() {
+        Some(item) => (item.end, item.payload_end),
+        None => (0, 0),
     }
 }
 
-// Its kind and payload, as a reader is told.
-pub(super) fn told(alloc: Global, change: &Change) -> Result<(MessageKind, Vec<u8>), AllocError>
-    ensures { IfOk result (λ found. IsRead (entry_of change.now) found) }
-{
-    let payload = change.payload.as_slice().to_vec(alloc)?;
-    Ok((kind_told(change.kind, change.pointer), payload))
+impl MemLog {
+    ghost use Rattle.sled_log.specs.Memory.{kept_in};
+
+    // Where the message at that place stands among the items, if there is one.
+    fn index_of(&self, place: LogOffset) -> usize
+        ensures { (i : ℕ) (item : KeptItem) (change : KeptChange) → slice_get (kept_in self.now) i ≡ Some item → item.mark ≡ kept.Change change → place_of change.pointer ≡ place → result ≡ i }
+    {
+        self.items.partition_point(|item| item.end <= place)
+    }
+
+    // The message that the pointer leads to, as a reader is told, if there is one.
+    pub(super) fn told(
+        &self,
+        pointer: DiskPtr,
+    ) -> Result<Option<(MessageKind, Vec<u8>)>, AllocError>
+        ensures { IfOk result (λ found. (i : ℕ) (item : KeptItem) (change : KeptChange) → slice_get (kept_in self.now) i ≡ Some item → item.mark ≡ kept.Change change → change.pointer ≡ pointer → IsSomeAnd found (IsRead (entry_of change))) }
+    {
+        let at = self.index_of(pointer.lid());
+        let Some(item) = self.items.get(at) else {
+            return Ok(None);
+        };
+        let Mark::Change { kind, .. } = item.mark else {
+            return Ok(None);
+        };
+        let (_, start) = behind(&self.items[..at]);
+        let payload = self.bytes[start..item.payload_end].to_vec(self.alloc)?;
+        Ok(Some((kind_told(kind, pointer), payload)))
+    }
 }

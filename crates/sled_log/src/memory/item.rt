@@ -1,72 +1,47 @@
 // What the log in memory keeps.
 
-ghost use Rattle.std.specs.Prelude.{◌≡◌, ◌+◌, ◌<◌};
-ghost use Rattle.sled_log.specs.Items.{entry_of, size_of_mark};
+ghost use Rattle.std.specs.Prelude.{◌≡◌, List, length, ℕ, ◌<◌};
+ghost use Rattle.sled_log.specs.Items.{size_of_mark};
 ghost use Rattle.sled_log.specs.Limits.{size_limit};
-ghost use Rattle.sled_log.specs.Pages.{said_of};
-ghost use Rattle.sled_base.specs.declared.types.page_state.PageState.TheVariants.{Free};
+ghost use Rattle.sled_log.specs.Stored.{kept_mark};
 
-use crate::PageState;
-use sled_base::{DiskPtr, Lsn, MessageKind, PageId};
+use sled_base::{MessageKind, PageId};
 
 // What every message takes beside its payload.
 pub(super) const HEAD: u64 = 17;
 
-// A message of a page, and where it is kept.
-#[derive(Debug, Drop)]
-pub(super) struct Change {
-    pub(super) kind: MessageKind,
-    pub(super) pid: PageId,
-    pub(super) payload: Vec<u8>,
-    pub(super) lsn: Lsn,
-    pub(super) pointer: DiskPtr,
-}
+// When what is pending becomes stable, as an item says it. The clock doesn't reach it.
+pub(super) const NEVER: u64 = u64::MAX;
 
-// What the log was told.
-#[derive(Debug, Drop)]
+// What the log was told: a message of a page, or the mark of a batch.
+#[derive(Clone, Copy, Debug)]
 pub(super) enum Mark {
-    Change(Change),
+    Change { kind: MessageKind, pid: PageId },
     Pin,
     Seal,
     Cancel,
 }
 
-// What the log was told, with the log sizes of all up to it, the moment when it came, and that when it became stable.
+// What the log was told, with the log sizes of all up to it, the place in the buffer where its payload ends, the moment when it
+// came, and that when it became stable.
 #[derive(Debug, Drop)]
 pub(super) struct Item {
     pub(super) mark: Mark,
     pub(super) end: u64,
-    pub(super) came: u128,
-    pub(super) settled: Option<u128>,
+    pub(super) payload_end: usize,
+    pub(super) came: u64,
+    pub(super) settled: u64,
 }
 
 impl Mark {
-    // Its log size.
-    pub(super) fn size(&self) -> u64
-        requires { size_of_mark self.now < size_limit }
-        ensures { result ≡ size_of_mark self.now }
+    // Its log size, with that payload.
+    pub(super) fn size(self, payload: &[u8]) -> u64
+        requires { (limit place : ℕ) → size_of_mark (kept_mark limit place payload.now self) < size_limit }
+        ensures { (limit place : ℕ) → result ≡ size_of_mark (kept_mark limit place payload.now self) }
     {
         match self {
-            Mark::Change(change) => HEAD + change.payload.as_slice().len() as u64,
+            Mark::Change { .. } => HEAD + payload.len() as u64,
             Mark::Pin | Mark::Seal | Mark::Cancel => 0,
         }
-    }
-}
-
-impl Change {
-    // Its place, as a page says it.
-    pub(super) fn said(&self) -> (Lsn, DiskPtr, u64)
-        ensures { result ≡ said_of (entry_of self.now) }
-    {
-        let log_size = HEAD + self.payload.as_slice().len() as u64;
-        (self.lsn, self.pointer, log_size)
-    }
-
-    // The page that it frees.
-    pub(super) fn freed_page(&self) -> PageState
-        ensures { result ≡ Free self.now.lsn self.now.pointer }
-    {
-        let lsn = self.lsn;
-        PageState::Free(lsn, self.pointer)
     }
 }

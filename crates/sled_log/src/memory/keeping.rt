@@ -1,54 +1,53 @@
-// How the items of the log in memory become stable, and what a crash does to them.
+// How the items of the log in memory are added and become stable, and what a crash does to them.
 
-ghost use Rattle.std.specs.Prelude.{◌≡◌, ◌<◌, ◌≤◌, take, map, vec_len};
-ghost use Rattle.sled_log.specs.Items.{log_size, settled_at, all_settled, restarted};
-ghost use Rattle.sled_log.specs.Limits.{size_limit};
+ghost use Rattle.std.specs.Prelude.{◌≡◌, ◌≤◌, ◌<◌, ◌+◌, [], ◌∷◌, ◌++◌, length, take, map, vec_len, vec_capacity};
+ghost use Rattle.sled_log.specs.Stored.{settles_at, settle_all, restarts};
 
 use super::item::Item;
 
+// Adds an item behind the others, and its payload behind theirs. There is room.
+pub(super) fn push(items: &mut Vec<Item>, bytes: &mut Vec<u8>, item: Item, payload: &[u8])
+    requires room { vec_len items.old < vec_capacity items.old }
+    requires payload_room { vec_len bytes.old + length payload.now ≤ vec_capacity bytes.old }
+    ensures items { items.new.items ≡ items.old.items ++ item ∷ [] }
+    ensures bytes { bytes.new.items ≡ bytes.old.items ++ payload.now }
+    ensures capacity { vec_capacity items.new ≡ vec_capacity items.old }
+{
+    let _room_was_reserved = bytes.extend_from_slice(payload);
+    items.push_reserved(item);
+}
+
 // Makes these items stable.
-pub(super) fn settle(items: &mut [Item], now: u128)
-    ensures { items.new ≡ map (settled_at now) items.old }
+pub(super) fn settle(items: &mut [Item], now: u64)
+    ensures { items.new ≡ map (settles_at now) items.old }
 {
     for item in items.iter_mut() {
-        item.settled = Some(now);
+        item.settled = now;
     }
 }
 
 // Makes the items from a place on stable.
-pub(super) fn settle_from(items: &mut Vec<Item>, from: usize, now: u128)
+pub(super) fn settle_from(items: &mut Vec<Item>, from: usize, now: u64)
     requires { from ≤ vec_len items.old }
-    ensures { items.new.items ≡ all_settled now from items.old.items }
+    ensures { items.new.items ≡ settle_all now from items.old.items }
 {
     settle(&mut items[from..], now);
 }
 
 // Lets the clock begin again with these items, all of them stable.
 fn restart(items: &mut [Item])
-    ensures { items.new ≡ map restarted items.old }
+    ensures { items.new ≡ map restarts items.old }
 {
     for item in items.iter_mut() {
         item.came = 0;
-        item.settled = Some(0);
+        item.settled = 0;
     }
 }
 
 // Keeps the first items, as a crash does.
 pub(super) fn keep_first(items: &mut Vec<Item>, count: usize)
-    ensures { items.new.items ≡ map restarted (take count items.old.items) }
+    ensures { items.new.items ≡ map restarts (take count items.old.items) }
 {
     items.truncate(count);
     restart(items);
-}
-
-// The log sizes of these items.
-pub(super) fn total_size(items: &[Item]) -> u64
-    requires { log_size items.now < size_limit }
-    ensures { result ≡ log_size items.now }
-{
-    let mut size = 0;
-    for item in items {
-        size += item.mark.size();
-    }
-    size
 }

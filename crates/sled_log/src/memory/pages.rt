@@ -1,17 +1,42 @@
 // The pages that a log makes of its messages, in one pass.
 
-ghost use Rattle.std.specs.Prelude.{◌≡◌, ◌==◌, ◌∷◌, [], ◌++◌, List, length, slice_set, if◌then◌else◌, OnOk};
+ghost use Rattle.std.specs.Prelude.{◌≡◌, ◌==◌, ◌≤◌, ◌<◌, ◌+◌, ℕ, pos, ◌∷◌, [], ◌++◌, List, length, slice_set, if◌then◌else◌, OnOk};
 ghost use Rattle.std.specs.List.{AllZip};
+ghost use Rattle.sled_base.specs.declared.types.page_state.PageState.TheVariants.{Free};
 ghost use Rattle.sled_log.specs.Chains.{linked, chains_from};
 ghost use Rattle.sled_log.specs.Events as events;
-ghost use Rattle.sled_log.specs.Items.{entry_of};
+ghost use Rattle.sled_log.specs.Items.{pointer_at};
+ghost use Rattle.sled_log.specs.Limits.{head_size, size_limit};
 ghost use Rattle.sled_log.specs.Messages.{Chain, Entry, effect_of_entry};
 ghost use Rattle.sled_log.specs.Pages.{said_of, IsPageState};
 
-use super::item::Change;
+use super::item::HEAD;
 use crate::PageState;
-use sled_base::{DiskPtr, LogKind, Lsn, PageId};
+use sled_base::{DiskPtr, LogKind, LogOffset, Lsn, MessageKind, PageId};
 use std::alloc::{AllocError, Global};
+
+// The place of a message that stands there and has this log size: its lsn, the pointer to it, and its log size. Above the limit
+// its payload is a blob.
+pub(super) fn said_at(limit: usize, place: LogOffset, log_size: u64) -> (Lsn, DiskPtr, u64)
+    requires place { place < size_limit }
+    requires size { head_size ≤ log_size }
+    ensures { (payload : List ℕ) → log_size ≡ head_size + length payload → result ≡ (pos place, pointer_at limit place payload, log_size) }
+{
+    let pointer = if log_size - HEAD <= limit as u64 {
+        DiskPtr::Inline(place)
+    } else {
+        DiskPtr::Blob(place, place as Lsn)
+    };
+    (place as Lsn, pointer, log_size)
+}
+
+// A page that is freed there.
+fn freed(said: (Lsn, DiskPtr, u64)) -> PageState
+    ensures { result ≡ Free said.0 said.1 }
+{
+    let (lsn, pointer, _) = said;
+    PageState::Free(lsn, pointer)
+}
 
 // Puts a page in its place, or behind all others.
 fn put(pages: &mut Vec<PageState>, pid: PageId, page: PageState) -> Result<(), AllocError>
@@ -36,28 +61,30 @@ fn link(page: &mut PageState, said: (Lsn, DiskPtr, u64)) -> Result<(), AllocErro
     Ok(())
 }
 
-// Makes one change of the pages.
+// Makes one change of the pages: a message of that kind, at that place.
 pub(super) fn apply(
     alloc: Global,
     pages: &mut Vec<PageState>,
-    change: &Change,
+    pid: PageId,
+    kind: MessageKind,
+    said: (Lsn, DiskPtr, u64),
 ) -> Result<(), AllocError>
-    ensures { OnOk result ((chains : List Chain) → AllZip IsPageState chains pages.old.items → AllZip IsPageState (chains_from effect_of_entry chains (events.Change change.now.pid (entry_of change.now))) pages.new.items) }
+    ensures { OnOk result ((chains : List Chain) (entry : Entry) → entry.message.kind ≡ kind → said_of entry ≡ said → AllZip IsPageState chains pages.old.items → AllZip IsPageState (chains_from effect_of_entry chains (events.Change pid entry)) pages.new.items) }
 {
-    match LogKind::from(change.kind) {
-        LogKind::Free => put(pages, change.pid, change.freed_page()),
+    match LogKind::from(kind) {
+        LogKind::Free => put(pages, pid, freed(said)),
         LogKind::Replace => put(
             pages,
-            change.pid,
+            pid,
             PageState::Present {
-                base: change.said(),
+                base: said,
                 frags: Vec::new(alloc),
             },
         ),
         LogKind::Link => {
-            let at = change.pid as usize;
+            let at = pid as usize;
             if at < pages.len() {
-                link(&mut pages[at], change.said())?;
+                link(&mut pages[at], said)?;
             }
             Ok(())
         }

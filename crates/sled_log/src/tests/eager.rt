@@ -5,7 +5,7 @@ ghost use Rattle.std.specs.Prelude.{⊤, ◌≡◌, ◌+◌, ◌≤◌, pos, [],
 ghost use Rattle.sled_log.specs.Batches.{is_open};
 ghost use Rattle.sled_log.specs.Items.{left_now, left_earlier, stable_left};
 ghost use Rattle.sled_log.specs.Limits.{head_size, size_limit};
-ghost use Rattle.sled_log.specs.Memory.{state_of, clock_of, might_have_left, counts_of, size_of, stable_size_of, pending_size_of};
+ghost use Rattle.sled_log.specs.Memory.{kept_in, state_of, clock_of, might_have_left, counts_of, size_of, stable_size_of, pending_size_of};
 ghost use Rattle.sled_log.specs.Messages.{effect_of, effect_of_entry};
 ghost use Rattle.sled_log.specs.State.{State, Adds, IsLeft, StopsLeave, told_state};
 
@@ -65,11 +65,11 @@ impl Log for EagerLog {
 
     ghost is_full_for_batch = { λ _. ⊥ };
 
-    ghost keeps_stable = { λ log told usable. stable_left log.log.clock log.log.items.items };
+    ghost keeps_stable = { λ log told usable. stable_left log.log.clock (kept_in log.log) };
 
-    ghost only_now = { λ log pages told usable left. left_now log.log.clock log.log.items.items pages left };
+    ghost only_now = { λ log pages told usable left. left_now log.log.clock (kept_in log.log) pages left };
 
-    ghost since_earlier = { λ log t u pages told le left. left_earlier log.log.clock log.log.items.items t u pages le left };
+    ghost since_earlier = { λ log t u pages told le left. left_earlier log.log.clock (kept_in log.log) t u pages le left };
 
     fn append(
         &mut self,

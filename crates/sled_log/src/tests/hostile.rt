@@ -2,14 +2,14 @@
 
 ghost use Rattle.std.specs.Prelude.{◌≡◌, ℕ, ◌≤◌, List, [], ◌∷◌};
 ghost use Rattle.sled_log.specs.Hostile.{left_skipping, left_losing};
-ghost use Rattle.sled_log.specs.Memory.{state_of};
+ghost use Rattle.sled_log.specs.Memory.{kept_in, state_of};
 ghost use Rattle.sled_log.specs.Messages.{Told, Chain};
 
 use super::*;
 
 // A log whose odd moments nobody looks at, and that leaves anything then.
 fn a_log_skips_no_moment(log: &MemLog)
-    requires empty { log.now.items.items ≡ [] }
+    requires empty { kept_in log.now ≡ [] }
     ensures { ((t u : ℕ) (pages : List Told) → t ≤ u → left_skipping log.now u pages → left_skipping log.now t pages) → ⊥ }
 {}
 

@@ -3,7 +3,7 @@
 ghost use Rattle.std.specs.Prelude.{⊤, ◌≡◌, ◌==◌, ℕ, pos, [], true};
 ghost use Rattle.sled_log.specs.Calls.{one_more};
 ghost use Rattle.sled_log.specs.Items.{left_now, left_earlier, stable_left};
-ghost use Rattle.sled_log.specs.Memory.{state_of, clock_of, might_have_left, size_of, stable_size_of, pending_size_of};
+ghost use Rattle.sled_log.specs.Memory.{kept_in, state_of, clock_of, might_have_left, size_of, stable_size_of, pending_size_of};
 
 use super::*;
 use sled_base::Lsn;
@@ -93,11 +93,11 @@ impl Log for FailingLog {
 
     ghost is_full_for_batch = { λ _. ⊥ };
 
-    ghost keeps_stable = { λ log told usable. stable_left log.log.clock log.log.items.items };
+    ghost keeps_stable = { λ log told usable. stable_left log.log.clock (kept_in log.log) };
 
-    ghost only_now = { λ log pages told usable left. (let l = left_now log.log.clock log.log.items.items pages left in record { came = l.came; beginning = l.beginning; cut = l.cut; fair = l.fair; is = l.is }) };
+    ghost only_now = { λ log pages told usable left. (let l = left_now log.log.clock (kept_in log.log) pages left in record { came = l.came; beginning = l.beginning; cut = l.cut; fair = l.fair; is = l.is }) };
 
-    ghost since_earlier = { λ log t u pages told le left. left_earlier log.log.clock log.log.items.items t u pages le left };
+    ghost since_earlier = { λ log t u pages told le left. left_earlier log.log.clock (kept_in log.log) t u pages le left };
 
     fn append(
         &mut self,

@@ -1,8 +1,8 @@
 use Rattle.std.proofs.Common.{◌≡◌, drop, map}
 use Rattle.sled_log.specs.Batches.{is_open, open_after}
-use Rattle.sled_log.specs.Items.{event_of}
+use Rattle.sled_log.specs.Stored.{bare_event}
 use Rattle.sled_log.proofs.memory.cuts.leaves_open.Given as goal
 
 -- from what is known so far, what is left leads to the answer
 abbrev pub invariant-loop-item : goal.invariant-loop-item
-invariant-loop-item l = open_after l.open (map event_of (drop l.item-index l.items)) ≡ is_open (map event_of l.items)
+invariant-loop-item l = open_after l.open (map bare_event (drop l.item-index l.items)) ≡ is_open (map bare_event l.items)

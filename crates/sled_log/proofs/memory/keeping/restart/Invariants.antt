@@ -1,7 +1,7 @@
 use Rattle.std.proofs.Common.{◌≡◌, ◌++◌, drop, take, map}
-use Rattle.sled_log.specs.Items.{restarted}
+use Rattle.sled_log.specs.Stored.{restarts}
 use Rattle.sled_log.proofs.memory.keeping.restart.Given as goal
 
--- the items so far are restarted, and the others are as they were
+-- the items so far are restarts, and the others are as they were
 abbrev pub invariant-loop-item : goal.invariant-loop-item
-invariant-loop-item l = l.items ≡ map restarted (take l.item-index l.fn.items) ++ drop l.item-index l.fn.items
+invariant-loop-item l = l.items ≡ map restarts (take l.item-index l.fn.items) ++ drop l.item-index l.fn.items

@@ -1,7 +1,7 @@
 use Rattle.std.proofs.Common.{◌≡◌, ◌++◌, drop, take, map}
-use Rattle.sled_log.specs.Items.{settled_at}
+use Rattle.sled_log.specs.Stored.{settles_at}
 use Rattle.sled_log.proofs.memory.keeping.settle.Given as goal
 
 -- the items so far are settled, and the others are as they were
 abbrev pub invariant-loop-item : goal.invariant-loop-item
-invariant-loop-item l = l.items ≡ map (settled_at l.now) (take l.item-index l.fn.items) ++ drop l.item-index l.fn.items
+invariant-loop-item l = l.items ≡ map (settles_at l.now) (take l.item-index l.fn.items) ++ drop l.item-index l.fn.items

@@ -2,7 +2,7 @@ use Rattle.std.proofs.Common.{◌≡◌, ◌+◌, ℕ, zero, suc, List, [], ◌�
 use Rattle.sled_log.specs.Chains.{chains_after}
 use Rattle.sled_log.specs.Events.{Event, seen}
 use Rattle.sled_log.specs.Items.{left_now}
-use Rattle.sled_log.specs.Memory.{state_of}
+use Rattle.sled_log.specs.Memory.{kept_in, state_of}
 use Rattle.sled_log.specs.Messages.{Message, Entry, told, effect_of}
 use Rattle.sled_log.proofs.tests.hostile.a_log_loses_nothing.Goals as goal
 
@@ -18,7 +18,7 @@ pub returns : goal.returns
 returns c = λ chain chains stable none law.
     let log = c.args.log.now in
     let later = law log.clock (log.clock + 1) [] (omega arith) ((λ le. absurd (omega (arith, le))), (λ _. refl)) in
-    let left = left_now log.clock log.items.items [] (later.0 (omega arith)) in
+    let left = left_now log.clock (kept_in log) [] (later.0 (omega arith)) in
     let pending : map (seen (λ (entry : Entry). entry.message)) (state_of log).pending ++ left.came ≡ [] =
     ap (λ (l : List (Event Entry)). map (seen (λ (entry : Entry). entry.message)) l ++ left.came) none ∙ came-none left.came left.beginning.0 left.beginning.1 in
     let whole : told chain ∷ map told chains ≡ [] =

@@ -3,7 +3,7 @@ use Rattle.sled_log.specs.Chains.{chains_after}
 use Rattle.sled_log.specs.Events.{Event}
 use Rattle.sled_log.specs.Items.{WasLeft}
 use Rattle.sled_log.specs.Messages.{Message, Told, effect_of}
-use Rattle.sled_log.specs.declared.memory.item.Item.{Item}
+use Rattle.sled_log.specs.Kept.{Item}
 use Rattle.sled_log.proofs.tests.hostile.a_log_skips_no_moment.Goals as goal
 
 came-none : (came rest : List (Event Message)) → came ++ rest ≡ [] → came ≡ []

@@ -1,7 +1,35 @@
-use Rattle.std.proofs.Common.{[], ◌∷◌, refl}
+use Rattle.std.proofs.Common.{List, [], ◌∷◌, length, take, drop, map, refl, sym, ◌∙◌, ap, subst, arith}
+use Rattle.sled_log.specs.Batches.{is_open}
 use Rattle.sled_log.specs.Events.{Pin}
+use Rattle.sled_log.specs.Items.{event_of, log_size, are_placed, IsInOrder}
+use Rattle.sled_log.specs.Stored.{are_within, kept_items}
+use Rattle.sled_log.specs.declared.memory.item.Item.{Item as StoredItem}
 use Rattle.sled_log.proofs.MemCalls.{called_added}
 use Rattle.sled_log.proofs.memory.calls.MemLogLog.pin.Goals as goal
 
+pub invariant_of-self : goal.invariant_of-self
+invariant_of-self c =
+    let self = c.args.self.now in
+    let same = c.reserve.ensures.items in
+    let len = c.reserve.ensures.len in
+    let more = c.reserve.ensures.capacity in
+    let fewer = self.fewer in
+    let counted = self.counted in
+    let long = ap length same in
+    record {
+      within = ap (λ (l : List StoredItem). are_within 0 (length self.bytes.items) l) same ∙ self.within;
+      fewer = omega (arith, fewer, long);
+      in_order = subst (λ (l : List StoredItem). IsInOrder self.clock self.stable (kept_items self.blob_limit self.bytes.items l)) (sym same) self.in_order;
+      counted = omega (arith, counted, long);
+      sized = self.sized ∙ ap (λ (l : List StoredItem). log_size (kept_items self.blob_limit self.bytes.items l)) (sym same);
+      stable_sized = self.stable_sized ∙ ap (λ (l : List StoredItem). log_size (take self.stable (kept_items self.blob_limit self.bytes.items l))) (sym same);
+      fits = self.fits;
+      placed = ap (λ (l : List StoredItem). are_placed 0 (kept_items self.blob_limit self.bytes.items l)) same ∙ self.placed;
+      batch_is = self.batch_is ∙ ap (λ (l : List StoredItem). is_open (map event_of (drop self.stable (kept_items self.blob_limit self.bytes.items l)))) (sym same);
+      room = λ b. let r = self.room b in omega (arith, r, len, more);
+    }
+
 pub returns-clause-called : goal.returns-clause-called
-returns-clause-called c = called_added _ c.args.self.now _ _ (λ _. Pin ∷ []) (Pin ∷ []) (Pin ∷ []) refl c.reserve.ensures.items refl refl c.add.ensures.adds c.add.ensures.stop c.add.ensures.reads
+returns-clause-called c =
+    let self = c.args.self.now in
+    called_added _ self _ _ (λ _. Pin ∷ []) (Pin ∷ []) (Pin ∷ []) refl (ap (λ (l : List StoredItem). kept_items self.blob_limit self.bytes.items l) c.reserve.ensures.items) refl refl c.add.ensures.adds c.add.ensures.stop c.add.ensures.reads

@@ -1,33 +1,46 @@
-use Rattle.std.proofs.Common.{◌≡◌, Option, IsSomeAnd, [], ◌∙◌, subst, slice_index_or, Bor}
-use Rattle.sled_log.specs.Items.{entry_of, state_at}
+use Rattle.std.proofs.Common.{◌≡◌, ℕ, Option, Some, None, Ok, IsSomeAnd, List, [], refl, ◌∙◌, ap, subst, slice_index_or}
+use Rattle.std.specs.Global.{Vec}
+use Rattle.std.specs.Option.{ok_or}
+use Rattle.sled_base.specs.declared.kinds.MessageKind.{MessageKind}
+use Rattle.sled_log.specs.Kept.{Item}
+use Rattle.sled_log.specs.Memory.{kept_in, state_of}
 use Rattle.sled_log.specs.Messages.{Entry, effect_of_entry}
 use Rattle.sled_log.specs.Pages.{IsRead}
 use Rattle.sled_log.specs.State.{now}
-use Rattle.sled_log.specs.declared.memory.item.Change.{Change}
-use Rattle.sled_log.proofs.KeptEntries.{IsKept, now-kept, finds-entry}
+use Rattle.sled_log.specs.declared.log.LogError.{LogError}
+use Rattle.sled_log.specs.declared.log.LogError.TheVariants.{Corruption}
+use Rattle.sled_log.proofs.KeptEntries.{IsKept, Finds, now-kept, finds-entry}
 use Rattle.sled_log.proofs.MemCalls.{called_same}
 use Rattle.sled_log.proofs.memory.calls.MemLogLog.read.Goals as goal
 
-pub returns-in_ok-told-in-Some-clause-called : goal.returns-in_ok-told-in-Some-clause-called
-returns-in_ok-told-in-Some-clause-called c = called_same _ c.args.self.now _ _ c.count_read.ensures.clock c.count_read.ensures.items c.count_read.ensures.reads
+some-is : {A : Type 0} (P : A → Type 0) (found : Option A) → IsSomeAnd found P → (y : A) × (found ≡ Some y)
+some-is P None h = absurd h
+some-is P (Some y) h = (y, refl)
 
-pub returns-in_ok-told-in-Some-clause-found : goal.returns-in_ok-told-in-Some-clause-found
-returns-in_ok-told-in-Some-clause-found c = λ k d lt at.
-    let self = c.args.self.now in
-    let entry : Entry = slice_index_or (slice_index_or (now effect_of_entry (state_at self.clock self.items.items)) c.args.pid []) k d in
-    let same = finds-entry self.items.items c.deref.result.now c.lid.result c.change_at.result c.args.lsn c.args.pointer entry (c.deref.ensures.value ∙ c.count_read.ensures.items) c.lid.ensures c.change_at.ensures (now-kept self.clock self.stable self.items.items self.in_order c.args.pid k d lt) at in
-    subst (λ (e : Entry). IsRead e c.in_ok-told-in-Some.field-0) (subst (λ (r : Option (Bor Change)). IsSomeAnd r (λ found. entry_of found.now ≡ entry)) c.in-Some.is same) c.in_ok-told-in-Some.ensures
+-- the search finds what the log holds
+finds : (c : goal.After-ok_or) → Finds (kept_in c.args.self.now) c.args.pointer c.in_ok-told.field-0
+finds c = subst (λ (l : List Item). Finds l c.args.pointer c.in_ok-told.field-0) c.count_read.ensures.kept c.in_ok-told.ensures
 
 -- an entry that the log holds is found
-found : goal.In-None → ⊥
+found : (c : goal.After-ok_or) → (y : MessageKind × Vec ℕ) × (c.in_ok-told.field-0 ≡ Some y)
 found c =
     let self = c.args.self.now in
     let known = c.requires.known in
-    let same = finds-entry self.items.items c.deref.result.now c.lid.result c.change_at.result c.args.lsn c.args.pointer known.1 (c.deref.ensures.value ∙ c.count_read.ensures.items) c.lid.ensures c.change_at.ensures (subst (IsKept self.items.items) known.3 (now-kept self.clock self.stable self.items.items self.in_order c.args.pid known.0 known.1 known.2)) known.4 in
-    subst (λ (r : Option (Bor Change)). IsSomeAnd r (λ found. entry_of found.now ≡ known.1)) c.in-None.is same
+    let kept = subst (IsKept (kept_in self)) known.3 (now-kept self.clock self.stable (kept_in self) self.in_order c.args.pid known.0 known.1 known.2) in
+    some-is (IsRead known.1) c.in_ok-told.field-0 (finds-entry (kept_in self) c.in_ok-told.field-0 c.args.lsn c.args.pointer known.1 (finds c) kept known.4)
 
-pub returns-in-None-clause-called : goal.returns-in-None-clause-called
-returns-in-None-clause-called c = absurd (found c)
+is-ok : (c : goal.After-ok_or) → c.ok_or.result ≡ Ok (found c).0
+is-ok c = c.ok_or.ensures.value ∙ ap (λ (o : Option (MessageKind × Vec ℕ)). ok_or {E = LogError} o Corruption) (found c).1
 
-pub returns-in-None-clause-only : goal.returns-in-None-clause-only
-returns-in-None-clause-only c = absurd (found c)
+pub returns-clause-called : goal.returns-clause-called
+returns-clause-called c = rw (is-ok c) (called_same _ c.args.self.now _ _ c.count_read.ensures.clock c.count_read.ensures.kept c.count_read.ensures.reads)
+
+pub returns-clause-found : goal.returns-clause-found
+returns-clause-found c = rw (is-ok c) (λ k d lt at.
+    let self = c.args.self.now in
+    let entry : Entry = slice_index_or (slice_index_or (now effect_of_entry (state_of self)) c.args.pid []) k d in
+    let is = finds-entry (kept_in self) c.in_ok-told.field-0 c.args.lsn c.args.pointer entry (finds c) (now-kept self.clock self.stable (kept_in self) self.in_order c.args.pid k d lt) at in
+    subst (λ (o : Option (MessageKind × Vec ℕ)). IsSomeAnd o (IsRead entry)) (found c).1 is)
+
+pub returns-clause-only : goal.returns-clause-only
+returns-clause-only c = rw (is-ok c) tt

@@ -1,0 +1,80 @@
+-- What recovery has made of the items so far.
+use Rattle.std.proofs.Common.{◌≡◌, ◌+◌, ◌-◌, ℕ, true, List, [], ◌∷◌, length, map, refl, sym, ◌∙◌, ap, subst, arith, pos, ℤ}
+use Rattle.std.proofs.lemmas.Bool.{and_parts, eqb-true}
+use Rattle.std.proofs.lemmas.List.Sums.{sum_by-cons}
+use Rattle.sled_base.specs.declared.kinds.MessageKind.{MessageKind}
+use Rattle.sled_base.specs.declared.types.DiskPtr.{DiskPtr}
+use Rattle.sled_base.specs.declared.types.page_state.PageState.{PageState}
+use Rattle.sled_log.specs.Chains.{chains_from, chains_after}
+use Rattle.sled_log.specs.Events.{Change}
+use Rattle.sled_log.specs.Limits.{head_size}
+use Rattle.sled_log.specs.Items.{pointer_at, entry_of, event_of_mark, event_of, size_of_mark, log_size, stands_at, are_placed}
+use Rattle.sled_log.specs.Kept.{Mark, Item}
+use Rattle.sled_log.specs.Messages.{Entry, Chain, effect_of_entry}
+use Rattle.sled_log.specs.Pages.{said_of}
+use Rattle.sled_log.specs.Stored.{part, kept_mark, kept_item, kept_from, kept_items}
+use Rattle.sled_log.specs.declared.memory.item.Item.{Item as StoredItem}
+use Rattle.sled_log.specs.declared.memory.item.Mark.{Mark as StoredMark}
+use Rattle.sled_log.specs.declared.memory.item.Mark.TheVariants as stored
+use Rattle.sled_log.proofs.PageStates.{Shows}
+
+-- the pages show the chains so far, from which the items that are left lead to those of all
+pub record IsRecovering (limit : ℕ) (bytes : List ℕ) (items : List StoredItem) (place : ℕ) (rest : List StoredItem) (pages : List PageState) : Type 0 where
+  pub start : ℕ
+  pub chains : List Chain
+  pub shows : Shows chains pages
+  pub leads : chains_after effect_of_entry chains (map event_of (kept_from limit bytes place start rest)) ≡ chains_after effect_of_entry [] (map event_of (kept_items limit bytes items))
+  pub placed : are_placed place (kept_from limit bytes place start rest) ≡ true
+  pub sized : place + log_size (kept_from limit bytes place start rest) ≡ log_size (kept_items limit bytes items)
+
+module _ (limit : ℕ) (bytes : List ℕ) (items : List StoredItem) where
+  pub recovers-none : are_placed 0 (kept_items limit bytes items) ≡ true → IsRecovering limit bytes items 0 items []
+  recovers-none placed = record { start = 0; chains = []; shows = tt; leads = refl; placed = placed; sized = omega arith }
+
+  -- what an item keeps, and where it ends
+  pub item-at : (place start : ℕ) (x : StoredItem) (rest : List StoredItem) → are_placed place (kept_from limit bytes place start (x ∷ rest)) ≡ true
+      → (x.end ≡ place + size_of_mark (kept_mark limit place (part start x.payload_end bytes) x.mark)) × (are_placed x.end (kept_from limit bytes x.end x.payload_end rest) ≡ true)
+  item-at place start x rest all =
+      let a = and_parts _ _ all in
+      let b = and_parts (stands_at place (kept_mark limit place (part start x.payload_end bytes) x.mark)) _ a.0 in
+      (eqb-true x.end (place + size_of_mark (kept_mark limit place (part start x.payload_end bytes) x.mark)) b.1, a.1)
+
+  -- one item more
+  pub recovers-more : {place : ℕ} {x : StoredItem} {rest : List StoredItem} {before pages : List PageState} → (so_far : IsRecovering limit bytes items place (x ∷ rest) before)
+      → Shows (chains_from effect_of_entry so_far.chains (event_of_mark (kept_mark limit place (part so_far.start x.payload_end bytes) x.mark))) pages → IsRecovering limit bytes items x.end rest pages
+  recovers-more {place} {x} {rest} so_far shows =
+      let mark : Mark = kept_mark limit place (part so_far.start x.payload_end bytes) x.mark in
+      let at = item-at place so_far.start x rest so_far.placed in
+      record {
+        start = x.payload_end;
+        chains = chains_from effect_of_entry so_far.chains (event_of_mark mark);
+        shows = shows;
+        leads = so_far.leads;
+        placed = at.1;
+        sized = let s = so_far.sized in omega (arith, at.0, s, sum_by-cons (λ (item : Item). size_of_mark item.mark) (kept_item limit place (part so_far.start x.payload_end bytes) x) (kept_from limit bytes x.end x.payload_end rest));
+      }
+
+  -- a mark changes no page
+  pub recovers-mark : {place : ℕ} {x : StoredItem} {rest : List StoredItem} {pages : List PageState} → IsRecovering limit bytes items place (x ∷ rest) pages → ((kind : _) (pid : ℕ) → x.mark ≡ stored.Change kind pid → ⊥) → IsRecovering limit bytes items x.end rest pages
+  recovers-mark {place} {x} {rest} {pages} so_far none = recovers-more so_far (by x.mark none)
+    where
+      by : (mark : StoredMark) → ((kind : _) (pid : ℕ) → mark ≡ stored.Change kind pid → ⊥) → Shows (chains_from effect_of_entry so_far.chains (event_of_mark (kept_mark limit place (part so_far.start x.payload_end bytes) mark))) pages
+      by (stored.Change kind pid) none = absurd (none kind pid refl)
+      by stored.Pin none = so_far.shows
+      by stored.Seal none = so_far.shows
+      by stored.Cancel none = so_far.shows
+
+  -- a message shows on its page
+  pub recovers-change : {place : ℕ} {x : StoredItem} {rest : List StoredItem} {before pages : List PageState} → IsRecovering limit bytes items place (x ∷ rest) before
+      → (kind : MessageKind) (pid : ℕ) → x.mark ≡ stored.Change kind pid → (said : ℤ × DiskPtr × ℕ)
+      → ((payload : List ℕ) → x.end - place ≡ head_size + length payload → said ≡ (pos place, pointer_at limit place payload, x.end - place))
+      → ((chains : List Chain) (entry : Entry) → entry.message.kind ≡ kind → said_of entry ≡ said → Shows chains before → Shows (chains_from effect_of_entry chains (Change pid entry)) pages)
+      → IsRecovering limit bytes items x.end rest pages
+  recovers-change {place} {x} {rest} {before} {pages} so_far kind pid is said said_is applied =
+      let payload : List ℕ = part so_far.start x.payload_end bytes in
+      let entry : Entry = entry_of (record { kind = kind; pid = pid; payload = payload; lsn = pos place; pointer = pointer_at limit place payload }) in
+      let size : size_of_mark (kept_mark limit place payload x.mark) ≡ head_size + length payload = ap (λ m. size_of_mark (kept_mark limit place payload m)) is in
+      let e : x.end - place ≡ head_size + length payload = (let at = (item-at place so_far.start x rest so_far.placed).0 in omega (arith, at, size)) in
+      let told : said_of entry ≡ said = sym (said_is payload e ∙ ap (λ n. (pos place, pointer_at limit place payload, n)) e) in
+      recovers-more so_far
+      (subst (λ (m : StoredMark). Shows (chains_from effect_of_entry so_far.chains (event_of_mark (kept_mark limit place payload m))) pages) (sym is) (applied so_far.chains entry refl told so_far.shows))
