@@ -35,7 +35,7 @@ pub struct MemLog {
     items: Vec<Item>,
     // their payloads, one behind the other
     bytes: Vec<u8>,
-    // how many of them are stable
+    // how many items are stable
     stable: usize,
     // the log sizes of the stable messages, and of all
     stable_size: u64,
@@ -176,3 +176,6 @@ impl MemLog {
         }
     }
 }
+
+#[cfg(test)]
+mod tests;

@@ -1,0 +1,111 @@
+// What the log in memory tells of its messages, and how much memory it keeps for them.
+
+use super::*;
+use crate::{Log, LogError};
+use sled_base::{DiskPtr, MessageKind};
+use std::test::Fail;
+
+// Payloads above so many bytes are blobs.
+const LIMIT: usize = 4;
+
+const BYTES: [u8; 10] = [7, 0, 255, 1, 128, 9, 31, 254, 2, 64];
+
+// The payload of the message with this number: of 0 to 5 bytes, so some are empty, some at the limit, and some one above it.
+fn payload(bytes: &[u8], number: usize) -> &[u8] {
+    let start = number % 5;
+    bytes.get(start..start + number % 6).unwrap_or(bytes)
+}
+
+// A log of so many messages, and the pointers to them.
+fn filled(alloc: Global, bytes: &[u8], count: usize) -> Result<(MemLog, Vec<DiskPtr>), LogError> {
+    let mut log = MemLog::new(alloc, LIMIT, 0);
+    let mut pointers = Vec::new(alloc);
+    for number in 0..count {
+        let (_, pointer, _) = log.append(
+            MessageKind::InlineNode,
+            number as u64,
+            payload(bytes, number),
+        )?;
+        pointers.push(pointer)?;
+    }
+    Ok((log, pointers))
+}
+
+// Whether a reader is told this payload, and the kind that it is kept under.
+fn is_told(found: &Option<(MessageKind, Vec<u8>)>, payload: &[u8]) -> bool {
+    let expected = if payload.len() <= LIMIT {
+        MessageKind::InlineNode
+    } else {
+        MessageKind::BlobNode
+    };
+    match found {
+        Some((kind, bytes)) => *kind == expected && bytes.as_slice() == payload,
+        None => false,
+    }
+}
+
+// Whether the log tells the first messages where they were put, and none of the others.
+fn tells(log: &MemLog, bytes: &[u8], pointers: &[DiskPtr], kept: usize) -> Result<bool, LogError> {
+    for (number, pointer) in pointers.iter().enumerate() {
+        let found = log.told(*pointer)?;
+        let so = if number < kept {
+            is_told(&found, payload(bytes, number))
+        } else {
+            found.is_none()
+        };
+        if !so {
+            return Ok(false);
+        }
+    }
+    Ok(true)
+}
+
+// Whether little more than an eighth of the memory is spare.
+fn spare_is_small(log: &MemLog) -> bool {
+    let items = log.items.capacity() - log.items.len();
+    let bytes = log.bytes.capacity() - log.bytes.len();
+    items <= log.items.len() / 8 + 2 && bytes <= log.bytes.len() / 8 + 5
+}
+
+// Whether a log of so many messages tells each, and after a crash the first half.
+fn keeps_its_messages(alloc: Global, count: usize) -> Result<bool, LogError> {
+    let (log, pointers) = filled(alloc, &BYTES, count)?;
+    let kept = count / 2;
+    if !tells(&log, &BYTES, &pointers, count)? || !spare_is_small(&log) || !log.is_fair(kept) {
+        return Ok(false);
+    }
+    let left = log.stop(kept);
+    Ok(left.items.len() == kept && tells(&left, &BYTES, &pointers, kept)?)
+}
+
+#[test]
+fn each_message_is_told_where_it_was_put(rt: HostRuntime) -> Result<(), Fail> {
+    for count in [0, 1, 2, 3, 16, 17, 1000] {
+        assert!(rt; keeps_its_messages(rt.alloc(), count)?, "{count}");
+    }
+    Ok(())
+}
+
+// Appends, and once more where memory was refused. Whether the log was as before then.
+fn append_again(log: &mut MemLog, payload: &[u8]) -> Result<bool, LogError> {
+    let before = (log.size, log.clock, log.items.len(), log.bytes.len());
+    if log.append(MessageKind::InlineNode, 0, payload).is_ok() {
+        return Ok(true);
+    }
+    let same = (log.size, log.clock, log.items.len(), log.bytes.len()) == before;
+    let _ = log.append(MessageKind::InlineNode, 0, payload)?;
+    Ok(same)
+}
+
+#[test]
+fn a_refused_append_changes_nothing(rt: HostRuntime) -> Result<(), Fail> {
+    let mut log = MemLog::new(rt.alloc(), LIMIT, 0);
+    for number in 0..40 {
+        assert!(rt;
+            append_again(&mut log, payload(&BYTES, number))?,
+            "{number}"
+        );
+    }
+    assert_eq!(rt; (log.items.len(), log.bytes.len()), (40, 96));
+    Ok(())
+}
