@@ -1,107 +1,132 @@
 #!/bin/sh
-# Measures `sledpc mem` on scripts that it makes, and prints a table for each: how many lines, how many millions of them a second of
-# processor time, what they take beside as many lines `line`, which is no command, and beside the same lines with a letter too
-# many, which are no commands either, and the most memory that was used. It needs awk and GNU time. COUNT is about how many
-# lines a script has, and PROGRAM a binary to measure in place of this checkout's.
+# Measures `sledpc mem` beside other stores under the same scripts, and prints docs/BENCHMARKS.md's tables:
+#
+#     bench/measure.sh >tables.md
+#
+# Each program runs each script RUNS times (5), and every reply of each run is compared with the plain map's. A program that fails, or
+# replies otherwise, ends all with a message. It needs g++ and awk; a store whose package is missing is left out, and named as that.
+# COUNT is about how many lines most scripts have (300,000), PROGRAM a binary to measure in place of this checkout's, and CHART
+# where the chart goes (docs/benchmarks.svg).
 set -eu
+export LC_ALL=C
 
 top=$(CDPATH='' cd -- "$(dirname -- "$(readlink -f -- "$0")")/.." && pwd)
-timer=${TIMER:-/usr/bin/time}
-count=${COUNT:-600000}
-work=$(mktemp -d)
-trap 'rm -rf "$work"' EXIT
+bench=$top/bench
+count=${COUNT:-300000}
+runs=${RUNS:-5}
+chart=${CHART:-$top/docs/benchmarks.svg}
+program=${PROGRAM:-$top/crates/sledpc/out/sledpc}
+. "$bench/scripts.sh"
 
-program=${PROGRAM:-}
-if [ -z "$program" ]; then
+say() {
+    echo "measure.sh: $1" >&2
+}
+
+die() {
+    say "$1"
+    exit 1
+}
+
+for tool in g++ awk; do
+    command -v "$tool" >/dev/null || die "it needs $tool"
+done
+[ -d /dev/shm ] || die 'it needs /dev/shm, where all files lie in memory'
+work=$(mktemp -d /dev/shm/measure-XXXXXX)
+trap 'rm -rf "$work"' EXIT
+trap 'exit 1' HUP INT TERM
+
+# How many bytes a flush wrote is each program's own, so it is left out of what is compared.
+without_sizes() {
+    sed 's/^flushed [0-9][0-9]*$/flushed/'
+}
+
+load() {
+    cut -d ' ' -f 1-3 /proc/loadavg
+}
+
+# compare_replies PROGRAM SCRIPT: dies unless the replies in $work/out are those in $work/want.
+compare_replies() {
+    without_sizes <"$work/out" >"$work/got"
+    cmp -s "$work/got" "$work/want" && return
+    # The shorter may be the beginning of the longer, which then differs at its next line.
+    line=$(cmp "$work/got" "$work/want" 2>/dev/null | sed 's/.* line //')
+    [ -n "$line" ] || line=$(cat "$work/got" "$work/want" | wc -l | awk -v a="$(wc -l <"$work/got")" '{ b = $1 - a; print (a < b ? a : b) + 1 }')
+    die "$1 replies otherwise to the script $2: its reply $line is '$(sed -n "${line}p" "$work/got" | cut -c 1-80)', and should be '$(sed -n "${line}p" "$work/want" | cut -c 1-80)'"
+}
+
+# run_once PROGRAM SCRIPT INPUT: runs a program and compares its replies. $work/report has then the processor time in microseconds,
+# and in kilobytes the peak memory and what files it left.
+run_once() {
+    name=$1 script=$2 input=$3 status=0
+    case $name in
+    sledpc) set -- "$program" mem ;;
+    *) set -- "$work/$name" ;;
+    esac
+    "$work/timed" "$input" "$work/out" "$work/report" "$@" 2>"$work/faults" || status=$?
+    [ "$status" = 0 ] || die "$name ($*) ended with status $status at the script $script: $(head -n 1 "$work/faults")"
+    compare_replies "$name" "$script"
+}
+
+# Every program replies to the examples as README.md says.
+check_examples() {
+    for example in "$bench"/examples/*.script; do
+        without_sizes <"${example%.script}.replies" >"$work/want"
+        for name in $programs; do
+            run_once "$name" "$(basename "$example")" "$example"
+        done
+    done
+}
+
+# measure SCRIPT SETUP: runs all programs in turn, RUNS times, if that wasn't done. A line `script` and a line for each run
+# go to $work/results.
+measure() {
+    script=$1 setup=$2
+    ! grep -q "^script $script " "$work/results" || return 0
+    say "$script"
+    script_lines "$setup" >"$work/input"
+    script_lines "$script" >"$work/lines"
+    echo "script $script $setup $(wc -l <"$work/lines")" >>"$work/results"
+    cat "$work/lines" >>"$work/input"
+    "$work/plain_map" <"$work/input" | without_sizes >"$work/want"
+    round=0
+    while [ "$round" -lt "$runs" ]; do
+        round=$((round + 1))
+        for each in $programs; do
+            run_once "$each" "$script" "$work/input"
+            echo "run $script $each $(cat "$work/report") $(awk '/^files / { kb = $2 } END { print kb + 0 }' "$work/faults")" >>"$work/results"
+        done
+    done
+}
+
+print_machine() {
+    echo "Measured on $(date +%Y-%m-%d): $(sed -n 's/^model name[^:]*: //p' /proc/cpuinfo | head -n 1)," \
+        "$(grep -c '^processor' /proc/cpuinfo) processors, Linux $(uname -r), load average $load_before at the start and $(load) at the end;" \
+        "COUNT=$count, $runs runs of each script by each program."
+    if command -v dpkg-query >/dev/null; then
+        echo "Packages: $(dpkg-query -W -f '${Package} ${Version}, ' g++ liblmdb-dev libsqlite3-dev libleveldb-dev librocksdb-dev 2>/dev/null | sed 's/, $//')."
+    fi
+    sed -n 's/^left out \([^ ]*\) \(.*\)/Left out, as the package \2 is missing: \1./p' "$work/built"
+    echo
+}
+
+load_before=$(load)
+"$bench/build.sh" "$work" >"$work/built"
+if [ -z "${PROGRAM:-}" ]; then
     # The first use builds the program.
     "$top/sledpc" mem </dev/null
-    program=$top/crates/sledpc/out/sledpc
 fi
+programs="sledpc $(grep -v '^left out ' "$work/built" | tr '\n' ' ')"
 
-# time_of SCRIPT: seconds of processor time and kilobytes, the best of five runs
-time_of() {
-    for _ in 1 2 3 4 5; do
-        "$timer" -f '%U %S %M' -o "$work/run" "$program" mem <"$1" >/dev/null
-        awk '{ print $1 + $2, $3 }' "$work/run"
-    done | sort -n | head -n 1
-}
+check_examples
+: >"$work/results"
+script_list >"$work/list"
+measure nothing nothing
+while read -r listed setup_of_listed _; do
+    measure "$setup_of_listed" nothing
+    measure "$listed" "$setup_of_listed"
+done <"$work/list"
 
-# pages N: the allocations of so many pages
-pages() {
-    awk -v n="$1" 'BEGIN { for (i = 0; i < n; i++) print "alloc" }'
-}
-
-# rounds PAGES LINES SETS GETS [EVERY]: rounds over so many pages, of which the ids begin at 2. In each round one page gets so
-# many sets, each of the next of four keys, and is asked for so often. With EVERY all is flushed after so many sets.
-rounds() {
-    awk -v pages="$1" -v lines="$2" -v sets="$3" -v gets="$4" -v every="${5:-0}" 'BEGIN {
-        for (i = 0; i < pages; i++) stamp[i] = 1
-        seed = 1
-        while (written < lines) {
-            seed = (seed * 16807) % 2147483647
-            page = seed % pages
-            for (k = 0; k < sets; k++) {
-                printf "set %d %d 61%02x %04x\n", page + 2, stamp[page], stamp[page] % 4, done % 65536
-                stamp[page]++
-                done++
-                written++
-                if (every && done % every == 0) { print "flush"; written++ }
-            }
-            for (k = 0; k < gets; k++) { printf "get %d\n", page + 2; written++ }
-        }
-    }'
-}
-
-# large PAIRS LINES: sets of the keys of page 2, which has so many pairs
-large() {
-    awk -v pairs="$1" -v lines="$2" 'BEGIN {
-        seed = 1
-        for (i = 0; i < lines; i++) {
-            seed = (seed * 16807) % 2147483647
-            printf "set 2 %d %04x %04x\n", i + 1, seed % pairs, i % 65536
-        }
-    }'
-}
-
-# large_page PAIRS: the allocation of that page
-large_page() {
-    awk -v pairs="$1" 'BEGIN { printf "alloc"; for (i = 0; i < pairs; i++) printf " %04x=%04x", i, i; printf "\n" }'
-}
-
-# row NAME SETUP SCRIPT: what the lines of a script take behind those of a setup
-row() {
-    cat "$2" "$3" >"$work/whole"
-    lines=$(wc -l <"$3")
-    awk -v n="$lines" 'BEGIN { for (i = 0; i < n; i++) print "line" }' >"$work/short"
-    sed 's/$/x/' "$3" >"$work/spoilt"
-    echo "$(time_of "$work/whole") $(time_of "$2") $(time_of "$work/short") $(time_of "$work/spoilt")" |
-        awk -v name="$1" -v n="$lines" '{
-            spent = $1 - $3
-            if (spent < 0.01) spent = 0.01
-            if ($5 < 0.01) $5 = 0.01
-            if ($7 < 0.01) $7 = 0.01
-            printf "| %s | %d | %.2f | %.1f | %.1f | %.0f |\n", name, n, n / spent / 1000000, spent / $5, spent / $7, $2 / 1024
-        }'
-}
-
-: >"$work/nothing"
-echo '| script | lines | million lines a second | beside a short line | beside a spoilt line | memory, MB |'
-echo '|---|---|---|---|---|---|'
-for number in 1000 10000 100000 1000000; do
-    pages "$number" >"$work/pages"
-    row "$number allocations" "$work/nothing" "$work/pages"
-    rounds "$number" "$count" 2 1 >"$work/script"
-    row "two sets and a get, on $number pages" "$work/pages" "$work/script"
-done
-pages 1000 >"$work/pages"
-rounds 1000 "$count" 1 0 >"$work/script"
-row 'sets on 1000 pages' "$work/pages" "$work/script"
-rounds 1000 "$count" 0 1 >"$work/script"
-row 'gets on 1000 pages' "$work/pages" "$work/script"
-for every in 1000 10 1; do
-    rounds 1000 "$count" 1 0 "$every" >"$work/script"
-    row "sets on 1000 pages, and a flush after each $every" "$work/pages" "$work/script"
-done
-large_page 1000 >"$work/pages"
-large 1000 "$((count / 10))" >"$work/script"
-row 'sets on a page of 1000 pairs' "$work/pages" "$work/script"
+print_machine
+awk -f "$bench/figures.awk" -f "$bench/tables.awk" -v programs="$programs" "$work/list" "$work/results"
+awk -f "$bench/figures.awk" -f "$bench/chart.awk" -v programs="$programs" "$work/list" "$work/results" >"$chart"
+say "the chart is in $chart"

@@ -1,0 +1,77 @@
+# The figures of measure.sh's runs, for tables.awk and chart.awk. The first file is the list of scripts, the second the results:
+# lines `script NAME SETUP LINES`, and `run NAME PROGRAM MICROSECONDS KILOBYTES FILES`. `programs` are their names in order.
+
+BEGIN {
+    program_count = split(programs, program, " ")
+    split("sledpc plain_map lmdb sqlite leveldb rocksdb", names, " ")
+    split("sledpc,plain map,LMDB,SQLite,LevelDB,RocksDB", titles, ",")
+    for (i in names) title_of[names[i]] = titles[i]
+}
+
+FNR == NR {
+    listed[++listed_count] = $1
+    title = $0
+    sub(/^[^ ]* [^ ]* /, "", title)
+    title_of[$1] = title
+    next
+}
+
+$1 == "script" {
+    setup_of[$2] = $3
+    lines_of[$2] = $4
+}
+
+$1 == "run" {
+    at = ++run_count[$2, $3]
+    time[$2, $3, at] = $4
+    memory[$2, $3, at] = $5
+    files[$2, $3] = $6
+}
+
+# nth(FIGURES, SCRIPT, WHOSE, PLACE): the figure that stands there in ascending order
+function nth(figures, script, whose, place,    count, i, j, held, sorted) {
+    count = run_count[script, whose]
+    for (i = 1; i <= count; i++) {
+        held = figures[script, whose, i]
+        for (j = i - 1; j >= 1 && sorted[j] > held; j--) sorted[j + 1] = sorted[j]
+        sorted[j + 1] = held
+    }
+    return sorted[place]
+}
+
+function least(figures, script, whose) {
+    return nth(figures, script, whose, 1)
+}
+
+function median(figures, script, whose) {
+    return nth(figures, script, whose, int((run_count[script, whose] + 1) / 2))
+}
+
+function greatest(figures, script, whose) {
+    return nth(figures, script, whose, run_count[script, whose])
+}
+
+# The microseconds of a script's own lines: the least of its runs without the least of its setup's.
+function own_time(script, whose) {
+    return least(time, script, whose) - least(time, setup_of[script], whose)
+}
+
+# What is left of a script without its setup says nothing below a twentieth of that, and little below a fifth or five milliseconds.
+function is_nothing(script, whose) {
+    return own_time(script, whose) <= least(time, setup_of[script], whose) / 20
+}
+
+function is_rough(script, whose) {
+    return own_time(script, whose) < least(time, setup_of[script], whose) / 5 || own_time(script, whose) < 5000
+}
+
+# A number with about three figures.
+function short(number) {
+    return number < 10 ? sprintf("%.2f", number) : number < 100 ? sprintf("%.1f", number) : sprintf("%.0f", number)
+}
+
+function thousands(number,    text) {
+    text = sprintf("%d", number)
+    while (match(text, /^[0-9][0-9][0-9][0-9]+/)) text = substr(text, 1, RLENGTH - 3) "," substr(text, RLENGTH - 2)
+    return text
+}

@@ -1,0 +1,90 @@
+// The script over LMDB: the rows of rows.h in one B+ tree, whose file is written through a map of memory. All that stands between
+// two flushes is one transaction, which `flush` commits without fsync. LMDB takes keys of up to 511 bytes, so a page's up to 502.
+#include "folder.h"
+#include "rows.h"
+
+#include <lmdb.h>
+
+namespace {
+
+constexpr std::size_t map_size = std::size_t(16) << 30; // room of the file's map, of which only what is written is taken
+
+void check(int status) {
+    if (status != MDB_SUCCESS) throw std::runtime_error(std::string("LMDB: ") + mdb_strerror(status));
+}
+
+MDB_val given(std::string_view bytes) { return {bytes.size(), const_cast<char *>(bytes.data())}; }
+
+std::string_view taken(const MDB_val &bytes) { return {static_cast<const char *>(bytes.mv_data), bytes.mv_size}; }
+
+class Lmdb {
+  public:
+    Lmdb() {
+        check(mdb_env_create(&environment));
+        check(mdb_env_set_mapsize(environment, map_size));
+        check(mdb_env_open(environment, folder.path().c_str(), MDB_NOSYNC | MDB_WRITEMAP | MDB_NOLOCK, 0600));
+        begin();
+    }
+
+    ~Lmdb() {
+        mdb_cursor_close(cursor);
+        mdb_txn_abort(transaction);
+        mdb_env_close(environment);
+    }
+
+    bool read(std::string_view key, std::string &value) {
+        MDB_val wanted = given(key), found;
+        const int status = mdb_cursor_get(cursor, &wanted, &found, MDB_SET);
+        if (status == MDB_NOTFOUND) return false;
+        check(status);
+        value = taken(found);
+        return true;
+    }
+
+    // The cursor stays where it was, which makes the next row of the same page cheap to find.
+    void put(std::string_view key, std::string_view value) {
+        MDB_val row = given(key), bytes = given(value);
+        check(mdb_cursor_put(cursor, &row, &bytes, 0));
+    }
+
+    void remove(std::string_view key) {
+        MDB_val row = given(key), found;
+        const int status = mdb_cursor_get(cursor, &row, &found, MDB_SET);
+        if (status == MDB_NOTFOUND) return;
+        check(status);
+        check(mdb_cursor_del(cursor, 0));
+    }
+
+    void apply() {}
+
+    template <typename Visit> void scan(std::string_view from, Visit visit) {
+        MDB_val key = given(from), value;
+        int status = mdb_cursor_get(cursor, &key, &value, MDB_SET_RANGE);
+        while (status == MDB_SUCCESS && visit(taken(key), taken(value)))
+            status = mdb_cursor_get(cursor, &key, &value, MDB_NEXT);
+        if (status != MDB_NOTFOUND) check(status);
+    }
+
+    void flush() {
+        mdb_cursor_close(cursor);
+        check(mdb_txn_commit(transaction));
+        begin();
+    }
+
+  private:
+    void begin() {
+        check(mdb_txn_begin(environment, nullptr, 0, &transaction));
+        check(mdb_dbi_open(transaction, nullptr, 0, &table));
+        check(mdb_cursor_open(transaction, table, &cursor));
+    }
+
+    Folder folder;
+    MDB_env *environment = nullptr;
+    MDB_txn *transaction = nullptr;
+    MDB_dbi table = 0;
+    MDB_cursor *cursor = nullptr;
+};
+
+} // namespace
+
+int main() { return script::run<rows::Rows<Lmdb>>(); }

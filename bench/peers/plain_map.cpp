@@ -1,0 +1,69 @@
+// The script over a plain map: a page is a stamp and a std::map of its pairs, and pages lie in a std::vector by their ids. It keeps
+// no log, so a flush does nothing: this is what the script costs where nothing is ever to be durable.
+#include "script.h"
+
+#include <map>
+
+namespace {
+
+using script::Change;
+
+struct Page {
+    std::uint64_t stamp;
+    std::map<std::string, std::string, std::less<>> pairs;
+};
+
+class PlainMap {
+  public:
+    std::uint64_t allocate(script::Pairs &&pairs) {
+        pages.push_back({1, {}});
+        fill(pages.back(), std::move(pairs));
+        return pages.size() + script::first_id - 1;
+    }
+
+    bool get(std::uint64_t id, script::Leaf &leaf) const {
+        if (!has(id)) return false;
+        const Page &page = pages[id - script::first_id];
+        leaf.stamp(page.stamp);
+        for (const auto &[key, value] : page.pairs) leaf.pair(key, value);
+        return true;
+    }
+
+    Change set(std::uint64_t id, std::uint64_t stamp, const std::string &key, const std::string &value) {
+        return change(id, stamp, [&](Page &page) { page.pairs[key] = value; });
+    }
+
+    Change del(std::uint64_t id, std::uint64_t stamp, const std::string &key) {
+        return change(id, stamp, [&](Page &page) { page.pairs.erase(key); });
+    }
+
+    Change replace(std::uint64_t id, std::uint64_t stamp, script::Pairs &&pairs) {
+        return change(id, stamp, [&](Page &page) {
+            page.pairs.clear();
+            fill(page, std::move(pairs));
+        });
+    }
+
+    void flush() {}
+
+  private:
+    bool has(std::uint64_t id) const { return id >= script::first_id && id - script::first_id < pages.size(); }
+
+    template <typename Edit> Change change(std::uint64_t id, std::uint64_t stamp, Edit edit) {
+        if (!has(id)) return Change::gone();
+        Page &page = pages[id - script::first_id];
+        if (page.stamp != stamp) return Change::stale(page.stamp);
+        edit(page);
+        return Change::made(++page.stamp);
+    }
+
+    static void fill(Page &page, script::Pairs &&pairs) {
+        for (auto &[key, value] : pairs) page.pairs.emplace_hint(page.pairs.end(), std::move(key), std::move(value));
+    }
+
+    std::vector<Page> pages;
+};
+
+} // namespace
+
+int main() { return script::run<PlainMap>(); }

@@ -1,0 +1,270 @@
+// README.md's script over a store in C++: reads lines from standard input, asks the store, and writes the replies. A program has
+// its store alone, and calls `script::run<Store>()`. A store has
+//
+//     std::uint64_t allocate(Pairs &&)       makes a page with stamp 1, and answers its id; the first is 2
+//     bool get(id, Leaf &)                   gives the reply the page's stamp and then its pairs; false where there is no page
+//     Change set(id, stamp, key, value)      the pair is put, and the stamp raised by one, where the stamp is the present one
+//     Change del(id, stamp, key)             the same: the key is taken out
+//     Change replace(id, stamp, Pairs &&)    the same: the page has these pairs alone
+//     void flush()
+//
+// and throws what it can't answer, which ends the program with status 1. `size` is no command here.
+#pragma once
+
+#include <cerrno>
+#include <charconv>
+#include <cstdint>
+#include <cstdio>
+#include <exception>
+#include <limits>
+#include <optional>
+#include <stdexcept>
+#include <string>
+#include <string_view>
+#include <unistd.h>
+#include <utility>
+#include <vector>
+
+namespace script {
+
+struct Pair {
+    std::string key, value;
+};
+using Pairs = std::vector<Pair>;
+
+constexpr std::uint64_t first_id = 2;
+constexpr std::size_t longest_line = 65536;
+
+// What came of a change: the new stamp, or the present one where the given one is stale, or neither where there is no page.
+struct Change {
+    enum class Kind { made, stale, gone } kind;
+    std::uint64_t stamp;
+
+    static Change made(std::uint64_t stamp) { return {Kind::made, stamp}; }
+    static Change stale(std::uint64_t stamp) { return {Kind::stale, stamp}; }
+    static Change gone() { return {Kind::gone, 0}; }
+};
+
+inline std::optional<std::uint64_t> number_of(std::string_view word) {
+    if (word.size() > 1 && word[0] == '0') return std::nullopt;
+    std::uint64_t number = 0;
+    const auto end = word.data() + word.size();
+    const auto [stop, error] = std::from_chars(word.data(), end, number);
+    if (error != std::errc() || stop != end) return std::nullopt;
+    return number;
+}
+
+inline int hex_value(char digit) {
+    if (digit >= '0' && digit <= '9') return digit - '0';
+    if (digit >= 'a' && digit <= 'f') return digit - 'a' + 10;
+    return -1;
+}
+
+inline std::optional<std::string> bytes_of(std::string_view word) {
+    if (word == "-") return std::string();
+    if (word.empty() || word.size() % 2 != 0) return std::nullopt;
+    std::string bytes(word.size() / 2, '\0');
+    for (std::size_t at = 0; at < bytes.size(); at++) {
+        const int high = hex_value(word[2 * at]), low = hex_value(word[2 * at + 1]);
+        if (high < 0 || low < 0) return std::nullopt;
+        bytes[at] = static_cast<char>(high * 16 + low);
+    }
+    return bytes;
+}
+
+inline void put_number(std::string &out, std::uint64_t number) {
+    char digits[20];
+    const auto end = std::to_chars(digits, digits + sizeof digits, number).ptr;
+    out.append(digits, end);
+}
+
+inline void put_bytes(std::string &out, std::string_view bytes) {
+    constexpr char digits[] = "0123456789abcdef";
+    if (bytes.empty()) out.push_back('-');
+    for (const unsigned char byte : bytes) {
+        out.push_back(digits[byte / 16]);
+        out.push_back(digits[byte % 16]);
+    }
+}
+
+// The words of a line. No word of the script is empty, so an empty one stands for none.
+class Words {
+  public:
+    explicit Words(std::string_view line) : left(line) {}
+
+    bool are_done() const { return done; }
+
+    std::string_view next() {
+        const auto end = left.find(' ');
+        const auto word = left.substr(0, end);
+        done = end == std::string_view::npos;
+        left = done ? std::string_view() : left.substr(end + 1);
+        return word;
+    }
+
+    // The rest as pairs with ascending keys, if it is that.
+    std::optional<Pairs> pairs() {
+        Pairs pairs;
+        while (!done) {
+            const auto word = next();
+            const auto mark = word.find('=');
+            if (mark == std::string_view::npos) return std::nullopt;
+            auto key = bytes_of(word.substr(0, mark)), value = bytes_of(word.substr(mark + 1));
+            if (!key || !value || (!pairs.empty() && pairs.back().key >= *key)) return std::nullopt;
+            pairs.push_back({std::move(*key), std::move(*value)});
+        }
+        return pairs;
+    }
+
+  private:
+    std::string_view left;
+    bool done = false;
+};
+
+// The reply to `get`, as the store fills it.
+class Leaf {
+  public:
+    explicit Leaf(std::string &out) : out(out) {}
+
+    void stamp(std::uint64_t stamp) {
+        out += "leaf ";
+        put_number(out, stamp);
+    }
+
+    void pair(std::string_view key, std::string_view value) {
+        out.push_back(' ');
+        put_bytes(out, key);
+        out.push_back('=');
+        put_bytes(out, value);
+    }
+
+  private:
+    std::string &out;
+};
+
+template <typename Store> class Script {
+  public:
+    void serve(std::string_view line, std::string &out) {
+        if (line.size() > longest_line || !reply(Words(line), out)) out += "error line";
+        out.push_back('\n');
+    }
+
+  private:
+    // Nothing is written where it is false: the line is no command.
+    bool reply(Words words, std::string &out) {
+        const auto name = words.next();
+        if (name == "get") return get(words, out);
+        if (name == "set" || name == "del" || name == "replace") return change(name, words, out);
+        if (name == "alloc") return allocate(words, out);
+        if (name != "flush" || !words.are_done()) return false;
+        store.flush();
+        out += "flushed 0";
+        return true;
+    }
+
+    bool allocate(Words &words, std::string &out) {
+        auto pairs = words.pairs();
+        if (!pairs) return false;
+        out += "page ";
+        put_number(out, store.allocate(std::move(*pairs)));
+        out += " 1";
+        return true;
+    }
+
+    bool get(Words &words, std::string &out) {
+        const auto id = number_of(words.next());
+        if (!id || !words.are_done()) return false;
+        Leaf leaf(out);
+        if (is_own(*id)) out += "error unsupported 1";
+        else if (!store.get(*id, leaf)) out += "none";
+        return true;
+    }
+
+    bool change(std::string_view name, Words &words, std::string &out) {
+        const auto id = number_of(words.next()), stamp = number_of(words.next());
+        if (!id || !stamp) return false;
+        if (name == "replace") {
+            auto pairs = words.pairs();
+            if (!pairs) return false;
+            if (is_own(*id)) return put_own(out);
+            return put_change(out, store.replace(*id, *stamp, std::move(*pairs)));
+        }
+        const auto key = bytes_of(words.next());
+        if (!key) return false;
+        if (name == "del") {
+            if (!words.are_done()) return false;
+            if (is_own(*id)) return put_own(out);
+            return put_change(out, store.del(*id, *stamp, *key));
+        }
+        const auto value = bytes_of(words.next());
+        if (!value || !words.are_done()) return false;
+        if (is_own(*id)) return put_own(out);
+        return put_change(out, store.set(*id, *stamp, *key, *value));
+    }
+
+    // The pages of named roots, of the counter of ids, and the mark of a batch.
+    static bool is_own(std::uint64_t id) { return id < first_id || id == std::numeric_limits<std::uint64_t>::max() - 666; }
+
+    static bool put_own(std::string &out) {
+        out += "error unsupported 1";
+        return true;
+    }
+
+    static bool put_change(std::string &out, Change change) {
+        if (change.kind == Change::Kind::gone) {
+            out += "gone";
+            return true;
+        }
+        out += change.kind == Change::Kind::made ? "ok " : "stale ";
+        put_number(out, change.stamp);
+        return true;
+    }
+
+    Store store;
+};
+
+inline void write_out(std::string &out) {
+    std::string_view left = out;
+    while (!left.empty()) {
+        const auto count = ::write(STDOUT_FILENO, left.data(), left.size());
+        if (count < 0 && errno != EINTR) throw std::runtime_error("standard output can't be written");
+        if (count > 0) left.remove_prefix(static_cast<std::size_t>(count));
+    }
+    out.clear();
+}
+
+// Serves all of standard input. Replies go out before a read that may wait, so a program at the other end of a pipe gets them.
+template <typename Store> void serve_input() {
+    Script<Store> script;
+    std::vector<char> chunk(65536);
+    std::string input, out;
+    for (;;) {
+        const auto count = ::read(STDIN_FILENO, chunk.data(), chunk.size());
+        if (count < 0 && errno == EINTR) continue;
+        if (count < 0) throw std::runtime_error("standard input can't be read");
+        if (count == 0) break;
+        input.append(chunk.data(), static_cast<std::size_t>(count));
+        std::size_t at = 0;
+        for (auto end = input.find('\n'); end != std::string::npos; end = input.find('\n', at)) {
+            script.serve(std::string_view(input).substr(at, end - at), out);
+            at = end + 1;
+            if (out.size() >= chunk.size()) write_out(out);
+        }
+        input.erase(0, at);
+        write_out(out);
+    }
+    if (!input.empty()) script.serve(input, out);
+    write_out(out);
+}
+
+template <typename Store> int run() {
+    try {
+        serve_input<Store>();
+    } catch (const std::exception &fault) {
+        std::fprintf(stderr, "%s\n", fault.what());
+        return 1;
+    }
+    return 0;
+}
+
+} // namespace script

@@ -1,0 +1,173 @@
+// The script over SQLite: a table of pages with their stamps, and a table of pairs by page and key. All that stands between two
+// flushes is one transaction, which `flush` commits to a write-ahead log without fsync. The cache has 256 MB, and statements are
+// prepared once.
+#include "folder.h"
+#include "script.h"
+
+#include <sqlite3.h>
+
+namespace {
+
+using script::Change;
+
+constexpr const char *settings = "PRAGMA journal_mode = WAL; PRAGMA synchronous = OFF; PRAGMA locking_mode = EXCLUSIVE;"
+                                 "PRAGMA cache_size = -262144; PRAGMA temp_store = MEMORY;"
+                                 "CREATE TABLE page (id INTEGER PRIMARY KEY, stamp INTEGER NOT NULL);"
+                                 "CREATE TABLE pair (page INTEGER NOT NULL, key BLOB NOT NULL, value BLOB NOT NULL,"
+                                 "                   PRIMARY KEY (page, key)) WITHOUT ROWID;"
+                                 "BEGIN;";
+
+class Database {
+  public:
+    Database() {
+        check(sqlite3_open((folder.path() + "/pages").c_str(), &handle));
+        run(settings);
+    }
+
+    ~Database() { sqlite3_close_v2(handle); }
+
+    Database(const Database &) = delete;
+    Database &operator=(const Database &) = delete;
+
+    void check(int status) const {
+        if (status != SQLITE_OK) throw std::runtime_error(std::string("SQLite: ") + sqlite3_errmsg(handle));
+    }
+
+    void run(const char *text) { check(sqlite3_exec(handle, text, nullptr, nullptr, nullptr)); }
+
+    // Whether the last statement changed a row.
+    bool has_changed() const { return sqlite3_changes(handle) > 0; }
+
+    sqlite3_stmt *prepare(const char *text) {
+        sqlite3_stmt *made = nullptr;
+        check(sqlite3_prepare_v3(handle, text, -1, SQLITE_PREPARE_PERSISTENT, &made, nullptr));
+        return made;
+    }
+
+  private:
+    Folder folder;
+    sqlite3 *handle = nullptr;
+};
+
+// A statement whose places are filled in order. Bytes that fill one live until it is done.
+class Statement {
+  public:
+    Statement(Database &database, const char *text) : database(database), made(database.prepare(text)) {}
+
+    ~Statement() { sqlite3_finalize(made); }
+
+    Statement(const Statement &) = delete;
+    Statement &operator=(const Statement &) = delete;
+
+    Statement &with(std::uint64_t number) {
+        database.check(sqlite3_bind_int64(made, ++filled, static_cast<sqlite3_int64>(number)));
+        return *this;
+    }
+
+    Statement &with(const std::string &bytes) {
+        database.check(sqlite3_bind_blob64(made, ++filled, bytes.data(), bytes.size(), SQLITE_STATIC));
+        return *this;
+    }
+
+    // Whether there is one more row.
+    bool step() {
+        const int status = sqlite3_step(made);
+        if (status != SQLITE_ROW && status != SQLITE_DONE) database.check(status);
+        return status == SQLITE_ROW;
+    }
+
+    std::uint64_t number(int column) { return static_cast<std::uint64_t>(sqlite3_column_int64(made, column)); }
+
+    std::string_view bytes(int column) {
+        const auto data = static_cast<const char *>(sqlite3_column_blob(made, column));
+        return {data, static_cast<std::size_t>(sqlite3_column_bytes(made, column))};
+    }
+
+    void reset() {
+        database.check(sqlite3_reset(made));
+        filled = 0;
+    }
+
+    void run() {
+        step();
+        reset();
+    }
+
+  private:
+    Database &database;
+    sqlite3_stmt *made;
+    int filled = 0;
+};
+
+class Sqlite {
+  public:
+    std::uint64_t allocate(script::Pairs &&pairs) {
+        const auto id = next_id++;
+        insert_page.with(id).run();
+        put_pairs(id, pairs);
+        return id;
+    }
+
+    bool get(std::uint64_t id, script::Leaf &leaf) {
+        const auto present = stamp_of(id);
+        if (!present) return false;
+        leaf.stamp(*present);
+        select_pairs.with(id);
+        while (select_pairs.step()) leaf.pair(select_pairs.bytes(0), select_pairs.bytes(1));
+        select_pairs.reset();
+        return true;
+    }
+
+    Change set(std::uint64_t id, std::uint64_t stamp, const std::string &key, const std::string &value) {
+        return change(id, stamp, [&] { put_pair.with(id).with(key).with(value).run(); });
+    }
+
+    Change del(std::uint64_t id, std::uint64_t stamp, const std::string &key) {
+        return change(id, stamp, [&] { delete_pair.with(id).with(key).run(); });
+    }
+
+    Change replace(std::uint64_t id, std::uint64_t stamp, script::Pairs &&pairs) {
+        return change(id, stamp, [&] {
+            delete_pairs.with(id).run();
+            put_pairs(id, pairs);
+        });
+    }
+
+    void flush() { database.run("COMMIT; BEGIN;"); }
+
+  private:
+    std::optional<std::uint64_t> stamp_of(std::uint64_t id) {
+        std::optional<std::uint64_t> stamp;
+        if (select_stamp.with(id).step()) stamp = select_stamp.number(0);
+        select_stamp.reset();
+        return stamp;
+    }
+
+    template <typename Edit> Change change(std::uint64_t id, std::uint64_t stamp, Edit edit) {
+        raise_stamp.with(id).with(stamp).run();
+        if (!database.has_changed()) {
+            const auto present = stamp_of(id);
+            return present ? Change::stale(*present) : Change::gone();
+        }
+        edit();
+        return Change::made(stamp + 1);
+    }
+
+    void put_pairs(std::uint64_t id, const script::Pairs &pairs) {
+        for (const auto &[key, value] : pairs) put_pair.with(id).with(key).with(value).run();
+    }
+
+    Database database;
+    Statement insert_page{database, "INSERT INTO page VALUES (?, 1)"};
+    Statement select_stamp{database, "SELECT stamp FROM page WHERE id = ?"};
+    Statement raise_stamp{database, "UPDATE page SET stamp = stamp + 1 WHERE id = ? AND stamp = ?"};
+    Statement select_pairs{database, "SELECT key, value FROM pair WHERE page = ? ORDER BY key"};
+    Statement put_pair{database, "INSERT OR REPLACE INTO pair VALUES (?, ?, ?)"};
+    Statement delete_pair{database, "DELETE FROM pair WHERE page = ? AND key = ?"};
+    Statement delete_pairs{database, "DELETE FROM pair WHERE page = ?"};
+    std::uint64_t next_id = script::first_id;
+};
+
+} // namespace
+
+int main() { return script::run<Sqlite>(); }

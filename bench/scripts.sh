@@ -1,0 +1,147 @@
+# The scripts that measure.sh runs: their names, what each is, and their lines. COUNT, of measure.sh, is about how many lines most of
+# them have; those whose single lines are dear have fewer.
+
+# script_list: a line for each, of its name, the name of its setup, and what it does. What a script takes is what all takes without
+# what its setup takes by itself.
+script_list() {
+    cat <<'END'
+absent pages_1000 gets of pages that are not there
+gets pages_1000 gets, 1,000 pages
+links_1000 pages_1000 two sets and a get, 1,000 pages
+links_10000 pages_10000 two sets and a get, 10,000 pages
+links_100000 pages_100000 two sets and a get, 100,000 pages
+links_1000000 pages_1000000 two sets and a get, 1,000,000 pages
+sets pages_1000 sets, 1,000 pages
+deletions pages_1000 a set and a deletion of its key, 1,000 pages
+replacements pages_1000 replacements by four pairs, 1,000 pages
+pages_1000000 nothing 1,000,000 allocations of empty pages
+pairs_10000 nothing 10,000 allocations with a pair
+pairs_100000 nothing 100,000 allocations with a pair
+pairs_1000000 nothing 1,000,000 allocations with a pair
+large_1000 leaf_1000 sets on a page of 1,000 pairs
+large_8000 leaf_8000 sets on a page of 8,000 pairs
+replies leaf_1000 gets of a page of 1,000 pairs
+flushes_1000 pages_1000 sets, and a flush after each 1,000
+flushes_10 pages_1000 sets, and a flush after each 10
+flushes_1 pages_1000 sets, and a flush after each
+short_sets pages_1000 1,000,000 sets of one byte to one byte, 1,000 pages
+END
+}
+
+# script_lines NAME: the lines of a script or of a setup
+script_lines() {
+    case $1 in
+    nothing) ;;
+    absent) absent "$count" ;;
+    gets) rounds 1000 "$count" 0 1 ;;
+    links_*) rounds "${1#links_}" "$count" 2 1 ;;
+    sets) rounds 1000 "$count" 1 0 ;;
+    deletions) deletions 1000 "$count" ;;
+    replacements) replacements 1000 "$((count / 5))" ;;
+    pages_*) repeated "${1#pages_}" 'alloc' ;;
+    pairs_*) repeated "${1#pairs_}" 'alloc 61=62' ;;
+    leaf_*) leaf "${1#leaf_}" ;;
+    large_1000) large 1000 "$((count / 10))" ;;
+    large_8000) large 8000 "$((count / 40))" ;;
+    replies) repeated "$((count / 200))" 'get 2' ;;
+    flushes_*) rounds 1000 "$count" 1 0 "${1#flushes_}" ;;
+    short_sets) short_sets 1000 1000000 ;;
+    *) return 1 ;;
+    esac
+}
+
+# repeated TIMES LINE: the same line so often
+repeated() {
+    awk -v n="$1" -v line="$2" 'BEGIN { for (i = 0; i < n; i++) print line }'
+}
+
+# absent LINES: gets of ids behind those of 1,000 pages
+absent() {
+    awk -v lines="$1" 'BEGIN {
+        seed = 1
+        for (i = 0; i < lines; i++) {
+            seed = (seed * 16807) % 2147483647
+            printf "get %d\n", 1002 + seed % 1000000
+        }
+    }'
+}
+
+# rounds PAGES LINES SETS GETS [EVERY]: rounds over so many pages, of which the ids begin at 2. In each round one page gets so
+# many sets, each of the next of four keys, and is asked for so often. With EVERY all is flushed after so many sets.
+rounds() {
+    awk -v pages="$1" -v lines="$2" -v sets="$3" -v gets="$4" -v every="${5:-0}" 'BEGIN {
+        for (i = 0; i < pages; i++) stamp[i] = 1
+        seed = 1
+        while (written < lines) {
+            seed = (seed * 16807) % 2147483647
+            page = seed % pages
+            for (k = 0; k < sets; k++) {
+                printf "set %d %d 61%02x %04x\n", page + 2, stamp[page], stamp[page] % 4, done % 65536
+                stamp[page]++
+                done++
+                written++
+                if (every && done % every == 0) { print "flush"; written++ }
+            }
+            for (k = 0; k < gets; k++) { printf "get %d\n", page + 2; written++ }
+        }
+    }'
+}
+
+# short_sets PAGES LINES: sets of one of four keys of one byte to a value of one byte
+short_sets() {
+    awk -v pages="$1" -v lines="$2" 'BEGIN {
+        for (i = 0; i < pages; i++) stamp[i] = 1
+        seed = 1
+        for (i = 0; i < lines; i++) {
+            seed = (seed * 16807) % 2147483647
+            page = seed % pages
+            printf "set %d %d 6%d 62\n", page + 2, stamp[page], stamp[page] % 4
+            stamp[page]++
+        }
+    }'
+}
+
+# deletions PAGES LINES: a set, and then the deletion of its key
+deletions() {
+    awk -v pages="$1" -v lines="$2" 'BEGIN {
+        for (i = 0; i < pages; i++) stamp[i] = 1
+        seed = 1
+        for (i = 0; i < lines; i += 2) {
+            seed = (seed * 16807) % 2147483647
+            page = seed % pages
+            printf "set %d %d 61%02x %04x\n", page + 2, stamp[page], i % 8, i % 65536
+            printf "del %d %d 61%02x\n", page + 2, stamp[page] + 1, i % 8
+            stamp[page] += 2
+        }
+    }'
+}
+
+# replacements PAGES LINES: a page gets four other pairs
+replacements() {
+    awk -v pages="$1" -v lines="$2" 'BEGIN {
+        for (i = 0; i < pages; i++) stamp[i] = 1
+        seed = 1
+        for (i = 0; i < lines; i++) {
+            seed = (seed * 16807) % 2147483647
+            page = seed % pages
+            value = sprintf("%04x", i % 65536)
+            printf "replace %d %d 6100=%s 6101=%s 6102=%s 6103=%s\n", page + 2, stamp[page]++, value, value, value, value
+        }
+    }'
+}
+
+# leaf PAIRS: the allocation of a page of so many pairs, in one line
+leaf() {
+    awk -v pairs="$1" 'BEGIN { printf "alloc"; for (i = 0; i < pairs; i++) printf " %04x=%02x", i, i % 256; printf "\n" }'
+}
+
+# large PAIRS LINES: sets of the keys of page 2, which has so many pairs
+large() {
+    awk -v pairs="$1" -v lines="$2" 'BEGIN {
+        seed = 1
+        for (i = 0; i < lines; i++) {
+            seed = (seed * 16807) % 2147483647
+            printf "set 2 %d %04x %04x\n", i + 1, seed % pairs, i % 65536
+        }
+    }'
+}
