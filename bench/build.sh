@@ -15,7 +15,7 @@ compile() {
 
 # peer NAME HEADER PACKAGE LIBRARY
 peer() {
-    if echo "#include <$2>" | g++ -std=c++17 -fsyntax-only -x c++ - 2>/dev/null; then
+    if printf '#if !__has_include(<%s>)\n#error\n#endif\n' "$2" | g++ -std=c++17 -E -x c++ - >/dev/null 2>&1; then
         compile "peers/$1.cpp" "$1" "$4"
         echo "$1"
     else

@@ -44,14 +44,19 @@ load() {
     cut -d ' ' -f 1-3 /proc/loadavg
 }
 
+# The first reply in $work/got that is not the one in $work/want.
+first_difference() {
+    awk -v want="$work/want" '
+        { wanted = "nothing"; getline wanted <want }
+        wanted != $0 { found = 1; print "its reply " NR " is `" substr($0, 1, 80) "`, and should be `" substr(wanted, 1, 80) "`"; exit }
+        END { if (!found) print "it has " NR " replies, and should have more" }
+    ' "$work/got"
+}
+
 # compare_replies PROGRAM SCRIPT: dies unless the replies in $work/out are those in $work/want.
 compare_replies() {
     without_sizes <"$work/out" >"$work/got"
-    cmp -s "$work/got" "$work/want" && return
-    # The shorter may be the beginning of the longer, which then differs at its next line.
-    line=$(cmp "$work/got" "$work/want" 2>/dev/null | sed 's/.* line //')
-    [ -n "$line" ] || line=$(cat "$work/got" "$work/want" | wc -l | awk -v a="$(wc -l <"$work/got")" '{ b = $1 - a; print (a < b ? a : b) + 1 }')
-    die "$1 replies otherwise to the script $2: its reply $line is '$(sed -n "${line}p" "$work/got" | cut -c 1-80)', and should be '$(sed -n "${line}p" "$work/want" | cut -c 1-80)'"
+    cmp -s "$work/got" "$work/want" || die "$1 replies otherwise to the script $2: $(first_difference)"
 }
 
 # run_once PROGRAM SCRIPT INPUT: runs a program and compares its replies. $work/report has then the processor time in microseconds,
@@ -62,7 +67,7 @@ run_once() {
     sledpc) set -- "$program" mem ;;
     *) set -- "$work/$name" ;;
     esac
-    "$work/timed" "$input" "$work/out" "$work/report" "$@" 2>"$work/faults" || status=$?
+    TMPDIR=$work "$work/timed" "$input" "$work/out" "$work/report" "$@" 2>"$work/faults" || status=$?
     [ "$status" = 0 ] || die "$name ($*) ended with status $status at the script $script: $(head -n 1 "$work/faults")"
     compare_replies "$name" "$script"
 }

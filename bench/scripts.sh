@@ -46,7 +46,7 @@ script_lines() {
     replies) repeated "$((count / 200))" 'get 2' ;;
     flushes_*) rounds 1000 "$count" 1 0 "${1#flushes_}" ;;
     short_sets) short_sets 1000 1000000 ;;
-    *) return 1 ;;
+    *) die "there is no script $1" ;;
     esac
 }
 

@@ -1,5 +1,5 @@
-// A folder of files that lie in memory (tmpfs), which is removed at the end of its life. It says then on standard error how many
-// kilobytes its files had, since a process's own peak memory counts no files but mapped ones.
+// A folder of files in TMPDIR, or else in /dev/shm, where they lie in memory. It is removed at the end of its life, and says then on
+// standard error how many kilobytes its files had, since a process's own peak memory counts no files but mapped ones.
 #pragma once
 
 #include <algorithm>
@@ -12,8 +12,10 @@
 
 class Folder {
   public:
-    Folder() : name("/dev/shm/bench-XXXXXX") {
-        if (!mkdtemp(name.data())) throw std::runtime_error("no folder can be made in /dev/shm");
+    Folder() {
+        const char *parent = std::getenv("TMPDIR");
+        name = std::string(parent ? parent : "/dev/shm") + "/bench-XXXXXX";
+        if (!mkdtemp(name.data())) throw std::runtime_error("no folder can be made for " + name);
     }
 
     Folder(const Folder &) = delete;
