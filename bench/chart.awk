@@ -5,6 +5,10 @@ function line_time(script, whose) {
     return is_nothing(script, whose) ? 0 : own_time(script, whose) / lines_of[script]
 }
 
+function number_of(script, whose) {
+    return is_nothing(script, whose) ? "-" : short(line_time(script, whose))
+}
+
 function draw(script, top,    j, length_of_bar, is_cut) {
     printf "<text class=\"head\" x=\"16\" y=\"%d\">%s</text>\n", top + 13, title_of[script]
     for (j = 1; j <= program_count; j++) {
@@ -15,7 +19,7 @@ function draw(script, top,    j, length_of_bar, is_cut) {
         printf "<text class=\"name\" x=\"%d\" y=\"%d\">%s</text>\n", left - 8, top + 12, title_of[program[j]]
         printf "<rect class=\"%s\" x=\"%d\" y=\"%d\" width=\"%.1f\" height=\"15\"/>\n", j == 1 ? "own" : "other", left, top, length_of_bar
         if (is_cut) printf "<rect class=\"back\" x=\"%d\" y=\"%d\" width=\"4\" height=\"15\"/>\n", left + bar_room - 16, top
-        printf "<text x=\"%.1f\" y=\"%d\">%s</text>\n", left + length_of_bar + 6, top + 12, length_of_bar > 0 ? short(line_time(script, program[j])) : "-"
+        printf "<text x=\"%.1f\" y=\"%d\">%s</text>\n", left + length_of_bar + 6, top + 12, number_of(script, program[j])
     }
 }
 

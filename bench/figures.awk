@@ -43,8 +43,10 @@ function least(figures, script, whose) {
     return nth(figures, script, whose, 1)
 }
 
-function median(figures, script, whose) {
-    return nth(figures, script, whose, int((run_count[script, whose] + 1) / 2))
+# Of an even number of figures the mean of the two in the middle.
+function median(figures, script, whose,    count) {
+    count = run_count[script, whose]
+    return (nth(figures, script, whose, int((count + 1) / 2)) + nth(figures, script, whose, int((count + 2) / 2))) / 2
 }
 
 function greatest(figures, script, whose) {
