@@ -103,9 +103,10 @@ module _ (pages : List Page) (ids now : List ℕ) (pid : ℕ) (less : AllByRecur
   pub free-taken : (page : Page) → slice_get pages pid ≡ Some page → is_free page.kept ≡ true → now ≡ insert_key nat_cmp ids pid → AllByRecursion (λ id. id < pid + 1) now × (now ++ rest ≡ free_ids 0 pages)
   free-taken page at free put =
       let is : now ≡ ids ++ pid ∷ [] = put ∙ behind pid ids less in
-      let step = ap (free_ids pid) (drop-at pages pid page at) ∙ ap (λ (b : Bool). if b then pid ∷ rest else rest) free in
-      (subst (AllByRecursion (λ id. id < pid + 1)) (sym is) (all-append _ ids (pid ∷ []) (later pid ids less) (omega arith, tt)),
-      ap (λ (l : List ℕ). l ++ rest) is ∙ append_assoc ids (pid ∷ []) rest ∙ ap (λ (l : List ℕ). ids ++ l) (sym step) ∙ so_far)
+      let step = ap (free_ids pid) (drop-at pages pid page at) ∙ ap (λ (b : Bool). if b then pid ∷ rest else rest) free in (
+        subst (AllByRecursion (λ id. id < pid + 1)) (sym is) (all-append _ ids (pid ∷ []) (later pid ids less) (omega arith, tt)),
+        ap (λ (l : List ℕ). l ++ rest) is ∙ append_assoc ids (pid ∷ []) rest ∙ ap (λ (l : List ℕ). ids ++ l) (sym step) ∙ so_far,
+      )
 
   pub free-passed : (page : Page) → slice_get pages pid ≡ Some page → is_free page.kept ≡ false → now ≡ ids → AllByRecursion (λ id. id < pid + 1) now × (now ++ rest ≡ free_ids 0 pages)
   free-passed page at full is =

@@ -14,7 +14,7 @@ use Rattle.sled_node.specs.Node.{Value, WholeNode, leaf_of}
 use Rattle.sled_node.specs.Pairs.{IsWithinLimit, HasPairs}
 use Rattle.sled_pagecache.specs.Token.{Token, token, pid_of, stamp_of}
 use Rattle.sled_pagecache.specs.declared.pagecache.call.Call.{Call}
-use Rattle.sled_pagecache.specs.declared.pagecache.call.Call.TheVariants.{Allocate, Get, Link, Replace, Flush, SizeOnDisk}
+use Rattle.sled_pagecache.specs.declared.pagecache.call.Call.TheVariants.{Allocate, Get, Link, Replace, Free, Flush, SizeOnDisk}
 use Rattle.sledpc.specs.Asked.{AsksBehind, AreTwo, BeginsWithToken, SpellLeaf, at_the_end}
 use Rattle.sledpc.specs.Commands.{Asks, IsToken, Spells}
 use Rattle.sledpc.specs.Cut.{HasNo}
@@ -106,6 +106,7 @@ allocate_asked text (Link old (ParentMergeIntention page)) asked = absurd (asked
 allocate_asked text (Link old ParentMergeConfirm) asked = absurd (asked.1)
 allocate_asked text (Link old ChildMergeCap) asked = absurd (asked.1)
 allocate_asked text (Replace old node) asked = let e : ◌≡◌ {A = ℕ} 97 114 = ap first_byte asked.1.3 in absurd (omega arith)
+allocate_asked text (Free old) asked = let e : ◌≡◌ {A = ℕ} 97 102 = ap first_byte asked.1.1 in absurd (omega arith)
 allocate_asked text Flush asked = let e : ◌≡◌ {A = ℕ} 97 102 = ap first_byte asked.1 in absurd (omega arith)
 allocate_asked text SizeOnDisk asked = let e : ◌≡◌ {A = ℕ} 97 115 = ap first_byte asked.1 in absurd (omega arith)
 
@@ -233,6 +234,7 @@ set_asked text (Link old (ParentMergeIntention page)) asked = absurd (asked.1)
 set_asked text (Link old ParentMergeConfirm) asked = absurd (asked.1)
 set_asked text (Link old ChildMergeCap) asked = absurd (asked.1)
 set_asked text (Replace old node) asked = let e : ◌≡◌ {A = ℕ} 115 114 = ap first_byte asked.1.3 in absurd (omega arith)
+set_asked text (Free old) asked = let e : ◌≡◌ {A = ℕ} 115 102 = ap first_byte asked.1.1 in absurd (omega arith)
 set_asked text Flush asked = let e : ◌≡◌ {A = ℕ} 115 102 = ap first_byte asked.1 in absurd (omega arith)
 set_asked text SizeOnDisk asked = let e : ◌≡◌ {A = ℕ} 101 105 = ap second_byte asked.1 in absurd (omega arith)
 
@@ -254,6 +256,7 @@ del_asked text (Link old (ParentMergeIntention page)) asked = absurd (asked.1)
 del_asked text (Link old ParentMergeConfirm) asked = absurd (asked.1)
 del_asked text (Link old ChildMergeCap) asked = absurd (asked.1)
 del_asked text (Replace old node) asked = let e : ◌≡◌ {A = ℕ} 100 114 = ap first_byte asked.1.3 in absurd (omega arith)
+del_asked text (Free old) asked = let e : ◌≡◌ {A = ℕ} 100 102 = ap first_byte asked.1.1 in absurd (omega arith)
 del_asked text Flush asked = let e : ◌≡◌ {A = ℕ} 100 102 = ap first_byte asked.1 in absurd (omega arith)
 del_asked text SizeOnDisk asked = let e : ◌≡◌ {A = ℕ} 100 115 = ap first_byte asked.1 in absurd (omega arith)
 
@@ -277,8 +280,29 @@ replace_asked text (Replace old node) asked =
     let pairs = asked.1.1 in
     let e : asked.0 ≡ decimal (pid_of old) ∷ decimal (stamp_of old) ∷ map pair_word pairs = cc (asked.1.3) in
     record { old = old; node = node; rest = after_name (map pair_word pairs); leaf = (pairs, asked.1.2, refl); token = token_in_front text old asked.0 (map pair_word pairs) asked.1.0 asked.2 e }
+replace_asked text (Free old) asked = let e : ◌≡◌ {A = ℕ} 114 102 = ap first_byte asked.1.1 in absurd (omega arith)
 replace_asked text Flush asked = let e : ◌≡◌ {A = ℕ} 114 102 = ap first_byte asked.1 in absurd (omega arith)
 replace_asked text SizeOnDisk asked = let e : ◌≡◌ {A = ℕ} 114 115 = ap first_byte asked.1 in absurd (omega arith)
+
+-- what a text behind `free` spells
+pub record IsFree (text : Option Bytes) : Type 0 where
+  pub old : Token
+  pub token : BeginsWithToken text old None
+
+pub free_asked : (text : Option Bytes) (call : Call) → AsksBehind (codes "free") text call → IsFree text
+free_asked text (Allocate node) asked = let e : ◌≡◌ {A = ℕ} 102 97 = ap first_byte asked.1.2 in absurd (omega arith)
+free_asked text (Get pid) asked = let e : ◌≡◌ {A = ℕ} 102 103 = ap first_byte asked.1.1 in absurd (omega arith)
+free_asked text (Link old (Set key value)) asked = let e : ◌≡◌ {A = ℕ} 102 115 = ap first_byte asked.1.3 in absurd (omega arith)
+free_asked text (Link old (Del key)) asked = let e : ◌≡◌ {A = ℕ} 102 100 = ap first_byte asked.1.2 in absurd (omega arith)
+free_asked text (Link old (ParentMergeIntention page)) asked = absurd (asked.1)
+free_asked text (Link old ParentMergeConfirm) asked = absurd (asked.1)
+free_asked text (Link old ChildMergeCap) asked = absurd (asked.1)
+free_asked text (Replace old node) asked = let e : ◌≡◌ {A = ℕ} 102 114 = ap first_byte asked.1.3 in absurd (omega arith)
+free_asked text (Free old) asked =
+    let e : asked.0 ≡ decimal (pid_of old) ∷ decimal (stamp_of old) ∷ [] = cc (asked.1.1) in
+    record { old = old; token = token_in_front text old asked.0 [] asked.1.0 asked.2 e }
+free_asked text Flush asked = let e : ◌≡◌ {A = ℕ} 114 108 = ap second_byte asked.1 in absurd (omega arith)
+free_asked text SizeOnDisk asked = let e : ◌≡◌ {A = ℕ} 102 115 = ap first_byte asked.1 in absurd (omega arith)
 
 -- ---- names without words
 
@@ -291,6 +315,7 @@ flush_asked text (Link old (ParentMergeIntention page)) asked = absurd (asked.1)
 flush_asked text (Link old ParentMergeConfirm) asked = absurd (asked.1)
 flush_asked text (Link old ChildMergeCap) asked = absurd (asked.1)
 flush_asked text (Replace old node) asked = let e : ◌≡◌ {A = ℕ} 102 114 = ap first_byte asked.1.3 in absurd (omega arith)
+flush_asked text (Free old) asked = let e : ◌≡◌ {A = ℕ} 108 114 = ap second_byte asked.1.1 in absurd (omega arith)
 flush_asked text Flush asked =
     let e : asked.0 ≡ [] = cc (asked.1) in
     asked.2 ∙ ap after_name e
@@ -305,6 +330,7 @@ size_asked text (Link old (ParentMergeIntention page)) asked = absurd (asked.1)
 size_asked text (Link old ParentMergeConfirm) asked = absurd (asked.1)
 size_asked text (Link old ChildMergeCap) asked = absurd (asked.1)
 size_asked text (Replace old node) asked = let e : ◌≡◌ {A = ℕ} 115 114 = ap first_byte asked.1.3 in absurd (omega arith)
+size_asked text (Free old) asked = let e : ◌≡◌ {A = ℕ} 115 102 = ap first_byte asked.1.1 in absurd (omega arith)
 size_asked text Flush asked = let e : ◌≡◌ {A = ℕ} 115 102 = ap first_byte asked.1 in absurd (omega arith)
 size_asked text SizeOnDisk asked =
     let e : asked.0 ≡ [] = cc (asked.1) in
@@ -312,7 +338,7 @@ size_asked text SizeOnDisk asked =
 
 -- ---- a line by its name
 
--- words that ask for a call begin with one of seven names
+-- words that ask for a call begin with one of eight names
 record IsNamed (words : List Bytes) : Type 0 where
   name : Bytes
   rest : List Bytes
@@ -330,6 +356,7 @@ is_named words (Link old ParentMergeConfirm) asks = absurd asks
 is_named words (Link old ChildMergeCap) asks = absurd asks
 is_named words (Replace old node) asks =
     record { name = codes "replace"; rest = decimal (pid_of old) ∷ decimal (stamp_of old) ∷ map pair_word asks.1; plain = search rules; joined = asks.3 }
+is_named words (Free old) asks = record { name = codes "free"; rest = decimal (pid_of old) ∷ decimal (stamp_of old) ∷ []; plain = search rules; joined = asks.1 }
 is_named words Flush asks = record { name = codes "flush"; rest = []; plain = search rules; joined = asks }
 is_named words SizeOnDisk asks = record { name = codes "size"; rest = []; plain = search rules; joined = asks }
 
@@ -362,18 +389,19 @@ seven_bytes (x0 ∷ x1 ∷ x2 ∷ x3 ∷ x4 ∷ x5 ∷ []) a b c d e f g n p q r
 seven_bytes (x0 ∷ x1 ∷ x2 ∷ x3 ∷ x4 ∷ x5 ∷ x6 ∷ []) a b c d e f g n p q r s t u v = cc
 seven_bytes (x0 ∷ x1 ∷ x2 ∷ x3 ∷ x4 ∷ x5 ∷ x6 ∷ y ∷ more) a b c d e f g n p q r s t u v = absurd (omega (arith, n))
 
--- there are seven names
-pub no_name : (name : Bytes) (text : Option Bytes) (call : Call) → name ≢ codes "alloc" → name ≢ codes "get" → name ≢ codes "set" → name ≢ codes "del" → name ≢ codes "replace" → name ≢ codes "flush" → name ≢ codes "size" → AsksBehind name text call → ⊥
-no_name name text (Allocate node) alloc get set del replace flush size asked = alloc (cc (asked.1.2))
-no_name name text (Get pid) alloc get set del replace flush size asked = get (cc (asked.1.1))
-no_name name text (Link old (Set key value)) alloc get set del replace flush size asked = set (cc (asked.1.3))
-no_name name text (Link old (Del key)) alloc get set del replace flush size asked = del (cc (asked.1.2))
-no_name name text (Link old (ParentMergeIntention page)) alloc get set del replace flush size asked = asked.1
-no_name name text (Link old ParentMergeConfirm) alloc get set del replace flush size asked = asked.1
-no_name name text (Link old ChildMergeCap) alloc get set del replace flush size asked = asked.1
-no_name name text (Replace old node) alloc get set del replace flush size asked = replace (cc (asked.1.3))
-no_name name text Flush alloc get set del replace flush size asked = flush (cc (asked.1))
-no_name name text SizeOnDisk alloc get set del replace flush size asked = size (cc (asked.1))
+-- there are eight names
+pub no_name : (name : Bytes) (text : Option Bytes) (call : Call) → name ≢ codes "alloc" → name ≢ codes "get" → name ≢ codes "set" → name ≢ codes "del" → name ≢ codes "replace" → name ≢ codes "free" → name ≢ codes "flush" → name ≢ codes "size" → AsksBehind name text call → ⊥
+no_name name text (Allocate node) alloc get set del replace free flush size asked = alloc (cc (asked.1.2))
+no_name name text (Get pid) alloc get set del replace free flush size asked = get (cc (asked.1.1))
+no_name name text (Link old (Set key value)) alloc get set del replace free flush size asked = set (cc (asked.1.3))
+no_name name text (Link old (Del key)) alloc get set del replace free flush size asked = del (cc (asked.1.2))
+no_name name text (Link old (ParentMergeIntention page)) alloc get set del replace free flush size asked = asked.1
+no_name name text (Link old ParentMergeConfirm) alloc get set del replace free flush size asked = asked.1
+no_name name text (Link old ChildMergeCap) alloc get set del replace free flush size asked = asked.1
+no_name name text (Replace old node) alloc get set del replace free flush size asked = replace (cc (asked.1.3))
+no_name name text (Free old) alloc get set del replace free flush size asked = free (cc (asked.1.1))
+no_name name text Flush alloc get set del replace free flush size asked = flush (cc (asked.1))
+no_name name text SizeOnDisk alloc get set del replace free flush size asked = size (cc (asked.1))
 
 -- what no call is asked for behind the name, no call is spelled for by the line
 pub none_spelled : (line name : Bytes) (text : Option Bytes) (found : Option Call) → BeginsLine line name text → IfNone found ((call : Call) → AsksBehind name text call → ⊥) → IfNone found ((call : Call) → Spells line call → ⊥)

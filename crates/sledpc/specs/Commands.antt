@@ -8,7 +8,7 @@ use Rattle.sled_node.specs.Pairs.{IsWithinLimit, HasPairs}
 use Rattle.sled_node.specs.declared.node.link.Link.TheVariants.{Set, Del, ParentMergeIntention, ParentMergeConfirm, ChildMergeCap}
 use Rattle.sled_pagecache.specs.Token.{Token, pid_of, stamp_of}
 use Rattle.sled_pagecache.specs.declared.pagecache.call.Call.{Call}
-use Rattle.sled_pagecache.specs.declared.pagecache.call.Call.TheVariants.{Allocate, Get, Link, Replace, Flush, SizeOnDisk}
+use Rattle.sled_pagecache.specs.declared.pagecache.call.Call.TheVariants.{Allocate, Get, Link, Replace, Free, Flush, SizeOnDisk}
 use Rattle.sledpc.specs.Words.{bytes_word, pair_word, AreBytes, ArePairs}
 use Rattle.sledpc.specs.Settings.{longest_line}
 
@@ -32,6 +32,7 @@ Asks words (Link old (ParentMergeIntention page)) = ⊥
 Asks words (Link old ParentMergeConfirm) = ⊥
 Asks words (Link old ChildMergeCap) = ⊥
 Asks words (Replace old node) = IsToken old × (pairs : List (Bytes × Bytes)) × IsLeafOf pairs node × (words ≡ codes "replace" ∷ decimal (pid_of old) ∷ decimal (stamp_of old) ∷ map pair_word pairs)
+Asks words (Free old) = IsToken old × (words ≡ codes "free" ∷ decimal (pid_of old) ∷ decimal (stamp_of old) ∷ [])
 Asks words Flush = words ≡ codes "flush" ∷ []
 Asks words SizeOnDisk = words ≡ codes "size" ∷ []
 

@@ -9,7 +9,7 @@ use Rattle.sled_base.specs.declared.types.Error.TheVariants.{CollectionNotFound,
 use Rattle.sled_node.specs.Node.{Item, Value, Child, WholeNode}
 use Rattle.sled_pagecache.specs.Token.{stamp_of}
 use Rattle.sled_pagecache.specs.declared.pagecache.call.Answer.{Answer}
-use Rattle.sled_pagecache.specs.declared.pagecache.call.Answer.TheVariants.{Allocated, Got, Linked, Replaced, Flushed, Sized}
+use Rattle.sled_pagecache.specs.declared.pagecache.call.Answer.TheVariants.{Allocated, Got, Linked, Replaced, Freed, Flushed, Sized}
 use Rattle.sledpc.specs.Words.{bytes_word}
 
 abbrev pub error_text : Error → Bytes
@@ -47,6 +47,10 @@ reply_of (Replaced (Ok (Ok made))) = codes "ok " ++ decimal (stamp_of made)
 reply_of (Replaced (Ok (Err None))) = codes "gone"
 reply_of (Replaced (Ok (Err (Some back)))) = codes "stale " ++ decimal (stamp_of back.0)
 reply_of (Replaced (Err e)) = error_text e
+reply_of (Freed (Ok (Ok made))) = codes "ok " ++ decimal (stamp_of made)
+reply_of (Freed (Ok (Err None))) = codes "gone"
+reply_of (Freed (Ok (Err (Some back)))) = codes "stale " ++ decimal (stamp_of back.0)
+reply_of (Freed (Err e)) = error_text e
 reply_of (Flushed (Ok written)) = codes "flushed " ++ decimal written
 reply_of (Flushed (Err e)) = error_text e
 reply_of (Sized (Ok bytes)) = codes "size " ++ decimal bytes

@@ -1,7 +1,7 @@
 -- The answers that are lent to a reply, as answers.
 use Rattle.sled_pagecache.specs.Lending.{told}
 use Rattle.sled_pagecache.specs.declared.pagecache.call.Answer.{Answer}
-use Rattle.sled_pagecache.specs.declared.pagecache.call.Answer.TheVariants.{Allocated, Got, Linked, Replaced, Flushed, Sized}
+use Rattle.sled_pagecache.specs.declared.pagecache.call.Answer.TheVariants.{Allocated, Got, Linked, Replaced, Freed, Flushed, Sized}
 use Rattle.sledpc.specs.declared.script.reply.Told.{Told}
 use Rattle.sledpc.specs.declared.script.reply.Told.TheVariants as lent
 
@@ -10,5 +10,6 @@ answer_of (lent.Allocated answer) = Allocated answer.now
 answer_of (lent.Got answer) = Got (told answer)
 answer_of (lent.Linked answer) = Linked answer.now
 answer_of (lent.Replaced answer) = Replaced answer.now
+answer_of (lent.Freed answer) = Freed answer.now
 answer_of (lent.Flushed answer) = Flushed answer.now
 answer_of (lent.Sized answer) = Sized answer.now

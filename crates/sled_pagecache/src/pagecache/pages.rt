@@ -31,8 +31,8 @@ ghost use Rattle.sled_pagecache.specs.declared.pagecache.call.Call.TheVariants a
 use super::accesses::Accesses;
 use super::add::add_page;
 use super::config::{Config, fault_of};
-use super::journal::Journal;
 use super::free::FreeIds;
+use super::journal::Journal;
 use super::judge::{Judgement, is_reserved, judge};
 use super::page::Kept;
 use super::pagetable::PageTable;

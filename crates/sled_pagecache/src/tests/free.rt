@@ -18,7 +18,10 @@ fn free(cache: &mut Cache, pid: PageId, stamp: u64) -> Freed {
     answer_of(pid, cache.free(pid, PageView::new(pid, stamp)))
 }
 
-fn answer_of(pid: PageId, answer: Result<Result<PageView, Option<(PageView, ())>>, Error>) -> Freed {
+fn answer_of(
+    pid: PageId,
+    answer: Result<Result<PageView, Option<(PageView, ())>>, Error>,
+) -> Freed {
     match answer {
         Ok(Ok(token)) if token.pid() == pid => Freed::Done(token.ts()),
         Ok(Err(Some((present, ())))) if present.pid() == pid => Freed::Stale(present.ts()),
@@ -81,15 +84,13 @@ fn left_by(alloc: Global, cache: Cache, n: usize) -> Option<Cache> {
 // How many steps of a script show what they should, before the first that doesn't.
 fn walks(alloc: Global, steps: &[Step]) -> Result<usize, Fail> {
     let mut cache = opened(alloc)?;
-    let mut done = 0;
-    for step in steps {
+    for (done, step) in steps.iter().enumerate() {
         let Some(next) = shows(alloc, cache, *step)? else {
             return Ok(done);
         };
         cache = next;
-        done += 1;
     }
-    Ok(done)
+    Ok(steps.len())
 }
 
 use Freed::{Done, Gone, Refused, Stale};
@@ -227,9 +228,7 @@ fn freed_pages_are_absent_and_used_again(rt: HostRuntime) -> Result<(), Fail> {
 fn frees_many(alloc: Global, cache: &mut Cache) -> bool {
     (2..1002).all(|pid| adds_leaf(alloc, cache, pid))
         && (0..1000).all(|n| free(cache, 2 + n * 501 % 1000, 1) == Done(2))
-        && (2..1002)
-            .rev()
-            .all(|pid| allocates(alloc, cache, pid, 3))
+        && (2..1002).rev().all(|pid| allocates(alloc, cache, pid, 3))
 }
 
 #[test]
@@ -239,17 +238,36 @@ fn a_thousand_pages_are_used_from_the_greatest_on(rt: HostRuntime) -> Result<(),
     Ok(())
 }
 
-// What a free of page 2 answers over a log that has room for so many bytes, or of which the write with this number fails; and
-// whether an allocation behind it takes the next new page, so that page 2 isn't free.
-fn free_over(alloc: Global, log: FailingLog) -> Result<(Freed, bool), Fail> {
+// What a free of page 2 answers, and whether the page is found then.
+fn frees(alloc: Global, cache: &mut PageCache<FailingLog>) -> Result<(Freed, bool), Fail> {
+    cache.allocate(Node::default(alloc))?;
+    let answer = answer_of(2, cache.free(2, PageView::new(2, 1)));
+    let is_found = matches!(cache.get(2), Ok(Some(_)));
+    Ok((answer, is_found))
+}
+
+// The same over a log that has room for so many bytes.
+fn frees_in(alloc: Global, room: u64) -> Result<(Freed, bool), Fail> {
+    let log = FailingLog::with_room(MemLog::new(alloc, 512, 16), room);
     if log.batch_open() {
         return Err("a batch".into());
     }
-    let mut cache = PageCache::start(alloc, CONFIG, log).map_err(|(error, _)| error)?;
-    cache.allocate(Node::default(alloc))?;
-    let answer = answer_of(2, cache.free(2, PageView::new(2, 1)));
-    let still = matches!(cache.get(2), Ok(Some(_)));
-    Ok((answer, still))
+    match PageCache::start(alloc, CONFIG, log) {
+        Ok(mut cache) => frees(alloc, &mut cache),
+        Err((error, _)) => Err(error.into()),
+    }
+}
+
+// The same over a log of which the write with this number fails.
+fn frees_until(alloc: Global, fails_at: u64) -> Result<(Freed, bool), Fail> {
+    let log = FailingLog::new(MemLog::new(alloc, 512, 16), 0, fails_at);
+    if log.batch_open() {
+        return Err("a batch".into());
+    }
+    match PageCache::start(alloc, CONFIG, log) {
+        Ok(mut cache) => frees(alloc, &mut cache),
+        Err((error, _)) => Err(error.into()),
+    }
 }
 
 #[test]
@@ -261,13 +279,11 @@ fn a_refused_free_leaves_the_page(rt: HostRuntime) -> Result<(), Fail> {
         (76, (Refused(Why::LogFull), true)),
         (77, (Done(2), false)),
     ] {
-        let log = FailingLog::with_room(MemLog::new(alloc, 512, 16), room);
-        assert_eq!(rt; free_over(alloc, log)?, wanted, "{room}");
+        assert_eq!(rt; frees_in(alloc, room)?, wanted, "{room}");
     }
     // three writes open the cache, and the fourth is the allocation
     for (fails_at, wanted) in [(5, (Freed::Faulty, false)), (6, (Done(2), false))] {
-        let log = FailingLog::new(MemLog::new(alloc, 512, 16), 0, fails_at);
-        assert_eq!(rt; free_over(alloc, log)?, wanted, "write {fails_at}");
+        assert_eq!(rt; frees_until(alloc, fails_at)?, wanted, "write {fails_at}");
     }
     Ok(())
 }

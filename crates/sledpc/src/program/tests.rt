@@ -241,8 +241,16 @@ fn replies_to_lines(rt: HostRuntime) -> Result<(), Fail> {
             "page 2 1\nerror line\nerror line\nerror line\nerror line\nerror line\nerror line\nleaf 1\n",
         ),
         (
-            "free 2 1\nopen 74\nroot 74\nid\npin\nseal\namp\n",
-            "error line\nerror line\nerror line\nerror line\nerror line\nerror line\nerror line\n",
+            "open 74\nroot 74\nid\npin\nseal\namp\n",
+            "error line\nerror line\nerror line\nerror line\nerror line\nerror line\n",
+        ),
+        (
+            "alloc\nfree 2 1\nget 2\nset 2 2 61 62\nalloc\n",
+            "page 2 1\nok 2\nnone\ngone\npage 2 3\n",
+        ),
+        (
+            "alloc\nfree 2 2\nfree 0 1\nfree 9 1\nfree 2\nfree 2 1 \nfree 2 1\nfree 2 2\nreplace 2 2\nsize\n",
+            "page 2 1\nstale 1\nerror unsupported 1\ngone\nerror line\nerror line\nok 2\ngone\ngone\nsize 77\n",
         ),
         (
             "size\nalloc\nset 2 1 62 76\nsize\nflush\nflush\nsize\n",

@@ -28,6 +28,7 @@ pub fn call_of(alloc: Global, line: &[u8]) -> Result<Option<Call>, AllocError>
         b"set" => set_of(alloc, arguments),
         b"del" => del_of(alloc, arguments),
         b"replace" => replace_of(alloc, arguments),
+        b"free" => Ok(free_of(arguments)),
         b"flush" => Ok(flush_of(arguments)),
         b"size" => Ok(size_of(arguments)),
         _ => Ok(None),
@@ -126,6 +127,18 @@ fn replace_of(alloc: Global, arguments: Option<&[u8]>) -> Result<Option<Call>, A
         return Ok(None);
     };
     Ok(Some(Call::Replace(old, node)))
+}
+
+// `free ID STAMP`
+fn free_of(arguments: Option<&[u8]>) -> Option<Call>
+    ensures some { IfSome result (AsksBehind (codes "free") (option_map (λ rest. rest.now) arguments.entry)) }
+    ensures none { IfNone result ((call : Call) → ¬ AsksBehind (codes "free") (option_map (λ rest. rest.now) arguments.entry) call) }
+{
+    let (old, rest) = token_of(arguments)?;
+    match rest {
+        None => Some(Call::Free(old)),
+        Some(_) => None,
+    }
 }
 
 // `flush`

@@ -23,6 +23,7 @@ pub enum Told<'a> {
     Got(Result<Option<NodeView<'a>>, Refusal>),
     Linked(&'a Result<Result<PageView, Option<(PageView, Link)>>, Error>),
     Replaced(&'a Result<Result<PageView, Option<(PageView, Node)>>, Error>),
+    Freed(&'a Result<Result<PageView, Option<(PageView, ())>>, Error>),
     Flushed(&'a Result<usize, Error>),
     Sized(&'a Result<u64, Error>),
 }
@@ -35,20 +36,21 @@ pub fn write_line<W: Write>(writer: &mut W, told: Told<'_>) -> io::Result<()>
         Told::Allocated(Ok((pid, token))) => write_page(writer, *pid, token.ts()),
         Told::Got(Ok(Some(view))) => write_node(writer, view.token().ts(), view.node()),
         Told::Got(Ok(None)) => write_text(writer, b"none\n"),
-        Told::Linked(Ok(Ok(token))) | Told::Replaced(Ok(Ok(token))) => {
-            write_labelled(writer, b"ok ", token.ts())
-        }
-        Told::Linked(Ok(Err(Some((token, _))))) | Told::Replaced(Ok(Err(Some((token, _))))) => {
+        Told::Linked(Ok(Ok(token))) | Told::Replaced(Ok(Ok(token))) | Told::Freed(Ok(Ok(token))) =>
+            { write_labelled(writer, b"ok ", token.ts()) }
+        Told::Linked(Ok(Err(Some((token, _)))))
+        | Told::Replaced(Ok(Err(Some((token, _)))))
+        | Told::Freed(Ok(Err(Some((token, ()))))) => {
             write_labelled(writer, b"stale ", token.ts())
         }
-        Told::Linked(Ok(Err(None))) | Told::Replaced(Ok(Err(None))) => write_text(
-            writer, b"gone\n",
-        ),
+        Told::Linked(Ok(Err(None))) | Told::Replaced(Ok(Err(None))) | Told::Freed(Ok(Err(None))) =>
+            write_text(writer, b"gone\n"),
         Told::Flushed(Ok(written)) => write_labelled(writer, b"flushed ", *written as u64),
         Told::Sized(Ok(bytes)) => write_labelled(writer, b"size ", *bytes),
         Told::Allocated(Err(error))
         | Told::Linked(Err(error))
         | Told::Replaced(Err(error))
+        | Told::Freed(Err(error))
         | Told::Flushed(Err(error))
         | Told::Sized(Err(error)) => write_error(writer, error),
         Told::Got(Err(refusal)) => write_error(writer, &Error::from(refusal)),

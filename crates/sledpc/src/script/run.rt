@@ -151,6 +151,10 @@ fn serve_call<L: Log, W: Write>(
             let answer = cache.replace(old.pid(), old, node);
             write_line(writer, Told::Replaced(&answer))
         }
+        Call::Free(old) => {
+            let answer = cache.free(old.pid(), old);
+            write_line(writer, Told::Freed(&answer))
+        }
         Call::Flush => {
             let answer = cache.flush();
             write_line(writer, Told::Flushed(&answer))

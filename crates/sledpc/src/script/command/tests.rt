@@ -14,6 +14,7 @@ enum Wanted<'a> {
     Set(&'a str, &'a str),
     Del(&'a str),
     Replace(&'a [(&'a str, &'a str)]),
+    Free,
     Flush,
     Size,
 }
@@ -46,6 +47,7 @@ fn is_wanted(call: &Call, want: Wanted<'_>) -> bool {
             *old == token && at.as_slice() == key.as_bytes()
         }
         (Call::Replace(old, node), Wanted::Replace(pairs)) => *old == token && is_leaf(node, pairs),
+        (Call::Free(old), Wanted::Free) => *old == token,
         (Call::Flush, Wanted::Flush) | (Call::SizeOnDisk, Wanted::Size) => true,
         _ => false,
     }
@@ -77,6 +79,7 @@ fn asks_for_calls(rt: HostRuntime) -> Result<(), Fail> {
         ("del 2 1 62", Wanted::Del("b")),
         ("replace 2 1", Wanted::Replace(&[])),
         ("replace 2 1 61=62", Wanted::Replace(&[("a", "b")])),
+        ("free 2 1", Wanted::Free),
         ("flush", Wanted::Flush),
         ("size", Wanted::Size),
     ] {
@@ -111,6 +114,12 @@ fn asks_for_nothing(rt: HostRuntime) -> Result<(), Fail> {
         "replace 2",
         "replace 2 1 ",
         "replace 2 1 62=76 61=77",
+        "free",
+        "free 2",
+        "free 2 ",
+        "free 2 1 ",
+        "free 2 1 61",
+        "free 2 01",
         "flush ",
         "flush 2",
         "size ",

@@ -53,7 +53,12 @@ returns-in-alloc-clause-none c =
     none_spelled_if_ok _ _ _ _ c.first_word.ensures (rw name c.allocate_of.ensures.none)
 
 pub returns-in_default-clause-none : goal.returns-in_default-clause-none
-returns-in_default-clause-none c = λ call spells. no_name _ _ call (λ e. grind (arith, common_steps)) (λ e. grind (arith, common_steps)) (λ e. grind (arith, common_steps)) (λ e. grind (arith, common_steps)) (λ e. grind (arith, common_steps)) (λ e. grind (arith, common_steps)) (λ e. grind (arith, common_steps)) (spelled_behind _ _ _ call c.first_word.ensures spells)
+returns-in_default-clause-none c = λ call spells. no_name _ _ call (λ e. grind (arith, common_steps)) (λ e. grind (arith, common_steps)) (λ e. grind (arith, common_steps)) (λ e. grind (arith, common_steps)) (λ e. grind (arith, common_steps)) (λ e. grind (arith, common_steps)) (λ e. grind (arith, common_steps)) (λ e. grind (arith, common_steps)) (spelled_behind _ _ _ call c.first_word.ensures spells)
+
+pub returns-in-free-clause-none : goal.returns-in-free-clause-none
+returns-in-free-clause-none c =
+    let name : c.first_word.result.0.now ≡ codes "free" = grind (arith, common_steps) in
+    none_spelled _ _ _ _ c.first_word.ensures (rw name c.free_of.ensures.none)
 
 pub returns-in-flush-clause-none : goal.returns-in-flush-clause-none
 returns-in-flush-clause-none c =

@@ -1,5 +1,5 @@
 use Rattle.sled_pagecache.specs.Lending.{told}
-use Rattle.sled_pagecache.specs.declared.pagecache.call.Answer.TheVariants.{Allocated, Got, Linked, Replaced, Flushed, Sized}
+use Rattle.sled_pagecache.specs.declared.pagecache.call.Answer.TheVariants.{Allocated, Got, Linked, Replaced, Freed, Flushed, Sized}
 use Rattle.sledpc.proofs.Making.{flush_tells, size_tells}
 use Rattle.sledpc.proofs.script.run.serve_call.Goals as goal
 
@@ -22,6 +22,13 @@ returns-in-Replace g c = record {
   answer = Replaced c.replace-answer.result;
   made = record { step = rw (c.in-Replace.is) c.replace-answer.ensures.step; bytes = tt; faults = c.replace-answer.ensures.blame };
   written = c.write_line-in-Replace.ensures;
+}
+
+pub returns-in-Free : goal.returns-in-Free
+returns-in-Free g c = record {
+  answer = Freed c.free-answer.result;
+  made = record { step = rw (c.in-Free.is) c.free-answer.ensures.step; bytes = tt; faults = c.free-answer.ensures.blame };
+  written = c.write_line-in-Free.ensures;
 }
 
 -- what the cache is once the node has come back
