@@ -10,7 +10,7 @@
 //! - `add`, `judge`, `swap`: making a page, what the token of a swap is worth, and the swaps
 //! - `pull`, `chain`, `reading`: reading a page that doesn't lie in memory, its chain, and the node of its messages
 //! - `write`: writing a page's messages to the log
-//! - `page`, `pagetable`: pages as the cache keeps them, and the table of them by their ids
+//! - `page`, `pagetable`, `free`: pages as the cache keeps them, the table of them by their ids, and the ids of the free ones
 //! - `journal`: the log of a cache, and the write error that is kept of it
 
 mod accesses;
