@@ -35,7 +35,7 @@ times place [] = 0
 times place (slot ∷ others) = (if slot.0 == place then 1 else 0) + times place others
 
 -- The list from the head, the free slots from the first, and the slots that are neither.
-pub record IsKeptAs (out : List Slot) (links : Links) (list : List Listed) (spare : List Slot) : Type 0 where
+pub record IsLinkedListOf (out : List Slot) (links : Links) (list : List Listed) (spare : List Slot) : Type 0 where
   pub linked : AreLinked links.cells.items None list None
   pub head : links.head ≡ first_slot_or None list
   pub tail : links.tail ≡ last_slot list
@@ -65,8 +65,8 @@ abbrev pub listed_in : Links → List Listed
 listed_in links = listed_from links.cells.items links.len links.head
 
 -- The cells are linked as the list that is found in them asks. The slots `out` are neither listed nor free.
-abbrev pub IsKept : List Slot → Links → Type 0
-IsKept out links = (spare : List Slot) × IsKeptAs out links (listed_in links) spare
+abbrev pub IsLinkedList : List Slot → Links → Type 0
+IsLinkedList out links = (spare : List Slot) × IsLinkedListOf out links (listed_in links) spare
 
 -- The item of the slot is taken out.
 abbrev pub TakesOut : Slot → ℕ → List Listed → List Listed → Type 0
@@ -89,6 +89,6 @@ abbrev pub with_after : Option Slot → Link → Link
 with_after after link = record link { after = after }
 
 -- The slot is a place in the cells, if it is there.
-abbrev pub IsWithin : Option Slot → List Cell → Type 0
-IsWithin None cells = Unit {0}
-IsWithin (Some slot) cells = slot.0 < length cells
+abbrev pub IsSlotIn : Option Slot → List Cell → Type 0
+IsSlotIn None cells = Unit {0}
+IsSlotIn (Some slot) cells = slot.0 < length cells

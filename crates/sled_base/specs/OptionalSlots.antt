@@ -11,10 +11,10 @@ no_slot = 18446744073709551615
 abbrev pub slot_of : ℕ → Option Slot
 slot_of n = if n == no_slot then None else Some (record { 0 = n })
 
-abbrev pub number_of : Option Slot → ℕ
-number_of None = no_slot
-number_of (Some slot) = slot.0
+abbrev pub slot_number : Option Slot → ℕ
+slot_number None = no_slot
+slot_number (Some slot) = slot.0
 
-pub number_of-slot_of : (n : ℕ) → number_of (slot_of n) ≡ n
-number_of-slot_of n =
+pub slot_number-slot_of : (n : ℕ) → slot_number (slot_of n) ≡ n
+slot_number-slot_of n =
     elim (cases_eq n no_slot) [ inl same ↦ rw (eq-eqb n no_slot same) (sym same) | inr other ↦ rw (ne_eqb n no_slot other) refl ]

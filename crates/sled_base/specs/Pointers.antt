@@ -3,9 +3,9 @@ use Rattle.std.specs.Prelude.{◌≡◌, ℕ, ℤ}
 use Rattle.sled_base.specs.declared.types.DiskPtr.{DiskPtr}
 use Rattle.sled_base.specs.declared.types.DiskPtr.TheVariants.{Inline, Blob}
 
-abbrev pub place_of : DiskPtr → ℕ
-place_of (Inline place) = place
-place_of (Blob place pointer) = place
+abbrev pub offset_of : DiskPtr → ℕ
+offset_of (Inline place) = place
+offset_of (Blob place pointer) = place
 
 abbrev pub IsBlob : DiskPtr → Type 0
 IsBlob (Inline place) = ⊥

@@ -15,20 +15,20 @@ pub record Shelf : Type 0 where
 abbrev pub entry_at : List (Option Entry) → ℕ → Option Entry
 entry_at entries place = slice_index_or entries place None
 
-abbrev pub size_of : Option Entry → ℕ
-size_of None = 0
-size_of (Some entry) = entry.size
+abbrev pub entry_size : Option Entry → ℕ
+entry_size None = 0
+entry_size (Some entry) = entry.size
 
 -- what is listed, with the sizes of the entries
 abbrev pub listings_of : List (Option Entry) → List Listed → List Listing
-listings_of entries list = map (λ x. listing x.item (size_of (entry_at entries x.item))) list
+listings_of entries list = map (λ x. listing x.item (entry_size (entry_at entries x.item))) list
 
 -- the place has an entry, which names the slot
 abbrev pub HasSlot : List (Option Entry) → Listed → Type 0
 HasSlot entries x = (size : ℕ) × (entry_at entries x.item ≡ Some (record { slot = x.slot; size = size }))
 
 -- Each place that is listed has an entry with its slot, and no other place has one. The sizes add up to the sum.
-pub record IsKept (entries : List (Option Entry)) (list : List Listed) (sum : ℕ) : Type 0 where
+pub record IsIndexed (entries : List (Option Entry)) (list : List Listed) (sum : ℕ) : Type 0 where
   pub named : AllByRecursion (HasSlot entries) list
   pub there : (place : ℕ) (entry : Entry) → entry_at entries place ≡ Some entry → Contains list (listed entry.slot place)
   pub distinct : AreDistinct (slots list)

@@ -31,13 +31,13 @@ pub struct DoublyLinkedList {
 impl Model for DoublyLinkedList {
     ghost use Rattle.std.specs.Prelude.{[], List};
     ghost use Rattle.sled_base.specs.Dll.{Listed};
-    ghost use Rattle.sled_base.specs.Links.{listed_in, IsKept};
+    ghost use Rattle.sled_base.specs.Links.{listed_in, IsLinkedList};
 
     ghost Value = { List Listed };
 
     ghost view = { λ list. listed_in list.links };
 
-    ghost invariant = { λ list. IsKept [] list.links };
+    ghost invariant = { λ list. IsLinkedList [] list.links };
 }
 
 impl DoublyLinkedList {

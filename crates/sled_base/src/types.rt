@@ -2,7 +2,7 @@
 
 ghost use Rattle.std.specs.Prelude.{◌≡◌, ◌↔◌, IsTrue};
 ghost use Rattle.sled_base.specs.Errors.{error_of, number_of_why, number_of_bug};
-ghost use Rattle.sled_base.specs.Pointers.{IsBlob, place_of, IsBlobAt};
+ghost use Rattle.sled_base.specs.Pointers.{IsBlob, offset_of, IsBlobAt};
 ghost use Rattle.sled_base.specs.declared.types.Error.TheVariants.{OutOfMemory};
 
 mod page_state;
@@ -40,7 +40,7 @@ pub enum DiskPtr {
 impl DiskPtr {
     /// The place of the message.
     pub fn lid(self) -> LogOffset
-        ensures { result ≡ place_of self }
+        ensures { result ≡ offset_of self }
     {
         match self {
             DiskPtr::Inline(lid) | DiskPtr::Blob(lid, _) => lid,

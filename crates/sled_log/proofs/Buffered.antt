@@ -4,35 +4,35 @@ use Rattle.std.specs.Prelude.{⊤}
 use Rattle.std.proofs.lemmas.Bool.{cases_lt}
 use Rattle.sled_log.specs.Calls.{Called, begun_by}
 use Rattle.sled_log.specs.Events.{Event}
-use Rattle.sled_log.specs.Laws.{IsFair-none, IsBeginning-all, IsBeginning-none}
+use Rattle.sled_log.specs.Laws.{IsFair-none, IsPrefix-all, IsPrefix-none}
 use Rattle.sled_log.specs.Memory.{state_of, clock_of, might_have_left, counts_of, was_at, Remembers}
-use Rattle.sled_log.specs.Messages.{Entry, Message, Told, effect_of, effect_of_entry}
-use Rattle.sled_log.specs.State.{State, Adds, IsLeft, StopsLeave, told_state}
-use Rattle.sled_log.specs.TellingLaws.{told_events, Adds-told}
+use Rattle.sled_log.specs.Messages.{Entry, Message, Messages, effect_of, effect_of_entry}
+use Rattle.sled_log.specs.LogState.{LogState, Adds, IsLeft, CrashesSinceLeave, unplaced_state}
+use Rattle.sled_log.specs.UnplacedLaws.{unplaced_events, Adds-unplaced}
 use Rattle.sled_log.specs.declared.log.LogError.{LogError}
 use Rattle.sled_log.specs.declared.log.LogError.TheVariants.{Memory, Full, ReadFault, WriteFault, Corruption}
 use Rattle.sled_log.specs.declared.memory.MemLog.{MemLog}
 
 -- the stable chains at a moment, without their places
-abbrev pub stable_at : ℕ → MemLog → List Told
-stable_at moment log = (told_state (was_at moment log)).stable
+abbrev pub stable_at : ℕ → MemLog → List Messages
+stable_at moment log = (unplaced_state (was_at moment log)).stable
 
 -- what a stop from `since` on might have left: what was stable at its moment
-abbrev pub might_have_kept : MemLog → ℕ → List Told → Type 0
+abbrev pub might_have_kept : MemLog → ℕ → List Messages → Type 0
 might_have_kept log since pages = (at : ℕ) × (since ≤ at) × (at ≤ clock_of log) × (pages ≡ stable_at at log)
 
 -- the stable chains after a call are those before it, and what is pending or came up to a fair cut
-stable_after : (old new : State Entry) (events : List (Event Entry)) → Adds effect_of_entry old events new → IsLeft effect_of (told_state old) (told_events events) (told_state new).stable
+stable_after : (old new : LogState Entry) (events : List (Event Entry)) → Adds effect_of_entry old events new → IsLeft effect_of (unplaced_state old) (unplaced_events events) (unplaced_state new).stable
 stable_after old new events added =
-    let tells = Adds-told old new events added in
-    record { came = told_events events; beginning = IsBeginning-all (told_events events); cut = tells.cut; fair = tells.fair; is = tells.stable }
+    let tells = Adds-unplaced old new events added in
+    record { came = unplaced_events events; beginning = IsPrefix-all (unplaced_events events); cut = tells.cut; fair = tells.fair; is = tells.stable }
 
-module _ {T : Type 0} (old new : MemLog) (count : ℕ) (events : T → List (Event Entry)) (begun : List (Event Message)) (tells : (answer : T) → told_events (events answer) ≡ begun) where
+module _ {T : Type 0} (old new : MemLog) (count : ℕ) (events : T → List (Event Entry)) (begun : List (Event Message)) (tells : (answer : T) → unplaced_events (events answer) ≡ begun) where
   -- so it is for each answer: the log in memory meets no write fault
   stable_called : (result : Result T LogError) → Called ⊤ state_of clock_of might_have_left counts_of old new count events begun result
-      → IsLeft effect_of (told_state (state_of old)) (begun_by result begun) (stable_at (clock_of new) new)
+      → IsLeft effect_of (unplaced_state (state_of old)) (begun_by result begun) (stable_at (clock_of new) new)
   stable_called (Ok answer) called =
-      subst (λ (l : List (Event Message)). IsLeft effect_of (told_state (state_of old)) l (stable_at (clock_of new) new)) (tells answer)
+      subst (λ (l : List (Event Message)). IsLeft effect_of (unplaced_state (state_of old)) l (stable_at (clock_of new) new)) (tells answer)
       (stable_after (state_of old) (state_of new) (events answer) (called.added tt))
   stable_called (Err Memory) called = stable_after (state_of old) (state_of new) [] (called.refused tt refl)
   stable_called (Err Full) called = stable_after (state_of old) (state_of new) [] (called.refused tt refl)
@@ -41,21 +41,21 @@ module _ {T : Type 0} (old new : MemLog) (count : ℕ) (events : T → List (Eve
   stable_called (Err WriteFault) called = absurd (⊎_elim (λ more. omega arith) (λ most. omega arith) (called.cause.write refl))
 
 -- what was stable and no event of what may have begun
-stable_before : (state : State Message) (begun : List (Event Message)) → IsLeft effect_of state begun state.stable
-stable_before state begun = record { came = []; beginning = IsBeginning-none begun; cut = 0; fair = IsFair-none (state.pending ++ []); is = refl }
+stable_before : (state : LogState Message) (begun : List (Event Message)) → IsLeft effect_of state begun state.stable
+stable_before state begun = record { came = []; beginning = IsPrefix-none begun; cut = 0; fair = IsFair-none (state.pending ++ []); is = refl }
 
 -- A stop at any moment of a call leaves what was stable before it, or what is stable after it.
-stable_stops : {L : Type 0} (log_of : L → MemLog) (old new : L) (P : List Told → Type 0)
+stable_stops : {L : Type 0} (log_of : L → MemLog) (old new : L) (P : List Messages → Type 0)
     → P (stable_at (clock_of (log_of old)) (log_of old))
     → P (stable_at (clock_of (log_of new)) (log_of new))
     → Remembers (log_of old) (log_of new)
-    → StopsLeave (λ log. clock_of (log_of log)) (λ log t pages. might_have_kept (log_of log) t pages) old new P
+    → CrashesSinceLeave (λ log. clock_of (log_of log)) (λ log t pages. might_have_kept (log_of log) t pages) old new P
 stable_stops {L} log_of old new P before after past =
     let later = past.later in
     let one = past.one in
-    let is_before : (at : ℕ) (pages : List Told) → at ≤ clock_of (log_of old) → pages ≡ stable_at at (log_of new) → pages ≡ stable_at at (log_of old) = λ at pages le is.
-    is ∙ ap (λ (state : State Entry). (told_state state).stable) (past.past at le) in
-    let is_after : (at : ℕ) (pages : List Told) → at ≡ clock_of (log_of new) → pages ≡ stable_at at (log_of new) → P pages = λ at pages now is.
+    let is_before : (at : ℕ) (pages : List Messages) → at ≤ clock_of (log_of old) → pages ≡ stable_at at (log_of new) → pages ≡ stable_at at (log_of old) = λ at pages le is.
+    is ∙ ap (λ (state : LogState Entry). (unplaced_state state).stable) (past.past at le) in
+    let is_after : (at : ℕ) (pages : List Messages) → at ≡ clock_of (log_of new) → pages ≡ stable_at at (log_of new) → P pages = λ at pages now is.
     subst P (sym (is ∙ ap (λ moment. stable_at moment (log_of new)) now)) after in
     record {
       later = later;
@@ -70,18 +70,18 @@ stable_stops {L} log_of old new P before after past =
           ⊎_elim (λ lt. inr (is_after left.0 pages (omega arith) left.3)) (λ le. inl (left.0, left.1, le, is_before left.0 pages le left.3)) (cases_lt (clock_of (log_of old)) left.0);
       kept = λ t pages le left.
           let to = left.2 in
-          (left.0, left.1, omega arith, left.3 ∙ ap (λ (state : State Entry). (told_state state).stable) (sym (past.past left.0 to)));
+          (left.0, left.1, omega arith, left.3 ∙ ap (λ (state : LogState Entry). (unplaced_state state).stable) (sym (past.past left.0 to)));
     }
 
 -- What a call of the log in memory does, it does of a log with a buffer over it.
 pub called_buffered : {L T : Type 0} (log_of : L → MemLog) (old new : L) (count : ℕ) (events : T → List (Event Entry)) (begun : List (Event Message)) (result : Result T LogError)
-    → ((answer : T) → told_events (events answer) ≡ begun)
+    → ((answer : T) → unplaced_events (events answer) ≡ begun)
     → Called ⊤ state_of clock_of might_have_left counts_of (log_of old) (log_of new) count events begun result
     → Remembers (log_of old) (log_of new)
     → Called ⊤ (λ log. state_of (log_of log)) (λ log. clock_of (log_of log)) (λ log t pages. might_have_kept (log_of log) t pages) (λ log. counts_of (log_of log)) old new count events begun result
 called_buffered {L} {T} log_of old new count events begun result tells called past =
     let begins = begun_by result begun in
-    let before = told_state (state_of (log_of old)) in
+    let before = unplaced_state (state_of (log_of old)) in
     let after = stable_called (log_of old) (log_of new) count events begun tells result called in
     record {
       added = called.added;

@@ -6,7 +6,7 @@ use Rattle.std.proofs.lemmas.List.{append-nil, take-append-drop, take_more}
 use Rattle.std.proofs.Math.Seq.{drop-cons}
 use Rattle.sled_log.specs.Events.{Event}
 use Rattle.sled_log.specs.Chains.{chains_after}
-use Rattle.sled_log.specs.Messages.{Message, Told, effect_of}
+use Rattle.sled_log.specs.Messages.{Message, Messages, effect_of}
 use Rattle.sled_log.specs.Runs.{events_of, events_of_all, can_make, leaves_open, can_make_all}
 use Rattle.sled_log.specs.declared.runs.LogCall.{LogCall}
 
@@ -20,7 +20,7 @@ module _ (calls : List LogCall) (i : ℕ) (call : LogCall) (lt : i < length call
       ∙ ap (λ (l : List (Event Message)). events_of_all (take i calls) ++ l) (append-nil (events_of (get_or calls i call)) ∙ ap events_of (sym is)))
 
   -- the next call can be made, and then the others
-  pub can-next : (pages : List Told) (batch : Bool) → can_make_all pages batch (drop i calls) ≡ true → (can_make pages batch call ≡ true) × (can_make_all (chains_after effect_of pages (events_of call)) (leaves_open batch call) (drop (i + 1) calls) ≡ true)
+  pub can-next : (pages : List Messages) (batch : Bool) → can_make_all pages batch (drop i calls) ≡ true → (can_make pages batch call ≡ true) × (can_make_all (chains_after effect_of pages (events_of call)) (leaves_open batch call) (drop (i + 1) calls) ≡ true)
   can-next pages batch can =
       let next : drop i calls ≡ call ∷ drop (i + 1) calls = drop-cons calls i call lt ∙ ap (λ n. get_or calls i call ∷ drop n calls) (sym (add-one i)) ∙ ap (λ c. c ∷ drop (i + 1) calls) (sym is) in
       and_parts (can_make pages batch call) (can_make_all (chains_after effect_of pages (events_of call)) (leaves_open batch call) (drop (i + 1) calls)) (sym (ap (can_make_all pages batch) next) ∙ can)

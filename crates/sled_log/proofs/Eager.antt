@@ -5,11 +5,11 @@ use Rattle.std.proofs.lemmas.List.{append-nil}
 use Rattle.sled_log.specs.Batches.{is_open}
 use Rattle.sled_log.specs.Calls.{Called, HasCause, begun_by, is_write_fault}
 use Rattle.sled_log.specs.Events.{Event}
-use Rattle.sled_log.specs.Laws.{Adds-then, StopsLeave-then, is_open-Adds}
+use Rattle.sled_log.specs.Laws.{Adds-then, CrashesSinceLeave-then, is_open-Adds}
 use Rattle.sled_log.specs.Memory.{state_of, clock_of, might_have_left, counts_of}
 use Rattle.sled_log.specs.Messages.{Entry, Message, effect_of, effect_of_entry}
-use Rattle.sled_log.specs.State.{Adds, IsLeft, StopsLeave, told_state}
-use Rattle.sled_log.specs.TellingLaws.{told_events, Adds-told}
+use Rattle.sled_log.specs.LogState.{Adds, IsLeft, CrashesSinceLeave, unplaced_state}
+use Rattle.sled_log.specs.UnplacedLaws.{unplaced_events, Adds-unplaced}
 use Rattle.sled_log.specs.declared.log.LogError.{LogError}
 use Rattle.sled_log.specs.declared.log.LogError.TheVariants.{Memory, Full, ReadFault, WriteFault, Corruption}
 use Rattle.sled_log.specs.declared.memory.MemLog.{MemLog}
@@ -17,22 +17,22 @@ use Rattle.sled_log.specs.declared.memory.MemLog.{MemLog}
 -- a call from `old` to `mid`, behind which something becomes stable
 module _ (old mid new : MemLog)
     (adds : Adds effect_of_entry (state_of mid) [] (state_of new))
-    (stop : StopsLeave clock_of might_have_left mid new (IsLeft effect_of (told_state (state_of mid)) []))
+    (stop : CrashesSinceLeave clock_of might_have_left mid new (IsLeft effect_of (unplaced_state (state_of mid)) []))
     (counts : counts_of new ≡ counts_of mid) where
   adds_settled : (events : List (Event Entry)) → Adds effect_of_entry (state_of old) events (state_of mid) → Adds effect_of_entry (state_of old) events (state_of new)
   adds_settled events first =
       subst (λ (l : List (Event Entry)). Adds effect_of_entry (state_of old) l (state_of new)) (append-nil events)
       (Adds-then effect_of_entry (state_of old) (state_of mid) (state_of new) events [] first adds)
 
-  stop_settled : (events : List (Event Entry)) (begun : List (Event Message)) → told_events events ≡ begun → Adds effect_of_entry (state_of old) events (state_of mid)
-      → StopsLeave clock_of might_have_left old mid (IsLeft effect_of (told_state (state_of old)) begun)
-      → StopsLeave clock_of might_have_left old new (IsLeft effect_of (told_state (state_of old)) begun)
+  stop_settled : (events : List (Event Entry)) (begun : List (Event Message)) → unplaced_events events ≡ begun → Adds effect_of_entry (state_of old) events (state_of mid)
+      → CrashesSinceLeave clock_of might_have_left old mid (IsLeft effect_of (unplaced_state (state_of old)) begun)
+      → CrashesSinceLeave clock_of might_have_left old new (IsLeft effect_of (unplaced_state (state_of old)) begun)
   stop_settled events begun tells first stops =
-      let before = told_state (state_of old) in
-      let after = told_state (state_of mid) in
-      let told = subst (λ (l : List (Event Message)). Adds effect_of before l after) tells (Adds-told (state_of old) (state_of mid) events first) in
-      subst (λ (l : List (Event Message)). StopsLeave clock_of might_have_left old new (IsLeft effect_of before l)) (append-nil begun)
-      (StopsLeave-then clock_of might_have_left old mid new before after begun [] told stops stop)
+      let before = unplaced_state (state_of old) in
+      let after = unplaced_state (state_of mid) in
+      let told = subst (λ (l : List (Event Message)). Adds effect_of before l after) tells (Adds-unplaced (state_of old) (state_of mid) events first) in
+      subst (λ (l : List (Event Message)). CrashesSinceLeave clock_of might_have_left old new (IsLeft effect_of before l)) (append-nil begun)
+      (CrashesSinceLeave-then clock_of might_have_left old mid new before after begun [] told stops stop)
 
   cause_settled : {T : Type 0} (result : Result T LogError) → HasCause (counts_of old) (counts_of mid) result → HasCause (counts_of old) (counts_of new) result
   cause_settled result cause = subst (λ c. HasCause (counts_of old) c result) (sym counts) cause
@@ -61,7 +61,7 @@ module _ (old mid new : MemLog)
 
   -- No device fails, so there is no write fault.
   called_settled : {T : Type 0} (count : ℕ) (events : T → List (Event Entry)) (begun : List (Event Message)) (result : Result T LogError)
-      → ((answer : T) → told_events (events answer) ≡ begun)
+      → ((answer : T) → unplaced_events (events answer) ≡ begun)
       → Called ⊤ state_of clock_of might_have_left counts_of old mid count events begun result
       → Called ⊤ state_of clock_of might_have_left counts_of old new count events begun result
   called_settled count events begun (Ok answer) tells called = record {
@@ -84,9 +84,9 @@ module _ (old mid new : MemLog)
 pub called_eager : {L T : Type 0} (inner : L → MemLog) (old new : L) (mid : MemLog)
     (count : ℕ) (events : T → List (Event Entry)) (begun : List (Event Message)) (result : Result T LogError)
     → Adds effect_of_entry (state_of mid) [] (state_of (inner new))
-    → StopsLeave clock_of might_have_left mid (inner new) (IsLeft effect_of (told_state (state_of mid)) [])
+    → CrashesSinceLeave clock_of might_have_left mid (inner new) (IsLeft effect_of (unplaced_state (state_of mid)) [])
     → counts_of (inner new) ≡ counts_of mid
-    → ((answer : T) → told_events (events answer) ≡ begun)
+    → ((answer : T) → unplaced_events (events answer) ≡ begun)
     → Called ⊤ state_of clock_of might_have_left counts_of (inner old) mid count events begun result
     → Called ⊤ (λ log. state_of (inner log)) (λ log. clock_of (inner log)) (λ log. might_have_left (inner log)) (λ log. counts_of (inner log)) old new count events begun result
 called_eager inner old new mid count events begun result adds stop counts tells called =

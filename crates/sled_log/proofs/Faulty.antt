@@ -7,24 +7,24 @@ use Rattle.sled_log.specs.Batches.{is_open}
 use Rattle.sled_log.specs.Calls.{Counts, Called, HasGrown, begun_by, one_more}
 use Rattle.sled_log.specs.Events.{Event}
 use Rattle.sled_log.specs.Items.{left_now}
-use Rattle.sled_log.specs.Laws.{Adds-none, IsLeft-more, StopsLeave-none}
+use Rattle.sled_log.specs.Laws.{Adds-none, IsLeft-more, CrashesSinceLeave-none}
 use Rattle.sled_log.specs.Memory.{kept_in, state_of, clock_of, might_have_left, counts_of}
-use Rattle.sled_log.specs.Messages.{Entry, Message, Told, effect_of, effect_of_entry}
+use Rattle.sled_log.specs.Messages.{Entry, Message, Messages, effect_of, effect_of_entry}
 use Rattle.sled_log.specs.Limits.{most_count}
-use Rattle.sled_log.specs.RunLaws.{StopsLeave-weaker, Called-stop}
-use Rattle.sled_log.specs.State.{State, Adds, IsLeft, StopsLeave, told_state}
+use Rattle.sled_log.specs.RunLaws.{CrashesSinceLeave-weaker, Called-stop}
+use Rattle.sled_log.specs.LogState.{LogState, Adds, IsLeft, CrashesSinceLeave, unplaced_state}
 use Rattle.sled_log.specs.declared.log.LogError.{LogError}
 use Rattle.sled_log.specs.declared.log.LogError.TheVariants.{ReadFault, WriteFault}
 use Rattle.sled_log.specs.declared.memory.MemLog.{MemLog}
 
 -- the log in memory, which may be called or not
-abbrev pub state_over : MemLog → Bool → State Entry
+abbrev pub state_over : MemLog → Bool → LogState Entry
 state_over log usable = record { stable = (state_of log).stable; pending = (state_of log).pending; usable = usable }
 
 adds-over : (old new : MemLog) (was is : Bool) (events : List (Event Entry)) → Adds effect_of_entry (state_of old) events (state_of new) → Adds effect_of_entry (state_over old was) events (state_over new is)
 adds-over old new was is events adds = record { cut = adds.cut; fair = adds.fair; stable = adds.stable; pending = adds.pending }
 
-left-over : (log : MemLog) (usable : Bool) (events : List (Event Message)) (pages : List Told) → IsLeft effect_of (told_state (state_of log)) events pages → IsLeft effect_of (told_state (state_over log usable)) events pages
+left-over : (log : MemLog) (usable : Bool) (events : List (Event Message)) (pages : List Messages) → IsLeft effect_of (unplaced_state (state_of log)) events pages → IsLeft effect_of (unplaced_state (state_over log usable)) events pages
 left-over log usable events pages left = record { came = left.came; beginning = left.beginning; cut = left.cut; fair = left.fair; is = left.is }
 
 -- What a call of the log in memory does, it does of a log over it that counts reads and faults of its own: the log in memory
@@ -38,8 +38,8 @@ pub called_over : {L T : Type 0} (log_of : L → MemLog) (usable : L → Bool) (
     → Called ⊤ (λ log. state_over (log_of log) (usable log)) (λ log. clock_of (log_of log)) (λ log t pages. might_have_left (log_of log) t pages) counts old new own events begun result
 called_over log_of usable counts old new count own events begun result may called failed faults reads =
     let stop =
-    StopsLeave-weaker state_of clock_of might_have_left counts_of (log_of old) (log_of new) (IsLeft effect_of (told_state (state_of (log_of old))) (begun_by result begun))
-    (IsLeft effect_of (told_state (state_over (log_of old) (usable old))) (begun_by result begun)) (left-over (log_of old) (usable old) (begun_by result begun)) (called.stop tt) in
+    CrashesSinceLeave-weaker state_of clock_of might_have_left counts_of (log_of old) (log_of new) (IsLeft effect_of (unplaced_state (state_of (log_of old))) (begun_by result begun))
+    (IsLeft effect_of (unplaced_state (state_over (log_of old) (usable old))) (begun_by result begun)) (left-over (log_of old) (usable old) (begun_by result begun)) (called.stop tt) in
     record {
       added = λ _. IfOk-weaker result _ _ (λ answer adds. adds-over (log_of old) (log_of new) (usable old) (usable new) (events answer) adds) (called.added tt);
       refused = λ _. on_err_weaker result (λ adds clear. adds-over (log_of old) (log_of new) (usable old) (usable new) [] (adds clear)) (called.refused tt);
@@ -72,14 +72,14 @@ not_less n = by (n == most_count)
 
 -- nothing comes to the log in memory, and a crash leaves what it left
 stop-same : {L : Type 0} (log_of : L → MemLog) (usable : L → Bool) (old new : L) (events : List (Event Message)) → log_of new ≡ log_of old
-    → StopsLeave (λ log. clock_of (log_of log)) (λ log t pages. might_have_left (log_of log) t pages) old new (IsLeft effect_of (told_state (state_over (log_of old) (usable old))) events)
+    → CrashesSinceLeave (λ log. clock_of (log_of log)) (λ log t pages. might_have_left (log_of log) t pages) old new (IsLeft effect_of (unplaced_state (state_over (log_of old) (usable old))) events)
 stop-same log_of usable old new events same =
     let before = log_of old in
-    let P = IsLeft effect_of (told_state (state_over before (usable old))) events in
-    let left : (pages : List Told) → might_have_left before (clock_of before) pages → P pages =
-    λ pages now. IsLeft-more effect_of (told_state (state_over before (usable old))) [] events pages (left-over before (usable old) [] pages (left_now before.clock (kept_in before) pages now)) in
-    let stop : StopsLeave clock_of might_have_left before (log_of new) P =
-    subst (λ l. StopsLeave clock_of might_have_left before l P) (sym same) (StopsLeave-none clock_of might_have_left before P left) in
+    let P = IsLeft effect_of (unplaced_state (state_over before (usable old))) events in
+    let left : (pages : List Messages) → might_have_left before (clock_of before) pages → P pages =
+    λ pages now. IsLeft-more effect_of (unplaced_state (state_over before (usable old))) [] events pages (left-over before (usable old) [] pages (left_now before.clock (kept_in before) pages now)) in
+    let stop : CrashesSinceLeave clock_of might_have_left before (log_of new) P =
+    subst (λ l. CrashesSinceLeave clock_of might_have_left before l P) (sym same) (CrashesSinceLeave-none clock_of might_have_left before P left) in
     record { later = stop.later; each = stop.each; before = stop.before; kept = stop.kept }
 
 module _ {L T : Type 0} (log_of : L → MemLog) (usable : L → Bool) (counts : L → Counts) (old new : L) (own : ℕ) (events : T → List (Event Entry)) (begun : List (Event Message)) (same : log_of new ≡ log_of old) where
@@ -130,9 +130,9 @@ pub called_behind : {L T R : Type 0} (log_of : L → MemLog) (usable : L → Boo
     → usable new ≡ false → (counts new).failed_reads ≡ (counts old).failed_reads → (counts new).write_faults ≡ one_more (counts old).write_faults → (counts new).reads ≡ own
     → (let failed : Result R LogError = Err WriteFault in Called ⊤ (λ log. state_over (log_of log) (usable log)) (λ log. clock_of (log_of log)) (λ log t pages. might_have_left (log_of log) t pages) counts old new own others begun failed)
 called_behind log_of usable counts old new count own events others begun result called may failed faults reads =
-    let before = told_state (state_of (log_of old)) in
+    let before = unplaced_state (state_of (log_of old)) in
     let stop =
-    StopsLeave-weaker state_of clock_of might_have_left counts_of (log_of old) (log_of new) (IsLeft effect_of before begun) (IsLeft effect_of (told_state (state_over (log_of old) (usable old))) begun) (left-over (log_of old) (usable old) begun)
+    CrashesSinceLeave-weaker state_of clock_of might_have_left counts_of (log_of old) (log_of new) (IsLeft effect_of before begun) (IsLeft effect_of (unplaced_state (state_over (log_of old) (usable old))) begun) (left-over (log_of old) (usable old) begun)
     (Called-stop state_of clock_of might_have_left counts_of (log_of old) (log_of new) count events begun result tt called) in
     record {
       added = λ _. tt;

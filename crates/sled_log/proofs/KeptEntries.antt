@@ -11,43 +11,43 @@ use Rattle.sled_log.specs.Events.{Event}
 use Rattle.sled_log.specs.Items.{entry_of, event_of_mark, event_of, state_at, IsInOrder}
 use Rattle.sled_log.specs.Messages.{Entry, Chain, effect_of_entry}
 use Rattle.sled_log.specs.Pages.{IsAt, IsRead}
-use Rattle.sled_log.specs.State.{now}
+use Rattle.sled_log.specs.LogState.{now}
 use Rattle.sled_log.specs.Kept.{KeptChange}
-use Rattle.sled_log.specs.Kept.{Item}
+use Rattle.sled_log.specs.Kept.{LogItem}
 use Rattle.sled_log.specs.Kept.{Mark}
 use Rattle.sled_log.specs.Kept as kept
 use Rattle.sled_log.proofs.Moments.{now_is}
 
 -- an item keeps the entry
-abbrev pub IsKept : List Item → Entry → Type 0
-IsKept items entry = (i : ℕ) × (item : Item) × (change : KeptChange) × (slice_get items i ≡ Some item) × (item.mark ≡ kept.Change change) × (entry_of change ≡ entry)
+abbrev pub IsKept : List LogItem → Entry → Type 0
+IsKept items entry = (i : ℕ) × (item : LogItem) × (change : KeptChange) × (slice_get items i ≡ Some item) × (item.mark ≡ kept.Change change) × (entry_of change ≡ entry)
 
-all-from-get : (P : Event Entry → Type 0) (items : List Item) → ((i : ℕ) (item : Item) → slice_get items i ≡ Some item → P (event_of item)) → AllByRecursion P (map event_of items)
+all-from-get : (P : Event Entry → Type 0) (items : List LogItem) → ((i : ℕ) (item : LogItem) → slice_get items i ≡ Some item → P (event_of item)) → AllByRecursion P (map event_of items)
 all-from-get P [] h = tt
 all-from-get P (x ∷ items) h = (h zero x refl, all-from-get P items (λ i item is. h (suc i) item is))
 
-says-kept : (items : List Item) (i : ℕ) (item : Item) → slice_get items i ≡ Some item → (mark : Mark) → item.mark ≡ mark → Says effect_of_entry (IsKept items) (event_of_mark mark)
+says-kept : (items : List LogItem) (i : ℕ) (item : LogItem) → slice_get items i ≡ Some item → (mark : Mark) → item.mark ≡ mark → Says effect_of_entry (IsKept items) (event_of_mark mark)
 says-kept items i item is (kept.Change change) same = (i, item, change, is, same, refl)
 says-kept items i item is kept.Pin same = tt
 says-kept items i item is kept.Seal same = tt
 says-kept items i item is kept.Cancel same = tt
 
-all-kept : (items : List Item) → AllIn effect_of_entry (IsKept items) (chains_after effect_of_entry [] (map event_of items))
+all-kept : (items : List LogItem) → AllIn effect_of_entry (IsKept items) (chains_after effect_of_entry [] (map event_of items))
 all-kept items =
     chains-all effect_of_entry (IsKept items) [] (map event_of items) tt (all-from-get (Says effect_of_entry (IsKept items)) items (λ i item is. says-kept items i item is item.mark refl))
 
 -- each entry of the chains of now is kept
-pub now-kept : (clock stable : ℕ) (items : List Item) → IsInOrder clock stable items → (pid k : ℕ) (d : Entry)
+pub now-kept : (clock stable : ℕ) (items : List LogItem) → IsInOrder clock stable items → (pid k : ℕ) (d : Entry)
     → (let chain : Chain = slice_index_or (now effect_of_entry (state_at clock items)) pid [] in k < length chain → IsKept items (slice_index_or chain k d))
 now-kept clock stable items order pid k d =
     let all : AllIn effect_of_entry (IsKept items) (now effect_of_entry (state_at clock items)) = subst (AllIn effect_of_entry (IsKept items)) (sym (now_is clock stable items order)) (all-kept items) in
     All-from_recursion (IsKept items) (slice_index_or (now effect_of_entry (state_at clock items)) pid []) (all-get (AllByRecursion (IsKept items)) pid (now effect_of_entry (state_at clock items)) [] all tt) k d
 
 -- a search finds the message that a pointer leads to
-abbrev pub Finds : List Item → DiskPtr → Option (MessageKind × Vec ℕ) → Type 0
-Finds items pointer found = (i : ℕ) (item : Item) (change : KeptChange) → slice_get items i ≡ Some item → item.mark ≡ kept.Change change → change.pointer ≡ pointer → IsSomeAnd found (IsRead (entry_of change))
+abbrev pub Finds : List LogItem → DiskPtr → Option (MessageKind × Vec ℕ) → Type 0
+Finds items pointer found = (i : ℕ) (item : LogItem) (change : KeptChange) → slice_get items i ≡ Some item → item.mark ≡ kept.Change change → change.pointer ≡ pointer → IsSomeAnd found (IsRead (entry_of change))
 
 -- so it finds each entry that is kept
-pub finds-entry : (items : List Item) (found : Option (MessageKind × Vec ℕ)) (lsn : ℤ) (pointer : DiskPtr) (entry : Entry) → Finds items pointer found → IsKept items entry → IsAt lsn pointer entry → IsSomeAnd found (IsRead entry)
+pub finds-entry : (items : List LogItem) (found : Option (MessageKind × Vec ℕ)) (lsn : ℤ) (pointer : DiskPtr) (entry : Entry) → Finds items pointer found → IsKept items entry → IsAt lsn pointer entry → IsSomeAnd found (IsRead entry)
 finds-entry items found lsn pointer entry finds (i, item, change, is, mark, kept) at =
     subst (λ (e : Entry). IsSomeAnd found (IsRead e)) kept (finds i item change is mark (ap (λ (e : Entry). e.place.pointer) kept ∙ at.1))

@@ -7,20 +7,20 @@ use Rattle.sled_log.specs.Events.{Event}
 use Rattle.sled_log.specs.Items.{state_at, all_settled, WasLeft, left_now}
 use Rattle.sled_log.specs.Laws.{Adds-none}
 use Rattle.sled_log.specs.Memory.{kept_in, state_of, clock_of, might_have_left, counts_of, Remembers}
-use Rattle.sled_log.specs.Messages.{Entry, Message, Told, effect_of, effect_of_entry}
-use Rattle.sled_log.specs.State.{State, Adds, IsLeft, StopsLeave, told_state}
-use Rattle.sled_log.specs.TellingLaws.{told_events, opened-Adds}
+use Rattle.sled_log.specs.Messages.{Entry, Message, Messages, effect_of, effect_of_entry}
+use Rattle.sled_log.specs.LogState.{LogState, Adds, IsLeft, CrashesSinceLeave, unplaced_state}
+use Rattle.sled_log.specs.UnplacedLaws.{unplaced_events, opened-Adds}
 use Rattle.sled_log.specs.declared.log.LogError.{LogError}
 use Rattle.sled_log.specs.declared.log.LogError.TheVariants.{Memory}
 use Rattle.sled_log.specs.declared.memory.MemLog.{MemLog}
-use Rattle.sled_log.specs.Kept.{Item}
+use Rattle.sled_log.specs.Kept.{LogItem}
 use Rattle.sled_log.proofs.Moments.{pending_events, adds-settled, state_at-settled, stops}
 
 -- the events were added
 pub called_ok : {T : Type 0} (answer : T) (old new : MemLog) (count : ℕ) (events : T → List (Event Entry)) (begun : List (Event Message))
-    → told_events (events answer) ≡ begun
+    → unplaced_events (events answer) ≡ begun
     → Adds effect_of_entry (state_of old) (events answer) (state_of new)
-    → StopsLeave clock_of might_have_left old new (IsLeft effect_of (told_state (state_of old)) begun)
+    → CrashesSinceLeave clock_of might_have_left old new (IsLeft effect_of (unplaced_state (state_of old)) begun)
     → new.reads ≡ count
     → Called ⊤ state_of clock_of might_have_left counts_of old new count events begun (Ok answer)
 called_ok answer old new count events begun tells adds stop reads = record {
@@ -34,20 +34,20 @@ called_ok answer old new count events begun tells adds stop reads = record {
   reads = reads;
 }
 
-stop_same : (old new : MemLog) → new.clock ≡ old.clock → kept_in new ≡ kept_in old → StopsLeave clock_of might_have_left old new (IsLeft effect_of (told_state (state_of old)) [])
+stop_same : (old new : MemLog) → new.clock ≡ old.clock → kept_in new ≡ kept_in old → CrashesSinceLeave clock_of might_have_left old new (IsLeft effect_of (unplaced_state (state_of old)) [])
 stop_same old new clock items = record {
   later = omega arith;
   each = λ c left. left_now old.clock (kept_in old) c (back old.clock c left);
   before = λ t c le left. inl (back t c left);
-  kept = λ t c le left. subst (λ (l : List Item). WasLeft new.clock l t c) (sym items) (subst (λ n. WasLeft n (kept_in old) t c) (sym clock) left);
+  kept = λ t c le left. subst (λ (l : List LogItem). WasLeft new.clock l t c) (sym items) (subst (λ n. WasLeft n (kept_in old) t c) (sym clock) left);
 }
   where
-    back : (t : ℕ) (c : List Told) → might_have_left new t c → might_have_left old t c
-    back t c left = subst (λ (l : List Item). WasLeft old.clock l t c) items (subst (λ n. WasLeft n (kept_in new) t c) clock left)
+    back : (t : ℕ) (c : List Messages) → might_have_left new t c → might_have_left old t c
+    back t c left = subst (λ (l : List LogItem). WasLeft old.clock l t c) items (subst (λ n. WasLeft n (kept_in new) t c) clock left)
 
 adds_same : (old new : MemLog) → new.clock ≡ old.clock → kept_in new ≡ kept_in old → Adds effect_of_entry (state_of old) [] (state_of new)
 adds_same old new clock items =
-    subst (λ (l : List Item). Adds effect_of_entry (state_of old) [] (state_at new.clock l)) (sym items)
+    subst (λ (l : List LogItem). Adds effect_of_entry (state_of old) [] (state_at new.clock l)) (sym items)
     (subst (λ n. Adds effect_of_entry (state_of old) [] (state_at n (kept_in old))) (sym clock) (Adds-none effect_of_entry (state_of old)))
 
 -- nothing was added
@@ -73,30 +73,30 @@ called_same answer old new count clock items reads =
 -- the events were added once room was made
 pub called_added : {T : Type 0} (answer : T) (old mid new : MemLog) (events : T → List (Event Entry)) (begun : List (Event Message)) (added : List (Event Entry))
     → mid.clock ≡ old.clock → kept_in mid ≡ kept_in old
-    → added ≡ events answer → told_events added ≡ begun
+    → added ≡ events answer → unplaced_events added ≡ begun
     → Adds effect_of_entry (state_of mid) added (state_of new)
-    → StopsLeave clock_of might_have_left mid new (IsLeft effect_of (told_state (state_of mid)) (told_events added))
+    → CrashesSinceLeave clock_of might_have_left mid new (IsLeft effect_of (unplaced_state (state_of mid)) (unplaced_events added))
     → new.reads ≡ old.reads
     → Called ⊤ state_of clock_of might_have_left counts_of old new old.reads events begun (Ok answer)
 called_added answer old mid new events begun added clock items are tells adds stop reads =
-    called_ok answer old new old.reads events begun (ap told_events (sym are) ∙ tells)
+    called_ok answer old new old.reads events begun (ap unplaced_events (sym are) ∙ tells)
     (subst (λ (l : List (Event Entry)). Adds effect_of_entry (state_of old) l (state_of new)) are (same (λ s. Adds effect_of_entry s added (state_of new)) adds))
     (record {
       later = let l = stop.later in omega arith;
       each = λ c left. told c (stop.each c (subst (λ t. might_have_left new t c) (sym clock) left));
       before = λ t c le left. ⊎_elim (λ l. inl (back t c l)) (λ r. inr (told c r)) (stop.before t c (omega arith) left);
-      kept = λ t c le left. stop.kept t c (omega arith) (subst (λ (l : List Item). WasLeft mid.clock l t c) (sym items) (subst (λ n. WasLeft n (kept_in old) t c) (sym clock) left));
+      kept = λ t c le left. stop.kept t c (omega arith) (subst (λ (l : List LogItem). WasLeft mid.clock l t c) (sym items) (subst (λ n. WasLeft n (kept_in old) t c) (sym clock) left));
     })
     reads
   where
-    same : (P : State Entry → Type 0) → P (state_of mid) → P (state_of old)
-    same P p = subst (λ (l : List Item). P (state_at old.clock l)) items (subst (λ n. P (state_at n (kept_in mid))) clock p)
+    same : (P : LogState Entry → Type 0) → P (state_of mid) → P (state_of old)
+    same P p = subst (λ (l : List LogItem). P (state_at old.clock l)) items (subst (λ n. P (state_at n (kept_in mid))) clock p)
 
-    told : (c : List Told) → IsLeft effect_of (told_state (state_of mid)) (told_events added) c → IsLeft effect_of (told_state (state_of old)) begun c
-    told c left = subst (λ (l : List (Event Message)). IsLeft effect_of (told_state (state_of old)) l c) tells (same (λ s. IsLeft effect_of (told_state s) (told_events added) c) left)
+    told : (c : List Messages) → IsLeft effect_of (unplaced_state (state_of mid)) (unplaced_events added) c → IsLeft effect_of (unplaced_state (state_of old)) begun c
+    told c left = subst (λ (l : List (Event Message)). IsLeft effect_of (unplaced_state (state_of old)) l c) tells (same (λ s. IsLeft effect_of (unplaced_state s) (unplaced_events added) c) left)
 
-    back : (t : ℕ) (c : List Told) → might_have_left mid t c → might_have_left old t c
-    back t c left = subst (λ (l : List Item). WasLeft old.clock l t c) items (subst (λ n. WasLeft n (kept_in mid) t c) clock left)
+    back : (t : ℕ) (c : List Messages) → might_have_left mid t c → might_have_left old t c
+    back t c left = subst (λ (l : List LogItem). WasLeft old.clock l t c) items (subst (λ n. WasLeft n (kept_in mid) t c) clock left)
 
 -- all that was pending became stable
 pub called_settled : {T : Type 0} (answer : T) (old new : MemLog) → new.clock ≡ old.clock + 1 → kept_in new ≡ all_settled (old.clock + 1) old.stable (kept_in old)
@@ -105,7 +105,7 @@ called_settled answer old new clock items closed reads = called_ok answer old ne
   where
     adds : Adds effect_of_entry (state_of old) [] (state_of new)
     adds =
-        subst (λ (l : List Item). Adds effect_of_entry (state_of old) [] (state_at new.clock l)) (sym items)
+        subst (λ (l : List LogItem). Adds effect_of_entry (state_of old) [] (state_at new.clock l)) (sym items)
         (subst (λ n. Adds effect_of_entry (state_of old) [] (state_at n (all_settled (old.clock + 1) old.stable (kept_in old)))) (sym clock)
         (adds-settled old.clock (old.clock + 1) old.stable (kept_in old) (omega arith) old.in_order (ap is_open (sym (pending_events old.clock old.stable (kept_in old) old.in_order)) ∙ closed)))
 

@@ -7,29 +7,29 @@ use Rattle.std.proofs.Math.Seq.{take-add}
 use Rattle.std.proofs.lemmas.List.Elements.{filter-append}
 use Rattle.std.proofs.lemmas.List.Folds.{list_all-append}
 use Rattle.std.proofs.lemmas.List.Sums.{sum_by-append, sum_by-take-drop, sum-map}
-use Rattle.sled_log.specs.Kept.{Item}
+use Rattle.sled_log.specs.Kept.{LogItem}
 use Rattle.sled_log.specs.Batches.{is_open, IsFair}
 use Rattle.sled_log.specs.Chains.{chains_after}
 use Rattle.sled_log.specs.Events.{Event}
 use Rattle.sled_log.specs.Items.{event_of, size_of_mark, log_size, was_by, was_stable, was_pending, is_waiting, settled_at, all_settled, restarted, state_at, IsInOrder, WasLeft}
 use Rattle.sled_log.specs.Laws.{chains_after-append, IsFair-none, IsLeft-behind, IsLeft-cut, IsLeft-more}
-use Rattle.sled_log.specs.Messages.{Entry, Chain, Message, Told, told, message_in, effect_of, effect_of_entry}
+use Rattle.sled_log.specs.Messages.{Entry, Chain, Message, Messages, unplaced, message_in, effect_of, effect_of_entry}
 use Rattle.sled_log.specs.SeenLaws.{IsLeft-seen}
-use Rattle.sled_log.specs.State.{State, now, Adds, IsLeft, StopsLeave, told_state}
-use Rattle.sled_log.specs.TellingLaws.{told_events, Adds-told}
+use Rattle.sled_log.specs.LogState.{LogState, now, Adds, IsLeft, CrashesSinceLeave, unplaced_state}
+use Rattle.sled_log.specs.UnplacedLaws.{unplaced_events, Adds-unplaced}
 use Rattle.sled_log.proofs.Filters.{list_all-weaker, filter-all, filter-none, filter-map_same, map-map_same}
 
 was_by-later : (clock later : ℕ) (at : Option ℕ) → clock ≤ later → was_by clock at ≡ true → was_by later at ≡ true
 was_by-later clock later None le h = h
 was_by-later clock later (Some at) le h = let k = leb-true at clock h in le-leb at later (omega arith)
 
-was_stable-later : (clock later : ℕ) → clock ≤ later → (e : Item) → was_stable clock e ≡ true → was_stable later e ≡ true
+was_stable-later : (clock later : ℕ) → clock ≤ later → (e : LogItem) → was_stable clock e ≡ true → was_stable later e ≡ true
 was_stable-later clock later le e h =
     let a = and_parts (nat_le e.came clock) (was_by clock e.settled) h in
     let k = leb-true e.came clock a.0 in
     and_from (nat_le e.came later) (was_by later e.settled) (le-leb e.came later (omega arith)) (was_by-later clock later e.settled le a.1)
 
-stable_not_pending : (clock : ℕ) (e : Item) → was_stable clock e ≡ true → was_pending clock e ≡ false
+stable_not_pending : (clock : ℕ) (e : LogItem) → was_stable clock e ≡ true → was_pending clock e ≡ false
 stable_not_pending clock e h =
     let a = and_parts (nat_le e.came clock) (was_by clock e.settled) h in
     and_right (nat_le e.came clock) (not (was_by clock e.settled)) (not_from_true (was_by clock e.settled) a.1)
@@ -38,43 +38,43 @@ none_never : (at : Option ℕ) (moment : ℕ) → is_none at ≡ true → was_by
 none_never None moment h = refl
 none_never (Some at) moment h = absurd (false≢true h)
 
-waiting_not_stable : (clock moment : ℕ) (e : Item) → is_waiting clock e ≡ true → was_stable moment e ≡ false
+waiting_not_stable : (clock moment : ℕ) (e : LogItem) → is_waiting clock e ≡ true → was_stable moment e ≡ false
 waiting_not_stable clock moment e h =
     let a = and_parts (nat_le e.came clock) (is_none e.settled) h in and_right (nat_le e.came moment) (was_by moment e.settled) (none_never e.settled moment a.1)
 
-waiting_pending : (clock : ℕ) (e : Item) → is_waiting clock e ≡ true → was_pending clock e ≡ true
+waiting_pending : (clock : ℕ) (e : LogItem) → is_waiting clock e ≡ true → was_pending clock e ≡ true
 waiting_pending clock e h =
     let a = and_parts (nat_le e.came clock) (is_none e.settled) h in
     and_from (nat_le e.came clock) (not (was_by clock e.settled)) a.0 (ap not (none_never e.settled clock a.1))
 
-waiting-later : (clock later : ℕ) → clock ≤ later → (e : Item) → is_waiting clock e ≡ true → is_waiting later e ≡ true
+waiting-later : (clock later : ℕ) → clock ≤ later → (e : LogItem) → is_waiting clock e ≡ true → is_waiting later e ≡ true
 waiting-later clock later le e h =
     let a = and_parts (nat_le e.came clock) (is_none e.settled) h in
     let k = leb-true e.came clock a.0 in
     and_from (nat_le e.came later) (is_none e.settled) (le-leb e.came later (omega arith)) a.1
 
-settled_stable : (clock moment : ℕ) → clock ≤ moment → (e : Item) → is_waiting clock e ≡ true → was_stable moment (settled_at moment e) ≡ true
+settled_stable : (clock moment : ℕ) → clock ≤ moment → (e : LogItem) → is_waiting clock e ≡ true → was_stable moment (settled_at moment e) ≡ true
 settled_stable clock moment le e h =
     let a = and_parts (nat_le e.came clock) (is_none e.settled) h in
     let k = leb-true e.came clock a.0 in
     and_from (nat_le e.came moment) (nat_le moment moment) (le-leb e.came moment (omega arith)) (le-leb moment moment (omega arith))
 
 -- before the moment at which it became stable it was pending, as it is now
-settled_before : (clock moment before : ℕ) → before < moment → (e : Item) → is_waiting clock e ≡ true
+settled_before : (clock moment before : ℕ) → before < moment → (e : LogItem) → is_waiting clock e ≡ true
     → (was_stable before (settled_at moment e) ≡ was_stable before e) × (was_pending before (settled_at moment e) ≡ was_pending before e)
 settled_before clock moment before lt e h =
     let a = and_parts (nat_le e.came clock) (is_none e.settled) h in
     let same : nat_le moment before ≡ was_by before e.settled = lt-leb moment before lt ∙ sym (none_never e.settled before a.1) in
     (ap (λ b. nat_le e.came before && b) same, ap (λ b. nat_le e.came before && not b) same)
 
-module _ (clock stable : ℕ) (items : List Item) (order : IsInOrder clock stable items) where
+module _ (clock stable : ℕ) (items : List LogItem) (order : IsInOrder clock stable items) where
   -- the stable items are the first ones
   pub stable_now : filter (was_stable clock) items ≡ take stable items
   stable_now =
       ap (filter (was_stable clock)) (sym (take-append-drop stable items))
       ∙ filter-append (was_stable clock) (take stable items) (drop stable items)
-      ∙ ap (λ (l : List Item). l ++ filter (was_stable clock) (drop stable items)) (filter-all (was_stable clock) (was_stable clock) (λ e h. h) (take stable items) order.first)
-      ∙ ap (λ (l : List Item). take stable items ++ l) (filter-none (is_waiting clock) (was_stable clock) (waiting_not_stable clock clock) (drop stable items) order.others)
+      ∙ ap (λ (l : List LogItem). l ++ filter (was_stable clock) (drop stable items)) (filter-all (was_stable clock) (was_stable clock) (λ e h. h) (take stable items) order.first)
+      ∙ ap (λ (l : List LogItem). take stable items ++ l) (filter-none (is_waiting clock) (was_stable clock) (waiting_not_stable clock clock) (drop stable items) order.others)
       ∙ append-nil (take stable items)
 
   -- and the others are pending
@@ -82,44 +82,44 @@ module _ (clock stable : ℕ) (items : List Item) (order : IsInOrder clock stabl
   pending_now =
       ap (filter (was_pending clock)) (sym (take-append-drop stable items))
       ∙ filter-append (was_pending clock) (take stable items) (drop stable items)
-      ∙ ap (λ (l : List Item). l ++ filter (was_pending clock) (drop stable items)) (filter-none (was_stable clock) (was_pending clock) (stable_not_pending clock) (take stable items) order.first)
+      ∙ ap (λ (l : List LogItem). l ++ filter (was_pending clock) (drop stable items)) (filter-none (was_stable clock) (was_pending clock) (stable_not_pending clock) (take stable items) order.first)
       ∙ filter-all (is_waiting clock) (was_pending clock) (waiting_pending clock) (drop stable items) order.others
 
   pub pending_events : (state_at clock items).pending ≡ map event_of (drop stable items)
   pending_events = ap (map event_of) pending_now
 
   pub stable_chains : (state_at clock items).stable ≡ chains_after effect_of_entry [] (map event_of (take stable items))
-  stable_chains = ap (λ (l : List Item). chains_after effect_of_entry [] (map event_of l)) stable_now
+  stable_chains = ap (λ (l : List LogItem). chains_after effect_of_entry [] (map event_of l)) stable_now
 
 -- what the log holds is what all items make
-pub now_is : (clock stable : ℕ) (items : List Item) → IsInOrder clock stable items → now effect_of_entry (state_at clock items) ≡ chains_after effect_of_entry [] (map event_of items)
+pub now_is : (clock stable : ℕ) (items : List LogItem) → IsInOrder clock stable items → now effect_of_entry (state_at clock items) ≡ chains_after effect_of_entry [] (map event_of items)
 now_is clock stable items order =
     ap (λ (l : List Chain). chains_after effect_of_entry l (state_at clock items).pending) (stable_chains clock stable items order)
     ∙ ap (chains_after effect_of_entry (chains_after effect_of_entry [] (map event_of (take stable items)))) (pending_events clock stable items order)
     ∙ sym (chains_after-append effect_of_entry [] (map event_of (take stable items)) (map event_of (drop stable items)))
     ∙ ap (chains_after effect_of_entry []) (sym (map-append event_of (take stable items) (drop stable items)))
-    ∙ ap (λ (l : List Item). chains_after effect_of_entry [] (map event_of l)) (take-append-drop stable items)
+    ∙ ap (λ (l : List LogItem). chains_after effect_of_entry [] (map event_of l)) (take-append-drop stable items)
 
-State-same : (s t : List Chain) (p q : List (Event Entry)) → s ≡ t → p ≡ q → (let a : State Entry = record { stable = s; pending = p; usable = true } in let b : State Entry = record { stable = t; pending = q; usable = true } in a ≡ b)
-State-same s t p q e f =
-    let one : List Chain → State Entry = λ l. record { stable = l; pending = p; usable = true } in
-    let two : List (Event Entry) → State Entry = λ l. record { stable = t; pending = l; usable = true } in
+LogState-same : (s t : List Chain) (p q : List (Event Entry)) → s ≡ t → p ≡ q → (let a : LogState Entry = record { stable = s; pending = p; usable = true } in let b : LogState Entry = record { stable = t; pending = q; usable = true } in a ≡ b)
+LogState-same s t p q e f =
+    let one : List Chain → LogState Entry = λ l. record { stable = l; pending = p; usable = true } in
+    let two : List (Event Entry) → LogState Entry = λ l. record { stable = t; pending = l; usable = true } in
     ap one e ∙ ap two f
 
-filter-last : (q : Item → Bool) (xs : List Item) (e : Item) → q e ≡ false → filter q (xs ++ e ∷ []) ≡ filter q xs
+filter-last : (q : LogItem → Bool) (xs : List LogItem) (e : LogItem) → q e ≡ false → filter q (xs ++ e ∷ []) ≡ filter q xs
 filter-last q xs e h =
     filter-append q xs (e ∷ []) ∙ ap (λ b. filter q xs ++ cond b (e ∷ []) []) h ∙ append-nil (filter q xs)
 
 -- a new entry changes nothing of what was before it
-pub state_at-push : (moment : ℕ) (items : List Item) (e : Item) → moment < e.came → state_at moment (items ++ e ∷ []) ≡ state_at moment items
+pub state_at-push : (moment : ℕ) (items : List LogItem) (e : LogItem) → moment < e.came → state_at moment (items ++ e ∷ []) ≡ state_at moment items
 state_at-push moment items e lt =
     let late : nat_le e.came moment ≡ false = lt-leb e.came moment lt in
-    State-same _ _ _ _
-    (ap (λ (l : List Item). chains_after effect_of_entry [] (map event_of l)) (filter-last (was_stable moment) items e (and_left (nat_le e.came moment) (was_by moment e.settled) late)))
+    LogState-same _ _ _ _
+    (ap (λ (l : List LogItem). chains_after effect_of_entry [] (map event_of l)) (filter-last (was_stable moment) items e (and_left (nat_le e.came moment) (was_by moment e.settled) late)))
     (ap (map event_of) (filter-last (was_pending moment) items e (and_left (nat_le e.came moment) (not (was_by moment e.settled)) late)))
 
-module _ (clock later stable : ℕ) (items : List Item) (le : clock ≤ later) (order : IsInOrder clock stable items) where
-  pub order-push : (e : Item) → is_waiting later e ≡ true → IsInOrder later stable (items ++ e ∷ [])
+module _ (clock later stable : ℕ) (items : List LogItem) (le : clock ≤ later) (order : IsInOrder clock stable items) where
+  pub order-push : (e : LogItem) → is_waiting later e ≡ true → IsInOrder later stable (items ++ e ∷ [])
   order-push e waits =
       let w = order.within in
       record {
@@ -134,13 +134,13 @@ module _ (clock later stable : ℕ) (items : List Item) (le : clock ≤ later) (
       }
 
   -- what was stable is
-  pub stable-push : (e : Item) → is_waiting later e ≡ true → (state_at later (items ++ e ∷ [])).stable ≡ (state_at clock items).stable
+  pub stable-push : (e : LogItem) → is_waiting later e ≡ true → (state_at later (items ++ e ∷ [])).stable ≡ (state_at clock items).stable
   stable-push e waits =
       let w = order.within in
-      stable_chains later stable (items ++ e ∷ []) (order-push e waits) ∙ ap (λ (l : List Item). chains_after effect_of_entry [] (map event_of l)) (take-append-le stable items (e ∷ []) w) ∙ sym (stable_chains clock stable items order)
+      stable_chains later stable (items ++ e ∷ []) (order-push e waits) ∙ ap (λ (l : List LogItem). chains_after effect_of_entry [] (map event_of l)) (take-append-le stable items (e ∷ []) w) ∙ sym (stable_chains clock stable items order)
 
   -- and the new event stands behind the others
-  pub pending-push : (e : Item) → is_waiting later e ≡ true → (state_at later (items ++ e ∷ [])).pending ≡ (state_at clock items).pending ++ event_of e ∷ []
+  pub pending-push : (e : LogItem) → is_waiting later e ≡ true → (state_at later (items ++ e ∷ [])).pending ≡ (state_at clock items).pending ++ event_of e ∷ []
   pending-push e waits =
       let w = order.within in
       pending_events later stable (items ++ e ∷ []) (order-push e waits)
@@ -149,7 +149,7 @@ module _ (clock later stable : ℕ) (items : List Item) (le : clock ≤ later) (
       ∙ ap (λ (l : List (Event Entry)). l ++ event_of e ∷ []) (sym (pending_events clock stable items order))
 
   -- a new item adds its event
-  pub adds-push : (e : Item) → is_waiting later e ≡ true → Adds effect_of_entry (state_at clock items) (event_of e ∷ []) (state_at later (items ++ e ∷ []))
+  pub adds-push : (e : LogItem) → is_waiting later e ≡ true → Adds effect_of_entry (state_at clock items) (event_of e ∷ []) (state_at later (items ++ e ∷ []))
   adds-push e waits = record {
     cut = 0;
     fair = IsFair-none _;
@@ -157,23 +157,23 @@ module _ (clock later stable : ℕ) (items : List Item) (le : clock ≤ later) (
     pending = pending-push e waits;
   }
 
-map-settled : (moment : ℕ) (xs : List Item) → map event_of (map (settled_at moment) xs) ≡ map event_of xs
+map-settled : (moment : ℕ) (xs : List LogItem) → map event_of (map (settled_at moment) xs) ≡ map event_of xs
 map-settled moment xs = map-map_same event_of (settled_at moment) (λ x. refl) xs
 
-list_all-settled : (clock moment : ℕ) → clock ≤ moment → (xs : List Item) → list_all (is_waiting clock) xs ≡ true → list_all (was_stable moment) (map (settled_at moment) xs) ≡ true
+list_all-settled : (clock moment : ℕ) → clock ≤ moment → (xs : List LogItem) → list_all (is_waiting clock) xs ≡ true → list_all (was_stable moment) (map (settled_at moment) xs) ≡ true
 list_all-settled clock moment le [] all = refl
 list_all-settled clock moment le (x ∷ xs) all =
     let a = and_parts (is_waiting clock x) (list_all (is_waiting clock) xs) all in
     and_from (was_stable moment (settled_at moment x)) (list_all (was_stable moment) (map (settled_at moment) xs)) (settled_stable clock moment le x a.0) (list_all-settled clock moment le xs a.1)
 
-pub length-all_settled : (moment stable : ℕ) (items : List Item) → length (all_settled moment stable items) ≡ length items
+pub length-all_settled : (moment stable : ℕ) (items : List LogItem) → length (all_settled moment stable items) ≡ length items
 length-all_settled moment stable items =
     length-append (take stable items) (map (settled_at moment) (drop stable items))
     ∙ ap (λ n. length (take stable items) + n) (length-map (drop stable items) (settled_at moment))
     ∙ sym (length-append (take stable items) (drop stable items))
     ∙ ap length (take-append-drop stable items)
 
-module _ (clock later stable : ℕ) (items : List Item) (lt : clock < later) (order : IsInOrder clock stable items) where
+module _ (clock later stable : ℕ) (items : List LogItem) (lt : clock < later) (order : IsInOrder clock stable items) where
   pub order-settled : IsInOrder later (length items) (all_settled later stable items)
   order-settled = record {
     within = let e = length-all_settled later stable items in omega arith;
@@ -188,16 +188,16 @@ module _ (clock later stable : ℕ) (items : List Item) (lt : clock < later) (or
 
   -- the log was what it was
   pub state_at-settled : (moment : ℕ) → moment ≤ clock → state_at moment (all_settled later stable items) ≡ state_at moment items
-  state_at-settled moment le = State-same _ _ _ _ (ap (chains_after effect_of_entry []) (same (was_stable moment) (λ x h. (settled_before clock later moment (omega arith) x h).0))) (same (was_pending moment) (λ x h. (settled_before clock later moment (omega arith) x h).1))
+  state_at-settled moment le = LogState-same _ _ _ _ (ap (chains_after effect_of_entry []) (same (was_stable moment) (λ x h. (settled_before clock later moment (omega arith) x h).0))) (same (was_pending moment) (λ x h. (settled_before clock later moment (omega arith) x h).1))
     where
-      same : (q : Item → Bool) → ((x : Item) → is_waiting clock x ≡ true → q (settled_at later x) ≡ q x) → map event_of (filter q (all_settled later stable items)) ≡ map event_of (filter q items)
+      same : (q : LogItem → Bool) → ((x : LogItem) → is_waiting clock x ≡ true → q (settled_at later x) ≡ q x) → map event_of (filter q (all_settled later stable items)) ≡ map event_of (filter q items)
       same q h =
           ap (map event_of) (filter-append q (take stable items) (map (settled_at later) (drop stable items)))
           ∙ map-append event_of (filter q (take stable items)) (filter q (map (settled_at later) (drop stable items)))
           ∙ ap (λ (l : List (Event Entry)). map event_of (filter q (take stable items)) ++ l) (filter-map_same (is_waiting clock) event_of (settled_at later) q q h (λ x. refl) (drop stable items) order.others)
           ∙ sym (map-append event_of (filter q (take stable items)) (filter q (drop stable items)))
           ∙ ap (map event_of) (sym (filter-append q (take stable items) (drop stable items)))
-          ∙ ap (λ (l : List Item). map event_of (filter q l)) (take-append-drop stable items)
+          ∙ ap (λ (l : List LogItem). map event_of (filter q l)) (take-append-drop stable items)
 
   pub pending-settled : (state_at later (all_settled later stable items)).pending ≡ []
   pending-settled =
@@ -214,7 +214,7 @@ module _ (clock later stable : ℕ) (items : List Item) (lt : clock < later) (or
         fair = record { within = omega arith; no_part = λ o. absurd (false≢true (sym closed ∙ ap is_open (sym is) ∙ ap is_open (sym (take_all (length events) events (omega arith))) ∙ o)) };
         stable =
             stable_chains later (length items) (all_settled later stable items) order-settled
-            ∙ ap (λ (l : List Item). chains_after effect_of_entry [] (map event_of l)) (take_all (length items) (all_settled later stable items) (let e = length-all_settled later stable items in omega arith))
+            ∙ ap (λ (l : List LogItem). chains_after effect_of_entry [] (map event_of l)) (take_all (length items) (all_settled later stable items) (let e = length-all_settled later stable items in omega arith))
             ∙ ap (chains_after effect_of_entry []) (map-append event_of (take stable items) (map (settled_at later) (drop stable items)) ∙ ap (λ (l : List (Event Entry)). map event_of (take stable items) ++ l) (map-settled later (drop stable items)))
             ∙ chains_after-append effect_of_entry [] (map event_of (take stable items)) (map event_of (drop stable items))
             ∙ ap (λ (l : List Chain). chains_after effect_of_entry l (map event_of (drop stable items))) (sym (stable_chains clock stable items order))
@@ -223,29 +223,29 @@ module _ (clock later stable : ℕ) (items : List Item) (lt : clock < later) (or
       }
 
 -- what a stop at a moment of a call leaves, where nothing but the end of the call is a new moment
-pub stops : {L : Type 0} (clock_of : L → ℕ) (items_of : L → List Item) (old new : L) (events : List (Event Entry))
+pub stops : {L : Type 0} (clock_of : L → ℕ) (items_of : L → List LogItem) (old new : L) (events : List (Event Entry))
     → clock_of old ≤ clock_of new
     → clock_of new ≤ clock_of old + 1
     → ((moment : ℕ) → moment ≤ clock_of old → state_at moment (items_of new) ≡ state_at moment (items_of old))
     → Adds effect_of_entry (state_at (clock_of old) (items_of old)) events (state_at (clock_of new) (items_of new))
-    → StopsLeave clock_of (λ log t pages. WasLeft (clock_of log) (items_of log) t pages) old new (IsLeft effect_of (told_state (state_at (clock_of old) (items_of old))) (told_events events))
+    → CrashesSinceLeave clock_of (λ log t pages. WasLeft (clock_of log) (items_of log) t pages) old new (IsLeft effect_of (unplaced_state (state_at (clock_of old) (items_of old))) (unplaced_events events))
 stops {L} clock_of items_of old new events later most same adds =
-    let before : State Message = told_state (state_at (clock_of old) (items_of old)) in
-    let after : State Message = told_state (state_at (clock_of new) (items_of new)) in
-    let comes : List (Event Message) = told_events events in
-    let P : List Told → Type 0 = IsLeft effect_of before comes in
-    let of_new : (at : ℕ) (c : List Told) → at ≡ clock_of new → IsLeft effect_of (told_state (state_at at (items_of new))) [] c → P c = λ at c is left.
+    let before : LogState Message = unplaced_state (state_at (clock_of old) (items_of old)) in
+    let after : LogState Message = unplaced_state (state_at (clock_of new) (items_of new)) in
+    let comes : List (Event Message) = unplaced_events events in
+    let P : List Messages → Type 0 = IsLeft effect_of before comes in
+    let of_new : (at : ℕ) (c : List Messages) → at ≡ clock_of new → IsLeft effect_of (unplaced_state (state_at at (items_of new))) [] c → P c = λ at c is left.
     subst (λ (l : List (Event Message)). IsLeft effect_of before l c) (append-nil comes)
-    (IsLeft-behind effect_of before after comes [] c (Adds-told (state_at (clock_of old) (items_of old)) (state_at (clock_of new) (items_of new)) events adds) (subst (λ m. IsLeft effect_of (told_state (state_at m (items_of new))) [] c) is left)) in
-    let of_old : (at : ℕ) (c : List Told) → at ≤ clock_of old → IsLeft effect_of (told_state (state_at at (items_of new))) [] c → IsLeft effect_of (told_state (state_at at (items_of old))) [] c = λ at c le left.
-    subst (λ (s : State Entry). IsLeft effect_of (told_state s) [] c) (same at le) left in
+    (IsLeft-behind effect_of before after comes [] c (Adds-unplaced (state_at (clock_of old) (items_of old)) (state_at (clock_of new) (items_of new)) events adds) (subst (λ m. IsLeft effect_of (unplaced_state (state_at m (items_of new))) [] c) is left)) in
+    let of_old : (at : ℕ) (c : List Messages) → at ≤ clock_of old → IsLeft effect_of (unplaced_state (state_at at (items_of new))) [] c → IsLeft effect_of (unplaced_state (state_at at (items_of old))) [] c = λ at c le left.
+    subst (λ (s : LogState Entry). IsLeft effect_of (unplaced_state s) [] c) (same at le) left in
     record {
       later = later;
       each = λ c left.
           let from = left.from in
           let to = left.to in
           ⊎_elim (λ lt. of_new left.at c (omega arith) left.left)
-          (λ le. IsLeft-more effect_of before [] comes c (subst (λ m. IsLeft effect_of (told_state (state_at m (items_of old))) [] c) (omega arith) (of_old left.at c le left.left)))
+          (λ le. IsLeft-more effect_of before [] comes c (subst (λ m. IsLeft effect_of (unplaced_state (state_at m (items_of old))) [] c) (omega arith) (of_old left.at c le left.left)))
           (cases_lt (clock_of old) left.at);
       before = λ t c le left.
           let from = left.from in
@@ -255,37 +255,37 @@ stops {L} clock_of items_of old new events later most same adds =
           (cases_lt (clock_of old) left.at);
       kept = λ t c le left.
           let to = left.to in
-          record { at = left.at; from = left.from; to = omega arith; left = subst (λ (s : State Entry). IsLeft effect_of (told_state s) [] c) (sym (same left.at to)) left.left };
+          record { at = left.at; from = left.from; to = omega arith; left = subst (λ (s : LogState Entry). IsLeft effect_of (unplaced_state s) [] c) (sym (same left.at to)) left.left };
     }
 
-log_size-settled : (moment : ℕ) (xs : List Item) → log_size (map (settled_at moment) xs) ≡ log_size xs
+log_size-settled : (moment : ℕ) (xs : List LogItem) → log_size (map (settled_at moment) xs) ≡ log_size xs
 log_size-settled moment xs =
-    let size : Item → ℕ = λ item. size_of_mark item.mark in
+    let size : LogItem → ℕ = λ item. size_of_mark item.mark in
     sym (sum-map size (map (settled_at moment) xs)) ∙ ap sum (map-map_same size (settled_at moment) (λ x. refl) xs) ∙ sum-map size xs
 
-pub log_size-all_settled : (moment stable : ℕ) (items : List Item) → log_size (all_settled moment stable items) ≡ log_size items
+pub log_size-all_settled : (moment stable : ℕ) (items : List LogItem) → log_size (all_settled moment stable items) ≡ log_size items
 log_size-all_settled moment stable items =
-    sum_by-append (λ (item : Item). size_of_mark item.mark) (take stable items) (map (settled_at moment) (drop stable items))
+    sum_by-append (λ (item : LogItem). size_of_mark item.mark) (take stable items) (map (settled_at moment) (drop stable items))
     ∙ ap (λ n. log_size (take stable items) + n) (log_size-settled moment (drop stable items))
-    ∙ sum_by-take-drop (λ (item : Item). size_of_mark item.mark) items stable
+    ∙ sum_by-take-drop (λ (item : LogItem). size_of_mark item.mark) items stable
 
-list_all-restarted : (xs : List Item) → list_all (was_stable 0) (map restarted xs) ≡ true
+list_all-restarted : (xs : List LogItem) → list_all (was_stable 0) (map restarted xs) ≡ true
 list_all-restarted [] = refl
 list_all-restarted (x ∷ xs) = list_all-restarted xs
 
-pub size-restarted : (items : List Item) → log_size (map restarted items) ≡ log_size items
+pub size-restarted : (items : List LogItem) → log_size (map restarted items) ≡ log_size items
 size-restarted items =
-    let size : Item → ℕ = λ item. size_of_mark item.mark in
+    let size : LogItem → ℕ = λ item. size_of_mark item.mark in
     sym (sum-map size (map restarted items)) ∙ ap sum (map-map_same size restarted (λ x. refl) items) ∙ sum-map size items
 
-pub log_size-restarted : (count : ℕ) (items : List Item) → log_size (map restarted (take count items)) ≤ log_size items
+pub log_size-restarted : (count : ℕ) (items : List LogItem) → log_size (map restarted (take count items)) ≤ log_size items
 log_size-restarted count items =
-    let size : Item → ℕ = λ item. size_of_mark item.mark in
+    let size : LogItem → ℕ = λ item. size_of_mark item.mark in
     let same = size-restarted (take count items) in
     let parts : log_size (take count items) + log_size (drop count items) ≡ log_size items = sum_by-take-drop size items count in
     omega arith
 
-pub order-restarted : (xs : List Item) → IsInOrder 0 (length (map restarted xs)) (map restarted xs)
+pub order-restarted : (xs : List LogItem) → IsInOrder 0 (length (map restarted xs)) (map restarted xs)
 order-restarted xs =
     let kept = map restarted xs in
     record {
@@ -294,28 +294,28 @@ order-restarted xs =
       others = ap (list_all (is_waiting 0)) (drop_all (length kept) kept (omega arith));
     }
 
-pub pending-restarted : (xs : List Item) → (state_at 0 (map restarted xs)).pending ≡ []
+pub pending-restarted : (xs : List LogItem) → (state_at 0 (map restarted xs)).pending ≡ []
 pending-restarted xs =
     let kept = map restarted xs in
     pending_events 0 (length kept) kept (order-restarted xs) ∙ ap (map event_of) (drop_all (length kept) kept (omega arith))
 
 -- a crash keeps what was durable and the first of the pending events
-pub stable-restarted : (clock stable n : ℕ) (items : List Item) → IsInOrder clock stable items
+pub stable-restarted : (clock stable n : ℕ) (items : List LogItem) → IsInOrder clock stable items
     → (state_at 0 (map restarted (take (stable + n) items))).stable ≡ chains_after effect_of_entry (state_at clock items).stable (take n (state_at clock items).pending)
 stable-restarted clock stable n items order =
     let kept = map restarted (take (stable + n) items) in
     stable_chains 0 (length kept) kept (order-restarted (take (stable + n) items))
-    ∙ ap (λ (l : List Item). chains_after effect_of_entry [] (map event_of l)) (take_all (length kept) kept (omega arith))
+    ∙ ap (λ (l : List LogItem). chains_after effect_of_entry [] (map event_of l)) (take_all (length kept) kept (omega arith))
     ∙ ap (chains_after effect_of_entry []) (map-map_same event_of restarted (λ x. refl) (take (stable + n) items) ∙ ap (map event_of) (take-add stable n items) ∙ map-append event_of (take stable items) (take n (drop stable items)))
     ∙ chains_after-append effect_of_entry [] (map event_of (take stable items)) (map event_of (take n (drop stable items)))
     ∙ ap (λ (l : List Chain). chains_after effect_of_entry l (map event_of (take n (drop stable items)))) (sym (stable_chains clock stable items order))
     ∙ ap (chains_after effect_of_entry (state_at clock items).stable) (sym (take-map event_of n (drop stable items)) ∙ ap (take n) (sym (pending_events clock stable items order)))
 
 -- which is a crash state of this moment
-pub left-stopped : (clock n : ℕ) (items : List Item) (chains : List Chain)
+pub left-stopped : (clock n : ℕ) (items : List LogItem) (chains : List Chain)
     → IsFair (state_at clock items).pending n
     → chains ≡ chains_after effect_of_entry (state_at clock items).stable (take n (state_at clock items).pending)
-    → WasLeft clock items clock (map told chains)
+    → WasLeft clock items clock (map unplaced chains)
 left-stopped clock n items chains fair is = record {
   at = clock;
   from = omega arith;

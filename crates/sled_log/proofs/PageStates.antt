@@ -11,7 +11,7 @@ use Rattle.sled_log.specs.Laws.{chains_after-append}
 use Rattle.sled_log.specs.Messages.{Entry, Chain, effect_of_entry}
 use Rattle.sled_log.specs.Pages.{IsPageState}
 use Rattle.sled_log.specs.ZipLaws.{zip-append, zip-set}
-use Rattle.sled_log.specs.Kept.{Item}
+use Rattle.sled_log.specs.Kept.{LogItem}
 use Rattle.sled_base.specs.declared.types.page_state.PageState.{PageState}
 
 abbrev pub Shows : List Chain → List PageState → Type 0
@@ -54,14 +54,14 @@ absent-shows kind chains pages id entry is le h =
     (subst (λ l. Shows l pages) (sym (set_past chains id (linked effect_of_entry (slice_index_or chains id []) entry) (let l = AllZip-long IsPageState chains pages h in omega arith))) h)
 
 -- the pages of one item more
-pub more-shows : (items : List Item) (i : ℕ) (item : Item) (pages : List PageState) → i < length items → item ≡ get_or items i item
+pub more-shows : (items : List LogItem) (i : ℕ) (item : LogItem) (pages : List PageState) → i < length items → item ≡ get_or items i item
     → Shows (chains_from effect_of_entry (chains_after effect_of_entry [] (map event_of (take i items))) (event_of item)) pages
     → Shows (chains_after effect_of_entry [] (map event_of (take (i + 1) items))) pages
 more-shows items i item pages lt is h =
     subst (λ l. Shows l pages)
     (sym
-    (ap (λ (l : List Item). chains_after effect_of_entry [] (map event_of l)) (take_more items i item lt)
+    (ap (λ (l : List LogItem). chains_after effect_of_entry [] (map event_of l)) (take_more items i item lt)
     ∙ ap (chains_after effect_of_entry []) (map-append event_of (take i items) (get_or items i item ∷ []))
     ∙ chains_after-append effect_of_entry [] (map event_of (take i items)) (event_of (get_or items i item) ∷ [])
-    ∙ ap (λ (x : Item). chains_from effect_of_entry (chains_after effect_of_entry [] (map event_of (take i items))) (event_of x)) (sym is)))
+    ∙ ap (λ (x : LogItem). chains_from effect_of_entry (chains_after effect_of_entry [] (map event_of (take i items))) (event_of x)) (sym is)))
     h

@@ -4,18 +4,18 @@ use Rattle.std.specs.List.{slice_get}
 use Rattle.std.specs.List.Sorted.{IsNonDecreasingBy}
 use Rattle.std.proofs.lemmas.Bool.{and_parts, and_from, eqb-true}
 use Rattle.std.proofs.lemmas.List.Sums.{sum_by-cons}
-use Rattle.sled_base.specs.Pointers.{place_of}
+use Rattle.sled_base.specs.Pointers.{offset_of}
 use Rattle.sled_log.specs.Kept.{KeptChange as Change}
-use Rattle.sled_log.specs.Kept.{Item}
+use Rattle.sled_log.specs.Kept.{LogItem}
 use Rattle.sled_log.specs.Kept as kept
 use Rattle.sled_log.specs.Limits.{head_size}
 use Rattle.sled_log.specs.Items.{size_of_mark, log_size, stands_at, is_placed, are_placed, settled_at, all_settled, restarted}
 
-log_size-cons : (item : Item) (items : List Item) → log_size (item ∷ items) ≡ size_of_mark item.mark + log_size items
-log_size-cons item items = sum_by-cons (λ (item : Item). size_of_mark item.mark) item items
+log_size-cons : (item : LogItem) (items : List LogItem) → log_size (item ∷ items) ≡ size_of_mark item.mark + log_size items
+log_size-cons item items = sum_by-cons (λ (item : LogItem). size_of_mark item.mark) item items
 
 -- an item at the end of all others
-pub placed-push : (from : ℕ) (items : List Item) (item : Item) → are_placed from items ≡ true → is_placed (from + log_size items) item ≡ true → are_placed from (items ++ item ∷ []) ≡ true
+pub placed-push : (from : ℕ) (items : List LogItem) (item : LogItem) → are_placed from items ≡ true → is_placed (from + log_size items) item ≡ true → are_placed from (items ++ item ∷ []) ≡ true
 placed-push from [] item all last = and_from (is_placed from item) true (subst (λ n. is_placed n item ≡ true) (let e : from + 0 ≡ from = omega arith in e) last) refl
 placed-push from (x ∷ items) item all last =
     let a = and_parts (is_placed from x) (are_placed x.end items) all in
@@ -25,26 +25,26 @@ placed-push from (x ∷ items) item all last =
     and_from (is_placed from x) (are_placed x.end (items ++ item ∷ [])) a.0
     (placed-push x.end items item a.1 (subst (λ n. is_placed n item ≡ true) (let e : from + log_size (x ∷ items) ≡ x.end + log_size items = omega arith in e) last))
 
-pub placed-take : (from n : ℕ) (items : List Item) → are_placed from items ≡ true → are_placed from (take n items) ≡ true
+pub placed-take : (from n : ℕ) (items : List LogItem) → are_placed from items ≡ true → are_placed from (take n items) ≡ true
 placed-take from zero items all = refl
 placed-take from (suc n) [] all = refl
 placed-take from (suc n) (x ∷ items) all =
     let a = and_parts (is_placed from x) (are_placed x.end items) all in
     and_from (is_placed from x) (are_placed x.end (take n items)) a.0 (placed-take x.end n items a.1)
 
-pub placed-restarted : (from : ℕ) (items : List Item) → are_placed from items ≡ true → are_placed from (map restarted items) ≡ true
+pub placed-restarted : (from : ℕ) (items : List LogItem) → are_placed from items ≡ true → are_placed from (map restarted items) ≡ true
 placed-restarted from [] all = refl
 placed-restarted from (x ∷ items) all =
     let a = and_parts (is_placed from x) (are_placed x.end items) all in
     and_from (is_placed from x) (are_placed x.end (map restarted items)) a.0 (placed-restarted x.end items a.1)
 
-placed-map_settled : (moment from : ℕ) (items : List Item) → are_placed from items ≡ true → are_placed from (map (settled_at moment) items) ≡ true
+placed-map_settled : (moment from : ℕ) (items : List LogItem) → are_placed from items ≡ true → are_placed from (map (settled_at moment) items) ≡ true
 placed-map_settled moment from [] all = refl
 placed-map_settled moment from (x ∷ items) all =
     let a = and_parts (is_placed from x) (are_placed x.end items) all in
     and_from (is_placed from x) (are_placed x.end (map (settled_at moment) items)) a.0 (placed-map_settled moment x.end items a.1)
 
-pub placed-settled : (moment stable from : ℕ) (items : List Item) → are_placed from items ≡ true → are_placed from (all_settled moment stable items) ≡ true
+pub placed-settled : (moment stable from : ℕ) (items : List LogItem) → are_placed from items ≡ true → are_placed from (all_settled moment stable items) ≡ true
 placed-settled moment zero from items all = placed-map_settled moment from items all
 placed-settled moment (suc stable) from [] all = refl
 placed-settled moment (suc stable) from (x ∷ items) all =
@@ -53,7 +53,7 @@ placed-settled moment (suc stable) from (x ∷ items) all =
 
 -- ---- ends rise, so that a place is found
 
-ends-from : (from : ℕ) (items : List Item) → are_placed from items ≡ true → (j : ℕ) (d : Item) → j < length items → from ≤ (get_or items j d).end
+ends-from : (from : ℕ) (items : List LogItem) → are_placed from items ≡ true → (j : ℕ) (d : LogItem) → j < length items → from ≤ (get_or items j d).end
 ends-from from [] all j d lt = absurd (omega (arith, lt))
 ends-from from (x ∷ items) all zero d lt =
     let a = and_parts (is_placed from x) (are_placed x.end items) all in
@@ -67,7 +67,7 @@ ends-from from (x ∷ items) all (suc j) d lt =
     let rest = ends-from x.end items a.1 j d (omega (arith, lt)) in
     omega (arith, end, rest)
 
-pub ends-rise : (from : ℕ) (items : List Item) → are_placed from items ≡ true → IsNonDecreasingBy (λ item. item.end) items
+pub ends-rise : (from : ℕ) (items : List LogItem) → are_placed from items ≡ true → IsNonDecreasingBy (λ item. item.end) items
 ends-rise from [] all i j d le lt = absurd (omega (arith, lt))
 ends-rise from (x ∷ items) all zero zero d le lt = omega arith
 ends-rise from (x ∷ items) all zero (suc j) d le lt = ends-from x.end items (and_parts (is_placed from x) (are_placed x.end items) all).1 j d (omega (arith, lt))
@@ -75,18 +75,18 @@ ends-rise from (x ∷ items) all (suc i) zero d le lt = absurd (omega (arith, le
 ends-rise from (x ∷ items) all (suc i) (suc j) d le lt = ends-rise x.end items (and_parts (is_placed from x) (are_placed x.end items) all).1 i j d (omega (arith, le)) (omega (arith, lt))
 
 -- a change ends behind its place, and every item before it ends there at most
-pub change-ends : (from : ℕ) (items : List Item) → are_placed from items ≡ true → (i : ℕ) (item : Item) (change : Change) → slice_get items i ≡ Some item → item.mark ≡ kept.Change change
-    → (from ≤ place_of change.pointer) × (place_of change.pointer < item.end) × ((j : ℕ) (d : Item) → j < i → (get_or items j d).end ≤ place_of change.pointer)
+pub change-ends : (from : ℕ) (items : List LogItem) → are_placed from items ≡ true → (i : ℕ) (item : LogItem) (change : Change) → slice_get items i ≡ Some item → item.mark ≡ kept.Change change
+    → (from ≤ offset_of change.pointer) × (offset_of change.pointer < item.end) × ((j : ℕ) (d : LogItem) → j < i → (get_or items j d).end ≤ offset_of change.pointer)
 change-ends from [] all i item change is mark = absurd cc
 change-ends from (x ∷ items) all zero item change is mark =
     let a = and_parts (is_placed from x) (are_placed x.end items) all in
     let b = and_parts (stands_at from x.mark) (x.end == from + size_of_mark x.mark) a.0 in
     let same : x ≡ item = cc in
-    let marked : x.mark ≡ kept.Change change = ap (λ (y : Item). y.mark) same ∙ mark in
+    let marked : x.mark ≡ kept.Change change = ap (λ (y : LogItem). y.mark) same ∙ mark in
     let end = eqb-true x.end (from + size_of_mark x.mark) b.1 in
     let size : size_of_mark x.mark ≡ head_size + length change.payload = ap size_of_mark marked in
-    let stands : place_of change.pointer ≡ from = eqb-true (place_of change.pointer) from (sym (ap (stands_at from) marked) ∙ b.0) in
-    let ends : item.end ≡ x.end = ap (λ (y : Item). y.end) (sym same) in
+    let stands : offset_of change.pointer ≡ from = eqb-true (offset_of change.pointer) from (sym (ap (stands_at from) marked) ∙ b.0) in
+    let ends : item.end ≡ x.end = ap (λ (y : LogItem). y.end) (sym same) in
     (omega (arith, stands), omega (arith, stands, size, end, ends), λ j d lt. absurd (omega (arith, lt)))
 change-ends from (x ∷ items) all (suc i) item change is mark =
     let a = and_parts (is_placed from x) (are_placed x.end items) all in
@@ -95,6 +95,6 @@ change-ends from (x ∷ items) all (suc i) item change is mark =
     let rest = change-ends x.end items a.1 i item change is mark in
     (omega (arith, end, rest.0), rest.1, before rest.0 rest.2)
   where
-    before : x.end ≤ place_of change.pointer → ((j : ℕ) (d : Item) → j < i → (get_or items j d).end ≤ place_of change.pointer) → (j : ℕ) (d : Item) → j < suc i → (get_or (x ∷ items) j d).end ≤ place_of change.pointer
+    before : x.end ≤ offset_of change.pointer → ((j : ℕ) (d : LogItem) → j < i → (get_or items j d).end ≤ offset_of change.pointer) → (j : ℕ) (d : LogItem) → j < suc i → (get_or (x ∷ items) j d).end ≤ offset_of change.pointer
     before first others zero d lt = first
     before first others (suc j) d lt = others j d (omega (arith, lt))

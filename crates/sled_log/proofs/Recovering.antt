@@ -9,11 +9,11 @@ use Rattle.sled_log.specs.Chains.{chains_from, chains_after}
 use Rattle.sled_log.specs.Events.{Change}
 use Rattle.sled_log.specs.Limits.{head_size}
 use Rattle.sled_log.specs.Items.{pointer_at, entry_of, event_of_mark, event_of, size_of_mark, log_size, stands_at, are_placed}
-use Rattle.sled_log.specs.Kept.{Mark, Item}
+use Rattle.sled_log.specs.Kept.{Mark, LogItem}
 use Rattle.sled_log.specs.Messages.{Entry, Chain, effect_of_entry}
 use Rattle.sled_log.specs.Pages.{said_of}
 use Rattle.sled_log.specs.Stored.{part, kept_mark, kept_item, kept_from, kept_items}
-use Rattle.sled_log.specs.declared.memory.item.Item.{Item as StoredItem}
+use Rattle.sled_log.specs.declared.memory.item.LogItem.{LogItem as StoredItem}
 use Rattle.sled_log.specs.declared.memory.item.Mark.{Mark as StoredMark}
 use Rattle.sled_log.specs.declared.memory.item.Mark.TheVariants as stored
 use Rattle.sled_log.proofs.PageStates.{Shows}
@@ -51,7 +51,7 @@ module _ (limit : ℕ) (bytes : List ℕ) (items : List StoredItem) where
         shows = shows;
         leads = so_far.leads;
         placed = at.1;
-        sized = let s = so_far.sized in omega (arith, at.0, s, sum_by-cons (λ (item : Item). size_of_mark item.mark) (kept_item limit place (part so_far.start x.payload_end bytes) x) (kept_from limit bytes x.end x.payload_end rest));
+        sized = let s = so_far.sized in omega (arith, at.0, s, sum_by-cons (λ (item : LogItem). size_of_mark item.mark) (kept_item limit place (part so_far.start x.payload_end bytes) x) (kept_from limit bytes x.end x.payload_end rest));
       }
 
   -- a mark changes no page

@@ -11,9 +11,9 @@ use Rattle.sled_log.specs.Messages.{Entry, Chain, effect_of_entry}
 use Rattle.sled_log.specs.Messages as messages
 use Rattle.sled_log.specs.Pages.{IsSized}
 use Rattle.sled_log.proofs.SizeLaws.{chain_size, chains_size, event_size, events_size, chains_after-size, each-below}
-use Rattle.sled_log.specs.State.{now}
+use Rattle.sled_log.specs.LogState.{now}
 use Rattle.sled_log.specs.declared.memory.MemLog.{MemLog}
-use Rattle.sled_log.specs.Kept.{Item}
+use Rattle.sled_log.specs.Kept.{LogItem}
 use Rattle.sled_log.specs.Kept.{Mark}
 use Rattle.sled_log.specs.Kept as kept
 use Rattle.sled_log.proofs.Moments.{now_is}
@@ -22,7 +22,7 @@ abbrev place_size : Entry → ℕ
 place_size entry = entry.place.log_size
 
 abbrev IsExact : Entry → Type 0
-IsExact entry = entry.place.log_size ≡ messages.size_of entry.message
+IsExact entry = entry.place.log_size ≡ messages.message_size entry.message
 
 mark-size : (mark : Mark) → event_size effect_of_entry place_size (event_of_mark mark) ≡ size_of_mark mark
 mark-size (kept.Change change) = refl
@@ -31,10 +31,10 @@ mark-size kept.Seal = refl
 mark-size kept.Cancel = refl
 
 -- the events of items are as large as the items
-items-size : (items : List Item) → events_size effect_of_entry place_size (map event_of items) ≡ log_size items
+items-size : (items : List LogItem) → events_size effect_of_entry place_size (map event_of items) ≡ log_size items
 items-size [] = refl
 items-size (item ∷ items) =
-    omega (arith, sum_by-cons (event_size effect_of_entry place_size) (event_of item) (map event_of items), sum_by-cons (λ (item : Item). size_of_mark item.mark) item items, mark-size item.mark, items-size items)
+    omega (arith, sum_by-cons (event_size effect_of_entry place_size) (event_of item) (map event_of items), sum_by-cons (λ (item : LogItem). size_of_mark item.mark) item items, mark-size item.mark, items-size items)
 
 mark-exact : (mark : Mark) → Says effect_of_entry IsExact (event_of_mark mark)
 mark-exact (kept.Change change) = refl
@@ -42,7 +42,7 @@ mark-exact kept.Pin = tt
 mark-exact kept.Seal = tt
 mark-exact kept.Cancel = tt
 
-items-exact : (items : List Item) → AllByRecursion (Says effect_of_entry IsExact) (map event_of items)
+items-exact : (items : List LogItem) → AllByRecursion (Says effect_of_entry IsExact) (map event_of items)
 items-exact [] = tt
 items-exact (item ∷ items) = (mark-exact item.mark, items-exact items)
 

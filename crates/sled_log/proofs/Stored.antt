@@ -6,15 +6,15 @@ use Rattle.std.proofs.lemmas.Bool.{and_parts, and_from, leb-true, le-leb, eqb-tr
 use Rattle.std.proofs.lemmas.List.{length-drop, length-take-le, take-append-le, drop-append-le, take-append-drop, take_all, drop-map}
 use Rattle.std.proofs.Math.Seq.{drop-append_seam}
 use Rattle.std.proofs.lemmas.List.Sums.{sum_by-cons}
-use Rattle.sled_base.specs.Pointers.{place_of}
+use Rattle.sled_base.specs.Pointers.{offset_of}
 use Rattle.sled_base.specs.declared.kinds.MessageKind.{MessageKind}
 use Rattle.sled_base.specs.declared.types.DiskPtr.TheVariants.{Inline, Blob}
-use Rattle.sled_log.specs.declared.memory.item.Item.{Item as StoredItem}
+use Rattle.sled_log.specs.declared.memory.item.LogItem.{LogItem as StoredItem}
 use Rattle.sled_log.specs.declared.memory.item.Mark.{Mark as StoredMark}
 use Rattle.sled_log.specs.declared.memory.item.Mark.TheVariants as stored
 use Rattle.sled_log.specs.Events.{Event, seen}
 use Rattle.sled_log.specs.Items.{event_of_mark, event_of, size_of_mark, log_size, stands_at, are_placed, settled_at, all_settled, restarted, pointer_at}
-use Rattle.sled_log.specs.Kept.{KeptChange, Item}
+use Rattle.sled_log.specs.Kept.{KeptChange, LogItem}
 use Rattle.sled_log.specs.Kept as kept
 use Rattle.sled_log.specs.Messages.{Entry}
 use Rattle.sled_log.specs.Stored.{never, moment_of, part, kept_mark, kept_item, kept_from, are_within, last_of, place_after, start_after, bare_event_of, bare_event, settles_at, restarts, settle_all}
@@ -112,7 +112,7 @@ module _ (limit : ℕ) where
       let begins = leb-true start x.payload_end a.0 in
       let rest = within-ends x.payload_end end items a.1 in
       ap (λ (payload : List ℕ). kept_item limit place payload x ∷ kept_from limit (bytes ++ more) x.end x.payload_end items) (part-longer start x.payload_end bytes more begins (omega (arith, rest.1, le)))
-      ∙ ap (λ (l : List Item). kept_item limit place (part start x.payload_end bytes) x ∷ l) (kept-longer bytes more x.end x.payload_end end items a.1 le)
+      ∙ ap (λ (l : List LogItem). kept_item limit place (part start x.payload_end bytes) x ∷ l) (kept-longer bytes more x.end x.payload_end end items a.1 le)
 
   -- a buffer that is cut behind the last payload
   pub kept-shorter : (bytes : List ℕ) (place start end : ℕ) (items : List StoredItem) → are_within start end items ≡ true → end ≤ length bytes → kept_from limit (take end bytes) place start items ≡ kept_from limit bytes place start items
@@ -121,7 +121,7 @@ module _ (limit : ℕ) where
       ∙ ap (λ (b : List ℕ). kept_from limit b place start items) (take-append-drop end bytes)
 
   module _ (bytes : List ℕ) where
-    abbrev kept_of : ℕ → ℕ → List StoredItem → List Item
+    abbrev kept_of : ℕ → ℕ → List StoredItem → List LogItem
     kept_of place start items = kept_from limit bytes place start items
 
     pub kept-length : (place start : ℕ) (items : List StoredItem) → length (kept_of place start items) ≡ length items
@@ -131,15 +131,15 @@ module _ (limit : ℕ) where
     pub kept-take : (place start n : ℕ) (items : List StoredItem) → kept_of place start (take n items) ≡ take n (kept_of place start items)
     kept-take place start zero items = refl
     kept-take place start (suc n) [] = refl
-    kept-take place start (suc n) (x ∷ items) = ap (λ (l : List Item). kept_item limit place (part start x.payload_end bytes) x ∷ l) (kept-take x.end x.payload_end n items)
+    kept-take place start (suc n) (x ∷ items) = ap (λ (l : List LogItem). kept_item limit place (part start x.payload_end bytes) x ∷ l) (kept-take x.end x.payload_end n items)
 
     pub kept-push : (place start : ℕ) (items : List StoredItem) (x : StoredItem) → kept_of place start (items ++ x ∷ []) ≡ kept_of place start items ++ kept_item limit (place_after place items) (part (start_after start items) x.payload_end bytes) x ∷ []
     kept-push place start [] x = refl
-    kept-push place start (y ∷ items) x = ap (λ (l : List Item). kept_item limit place (part start y.payload_end bytes) y ∷ l) (kept-push y.end y.payload_end items x)
+    kept-push place start (y ∷ items) x = ap (λ (l : List LogItem). kept_item limit place (part start y.payload_end bytes) y ∷ l) (kept-push y.end y.payload_end items x)
 
     pub kept-restarts : (place start : ℕ) (items : List StoredItem) → kept_of place start (map restarts items) ≡ map restarted (kept_of place start items)
     kept-restarts place start [] = refl
-    kept-restarts place start (x ∷ items) = ap (λ (l : List Item). restarted (kept_item limit place (part start x.payload_end bytes) x) ∷ l) (kept-restarts x.end x.payload_end items)
+    kept-restarts place start (x ∷ items) = ap (λ (l : List LogItem). restarted (kept_item limit place (part start x.payload_end bytes) x) ∷ l) (kept-restarts x.end x.payload_end items)
 
     module _ (moment : ℕ) (comes : moment < never) where
       some : moment_of moment ≡ Some moment
@@ -152,16 +152,16 @@ module _ (limit : ℕ) where
       kept-settles : (place start : ℕ) (items : List StoredItem) → kept_of place start (map (settles_at moment) items) ≡ map (settled_at moment) (kept_of place start items)
       kept-settles place start [] = refl
       kept-settles place start (x ∷ items) =
-          let made : Option ℕ → Item = λ settled. record { mark = kept_mark limit place (part start x.payload_end bytes) x.mark; end = x.end; came = x.came; settled = settled } in
-          ap (λ (o : Option ℕ). made o ∷ kept_of x.end x.payload_end (map (settles_at moment) items)) some ∙ ap (λ (l : List Item). made (Some moment) ∷ l) (kept-settles x.end x.payload_end items)
+          let made : Option ℕ → LogItem = λ settled. record { mark = kept_mark limit place (part start x.payload_end bytes) x.mark; end = x.end; came = x.came; settled = settled } in
+          ap (λ (o : Option ℕ). made o ∷ kept_of x.end x.payload_end (map (settles_at moment) items)) some ∙ ap (λ (l : List LogItem). made (Some moment) ∷ l) (kept-settles x.end x.payload_end items)
 
       pub kept-settle_all : (from place start : ℕ) (items : List StoredItem) → kept_of place start (settle_all moment from items) ≡ all_settled moment from (kept_of place start items)
       kept-settle_all zero place start items = kept-settles place start items
       kept-settle_all (suc from) place start [] = refl
-      kept-settle_all (suc from) place start (x ∷ items) = ap (λ (l : List Item). kept_item limit place (part start x.payload_end bytes) x ∷ l) (kept-settle_all from x.end x.payload_end items)
+      kept-settle_all (suc from) place start (x ∷ items) = ap (λ (l : List LogItem). kept_item limit place (part start x.payload_end bytes) x ∷ l) (kept-settle_all from x.end x.payload_end items)
 
     -- the item of a kept one
-    pub kept-get : (place start i : ℕ) (items : List StoredItem) (item : Item) → slice_get (kept_of place start items) i ≡ Some item
+    pub kept-get : (place start i : ℕ) (items : List StoredItem) (item : LogItem) → slice_get (kept_of place start items) i ≡ Some item
         → (x : StoredItem) × (slice_get items i ≡ Some x) × (item ≡ kept_item limit (place_after place (take i items)) (part (start_after start (take i items)) x.payload_end bytes) x)
     kept-get place start i [] item is = absurd cc
     kept-get place start zero (x ∷ items) item is = (x, refl, cc)
@@ -173,22 +173,22 @@ module _ (limit : ℕ) where
     pub placed-after : (place start : ℕ) (items : List StoredItem) → are_placed place (kept_of place start items) ≡ true → place_after place items ≡ place + log_size (kept_of place start items)
     placed-after place start [] all = omega arith
     placed-after place start (x ∷ items) all =
-        let item : Item = kept_item limit place (part start x.payload_end bytes) x in
+        let item : LogItem = kept_item limit place (part start x.payload_end bytes) x in
         let a = and_parts _ _ all in
         let b = and_parts (stands_at place item.mark) _ a.0 in
         let end = eqb-true x.end (place + size_of_mark item.mark) b.1 in
         let rest = placed-after x.end x.payload_end items a.1 in
-        omega (arith, end, rest, sum_by-cons (λ (item : Item). size_of_mark item.mark) item (kept_of x.end x.payload_end items))
+        omega (arith, end, rest, sum_by-cons (λ (item : LogItem). size_of_mark item.mark) item (kept_of x.end x.payload_end items))
 
-    pub kept-end : (place start i : ℕ) (items : List StoredItem) (item : Item) (x : StoredItem) → i < length items → (get_or (kept_of place start items) i item).end ≡ (get_or items i x).end
+    pub kept-end : (place start i : ℕ) (items : List StoredItem) (item : LogItem) (x : StoredItem) → i < length items → (get_or (kept_of place start items) i item).end ≡ (get_or items i x).end
     kept-end place start i [] item x lt = absurd (omega (arith, lt))
     kept-end place start zero (y ∷ items) item x lt = refl
     kept-end place start (suc i) (y ∷ items) item x lt = kept-end y.end y.payload_end i items item x (omega (arith, lt))
 
     -- ends rise, as those of what is kept do
-    pub stored-rise : (place start : ℕ) (items : List StoredItem) → IsNonDecreasingBy (λ (item : Item). item.end) (kept_of place start items) → IsNonDecreasingBy (λ (item : StoredItem). item.end) items
+    pub stored-rise : (place start : ℕ) (items : List StoredItem) → IsNonDecreasingBy (λ (item : LogItem). item.end) (kept_of place start items) → IsNonDecreasingBy (λ (item : StoredItem). item.end) items
     stored-rise place start items rise i j x le lt =
-        let item : Item = kept_item limit 0 [] x in
+        let item : LogItem = kept_item limit 0 [] x in
         let more = rise i j item le (omega (arith, lt, kept-length place start items)) in
         omega (arith, more, kept-end place start i items item x (omega (arith, le, lt)), kept-end place start j items item x lt)
 
@@ -217,10 +217,10 @@ module _ (limit : ℕ) where
   pub kept-add : (bytes more : List ℕ) (size : ℕ) (items : List StoredItem) (x : StoredItem) → are_within 0 (length bytes) items ≡ true → are_placed 0 (kept_from limit bytes 0 0 items) ≡ true → size ≡ log_size (kept_from limit bytes 0 0 items)
       → x.payload_end ≡ length bytes + length more → kept_from limit (bytes ++ more) 0 0 (items ++ x ∷ []) ≡ kept_from limit bytes 0 0 items ++ kept_item limit size more x ∷ []
   kept-add bytes more size items x within placed sized is =
-      let old : List Item = kept_from limit bytes 0 0 items in
+      let old : List LogItem = kept_from limit bytes 0 0 items in
       let payload : List ℕ = part (start_after 0 items) x.payload_end (bytes ++ more) in
       kept-push (bytes ++ more) 0 0 items x
-      ∙ ap (λ (l : List Item). l ++ kept_item limit (place_after 0 items) payload x ∷ []) (kept-longer bytes more 0 0 (length bytes) items within (omega arith))
+      ∙ ap (λ (l : List LogItem). l ++ kept_item limit (place_after 0 items) payload x ∷ []) (kept-longer bytes more 0 0 (length bytes) items within (omega arith))
       ∙ ap (λ n. old ++ kept_item limit n payload x ∷ []) (let e = placed-after bytes 0 0 items placed in omega (arith, e, sized))
       ∙ ap (λ (l : List ℕ). old ++ kept_item limit size l x ∷ []) (ap (λ n. part n x.payload_end (bytes ++ more)) (within-ends 0 (length bytes) items within).0 ∙ ap (λ n. part (length bytes) n (bytes ++ more)) is ∙ part-behind bytes more)
 
@@ -248,19 +248,19 @@ module _ (limit : ℕ) where
   change-is place payload change stored.Seal h = absurd cc
   change-is place payload change stored.Cancel h = absurd cc
 
-  pub finds : (bytes : List ℕ) (items : List StoredItem) (i : ℕ) (item : Item) (change : KeptChange) → slice_get (kept_from limit bytes 0 0 items) i ≡ Some item → item.mark ≡ kept.Change change
+  pub finds : (bytes : List ℕ) (items : List StoredItem) (i : ℕ) (item : LogItem) (change : KeptChange) → slice_get (kept_from limit bytes 0 0 items) i ≡ Some item → item.mark ≡ kept.Change change
       → (x : StoredItem) × (slice_get items i ≡ Some x) × (x.mark ≡ stored.Change change.kind change.pid) × (change.payload ≡ part (start_after 0 (take i items)) x.payload_end bytes)
   finds bytes items i item change is mark =
       let got = kept-get bytes 0 0 i items item is in
       let x : StoredItem = got.0 in
-      let both = change-is (place_after 0 (take i items)) (part (start_after 0 (take i items)) x.payload_end bytes) change x.mark (ap (λ (y : Item). y.mark) (sym got.2) ∙ mark) in
+      let both = change-is (place_after 0 (take i items)) (part (start_after 0 (take i items)) x.payload_end bytes) change x.mark (ap (λ (y : LogItem). y.mark) (sym got.2) ∙ mark) in
       (x, got.1, both.0, both.1)
 
 -- a message stands where it is kept
 pub stands-at : (limit : ℕ) {place at : ℕ} (payload : List ℕ) (mark : StoredMark) → place ≡ at → stands_at place (kept_mark limit at payload mark) ≡ true
 stands-at limit {place} {at} payload (stored.Change kind pid) is = ap (λ n. n == place) (by (nat_le (length payload) limit)) ∙ eq-eqb at place (sym is)
   where
-    by : (b : Bool) → place_of (cond b (Inline at) (Blob at (pos at))) ≡ at
+    by : (b : Bool) → offset_of (cond b (Inline at) (Blob at (pos at))) ≡ at
     by true = refl
     by false = refl
 stands-at limit payload stored.Pin is = refl

@@ -7,20 +7,20 @@ use Rattle.sled_log.specs.Batches.{is_open, open_after}
 use Rattle.sled_log.specs.Chains.{is_empty}
 use Rattle.sled_log.specs.Events.{Event}
 use Rattle.sled_log.specs.Limits.{most_count}
-use Rattle.sled_log.specs.Messages.{Message, Entry, Told, effect_of, effect_of_entry}
-use Rattle.sled_log.specs.State.{State, Adds, IsLeft, told_state, StopsLeave}
+use Rattle.sled_log.specs.Messages.{Message, Entry, Messages, effect_of, effect_of_entry}
+use Rattle.sled_log.specs.LogState.{LogState, Adds, IsLeft, unplaced_state, CrashesSinceLeave}
 use Rattle.sled_log.specs.declared.log.LogError.{LogError}
 use Rattle.sled_log.specs.declared.log.LogError.TheVariants.{Memory, Full, ReadFault, WriteFault, Corruption}
 
 -- Whether a message of that kind may be appended for a page: a content where the page is there or is the next new one, one that
 -- frees it where it is there, and a link where it has a content. Blobs are a log's own, and so are the other kinds.
-abbrev pub can_tell : {E : Type 0} → (E → LogKind) → List (List E) → ℕ → MessageKind → Bool
-can_tell effect pages pid kinds.Free = nat_lt pid (length pages)
-can_tell effect pages pid kinds.Counter = nat_le pid (length pages)
-can_tell effect pages pid kinds.InlineMeta = nat_le pid (length pages)
-can_tell effect pages pid kinds.InlineNode = nat_le pid (length pages)
-can_tell effect pages pid kinds.InlineLink = not (is_empty effect (slice_index_or pages pid []))
-can_tell effect pages pid kind = false
+abbrev pub can_append : {E : Type 0} → (E → LogKind) → List (List E) → ℕ → MessageKind → Bool
+can_append effect pages pid kinds.Free = nat_lt pid (length pages)
+can_append effect pages pid kinds.Counter = nat_le pid (length pages)
+can_append effect pages pid kinds.InlineMeta = nat_le pid (length pages)
+can_append effect pages pid kinds.InlineNode = nat_le pid (length pages)
+can_append effect pages pid kinds.InlineLink = not (is_empty effect (slice_index_or pages pid []))
+can_append effect pages pid kind = false
 
 -- The events of a call that a crash may find: a call that answers Memory, Full or ReadFault has none.
 abbrev pub begun_by : {T : Type 0} → Result T LogError → List (Event Message) → List (Event Message)
@@ -67,12 +67,12 @@ is_write_fault (Err Corruption) = false
 --
 -- Where the device tells its bytes: at Ok the events were added, at another error than WriteFault none was, a crash at any moment
 -- of it leaves what was pending and what was begun, up to a fair cut, and Corruption is never reported of what the log was given.
-pub record Called {L T : Type 0} (tells : Type 0) (state : L → State Entry) (moment : L → ℕ) (left_since : L → ℕ → List Told → Type 0) (counts : L → Counts) (old new : L) (count : ℕ) (events : T → List (Event Entry)) (begun : List (Event Message)) (result : Result T LogError) : Type 0 where
+pub record Called {L T : Type 0} (tells : Type 0) (state : L → LogState Entry) (moment : L → ℕ) (left_since : L → ℕ → List Messages → Type 0) (counts : L → Counts) (old new : L) (count : ℕ) (events : T → List (Event Entry)) (begun : List (Event Message)) (result : Result T LogError) : Type 0 where
   pub usable : (state new).usable ≡ not (is_write_fault result)
   pub opened : is_write_fault result ≡ false → is_open (state new).pending ≡ open_after (is_open (state old).pending) (begun_by result begun)
   pub cause : HasCause (counts old) (counts new) result
   pub reads : (counts new).reads ≡ count
   pub added : tells → IfOk result (λ answer. Adds effect_of_entry (state old) (events answer) (state new))
   pub refused : tells → OnErr result (is_write_fault result ≡ false → Adds effect_of_entry (state old) [] (state new))
-  pub stop : tells → StopsLeave moment left_since old new (IsLeft effect_of (told_state (state old)) (begun_by result begun))
+  pub stop : tells → CrashesSinceLeave moment left_since old new (IsLeft effect_of (unplaced_state (state old)) (begun_by result begun))
   pub sound : tells → IsErrOf result Corruption → ⊥

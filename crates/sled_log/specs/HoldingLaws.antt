@@ -10,14 +10,14 @@ use Rattle.sled_base.specs.declared.kinds.MessageKind.TheVariants as kinds
 use Rattle.sled_node.specs.Links.{Accepts, applied}
 use Rattle.sled_node.specs.Node.{WholeNode}
 use Rattle.sled_node.specs.declared.node.link.Link.{Link as NodeLink}
-use Rattle.sled_log.specs.Calls.{can_tell}
+use Rattle.sled_log.specs.Calls.{can_append}
 use Rattle.sled_log.specs.Chains.{is_freeing, is_empty, linked, begun, changed, chains_from, chains_after}
 use Rattle.sled_log.specs.Contents.{Content, Free, Counter, Roots, Node, Damaged, Update, Put, Link, after_link, updated, contents_from, contents_after, effect_of_update}
 use Rattle.sled_log.specs.Events.{Event, Change, Pin, Seal, Cancel}
-use Rattle.sled_log.specs.Messages.{Message, Told, effect_of}
-use Rattle.sled_log.specs.Reading.{Reads, IsUpdate, IsEvent, LeadTo, Makes, Holds, Hold, MayChange, MayCome, AreTold, AreLeft}
-use Rattle.sled_log.specs.ReadingLaws.{reads_effect, one_content, contents_after-append, told-append, told-take, told-drop, reads-fair}
-use Rattle.sled_log.specs.State.{State, Adds, IsLeft}
+use Rattle.sled_log.specs.Messages.{Message, Messages, effect_of}
+use Rattle.sled_log.specs.Reading.{Decodes, IsUpdate, IsEvent, LeadTo, Makes, Holds, Hold, MayChange, MayCome, AreEvents, AreLeft}
+use Rattle.sled_log.specs.ReadingLaws.{reads_effect, one_content, contents_after-append, events-append, events-take, events-drop, reads-fair}
+use Rattle.sled_log.specs.LogState.{LogState, Adds, IsLeft}
 use Rattle.sled_log.specs.Writing.{message_of}
 use Rattle.sled_log.specs.ZipLaws.{zip-append, zip-set, zip-at}
 
@@ -35,7 +35,7 @@ is_damaged Damaged = true
 is_damaged content = false
 
 -- no node follows where a page was freed
-not_freed : (first : Content) (messages : Told) (node : WholeNode) → LeadTo first messages (Node node) → is_freeing (effect_of_update (Put first)) ≡ false
+not_freed : (first : Content) (messages : Messages) (node : WholeNode) → LeadTo first messages (Node node) → is_freeing (effect_of_update (Put first)) ≡ false
 not_freed Free [] node h = absurd (false≢true (ap is_node h))
 not_freed Free (m ∷ messages) node h = absurd (false≢true (ap is_node h.2))
 not_freed (Counter n) messages node h = refl
@@ -44,33 +44,33 @@ not_freed (Node other) messages node h = refl
 not_freed Damaged messages node h = refl
 
 -- a page that holds a node isn't empty
-makes-full : (messages : Told) (node : WholeNode) → Makes messages (Node node) → is_empty effect_of messages ≡ false
+makes-full : (messages : Messages) (node : WholeNode) → Makes messages (Node node) → is_empty effect_of messages ≡ false
 makes-full [] node h = absurd h
 makes-full (m ∷ messages) node (first, reads, leads) = ap is_freeing (reads_effect m.kind m.payload (Put first) reads) ∙ not_freed first messages node leads
 
 -- a link more
-lead-more : (before : Content) (messages : Told) (node : WholeNode) (m : Message) (link : NodeLink)
+lead-more : (before : Content) (messages : Messages) (node : WholeNode) (m : Message) (link : NodeLink)
     → LeadTo before messages (Node node) → IsUpdate m (Link link) → Accepts node link → LeadTo before (messages ++ m ∷ []) (Node (applied link node))
 lead-more before [] node m link h r accepts = (node, link, h, r, accepts, refl)
 lead-more before (first ∷ messages) node m link (other, second, is, reads, accepts_second, leads) r accepts =
     (other, second, is, reads, accepts_second, lead-more (Node (applied second other)) messages node m link leads r accepts)
 
-makes-more : (messages : Told) (node : WholeNode) (m : Message) (link : NodeLink)
+makes-more : (messages : Messages) (node : WholeNode) (m : Message) (link : NodeLink)
     → Makes messages (Node node) → IsUpdate m (Link link) → Accepts node link → Makes (messages ++ m ∷ []) (Node (applied link node))
 makes-more [] node m link h r accepts = absurd h
 makes-more (first ∷ messages) node m link (content, reads, leads) r accepts = (content, reads, lead-more content messages node m link leads r accepts)
 
-makes-linked : (messages : Told) (node : WholeNode) (m : Message) (link : NodeLink)
+makes-linked : (messages : Messages) (node : WholeNode) (m : Message) (link : NodeLink)
     → Makes messages (Node node) → IsUpdate m (Link link) → Accepts node link → Makes (linked effect_of messages m) (Node (applied link node))
 makes-linked messages node m link h r accepts =
     subst (λ b. Makes (cond b messages (messages ++ m ∷ [])) (Node (applied link node))) (sym (makes-full messages node h)) (makes-more messages node m link h r accepts)
 
 -- messages never make what is damaged
-leads-sound : (first : Content) (messages : Told) → is_damaged first ≡ false → LeadTo first messages Damaged → ⊥
+leads-sound : (first : Content) (messages : Messages) → is_damaged first ≡ false → LeadTo first messages Damaged → ⊥
 leads-sound first [] sound h = false≢true (sym sound ∙ ap is_damaged h)
 leads-sound first (m ∷ messages) sound (node, link, is, reads, accepts, leads) = leads-sound (Node (applied link node)) messages refl leads
 
-puts-sound : (kind : MessageKind) (payload : List ℕ) (first : Content) → Reads kind payload (Put first) → is_damaged first ≡ false
+puts-sound : (kind : MessageKind) (payload : List ℕ) (first : Content) → Decodes kind payload (Put first) → is_damaged first ≡ false
 puts-sound kind payload Free reads = refl
 puts-sound kind payload (Counter n) reads = refl
 puts-sound kind payload (Roots roots) reads = refl
@@ -83,12 +83,12 @@ puts-sound kinds.InlineNode payload Damaged reads = absurd reads
 puts-sound kinds.BlobNode payload Damaged reads = absurd reads
 puts-sound kind payload Damaged reads = absurd reads
 
-pub makes-sound : (messages : Told) → ¬ Makes messages Damaged
+pub makes-sound : (messages : Messages) → ¬ Makes messages Damaged
 makes-sound [] h = h
 makes-sound (m ∷ messages) (first, reads, leads) = leads-sound first messages (puts-sound m.kind m.payload first reads) leads
 
 -- what messages make, their page holds
-pub makes-holds : (messages : Told) (content : Content) → Makes messages content → Holds messages content
+pub makes-holds : (messages : Messages) (content : Content) → Makes messages content → Holds messages content
 makes-holds messages Free h = h
 makes-holds messages (Counter n) h = h
 makes-holds messages (Roots roots) h = h
@@ -96,7 +96,7 @@ makes-holds messages (Node node) h = h
 makes-holds messages Damaged h = absurd (makes-sound messages h)
 
 -- what a page holds that messages make
-pub holds-made : (messages : Told) (content made : Content) → Holds messages content → Makes messages made → content ≡ made
+pub holds-made : (messages : Messages) (content made : Content) → Holds messages content → Makes messages made → content ≡ made
 holds-made messages Free made h i = one_content messages Free made h i
 holds-made messages (Counter n) made h i = one_content messages (Counter n) made h i
 holds-made messages (Roots roots) made h i = one_content messages (Roots roots) made h i
@@ -105,7 +105,7 @@ holds-made messages Damaged made h i = absurd (h.1 made i)
 
 -- ---- the pages after messages
 
-holds-begun : (pages : List Told) (contents : List Content) (id : ℕ) (m : Message) (content : Content)
+holds-begun : (pages : List Messages) (contents : List Content) (id : ℕ) (m : Message) (content : Content)
     → Hold pages contents → IsUpdate m (Put content) → Hold (begun effect_of pages id m) (updated contents id (Put content))
 holds-begun pages contents id m content h r =
     subst (λ n. Hold (begun effect_of pages id m) (cond (id == n) (contents ++ content ∷ []) (slice_set contents id content))) (sym (AllZip-long Holds pages contents h))
@@ -116,13 +116,13 @@ holds-begun pages contents id m content h r =
     by false = zip-set Holds id pages contents (m ∷ []) content h (makes-holds (m ∷ []) content (content, r, refl))
 
 -- the page of a node that is there
-held-node : (pages : List Told) (contents : List Content) (id : ℕ) (node : WholeNode)
+held-node : (pages : List Messages) (contents : List Content) (id : ℕ) (node : WholeNode)
     → Hold pages contents → slice_get contents id ≡ Some (Node node) → Makes (slice_index_or pages id []) (Node node)
 held-node pages contents id node h at =
     subst (Holds (slice_index_or pages id [])) (get_or_from_slice_get contents id (Node node) Free at)
     (zip-at Holds id pages contents [] Free h (slice_get_within contents id (Node node) at))
 
-holds-changed : (pages : List Told) (contents : List Content) (id : ℕ) (m : Message) (u : Update)
+holds-changed : (pages : List Messages) (contents : List Content) (id : ℕ) (m : Message) (u : Update)
     → Hold pages contents → IsUpdate m u → MayChange contents id u → Hold (changed effect_of (effect_of_update u) pages id m) (updated contents id u)
 holds-changed pages contents id m (Put Free) h r may = holds-begun pages contents id m Free h r
 holds-changed pages contents id m (Put (Counter n)) h r may = holds-begun pages contents id m (Counter n) h r
@@ -134,7 +134,7 @@ holds-changed pages contents id m (Link link) h r (node, at, accepts) =
     (sym (get_or_from_slice_get contents id (Node node) Free at))
     (zip-set Holds id pages contents _ (Node (applied link node)) h (makes-linked (slice_index_or pages id []) node m link (held-node pages contents id node h at) r accepts))
 
-holds-from : (pages : List Told) (contents : List Content) (m : Event Message) (u : Event Update)
+holds-from : (pages : List Messages) (contents : List Content) (m : Event Message) (u : Event Update)
     → Hold pages contents → IsEvent m u → MayCome contents u → Hold (chains_from effect_of pages m) (contents_from contents u)
 holds-from pages contents (Change id m) (Change other u) h r may =
     subst (λ i. Hold (chains_from effect_of pages (Change i m)) (updated contents other u)) (sym r.0)
@@ -146,8 +146,8 @@ holds-from pages contents Cancel Cancel h r may = h
 holds-from pages contents m u h r may = absurd r
 
 -- after messages, pages hold the contents after the changes that these are
-pub holds-after : (pages : List Told) (contents : List Content) (ms : List (Event Message)) (us : List (Event Update))
-    → Hold pages contents → AreTold contents ms us → Hold (chains_after effect_of pages ms) (contents_after contents us)
+pub holds-after : (pages : List Messages) (contents : List Content) (ms : List (Event Message)) (us : List (Event Update))
+    → Hold pages contents → AreEvents contents ms us → Hold (chains_after effect_of pages ms) (contents_after contents us)
 holds-after pages contents [] [] h r = h
 holds-after pages contents (m ∷ ms) (u ∷ us) h r = holds-after (chains_from effect_of pages m) (contents_from contents u) ms us (holds-from pages contents m u h r.0 r.1) r.2
 holds-after pages contents [] (u ∷ us) h r = absurd r
@@ -156,10 +156,10 @@ holds-after pages contents (m ∷ ms) [] h r = absurd r
 -- ---- crashes, and what a log adds
 
 -- what a crash leaves holds the contents after a fair prefix of the changes
-pub reads-left : (old : State Message) (begun : List (Event Message)) (pages : List Told) (stable : List Content) (pending events : List (Event Update))
+pub reads-left : (old : LogState Message) (begun : List (Event Message)) (pages : List Messages) (stable : List Content) (pending events : List (Event Update))
     → Hold old.stable stable
-    → AreTold stable old.pending pending
-    → AreTold (contents_after stable pending) begun events
+    → AreEvents stable old.pending pending
+    → AreEvents (contents_after stable pending) begun events
     → IsLeft effect_of old begun pages
     → AreLeft stable pending events pages
 reads-left old begun pages stable pending events held waits comes left =
@@ -167,38 +167,38 @@ reads-left old begun pages stable pending events held waits comes left =
     let some : List (Event Update) = take n events in
     let part : take n begun ≡ left.came = ap (take n) (sym left.beginning.1) ∙ take-append_seam left.came left.beginning.0 in
     let now = contents_after stable pending in
-    let came : AreTold now left.came some = subst (λ (l : List (Event Message)). AreTold now l some) part (told-take now n begun events comes) in
+    let came : AreEvents now left.came some = subst (λ (l : List (Event Message)). AreEvents now l some) part (events-take now n begun events comes) in
     let kept : List (Event Message) = old.pending ++ left.came in
     let changes : List (Event Update) = pending ++ some in
-    let all : AreTold stable kept changes = told-append stable old.pending left.came pending some waits came in
+    let all : AreEvents stable kept changes = events-append stable old.pending left.came pending some waits came in
     record {
       came = some;
       beginning = (drop n events, take-append-drop n events);
       cut = left.cut;
       fair = reads-fair stable kept changes left.cut all left.fair;
       is =
-          subst (λ (l : List Told). Hold l (contents_after stable (take left.cut changes))) (sym left.is)
-          (holds-after old.stable stable (take left.cut kept) (take left.cut changes) held (told-take stable left.cut kept changes all));
+          subst (λ (l : List Messages). Hold l (contents_after stable (take left.cut changes))) (sym left.is)
+          (holds-after old.stable stable (take left.cut kept) (take left.cut changes) held (events-take stable left.cut kept changes all));
     }
 
 -- Where a log adds messages, its stable pages hold the contents after the changes up to the cut, the others are pending, and
 -- all of them together are the same.
-pub holds-added : (old new : State Message) (begun : List (Event Message)) (stable : List Content) (pending events : List (Event Update))
+pub holds-added : (old new : LogState Message) (begun : List (Event Message)) (stable : List Content) (pending events : List (Event Update))
     → Hold old.stable stable
-    → AreTold stable old.pending pending
-    → AreTold (contents_after stable pending) begun events
+    → AreEvents stable old.pending pending
+    → AreEvents (contents_after stable pending) begun events
     → (added : Adds effect_of old begun new)
     → Hold new.stable (contents_after stable (take added.cut (pending ++ events)))
-    × AreTold (contents_after stable (take added.cut (pending ++ events))) new.pending (drop added.cut (pending ++ events))
+    × AreEvents (contents_after stable (take added.cut (pending ++ events))) new.pending (drop added.cut (pending ++ events))
     × (contents_after (contents_after stable (take added.cut (pending ++ events))) (drop added.cut (pending ++ events)) ≡ contents_after (contents_after stable pending) events)
 holds-added old new begun stable pending events held waits comes added =
     let kept : List (Event Message) = old.pending ++ begun in
     let changes : List (Event Update) = pending ++ events in
-    let all : AreTold stable kept changes = told-append stable old.pending begun pending events waits comes in (
-      subst (λ (l : List Told). Hold l (contents_after stable (take added.cut changes))) (sym added.stable)
-          (holds-after old.stable stable (take added.cut kept) (take added.cut changes) held (told-take stable added.cut kept changes all)),
-      subst (λ (l : List (Event Message)). AreTold (contents_after stable (take added.cut changes)) l (drop added.cut changes)) (sym added.pending)
-          (told-drop stable added.cut kept changes all),
+    let all : AreEvents stable kept changes = events-append stable old.pending begun pending events waits comes in (
+      subst (λ (l : List Messages). Hold l (contents_after stable (take added.cut changes))) (sym added.stable)
+          (holds-after old.stable stable (take added.cut kept) (take added.cut changes) held (events-take stable added.cut kept changes all)),
+      subst (λ (l : List (Event Message)). AreEvents (contents_after stable (take added.cut changes)) l (drop added.cut changes)) (sym added.pending)
+          (events-drop stable added.cut kept changes all),
       sym (contents_after-append stable (take added.cut changes) (drop added.cut changes))
           ∙ ap (contents_after stable) (take-append-drop added.cut changes)
           ∙ contents_after-append stable pending events,
@@ -207,11 +207,11 @@ holds-added old new begun stable pending events held waits comes added =
 -- ---- what may be appended
 
 -- a change may be appended that may be made of what the pages of a log hold
-pub may-tell : (pages : List Told) (contents : List Content) (id : ℕ) (update : Update)
-    → Hold pages contents → MayChange contents id update → can_tell effect_of pages id (message_of update).kind ≡ true
-may-tell pages contents id (Put Free) h may = lt-ltb id (length pages) (let l = AllZip-long Holds pages contents h in omega (arith, may))
-may-tell pages contents id (Put (Counter n)) h may = le-leb id (length pages) (let l = AllZip-long Holds pages contents h in omega (arith, may))
-may-tell pages contents id (Put (Roots roots)) h may = le-leb id (length pages) (let l = AllZip-long Holds pages contents h in omega (arith, may))
-may-tell pages contents id (Put (Node node)) h may = le-leb id (length pages) (let l = AllZip-long Holds pages contents h in omega (arith, may))
-may-tell pages contents id (Put Damaged) h may = absurd may
-may-tell pages contents id (Link link) h (node, at, accepts) = ap not (makes-full (slice_index_or pages id []) node (held-node pages contents id node h at))
+pub may-append : (pages : List Messages) (contents : List Content) (id : ℕ) (update : Update)
+    → Hold pages contents → MayChange contents id update → can_append effect_of pages id (message_of update).kind ≡ true
+may-append pages contents id (Put Free) h may = lt-ltb id (length pages) (let l = AllZip-long Holds pages contents h in omega (arith, may))
+may-append pages contents id (Put (Counter n)) h may = le-leb id (length pages) (let l = AllZip-long Holds pages contents h in omega (arith, may))
+may-append pages contents id (Put (Roots roots)) h may = le-leb id (length pages) (let l = AllZip-long Holds pages contents h in omega (arith, may))
+may-append pages contents id (Put (Node node)) h may = le-leb id (length pages) (let l = AllZip-long Holds pages contents h in omega (arith, may))
+may-append pages contents id (Put Damaged) h may = absurd may
+may-append pages contents id (Link link) h (node, at, accepts) = ap not (makes-full (slice_index_or pages id []) node (held-node pages contents id node h at))

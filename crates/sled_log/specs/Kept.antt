@@ -18,7 +18,7 @@ pub data Mark : Type 0 where
   Cancel : Mark
 
 -- what it was told, with the log sizes of all up to it, the moment when it came, and that when it became stable
-pub record Item : Type 0 where
+pub record LogItem : Type 0 where
   pub mark : Mark
   pub end : ℕ
   pub came : ℕ

@@ -7,8 +7,8 @@ use Rattle.sled_base.specs.declared.kinds.LogKind.{LogKind}
 use Rattle.sled_log.specs.Events.{Event, Change, Pin, Seal, Cancel}
 use Rattle.sled_log.specs.Chains.{chains_from, chains_after}
 use Rattle.sled_log.specs.Batches.{open_after, is_open, is_cancelled, IsFair}
-use Rattle.sled_log.specs.Messages.{Message, Told, effect_of}
-use Rattle.sled_log.specs.State.{AddsEvents, CrashKeeps, State, now, IsBeginning, Adds, IsLeft, StopsLeave}
+use Rattle.sled_log.specs.Messages.{Message, Messages, effect_of}
+use Rattle.sled_log.specs.LogState.{AddsEvents, CrashKeeps, LogState, now, IsPrefix, Adds, IsLeft, CrashesSinceLeave}
 
 -- ---- batches and fair cuts
 
@@ -80,20 +80,20 @@ module _ {E : Type 0} where
       by true w o = ⊎_elim (λ h. h) second.no_part (inside_cancelled (drop m xs) n (first.no_part w) (subst (λ b. open_after b (take n (drop m xs)) ≡ true) w o))
       by false w o = second.no_part (subst (λ b. open_after b (take n (drop m xs)) ≡ true) w o)
 
-  pub IsBeginning-all : (xs : List (Event E)) → IsBeginning xs xs
-  IsBeginning-all xs = ([], append-nil xs)
+  pub IsPrefix-all : (xs : List (Event E)) → IsPrefix xs xs
+  IsPrefix-all xs = ([], append-nil xs)
 
-  pub IsBeginning-none : (xs : List (Event E)) → IsBeginning [] xs
-  IsBeginning-none xs = (xs, refl)
+  pub IsPrefix-none : (xs : List (Event E)) → IsPrefix [] xs
+  IsPrefix-none xs = (xs, refl)
 
-  pub IsBeginning-more : (part xs ys : List (Event E)) → IsBeginning part xs → IsBeginning part (xs ++ ys)
-  IsBeginning-more part xs ys b = (b.0 ++ ys, sym (append_assoc part b.0 ys) ∙ ap (λ (l : List (Event E)). l ++ ys) b.1)
+  pub IsPrefix-more : (part xs ys : List (Event E)) → IsPrefix part xs → IsPrefix part (xs ++ ys)
+  IsPrefix-more part xs ys b = (b.0 ++ ys, sym (append_assoc part b.0 ys) ∙ ap (λ (l : List (Event E)). l ++ ys) b.1)
 
-  pub IsBeginning-behind : (xs part ys : List (Event E)) → IsBeginning part ys → IsBeginning (xs ++ part) (xs ++ ys)
-  IsBeginning-behind xs part ys b = (b.0, append_assoc xs part b.0 ∙ ap (λ (l : List (Event E)). xs ++ l) b.1)
+  pub IsPrefix-behind : (xs part ys : List (Event E)) → IsPrefix part ys → IsPrefix (xs ++ part) (xs ++ ys)
+  IsPrefix-behind xs part ys b = (b.0, append_assoc xs part b.0 ∙ ap (λ (l : List (Event E)). xs ++ l) b.1)
 
-  pub IsBeginning-then : (part first all : List (Event E)) → IsBeginning part first → IsBeginning first all → IsBeginning part all
-  IsBeginning-then part first all b c = (b.0 ++ c.0, sym (append_assoc part b.0 c.0) ∙ ap (λ (l : List (Event E)). l ++ c.0) b.1 ∙ c.1)
+  pub IsPrefix-then : (part first all : List (Event E)) → IsPrefix part first → IsPrefix first all → IsPrefix part all
+  IsPrefix-then part first all b c = (b.0 ++ c.0, sym (append_assoc part b.0 c.0) ∙ ap (λ (l : List (Event E)). l ++ c.0) b.1 ∙ c.1)
 
 -- ---- calls one after another, whatever it is that events are made of
 
@@ -145,17 +145,17 @@ module _ {E S : Type 0} (after : S → List (Event E) → S) (splits : (s : S) (
       → AddsEvents after durable waiting first durable_mid waiting_mid → CrashKeeps after durable_mid waiting_mid second Is → CrashKeeps after durable waiting (first ++ second) Is
   CrashKeeps-behind durable durable_mid waiting waiting_mid first second Is a left = record {
     came = first ++ left.came;
-    beginning = IsBeginning-behind first left.came second left.beginning;
+    beginning = IsPrefix-behind first left.came second left.beginning;
     cut = a.cut + left.cut;
     fair = cut_behind durable durable_mid waiting waiting_mid first left.came a left.cut left.fair;
     is = subst Is (stable_behind durable durable_mid waiting waiting_mid first left.came a left.cut) left.is;
   }
 
   -- what it keeps where more events come
-  pub CrashKeeps-more : (durable : S) (waiting first all : List (Event E)) (Is : S → Type 0) → IsBeginning first all → CrashKeeps after durable waiting first Is → CrashKeeps after durable waiting all Is
+  pub CrashKeeps-more : (durable : S) (waiting first all : List (Event E)) (Is : S → Type 0) → IsPrefix first all → CrashKeeps after durable waiting first Is → CrashKeeps after durable waiting all Is
   CrashKeeps-more durable waiting first all Is begins left = record {
     came = left.came;
-    beginning = IsBeginning-then left.came first all left.beginning begins;
+    beginning = IsPrefix-then left.came first all left.beginning begins;
     cut = left.cut;
     fair = left.fair;
     is = left.is;
@@ -168,14 +168,14 @@ module _ {E : Type 0} (effect : E → LogKind) where
   chains_after-append chains [] ys = refl
   chains_after-append chains (x ∷ xs) ys = chains_after-append (chains_from effect chains x) xs ys
 
-  pub Adds-none : (state : State E) → Adds effect state [] state
+  pub Adds-none : (state : LogState E) → Adds effect state [] state
   Adds-none state = AddsEvents-none (chains_after effect) chains_after-append state.stable state.pending refl
 
-  pub Adds-then : (old mid new : State E) (first second : List (Event E)) → Adds effect old first mid → Adds effect mid second new → Adds effect old (first ++ second) new
+  pub Adds-then : (old mid new : LogState E) (first second : List (Event E)) → Adds effect old first mid → Adds effect mid second new → Adds effect old (first ++ second) new
   Adds-then old mid new first second = AddsEvents-then (chains_after effect) chains_after-append old.stable mid.stable new.stable old.pending mid.pending new.pending first second
 
   -- a crash between two calls
-  pub IsLeft-cut : (state : State E) (cut : ℕ) (pages : List (List E)) → IsFair state.pending cut → pages ≡ chains_after effect state.stable (take cut state.pending) → IsLeft effect state [] pages
+  pub IsLeft-cut : (state : LogState E) (cut : ℕ) (pages : List (List E)) → IsFair state.pending cut → pages ≡ chains_after effect state.stable (take cut state.pending) → IsLeft effect state [] pages
   IsLeft-cut state cut pages fair is =
       let all : state.pending ≡ state.pending ++ [] = sym (append-nil state.pending) in
       record {
@@ -187,15 +187,15 @@ module _ {E : Type 0} (effect : E → LogKind) where
       }
 
   -- what a crash leaves in the second call
-  pub IsLeft-behind : (old mid : State E) (first second : List (Event E)) (pages : List (List E)) → Adds effect old first mid → IsLeft effect mid second pages → IsLeft effect old (first ++ second) pages
+  pub IsLeft-behind : (old mid : LogState E) (first second : List (Event E)) (pages : List (List E)) → Adds effect old first mid → IsLeft effect mid second pages → IsLeft effect old (first ++ second) pages
   IsLeft-behind old mid first second pages = CrashKeeps-behind (chains_after effect) chains_after-append old.stable mid.stable old.pending mid.pending first second (λ kept. pages ≡ kept)
 
   -- what it leaves in the first
-  pub IsLeft-more : (old : State E) (first second : List (Event E)) (pages : List (List E)) → IsLeft effect old first pages → IsLeft effect old (first ++ second) pages
+  pub IsLeft-more : (old : LogState E) (first second : List (Event E)) (pages : List (List E)) → IsLeft effect old first pages → IsLeft effect old (first ++ second) pages
   IsLeft-more old first second pages = CrashKeeps-more (chains_after effect) chains_after-append old.stable old.pending first (first ++ second) (λ kept. pages ≡ kept) (second, refl)
 
   -- what the log holds after the events were added
-  pub now-Adds : (old new : State E) (events : List (Event E)) → Adds effect old events new → now effect new ≡ chains_after effect (now effect old) events
+  pub now-Adds : (old new : LogState E) (events : List (Event E)) → Adds effect old events new → now effect new ≡ chains_after effect (now effect old) events
   now-Adds old new events a =
       ap (λ (l : List (List E)). chains_after effect l new.pending) a.stable
       ∙ ap (chains_after effect (chains_after effect old.stable (take a.cut (old.pending ++ events)))) a.pending
@@ -203,27 +203,27 @@ module _ {E : Type 0} (effect : E → LogKind) where
       ∙ ap (chains_after effect old.stable) (take-append-drop a.cut (old.pending ++ events))
       ∙ chains_after-append old.stable old.pending events
 
-  pub is_open-Adds : (old new : State E) (events : List (Event E)) → Adds effect old events new → is_open new.pending ≡ open_after (is_open old.pending) events
+  pub is_open-Adds : (old new : LogState E) (events : List (Event E)) → Adds effect old events new → is_open new.pending ≡ open_after (is_open old.pending) events
   is_open-Adds old new events a =
       ap is_open a.pending ∙ is_open-drop (old.pending ++ events) a.cut a.fair ∙ open_after-append false old.pending events
 
 -- ---- crashes
 
-module _ {L : Type 0} (moment : L → ℕ) (left_since : L → ℕ → List Told → Type 0) where
+module _ {L : Type 0} (moment : L → ℕ) (left_since : L → ℕ → List Messages → Type 0) where
   -- no call at all
-  pub StopsLeave-none : (log : L) (P : List Told → Type 0) → ((pages : List Told) → left_since log (moment log) pages → P pages) → StopsLeave moment left_since log log P
-  StopsLeave-none log P here = record { later = omega arith; each = here; before = λ t pages le left. inl left; kept = λ t pages le left. left }
+  pub CrashesSinceLeave-none : (log : L) (P : List Messages → Type 0) → ((pages : List Messages) → left_since log (moment log) pages → P pages) → CrashesSinceLeave moment left_since log log P
+  CrashesSinceLeave-none log P here = record { later = omega arith; each = here; before = λ t pages le left. inl left; kept = λ t pages le left. left }
 
   -- what crashes leave of two calls, the second from the state that the first left
-  pub StopsLeave-then : (old mid new : L) (before after : State Message) (first second : List (Event Message))
+  pub CrashesSinceLeave-then : (old mid new : L) (before after : LogState Message) (first second : List (Event Message))
       → Adds effect_of before first after
-      → StopsLeave moment left_since old mid (IsLeft effect_of before first)
-      → StopsLeave moment left_since mid new (IsLeft effect_of after second)
-      → StopsLeave moment left_since old new (IsLeft effect_of before (first ++ second))
-  StopsLeave-then old mid new before after first second a one two =
-      let P : List Told → Type 0 = IsLeft effect_of before (first ++ second) in
-      let of_one : (c : List Told) → IsLeft effect_of before first c → P c = λ c left. IsLeft-more effect_of before first second c left in
-      let of_two : (c : List Told) → IsLeft effect_of after second c → P c = λ c left. IsLeft-behind effect_of before after first second c a left in
+      → CrashesSinceLeave moment left_since old mid (IsLeft effect_of before first)
+      → CrashesSinceLeave moment left_since mid new (IsLeft effect_of after second)
+      → CrashesSinceLeave moment left_since old new (IsLeft effect_of before (first ++ second))
+  CrashesSinceLeave-then old mid new before after first second a one two =
+      let P : List Messages → Type 0 = IsLeft effect_of before (first ++ second) in
+      let of_one : (c : List Messages) → IsLeft effect_of before first c → P c = λ c left. IsLeft-more effect_of before first second c left in
+      let of_two : (c : List Messages) → IsLeft effect_of after second c → P c = λ c left. IsLeft-behind effect_of before after first second c a left in
       record {
         later = omega (arith, one.later, two.later);
         each = λ c left. ⊎_elim (λ l. of_one c (one.each c l)) (of_two c) (two.before (moment old) c one.later left);

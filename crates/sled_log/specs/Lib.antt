@@ -5,12 +5,12 @@ pub mod Chains
 pub mod Messages
 pub mod Contents
 pub mod Reading
-pub mod State
+pub mod LogState
 pub mod Calls
 pub mod Pages
 pub mod Laws
 pub mod SeenLaws
-pub mod TellingLaws
+pub mod UnplacedLaws
 pub mod ShapeLaws
 pub mod ContentLaws
 pub mod ZipLaws

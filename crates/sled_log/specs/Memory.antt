@@ -3,25 +3,25 @@ use Rattle.std.specs.Prelude.{◌≡◌, ℕ, ◌+◌, ◌≤◌, List, ◌++◌
 use Rattle.sled_log.specs.Calls.{Counts}
 use Rattle.sled_log.specs.Events.{Event}
 use Rattle.sled_log.specs.Items.{state_at, WasLeft, log_size}
-use Rattle.sled_log.specs.Kept.{Item}
-use Rattle.sled_log.specs.Messages.{Entry, Told}
-use Rattle.sled_log.specs.State.{State}
+use Rattle.sled_log.specs.Kept.{LogItem}
+use Rattle.sled_log.specs.Messages.{Entry, Messages}
+use Rattle.sled_log.specs.LogState.{LogState}
 use Rattle.sled_log.specs.Stored.{kept_items}
 use Rattle.sled_log.specs.declared.log.LogError.{LogError}
 use Rattle.sled_log.specs.declared.memory.MemLog.{MemLog}
 
 -- what it keeps
-abbrev pub kept_in : MemLog → List Item
+abbrev pub kept_in : MemLog → List LogItem
 kept_in log = kept_items log.blob_limit log.bytes.items log.items.items
 
-abbrev pub state_of : MemLog → State Entry
+abbrev pub state_of : MemLog → LogState Entry
 state_of log = state_at log.clock (kept_in log)
 
 abbrev pub clock_of : MemLog → ℕ
 clock_of log = log.clock
 
 -- what the log was at a moment
-abbrev pub was_at : ℕ → MemLog → State Entry
+abbrev pub was_at : ℕ → MemLog → LogState Entry
 was_at moment log = state_at moment (kept_in log)
 
 -- A call takes one moment at most, and what the log was at earlier ones stays.
@@ -31,7 +31,7 @@ pub record Remembers (old new : MemLog) : Type 0 where
   pub past : (moment : ℕ) → moment ≤ clock_of old → was_at moment new ≡ was_at moment old
 
 -- the crash states from that moment on
-abbrev pub might_have_left : MemLog → ℕ → List Told → Type 0
+abbrev pub might_have_left : MemLog → ℕ → List Messages → Type 0
 might_have_left log since pages = WasLeft log.clock (kept_in log) since pages
 
 -- the log sizes of all messages, of the durable ones, and of the pending ones

@@ -31,14 +31,14 @@ pub record Entry : Type 0 where
 abbrev pub Chain : Type 0
 Chain = List Entry
 
-abbrev pub Told : Type 0
-Told = List Message
+abbrev pub Messages : Type 0
+Messages = List Message
 
 abbrev pub message_in : Entry → Message
 message_in entry = entry.message
 
-abbrev pub told : Chain → Told
-told chain = map message_in chain
+abbrev pub unplaced : Chain → Messages
+unplaced chain = map message_in chain
 
 -- what a message does to its page
 abbrev pub effect_of : Message → LogKind
@@ -48,8 +48,8 @@ abbrev pub effect_of_entry : Entry → LogKind
 effect_of_entry entry = effect_of entry.message
 
 -- how much of a log a message takes up: a head, and its payload
-abbrev pub size_of : Message → ℕ
-size_of message = head_size + length message.payload
+abbrev pub message_size : Message → ℕ
+message_size message = head_size + length message.payload
 
 -- the kind under which a payload of a kind is kept as a blob, if it has one
 abbrev pub blob_kind : MessageKind → MessageKind

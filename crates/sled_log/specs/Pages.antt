@@ -6,7 +6,7 @@ use Rattle.sled_base.specs.declared.kinds.MessageKind.{MessageKind}
 use Rattle.sled_base.specs.declared.types.DiskPtr.{DiskPtr}
 use Rattle.sled_log.specs.Chains.{is_empty}
 use Rattle.sled_log.specs.Limits.{size_limit}
-use Rattle.sled_log.specs.Messages.{Entry, Chain, effect_of_entry, kind_at, size_of}
+use Rattle.sled_log.specs.Messages.{Entry, Chain, effect_of_entry, kind_at, message_size}
 use Rattle.sled_base.specs.declared.types.page_state.PageState.{PageState}
 use Rattle.sled_base.specs.declared.types.page_state.PageState.TheVariants.{Present, Free}
 
@@ -25,7 +25,7 @@ IsPageState chain (Free lsn pointer) = (is_empty effect_of_entry chain ≡ true)
 
 -- Each log size of a chain is that of its message, and together they are at most `i64::MAX`.
 pub record IsSized (chain : Chain) : Type 0 where
-  pub each : AllByRecursion (λ entry. entry.place.log_size ≡ size_of entry.message) chain
+  pub each : AllByRecursion (λ entry. entry.place.log_size ≡ message_size entry.message) chain
   pub total : sum_by (λ entry. entry.place.log_size) chain < size_limit
 
 -- an entry that is kept there

@@ -13,24 +13,24 @@ use Rattle.sled_node.specs.declared.node.link.Link.{Link as NodeLink}
 use Rattle.sled_log.specs.Chains.{is_empty}
 use Rattle.sled_log.specs.Contents.{contents_from, contents_after, Content, Free, Counter, Roots, Node, Damaged, Update, Put, Link}
 use Rattle.sled_log.specs.Events.{Event, Change, Pin, Seal, Cancel}
-use Rattle.sled_log.specs.Messages.{Message, Told, effect_of}
-use Rattle.sled_log.specs.State.{CrashKeeps}
+use Rattle.sled_log.specs.Messages.{Message, Messages, effect_of}
+use Rattle.sled_log.specs.LogState.{CrashKeeps}
 
 -- The payload of such a kind reads the update, up to the payload's end.
-abbrev pub Reads : MessageKind → List ℕ → Update → Type 0
-Reads kinds.Free payload (Put Free) = payload ≡ []
-Reads kinds.Counter payload (Put (Counter n)) = ReadsU64 payload n []
-Reads kinds.InlineMeta payload (Put (Roots roots)) = ReadsRoots payload roots []
-Reads kinds.BlobMeta payload (Put (Roots roots)) = ReadsRoots payload roots []
-Reads kinds.InlineNode payload (Put (Node node)) = ReadsNode payload node []
-Reads kinds.BlobNode payload (Put (Node node)) = ReadsNode payload node []
-Reads kinds.InlineLink payload (Link link) = ReadsLink payload link []
-Reads kinds.BlobLink payload (Link link) = ReadsLink payload link []
+abbrev pub Decodes : MessageKind → List ℕ → Update → Type 0
+Decodes kinds.Free payload (Put Free) = payload ≡ []
+Decodes kinds.Counter payload (Put (Counter n)) = ReadsU64 payload n []
+Decodes kinds.InlineMeta payload (Put (Roots roots)) = ReadsRoots payload roots []
+Decodes kinds.BlobMeta payload (Put (Roots roots)) = ReadsRoots payload roots []
+Decodes kinds.InlineNode payload (Put (Node node)) = ReadsNode payload node []
+Decodes kinds.BlobNode payload (Put (Node node)) = ReadsNode payload node []
+Decodes kinds.InlineLink payload (Link link) = ReadsLink payload link []
+Decodes kinds.BlobLink payload (Link link) = ReadsLink payload link []
 -- no other kind goes with an update
-Reads kind payload update = ⊥
+Decodes kind payload update = ⊥
 
 abbrev pub IsUpdate : Message → Update → Type 0
-IsUpdate message update = Reads message.kind message.payload update
+IsUpdate message update = Decodes message.kind message.payload update
 
 -- the events that messages are
 abbrev pub IsEvent : Event Message → Event Update → Type 0
@@ -42,18 +42,18 @@ IsEvent event other = ⊥
 
 -- The messages behind the first one of a page make this of what it held: each is a link, and the node that it meets accepts
 -- it.
-abbrev pub LeadTo : Content → Told → Content → Type 0
+abbrev pub LeadTo : Content → Messages → Content → Type 0
 LeadTo before [] after = before ≡ after
 LeadTo before (message ∷ messages) after =
     (node : WholeNode) × (link : NodeLink) × (before ≡ Node node) × IsUpdate message (Link link) × Accepts node link × LeadTo (Node (applied link node)) messages after
 
 -- The messages of a page make this content: the first puts a content there, and links follow.
-abbrev pub Makes : Told → Content → Type 0
+abbrev pub Makes : Messages → Content → Type 0
 Makes [] content = ⊥
 Makes (message ∷ messages) content = (first : Content) × IsUpdate message (Put first) × LeadTo first messages content
 
 -- The page holds the content that its messages make. It is damaged where they make none and don't leave it free.
-abbrev pub Holds : Told → Content → Type 0
+abbrev pub Holds : Messages → Content → Type 0
 Holds messages Damaged = (is_empty effect_of messages ≡ false) × ((content : Content) → ¬ Makes messages content)
 Holds messages Free = Makes messages Free
 Holds messages (Counter n) = Makes messages (Counter n)
@@ -61,7 +61,7 @@ Holds messages (Roots roots) = Makes messages (Roots roots)
 Holds messages (Node node) = Makes messages (Node node)
 
 -- pages of these messages hold such contents
-abbrev pub Hold : List Told → List Content → Type 0
+abbrev pub Hold : List Messages → List Content → Type 0
 Hold = AllZip Holds
 
 -- The change may be made of pages that hold such contents: one puts a content on a page that is there, or on the next new
@@ -81,12 +81,12 @@ MayCome contents Seal = Unit {0}
 MayCome contents Cancel = Unit {0}
 
 -- Messages are these changes, and each may be made of what the pages hold by then.
-abbrev pub AreTold : List Content → List (Event Message) → List (Event Update) → Type 0
-AreTold contents [] [] = Unit {0}
-AreTold contents (message ∷ messages) (event ∷ events) = IsEvent message event × MayCome contents event × AreTold (contents_from contents event) messages events
-AreTold contents [] (event ∷ events) = ⊥
-AreTold contents (message ∷ messages) [] = ⊥
+abbrev pub AreEvents : List Content → List (Event Message) → List (Event Update) → Type 0
+AreEvents contents [] [] = Unit {0}
+AreEvents contents (message ∷ messages) (event ∷ events) = IsEvent message event × MayCome contents event × AreEvents (contents_from contents event) messages events
+AreEvents contents [] (event ∷ events) = ⊥
+AreEvents contents (message ∷ messages) [] = ⊥
 
 -- a crash state where these contents were durable, these events pending, and others began to come
-abbrev pub AreLeft : List Content → List (Event Update) → List (Event Update) → List Told → Type 0
+abbrev pub AreLeft : List Content → List (Event Update) → List (Event Update) → List Messages → Type 0
 AreLeft stable pending begun pages = CrashKeeps contents_after stable pending begun (Hold pages)

@@ -8,10 +8,10 @@ use Rattle.sled_base.specs.declared.kinds.LogKind.TheVariants as kinds
 use Rattle.sled_base.specs.declared.kinds.MessageKind.{MessageKind}
 use Rattle.sled_base.specs.declared.kinds.MessageKind.TheVariants as message
 use Rattle.sled_log.specs.Batches.{open_after, is_open, is_cancelled, IsFair}
-use Rattle.sled_log.specs.Calls.{can_tell}
+use Rattle.sled_log.specs.Calls.{can_append}
 use Rattle.sled_log.specs.Chains.{is_freeing, is_empty, linked, begun, changed, chains_from, chains_after}
 use Rattle.sled_log.specs.Events.{Event, Change, Pin, Seal, Cancel, seen}
-use Rattle.sled_log.specs.State.{State, now, IsBeginning, Adds, IsLeft, seen_state}
+use Rattle.sled_log.specs.LogState.{LogState, now, IsPrefix, Adds, IsLeft, seen_state}
 
 -- ---- batches and cuts
 
@@ -51,8 +51,8 @@ module _ {E F : Type 0} (see : E → F) where
         ∙ fair.no_part (ap is_open (take-map (seen see) cut events) ∙ open_after-seen false (take cut events) ∙ o);
   }
 
-  pub IsBeginning-seen : (part events : List (Event E)) → IsBeginning part events → IsBeginning (seen_events part) (seen_events events)
-  IsBeginning-seen part events b = (seen_events b.0, sym (map-append (seen see) part b.0) ∙ ap seen_events b.1)
+  pub IsPrefix-seen : (part events : List (Event E)) → IsPrefix part events → IsPrefix (seen_events part) (seen_events events)
+  IsPrefix-seen part events b = (seen_events b.0, sym (map-append (seen see) part b.0) ∙ ap seen_events b.1)
 
 -- ---- chains
 
@@ -98,7 +98,7 @@ module _ {E F : Type 0} (effect : E → LogKind) (seen_effect : F → LogKind) (
 
   -- ---- what a log adds, and its crash states
 
-  pub now-seen : (state : State E) → map (map see) (now effect state) ≡ now seen_effect (seen_state see state)
+  pub now-seen : (state : LogState E) → map (map see) (now effect state) ≡ now seen_effect (seen_state see state)
   now-seen state = chains_after-seen state.stable state.pending
 
   -- the chains of the events up to a cut
@@ -111,7 +111,7 @@ module _ {E F : Type 0} (effect : E → LogKind) (seen_effect : F → LogKind) (
   fair-seen : (pending came : List (Event E)) (cut : ℕ) → IsFair (pending ++ came) cut → IsFair (seen_events see pending ++ seen_events see came) cut
   fair-seen pending came cut fair = subst (λ (l : List (Event F)). IsFair l cut) (map-append (seen see) pending came) (IsFair-seen see (pending ++ came) cut fair)
 
-  pub Adds-seen : (old new : State E) (events : List (Event E)) → Adds effect old events new → Adds seen_effect (seen_state see old) (seen_events see events) (seen_state see new)
+  pub Adds-seen : (old new : LogState E) (events : List (Event E)) → Adds effect old events new → Adds seen_effect (seen_state see old) (seen_events see events) (seen_state see new)
   Adds-seen old new events a = record {
     cut = a.cut;
     fair = fair-seen old.pending events a.cut a.fair;
@@ -119,10 +119,10 @@ module _ {E F : Type 0} (effect : E → LogKind) (seen_effect : F → LogKind) (
     pending = ap (seen_events see) a.pending ∙ sym (drop-map (seen see) a.cut (old.pending ++ events)) ∙ ap (drop a.cut) (map-append (seen see) old.pending events);
   }
 
-  pub IsLeft-seen : (old : State E) (events : List (Event E)) (pages : List (List E)) → IsLeft effect old events pages → IsLeft seen_effect (seen_state see old) (seen_events see events) (map (map see) pages)
+  pub IsLeft-seen : (old : LogState E) (events : List (Event E)) (pages : List (List E)) → IsLeft effect old events pages → IsLeft seen_effect (seen_state see old) (seen_events see events) (map (map see) pages)
   IsLeft-seen old events pages left = record {
     came = seen_events see left.came;
-    beginning = IsBeginning-seen see left.came events left.beginning;
+    beginning = IsPrefix-seen see left.came events left.beginning;
     cut = left.cut;
     fair = fair-seen old.pending left.came left.cut left.fair;
     is = ap (map (map see)) left.is ∙ cut-seen old.stable old.pending left.came left.cut;
@@ -130,16 +130,16 @@ module _ {E F : Type 0} (effect : E → LogKind) (seen_effect : F → LogKind) (
 
   -- ---- what may be appended
 
-  pub can_tell-seen : (chains : List (List E)) (pid : ℕ) (kind : MessageKind) → can_tell seen_effect (map (map see) chains) pid kind ≡ can_tell effect chains pid kind
-  can_tell-seen chains pid message.Free = ap (nat_lt pid) (length-map chains (map see))
-  can_tell-seen chains pid message.Counter = ap (nat_le pid) (length-map chains (map see))
-  can_tell-seen chains pid message.InlineMeta = ap (nat_le pid) (length-map chains (map see))
-  can_tell-seen chains pid message.InlineNode = ap (nat_le pid) (length-map chains (map see))
-  can_tell-seen chains pid message.InlineLink = ap not (ap (is_empty seen_effect) (get_or-map (map see) chains pid []) ∙ is_empty-seen (slice_index_or chains pid []))
-  can_tell-seen chains pid message.Corrupted = refl
-  can_tell-seen chains pid message.Canceled = refl
-  can_tell-seen chains pid message.Cap = refl
-  can_tell-seen chains pid message.BatchManifest = refl
-  can_tell-seen chains pid message.BlobMeta = refl
-  can_tell-seen chains pid message.BlobNode = refl
-  can_tell-seen chains pid message.BlobLink = refl
+  pub can_append-seen : (chains : List (List E)) (pid : ℕ) (kind : MessageKind) → can_append seen_effect (map (map see) chains) pid kind ≡ can_append effect chains pid kind
+  can_append-seen chains pid message.Free = ap (nat_lt pid) (length-map chains (map see))
+  can_append-seen chains pid message.Counter = ap (nat_le pid) (length-map chains (map see))
+  can_append-seen chains pid message.InlineMeta = ap (nat_le pid) (length-map chains (map see))
+  can_append-seen chains pid message.InlineNode = ap (nat_le pid) (length-map chains (map see))
+  can_append-seen chains pid message.InlineLink = ap not (ap (is_empty seen_effect) (get_or-map (map see) chains pid []) ∙ is_empty-seen (slice_index_or chains pid []))
+  can_append-seen chains pid message.Corrupted = refl
+  can_append-seen chains pid message.Canceled = refl
+  can_append-seen chains pid message.Cap = refl
+  can_append-seen chains pid message.BatchManifest = refl
+  can_append-seen chains pid message.BlobMeta = refl
+  can_append-seen chains pid message.BlobNode = refl
+  can_append-seen chains pid message.BlobLink = refl

@@ -1,12 +1,12 @@
 -- How the log in memory stores its items: one buffer has all payloads, and each item says where its own ends there.
 use Rattle.std.specs.Prelude.{◌-◌, ◌^◌, ℕ, pos, Bool, ◌&&◌, nat_le, Option, Some, None, List, [], ◌∷◌, ◌++◌, take, drop, map, ◌==◌, if◌then◌else◌}
 use Rattle.sled_base.specs.declared.kinds.MessageKind.{MessageKind}
-use Rattle.sled_log.specs.declared.memory.item.Item.{Item as StoredItem}
+use Rattle.sled_log.specs.declared.memory.item.LogItem.{LogItem as StoredItem}
 use Rattle.sled_log.specs.declared.memory.item.Mark.{Mark as StoredMark}
 use Rattle.sled_log.specs.declared.memory.item.Mark.TheVariants as stored
 use Rattle.sled_log.specs.Events.{Event, Change, Pin, Seal, Cancel}
 use Rattle.sled_log.specs.Items.{pointer_at}
-use Rattle.sled_log.specs.Kept.{Mark, Item}
+use Rattle.sled_log.specs.Kept.{Mark, LogItem}
 use Rattle.sled_log.specs.Kept as kept
 
 -- a moment that never comes: what is stable from then on is pending
@@ -27,16 +27,16 @@ kept_mark limit place payload stored.Pin = kept.Pin
 kept_mark limit place payload stored.Seal = kept.Seal
 kept_mark limit place payload stored.Cancel = kept.Cancel
 
-abbrev pub kept_item : ℕ → ℕ → List ℕ → StoredItem → Item
+abbrev pub kept_item : ℕ → ℕ → List ℕ → StoredItem → LogItem
 kept_item limit place payload item = record { mark = kept_mark limit place payload item.mark; end = item.end; came = item.came; settled = moment_of item.settled }
 
 -- the items with their payloads, where the first of them stands there in the log, and its payload there in the buffer
-abbrev pub kept_from : ℕ → List ℕ → ℕ → ℕ → List StoredItem → List Item
+abbrev pub kept_from : ℕ → List ℕ → ℕ → ℕ → List StoredItem → List LogItem
 kept_from limit bytes place start [] = []
 kept_from limit bytes place start (item ∷ items) = kept_item limit place (part start item.payload_end bytes) item ∷ kept_from limit bytes item.end item.payload_end items
 
 -- what the log keeps, by its limit of payloads that are no blobs, its buffer, and its items
-abbrev pub kept_items : ℕ → List ℕ → List StoredItem → List Item
+abbrev pub kept_items : ℕ → List ℕ → List StoredItem → List LogItem
 kept_items limit bytes items = kept_from limit bytes 0 0 items
 
 -- whether no payload ends before it begins, and the last of them ends there

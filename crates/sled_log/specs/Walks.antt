@@ -5,13 +5,13 @@ use Rattle.sled_log.specs.Calls.{Called, Counts, begun_by, is_write_fault}
 use Rattle.sled_log.specs.Chains.{chains_after}
 use Rattle.sled_log.specs.Events.{Event}
 use Rattle.sled_log.specs.Laws.{now-Adds}
-use Rattle.sled_log.specs.Messages.{Entry, Message, Chain, Told, effect_of_entry}
-use Rattle.sled_log.specs.State.{State, now}
+use Rattle.sled_log.specs.Messages.{Entry, Message, Chain, Messages, effect_of_entry}
+use Rattle.sled_log.specs.LogState.{LogState, now}
 use Rattle.sled_log.specs.declared.log.LogError.{LogError}
 use Rattle.sled_log.specs.declared.log.LogError.TheVariants.{Memory, Full, ReadFault, WriteFault, Corruption}
 
 -- It may be called, a batch is open or not, and where it tells its bytes, these are its chains.
-pub record Stands {L : Type 0} (tells : Type 0) (state : L → State Entry) (log : L) (batch : Bool) (chains : List Chain) : Type 0 where
+pub record Stands {L : Type 0} (tells : Type 0) (state : L → LogState Entry) (log : L) (batch : Bool) (chains : List Chain) : Type 0 where
   pub usable : (state log).usable ≡ true
   pub opened : is_open (state log).pending ≡ batch
   pub holds : tells → now effect_of_entry (state log) ≡ chains
@@ -31,7 +31,7 @@ clear-unless T ReadFault h = refl
 clear-unless T WriteFault h = absurd (h refl)
 clear-unless T Corruption h = refl
 
-module _ {L T : Type 0} {tells : Type 0} {state : L → State Entry} {moment : L → ℕ} {left_since : L → ℕ → List Told → Type 0} {counts : L → Counts} {old new : L} {count : ℕ} {events : T → List (Event Entry)} {batch : Bool} {chains : List Chain} where
+module _ {L T : Type 0} {tells : Type 0} {state : L → LogState Entry} {moment : L → ℕ} {left_since : L → ℕ → List Messages → Type 0} {counts : L → Counts} {old new : L} {count : ℕ} {events : T → List (Event Entry)} {batch : Bool} {chains : List Chain} where
   -- after a call at Ok
   pub stands-on : {begun : List (Event Message)} (answer : T) → Stands tells state old batch chains → (let result : Result T LogError = Ok answer in Called tells state moment left_since counts old new count events begun result)
       → Stands tells state new (open_after batch begun) (chains_after effect_of_entry chains (events answer))

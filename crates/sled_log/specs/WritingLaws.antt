@@ -11,7 +11,7 @@ use Rattle.sled_node.specs.Payloads.RootLaws.{Roots-grammar}
 use Rattle.sled_node.specs.Payloads.Roots.{ReadsRoots, written_roots}
 use Rattle.sled_log.specs.Contents.{Content, Free, Counter, Roots, Node, Damaged, Update, Put, Link}
 use Rattle.sled_log.specs.Events.{Change}
-use Rattle.sled_log.specs.Reading.{IsUpdate, MayChange, AreTold}
+use Rattle.sled_log.specs.Reading.{IsUpdate, MayChange, AreEvents}
 use Rattle.sled_log.specs.Writing.{message_of, CanWrite}
 
 pub written-update : (update : Update) → CanWrite update → IsUpdate (message_of update) update
@@ -23,6 +23,6 @@ written-update (Put Damaged) can = absurd can
 written-update (Link link) can = subst (λ (bytes : List ℕ). ReadsLink bytes link []) (append-nil (written_link link)) (Link-grammar.read_again link [] can tt)
 
 -- a change that may be made is the event of the message that it is written as
-pub told-update : (contents : List Content) (id : ℕ) (update : Update)
-    → MayChange contents id update → CanWrite update → AreTold contents (Change id (message_of update) ∷ []) (Change id update ∷ [])
-told-update contents id update may can = ((refl, written-update update can), may, tt)
+pub events-update : (contents : List Content) (id : ℕ) (update : Update)
+    → MayChange contents id update → CanWrite update → AreEvents contents (Change id (message_of update) ∷ []) (Change id update ∷ [])
+events-update contents id update may can = ((refl, written-update update can), may, tt)

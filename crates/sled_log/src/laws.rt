@@ -4,11 +4,11 @@ ghost use Rattle.std.specs.Prelude.{◌≡◌, List, map};
 ghost use Rattle.sled_log.specs.Chains.{chains_after};
 ghost use Rattle.sled_log.specs.Contents.{Content, Update, contents_after, effect_of_update, content_of};
 ghost use Rattle.sled_log.specs.Events.{Event};
-ghost use Rattle.sled_log.specs.Messages.{Message, Entry, Told, effect_of, effect_of_entry};
-ghost use Rattle.sled_log.specs.Reading.{IsUpdate, Makes, AreTold, Hold, AreLeft};
-ghost use Rattle.sled_log.specs.State.{State, Adds, IsLeft, told_state};
+ghost use Rattle.sled_log.specs.Messages.{Message, Entry, Messages, effect_of, effect_of_entry};
+ghost use Rattle.sled_log.specs.Reading.{IsUpdate, Makes, AreEvents, Hold, AreLeft};
+ghost use Rattle.sled_log.specs.LogState.{LogState, Adds, IsLeft, unplaced_state};
 ghost use Rattle.sled_log.specs.Writing.{message_of, CanWrite};
-ghost use Rattle.sled_log.specs.TellingLaws.{told_events};
+ghost use Rattle.sled_log.specs.UnplacedLaws.{unplaced_events};
 
 /// Folding chains and folding contents agree: the contents of the chains after events are those of the chains before
 /// them, after the events.
@@ -28,21 +28,21 @@ pub fn what_was_written_is_read()
 
 /// The messages of a page make one content at most.
 pub fn a_page_holds_one_content()
-    ensures { (messages : Told) (c d : Content) → Makes messages c → Makes messages d → c ≡ d }
+    ensures { (messages : Messages) (c d : Content) → Makes messages c → Makes messages d → c ≡ d }
 {}
 
 /// Pages hold, after messages, the contents after the changes that these are.
 pub fn messages_change_contents()
-    ensures { (pages : List Told) (contents : List Content) (messages : List (Event Message)) (events : List (Event Update)) → Hold pages contents → AreTold contents messages events → Hold (chains_after effect_of pages messages) (contents_after contents events) }
+    ensures { (pages : List Messages) (contents : List Content) (messages : List (Event Message)) (events : List (Event Update)) → Hold pages contents → AreEvents contents messages events → Hold (chains_after effect_of pages messages) (contents_after contents events) }
 {}
 
 /// Whoever knows nothing of places sees a log add the same.
 pub fn places_are_forgotten()
-    ensures { (old new : State Entry) (events : List (Event Entry)) → Adds effect_of_entry old events new → Adds effect_of (told_state old) (told_events events) (told_state new) }
+    ensures { (old new : LogState Entry) (events : List (Event Entry)) → Adds effect_of_entry old events new → Adds effect_of (unplaced_state old) (unplaced_events events) (unplaced_state new) }
 {}
 
 /// What a crash leaves holds the durable contents, and then a prefix of the pending changes and of those that had begun,
 /// which splits no batch.
-pub fn stops_leave_contents()
-    ensures { (old : State Message) (begun : List (Event Message)) (pages : List Told) (stable : List Content) (pending events : List (Event Update)) → Hold old.stable stable → AreTold stable old.pending pending → AreTold (contents_after stable pending) begun events → IsLeft effect_of old begun pages → AreLeft stable pending events pages }
+pub fn crashes_leave_contents()
+    ensures { (old : LogState Message) (begun : List (Event Message)) (pages : List Messages) (stable : List Content) (pending events : List (Event Update)) → Hold old.stable stable → AreEvents stable old.pending pending → AreEvents (contents_after stable pending) begun events → IsLeft effect_of old begun pages → AreLeft stable pending events pages }
 {}

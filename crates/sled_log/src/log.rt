@@ -3,13 +3,13 @@
 ghost use Rattle.std.specs.Prelude.{◌≡◌, ℕ, ℤ, ◌+◌, ◌≤◌, ◌<◌, List, [], ◌∷◌, true, false, length, slice_index_or, IfOk, IfErr, OnOk, IsErrOf};
 ghost use Rattle.std.specs.List.{All, AllByRecursion, Any, AllZip};
 ghost use Rattle.sled_log.specs.Batches.{is_open};
-ghost use Rattle.sled_log.specs.Calls.{Called, Counts, can_tell, one_more};
+ghost use Rattle.sled_log.specs.Calls.{Called, Counts, can_append, one_more};
 ghost use Rattle.sled_log.specs.Chains.{is_chain};
 ghost use Rattle.sled_log.specs.Events.{Change, Pin, Seal, Cancel};
 ghost use Rattle.sled_log.specs.Limits.{head_size, size_limit};
-ghost use Rattle.sled_log.specs.Messages.{Entry, Told, message, placed, effect_of, effect_of_entry};
+ghost use Rattle.sled_log.specs.Messages.{Entry, Messages, message, placed, effect_of, effect_of_entry};
 ghost use Rattle.sled_log.specs.Pages.{IsPageState, IsSized, IsAt, IsRead};
-ghost use Rattle.sled_log.specs.State.{State, now, IsLeft, told_state};
+ghost use Rattle.sled_log.specs.LogState.{LogState, now, IsLeft, unplaced_state};
 ghost use Rattle.sled_log.specs.declared.log.LogError.TheVariants.{Memory, Full, ReadFault, WriteFault};
 
 use crate::PageState;
@@ -62,13 +62,13 @@ pub trait Log: Drop {
     ghost tells: { Type 0 };
 
     /// The chains that are durable, the events that are pending, and whether the log may be called.
-    ghost state: { Self → State Entry };
+    ghost state: { Self → LogState Entry };
 
     /// The moment, as a number that doesn't fall.
     ghost moment: { Self → ℕ };
 
     /// The crash states: the pages that a crash at some moment from that one on might have left, during a call or between two.
-    ghost left_since: { Self → ℕ → List Told → Type 0 };
+    ghost left_since: { Self → ℕ → List Messages → Type 0 };
 
     /// How often it was read, and how often the device has failed.
     ghost counts: { Self → Counts };
@@ -97,7 +97,7 @@ pub trait Log: Drop {
         payload: &[u8],
     ) -> Result<(Lsn, DiskPtr, u64), LogError>
         requires usable { (state self.old).usable ≡ true }
-        requires can { tells → can_tell effect_of_entry (now effect_of_entry (state self.old)) pid kind ≡ true }
+        requires can { tells → can_append effect_of_entry (now effect_of_entry (state self.old)) pid kind ≡ true }
         ensures called { Called tells state moment left_since counts self.old self.new (counts self.old).reads (λ said. Change pid (placed (message kind payload.now) said) ∷ []) (Change pid (message kind payload.now) ∷ []) result }
         ensures size { IfOk result (λ said. (said.2 ≡ head_size + length payload.now) × (said.2 < size_limit)) }
         ensures full { IsErrOf result Full → is_full self.old (length payload.now) }
@@ -183,11 +183,11 @@ pub trait Log: Drop {
         ensures { result ≡ (counts self.now).write_faults };
 
     /// A crash at this moment may leave what is durable and no more.
-    ghost keeps_stable: { (log : Self) → tells → (state log).usable ≡ true → left_since log (moment log) (told_state (state log)).stable };
+    ghost keeps_stable: { (log : Self) → tells → (state log).usable ≡ true → left_since log (moment log) (unplaced_state (state log)).stable };
 
     /// It leaves what is durable, and a prefix of what is pending that splits no batch.
-    ghost only_now: { (log : Self) (pages : List Told) → tells → (state log).usable ≡ true → left_since log (moment log) pages → IsLeft effect_of (told_state (state log)) [] pages };
+    ghost only_now: { (log : Self) (pages : List Messages) → tells → (state log).usable ≡ true → left_since log (moment log) pages → IsLeft effect_of (unplaced_state (state log)) [] pages };
 
     /// What a crash since some moment might have left, it might have left since an earlier one.
-    ghost since_earlier: { (log : Self) (t u : ℕ) (pages : List Told) → tells → t ≤ u → left_since log u pages → left_since log t pages };
+    ghost since_earlier: { (log : Self) (t u : ℕ) (pages : List Messages) → tells → t ≤ u → left_since log u pages → left_since log t pages };
 }

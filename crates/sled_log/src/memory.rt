@@ -7,9 +7,9 @@ ghost use Rattle.sled_log.specs.Chains.{chains_after};
 ghost use Rattle.sled_log.specs.Items.{event_of, event_of_mark, size_of_mark, log_size, IsInOrder, are_placed};
 ghost use Rattle.sled_log.specs.Limits.{size_limit};
 ghost use Rattle.sled_log.specs.Messages.{effect_of, effect_of_entry};
-ghost use Rattle.sled_log.specs.State.{State, Adds, IsLeft, StopsLeave, told_state};
+ghost use Rattle.sled_log.specs.LogState.{LogState, Adds, IsLeft, CrashesSinceLeave, unplaced_state};
 ghost use Rattle.sled_log.specs.Stored.{are_within, kept_items, kept_mark};
-ghost use Rattle.sled_log.specs.TellingLaws.{told_events};
+ghost use Rattle.sled_log.specs.UnplacedLaws.{unplaced_events};
 
 mod calls;
 mod cuts;
@@ -20,7 +20,7 @@ mod pages;
 
 use cuts::is_fair_cut;
 use finding::behind;
-use item::{Item, Mark, NEVER};
+use item::{LogItem, Mark, NEVER};
 use keeping::{keep_first, push};
 use std::alloc::Global;
 
@@ -32,7 +32,7 @@ pub struct MemLog {
     // payloads above so many bytes are blobs
     blob_limit: usize,
     clean_every: u64,
-    items: Vec<Item>,
+    items: Vec<LogItem>,
     // their payloads, one behind the other
     bytes: Vec<u8>,
     // how many items are stable
@@ -95,7 +95,7 @@ impl MemLog {
     /// A crash now that keeps `n` of the pending events: the log that it leaves, which is new and has counted nothing.
     pub fn stop(self, n: usize) -> MemLog
         requires { IsFair (state_of self).pending n }
-        ensures left { might_have_left self (clock_of self) (told_state (state_of result)).stable }
+        ensures left { might_have_left self (clock_of self) (unplaced_state (state_of result)).stable }
         ensures stable { (state_of result).stable ≡ chains_after effect_of_entry (state_of self).stable (take n (state_of self).pending) }
         ensures pending { (state_of result).pending ≡ [] }
         ensures size { size_of result ≡ kept_size_of self n }
@@ -144,7 +144,7 @@ impl MemLog {
         requires fits { self.old.size + size_of_mark (kept_mark self.old.blob_limit self.old.size payload.now mark) < size_limit }
         requires batch { batch ≡ open_after self.old.batch (event_of_mark (kept_mark self.old.blob_limit self.old.size payload.now mark) ∷ []) }
         ensures adds { Adds effect_of_entry (state_of self.old) (event_of_mark (kept_mark self.old.blob_limit self.old.size payload.now mark) ∷ []) (state_of self.new) }
-        ensures stop { StopsLeave clock_of might_have_left self.old self.new (IsLeft effect_of (told_state (state_of self.old)) (told_events (event_of_mark (kept_mark self.old.blob_limit self.old.size payload.now mark) ∷ []))) }
+        ensures stop { CrashesSinceLeave clock_of might_have_left self.old self.new (IsLeft effect_of (unplaced_state (state_of self.old)) (unplaced_events (event_of_mark (kept_mark self.old.blob_limit self.old.size payload.now mark) ∷ []))) }
         ensures reads { self.new.reads ≡ self.old.reads }
         ensures settings { settings_of self.new ≡ settings_of self.old }
         ensures stable { (state_of self.new).stable ≡ (state_of self.old).stable }
@@ -154,7 +154,7 @@ impl MemLog {
         self.clock += 1;
         self.size += mark.size(payload);
         self.batch = batch;
-        let item = Item {
+        let item = LogItem {
             mark,
             end: self.size,
             payload_end: self.bytes.len() + payload.len(),

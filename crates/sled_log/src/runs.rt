@@ -7,7 +7,7 @@ ghost use Rattle.sled_log.specs.Events.{Event};
 ghost use Rattle.sled_log.specs.Messages.{Message, effect_of};
 ghost use Rattle.sled_log.specs.Runs.{events_of, events_of_all, can_make, can_make_all};
 ghost use Rattle.sled_log.specs.declared.log.LogError.TheVariants.{Corruption};
-ghost use Rattle.sled_log.specs.State.{State, now, Adds, IsLeft, StopsLeave, told_state};
+ghost use Rattle.sled_log.specs.LogState.{LogState, now, Adds, IsLeft, CrashesSinceLeave, unplaced_state};
 
 use crate::{Log, LogError};
 use sled_base::{MessageKind, PageId};
@@ -25,18 +25,18 @@ pub enum LogCall {
 /// What crashes leave of two parts of a call, the second from the state that the first left, is what they leave of the
 /// whole: what was durable, and a prefix of what was pending and of what both parts began, which splits no batch.
 pub fn parts_make_the_whole<L: Log>()
-    ensures { (old mid new : L) (before after : State Message) (first second : List (Event Message)) → Adds effect_of before first after → StopsLeave L.moment L.left_since old mid (IsLeft effect_of before first) → StopsLeave L.moment L.left_since mid new (IsLeft effect_of after second) → StopsLeave L.moment L.left_since old new (IsLeft effect_of before (first ++ second)) }
+    ensures { (old mid new : L) (before after : LogState Message) (first second : List (Event Message)) → Adds effect_of before first after → CrashesSinceLeave L.moment L.left_since old mid (IsLeft effect_of before first) → CrashesSinceLeave L.moment L.left_since mid new (IsLeft effect_of after second) → CrashesSinceLeave L.moment L.left_since old new (IsLeft effect_of before (first ++ second)) }
 {}
 
 /// Makes one call.
 fn make_call<L: Log>(log: &mut L, call: &LogCall) -> Result<(), LogError>
     requires tells { L.tells }
     requires usable { (L.state log.old).usable ≡ true }
-    requires can { IsTrue (can_make (now effect_of (told_state (L.state log.old))) (is_open (L.state log.old).pending) call.now) }
-    ensures added { OnOk result (Adds effect_of (told_state (L.state log.old)) (events_of call.now) (told_state (L.state log.new))) }
-    ensures refused { OnErr result (is_write_fault result ≡ false → Adds effect_of (told_state (L.state log.old)) [] (told_state (L.state log.new))) }
+    requires can { IsTrue (can_make (now effect_of (unplaced_state (L.state log.old))) (is_open (L.state log.old).pending) call.now) }
+    ensures added { OnOk result (Adds effect_of (unplaced_state (L.state log.old)) (events_of call.now) (unplaced_state (L.state log.new))) }
+    ensures refused { OnErr result (is_write_fault result ≡ false → Adds effect_of (unplaced_state (L.state log.old)) [] (unplaced_state (L.state log.new))) }
     ensures usable { (L.state log.new).usable ≡ not (is_write_fault result) }
-    ensures stop { StopsLeave L.moment L.left_since log.old log.new (IsLeft effect_of (told_state (L.state log.old)) (events_of call.now)) }
+    ensures stop { CrashesSinceLeave L.moment L.left_since log.old log.new (IsLeft effect_of (unplaced_state (L.state log.old)) (events_of call.now)) }
     ensures cause { HasCause (L.counts log.old) (L.counts log.new) result }
     ensures sound { IsErrOf result Corruption → ⊥ }
 {
@@ -61,11 +61,11 @@ fn make_call<L: Log>(log: &mut L, call: &LogCall) -> Result<(), LogError>
 pub fn make_calls<L: Log>(log: &mut L, calls: &[LogCall]) -> Result<(), LogError>
     requires tells { L.tells }
     requires usable { (L.state log.old).usable ≡ true }
-    requires can { IsTrue (can_make_all (now effect_of (told_state (L.state log.old))) (is_open (L.state log.old).pending) calls.now) }
-    ensures added { OnOk result (Adds effect_of (told_state (L.state log.old)) (events_of_all calls.now) (told_state (L.state log.new))) }
-    ensures refused { OnErr result (is_write_fault result ≡ false → (made : ℕ) × (made < length calls.now) × Adds effect_of (told_state (L.state log.old)) (events_of_all (take made calls.now)) (told_state (L.state log.new))) }
+    requires can { IsTrue (can_make_all (now effect_of (unplaced_state (L.state log.old))) (is_open (L.state log.old).pending) calls.now) }
+    ensures added { OnOk result (Adds effect_of (unplaced_state (L.state log.old)) (events_of_all calls.now) (unplaced_state (L.state log.new))) }
+    ensures refused { OnErr result (is_write_fault result ≡ false → (made : ℕ) × (made < length calls.now) × Adds effect_of (unplaced_state (L.state log.old)) (events_of_all (take made calls.now)) (unplaced_state (L.state log.new))) }
     ensures usable { (L.state log.new).usable ≡ not (is_write_fault result) }
-    ensures stop { StopsLeave L.moment L.left_since log.old log.new (IsLeft effect_of (told_state (L.state log.old)) (events_of_all calls.now)) }
+    ensures stop { CrashesSinceLeave L.moment L.left_since log.old log.new (IsLeft effect_of (unplaced_state (L.state log.old)) (events_of_all calls.now)) }
     ensures cause { HasCause (L.counts log.old) (L.counts log.new) result }
     ensures sound { IsErrOf result Corruption → ⊥ }
 {

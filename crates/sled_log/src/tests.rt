@@ -110,7 +110,7 @@ fn page_and_link(alloc: Global) -> Result<MemLog, LogError> {
 }
 
 #[test]
-fn a_stop_leaves_what_was_stable(rt: HostRuntime) -> Result<(), Fail> {
+fn a_crash_leaves_what_was_stable(rt: HostRuntime) -> Result<(), Fail> {
     let alloc = rt.alloc();
     assert_eq!(rt; pages_left(page_and_link(alloc)?, 0), Some(1));
     assert_eq!(rt; pages_left(page_and_link(alloc)?, 1), Some(2));
@@ -120,7 +120,11 @@ fn a_stop_leaves_what_was_stable(rt: HostRuntime) -> Result<(), Fail> {
 }
 
 // Whether the message was read so.
-fn is_told(read: Result<(MessageKind, Vec<u8>), LogError>, kind: MessageKind, len: usize) -> bool {
+fn is_read_so(
+    read: Result<(MessageKind, Vec<u8>), LogError>,
+    kind: MessageKind,
+    len: usize,
+) -> bool {
     match read {
         Ok((found, payload)) => found == kind && payload.len() == len,
         Err(_) => false,
@@ -132,7 +136,7 @@ fn a_blob_is_read_with_its_kind(rt: HostRuntime) -> Result<(), Fail> {
     let mut log = MemLog::new(rt.alloc(), 4, 0);
     let (_, pointer, _) = log.append(MessageKind::InlineNode, 0, &LEAF)?;
     let read = log.read(0, 0, pointer);
-    assert!(rt; is_told(read, MessageKind::BlobNode, 8));
+    assert!(rt; is_read_so(read, MessageKind::BlobNode, 8));
     assert_eq!(rt; log.reads(), 1);
     Ok(())
 }
@@ -174,7 +178,7 @@ fn calls_are_made_of_a_log_with_a_buffer(rt: HostRuntime) -> Result<(), Fail> {
 }
 
 #[test]
-fn a_stop_keeps_a_beginning(rt: HostRuntime) -> Result<(), Fail> {
+fn a_crash_keeps_a_prefix(rt: HostRuntime) -> Result<(), Fail> {
     let mut log = MemLog::new(rt.alloc(), 512, 16);
     let _ = log.append(MessageKind::InlineNode, 0, &LEAF)?;
     let _ = log.append(MessageKind::InlineLink, 0, &LINK)?;
@@ -185,7 +189,7 @@ fn a_stop_keeps_a_beginning(rt: HostRuntime) -> Result<(), Fail> {
 }
 
 #[test]
-fn a_stop_keeps_no_batch_in_part(rt: HostRuntime) -> Result<(), Fail> {
+fn a_crash_splits_no_batch(rt: HostRuntime) -> Result<(), Fail> {
     let mut log = MemLog::new(rt.alloc(), 512, 16);
     log.pin()?;
     let _ = log.append(MessageKind::InlineNode, 0, &LEAF)?;
@@ -198,7 +202,7 @@ fn a_stop_keeps_no_batch_in_part(rt: HostRuntime) -> Result<(), Fail> {
 }
 
 #[test]
-fn a_stop_may_keep_part_of_a_cancelled_batch(rt: HostRuntime) -> Result<(), Fail> {
+fn a_crash_may_keep_part_of_a_cancelled_batch(rt: HostRuntime) -> Result<(), Fail> {
     let mut log = MemLog::new(rt.alloc(), 512, 16);
     log.pin()?;
     let _ = log.append(MessageKind::InlineNode, 0, &LEAF)?;

@@ -14,13 +14,13 @@ use Rattle.sled_base.specs.Order.{Bytes, bytes_cmp, is_below, IsBelow, IsAtMost}
 use Rattle.sled_base.specs.OrderLaws.{under_one_front, below_trans}
 use Rattle.sled_node.specs.declared.node.data.Data.{Data}
 use Rattle.sled_node.specs.declared.node.data.Data.TheVariants.{Index}
-use Rattle.sled_node.specs.Pairs.{IsWithinLimit, IsRising, set_pair, HasPairs}
+use Rattle.sled_node.specs.Pairs.{IsWithinLimit, IsAscending, set_pair, HasPairs}
 use Rattle.sled_node.specs.Node.{Item, Child, WholeNode, whole, IsInRange, IsWellFormed, ItemFits}
 use Rattle.sled_node.specs.Parts.{node_of, HoldsData}
 use Rattle.sled_node.specs.Inserts.{HasKey, inserted}
-use Rattle.sled_node.specs.Children.{BeginsAtMost, HasChildFor, AcceptsChild, IsLastAtMost, with_child}
-use Rattle.sled_node.proofs.Rising.{all_at}
-use Rattle.sled_node.proofs.Edits.{rising_set, all_set}
+use Rattle.sled_node.specs.Children.{BeginsAtMost, HasChildFor, AcceptsChild, IsLeadingPair, with_child}
+use Rattle.sled_node.proofs.Ascending.{all_at}
+use Rattle.sled_node.proofs.Edits.{ascending_set, all_set}
 use Rattle.sled_node.proofs.NodeEdits.{made, set_under}
 use Rattle.sled_node.proofs.Places.{all_so}
 use Rattle.sled_node.proofs.FromParts.{parts_formed}
@@ -59,19 +59,19 @@ module _ {V : Type 0} (key : Bytes) where
   failed : (pair : Bytes × V) → is_at_most pair ≡ false → IsBelow key pair.0
   failed pair tested = test_fails (bytes_cmp key pair.0) tested
 
-  -- of rising pairs each is below those behind it
-  rising_between : (pairs : List (Bytes × V)) (i j : ℕ) (d : Bytes × V) → IsRising pairs → i < j → j < length pairs → IsBelow (get_or pairs i d).0 (get_or pairs j d).0
-  rising_between [] i j d rising less lt = absurd (omega arith)
-  rising_between (pair ∷ pairs) i zero d rising less lt = absurd (omega arith)
-  rising_between (pair ∷ pairs) zero (suc j) d rising less lt = all_at (λ later. IsBelow pair.0 later.0) pairs j d rising.0 (omega arith)
-  rising_between (pair ∷ pairs) (suc i) (suc j) d rising less lt = rising_between pairs i j d rising.1 (omega arith) (omega arith)
+  -- of ascending pairs each is below those behind it
+  ascending_between : (pairs : List (Bytes × V)) (i j : ℕ) (d : Bytes × V) → IsAscending pairs → i < j → j < length pairs → IsBelow (get_or pairs i d).0 (get_or pairs j d).0
+  ascending_between [] i j d ascending less lt = absurd (omega arith)
+  ascending_between (pair ∷ pairs) i zero d ascending less lt = absurd (omega arith)
+  ascending_between (pair ∷ pairs) zero (suc j) d ascending less lt = all_at (λ later. IsBelow pair.0 later.0) pairs j d ascending.0 (omega arith)
+  ascending_between (pair ∷ pairs) (suc i) (suc j) d ascending less lt = ascending_between pairs i j d ascending.1 (omega arith) (omega arith)
 
   -- so they are parted
-  pub parted : (pairs : List (Bytes × V)) → IsRising pairs → IsPartitionedBy is_at_most pairs
-  parted pairs rising i j d le lt tested =
+  pub parted : (pairs : List (Bytes × V)) → IsAscending pairs → IsPartitionedBy is_at_most pairs
+  parted pairs ascending i j d le lt tested =
       let last = passed (get_or pairs j d) tested in
       passes (get_or pairs i d) (λ above. elim (cases_lt i j) [
-        | inl less ↦ last (below_trans key (get_or pairs i d).0 (get_or pairs j d).0 above (rising_between pairs i j d rising less lt))
+        | inl less ↦ last (below_trans key (get_or pairs i d).0 (get_or pairs j d).0 above (ascending_between pairs i j d ascending less lt))
         | inr same ↦ last (subst (λ k. IsBelow key (get_or pairs k d).0) (omega (arith, le, same)) above)
       ])
 
@@ -86,7 +86,7 @@ module _ {V : Type 0} (key : Bytes) where
     pub some_at_most : 1 ≤ i
     some_at_most = parts_behind pairs i begins point
 
-    pub last_found : (d : Bytes × V) → IsLastAtMost pairs key (i - 1) (get_or pairs (i - 1) d).1
+    pub last_found : (d : Bytes × V) → IsLeadingPair pairs key (i - 1) (get_or pairs (i - 1) d).1
     last_found d = record {
       found = (get_or pairs (i - 1) d).0;
       here = slice_get-get_or pairs (i - 1) d (omega (arith, some_at_most, within));
@@ -117,7 +117,7 @@ module _ (front : Bytes) (pairs : List (Bytes × ℕ)) (stored : Bytes) where
       (k, get_or pairs k d, short, get_or_default pairs k (get_or pairs k d) d short, append_cancel_left front (get_or pairs k d).0 stored whole)
 
   -- the same pair is the last
-  pub last_under : (i page : ℕ) → IsLastAtMost pairs stored i page → IsLastAtMost (map child_of pairs) (front ++ stored) i (Child page)
+  pub last_under : (i page : ℕ) → IsLeadingPair pairs stored i page → IsLeadingPair (map child_of pairs) (front ++ stored) i (Child page)
   last_under i page last = record {
     found = front ++ last.found;
     here = slice_get-map child_of pairs i ∙ ap (option_map child_of) last.here;
@@ -146,8 +146,8 @@ module _ (n : WholeNode) (pairs : List (Bytes × ℕ)) (holds : HoldsData n (Ind
   pub begins_stored : HasChildFor n key → BeginsAtMost pairs stored
   begins_stored leads = begins_alike.1 leads.2
 
-  pub last_whole : (i page : ℕ) → IsLastAtMost pairs stored i page → IsLastAtMost n.pairs key i (Child page)
-  last_whole i page last = subst (λ k. IsLastAtMost n.pairs k i (Child page)) is (subst (λ ps. IsLastAtMost ps (front ++ stored) i (Child page)) (sym holds.pairs) (last_under front pairs stored i page last))
+  pub last_whole : (i page : ℕ) → IsLeadingPair pairs stored i page → IsLeadingPair n.pairs key i (Child page)
+  last_whole i page last = subst (λ k. IsLeadingPair n.pairs k i (Child page)) is (subst (λ ps. IsLeadingPair ps (front ++ stored) i (Child page)) (sym holds.pairs) (last_under front pairs stored i page last))
 
   has_key : HasKey pairs stored → HasKey n.pairs key
   has_key there = subst (HasKey n.pairs) is (subst (λ ps. HasKey ps (front ++ stored)) (sym holds.pairs) (has_whole front pairs stored there))
@@ -196,7 +196,7 @@ well_formed_child n key page formed index inside key_fits page_fits few = record
   prefix_byte = formed.prefix_byte;
   prefix_open = formed.prefix_open;
   prefix_common = formed.prefix_common;
-  rising = rising_set key n.pairs (Child page) formed.rising;
+  ascending = ascending_set key n.pairs (Child page) formed.ascending;
   in_range = all_set key n.pairs (λ pair. IsInRange n pair.0) (Child page) inside formed.in_range;
   few = few;
   bounds = formed.bounds;

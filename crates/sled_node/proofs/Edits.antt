@@ -1,4 +1,4 @@
--- Edits of rising pairs keep them rising.
+-- Edits of ascending pairs keep them ascending.
 use Rattle.std.proofs.Common.{◌≡◌, ◌+◌, ◌≤◌, ◌^◌, Bool, true, false, cond, List, [], ◌∷◌, ◌++◌, length, refl, arith}
 use Rattle.std.specs.Prelude.{filter}
 use Rattle.std.specs.List.{AllByRecursion}
@@ -7,7 +7,7 @@ use Rattle.std.specs.Ordering.{is_lt, ordering_reverse}
 use Rattle.std.proofs.lemmas.List.{length-append}
 use Rattle.sled_base.specs.Order.{Bytes, bytes_cmp, is_below, IsBelow}
 use Rattle.sled_base.specs.OrderLaws.{below_trans, reversed}
-use Rattle.sled_node.specs.Pairs.{IsWithinLimit, IsRising, pairs_below, pairs_above, set_pair, del_pair, HasPairs}
+use Rattle.sled_node.specs.Pairs.{IsWithinLimit, IsAscending, pairs_below, pairs_above, set_pair, del_pair, HasPairs}
 use Rattle.sled_node.proofs.Places.{all_so}
 
 -- ---- what holds of each element
@@ -41,17 +41,17 @@ lt_is Greater h = absurd cc
 -- ---- order
 
 module _ {V : Type 0} where
-  kept : (b : Bool) (x : Bytes × V) (xs : List (Bytes × V)) → AllByRecursion (λ later. IsBelow x.0 later.0) xs → IsRising xs → IsRising (cond b (x ∷ xs) xs)
-  kept true x xs above rising = (above, rising)
-  kept false x xs above rising = rising
+  kept : (b : Bool) (x : Bytes × V) (xs : List (Bytes × V)) → AllByRecursion (λ later. IsBelow x.0 later.0) xs → IsAscending xs → IsAscending (cond b (x ∷ xs) xs)
+  kept true x xs above ascending = (above, ascending)
+  kept false x xs above ascending = ascending
 
-  pub rising_filter : (p : Bytes × V → Bool) (xs : List (Bytes × V)) → IsRising xs → IsRising (filter p xs)
-  rising_filter p [] rising = tt
-  rising_filter p (x ∷ xs) rising = kept (p x) x (filter p xs) (all_filter (λ later. IsBelow x.0 later.0) p xs rising.0) (rising_filter p xs rising.1)
+  pub ascending_filter : (p : Bytes × V → Bool) (xs : List (Bytes × V)) → IsAscending xs → IsAscending (filter p xs)
+  ascending_filter p [] ascending = tt
+  ascending_filter p (x ∷ xs) ascending = kept (p x) x (filter p xs) (all_filter (λ later. IsBelow x.0 later.0) p xs ascending.0) (ascending_filter p xs ascending.1)
 
-  pub rising_append : (xs ys : List (Bytes × V)) → IsRising xs → IsRising ys → AllByRecursion (λ x. AllByRecursion (λ y. IsBelow x.0 y.0) ys) xs → IsRising (xs ++ ys)
-  rising_append [] ys a b below = b
-  rising_append (x ∷ xs) ys a b below = (all_append (λ later. IsBelow x.0 later.0) xs ys a.0 below.0, rising_append xs ys a.1 b below.1)
+  pub ascending_append : (xs ys : List (Bytes × V)) → IsAscending xs → IsAscending ys → AllByRecursion (λ x. AllByRecursion (λ y. IsBelow x.0 y.0) ys) xs → IsAscending (xs ++ ys)
+  ascending_append [] ys a b below = b
+  ascending_append (x ∷ xs) ys a b below = (all_append (λ later. IsBelow x.0 later.0) xs ys a.0 below.0, ascending_append xs ys a.1 b below.1)
 
   module _ (key : Bytes) (pairs : List (Bytes × V)) where
     below_key : AllByRecursion (λ pair. IsBelow pair.0 key) (pairs_below key pairs)
@@ -63,14 +63,14 @@ module _ {V : Type 0} where
     all_beyond : AllByRecursion (λ x. AllByRecursion (λ y. IsBelow x.0 y.0) (pairs_above key pairs)) (pairs_below key pairs)
     all_beyond = all_so (λ x lt. all_so (λ y more. below_trans x.0 key y.0 lt more) (pairs_above key pairs) above_key) (pairs_below key pairs) below_key
 
-    pub rising_set : (item : V) → IsRising pairs → IsRising (set_pair key item pairs)
-    rising_set item rising =
+    pub ascending_set : (item : V) → IsAscending pairs → IsAscending (set_pair key item pairs)
+    ascending_set item ascending =
         let behind = pairs_above key pairs in
-        rising_append (pairs_below key pairs) ((key, item) ∷ behind) (rising_filter (λ pair. is_below pair.0 key) pairs rising) (above_key, rising_filter (λ pair. is_below key pair.0) pairs rising)
+        ascending_append (pairs_below key pairs) ((key, item) ∷ behind) (ascending_filter (λ pair. is_below pair.0 key) pairs ascending) (above_key, ascending_filter (λ pair. is_below key pair.0) pairs ascending)
         (all_so (λ x lt. (lt, all_so (λ y more. below_trans x.0 key y.0 lt more) behind above_key)) (pairs_below key pairs) below_key)
 
-    pub rising_del : IsRising pairs → IsRising (del_pair key pairs)
-    rising_del rising = rising_append (pairs_below key pairs) (pairs_above key pairs) (rising_filter (λ pair. is_below pair.0 key) pairs rising) (rising_filter (λ pair. is_below key pair.0) pairs rising) all_beyond
+    pub ascending_del : IsAscending pairs → IsAscending (del_pair key pairs)
+    ascending_del ascending = ascending_append (pairs_below key pairs) (pairs_above key pairs) (ascending_filter (λ pair. is_below pair.0 key) pairs ascending) (ascending_filter (λ pair. is_below key pair.0) pairs ascending) all_beyond
 
     pub all_set : (P : Bytes × V → Type 0) (item : V) → P (key, item) → AllByRecursion P pairs → AllByRecursion P (set_pair key item pairs)
     all_set P item here all = all_append P (pairs_below key pairs) ((key, item) ∷ pairs_above key pairs) (all_filter P (λ pair. is_below pair.0 key) pairs all) (here, all_filter P (λ pair. is_below key pair.0) pairs all)
@@ -104,7 +104,7 @@ module _ {V : Type 0} {fits : V → Type 0} (key : Bytes) (pairs : List (Bytes �
   pub has_set : (item : V) → IsWithinLimit key → fits item → length (set_pair key item pairs) ≤ 2 ^ 24 → HasPairs fits (set_pair key item pairs)
   has_set item key_fits item_fits few = record {
     few = few;
-    rising = rising_set key pairs item has.rising;
+    ascending = ascending_set key pairs item has.ascending;
     keys = all_set key pairs (λ pair. IsWithinLimit pair.0) item key_fits has.keys;
     items = all_set key pairs (λ pair. fits pair.1) item item_fits has.items;
   }
@@ -112,7 +112,7 @@ module _ {V : Type 0} {fits : V → Type 0} (key : Bytes) (pairs : List (Bytes �
   pub has_del : HasPairs fits (del_pair key pairs)
   has_del = record {
     few = omega (arith, has.few, few_del key pairs, length-append (pairs_below key pairs) (pairs_above key pairs));
-    rising = rising_del key pairs has.rising;
+    ascending = ascending_del key pairs has.ascending;
     keys = all_del key pairs (λ pair. IsWithinLimit pair.0) has.keys;
     items = all_del key pairs (λ pair. fits pair.1) has.items;
   }

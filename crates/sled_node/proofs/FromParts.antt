@@ -8,7 +8,7 @@ use Rattle.sled_base.specs.OrderLaws.{under_one_front}
 use Rattle.sled_node.specs.Limits.{bytes_limit, prefix_limit}
 use Rattle.sled_node.specs.declared.node.data.Data.{Data}
 use Rattle.sled_node.specs.declared.node.data.Data.TheVariants.{Leaf, Index}
-use Rattle.sled_node.specs.Pairs.{IsWithinLimit, IsRising}
+use Rattle.sled_node.specs.Pairs.{IsWithinLimit, IsAscending}
 use Rattle.sled_node.specs.Node.{Item, Value, Child, WholeNode, whole, IsInRange, IsWellFormed, IsPage, ItemFits}
 use Rattle.sled_node.specs.Parts.{node_of, AreBounds, IsStoredWithin, AreStoredWithin, HasStored}
 use Rattle.sled_node.proofs.NodeEdits.{made}
@@ -26,10 +26,10 @@ all_back Q R f so (x ∷ xs) all also = (so x all.0 also.0, all_back Q R f so xs
 
 -- ---- whole keys
 
-rising_under : {V : Type 0} (front : Bytes) (make : V → Item) (pairs : List (Bytes × V)) → IsRising pairs → IsRising (map (made front make) pairs)
-rising_under front make [] rising = tt
-rising_under front make (pair ∷ pairs) rising =
-    (all_map (λ later. IsBelow (front ++ pair.0) later.0) (made front make) (λ later lt. under_one_front front pair.0 later.0 ∙ lt) pairs rising.0, rising_under front make pairs rising.1)
+ascending_under : {V : Type 0} (front : Bytes) (make : V → Item) (pairs : List (Bytes × V)) → IsAscending pairs → IsAscending (map (made front make) pairs)
+ascending_under front make [] ascending = tt
+ascending_under front make (pair ∷ pairs) ascending =
+    (all_map (λ later. IsBelow (front ++ pair.0) later.0) (made front make) (λ later lt. under_one_front front pair.0 later.0 ∙ lt) pairs ascending.0, ascending_under front make pairs ascending.1)
 
 module _ (n : WholeNode) (bounds : AreBounds n.prefix_len n.lo n.hi) (byte : n.prefix_len ≤ prefix_limit) (stored : Bytes) where
   abbrev IsWithin : Type 0
@@ -61,7 +61,7 @@ module _ (p : ℕ) (next child : Option ℕ) (capped : Bool) (lo hi : Bytes) (by
         prefix_byte = byte;
         prefix_open = bounds.prefix_open;
         prefix_common = bounds.prefix_common;
-        rising = rising_under (take p lo) (λ v. Value v) pairs has.rising;
+        ascending = ascending_under (take p lo) (λ v. Value v) pairs has.ascending;
         in_range = all_map (λ pair. IsInRange n pair.0) make (λ pair h. whole_in_range n bounds byte pair.0 h) pairs within;
         few = omega (arith, has.few, length-map pairs make);
         bounds = bounds.bounds;
@@ -77,7 +77,7 @@ module _ (p : ℕ) (next child : Option ℕ) (capped : Bool) (lo hi : Bytes) (by
         prefix_byte = byte;
         prefix_open = bounds.prefix_open;
         prefix_common = bounds.prefix_common;
-        rising = rising_under (take p lo) (λ page. Child page) pairs has.rising;
+        ascending = ascending_under (take p lo) (λ page. Child page) pairs has.ascending;
         in_range = all_map (λ pair. IsInRange n pair.0) make (λ pair h. whole_in_range n bounds byte pair.0 h) pairs within;
         few = omega (arith, has.few, length-map pairs make);
         bounds = bounds.bounds;

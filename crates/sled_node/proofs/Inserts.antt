@@ -1,4 +1,4 @@
--- Putting a pair among rising ones, unless its key is there.
+-- Putting a pair among ascending ones, unless its key is there.
 use Rattle.std.proofs.Common.{◌≡◌, ◌↔◌, IsTrue, ℕ, zero, suc, ◌<◌, ◌≤◌, ◌^◌, Bool, true, false, cond, List, [], ◌∷◌, length, get_or, take, drop, inl, inr, refl, sym, ap, subst, ◌∙◌, arith}
 use Rattle.std.specs.Prelude.{◌⊎◌}
 use Rattle.std.specs.List.{AllByRecursion}
@@ -9,9 +9,9 @@ use Rattle.std.proofs.lemmas.List.{length-append, take-append-drop, get_or_defau
 use Rattle.std.proofs.Math.Numerals.{add-one}
 use Rattle.sled_base.specs.Order.{Bytes, bytes_cmp, is_below, IsBelow}
 use Rattle.sled_base.specs.OrderLaws.{equal_is_same, not_below_itself, reversed}
-use Rattle.sled_node.specs.Pairs.{IsWithinLimit, IsRising, pairs_below, pairs_above, set_pair, StandsAt, IsGap, HasPairs}
+use Rattle.sled_node.specs.Pairs.{IsWithinLimit, IsAscending, pairs_below, pairs_above, set_pair, StandsAt, IsGap, HasPairs}
 use Rattle.sled_node.specs.Inserts.{HasKey, inserted}
-use Rattle.sled_node.proofs.Rising.{all_at}
+use Rattle.sled_node.proofs.Ascending.{all_at}
 use Rattle.sled_node.proofs.Edits.{all_append, all_filter, all_passed, few_del, has_set}
 use Rattle.sled_node.proofs.Places.{all_so}
 
@@ -60,27 +60,27 @@ module _ {V : Type 0} (key : Bytes) where
   other_above : (pair : Bytes × V) → is_below key pair.0 ≡ true → pair.0 ≡ key → ⊥
   other_above pair above same = let other = not_below_same key pair.0 (sym same) in absurd cc
 
-  -- rising pairs don't begin with one that stands behind it
+  -- ascending pairs don't begin with one that stands behind it
   no_twin : (pair : Bytes × V) (pairs others : List (Bytes × V)) → AllByRecursion (λ later. IsBelow pair.0 later.0) pairs → pair ∷ others ≡ pairs → ⊥
   no_twin pair pairs others above twin = not_below_itself pair.0 (subst (AllByRecursion (λ later. IsBelow pair.0 later.0)) (sym twin) above).0
 
   -- the pair where the key stands has that key
-  stands_with : (pairs : List (Bytes × V)) (i : ℕ) (d : Bytes × V) → IsRising pairs → i < length pairs → take i pairs ≡ pairs_below key pairs → drop (suc i) pairs ≡ pairs_above key pairs → (get_or pairs i d).0 ≡ key
-  stands_with [] i d rising lt before after = absurd (omega arith)
-  stands_with (pair ∷ pairs) zero d rising lt before after =
+  stands_with : (pairs : List (Bytes × V)) (i : ℕ) (d : Bytes × V) → IsAscending pairs → i < length pairs → take i pairs ≡ pairs_below key pairs → drop (suc i) pairs ≡ pairs_above key pairs → (get_or pairs i d).0 ≡ key
+  stands_with [] i d ascending lt before after = absurd (omega arith)
+  stands_with (pair ∷ pairs) zero d ascending lt before after =
       let low : is_below pair.0 key ≡ false = first_goes (is_below pair.0 key) pair (pairs_below key pairs) before in
-      let high : is_below key pair.0 ≡ false = last_goes (is_below key pair.0) pair pairs (pairs_above key pairs) after (no_twin pair pairs (pairs_above key pairs) rising.0) in
+      let high : is_below key pair.0 ≡ false = last_goes (is_below key pair.0) pair pairs (pairs_above key pairs) after (no_twin pair pairs (pairs_above key pairs) ascending.0) in
       equal_is_same pair.0 key (neither (bytes_cmp pair.0 key) (bytes_cmp key pair.0) (reversed pair.0 key) low high)
-  stands_with (pair ∷ pairs) (suc i) d rising lt before after =
-      let here : is_below pair.0 key ≡ true = first_stays (is_below pair.0 key) pair (pairs_below key pairs) (take i pairs) before (no_twin pair (pairs_below key pairs) (take i pairs) (all_filter (λ later. IsBelow pair.0 later.0) (λ p. is_below p.0 key) pairs rising.0)) in
+  stands_with (pair ∷ pairs) (suc i) d ascending lt before after =
+      let here : is_below pair.0 key ≡ true = first_stays (is_below pair.0 key) pair (pairs_below key pairs) (take i pairs) before (no_twin pair (pairs_below key pairs) (take i pairs) (all_filter (λ later. IsBelow pair.0 later.0) (λ p. is_below p.0 key) pairs ascending.0)) in
       let there : is_below key pair.0 ≡ false = apart (bytes_cmp pair.0 key) (bytes_cmp key pair.0) (reversed pair.0 key) here in
-      stands_with pairs i d rising.1 (omega arith) (tails (rw here at before)) (rw there at after)
+      stands_with pairs i d ascending.1 (omega arith) (tails (rw here at before)) (rw there at after)
 
-  pub stands_has : (pairs : List (Bytes × V)) (i : ℕ) → IsRising pairs → StandsAt pairs key i → HasKey pairs key
-  stands_has [] i rising place = absurd (omega (arith, place.within))
-  stands_has (pair ∷ pairs) i rising place =
+  pub stands_has : (pairs : List (Bytes × V)) (i : ℕ) → IsAscending pairs → StandsAt pairs key i → HasKey pairs key
+  stands_has [] i ascending place = absurd (omega (arith, place.within))
+  stands_has (pair ∷ pairs) i ascending place =
       let xs = pair ∷ pairs in
-      (i, get_or xs i pair, place.within, get_or_default xs i (get_or xs i pair) pair place.within, stands_with xs i pair rising place.within place.before (ap (λ k. drop k xs) (sym (add-one i)) ∙ place.after))
+      (i, get_or xs i pair, place.within, get_or_default xs i (get_or xs i pair) pair place.within, stands_with xs i pair ascending place.within place.before (ap (λ k. drop k xs) (sym (add-one i)) ∙ place.after))
 
   -- at a gap the key is missing
   pub gap_misses : (pairs : List (Bytes × V)) (i : ℕ) → IsGap pairs key i → HasKey pairs key → ⊥

@@ -1,4 +1,4 @@
-pub mod Rising
+pub mod Ascending
 pub mod Places
 pub mod Edits
 pub mod Pages
@@ -20,5 +20,5 @@ pub mod Prefixes
 pub mod Separators
 pub mod Restoring
 pub mod Receiving
-pub mod Parting
+pub mod SplitPairs
 pub mod SplitStored

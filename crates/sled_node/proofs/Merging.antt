@@ -7,7 +7,7 @@ use Rattle.sled_base.specs.Order.{Bytes, IsBelow}
 use Rattle.sled_node.specs.declared.node.data.Data.{Data}
 use Rattle.sled_node.specs.declared.node.data.Data.TheVariants.{Leaf, Index}
 use Rattle.sled_node.specs.declared.node.link.Link.TheVariants.{ParentMergeConfirm}
-use Rattle.sled_node.specs.Pairs.{IsWithinLimit, IsRising}
+use Rattle.sled_node.specs.Pairs.{IsWithinLimit, IsAscending}
 use Rattle.sled_node.specs.Node.{Item, Value, Child, WholeNode, IsInRange, ItemFits, IsWellFormed}
 use Rattle.sled_node.specs.Links.{AcceptsHere, without_child, without_merged, applied}
 use Rattle.sled_node.specs.Parts.{is_index, node_of, without_page, without_stored, LeadsTo}
@@ -25,15 +25,15 @@ module _ (P : Bytes × Item → Type 0) where
   all_without page ((key, Value value) ∷ pairs) all = (all.0, all_without page pairs all.1)
   all_without page ((key, Child other) ∷ pairs) all = all_chosen (other == page) (key, Child other) pairs (without_child page pairs) all.0 all.1 (all_without page pairs all.1)
 
-rising_chosen : (b : Bool) (x : Bytes × Item) (xs ys : List (Bytes × Item)) → IsRising xs → IsRising (x ∷ ys) → IsRising (cond b xs (x ∷ ys))
-rising_chosen true x xs ys rising rest = rising
-rising_chosen false x xs ys rising rest = rest
+ascending_chosen : (b : Bool) (x : Bytes × Item) (xs ys : List (Bytes × Item)) → IsAscending xs → IsAscending (x ∷ ys) → IsAscending (cond b xs (x ∷ ys))
+ascending_chosen true x xs ys ascending rest = ascending
+ascending_chosen false x xs ys ascending rest = rest
 
-pub rising_without : (page : ℕ) (pairs : List (Bytes × Item)) → IsRising pairs → IsRising (without_child page pairs)
-rising_without page [] rising = tt
-rising_without page ((key, Value value) ∷ pairs) rising = (all_without (λ later. IsBelow key later.0) page pairs rising.0, rising_without page pairs rising.1)
-rising_without page ((key, Child other) ∷ pairs) rising =
-    rising_chosen (other == page) (key, Child other) pairs (without_child page pairs) rising.1 (all_without (λ later. IsBelow key later.0) page pairs rising.0, rising_without page pairs rising.1)
+pub ascending_without : (page : ℕ) (pairs : List (Bytes × Item)) → IsAscending pairs → IsAscending (without_child page pairs)
+ascending_without page [] ascending = tt
+ascending_without page ((key, Value value) ∷ pairs) ascending = (all_without (λ later. IsBelow key later.0) page pairs ascending.0, ascending_without page pairs ascending.1)
+ascending_without page ((key, Child other) ∷ pairs) ascending =
+    ascending_chosen (other == page) (key, Child other) pairs (without_child page pairs) ascending.1 (all_without (λ later. IsBelow key later.0) page pairs ascending.0, ascending_without page pairs ascending.1)
 
 few_chosen : (b : Bool) (x : Bytes × Item) (xs ys : List (Bytes × Item)) → length ys ≤ length xs → length (cond b xs (x ∷ ys)) ≤ length (x ∷ xs)
 few_chosen true x xs ys le = omega arith
@@ -78,9 +78,9 @@ module _ (P : Bytes × Item → Type 0) where
   all_merged None pairs all = all
   all_merged (Some page) pairs all = all_without P page pairs all
 
-rising_merged : (child : Option ℕ) (pairs : List (Bytes × Item)) → IsRising pairs → IsRising (without_merged child pairs)
-rising_merged None pairs rising = rising
-rising_merged (Some page) pairs rising = rising_without page pairs rising
+ascending_merged : (child : Option ℕ) (pairs : List (Bytes × Item)) → IsAscending pairs → IsAscending (without_merged child pairs)
+ascending_merged None pairs ascending = ascending
+ascending_merged (Some page) pairs ascending = ascending_without page pairs ascending
 
 few_merged : (child : Option ℕ) (pairs : List (Bytes × Item)) → length (without_merged child pairs) ≤ length pairs
 few_merged None pairs = omega arith
@@ -92,7 +92,7 @@ well_formed_confirm n formed = record {
   prefix_byte = formed.prefix_byte;
   prefix_open = formed.prefix_open;
   prefix_common = formed.prefix_common;
-  rising = rising_merged n.child n.pairs formed.rising;
+  ascending = ascending_merged n.child n.pairs formed.ascending;
   in_range = all_merged (λ pair. IsInRange n pair.0) n.child n.pairs formed.in_range;
   few = omega (arith, formed.few, few_merged n.child n.pairs);
   bounds = formed.bounds;

@@ -11,13 +11,13 @@ use Rattle.std.proofs.Math.Numerals.{add-one}
 use Rattle.sled_base.specs.Order.{Bytes, bytes_cmp, is_below, IsBelow, IsAtMost}
 use Rattle.sled_base.specs.OrderLaws.{below_trans, not_below_itself}
 use Rattle.sled_node.specs.Node.{Item, Value, Child, WholeNode, whole, IsWellFormed}
-use Rattle.sled_node.specs.Pairs.{IsRising, pairs_below, pairs_above, StandsAt, IsGap}
+use Rattle.sled_node.specs.Pairs.{IsAscending, pairs_below, pairs_above, StandsAt, IsGap}
 use Rattle.sled_node.specs.declared.node.data.Data.TheVariants.{Leaf}
 use Rattle.sled_node.specs.Parts.{pairs_under}
 use Rattle.sled_node.specs.Neighbours.{IsCount, IsLeast, IsGreatest}
 use Rattle.sled_node.proofs.StoredPairs.{whole_at}
 use Rattle.sled_node.proofs.Places.{all_so}
-use Rattle.sled_node.proofs.Rising.{all_at, all_at_front, all_more}
+use Rattle.sled_node.proofs.Ascending.{all_at, all_at_front, all_more}
 
 -- ---- orders
 
@@ -119,22 +119,22 @@ first_of_rest P (x ∷ xs) (suc i) d lt back = first_of_rest P xs i d (omega ari
 
 module _ (IsSuch : Bytes → Type 0) where
   -- where no pair before place i has such a key, the one there has the least
-  least_there : (pairs : List (Bytes × Item)) (i : ℕ) (d : Bytes × Item) → IsRising pairs → i < length pairs → AllByRecursion (λ pair. IsSuch pair.0 → ⊥) (take i pairs) → AllByRecursion (λ other. IsSuch other.0 → IsAtMost (get_or pairs i d).0 other.0) pairs
-  least_there [] i d rising lt front = absurd (omega arith)
-  least_there (pair ∷ pairs) zero d rising lt front =
-      (λ such. same_at_most pair.0 pair.0 refl, all_so (λ other below such. below_at_most pair.0 other.0 below) pairs rising.0)
-  least_there (pair ∷ pairs) (suc i) d rising lt front =
-      (λ such. absurd (front.0 such), least_there pairs i d rising.1 (omega arith) front.1)
+  least_there : (pairs : List (Bytes × Item)) (i : ℕ) (d : Bytes × Item) → IsAscending pairs → i < length pairs → AllByRecursion (λ pair. IsSuch pair.0 → ⊥) (take i pairs) → AllByRecursion (λ other. IsSuch other.0 → IsAtMost (get_or pairs i d).0 other.0) pairs
+  least_there [] i d ascending lt front = absurd (omega arith)
+  least_there (pair ∷ pairs) zero d ascending lt front =
+      (λ such. same_at_most pair.0 pair.0 refl, all_so (λ other below such. below_at_most pair.0 other.0 below) pairs ascending.0)
+  least_there (pair ∷ pairs) (suc i) d ascending lt front =
+      (λ such. absurd (front.0 such), least_there pairs i d ascending.1 (omega arith) front.1)
 
   -- where no pair behind place i has such a key, the one there has the greatest
-  greatest_there : (pairs : List (Bytes × Item)) (i : ℕ) (d : Bytes × Item) → IsRising pairs → i < length pairs → AllByRecursion (λ pair. IsSuch pair.0 → ⊥) (drop (suc i) pairs) → AllByRecursion (λ other. IsSuch other.0 → IsAtMost other.0 (get_or pairs i d).0) pairs
-  greatest_there [] i d rising lt back = absurd (omega arith)
-  greatest_there (pair ∷ pairs) zero d rising lt back =
+  greatest_there : (pairs : List (Bytes × Item)) (i : ℕ) (d : Bytes × Item) → IsAscending pairs → i < length pairs → AllByRecursion (λ pair. IsSuch pair.0 → ⊥) (drop (suc i) pairs) → AllByRecursion (λ other. IsSuch other.0 → IsAtMost other.0 (get_or pairs i d).0) pairs
+  greatest_there [] i d ascending lt back = absurd (omega arith)
+  greatest_there (pair ∷ pairs) zero d ascending lt back =
       (λ such. same_at_most pair.0 pair.0 refl, all_so (λ other none such. absurd (none such)) pairs back)
-  greatest_there (pair ∷ pairs) (suc i) d rising lt back =
-      (λ such. below_at_most pair.0 (get_or pairs i d).0 (all_at (λ later. IsBelow pair.0 later.0) pairs i d rising.0 (omega arith)), greatest_there pairs i d rising.1 (omega arith) back)
+  greatest_there (pair ∷ pairs) (suc i) d ascending lt back =
+      (λ such. below_at_most pair.0 (get_or pairs i d).0 (all_at (λ later. IsBelow pair.0 later.0) pairs i d ascending.0 (omega arith)), greatest_there pairs i d ascending.1 (omega arith) back)
 
-  module _ (n : WholeNode) (i : ℕ) (pair : Bytes × Bytes) (rising : IsRising n.pairs) (lt : i < length n.pairs) (is : slice_get n.pairs i ≡ Some (pair.0, Value pair.1)) where
+  module _ (n : WholeNode) (i : ℕ) (pair : Bytes × Bytes) (ascending : IsAscending n.pairs) (lt : i < length n.pairs) (is : slice_get n.pairs i ≡ Some (pair.0, Value pair.1)) where
     abbrev held : Bytes × Item
     held = (pair.0, Value pair.1)
 
@@ -145,14 +145,14 @@ module _ (IsSuch : Bytes → Type 0) where
     is_least count = record {
       there = (i, lt, here);
       such = subst (λ (other : Bytes × Item). IsSuch other.0) here (first_of_rest (λ other. IsSuch other.0) n.pairs i held lt count.back);
-      least = subst (λ (this : Bytes × Item). AllByRecursion (λ other. IsSuch other.0 → IsAtMost this.0 other.0) n.pairs) here (least_there n.pairs i held rising lt count.front);
+      least = subst (λ (this : Bytes × Item). AllByRecursion (λ other. IsSuch other.0 → IsAtMost this.0 other.0) n.pairs) here (least_there n.pairs i held ascending lt count.front);
     }
 
     is_greatest : IsCount IsSuch (λ key. IsSuch key → ⊥) n.pairs (suc i) → IsGreatest IsSuch n pair
     is_greatest count = record {
       there = (i, lt, here);
       such = subst (λ (other : Bytes × Item). IsSuch other.0) here (all_at_front (λ other. IsSuch other.0) n.pairs i held count.front lt);
-      greatest = subst (λ (this : Bytes × Item). AllByRecursion (λ other. IsSuch other.0 → IsAtMost other.0 this.0) n.pairs) here (greatest_there n.pairs i held rising lt count.back);
+      greatest = subst (λ (this : Bytes × Item). AllByRecursion (λ other. IsSuch other.0 → IsAtMost other.0 this.0) n.pairs) here (greatest_there n.pairs i held ascending lt count.back);
     }
 
 -- ---- a leaf's
@@ -175,7 +175,7 @@ module _ (IsSuch : Bytes → Type 0) (n : WholeNode) (stored : List (Bytes × By
   held_copy = whole_at n stored i pair are at ∙ ap (λ k. Some (k, Value pair.1)) (sym key) ∙ ap (λ v. Some (copy.0, Value v)) (sym value)
 
   pub stored_least : IsCount (λ k. IsSuch k → ⊥) IsSuch n.pairs i → IsLeast IsSuch n copy
-  stored_least = is_least IsSuch n i copy formed.rising (slice_get_within n.pairs i (copy.0, Value copy.1) held_copy) held_copy
+  stored_least = is_least IsSuch n i copy formed.ascending (slice_get_within n.pairs i (copy.0, Value copy.1) held_copy) held_copy
 
   pub stored_greatest : IsCount IsSuch (λ k. IsSuch k → ⊥) n.pairs (suc i) → IsGreatest IsSuch n copy
-  stored_greatest = is_greatest IsSuch n i copy formed.rising (slice_get_within n.pairs i (copy.0, Value copy.1) held_copy) held_copy
+  stored_greatest = is_greatest IsSuch n i copy formed.ascending (slice_get_within n.pairs i (copy.0, Value copy.1) held_copy) held_copy

@@ -11,7 +11,7 @@ use Rattle.sled_node.specs.Pairs.{IsWithinLimit, pairs_below, pairs_above, set_p
 use Rattle.sled_node.specs.Node.{Item, Value, WholeNode, whole, IsWellFormed, ItemFits, IsInRange}
 use Rattle.sled_node.specs.Links.{AcceptsHere, applied}
 use Rattle.sled_node.specs.Parts.{is_index, node_of, set_stored, del_stored, CanSet}
-use Rattle.sled_node.proofs.Edits.{rising_set, rising_del, all_set, all_del, few_del}
+use Rattle.sled_node.proofs.Edits.{ascending_set, ascending_del, all_set, all_del, few_del}
 
 module _ {V : Type 0} (front : Bytes) (make : V → Item) where
   -- a stored pair, with its whole key
@@ -48,7 +48,7 @@ well_formed_set n key value formed (leaf, inside, key_fits, value_fits, few) = r
   prefix_byte = formed.prefix_byte;
   prefix_open = formed.prefix_open;
   prefix_common = formed.prefix_common;
-  rising = rising_set (whole n key) n.pairs (Value value) formed.rising;
+  ascending = ascending_set (whole n key) n.pairs (Value value) formed.ascending;
   in_range = all_set (whole n key) n.pairs (λ pair. IsInRange n pair.0) (Value value) inside formed.in_range;
   few = few;
   bounds = formed.bounds;
@@ -63,7 +63,7 @@ well_formed_del n key formed = record {
   prefix_byte = formed.prefix_byte;
   prefix_open = formed.prefix_open;
   prefix_common = formed.prefix_common;
-  rising = rising_del (whole n key) n.pairs formed.rising;
+  ascending = ascending_del (whole n key) n.pairs formed.ascending;
   in_range = all_del (whole n key) n.pairs (λ pair. IsInRange n pair.0) formed.in_range;
   few = omega (arith, formed.few, few_del (whole n key) n.pairs, length-append (pairs_below (whole n key) n.pairs) (pairs_above (whole n key) n.pairs));
   bounds = formed.bounds;

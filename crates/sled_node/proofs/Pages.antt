@@ -5,7 +5,7 @@ use Rattle.std.specs.List.{AllByRecursion, position, position_from}
 use Rattle.std.proofs.lemmas.List.Quantifiers.{position-Some}
 use Rattle.std.proofs.lemmas.Iterator.Adapters.{position_from-zero}
 use Rattle.sled_base.specs.Order.{Bytes, IsBelow}
-use Rattle.sled_node.specs.Pairs.{IsWithinLimit, IsRising, HasPairs}
+use Rattle.sled_node.specs.Pairs.{IsWithinLimit, IsAscending, HasPairs}
 use Rattle.sled_node.specs.Parts.{without_page}
 
 module _ (page : ℕ) where
@@ -39,13 +39,13 @@ module _ (page : ℕ) where
   all_without P [] all = tt
   all_without P (pair ∷ pairs) all = all_chosen P (pair.1 == page) pair pairs (without_page page pairs) all.0 all.1 (all_without P pairs all.1)
 
-  rising_chosen : (b : Bool) (pair : Bytes × ℕ) (pairs : List (Bytes × ℕ)) → IsRising (pair ∷ pairs) → IsRising (without_page page pairs) → IsRising (if b then pairs else pair ∷ without_page page pairs)
-  rising_chosen true pair pairs rising rest = rising.1
-  rising_chosen false pair pairs rising rest = (all_without (λ later. IsBelow pair.0 later.0) pairs rising.0, rest)
+  ascending_chosen : (b : Bool) (pair : Bytes × ℕ) (pairs : List (Bytes × ℕ)) → IsAscending (pair ∷ pairs) → IsAscending (without_page page pairs) → IsAscending (if b then pairs else pair ∷ without_page page pairs)
+  ascending_chosen true pair pairs ascending rest = ascending.1
+  ascending_chosen false pair pairs ascending rest = (all_without (λ later. IsBelow pair.0 later.0) pairs ascending.0, rest)
 
-  pub rising_without : (pairs : List (Bytes × ℕ)) → IsRising pairs → IsRising (without_page page pairs)
-  rising_without [] rising = tt
-  rising_without (pair ∷ pairs) rising = rising_chosen (pair.1 == page) pair pairs rising (rising_without pairs rising.1)
+  pub ascending_without : (pairs : List (Bytes × ℕ)) → IsAscending pairs → IsAscending (without_page page pairs)
+  ascending_without [] ascending = tt
+  ascending_without (pair ∷ pairs) ascending = ascending_chosen (pair.1 == page) pair pairs ascending (ascending_without pairs ascending.1)
 
   few_chosen : (b : Bool) (pair : Bytes × ℕ) (pairs rest : List (Bytes × ℕ)) → length rest ≤ length pairs → length (if b then pairs else pair ∷ rest) ≤ length (pair ∷ pairs)
   few_chosen true pair pairs rest le = omega arith
@@ -67,7 +67,7 @@ module _ (page : ℕ) where
     pub has_without : HasPairs (λ item. item < 2 ^ 64) pairs → HasPairs (λ item. item < 2 ^ 64) (without_page page pairs)
     has_without has = record {
       few = omega (arith, has.few, few_without pairs);
-      rising = rising_without pairs has.rising;
+      ascending = ascending_without pairs has.ascending;
       keys = all_without (λ pair. IsWithinLimit pair.0) pairs has.keys;
       items = all_without (λ pair. pair.1 < 2 ^ 64) pairs has.items;
     }

@@ -1,4 +1,4 @@
--- Where a key stands among rising pairs.
+-- Where a key stands among ascending pairs.
 use Rattle.std.proofs.Common.{◌≡◌, ℕ, zero, suc, ◌<◌, ◌≤◌, Bool, true, false, cond, List, [], ◌∷◌, ◌++◌, length, get_or, set, take, drop, refl, sym, ap, subst, ◌∙◌, arith}
 use Rattle.std.specs.Prelude.{filter, Result, Ok, Err, IfOk, IfErr}
 use Rattle.std.specs.List.{AllByRecursion, AllWithin, HoldsAt}
@@ -11,8 +11,8 @@ use Rattle.std.proofs.lemmas.List.Sorted.{searchable_from_sorted}
 use Rattle.std.proofs.Math.Numerals.{add-one}
 use Rattle.sled_base.specs.Order.{Bytes, bytes_cmp, is_below, IsBelow}
 use Rattle.sled_base.specs.OrderLaws.{equal_is_same, not_below_itself, below_trans, above_is_below, below_is_above}
-use Rattle.sled_node.specs.Pairs.{IsRising, pairs_below, pairs_above, set_pair, StandsAt, IsGap}
-use Rattle.sled_node.proofs.Rising.{all_at, rising_next}
+use Rattle.sled_node.specs.Pairs.{IsAscending, pairs_below, pairs_above, set_pair, StandsAt, IsGap}
+use Rattle.sled_node.proofs.Ascending.{all_at, ascending_next}
 
 -- what passes everywhere stays, and what passes nowhere goes
 filter_all : {X : Type 0} (p : X → Bool) (xs : List X) → AllByRecursion (λ x. p x ≡ true) xs → filter p xs ≡ xs
@@ -66,11 +66,11 @@ module _ {V : Type 0} (key : Bytes) where
       (ap (λ b. cond b (pair ∷ pairs_below key pairs) (pairs_below key pairs)) (is_below_true pair.0 key lt), ap (λ b. cond b (pair ∷ pairs_above key pairs) (pairs_above key pairs)) (is_below_false pair.0 key lt))
 
   -- the pair at place i has the key
-  stands : (pairs : List (Bytes × V)) (i : ℕ) → IsRising pairs → i < length pairs → HoldsAt (λ pair. pair.0 ≡ key) pairs i → StandsAt pairs key i
-  stands [] i rising lt same = absurd (omega arith)
-  stands (pair ∷ pairs) zero rising lt same =
+  stands : (pairs : List (Bytes × V)) (i : ℕ) → IsAscending pairs → i < length pairs → HoldsAt (λ pair. pair.0 ≡ key) pairs i → StandsAt pairs key i
+  stands [] i ascending lt same = absurd (omega arith)
+  stands (pair ∷ pairs) zero ascending lt same =
       let this = same pair in
-      let others = all_above pairs (subst (λ k. AllByRecursion (λ later. IsBelow k later.0) pairs) this rising.0) in
+      let others = all_above pairs (subst (λ k. AllByRecursion (λ later. IsBelow k later.0) pairs) this ascending.0) in
       let itself : is_below pair.0 key ≡ false = subst (λ k. is_below k key ≡ false) (sym this) (is_below_itself key) in
       let back : is_below key pair.0 ≡ false = subst (λ k. is_below key k ≡ false) (sym this) (is_below_itself key) in
       record {
@@ -78,9 +78,9 @@ module _ {V : Type 0} (key : Bytes) where
         before = sym (ap (λ b. cond b (pair ∷ pairs_below key pairs) (pairs_below key pairs)) itself ∙ others.0);
         after = sym (ap (λ b. cond b (pair ∷ pairs_above key pairs) (pairs_above key pairs)) back ∙ others.1);
       }
-  stands (pair ∷ pairs) (suc i) rising lt same =
-      let rest = stands pairs i rising.1 (omega arith) same in
-      let step = past pair pairs (subst (IsBelow pair.0) (same pair) (all_at (λ later. IsBelow pair.0 later.0) pairs i pair rising.0 (omega arith))) in
+  stands (pair ∷ pairs) (suc i) ascending lt same =
+      let rest = stands pairs i ascending.1 (omega arith) same in
+      let step = past pair pairs (subst (IsBelow pair.0) (same pair) (all_at (λ later. IsBelow pair.0 later.0) pairs i pair ascending.0 (omega arith))) in
       record {
         within = lt;
         before = ap (λ ps. pair ∷ ps) rest.before ∙ sym step.0;
@@ -88,27 +88,27 @@ module _ {V : Type 0} (key : Bytes) where
       }
 
   -- the pair at place i, if there is one, is above
-  gap : (pairs : List (Bytes × V)) (i : ℕ) → IsRising pairs → i ≤ length pairs → AllByRecursion (λ pair. IsBelow pair.0 key) (take i pairs) → (i < length pairs → HoldsAt (λ pair. IsBelow key pair.0) pairs i) → IsGap pairs key i
-  gap [] zero rising le before above = record { within = le; before = refl; after = refl }
-  gap [] (suc i) rising le before above = absurd (omega arith)
-  gap (pair ∷ pairs) zero rising le before above =
+  gap : (pairs : List (Bytes × V)) (i : ℕ) → IsAscending pairs → i ≤ length pairs → AllByRecursion (λ pair. IsBelow pair.0 key) (take i pairs) → (i < length pairs → HoldsAt (λ pair. IsBelow key pair.0) pairs i) → IsGap pairs key i
+  gap [] zero ascending le before above = record { within = le; before = refl; after = refl }
+  gap [] (suc i) ascending le before above = absurd (omega arith)
+  gap (pair ∷ pairs) zero ascending le before above =
       let lt : IsBelow key pair.0 = above (omega arith) pair in
-      let others = all_above (pair ∷ pairs) (lt, all_so (λ later more. below_trans key pair.0 later.0 lt more) pairs rising.0) in
+      let others = all_above (pair ∷ pairs) (lt, all_so (λ later more. below_trans key pair.0 later.0 lt more) pairs ascending.0) in
       record { within = omega arith; before = sym others.0; after = sym others.1 }
-  gap (pair ∷ pairs) (suc i) rising le before above =
-      let rest = gap pairs i rising.1 (omega arith) before.1 (λ lt. above (omega arith)) in
+  gap (pair ∷ pairs) (suc i) ascending le before above =
+      let rest = gap pairs i ascending.1 (omega arith) before.1 (λ lt. above (omega arith)) in
       let step = past pair pairs before.0 in
       record { within = le; before = ap (λ ps. pair ∷ ps) rest.before ∙ sym step.0; after = rest.after ∙ sym step.1 }
 
-  -- rising pairs are sorted
-  sorted : (pairs : List (Bytes × V)) → IsRising pairs → IsSortedBy (λ a b. is_below a.0 b.0) pairs
-  sorted pairs rising k d low high =
-      subst (λ i. is_below (get_or pairs i d).0 (get_or pairs k d).0 ≡ false) (sym (add-one k)) (is_below_false (get_or pairs k d).0 (get_or pairs (suc k) d).0 (rising_next pairs k d rising (omega arith)))
+  -- ascending pairs are sorted
+  sorted : (pairs : List (Bytes × V)) → IsAscending pairs → IsSortedBy (λ a b. is_below a.0 b.0) pairs
+  sorted pairs ascending k d low high =
+      subst (λ i. is_below (get_or pairs i d).0 (get_or pairs k d).0 ≡ false) (sym (add-one k)) (is_below_false (get_or pairs k d).0 (get_or pairs (suc k) d).0 (ascending_next pairs k d ascending (omega arith)))
 
-  module _ (pairs : List (Bytes × V)) (rising : IsRising pairs) where
+  module _ (pairs : List (Bytes × V)) (ascending : IsAscending pairs) where
     -- what a binary search for the key finds
     pub search_found : (r : Result ℕ ℕ) → IsSearchInRange r (length pairs) → IsBinarySearchResult (λ pair. bytes_cmp pair.0 key) pairs r → IfOk r (StandsAt pairs key)
-    search_found (Ok i) bound found = stands pairs i rising bound (λ d. equal_is_same (get_or pairs i d).0 key (found d))
+    search_found (Ok i) bound found = stands pairs i ascending bound (λ d. equal_is_same (get_or pairs i d).0 key (found d))
     search_found (Err i) bound found = tt
 
     -- whose key it is
@@ -120,8 +120,8 @@ module _ {V : Type 0} (key : Bytes) where
     pub search_missing : (r : Result ℕ ℕ) → IsSearchInRange r (length pairs) → IsBinarySearchResult (λ pair. bytes_cmp pair.0 key) pairs r → IfErr r (IsGap pairs key)
     search_missing (Ok i) bound found = tt
     search_missing (Err i) bound found =
-        let parted = found (searchable_from_sorted nat_list_cmp_total (λ pair. pair.0) pairs key (sorted pairs rising)) in
-        gap pairs i rising bound (front_all (λ pair. IsBelow pair.0 key) pairs i bound parted.0) (λ lt d. above_is_below (get_or pairs i d).0 key (parted.1 i d (omega arith) lt))
+        let parted = found (searchable_from_sorted nat_list_cmp_total (λ pair. pair.0) pairs key (sorted pairs ascending)) in
+        gap pairs i ascending bound (front_all (λ pair. IsBelow pair.0 key) pairs i bound parted.0) (λ lt d. above_is_below (get_or pairs i d).0 key (parted.1 i d (omega arith) lt))
 
   -- writing over the pair at the place
   pub set_at_place : (pairs : List (Bytes × V)) (item : V) (i : ℕ) → StandsAt pairs key i → set pairs i (key, item) ≡ set_pair key item pairs

@@ -10,7 +10,7 @@ use Rattle.sled_node.specs.Node.{WholeNode, IsInRange, IsWellFormed, ItemFits}
 use Rattle.sled_node.specs.Parts.{is_index, pairs_under, node_of, HasStored}
 use Rattle.sled_node.specs.Splitting.{own_prefix, CanReceive, merged}
 use Rattle.sled_node.specs.Restoring.{restored_data, joined_data}
-use Rattle.sled_node.proofs.Edits.{all_append, rising_append}
+use Rattle.sled_node.proofs.Edits.{all_append, ascending_append}
 use Rattle.sled_node.proofs.Places.{all_so}
 use Rattle.sled_node.proofs.Prefixes.{common_front, shares}
 use Rattle.sled_node.proofs.Separators.{below_most, below_is_most}
@@ -45,7 +45,7 @@ module _ (l r : WholeNode) (left : IsWellFormed l) (right : IsWellFormed r) (can
     prefix_byte = omega arith;
     prefix_open = own_open l.lo r.hi;
     prefix_common = own_common l.lo r.hi;
-    rising = rising_append l.pairs r.pairs left.rising right.rising
+    ascending = ascending_append l.pairs r.pairs left.ascending right.ascending
         (all_so (λ pair lt. all_so (λ later inside. below_most pair.0 r.lo later.0 lt inside.0) r.pairs right.in_range) l.pairs keys_low);
     in_range = all_append (λ pair. IsInRange (merged l r) pair.0) l.pairs r.pairs
         (all_so (λ pair inside. (inside.0, λ some. below_trans pair.0 r.lo r.hi (subst (IsBelow pair.0) can.meet (inside.1 can.bounded)) (right.range some))) l.pairs left.in_range)

@@ -6,7 +6,7 @@ use Rattle.sled_base.specs.Order.{Bytes, IsBelow}
 use Rattle.sled_base.specs.OrderLaws.{under_one_front}
 use Rattle.sled_node.specs.declared.node.data.Data.{Data}
 use Rattle.sled_node.specs.declared.node.data.Data.TheVariants.{Leaf, Index}
-use Rattle.sled_node.specs.Pairs.{IsWithinLimit, IsRising}
+use Rattle.sled_node.specs.Pairs.{IsWithinLimit, IsAscending}
 use Rattle.sled_node.specs.Node.{Item, Value, Child, IsWellFormed, ItemFits}
 use Rattle.sled_node.specs.Parts.{is_index, pairs_under, node_of, HasStored}
 use Rattle.sled_node.specs.Restoring.{restored_data, joined_data}
@@ -25,10 +25,10 @@ all_parts P (x ∷ xs) ys all = let rest = all_parts P xs ys all.1 in ((all.0, r
 
 -- ---- what stored pairs keep, from the whole keys
 
-rising_back : {V : Type 0} (front : Bytes) (make : V → Item) (pairs : List (Bytes × V)) → IsRising (map (made front make) pairs) → IsRising pairs
-rising_back front make [] rising = tt
-rising_back front make (pair ∷ pairs) rising =
-    (all_unmap (λ later. IsBelow (front ++ pair.0) later.0) (made front make) (λ later lt. sym (under_one_front front pair.0 later.0) ∙ lt) pairs rising.0, rising_back front make pairs rising.1)
+ascending_back : {V : Type 0} (front : Bytes) (make : V → Item) (pairs : List (Bytes × V)) → IsAscending (map (made front make) pairs) → IsAscending pairs
+ascending_back front make [] ascending = tt
+ascending_back front make (pair ∷ pairs) ascending =
+    (all_unmap (λ later. IsBelow (front ++ pair.0) later.0) (made front make) (λ later lt. sym (under_one_front front pair.0 later.0) ∙ lt) pairs ascending.0, ascending_back front make pairs ascending.1)
 
 short_back : (front key : Bytes) → IsWithinLimit (front ++ key) → IsWithinLimit key
 short_back front key short = omega (arith, short, length-append front key)
@@ -39,7 +39,7 @@ stored_from p next child capped lo hi (Leaf pairs) formed =
     let make : Bytes → Item = λ v. Value v in
     record {
       few = omega (arith, formed.few, length-map pairs (made front make));
-      rising = rising_back front make pairs formed.rising;
+      ascending = ascending_back front make pairs formed.ascending;
       keys = all_unmap (λ pair. IsWithinLimit pair.0) (made front make) (λ pair short. short_back front pair.0 short) pairs formed.keys;
       items = all_unmap (λ pair. ItemFits false pair.1) (made front make) (λ pair fits. fits) pairs formed.items;
     }
@@ -48,7 +48,7 @@ stored_from p next child capped lo hi (Index pairs) formed =
     let make : ℕ → Item = λ page. Child page in
     record {
       few = omega (arith, formed.few, length-map pairs (made front make));
-      rising = rising_back front make pairs formed.rising;
+      ascending = ascending_back front make pairs formed.ascending;
       keys = all_unmap (λ pair. IsWithinLimit pair.0) (made front make) (λ pair short. short_back front pair.0 short) pairs formed.keys;
       items = all_unmap (λ pair. ItemFits true pair.1) (made front make) (λ pair fits. fits) pairs formed.items;
     }

@@ -15,7 +15,7 @@ use Rattle.std.proofs.lemmas.Cmp.{tied_itself}
 use Rattle.sled_base.specs.Order.{Bytes, bytes_cmp, is_below, IsBelow}
 use Rattle.sled_base.specs.OrderLaws.{equal_is_same, below_is_above, above_is_below, below_trans}
 use Rattle.sled_node.specs.Equality.{same_pairs}
-use Rattle.sled_node.specs.Pairs.{IsRising, pairs_below, pairs_above}
+use Rattle.sled_node.specs.Pairs.{IsAscending, pairs_below, pairs_above}
 use Rattle.sled_node.specs.Meta.{Roots, named, is_name, root_of, with_root, without_root}
 use Rattle.sled_node.proofs.Places.{all_so, all_above}
 
@@ -32,21 +32,21 @@ pub looked_up : (name : Bytes) (entries : Entries) → lookup (is_at (λ key. by
 looked_up name [] = refl
 looked_up name (entry ∷ entries) = ap (cond (is_name name entry.0.items) (Some entry.1)) (looked_up name entries)
 
--- ---- edits of rising names
+-- ---- edits of ascending names
 
 module _ (name : Bytes) where
-  module _ (pair : Bytes × ℕ) (roots : Roots) (rising : IsRising (pair ∷ roots)) where
+  module _ (pair : Bytes × ℕ) (roots : Roots) (ascending : IsAscending (pair ∷ roots)) where
     -- the first name is above, and so all of them
     above_first : IsBelow name pair.0 → (pairs_below name (pair ∷ roots) ≡ []) × (pairs_above name (pair ∷ roots) ≡ pair ∷ roots)
-    above_first lt = all_above name (pair ∷ roots) (lt, all_so (λ later more. below_trans name pair.0 later.0 lt more) roots rising.0)
+    above_first lt = all_above name (pair ∷ roots) (lt, all_so (λ later more. below_trans name pair.0 later.0 lt more) roots ascending.0)
 
     above_others : IsBelow name pair.0 → (pairs_below name roots ≡ []) × (pairs_above name roots ≡ roots)
-    above_others lt = all_above name roots (all_so (λ later more. below_trans name pair.0 later.0 lt more) roots rising.0)
+    above_others lt = all_above name roots (all_so (λ later more. below_trans name pair.0 later.0 lt more) roots ascending.0)
 
     -- the first name is that one, and so the others are above
     at_first : name ≡ pair.0 → (pairs_below name (pair ∷ roots) ≡ []) × (pairs_above name (pair ∷ roots) ≡ roots)
     at_first same =
-        let others = all_above name roots (subst (λ k. AllByRecursion (λ later. IsBelow k later.0) roots) (sym same) rising.0) in
+        let others = all_above name roots (subst (λ k. AllByRecursion (λ later. IsBelow k later.0) roots) (sym same) ascending.0) in
         let here : is_below name pair.0 ≡ false = ap (is_below name) (sym same) ∙ ap is_lt (tied_itself nat_list_cmp_total name) in
         let there : is_below pair.0 name ≡ false = ap (λ k. is_below k name) (sym same) ∙ ap is_lt (tied_itself nat_list_cmp_total name) in
         (rw there others.0, rw here others.1)
@@ -60,60 +60,60 @@ module _ (name : Bytes) where
 
 -- an entry that is put in is the name set
 module _ (key : Vec ℕ) (page : ℕ) where
-  put_first : (entry : Vec ℕ × ℕ) (entries : Entries) → IsRising (named (entry ∷ entries)) → named (insert_entry names_cmp entries key page) ≡ with_root key.items page (named entries) → (o : Ordering) → names_cmp key entry.0 ≡ o
+  put_first : (entry : Vec ℕ × ℕ) (entries : Entries) → IsAscending (named (entry ∷ entries)) → named (insert_entry names_cmp entries key page) ≡ with_root key.items page (named entries) → (o : Ordering) → names_cmp key entry.0 ≡ o
       → named (match_ordering o ((key, page) ∷ entry ∷ entries) ((entry.0, page) ∷ entries) (entry ∷ insert_entry names_cmp entries key page)) ≡ with_root key.items page (named (entry ∷ entries))
-  put_first entry entries rising others Less is =
+  put_first entry entries ascending others Less is =
       let name = key.items in
       let pair : Bytes × ℕ = (entry.0.items, entry.1) in
       let roots = named entries in
-      let parts = above_first name pair roots rising is in
+      let parts = above_first name pair roots ascending is in
       sym (ap (λ front. front ++ (name, page) ∷ pairs_above name (pair ∷ roots)) parts.0 ∙ ap (λ back. (name, page) ∷ back) parts.1)
-  put_first entry entries rising others Equal is =
+  put_first entry entries ascending others Equal is =
       let name = key.items in
       let pair : Bytes × ℕ = (entry.0.items, entry.1) in
       let roots = named entries in
       let same = equal_is_same name pair.0 is in
-      let parts = at_first name pair roots rising same in
+      let parts = at_first name pair roots ascending same in
       ap (λ k. (k, page) ∷ roots) (sym same) ∙ sym (ap (λ front. front ++ (name, page) ∷ pairs_above name (pair ∷ roots)) parts.0 ∙ ap (λ back. (name, page) ∷ back) parts.1)
-  put_first entry entries rising others Greater is =
+  put_first entry entries ascending others Greater is =
       let name = key.items in
       let pair : Bytes × ℕ = (entry.0.items, entry.1) in
       let roots = named entries in
-      let parts = below_first name pair roots rising (above_is_below name pair.0 is) in
+      let parts = below_first name pair roots ascending (above_is_below name pair.0 is) in
       ap (λ rest. pair ∷ rest) others ∙ sym (ap (λ front. front ++ (name, page) ∷ pairs_above name (pair ∷ roots)) parts.0 ∙ ap (λ back. pair ∷ pairs_below name roots ++ (name, page) ∷ back) parts.1)
 
-  pub put_in : (entries : Entries) → IsRising (named entries) → named (insert_entry names_cmp entries key page) ≡ with_root key.items page (named entries)
-  put_in [] rising = refl
-  put_in (entry ∷ entries) rising = put_first entry entries rising (put_in entries rising.1) (names_cmp key entry.0) refl
+  pub put_in : (entries : Entries) → IsAscending (named entries) → named (insert_entry names_cmp entries key page) ≡ with_root key.items page (named entries)
+  put_in [] ascending = refl
+  put_in (entry ∷ entries) ascending = put_first entry entries ascending (put_in entries ascending.1) (names_cmp key entry.0) refl
 
 -- an entry that is taken out is the name taken out
 module _ (name : Bytes) where
   abbrev without_entry : Entries → Entries
   without_entry entries = remove_entry (is_at (λ key. bytes_cmp name key.items)) entries
 
-  take_first : (entry : Vec ℕ × ℕ) (entries : Entries) → IsRising (named (entry ∷ entries)) → named (without_entry entries) ≡ without_root name (named entries) → (o : Ordering) → bytes_cmp name entry.0.items ≡ o
+  take_first : (entry : Vec ℕ × ℕ) (entries : Entries) → IsAscending (named (entry ∷ entries)) → named (without_entry entries) ≡ without_root name (named entries) → (o : Ordering) → bytes_cmp name entry.0.items ≡ o
       → named (cond (is_eq o) entries (entry ∷ without_entry entries)) ≡ without_root name (named (entry ∷ entries))
-  take_first entry entries rising taken Less is =
+  take_first entry entries ascending taken Less is =
       let pair : Bytes × ℕ = (entry.0.items, entry.1) in
       let roots = named entries in
-      let parts = above_first name pair roots rising is in
-      let others = above_others name pair roots rising is in
+      let parts = above_first name pair roots ascending is in
+      let others = above_others name pair roots ascending is in
       let stay : without_root name roots ≡ roots = ap (λ front. front ++ pairs_above name roots) others.0 ∙ others.1 in
       ap (λ rest. pair ∷ rest) (taken ∙ stay) ∙ sym (ap (λ front. front ++ pairs_above name (pair ∷ roots)) parts.0 ∙ parts.1)
-  take_first entry entries rising taken Equal is =
+  take_first entry entries ascending taken Equal is =
       let pair : Bytes × ℕ = (entry.0.items, entry.1) in
       let roots = named entries in
-      let parts = at_first name pair roots rising (equal_is_same name pair.0 is) in
+      let parts = at_first name pair roots ascending (equal_is_same name pair.0 is) in
       sym (ap (λ front. front ++ pairs_above name (pair ∷ roots)) parts.0 ∙ parts.1)
-  take_first entry entries rising taken Greater is =
+  take_first entry entries ascending taken Greater is =
       let pair : Bytes × ℕ = (entry.0.items, entry.1) in
       let roots = named entries in
-      let parts = below_first name pair roots rising (above_is_below name pair.0 is) in
+      let parts = below_first name pair roots ascending (above_is_below name pair.0 is) in
       ap (λ rest. pair ∷ rest) taken ∙ sym (ap (λ front. front ++ pairs_above name (pair ∷ roots)) parts.0 ∙ ap (λ back. pair ∷ pairs_below name roots ++ back) parts.1)
 
-  pub taken_out : (entries : Entries) → IsRising (named entries) → named (without_entry entries) ≡ without_root name (named entries)
-  taken_out [] rising = refl
-  taken_out (entry ∷ entries) rising = take_first entry entries rising (taken_out entries rising.1) (bytes_cmp name entry.0.items) refl
+  pub taken_out : (entries : Entries) → IsAscending (named entries) → named (without_entry entries) ≡ without_root name (named entries)
+  taken_out [] ascending = refl
+  taken_out (entry ∷ entries) ascending = take_first entry entries ascending (taken_out entries ascending.1) (bytes_cmp name entry.0.items) refl
 
 -- ---- copies, and comparisons
 

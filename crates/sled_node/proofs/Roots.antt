@@ -10,9 +10,9 @@ use Rattle.std.specs.Ordering.{is_lt, is_eq, ordering_reverse}
 use Rattle.std.proofs.lemmas.List.{length-append}
 use Rattle.sled_base.specs.Order.{Bytes, bytes_cmp, is_below, IsBelow}
 use Rattle.sled_base.specs.OrderLaws.{equal_is_same, reversed}
-use Rattle.sled_node.specs.Pairs.{IsWithinLimit, IsRising, pairs_below, pairs_above}
+use Rattle.sled_node.specs.Pairs.{IsWithinLimit, IsAscending, pairs_below, pairs_above}
 use Rattle.sled_node.specs.Meta.{Roots, root_of, with_root, with_roots, IsRootMap, HasRoom, roots_size}
-use Rattle.sled_node.proofs.Edits.{few_del, rising_set}
+use Rattle.sled_node.proofs.Edits.{few_del, ascending_set}
 
 -- what isn't less is as much
 not_less : {m n : ℕ} → (m < n → ⊥) → n ≤ m
@@ -66,7 +66,7 @@ module _ (name : Bytes) where
       by None is = let many : 2 ^ 24 ≤ length roots = not_less (λ less. full (λ _. less)) in omega (arith, many, length_with root roots, count_missing roots is)
       by (Some r) is = absurd (full (λ none. absurd (let e = sym none ∙ is in cc)))
 
-  -- rising names are never fewer after one was set
+  -- ascending names are never fewer after one was set
   all_stay : (roots : Roots) → AllByRecursion (λ pair. IsBelow name pair.0) roots → length (pairs_above name roots) ≡ length roots
   all_stay [] above = refl
   all_stay (pair ∷ roots) above =
@@ -79,27 +79,27 @@ module _ (name : Bytes) where
   one_stays Equal pair ys zs roots all others = omega (arith, all refl)
   one_stays Greater pair ys zs roots all others = omega (arith, others)
 
-  count_rising : (roots : Roots) → IsRising roots → length roots ≤ length (pairs_below name roots) + length (pairs_above name roots) + 1
-  count_rising [] rising = omega arith
-  count_rising (pair ∷ roots) rising =
+  count_ascending : (roots : Roots) → IsAscending roots → length roots ≤ length (pairs_below name roots) + length (pairs_above name roots) + 1
+  count_ascending [] ascending = omega arith
+  count_ascending (pair ∷ roots) ascending =
       subst (λ o. length (pair ∷ roots) ≤ length (cond (is_lt o) (pair ∷ pairs_below name roots) (pairs_below name roots)) + length (pairs_above name (pair ∷ roots)) + 1) (sym (reversed pair.0 name))
-      (one_stays (bytes_cmp name pair.0) pair (pairs_below name roots) (pairs_above name roots) roots (λ same. all_stay roots (subst (λ k. AllByRecursion (λ later. IsBelow k later.0) roots) (sym (equal_is_same name pair.0 same)) rising.0)) (count_rising roots rising.1))
+      (one_stays (bytes_cmp name pair.0) pair (pairs_below name roots) (pairs_above name roots) roots (λ same. all_stay roots (subst (λ k. AllByRecursion (λ later. IsBelow k later.0) roots) (sym (equal_is_same name pair.0 same)) ascending.0)) (count_ascending roots ascending.1))
 
-  pub never_fewer_with : (root : ℕ) (roots : Roots) → IsRising roots → length roots ≤ length (with_root name root roots)
-  never_fewer_with root roots rising = omega (arith, length_with root roots, count_rising roots rising)
+  pub never_fewer_with : (root : ℕ) (roots : Roots) → IsAscending roots → length roots ≤ length (with_root name root roots)
+  never_fewer_with root roots ascending = omega (arith, length_with root roots, count_ascending roots ascending)
 
 -- ---- pairs that are put in one after the other
 
-pub never_fewer : (pairs roots : Roots) → IsRising roots → length roots ≤ length (with_roots pairs roots)
-never_fewer [] roots rising = omega arith
-never_fewer (pair ∷ pairs) roots rising =
-    let one = never_fewer_with pair.0 pair.1 roots rising in
-    let others = never_fewer pairs (with_root pair.0 pair.1 roots) (rising_set pair.0 roots pair.1 rising) in
+pub never_fewer : (pairs roots : Roots) → IsAscending roots → length roots ≤ length (with_roots pairs roots)
+never_fewer [] roots ascending = omega arith
+never_fewer (pair ∷ pairs) roots ascending =
+    let one = never_fewer_with pair.0 pair.1 roots ascending in
+    let others = never_fewer pairs (with_root pair.0 pair.1 roots) (ascending_set pair.0 roots pair.1 ascending) in
     omega (arith, one, others)
 
-pub rising_with : (pairs roots : Roots) → IsRising roots → IsRising (with_roots pairs roots)
-rising_with [] roots rising = rising
-rising_with (pair ∷ pairs) roots rising = rising_with pairs (with_root pair.0 pair.1 roots) (rising_set pair.0 roots pair.1 rising)
+pub ascending_with : (pairs roots : Roots) → IsAscending roots → IsAscending (with_roots pairs roots)
+ascending_with [] roots ascending = ascending
+ascending_with (pair ∷ pairs) roots ascending = ascending_with pairs (with_root pair.0 pair.1 roots) (ascending_set pair.0 roots pair.1 ascending)
 
 -- ---- the size
 

@@ -11,7 +11,7 @@ use Rattle.sled_node.specs.Restoring.{restored_data, first_data, later_data}
 use Rattle.sled_node.proofs.NodeEdits.{made}
 use Rattle.sled_node.proofs.Restoring.{Share, stored_from, restored_under, restored_kind}
 use Rattle.sled_node.proofs.Receiving.{share_own}
-use Rattle.sled_node.proofs.Parting.{left_part, right_part, left_formed, right_formed, parts_split, parts_merge}
+use Rattle.sled_node.proofs.SplitPairs.{left_part, right_part, left_formed, right_formed, parts_split, parts_merge}
 
 module _ (front : Bytes) (count : ℕ) where
   first_under : (parts : Data) → pairs_under front (first_data count parts) ≡ take count (pairs_under front parts)

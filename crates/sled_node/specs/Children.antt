@@ -21,7 +21,7 @@ abbrev pub HasChildFor : WholeNode → Bytes → Type 0
 HasChildFor n key = (n.is_index ≡ true) × IsInRange n key × BeginsAtMost n.pairs key
 
 -- the pair at place i is the last whose key isn't above: those behind it are
-pub record IsLastAtMost {V : Type 0} (pairs : List (Bytes × V)) (key : Bytes) (i : ℕ) (item : V) : Type 0 where
+pub record IsLeadingPair {V : Type 0} (pairs : List (Bytes × V)) (key : Bytes) (i : ℕ) (item : V) : Type 0 where
   pub found : Bytes
   pub here : slice_get pairs i ≡ Some (found, item)
   pub at_most : IsAtMost found key

@@ -10,7 +10,7 @@ use Rattle.std.specs.Cmp.Lexicographic.{nat_list_cmp_total}
 use Rattle.std.proofs.lemmas.Cmp.{tied_itself}
 use Rattle.sled_base.specs.Order.{Bytes, bytes_cmp, is_below, IsBelow}
 use Rattle.sled_base.specs.OrderLaws.{below_is_above, equal_is_same, reversed}
-use Rattle.sled_node.specs.Pairs.{IsRising, pairs_below, pairs_above}
+use Rattle.sled_node.specs.Pairs.{IsAscending, pairs_below, pairs_above}
 use Rattle.sled_node.specs.Meta.{Roots, is_name, root_of, with_root, without_root, with_roots}
 
 module _ (name : Bytes) where
@@ -34,20 +34,20 @@ all_behind : (P : Bytes × ℕ → Type 0) (front : Roots) (pair : Bytes × ℕ)
 all_behind P [] pair back all = all.0
 all_behind P (x ∷ front) pair back all = all_behind P front pair back all.1
 
-before_it : (front : Roots) (pair : Bytes × ℕ) (back : Roots) → IsRising (front ++ pair ∷ back) → AllByRecursion (λ earlier. IsBelow earlier.0 pair.0) front
-before_it [] pair back rising = tt
-before_it (x ∷ front) pair back rising = (all_behind (λ later. IsBelow x.0 later.0) front pair back rising.0, before_it front pair back rising.1)
+before_it : (front : Roots) (pair : Bytes × ℕ) (back : Roots) → IsAscending (front ++ pair ∷ back) → AllByRecursion (λ earlier. IsBelow earlier.0 pair.0) front
+before_it [] pair back ascending = tt
+before_it (x ∷ front) pair back ascending = (all_behind (λ later. IsBelow x.0 later.0) front pair back ascending.0, before_it front pair back ascending.1)
 
-put_behind : (front pairs : Roots) → IsRising (front ++ pairs) → with_roots pairs front ≡ front ++ pairs
-put_behind front [] rising = sym (append-nil front)
-put_behind front (pair ∷ pairs) rising =
-    let last = comes_last pair.0 pair.1 front (before_it front pair pairs rising) in
+put_behind : (front pairs : Roots) → IsAscending (front ++ pairs) → with_roots pairs front ≡ front ++ pairs
+put_behind front [] ascending = sym (append-nil front)
+put_behind front (pair ∷ pairs) ascending =
+    let last = comes_last pair.0 pair.1 front (before_it front pair pairs ascending) in
     let regrouped = append_assoc front (pair ∷ []) pairs in
-    ap (with_roots pairs) last ∙ put_behind (front ++ pair ∷ []) pairs (subst IsRising (sym regrouped) rising) ∙ regrouped
+    ap (with_roots pairs) last ∙ put_behind (front ++ pair ∷ []) pairs (subst IsAscending (sym regrouped) ascending) ∙ regrouped
 
 -- ascending pairs, put into the empty map in their order, are the map
-pub put_in_order : (pairs : Roots) → IsRising pairs → with_roots pairs [] ≡ pairs
-put_in_order pairs rising = put_behind [] pairs rising
+pub put_in_order : (pairs : Roots) → IsAscending pairs → with_roots pairs [] ≡ pairs
+put_in_order pairs ascending = put_behind [] pairs ascending
 
 -- ---- what a name that was set, or taken out, reads
 

@@ -2,7 +2,7 @@
 use Rattle.std.specs.Prelude.{◌≡◌, ◌≢◌, ℕ, ◌<◌, ◌≤◌, ◌^◌, Bool, true, false, List, [], ◌++◌, length, take, Option, None, IfSome}
 use Rattle.std.specs.List.{AllByRecursion}
 use Rattle.sled_base.specs.Order.{Bytes, IsBelow, IsAtMost}
-use Rattle.sled_node.specs.Pairs.{IsWithinLimit, IsRising}
+use Rattle.sled_node.specs.Pairs.{IsWithinLimit, IsAscending}
 use Rattle.sled_node.specs.Limits.{pairs_limit, prefix_limit}
 
 -- what stands behind a key: a leaf's value, or an index's page
@@ -50,7 +50,7 @@ pub record IsWellFormed (n : WholeNode) : Type 0 where
   pub prefix_open : n.hi ≡ [] → n.prefix_len ≡ 0
   pub prefix_common : take n.prefix_len n.lo ≡ take n.prefix_len n.hi
   -- the keys rise and are in the range
-  pub rising : IsRising n.pairs
+  pub ascending : IsAscending n.pairs
   pub in_range : AllByRecursion (λ pair. IsInRange n pair.0) n.pairs
   -- the limits
   pub few : length n.pairs ≤ pairs_limit

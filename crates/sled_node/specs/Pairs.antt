@@ -9,9 +9,9 @@ abbrev pub IsWithinLimit : Bytes → Type 0
 IsWithinLimit bytes = length bytes ≤ bytes_limit
 
 -- each key is below those after it
-abbrev pub IsRising : {V : Type 0} → List (Bytes × V) → Type 0
-IsRising [] = ⊤
-IsRising (pair ∷ pairs) = AllByRecursion (λ later. IsBelow pair.0 later.0) pairs × IsRising pairs
+abbrev pub IsAscending : {V : Type 0} → List (Bytes × V) → Type 0
+IsAscending [] = ⊤
+IsAscending (pair ∷ pairs) = AllByRecursion (λ later. IsBelow pair.0 later.0) pairs × IsAscending pairs
 
 abbrev pub pairs_below : {V : Type 0} → Bytes → List (Bytes × V) → List (Bytes × V)
 pairs_below key pairs = filter (λ pair. is_below pair.0 key) pairs
@@ -42,6 +42,6 @@ pub record IsGap {V : Type 0} (pairs : List (Bytes × V)) (key : Bytes) (i : ℕ
 -- the stored pairs of a leaf or an index, whose items are to fit
 pub record HasPairs {V : Type 0} (fits : V → Type 0) (pairs : List (Bytes × V)) : Type 0 where
   pub few : length pairs ≤ pairs_limit
-  pub rising : IsRising pairs
+  pub ascending : IsAscending pairs
   pub keys : AllByRecursion (λ pair. IsWithinLimit pair.0) pairs
   pub items : AllByRecursion (λ pair. fits pair.1) pairs

@@ -9,7 +9,7 @@ ghost use Rattle.sled_node.specs.Meta.{named_pages, root_of, with_root, without_
 mod names;
 mod payload;
 
-use names::{page_of, set_page, take_page};
+use names::{root_of, set_page, take_page};
 use sled_base::{IVec, PageId};
 use std::alloc::{AllocError, Global};
 use std::collections::BTreeMap;
@@ -68,7 +68,7 @@ impl Meta {
     pub fn get_root(&self, name: &[u8]) -> Option<PageId>
         ensures { result ≡ root_of name.now self.now }
     {
-        page_of(&self.roots, name)
+        root_of(&self.roots, name)
     }
 
     /// Whether the name may be set: it is there, or fewer than [`MAX_NAMES`] names are.

@@ -346,7 +346,7 @@ fn is_leaf(alloc: Global, prefix_len: u8, lo: &[u8], hi: &[u8]) -> Result<bool, 
 fn has_room_for_bb(alloc: Global, lo: &[u8], hi: &[u8]) -> Result<bool, Fail> {
     let mut pairs = Vec::new(alloc);
     pairs.push((bytes(alloc, b"bb")?, bytes(alloc, b"v")?))?;
-    let contents = Leaf::from_pairs(alloc, pairs)?.ok_or("rising")?;
+    let contents = Leaf::from_pairs(alloc, pairs)?.ok_or("ascending")?;
     let (lo, hi) = (bytes(alloc, lo)?, bytes(alloc, hi)?);
     Ok(makes_node(0, lo, hi, Data::Leaf(contents)))
 }

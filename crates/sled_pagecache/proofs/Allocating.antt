@@ -1,12 +1,12 @@
 -- Allocating a page, as a step of the machine.
-use Rattle.sled_pagecache.proofs.Names.{◌≡◌, ◌≢◌, ◌⊎◌, inl, inr, ⊎_elim, ◌≤◌, ◌<◌, ◌+◌, ◌-◌, ◌^◌, ℕ, zero, suc, Bool, true, false, cond, List, [], ◌∷◌, ◌++◌, length, take, Option, Some, None, Result, Ok, Err, slice_get, slice_set, refl, sym, ◌∙◌, ap, subst, arith, eq-eqb, ne_eqb, false≢true, none-some, same_Some, slice_get-get_or, slice_get_within, Error, Unsupported, Refusal, PagesUsedUp, StampUsedUp, Event, Update, Node, Put, Change, IsUpdate, message_of, Ghosts, WholeNode, RefusesPage, Cache, chain_length, HasNoRoom, StepOver, IsIn, Steps, Went, IsCaused, begun_by, Logged, free_ids, page, State, with_page, free_token, later, greatest_free, Does, Outcome, outcome, unchanged, Allocates, RefusesSwap, IsRoots, IsCounter, AreOwn, IsBeside, IsConsistent, Token, token, Allocated, Allocate, Config, Journal, Kept}
+use Rattle.sled_pagecache.proofs.Names.{◌≡◌, ◌≢◌, ◌⊎◌, inl, inr, ⊎_elim, ◌≤◌, ◌<◌, ◌+◌, ◌-◌, ◌^◌, ℕ, zero, suc, Bool, true, false, cond, List, [], ◌∷◌, ◌++◌, length, take, Option, Some, None, Result, Ok, Err, slice_get, slice_set, refl, sym, ◌∙◌, ap, subst, arith, eq-eqb, ne_eqb, false≢true, none-some, same_Some, slice_get-get_or, slice_get_within, Error, Unsupported, Refusal, PagesUsedUp, StampUsedUp, Event, Update, Node, Put, Change, IsUpdate, message_of, Ghosts, WholeNode, RefusesPage, Cache, chain_length, HasNoRoom, StepOver, IsIn, Steps, Went, IsCaused, begun_by, Logged, free_ids, page, State, with_page, free_token, later, greatest_free, Does, Outcome, outcome, unchanged, Allocates, RefusesSwap, IsRoots, IsCounter, AreOwn, IsBeside, IsConsistent, Token, token, Allocated, Allocate, Config, StickyLog, Kept}
 use Rattle.sled_pagecache.proofs.ByIds.{at-id}
 use Rattle.sled_base.specs.Errors.{error_of as error_by}
-use Rattle.sled_pagecache.proofs.Putting.{unless-clear, MayPut, may-set, may-add, nothing-told, put-refused, put-set, put-added}
+use Rattle.sled_pagecache.proofs.Putting.{unless-clear, MayPut, may-set, may-add, nothing-appended, put-refused, put-set, put-added}
 use Rattle.sled_pagecache.proofs.Standing.{AreKnown, known-length}
 use Rattle.sled_pagecache.proofs.TableNodes.{view}
 use Rattle.sled_pagecache.specs.Pages as shown
-use Rattle.sled_pagecache.specs.State.{Page}
+use Rattle.sled_pagecache.specs.State.{StampedPage}
 use Rattle.sled_pagecache.specs.declared.pagecache.page.Kept.TheVariants as held
 use Rattle.sled_pagecache.specs.declared.pagecache.page.Page.{Page as KeptPage}
 
@@ -33,7 +33,7 @@ no-end [] x is = cc
 no-end (y ∷ before) x is = cc
 
 -- no page is free
-pub none-free : (first : ℕ) (table : List KeptPage) → free_ids first table ≡ [] → (pages : List Page) → AreKnown pages table → greatest_free first pages ≡ None
+pub none-free : (first : ℕ) (table : List KeptPage) → free_ids first table ≡ [] → (pages : List StampedPage) → AreKnown pages table → greatest_free first pages ≡ None
 none-free first [] none [] known = refl
 none-free first [] none (p ∷ pages) known = absurd known
 none-free first (q ∷ table) none [] known = absurd known
@@ -54,7 +54,7 @@ pub record IsLastFree (first : ℕ) (table : List KeptPage) (before : List ℕ) 
   pub at : slice_get table place ≡ Some page
   pub free : shown.is_free page.kept ≡ true
   pub taken : (other : KeptPage) → shown.is_free other.kept ≡ false → free_ids first (slice_set table place other) ≡ before
-  pub greatest : (pages : List Page) → AreKnown pages table → greatest_free first pages ≡ Some (token pid page.stamp)
+  pub greatest : (pages : List StampedPage) → AreKnown pages table → greatest_free first pages ≡ Some (token pid page.stamp)
 
 module _ (first : ℕ) (q : KeptPage) (table : List KeptPage) (pid : ℕ) where
   -- one of the others is the last
@@ -153,10 +153,10 @@ module _ (messages : ℕ → ℕ) (no_room : Event Update → Type 0) (s : State
 
 -- ---- the call, told of the table
 
-module _ {L : Type 0} (g : Ghosts L) (next : ℕ) (config : Config) (recovered : Bool) (before : Journal L) (table : List KeptPage) (free : List ℕ) (ready : before.fault ≡ false) (kept : IsConsistent g.tells g.state before table free)
-    (node : WholeNode) (after : Journal L) (pages : List KeptPage) (reads : IsUpdate (message_of (Put (Node node))) (Put (Node node))) where
-  abbrev cache : Journal L → List KeptPage → Cache L
-  cache journal now = view next config recovered journal now
+module _ {L : Type 0} (g : Ghosts L) (next : ℕ) (config : Config) (recovered : Bool) (before : StickyLog L) (table : List KeptPage) (free : List ℕ) (ready : before.fault ≡ false) (kept : IsConsistent g.tells g.state before table free)
+    (node : WholeNode) (after : StickyLog L) (pages : List KeptPage) (reads : IsUpdate (message_of (Put (Node node))) (Put (Node node))) where
+  abbrev cache : StickyLog L → List KeptPage → Cache L
+  cache sticky_log now = view next config recovered sticky_log now
 
   abbrev lengths : ℕ → ℕ
   lengths = chain_length g.state (cache before table)
@@ -188,7 +188,7 @@ module _ {L : Type 0} (g : Ghosts L) (next : ℕ) (config : Config) (recovered :
         → (let told : Result ℕ Refusal = Err refusal in IsCaused g.tells g.state g.moment g.left_since g.counts before after (g.is_full before.log (length (message_of (Put (Node node))).payload)) told)
         → Steps g (cache before table) (Allocate node) (Allocated (Err (error_by refusal))) (cache after pages)
     adds-refused back refusal (inl (many, is)) =
-        rw is (λ went cause. nothing-told g next config recovered before table ready beside after (Allocate node) pages back (Allocated (Err (Unsupported PagesUsedUp))) went cause.fault
+        rw is (λ went cause. nothing-appended g next config recovered before table ready beside after (Allocate node) pages back (Allocated (Err (Unsupported PagesUsedUp))) went cause.fault
         (λ s clear are. allocate_full lengths no_room s node clear (none_in s are) (known-length s.pages table are ∙ many)))
     adds-refused back refusal (inr (room, of)) =
         put-refused g next config recovered before table ready beside after (Allocate node) (length table) (Node node) reads (may-new room) ℕ pages back (λ e. Allocated (Err e))
@@ -221,7 +221,7 @@ module _ {L : Type 0} (g : Ghosts L) (next : ℕ) (config : Config) (recovered :
         → (let told : Result (Unit {0}) Refusal = Err refusal in IsCaused g.tells g.state g.moment g.left_since g.counts before after (g.is_full before.log (length (message_of (Put (Node node))).payload)) told)
         → Steps g (cache before table) (Allocate node) (Allocated (Err (error_by refusal))) (cache after pages)
     reuses-refused back refusal (inl (greatest, is)) =
-        rw is (λ went cause. nothing-told g next config recovered before table ready beside after (Allocate node) pages back (Allocated (Err (Unsupported StampUsedUp))) went cause.fault
+        rw is (λ went cause. nothing-appended g next config recovered before table ready beside after (Allocate node) pages back (Allocated (Err (Unsupported StampUsedUp))) went cause.fault
         (λ s clear are. allocate_last lengths no_room s node clear (token pid last.page.stamp) (last.greatest s.pages are) greatest))
     reuses-refused back refusal (inr (below, of)) =
         put-refused g next config recovered before table ready beside after (Allocate node) pid (Node node) reads may-reuse (Unit {0}) pages back (λ e. Allocated (Err e))

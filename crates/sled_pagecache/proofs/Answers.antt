@@ -3,7 +3,7 @@ use Rattle.sled_pagecache.proofs.Names.{◌≡◌, ◌<◌, ℕ, Bool, true, fal
 use Rattle.sled_base.specs.declared.types.Error.TheVariants as errors
 use Rattle.sled_pagecache.proofs.Lookups.{map-at, set-at}
 use Rattle.sled_pagecache.specs.Answers.{is_write_fault}
-use Rattle.sled_pagecache.specs.Journal.{is_write_fault as met_fault}
+use Rattle.sled_pagecache.specs.StickyLog.{is_write_fault as met_fault}
 
 fault-same : (T U : Type 0) (refusal : Refusal) → (let err : Result T Refusal = Err refusal in met_fault err) ≡ (let answer : Result U Error = Err (error_of refusal) in is_write_fault answer)
 fault-same T U (Io Read) = refl

@@ -1,5 +1,5 @@
 -- Lists whose items are so by their ids.
-use Rattle.sled_pagecache.proofs.Names.{◌≡◌, ◌≤◌, ℕ, zero, suc, List, [], ◌∷◌, ◌++◌, length, slice_get, slice_set, slice_index_or, Option, Some, refl, subst, arith, none-some, same_Some, slice_get_within, get_or_from_slice_get, IfSome, AllByRecursion, AllZip, AllById, IsInOrder, zip-at}
+use Rattle.sled_pagecache.proofs.Names.{◌≡◌, ◌≤◌, ℕ, zero, suc, List, [], ◌∷◌, ◌++◌, length, slice_get, slice_set, slice_index_or, Option, Some, refl, subst, arith, none-some, same_Some, slice_get_within, get_or_from_slice_get, IfSome, AllByRecursion, AllZip, AllById, FitsId, zip-at}
 
 module _ {X : Type 0} where
   pub at-id : (P : ℕ → X → Type 0) (xs : List X) (i : ℕ) (x : X) → AllById P xs → slice_get xs i ≡ Some x → P i x
@@ -31,7 +31,7 @@ module _ {X : Type 0} where
   by-id-all P (x ∷ xs) all = (all 0, by-id-all P xs (λ k. all (suc k)))
 
   -- from 2 on the items are as the others
-  pub past-two : (First Second Other : X → Type 0) (id : ℕ) (x : X) → 2 ≤ id → (Other x → IsInOrder First Second Other id x) × (IsInOrder First Second Other id x → Other x)
+  pub past-two : (First Second Other : X → Type 0) (id : ℕ) (x : X) → 2 ≤ id → (Other x → FitsId First Second Other id x) × (FitsId First Second Other id x → Other x)
   past-two First Second Other (suc (suc id)) x from = (λ so. so, λ so. so)
   past-two First Second Other id x from = absurd (omega (arith, from))
 

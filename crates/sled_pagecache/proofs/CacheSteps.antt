@@ -1,6 +1,6 @@
 -- One call of the cache is one step of the machine.
-use Rattle.sled_pagecache.proofs.Names.{◌≡◌, Bool, true, false, List, [], ◌++◌, refl, sym, ◌∙◌, ap, subst, false≢true, is_open, open_after, Update, contents_after, Event, open_after-append, is_open-drop, Message, effect_of, AreTold, Ghosts, Cache, IsIn, IsSameOpening, IsStep, StepOver, Steps, Went, Logged, IsLogged, Adds, StayProper, State, Outcome, unchanged, contents_of, stamps_of, Answer, Call, Journal, KnowsLog}
-use Rattle.sled_log.specs.State as log
+use Rattle.sled_pagecache.proofs.Names.{◌≡◌, Bool, true, false, List, [], ◌++◌, refl, sym, ◌∙◌, ap, subst, false≢true, is_open, open_after, Update, contents_after, Event, open_after-append, is_open-drop, Message, effect_of, AreEvents, Ghosts, Cache, IsIn, IsSameOpening, IsStep, StepOver, Steps, Went, Logged, IsLogged, Adds, StayProper, State, Outcome, unchanged, contents_of, stamps_of, Answer, Call, StickyLog, KnowsLog}
+use Rattle.sled_log.specs.LogState as log
 use Rattle.sled_pagecache.proofs.Carrying.{carries, leaves, proper-now}
 use Rattle.sled_pagecache.proofs.Staying.{stay-none}
 use Rattle.sled_pagecache.specs.Logged.{now, IsLeft}
@@ -12,8 +12,8 @@ open-added held held_then changes added =
 
 module _ {L : Type 0} (g : Ghosts L) where
   -- a call is a step where the device tells its bytes, and of no other device is more said
-  pub steps-told : (old new : Cache L) (call : Call) (answer : Answer) → IsSameOpening old new → (g.tells → Steps g old call answer new) → Steps g old call answer new
-  steps-told old new call answer same steps = record { opening = same; from_each = λ held s is. (steps is.tells).from_each held s is }
+  pub steps-known : (old new : Cache L) (call : Call) (answer : Answer) → IsSameOpening old new → (g.tells → Steps g old call answer new) → Steps g old call answer new
+  steps-known old new call answer same steps = record { opening = same; from_each = λ held s is. (steps is.tells).from_each held s is }
 
   -- with a write fault kept the log isn't called, and nothing changes
   pub steps-stuck : (cache : Cache L) (call : Call) (answer : Answer) → cache.fault ≡ true
@@ -36,8 +36,8 @@ module _ {L : Type 0} (g : Ghosts L) where
   pub record LeadsTo (old new : Cache L) (held : Logged) (s : State) (call : Call) (answer : Answer) (messages : List (Event Message)) : Type 0 where
     pub out : Outcome
     pub step : StepOver g old s call answer out
-    pub told : AreTold (now held) messages out.changes
-    pub stays : StayProper (log.now effect_of (log.told_state (g.state old.log))) (now held) messages out.changes
+    pub told : AreEvents (now held) messages out.changes
+    pub stays : StayProper (log.now effect_of (log.unplaced_state (g.state old.log))) (now held) messages out.changes
     pub stamps : stamps_of out.state ≡ new.stamps
     pub next : out.state.next ≡ new.next
     pub fault : out.state.fault ≡ new.fault
@@ -46,23 +46,23 @@ module _ {L : Type 0} (g : Ghosts L) where
     pub contents : new.fault ≡ false → contents_of out.state ≡ contents_after (now held) out.changes
 
   -- no message stays proper where the cache is in a state
-  pub stays-none : (cache : Cache L) (held : Logged) (s : State) → IsIn g cache held s → s.fault ≡ false → StayProper (log.now effect_of (log.told_state (g.state cache.log))) (now held) [] []
-  stays-none cache held s is clear = stay-none (log.now effect_of (log.told_state (g.state cache.log))) (now held) (proper-now (log.told_state (g.state cache.log)) held (is.known clear).logged)
+  pub stays-none : (cache : Cache L) (held : Logged) (s : State) → IsIn g cache held s → s.fault ≡ false → StayProper (log.now effect_of (log.unplaced_state (g.state cache.log))) (now held) [] []
+  stays-none cache held s is clear = stay-none (log.now effect_of (log.unplaced_state (g.state cache.log))) (now held) (proper-now (log.unplaced_state (g.state cache.log)) held (is.known clear).logged)
 
-  module _ (old new : Cache L) (before after : Journal L) (call : Call) (answer : Answer) (messages : List (Event Message))
+  module _ (old new : Cache L) (before after : StickyLog L) (call : Call) (answer : Answer) (messages : List (Event Message))
       (old_log : old.log ≡ before.log) (new_log : new.log ≡ after.log) (new_fault : new.fault ≡ after.fault) (ready : old.fault ≡ false)
       (went : Went g.tells g.state g.moment g.left_since g.counts before after messages)
       (held : Logged) (s : State) (is : IsIn g old held s) (way : LeadsTo old new held s call answer messages) where
-    logged : IsLogged (log.told_state (g.state before.log)) held
-    logged = subst (λ l. IsLogged (log.told_state (g.state l)) held) old_log (is.known (is.fault ∙ ready)).logged
+    logged : IsLogged (log.unplaced_state (g.state before.log)) held
+    logged = subst (λ l. IsLogged (log.unplaced_state (g.state l)) held) old_log (is.known (is.fault ∙ ready)).logged
 
-    stays : StayProper (log.now effect_of (log.told_state (g.state before.log))) (now held) messages way.out.changes
-    stays = subst (λ l. StayProper (log.now effect_of (log.told_state (g.state l))) (now held) messages way.out.changes) old_log way.stays
+    stays : StayProper (log.now effect_of (log.unplaced_state (g.state before.log))) (now held) messages way.out.changes
+    stays = subst (λ l. StayProper (log.now effect_of (log.unplaced_state (g.state l))) (now held) messages way.out.changes) old_log way.stays
 
-    stop : log.StopsLeave g.moment g.left_since old.log new.log (IsLeft held way.out.changes)
+    stop : log.CrashesSinceLeave g.moment g.left_since old.log new.log (IsLeft held way.out.changes)
     stop =
-        subst (λ l. log.StopsLeave g.moment g.left_since l new.log (IsLeft held way.out.changes)) (sym old_log)
-        (subst (λ l. log.StopsLeave g.moment g.left_since before.log l (IsLeft held way.out.changes)) (sym new_log)
+        subst (λ l. log.CrashesSinceLeave g.moment g.left_since l new.log (IsLeft held way.out.changes)) (sym old_log)
+        (subst (λ l. log.CrashesSinceLeave g.moment g.left_since before.log l (IsLeft held way.out.changes)) (sym new_log)
         (leaves g.tells g.state g.moment g.left_since g.counts before after held messages way.out.changes logged way.told stays went is.tells))
 
     -- what the log holds then; behind a write error nothing is known of it
@@ -86,7 +86,7 @@ module _ {L : Type 0} (g : Ghosts L) where
           batch = way.batch ∙ sym way.marks ∙ ap (λ b. open_after b way.out.changes) is.batch ∙ sym (open-added held carried.held_then way.out.changes carried.added);
           known = λ _. record {
             usable = subst (λ l. (g.state l).usable ≡ true) (sym new_log) (went.usable (sym new_fault ∙ free));
-            logged = subst (λ l. IsLogged (log.told_state (g.state l)) carried.held_then) (sym new_log) carried.logged;
+            logged = subst (λ l. IsLogged (log.unplaced_state (g.state l)) carried.held_then) (sym new_log) carried.logged;
             contents = way.contents free ∙ sym carried.now_is;
           };
           added = λ _. carried.added;
@@ -106,7 +106,7 @@ module _ {L : Type 0} (g : Ghosts L) where
         }
 
   -- without a write fault before it, a call is a step
-  pub steps-went : (old new : Cache L) (before after : Journal L) (call : Call) (answer : Answer) (messages : List (Event Message))
+  pub steps-went : (old new : Cache L) (before after : StickyLog L) (call : Call) (answer : Answer) (messages : List (Event Message))
       → IsSameOpening old new → old.log ≡ before.log → new.log ≡ after.log → new.fault ≡ after.fault → old.fault ≡ false
       → Went g.tells g.state g.moment g.left_since g.counts before after messages
       → ((held : Logged) (s : State) → IsIn g old held s → s.fault ≡ false → LeadsTo old new held s call answer messages)

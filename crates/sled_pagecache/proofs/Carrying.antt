@@ -1,6 +1,6 @@
 -- What a cache tells its log, as one sees it who knows contents and no messages.
-use Rattle.sled_pagecache.proofs.Names.{◌≡◌, ℕ, false, List, ◌++◌, length, take, drop, refl, sym, ◌∙◌, ap, subst, take-append-drop, take-append_seam, Counts, chains_after, Update, contents_after, Event, holds-after, holds-added, Message, Entry, Told, effect_of, AreTold, told-append, told-take, reads-fair, StopsLeave-weaker, Went, Logged, IsLogged, Adds, AreKept, IsProper, StayProper, Journal}
-use Rattle.sled_log.specs.State as log
+use Rattle.sled_pagecache.proofs.Names.{◌≡◌, ℕ, false, List, ◌++◌, length, take, drop, refl, sym, ◌∙◌, ap, subst, take-append-drop, take-append_seam, Counts, chains_after, Update, contents_after, Event, holds-after, holds-added, Message, Entry, Messages, effect_of, AreEvents, events-append, events-take, reads-fair, CrashesSinceLeave-weaker, Went, Logged, IsLogged, Adds, AreKept, IsProper, StayProper, StickyLog}
+use Rattle.sled_log.specs.LogState as log
 use Rattle.sled_pagecache.proofs.Staying.{stay-append, stay-take, stay-drop, stay-all}
 use Rattle.sled_pagecache.specs.Logged.{now, IsLeft}
 
@@ -12,25 +12,25 @@ cut_at held changes cut = record {
 }
 
 -- the pages that a log holds now are as a cache leaves them
-pub proper-now : (state : log.State Message) (held : Logged) → IsLogged state held → IsProper (log.now effect_of state) (now held)
+pub proper-now : (state : log.LogState Message) (held : Logged) → IsLogged state held → IsProper (log.now effect_of state) (now held)
 proper-now state held logged = stay-all state.stable held.stable state.pending held.pending logged.pending logged.proper
 
 -- the log holds what it held and the changes
-pub record Carries (state : log.State Message) (held : Logged) (changes : List (Event Update)) : Type 0 where
+pub record Carries (state : log.LogState Message) (held : Logged) (changes : List (Event Update)) : Type 0 where
   pub held_then : Logged
   pub logged : IsLogged state held_then
   pub added : Adds held changes held_then
   pub now_is : now held_then ≡ contents_after (now held) changes
 
-module _ (before : log.State Message) (held : Logged) (messages : List (Event Message)) (changes : List (Event Update))
-    (logged : IsLogged before held) (told : AreTold (now held) messages changes) (stays : StayProper (log.now effect_of before) (now held) messages changes) where
-  all_told : AreTold held.stable (before.pending ++ messages) (held.pending ++ changes)
-  all_told = told-append held.stable before.pending messages held.pending changes logged.pending told
+module _ (before : log.LogState Message) (held : Logged) (messages : List (Event Message)) (changes : List (Event Update))
+    (logged : IsLogged before held) (told : AreEvents (now held) messages changes) (stays : StayProper (log.now effect_of before) (now held) messages changes) where
+  all_events : AreEvents held.stable (before.pending ++ messages) (held.pending ++ changes)
+  all_events = events-append held.stable before.pending messages held.pending changes logged.pending told
 
   all_stay : StayProper before.stable held.stable (before.pending ++ messages) (held.pending ++ changes)
   all_stay = stay-append before.stable held.stable before.pending messages held.pending changes logged.pending logged.proper stays
 
-  pub adds-carry : (after : log.State Message) → log.Adds effect_of before messages after → Carries after held changes
+  pub adds-carry : (after : log.LogState Message) → log.Adds effect_of before messages after → Carries after held changes
   adds-carry after adds =
       let parts = holds-added before after messages held.stable held.pending changes logged.stable logged.pending told adds in
       let stable_then = contents_after held.stable (take adds.cut (held.pending ++ changes)) in
@@ -41,51 +41,51 @@ module _ (before : log.State Message) (held : Logged) (messages : List (Event Me
           stable = parts.0;
           pending = parts.1;
           proper =
-              subst (λ (l : List Told). StayProper l stable_then after.pending pending_then) (sym adds.stable)
+              subst (λ (l : List Messages). StayProper l stable_then after.pending pending_then) (sym adds.stable)
               (subst (λ (l : List (Event Message)). StayProper (chains_after effect_of before.stable (take adds.cut (before.pending ++ messages))) stable_then l pending_then) (sym adds.pending)
-              (stay-drop adds.cut before.stable held.stable (before.pending ++ messages) (held.pending ++ changes) all_told all_stay));
+              (stay-drop adds.cut before.stable held.stable (before.pending ++ messages) (held.pending ++ changes) all_events all_stay));
         };
         added = record {
           cut = adds.cut;
-          fair = reads-fair held.stable (before.pending ++ messages) (held.pending ++ changes) adds.cut all_told adds.fair;
+          fair = reads-fair held.stable (before.pending ++ messages) (held.pending ++ changes) adds.cut all_events adds.fair;
           stable = refl;
           pending = refl;
         };
         now_is = parts.2;
       }
 
-  pub stop-leaves : (pages : List Told) → log.IsLeft effect_of before messages pages → IsLeft held changes pages
+  pub stop-leaves : (pages : List Messages) → log.IsLeft effect_of before messages pages → IsLeft held changes pages
   stop-leaves pages left =
       let n = length left.came in
       let some = take n changes in
       let part : take n messages ≡ left.came = ap (take n) (sym left.beginning.1) ∙ take-append_seam left.came left.beginning.0 in
-      let came : AreTold (now held) left.came some = subst (λ (l : List (Event Message)). AreTold (now held) l some) part (told-take (now held) n messages changes told) in
+      let came : AreEvents (now held) left.came some = subst (λ (l : List (Event Message)). AreEvents (now held) l some) part (events-take (now held) n messages changes told) in
       let some_stay : StayProper (log.now effect_of before) (now held) left.came some =
       subst (λ (l : List (Event Message)). StayProper (log.now effect_of before) (now held) l some) part (stay-take n (log.now effect_of before) (now held) messages changes told stays) in
       let kept : List (Event Message) = before.pending ++ left.came in
       let known : List (Event Update) = held.pending ++ some in
-      let all : AreTold held.stable kept known = told-append held.stable before.pending left.came held.pending some logged.pending came in
+      let all : AreEvents held.stable kept known = events-append held.stable before.pending left.came held.pending some logged.pending came in
       record {
         came = some;
         beginning = (drop n changes, take-append-drop n changes);
         cut = left.cut;
         fair = reads-fair held.stable kept known left.cut all left.fair;
-        is = subst (λ (l : List Told). AreKept l (contents_after held.stable (take left.cut known))) (sym left.is) (record {
-          holds = holds-after before.stable held.stable (take left.cut kept) (take left.cut known) logged.stable (told-take held.stable left.cut kept known all);
+        is = subst (λ (l : List Messages). AreKept l (contents_after held.stable (take left.cut known))) (sym left.is) (record {
+          holds = holds-after before.stable held.stable (take left.cut kept) (take left.cut known) logged.stable (events-take held.stable left.cut kept known all);
           proper = stay-append before.stable held.stable before.pending left.came held.pending some logged.pending logged.proper some_stay left.cut;
         });
       }
 
-module _ {L : Type 0} (tells : Type 0) (state : L → log.State Entry) (moment : L → ℕ) (left_since : L → ℕ → List Told → Type 0) (counts : L → Counts) where
-  module _ (old new : Journal L) (held : Logged) (messages : List (Event Message)) (changes : List (Event Update))
-      (logged : IsLogged (log.told_state (state old.log)) held) (told : AreTold (now held) messages changes)
-      (stays : StayProper (log.now effect_of (log.told_state (state old.log))) (now held) messages changes)
+module _ {L : Type 0} (tells : Type 0) (state : L → log.LogState Entry) (moment : L → ℕ) (left_since : L → ℕ → List Messages → Type 0) (counts : L → Counts) where
+  module _ (old new : StickyLog L) (held : Logged) (messages : List (Event Message)) (changes : List (Event Update))
+      (logged : IsLogged (log.unplaced_state (state old.log)) held) (told : AreEvents (now held) messages changes)
+      (stays : StayProper (log.now effect_of (log.unplaced_state (state old.log))) (now held) messages changes)
       (went : Went tells state moment left_since counts old new messages) (known : tells) where
-    pub carries : new.fault ≡ false → Carries (log.told_state (state new.log)) held changes
-    carries clear = adds-carry (log.told_state (state old.log)) held messages changes logged told stays (log.told_state (state new.log)) (went.added known clear)
+    pub carries : new.fault ≡ false → Carries (log.unplaced_state (state new.log)) held changes
+    carries clear = adds-carry (log.unplaced_state (state old.log)) held messages changes logged told stays (log.unplaced_state (state new.log)) (went.added known clear)
 
-    pub leaves : log.StopsLeave moment left_since old.log new.log (IsLeft held changes)
+    pub leaves : log.CrashesSinceLeave moment left_since old.log new.log (IsLeft held changes)
     leaves =
-        StopsLeave-weaker state moment left_since counts old.log new.log (log.IsLeft effect_of (log.told_state (state old.log)) messages) (IsLeft held changes)
-        (stop-leaves (log.told_state (state old.log)) held messages changes logged told stays)
+        CrashesSinceLeave-weaker state moment left_since counts old.log new.log (log.IsLeft effect_of (log.unplaced_state (state old.log)) messages) (IsLeft held changes)
+        (stop-leaves (log.unplaced_state (state old.log)) held messages changes logged told stays)
         (went.stop known)

@@ -1,42 +1,42 @@
 -- What a call leads to that changes one page at most.
-use Rattle.sled_pagecache.proofs.Names.{◌≡◌, ℕ, true, false, List, [], ◌∷◌, ◌++◌, map, Result, Err, slice_set, refl, sym, ◌∙◌, ap, false≢true, map-append, map-set, Read, Write, Refusal, Io, chains_from, Content, Update, contents_from, Change, Told, effect_of, IsUpdate, MayChange, message_of, Ghosts, Cache, IsIn, StepOver, is_write_fault, Logged, IsProper, page, State, contents_of, stamps_of, with_page, outcome, unchanged, Answer, Call}
-use Rattle.sled_log.specs.State as log
+use Rattle.sled_pagecache.proofs.Names.{◌≡◌, ℕ, true, false, List, [], ◌∷◌, ◌++◌, map, Result, Err, slice_set, refl, sym, ◌∙◌, ap, false≢true, map-append, map-set, Read, Write, Refusal, Io, chains_from, Content, Update, contents_from, Change, Messages, effect_of, IsUpdate, MayChange, message_of, Ghosts, Cache, IsIn, StepOver, is_write_fault, Logged, IsProper, page, State, contents_of, stamps_of, with_page, outcome, unchanged, Answer, Call}
+use Rattle.sled_log.specs.LogState as log
 use Rattle.sled_pagecache.proofs.CacheSteps.{LeadsTo, stays-none}
 use Rattle.sled_pagecache.proofs.Carrying.{proper-now}
 use Rattle.sled_pagecache.proofs.Held.{unread}
 use Rattle.sled_pagecache.proofs.Staying.{stay-one}
 use Rattle.sled_pagecache.specs.Logged.{now}
-use Rattle.sled_pagecache.specs.State.{Page}
+use Rattle.sled_pagecache.specs.State.{StampedPage}
 
 module _ {L : Type 0} (g : Ghosts L) where
   module _ (old new : Cache L) (held : Logged) (s : State) (is : IsIn g old held s) (clear : s.fault ≡ false) (call : Call) (answer : Answer) (next : new.next ≡ old.next) where
     -- what was pending and stable, with the messages of a page
-    abbrev pages_now : List Told
-    pages_now = log.now effect_of (log.told_state (g.state old.log))
+    abbrev pages_now : List Messages
+    pages_now = log.now effect_of (log.unplaced_state (g.state old.log))
 
     -- nothing was told
-    untold : (t : State) → StepOver g old s call answer (outcome t []) → t.pages ≡ s.pages → t.next ≡ s.next → t.fault ≡ new.fault → t.batch ≡ s.batch → new.stamps ≡ old.stamps
+    unappended : (t : State) → StepOver g old s call answer (outcome t []) → t.pages ≡ s.pages → t.next ≡ s.next → t.fault ≡ new.fault → t.batch ≡ s.batch → new.stamps ≡ old.stamps
         → LeadsTo g old new held s call answer []
-    untold t step pages same_next fault batch stamps = record {
+    unappended t step pages same_next fault batch stamps = record {
       out = outcome t [];
       step = step;
       told = tt;
       stays = stays-none g old held s is clear;
-      stamps = ap (map (λ (p : Page). p.stamp)) pages ∙ is.stamps ∙ sym stamps;
+      stamps = ap (map (λ (p : StampedPage). p.stamp)) pages ∙ is.stamps ∙ sym stamps;
       next = same_next ∙ is.next ∙ sym next;
       fault = fault;
       batch = batch;
       marks = refl;
-      contents = λ _. ap (map (λ (p : Page). p.content)) pages ∙ (is.known clear).contents;
+      contents = λ _. ap (map (λ (p : StampedPage). p.content)) pages ∙ (is.known clear).contents;
     }
 
     -- and nothing changes
     pub leads-same : StepOver g old s call answer (unchanged s) → new.stamps ≡ old.stamps → new.fault ≡ false → LeadsTo g old new held s call answer []
-    leads-same step stamps free = untold s step refl refl (clear ∙ sym free) refl stamps
+    leads-same step stamps free = unappended s step refl refl (clear ∙ sym free) refl stamps
 
     -- or a write fault came before
     pub leads-fault : StepOver g old s call answer (outcome (record s { fault = true }) []) → new.stamps ≡ old.stamps → new.fault ≡ true → LeadsTo g old new held s call answer []
-    leads-fault step stamps kept = untold (record s { fault = true }) step refl refl (sym kept) refl stamps
+    leads-fault step stamps kept = unappended (record s { fault = true }) step refl refl (sym kept) refl stamps
 
     -- a page couldn't be read
     pub leads-unread : (refusal : Refusal) → StepOver g old s call answer (unread s refusal) → new.stamps ≡ old.stamps
@@ -55,7 +55,7 @@ module _ {L : Type 0} (g : Ghosts L) where
         out = outcome t (Change pid update ∷ []);
         step = step;
         told = ((refl, reads), may, tt);
-        stays = stay-one pages_now (now held) (Change pid (message_of update)) (Change pid update) (proper-now (log.told_state (g.state old.log)) held (is.known clear).logged) proper;
+        stays = stay-one pages_now (now held) (Change pid (message_of update)) (Change pid update) (proper-now (log.unplaced_state (g.state old.log)) held (is.known clear).logged) proper;
         stamps = stamps;
         next = same_next ∙ is.next ∙ sym next;
         fault = fault;
@@ -77,8 +77,8 @@ module _ {L : Type 0} (g : Ghosts L) where
           → LeadsTo g old new held s call answer (Change pid (message_of update) ∷ [])
       leads-set stamp content step makes stamps free =
           leads-to (with_page s pid (page stamp content)) step
-          (map-set (λ (p : Page). p.stamp) s.pages pid (page stamp content) ∙ ap (λ (l : List ℕ). slice_set l pid stamp) is.stamps ∙ sym stamps) refl (clear ∙ sym free) refl
-          (λ _. map-set (λ (p : Page). p.content) s.pages pid (page stamp content) ∙ ap (λ (l : List Content). slice_set l pid content) (is.known clear).contents ∙ sym makes)
+          (map-set (λ (p : StampedPage). p.stamp) s.pages pid (page stamp content) ∙ ap (λ (l : List ℕ). slice_set l pid stamp) is.stamps ∙ sym stamps) refl (clear ∙ sym free) refl
+          (λ _. map-set (λ (p : StampedPage). p.content) s.pages pid (page stamp content) ∙ ap (λ (l : List Content). slice_set l pid content) (is.known clear).contents ∙ sym makes)
 
       -- and there is a page more
       pub leads-add : (stamp : ℕ) (content : Content) → StepOver g old s call answer (outcome (record s { pages = s.pages ++ page stamp content ∷ [] }) (Change pid update ∷ []))
@@ -87,5 +87,5 @@ module _ {L : Type 0} (g : Ghosts L) where
           → LeadsTo g old new held s call answer (Change pid (message_of update) ∷ [])
       leads-add stamp content step makes stamps free =
           leads-to (record s { pages = s.pages ++ page stamp content ∷ [] }) step
-          (map-append (λ (p : Page). p.stamp) s.pages (page stamp content ∷ []) ∙ ap (λ (l : List ℕ). l ++ stamp ∷ []) is.stamps ∙ sym stamps) refl (clear ∙ sym free) refl
-          (λ _. map-append (λ (p : Page). p.content) s.pages (page stamp content ∷ []) ∙ ap (λ (l : List Content). l ++ content ∷ []) (is.known clear).contents ∙ sym makes)
+          (map-append (λ (p : StampedPage). p.stamp) s.pages (page stamp content ∷ []) ∙ ap (λ (l : List ℕ). l ++ stamp ∷ []) is.stamps ∙ sym stamps) refl (clear ∙ sym free) refl
+          (λ _. map-append (λ (p : StampedPage). p.content) s.pages (page stamp content ∷ []) ∙ ap (λ (l : List Content). l ++ content ∷ []) (is.known clear).contents ∙ sym makes)

@@ -1,7 +1,7 @@
 -- A flush, and the size of the log, as steps of the machine.
-use Rattle.sled_pagecache.proofs.Names.{◌≡◌, ℕ, Bool, true, false, List, [], Ok, Err, refl, sym, ◌∙◌, Write, is_open, Told, effect_of, reads-open, is_open-told, Ghosts, Cache, IsIn, Steps, Went, Went-none, Logged, State, Flushes, Sizes, outcome, unchanged, Flushed, Sized, Flush, SizeOnDisk, Config, Journal, Page}
+use Rattle.sled_pagecache.proofs.Names.{◌≡◌, ℕ, Bool, true, false, List, [], Ok, Err, refl, sym, ◌∙◌, Write, is_open, Messages, effect_of, reads-open, is_open-unplaced, Ghosts, Cache, IsIn, Steps, Went, Went-none, Logged, State, Flushes, Sizes, outcome, unchanged, Flushed, Sized, Flush, SizeOnDisk, Config, StickyLog, Page}
 use Rattle.sled_base.specs.declared.types.Error.TheVariants.{Io}
-use Rattle.sled_log.specs.State as log
+use Rattle.sled_log.specs.LogState as log
 use Rattle.sled_pagecache.proofs.CacheSteps.{steps-went}
 use Rattle.sled_pagecache.proofs.Changing.{leads-same, leads-fault}
 use Rattle.sled_pagecache.proofs.TableNodes.{view}
@@ -16,24 +16,24 @@ flush_step s n clear closed = rw (clear, closed) refl
 flush_fails : (s : State) → s.fault ≡ false → s.batch ≡ false → Flushes s (Err (Io Write)) (outcome (record s { fault = true }) [])
 flush_fails s clear closed = rw (clear, closed) (refl, refl)
 
-module _ {L : Type 0} (g : Ghosts L) (next : ℕ) (config : Config) (recovered : Bool) (pages : List Page) (before : Journal L) (ready : before.fault ≡ false) where
-  abbrev cache : Journal L → Cache L
-  cache journal = view next config recovered journal pages
+module _ {L : Type 0} (g : Ghosts L) (next : ℕ) (config : Config) (recovered : Bool) (pages : List Page) (before : StickyLog L) (ready : before.fault ≡ false) where
+  abbrev cache : StickyLog L → Cache L
+  cache sticky_log = view next config recovered sticky_log pages
 
   -- a size changes nothing
   pub sizes : (n : ℕ) → (g.state before.log).usable ≡ true
-      → ((l : List Told) → g.tells → (g.state before.log).usable ≡ true → g.left_since before.log (g.moment before.log) l → log.IsLeft effect_of (log.told_state (g.state before.log)) [] l)
+      → ((l : List Messages) → g.tells → (g.state before.log).usable ≡ true → g.left_since before.log (g.moment before.log) l → log.IsLeft effect_of (log.unplaced_state (g.state before.log)) [] l)
       → Steps g (cache before) SizeOnDisk (Sized (Ok n)) (cache before)
   sizes n usable only =
       steps-went g (cache before) (cache before) before before SizeOnDisk (Sized (Ok n)) [] (record { config = refl; recovered = refl }) refl refl refl ready
       (Went-none g.tells g.state g.moment g.left_since g.counts before usable only)
       (λ held s is clear. leads-same g (cache before) (cache before) held s is clear SizeOnDisk (Sized (Ok n)) refl (size_step s n clear) refl ready)
 
-  module _ (none : is_open (g.state before.log).pending ≡ false) (after : Journal L) (went : Went g.tells g.state g.moment g.left_since g.counts before after []) where
+  module _ (none : is_open (g.state before.log).pending ≡ false) (after : StickyLog L) (went : Went g.tells g.state g.moment g.left_since g.counts before after []) where
     -- where the log has no open batch, there is none
     closed : (held : Logged) (s : State) → IsIn g (cache before) held s → s.fault ≡ false → s.batch ≡ false
     closed held s is clear =
-        is.batch ∙ sym (reads-open held.stable false (log.told_state (g.state before.log)).pending held.pending (is.known clear).logged.pending) ∙ is_open-told (g.state before.log).pending ∙ none
+        is.batch ∙ sym (reads-open held.stable false (log.unplaced_state (g.state before.log)).pending held.pending (is.known clear).logged.pending) ∙ is_open-unplaced (g.state before.log).pending ∙ none
 
     pub flushes : (n : ℕ) → after.fault ≡ false → Steps g (cache before) Flush (Flushed (Ok n)) (cache after)
     flushes n free =

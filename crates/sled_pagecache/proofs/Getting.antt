@@ -1,17 +1,17 @@
 -- A get as a step of the machine: a page is brought in, and then its node is lent.
-use Rattle.sled_pagecache.proofs.Names.{MatchOption, HasNode, HasNoNode, IsBounded, KeepsMemory, AccessesPage, FindsPage, ◌≡◌, inl, inr, ℕ, Bool, true, false, List, [], Option, Some, None, Result, Ok, Err, slice_get, slice_index_or, refl, sym, ◌∙◌, ap, subst, false≢true, false_from_ne_true, error_of, IsOk, IsErrOf, Write, Error, Refusal, Io, Corruption, OutOfMemory, ReservedId, Content, Free, Node, Damaged, Chain, told, holds-made, Makes, Holds, Ghosts, WholeNode, Keeps, Cache, IsIn, IsResident, IsAway, Steps, IsBlamed, chain_at, ReportsWrong, is_write_fault, Logged, journal_of, RefusesReading, BringsIn, IsNodeAt, IsUsers, RefusesPull, ReadsPage, page, State, page_at, is_reserved, Finds, FindsContent, Token, Got, Get, NodeView, IsGot, Outcome, unchanged, Gets}
+use Rattle.sled_pagecache.proofs.Names.{MatchOption, HasNode, HasNoNode, IsBounded, KeepsMemory, AccessesPage, FindsPage, ◌≡◌, inl, inr, ℕ, Bool, true, false, List, [], Option, Some, None, Result, Ok, Err, slice_get, slice_index_or, refl, sym, ◌∙◌, ap, subst, false≢true, false_from_ne_true, error_of, IsOk, IsErrOf, Write, Error, Refusal, Io, Corruption, OutOfMemory, ReservedId, Content, Free, Node, Damaged, Chain, unplaced, holds-made, Makes, Holds, Ghosts, WholeNode, Keeps, Cache, IsIn, IsResident, IsAway, Steps, IsBlamed, chain_at, ReportsWrong, is_write_fault, Logged, sticky_log_of, RefusesReading, BringsIn, IsNodeAt, IsUsers, RefusesPull, ReadsPage, page, State, page_at, is_reserved, Finds, FindsContent, Token, Got, Get, NodeView, IsGot, Outcome, unchanged, Gets}
 use Rattle.std.specs.Prelude.{IfSome}
 use Rattle.sled_base.specs.declared.types.Error.TheVariants as error
 use Rattle.sled_pagecache.proofs.Answers.{keeps-stuck, keeps-err, keeps-ok}
-use Rattle.sled_pagecache.proofs.CacheSteps.{LeadsTo, steps-stuck, steps-told, steps-went}
+use Rattle.sled_pagecache.proofs.CacheSteps.{LeadsTo, steps-stuck, steps-known, steps-went}
 use Rattle.sled_pagecache.proofs.Changing.{leads-same, leads-unread}
 use Rattle.sled_pagecache.proofs.Held.{StampedAt, unread, unread-content, stamped-at, state-own, state-page, full-stands}
 use Rattle.sled_pagecache.proofs.Lookups.{behind-own}
 use Rattle.sled_pagecache.proofs.Passing.{passes, stuck-passes, reserved-passes}
 use Rattle.sled_pagecache.proofs.Putting.{blamed}
-use Rattle.sled_pagecache.proofs.Standing.{full-told}
-use Rattle.sled_pagecache.specs.State.{Page}
-use Rattle.sled_pagecache.specs.Lending.{told as answered}
+use Rattle.sled_pagecache.proofs.Standing.{full-unplaced}
+use Rattle.sled_pagecache.specs.State.{StampedPage}
+use Rattle.sled_pagecache.specs.Lending.{lent_answer as answered}
 
 -- ---- the machine
 
@@ -20,7 +20,7 @@ finds s pid answer out = Finds s pid (page_at s pid) answer out
 
 at-page : (s : State) (pid : ℕ) → s.fault ≡ false → is_reserved pid ≡ false → (answer : Result (Option (Token × WholeNode)) Error) (out : Outcome) (stamp : ℕ) (content : Content)
     → page_at s pid ≡ Some (page stamp content) → FindsContent s pid stamp content answer out → Gets s pid answer out
-at-page s pid clear free answer out stamp content at h = passes s pid (finds s pid) answer out clear free (subst (λ (o : Option Page). Finds s pid o answer out) (sym at) h)
+at-page s pid clear free answer out stamp content at h = passes s pid (finds s pid) answer out clear free (subst (λ (o : Option StampedPage). Finds s pid o answer out) (sym at) h)
 
 -- ---- the cache
 
@@ -49,7 +49,7 @@ module _ {L : Type 0} (g : Ghosts L) where
 
     pub get-refused : g.tells → (refusal : Refusal) → (let err : Result (Unit {0}) Refusal = Err refusal in BringsIn g old pid err new) → Steps g old (Get pid) (Got (Err (error_of refusal))) new
     get-refused known refusal brings =
-        steps-went g old new (journal_of old) (journal_of new) (Get pid) (Got (Err (error_of refusal))) [] brings.left.opening refl refl refl ready brings.left.went
+        steps-went g old new (sticky_log_of old) (sticky_log_of new) (Get pid) (Got (Err (error_of refusal))) [] brings.left.opening refl refl refl ready brings.left.went
         (λ held s is clear. refused-leads brings.left.next brings.left.stamps held s is clear refusal (brings.refused known) brings.cause.fault)
 
     -- the page lies in memory
@@ -58,20 +58,20 @@ module _ {L : Type 0} (g : Ghosts L) where
       chain-same = ap (λ (l : List Chain). slice_index_or l pid []) (brings.left.same known brings.cause.fault)
 
       module _ (held : Logged) (s : State) (is : IsIn g old held s) (clear : s.fault ≡ false) where
-        node-is : (stamp : ℕ) (node : WholeNode) → Makes (told (chain_at (g.state new.log) pid)) (Node node) → (found : StampedAt s.pages pid stamp) → page_at s pid ≡ Some (page stamp (Node node))
+        node-is : (stamp : ℕ) (node : WholeNode) → Makes (unplaced (chain_at (g.state new.log) pid)) (Node node) → (found : StampedAt s.pages pid stamp) → page_at s pid ≡ Some (page stamp (Node node))
         node-is stamp node made found =
             found.there ∙ ap (λ (content : Content). Some (page stamp content))
-            (holds-made (told (chain_at (g.state old.log) pid)) found.content (Node node) (state-page g old held s is clear pid (page stamp found.content) found.there)
-            (subst (λ (chain : Chain). Makes (told chain) (Node node)) chain-same made))
+            (holds-made (unplaced (chain_at (g.state old.log) pid)) found.content (Node node) (state-page g old held s is clear pid (page stamp found.content) found.there)
+            (subst (λ (chain : Chain). Makes (unplaced chain) (Node node)) chain-same made))
 
-        nothing-is : ((node : WholeNode) → ¬ Makes (told (chain_at (g.state new.log) pid)) (Node node)) → (o : Option Page) → page_at s pid ≡ o → Finds s pid o (Ok None) (unchanged s)
+        nothing-is : ((node : WholeNode) → ¬ Makes (unplaced (chain_at (g.state new.log) pid)) (Node node)) → (o : Option StampedPage) → page_at s pid ≡ o → Finds s pid o (Ok None) (unchanged s)
         nothing-is unmade None at = (refl, refl)
         nothing-is unmade (Some p) at = by p.content (state-page g old held s is clear pid p at) (state-own g old held s is clear pid (behind-own pid brings.in_memory.0) p at)
           where
-            by : (content : Content) → Holds (told (chain_at (g.state old.log) pid)) content → IsUsers content → FindsContent s pid p.stamp content (Ok None) (unchanged s)
+            by : (content : Content) → Holds (unplaced (chain_at (g.state old.log) pid)) content → IsUsers content → FindsContent s pid p.stamp content (Ok None) (unchanged s)
             by Free made own = (refl, refl)
-            by (Node node) made own = absurd (unmade node (subst (λ (chain : Chain). Makes (told chain) (Node node)) (sym chain-same) made))
-            by Damaged holds own = absurd (brings.sound known (sym (full-told (chain_at (g.state old.log) pid)) ∙ holds.0, λ made. holds.1 (Node made.0) made.1))
+            by (Node node) made own = absurd (unmade node (subst (λ (chain : Chain). Makes (unplaced chain) (Node node)) (sym chain-same) made))
+            by Damaged holds own = absurd (brings.sound known (sym (full-unplaced (chain_at (g.state old.log) pid)) ∙ holds.0, λ made. holds.1 (Node made.0) made.1))
             by content made own = absurd own
 
         found-leads : (found : Option NodeView) → IsNodeAt g new pid found → LeadsTo g old new held s (Get pid) (Got (answered (Ok found))) []
@@ -89,7 +89,7 @@ module _ {L : Type 0} (g : Ghosts L) where
 
       pub get-found : (found : Option NodeView) → IsNodeAt g new pid found → Steps g old (Get pid) (Got (answered (Ok found))) new
       get-found found at =
-          steps-went g old new (journal_of old) (journal_of new) (Get pid) (Got (answered (Ok found))) [] brings.left.opening refl refl refl ready brings.left.went
+          steps-went g old new (sticky_log_of old) (sticky_log_of new) (Get pid) (Got (answered (Ok found))) [] brings.left.opening refl refl refl ready brings.left.went
           (λ held s is clear. found-leads held s is clear found at)
 
 -- ---- what a caller knows
@@ -111,7 +111,7 @@ module _ {L : Type 0} (g : Ghosts L) (old new : Cache L) (pid : ℕ) where
       let ready : old.fault ≡ false = false_from_ne_true old.fault (λ kept. absurd (let h = (stuck kept).0 in cc)) in
       let seen = by found ready at in
       record {
-        step = steps-told g old new (Get pid) (Got (answered (Ok found))) (brings ready).left.opening (λ known. get-found g old new pid ready known (brings ready) found at);
+        step = steps-known g old new (Get pid) (Got (answered (Ok found))) (brings ready).left.opening (λ known. get-found g old new pid ready known (brings ready) found at);
         blame = seen.0;
         keeps = seen.1;
         reads = reads;
@@ -178,7 +178,7 @@ module _ {L : Type 0} (g : Ghosts L) (old new : Cache L) (pid : ℕ) where
       by false ready =
           let done = brings ready in
           record {
-            step = steps-told g old new (Get pid) (Got (Err (error_of refusal))) done.left.opening (λ known. get-refused g old new pid ready known refusal done);
+            step = steps-known g old new (Get pid) (Got (Err (error_of refusal))) done.left.opening (λ known. get-refused g old new pid ready known refusal done);
             blame = blamed g old new ⊥ refusal done.cause;
             keeps = keeps-err old new (λ _. old.stamps) (Unit {0}) refusal ready done.cause.fault done.left.stamps;
             reads = reads;

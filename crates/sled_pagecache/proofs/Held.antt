@@ -1,20 +1,20 @@
 -- The page of a state at an id beside the chain that the log has of it.
-use Rattle.sled_pagecache.proofs.Names.{◌≡◌, ◌≤◌, ℕ, zero, suc, true, false, List, [], ◌∷◌, map, Some, Result, Err, slice_get, refl, sym, ◌∙◌, ap, subst, false≢true, none-some, same_Some, error_of, Read, Write, Error, Refusal, Io, Corruption, OutOfMemory, is_empty, Content, Free, Node, Damaged, Chain, told, effect_of_entry, Holds, Hold, Ghosts, WholeNode, Cache, IsIn, chain_at, Logged, RefusesPull, IsUsers, page, State, contents_of, page_at, Outcome, outcome, unchanged, IsCorruption, IsHindered}
-use Rattle.sled_log.specs.State as log
+use Rattle.sled_pagecache.proofs.Names.{◌≡◌, ◌≤◌, ℕ, zero, suc, true, false, List, [], ◌∷◌, map, Some, Result, Err, slice_get, refl, sym, ◌∙◌, ap, subst, false≢true, none-some, same_Some, error_of, Read, Write, Error, Refusal, Io, Corruption, OutOfMemory, is_empty, Content, Free, Node, Damaged, Chain, unplaced, effect_of_entry, Holds, Hold, Ghosts, WholeNode, Cache, IsIn, chain_at, Logged, RefusesPull, IsUsers, page, State, contents_of, page_at, Outcome, outcome, unchanged, IsCorruption, IsHindered}
+use Rattle.sled_log.specs.LogState as log
 use Rattle.sled_pagecache.proofs.Carrying.{proper-now}
 use Rattle.sled_pagecache.proofs.FoundMessages.{wrong-none}
 use Rattle.sled_pagecache.proofs.Lookups.{map-at, content-own, holds-at, stands-full}
 use Rattle.sled_pagecache.proofs.PagesAt.{holds_now}
 use Rattle.sled_pagecache.proofs.Standing.{holds-free}
 use Rattle.sled_pagecache.specs.Proper.{AreOwn}
-use Rattle.sled_pagecache.specs.State.{Page, is_free}
+use Rattle.sled_pagecache.specs.State.{StampedPage, is_free}
 
 -- the page at an id is at this stamp
-pub record StampedAt (pages : List Page) (pid stamp : ℕ) : Type 0 where
+pub record StampedAt (pages : List StampedPage) (pid stamp : ℕ) : Type 0 where
   pub content : Content
   pub there : slice_get pages pid ≡ Some (page stamp content)
 
-pub stamped-at : (pages : List Page) (pid stamp : ℕ) → slice_get (map (λ (p : Page). p.stamp) pages) pid ≡ Some stamp → StampedAt pages pid stamp
+pub stamped-at : (pages : List StampedPage) (pid stamp : ℕ) → slice_get (map (λ (p : StampedPage). p.stamp) pages) pid ≡ Some stamp → StampedAt pages pid stamp
 stamped-at [] pid stamp at = absurd (none-some stamp at)
 stamped-at (p ∷ pages) zero stamp at = record { content = p.content; there = ap (λ n. Some (page n p.content)) (same_Some p.stamp stamp at) }
 stamped-at (p ∷ pages) (suc pid) stamp at = let rest = stamped-at pages pid stamp at in record { content = rest.content; there = rest.there }
@@ -24,7 +24,7 @@ pub record FullStands (s : State) (pid : ℕ) (chain : Chain) : Type 0 where
   pub stamp : ℕ
   pub content : Content
   pub there : page_at s pid ≡ Some (page stamp content)
-  pub holds : Holds (told chain) content
+  pub holds : Holds (unplaced chain) content
   pub own : IsUsers content
   pub full : is_free content ≡ false
 
@@ -34,10 +34,10 @@ unread s (Io Write) = outcome (record s { fault = true }) []
 unread s refusal = unchanged s
 
 module _ (s : State) (pid : ℕ) (chain : Chain) (stands : FullStands s pid chain) (P : Content → Type 0) where
-  full-content : ((node : WholeNode) → Holds (told chain) (Node node) → P (Node node)) → P Damaged → P stands.content
+  full-content : ((node : WholeNode) → Holds (unplaced chain) (Node node) → P (Node node)) → P Damaged → P stands.content
   full-content of_node damaged = by stands.content stands.own stands.full stands.holds
     where
-      by : (content : Content) → IsUsers content → is_free content ≡ false → Holds (told chain) content → P content
+      by : (content : Content) → IsUsers content → is_free content ≡ false → Holds (unplaced chain) content → P content
       by Free own full holds = absurd (false≢true (sym full))
       by (Node node) own full holds = of_node node holds
       by Damaged own full holds = damaged
@@ -56,17 +56,17 @@ module _ {L : Type 0} (g : Ghosts L) (cache : Cache L) (held : Logged) (s : Stat
   abbrev chains : List Chain
   chains = log.now effect_of_entry (g.state cache.log)
 
-  pub state-holds : Hold (map told chains) (contents_of s)
-  state-holds = subst (λ (l : List Content). Hold (map told chains) l) (sym (is.known clear).contents) (holds_now (g.state cache.log) held (is.known clear).logged)
+  pub state-holds : Hold (map unplaced chains) (contents_of s)
+  state-holds = subst (λ (l : List Content). Hold (map unplaced chains) l) (sym (is.known clear).contents) (holds_now (g.state cache.log) held (is.known clear).logged)
 
-  pub state-own : 2 ≤ pid → (p : Page) → page_at s pid ≡ Some p → IsUsers p.content
+  pub state-own : 2 ≤ pid → (p : StampedPage) → page_at s pid ≡ Some p → IsUsers p.content
   state-own from p at =
       content-own (contents_of s) pid p.content
-      (subst AreOwn (sym (is.known clear).contents) (proper-now (log.told_state (g.state cache.log)) held (is.known clear).logged).own)
-      from (map-at (λ (p : Page). p.content) s.pages pid p at)
+      (subst AreOwn (sym (is.known clear).contents) (proper-now (log.unplaced_state (g.state cache.log)) held (is.known clear).logged).own)
+      from (map-at (λ (p : StampedPage). p.content) s.pages pid p at)
 
   -- the page holds what its chain makes, or is damaged
-  pub state-page : (p : Page) → page_at s pid ≡ Some p → Holds (told (chain_at (g.state cache.log) pid)) p.content
+  pub state-page : (p : StampedPage) → page_at s pid ≡ Some p → Holds (unplaced (chain_at (g.state cache.log) pid)) p.content
   state-page p at = holds-at s.pages chains pid p state-holds at
 
   -- where the chain isn't empty

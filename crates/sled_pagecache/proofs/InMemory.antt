@@ -1,5 +1,5 @@
 -- Which pages of a table lie in memory, where one of them changes.
-use Rattle.sled_pagecache.proofs.Names.{eqb, eqb_tells, capped, is_resident, IsFreeOrNode, CacheInfo, Result, Ok, Err, ◌≡◌, ◌≢◌, ◌⊎◌, ◌≤◌, inl, inr, ℕ, zero, suc, Bool, true, false, List, [], ◌∷◌, ◌++◌, length, map, Option, Some, None, slice_get, slice_set, refl, sym, ◌∙◌, ap, subst, arith, length-map, none-some, same_Some, slice_get-map, slice_get_past, option_map, error_of, Error, Refusal, OutOfMemory, Io, LogFull, IsOfLog, IsHindrance, WholeNode, Cache, is_free, nodes_in, resident_in, Config, Journal, Kept, Page, IsListed, rounded, IsTouched, WasAccessed, HasNode, HasNoNode, AreListed, StaysAt, node_size, size_of, size_if, size_in, AllStay, IsListedAt, AccessesNode, TakesNode, TakesPage, FindsNode, LosesAtMost, Accesses}
+use Rattle.sled_pagecache.proofs.Names.{eqb, eqb_tells, capped, is_resident, IsFreeOrNode, CacheInfo, Result, Ok, Err, ◌≡◌, ◌≢◌, ◌⊎◌, ◌≤◌, inl, inr, ℕ, zero, suc, Bool, true, false, List, [], ◌∷◌, ◌++◌, length, map, Option, Some, None, slice_get, slice_set, refl, sym, ◌∙◌, ap, subst, arith, length-map, none-some, same_Some, slice_get-map, slice_get_past, option_map, error_of, Error, Refusal, OutOfMemory, Io, LogFull, IsOfLog, IsHindrance, WholeNode, Cache, is_free, nodes_in, resident_in, Config, StickyLog, Kept, Page, IsListed, rounded, IsTouched, WasAccessed, HasNode, HasNoNode, AreListed, StaysAt, node_access_size, access_size, size_if, size_in, AllStay, IsListedAt, AccessesNode, TakesNode, TakesPage, FindsNode, LosesAtMost, Accesses}
 use Rattle.std.specs.Prelude.{OnOk, OnErr, IfSome, MatchOption}
 use Rattle.sled_base.specs.declared.types.Refusal.TheVariants as refusals
 use Rattle.sled_pagecache.proofs.Lookups.{map-at, set-at}
@@ -57,30 +57,30 @@ module _ {L : Type 0} where
   pub none-past : (cache : Cache L) (pid : ℕ) → length cache.nodes ≤ pid → HasNoNode cache pid
   none-past cache pid past size has = none-some (Some size) (sym (slice_get_past cache.nodes pid past) ∙ has)
 
-  module _ (next next_then : ℕ) (config : Config) (recovered : Bool) (before after : Journal L) (pages : List Page) where
+  module _ (next next_then : ℕ) (config : Config) (recovered : Bool) (before after : StickyLog L) (pages : List Page) where
     -- the same pages
     pub stay-view : (then : List Page) → then ≡ pages → AllStay (view next config recovered before pages) (view next_then config recovered after then)
     stay-view then is pid = record { resident = ap (λ (l : List Page). slice_get (resident_in l) pid) is; node = ap (λ (l : List Page). slice_get (nodes_in l) pid) is }
 
-    pub none-at : (pid : ℕ) (q : Page) → slice_get pages pid ≡ Some q → node_size q ≡ None → HasNoNode (view next config recovered before pages) pid
-    none-at pid q at none size has = none-some size (same_Some None (Some size) (ap (λ (o : Option ℕ). Some o) (sym none) ∙ sym (map-at (λ (p : Page). node_size p) pages pid q at) ∙ has))
+    pub none-at : (pid : ℕ) (q : Page) → slice_get pages pid ≡ Some q → node_access_size q ≡ None → HasNoNode (view next config recovered before pages) pid
+    none-at pid q at none size has = none-some size (same_Some None (Some size) (ap (λ (o : Option ℕ). Some o) (sym none) ∙ sym (map-at (λ (p : Page). node_access_size p) pages pid q at) ∙ has))
 
     pub free-at : (pid : ℕ) (q : Page) → slice_get pages pid ≡ Some q → is_free q.kept ≡ true → HasNoNode (view next config recovered before pages) pid
-    free-at pid q at free = none-at pid q at (free-none (size_of q) q.kept free)
+    free-at pid q at free = none-at pid q at (free-none (access_size q) q.kept free)
 
     pub past-view : (pid : ℕ) → length pages ≤ pid → HasNoNode (view next config recovered before pages) pid
-    past-view pid past = none-past (view next config recovered before pages) pid (let same = length-map pages (λ (p : Page). node_size p) in omega (arith, past, same))
+    past-view pid past = none-past (view next config recovered before pages) pid (let same = length-map pages (λ (p : Page). node_access_size p) in omega (arith, past, same))
 
     -- one more page
     module _ (page : Page) (node : WholeNode) (holds : page.kept ≡ kept.Node node) where
       pub add-others : (other : ℕ) → other ≢ length pages → StaysAt (view next config recovered before pages) (view next_then config recovered after (pages ++ page ∷ [])) other
-      add-others other apart = record { resident = before-last (λ (p : Page). is_resident p.kept) other apart; node = before-last (λ (p : Page). node_size p) other apart }
+      add-others other apart = record { resident = before-last (λ (p : Page). is_resident p.kept) other apart; node = before-last (λ (p : Page). node_access_size p) other apart }
         where
           before-last : {B : Type 0} (f : Page → B) (other : ℕ) → other ≢ length pages → slice_get (map f (pages ++ page ∷ [])) other ≡ slice_get (map f pages) other
           before-last f other apart = slice_get-map f (pages ++ page ∷ []) other ∙ ap (option_map f) (other-before pages page other apart) ∙ sym (slice_get-map f pages other)
 
-      pub add-node : HasNode (view next_then config recovered after (pages ++ page ∷ [])) (length pages) (size_of page)
-      add-node = map-at (λ (p : Page). node_size p) (pages ++ page ∷ []) (length pages) page (last-at pages page) ∙ ap (λ (k : Kept). Some (size_if (size_of page) k)) holds
+      pub add-node : HasNode (view next_then config recovered after (pages ++ page ∷ [])) (length pages) (access_size page)
+      add-node = map-at (λ (p : Page). node_access_size p) (pages ++ page ∷ []) (length pages) page (last-at pages page) ∙ ap (λ (k : Kept). Some (size_if (access_size page) k)) holds
 
     -- another page at an id
     module _ (pid : ℕ) (q page : Page) (at : slice_get pages pid ≡ Some q) where
@@ -91,26 +91,26 @@ module _ {L : Type 0} where
       new = view next_then config recovered after (slice_set pages pid page)
 
       pub set-others : (other : ℕ) → other ≢ pid → StaysAt old new other
-      set-others other apart = record { resident = map-other (λ (p : Page). is_resident p.kept) pages pid other page apart; node = map-other (λ (p : Page). node_size p) pages pid other page apart }
+      set-others other apart = record { resident = map-other (λ (p : Page). is_resident p.kept) pages pid other page apart; node = map-other (λ (p : Page). node_access_size p) pages pid other page apart }
 
       there : {B : Type 0} (f : Page → B) → slice_get (map f (slice_set pages pid page)) pid ≡ Some (f page)
       there f = map-at f (slice_set pages pid page) pid page (set-at pages pid q page at)
 
-      pub set-node : (node : WholeNode) → page.kept ≡ kept.Node node → HasNode new pid (size_of page)
-      set-node node holds = there (λ p. node_size p) ∙ ap (λ (k : Kept). Some (size_if (size_of page) k)) holds
+      pub set-node : (node : WholeNode) → page.kept ≡ kept.Node node → HasNode new pid (access_size page)
+      set-node node holds = there (λ p. node_access_size p) ∙ ap (λ (k : Kept). Some (size_if (access_size page) k)) holds
 
-      pub set-size : (o : Option ℕ) → node_size page ≡ o → slice_get new.nodes pid ≡ Some o
-      set-size o is = there (λ p. node_size p) ∙ ap (λ (o : Option ℕ). Some o) is
+      pub set-size : (o : Option ℕ) → node_access_size page ≡ o → slice_get new.nodes pid ≡ Some o
+      set-size o is = there (λ p. node_access_size p) ∙ ap (λ (o : Option ℕ). Some o) is
 
-      pub set-none : node_size page ≡ None → HasNoNode new pid
-      set-none none size has = none-some size (same_Some None (Some size) (ap (λ (o : Option ℕ). Some o) (sym none) ∙ sym (there (λ p. node_size p)) ∙ has))
+      pub set-none : node_access_size page ≡ None → HasNoNode new pid
+      set-none none size has = none-some size (same_Some None (Some size) (ap (λ (o : Option ℕ). Some o) (sym none) ∙ sym (there (λ p. node_access_size p)) ∙ has))
 
       module _ (kept_is : page.kept ≡ q.kept) (infos : page.infos.items ≡ q.infos.items) where
         pub set-own : StaysAt old new pid
         set-own = record {
           resident = there (λ p. is_resident p.kept) ∙ ap (λ (k : Kept). Some (is_resident k)) kept_is ∙ sym (map-at (λ (p : Page). is_resident p.kept) pages pid q at);
-          node = there (λ p. node_size p) ∙ ap (λ (k : Kept). Some (size_if (size_of page) k)) kept_is ∙ ap (λ (l : List CacheInfo). Some (size_if (capped (size_in l)) q.kept)) infos
-              ∙ sym (map-at (λ (p : Page). node_size p) pages pid q at);
+          node = there (λ p. node_access_size p) ∙ ap (λ (k : Kept). Some (size_if (access_size page) k)) kept_is ∙ ap (λ (l : List CacheInfo). Some (size_if (capped (size_in l)) q.kept)) infos
+              ∙ sym (map-at (λ (p : Page). node_access_size p) pages pid q at);
         }
 
         pub set-stay : AllStay old new
@@ -158,7 +158,7 @@ module _ {L : Type 0} (tells : Type 0) (old : Cache L) (accesses : Accesses) (pi
         by (inr same) = inr (stay, same)
 
 -- The page of a refused link stays as it was, or its node is lost.
-module _ {L : Type 0} (tells : Type 0) (next : ℕ) (config : Config) (recovered : Bool) (before after : Journal L) (pages : List Page) (pid : ℕ) (q page : Page) (at : slice_get pages pid ≡ Some q)
+module _ {L : Type 0} (tells : Type 0) (next : ℕ) (config : Config) (recovered : Bool) (before after : StickyLog L) (pages : List Page) (pid : ℕ) (q page : Page) (at : slice_get pages pid ≡ Some q)
     (accesses then : Accesses) (clear : before.fault ≡ false) (infos : page.infos.items ≡ q.infos.items) (refusal : Refusal)
     (lost : (page.kept ≡ q.kept) ⊎ (page.kept ≡ kept.Away)) (touched : IsTouched accesses pid then) (unasked : tells → IsOfLog refusal ⊎ ((page.kept ≡ q.kept) × (then ≡ accesses))) where
   abbrev was : Cache L
@@ -178,7 +178,7 @@ module _ {L : Type 0} (tells : Type 0) (next : ℕ) (config : Config) (recovered
     where
       of : (page.kept ≡ q.kept) ⊎ (page.kept ≡ kept.Away) → StaysAt was is pid ⊎ HasNoNode is pid
       of (inl same) = inl (set-own next next config recovered before after pages pid q page at same infos)
-      of (inr away) = inr (set-none next next config recovered before after pages pid q page at (ap (λ (k : Kept). size_if (size_of page) k) away))
+      of (inr away) = inr (set-none next next config recovered before after pages pid q page at (ap (λ (k : Kept). size_if (access_size page) k) away))
 
       by : IsOfLog refusal ⊎ ((page.kept ≡ q.kept) × (then ≡ accesses)) → IsHindrance (error_of refusal) ⊎ (AllStay was is × (then ≡ accesses))
       by (inl of_log) = inl (hindrance-of refusal of_log)
@@ -196,7 +196,7 @@ pub free-resident : (k : Kept) → is_free k ≡ true → is_resident k ≡ true
 free-resident kept.Free free = refl
 free-resident k free = absurd cc
 
-module _ {L : Type 0} (next : ℕ) (config : Config) (recovered : Bool) (before after : Journal L) (pages : List Page) (pid : ℕ) (q page : Page) (at : slice_get pages pid ≡ Some q) (accesses then : Accesses) where
+module _ {L : Type 0} (next : ℕ) (config : Config) (recovered : Bool) (before after : StickyLog L) (pages : List Page) (pid : ℕ) (q page : Page) (at : slice_get pages pid ≡ Some q) (accesses then : Accesses) where
   abbrev old_cache : Cache L
   old_cache = view next config recovered before pages
 
@@ -205,27 +205,27 @@ module _ {L : Type 0} (next : ℕ) (config : Config) (recovered : Bool) (before 
 
   -- the page is listed with its size
   pub listed-at : AreListed old_cache accesses.lru → IsListedAt pid q accesses.lru
-  listed-at listed = by (node_size q) refl
+  listed-at listed = by (node_access_size q) refl
     where
-      by : (o : Option ℕ) → node_size q ≡ o → IfSome o (λ size. IsListed pid (rounded size) accesses.lru)
+      by : (o : Option ℕ) → node_access_size q ≡ o → IfSome o (λ size. IsListed pid (rounded size) accesses.lru)
       by None same = tt
-      by (Some size) same = listed pid size (map-at (λ (p : Page). node_size p) pages pid q at ∙ ap (λ (o : Option ℕ). Some o) same)
+      by (Some size) same = listed pid size (map-at (λ (p : Page). node_access_size p) pages pid q at ∙ ap (λ (o : Option ℕ). Some o) same)
 
-  pub takes-page : WasAccessed accesses pid (size_of page) then → TakesPage old_cache accesses pid new_cache then
+  pub takes-page : WasAccessed accesses pid (access_size page) then → TakesPage old_cache accesses pid new_cache then
   takes-page was = record {
-    size = size_of page;
-    only = λ other has. own-size page.kept other (same_Some (node_size page) (Some other) (sym (set-size next next config recovered before after pages pid q page at (node_size page) refl) ∙ has));
+    size = access_size page;
+    only = λ other has. own-size page.kept other (same_Some (node_access_size page) (Some other) (sym (set-size next next config recovered before after pages pid q page at (node_access_size page) refl) ∙ has));
     accessed = was;
     others = set-others next next config recovered before after pages pid q page at;
   }
     where
-      own-size : (k : Kept) (other : ℕ) → size_if (size_of page) k ≡ Some other → other ≡ size_of page
-      own-size (kept.Node node) other is = sym (same_Some (size_of page) other is)
+      own-size : (k : Kept) (other : ℕ) → size_if (access_size page) k ≡ Some other → other ≡ access_size page
+      own-size (kept.Node node) other is = sym (same_Some (access_size page) other is)
       own-size k other is = absurd cc
 
-  pub takes-node : (node : WholeNode) → page.kept ≡ kept.Node node → WasAccessed accesses pid (size_of page) then → TakesNode old_cache accesses pid new_cache then
+  pub takes-node : (node : WholeNode) → page.kept ≡ kept.Node node → WasAccessed accesses pid (access_size page) then → TakesNode old_cache accesses pid new_cache then
   takes-node node holds was = record {
-    size = size_of page;
+    size = access_size page;
     node = set-node next next config recovered before after pages pid q page at node holds;
     accessed = was;
     others = set-others next next config recovered before after pages pid q page at;
@@ -234,11 +234,11 @@ module _ {L : Type 0} (next : ℕ) (config : Config) (recovered : Bool) (before 
   pub finds-node : (result : Result (Unit {0}) Refusal) → OnOk result (AccessesNode accesses pid page then) → OnOk result (is_resident page.kept ≡ true) → IsFreeOrNode page.kept
       → is_free page.kept ≡ is_free q.kept → (is_resident q.kept ≡ true → page.kept ≡ q.kept) → page.infos.items ≡ q.infos.items → OnOk result (FindsNode old_cache accesses pid new_cache then)
   finds-node (Err refusal) accessed resident own free stays infos = tt
-  finds-node (Ok done) accessed resident own free stays infos = by (node_size page) refl accessed
+  finds-node (Ok done) accessed resident own free stays infos = by (node_access_size page) refl accessed
     where
-      by : (o : Option ℕ) → node_size page ≡ o → MatchOption o (then ≡ accesses) (λ size. WasAccessed accesses pid size then) → FindsNode old_cache accesses pid new_cache then
+      by : (o : Option ℕ) → node_access_size page ≡ o → MatchOption o (then ≡ accesses) (λ size. WasAccessed accesses pid size then) → FindsNode old_cache accesses pid new_cache then
       by None none same =
-          let kept_is : page.kept ≡ q.kept = stays (free-resident q.kept (sym free ∙ none-free (size_of page) page.kept none resident own)) in
+          let kept_is : page.kept ≡ q.kept = stays (free-resident q.kept (sym free ∙ none-free (access_size page) page.kept none resident own)) in
           inr (set-none next next config recovered before after pages pid q page at none, set-stay next next config recovered before after pages pid q page at kept_is infos, same)
       by (Some size) same was = inl (record {
         size = size;
@@ -252,29 +252,29 @@ module _ {L : Type 0} (next : ℕ) (config : Config) (recovered : Bool) (before 
   refused-stay (Err refusal) same infos = set-stay next next config recovered before after pages pid q page at same infos
 
 -- a page is added
-pub adds-node : {L : Type 0} (next : ℕ) (config : Config) (recovered : Bool) (before after : Journal L) (pages pages_then : List Page) (page : Page) (node : WholeNode) → page.kept ≡ kept.Node node
+pub adds-node : {L : Type 0} (next : ℕ) (config : Config) (recovered : Bool) (before after : StickyLog L) (pages pages_then : List Page) (page : Page) (node : WholeNode) → page.kept ≡ kept.Node node
     → pages_then ≡ pages ++ page ∷ [] → (accesses then : Accesses) (pid : ℕ) → pid ≡ length pages
-    → IfSome (slice_get pages_then (length pages)) (λ page. WasAccessed accesses (length pages) (size_of page) then)
+    → IfSome (slice_get pages_then (length pages)) (λ page. WasAccessed accesses (length pages) (access_size page) then)
     → TakesNode (view next config recovered before pages) accesses pid (view next config recovered after pages_then) then
 adds-node next config recovered before after pages pages_then page node holds is accesses then pid last was =
     subst (λ n. TakesNode (view next config recovered before pages) accesses n (view next config recovered after pages_then) then) (sym last)
     (subst (λ (l : List Page). TakesNode (view next config recovered before pages) accesses (length pages) (view next config recovered after l) then) (sym is) (record {
-      size = size_of page;
+      size = access_size page;
       node = add-node next next config recovered before after pages page node holds;
-      accessed = subst (λ (o : Option Page). IfSome o (λ page. WasAccessed accesses (length pages) (size_of page) then)) (ap (λ (l : List Page). slice_get l (length pages)) is ∙ last-at pages page) was;
+      accessed = subst (λ (o : Option Page). IfSome o (λ page. WasAccessed accesses (length pages) (access_size page) then)) (ap (λ (l : List Page). slice_get l (length pages)) is ∙ last-at pages page) was;
       others = add-others next next config recovered before after pages page node holds;
     }))
 
-pub accessed-added : (accesses then : Accesses) (before mid pages : List Page) (page : Page) (pid : ℕ) → pid ≡ length before → mid ≡ before → pages ≡ mid ++ page ∷ [] → WasAccessed accesses pid (size_of page) then
-    → IfSome (slice_get pages (length before)) (λ page. WasAccessed accesses (length before) (size_of page) then)
+pub accessed-added : (accesses then : Accesses) (before mid pages : List Page) (page : Page) (pid : ℕ) → pid ≡ length before → mid ≡ before → pages ≡ mid ++ page ∷ [] → WasAccessed accesses pid (access_size page) then
+    → IfSome (slice_get pages (length before)) (λ page. WasAccessed accesses (length before) (access_size page) then)
 accessed-added accesses then before mid pages page pid last same is was =
-    subst (λ (o : Option Page). IfSome o (λ page. WasAccessed accesses (length before) (size_of page) then))
-    (sym (ap (λ (l : List Page). slice_get l (length before)) (is ∙ ap (λ (l : List Page). l ++ page ∷ []) same) ∙ last-at before page)) (subst (λ n. WasAccessed accesses n (size_of page) then) last was)
+    subst (λ (o : Option Page). IfSome o (λ page. WasAccessed accesses (length before) (access_size page) then))
+    (sym (ap (λ (l : List Page). slice_get l (length before)) (is ∙ ap (λ (l : List Page). l ++ page ∷ []) same) ∙ last-at before page)) (subst (λ n. WasAccessed accesses n (access_size page) then) last was)
 
 -- the page holds a node
 module _ (pid : ℕ) (page : Page) (node : WholeNode) (holds : page.kept ≡ kept.Node node) (accesses then : Accesses) where
-  pub held-accessed : WasAccessed accesses pid (size_of page) then → AccessesNode accesses pid page then
-  held-accessed = subst (λ (o : Option ℕ). MatchOption o (then ≡ accesses) (λ size. WasAccessed accesses pid size then)) (sym (ap (size_if (size_of page)) holds))
+  pub held-accessed : WasAccessed accesses pid (access_size page) then → AccessesNode accesses pid page then
+  held-accessed = subst (λ (o : Option ℕ). MatchOption o (then ≡ accesses) (λ size. WasAccessed accesses pid size then)) (sym (ap (size_if (access_size page)) holds))
 
-  pub held-listed : IsListedAt pid page accesses.lru → IsListed pid (rounded (size_of page)) accesses.lru
-  held-listed = subst (λ (o : Option ℕ). IfSome o (λ size. IsListed pid (rounded size) accesses.lru)) (ap (size_if (size_of page)) holds)
+  pub held-listed : IsListedAt pid page accesses.lru → IsListed pid (rounded (access_size page)) accesses.lru
+  held-listed = subst (λ (o : Option ℕ). IfSome o (λ size. IsListed pid (rounded size) accesses.lru)) (ap (size_if (access_size page)) holds)

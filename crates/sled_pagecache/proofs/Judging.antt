@@ -1,15 +1,15 @@
 -- What the tests of a swap answer is a step of the machine, for each call that makes them.
-use Rattle.sled_pagecache.proofs.Names.{◌≡◌, ◌<◌, ◌+◌, ℕ, Bool, true, false, List, [], length, Option, Some, None, Ok, Err, slice_get, slice_set, refl, sym, ◌∙◌, ap, subst, ne_eqb, map-set, slice_get_within, MatchBool, Write, Unsupported, Refusal, ReservedId, Content, Free, Put, Node, Told, effect_of, Ghosts, WholeNode, Keeps, swapped, Cache, chain_length, HasNoRoom, StepOver, Steps, Went-none, Judges, IsJudged, State, page_at, Outcome, unchanged, is_reserved, Swapped, SwapsPage, Swaps, SwapsContent, LinksContent, stamps_in, IsBeside, Token, token, IsAnswered, Answer, Freed, Linked, Replaced, Call, Config, Journal, Judgement, Fresh, Stale, Gone, Page}
+use Rattle.sled_pagecache.proofs.Names.{◌≡◌, ◌<◌, ◌+◌, ℕ, Bool, true, false, List, [], length, Option, Some, None, Ok, Err, slice_get, slice_set, refl, sym, ◌∙◌, ap, subst, ne_eqb, map-set, slice_get_within, MatchBool, Write, Unsupported, Refusal, ReservedId, Content, Free, Put, Node, Messages, effect_of, Ghosts, WholeNode, Keeps, swapped, Cache, chain_length, HasNoRoom, StepOver, Steps, Went-none, Judges, IsJudged, State, page_at, Outcome, unchanged, is_reserved, Swapped, SwapsPage, Swaps, SwapsContent, LinksContent, stamps_in, IsBeside, Token, token, IsAnswered, Answer, Freed, Linked, Replaced, Call, Config, StickyLog, Judgement, Fresh, Stale, Gone, Page}
 use Rattle.sled_base.specs.Errors.{error_of as error_by}
 use Rattle.sled_base.specs.declared.types.Error.TheVariants.{Io}
 use Rattle.sled_base.specs.declared.types.Refusal.TheVariants as refusals
-use Rattle.sled_log.specs.State as log
+use Rattle.sled_log.specs.LogState as log
 use Rattle.sled_node.specs.declared.node.link.Link.{Link as NodeLink}
 use Rattle.sled_pagecache.proofs.Answers.{keeps-ok}
 use Rattle.sled_pagecache.proofs.CacheSteps.{steps-stuck}
 use Rattle.sled_pagecache.proofs.Lookups.{map-at}
 use Rattle.sled_pagecache.proofs.Passing.{passes, stuck-passes, reserved-passes}
-use Rattle.sled_pagecache.proofs.Putting.{nothing-told}
+use Rattle.sled_pagecache.proofs.Putting.{nothing-appended}
 use Rattle.sled_pagecache.proofs.Standing.{AreKnown, found-known, found-none}
 use Rattle.sled_pagecache.proofs.TableNodes.{view}
 use Rattle.sled_pagecache.specs.Pages as kept
@@ -29,27 +29,27 @@ module _ {L : Type 0} (g : Ghosts L) (cache : Cache L) (old : Token) where
   pub free-swap : IsSwap g cache old tt (call.Free old) Freed (λ s answer out content. SwapsContent (chain_length g.state cache) (HasNoRoom g cache.log) s old (Put Free) Free answer out)
   free-swap = record { step = λ s answer out h. h }
 
-module _ {L : Type 0} (g : Ghosts L) (next : ℕ) (config : Config) (recovered : Bool) (journal : Journal L) (table : List Page) (beside : journal.fault ≡ false → IsBeside g.tells g.state journal.log table)
-    (only : (pages : List Told) → g.tells → (g.state journal.log).usable ≡ true → g.left_since journal.log (g.moment journal.log) pages → log.IsLeft effect_of (log.told_state (g.state journal.log)) [] pages)
+module _ {L : Type 0} (g : Ghosts L) (next : ℕ) (config : Config) (recovered : Bool) (sticky_log : StickyLog L) (table : List Page) (beside : sticky_log.fault ≡ false → IsBeside g.tells g.state sticky_log.log table)
+    (only : (pages : List Messages) → g.tells → (g.state sticky_log.log).usable ≡ true → g.left_since sticky_log.log (g.moment sticky_log.log) pages → log.IsLeft effect_of (log.unplaced_state (g.state sticky_log.log)) [] pages)
     {R : Type 0} (old : Token) (pid : ℕ) (same : old.pid ≡ pid) (rejected : R) (call : Call) (answered : Swapped R → Answer) (goes_on : State → Swapped R → Outcome → Content → Type 0)
-    (swap : IsSwap g (view next config recovered journal table) old rejected call answered goes_on) where
+    (swap : IsSwap g (view next config recovered sticky_log table) old rejected call answered goes_on) where
   abbrev cache : Cache L
-  cache = view next config recovered journal table
+  cache = view next config recovered sticky_log table
 
   -- what follows the tests that come first
   abbrev tests_then : State → Swapped R → Outcome → Type 0
   tests_then s answer out = SwapsPage s old rejected (page_at s old.pid) answer out (goes_on s answer out)
 
-  still : (answer : Swapped R) → journal.fault ≡ false → ((s : State) → s.fault ≡ false → AreKnown s.pages table → StepOver g cache s call (answered answer) (unchanged s)) → Steps g cache call (answered answer) cache
+  still : (answer : Swapped R) → sticky_log.fault ≡ false → ((s : State) → s.fault ≡ false → AreKnown s.pages table → StepOver g cache s call (answered answer) (unchanged s)) → Steps g cache call (answered answer) cache
   still answer ready step =
-      nothing-told g next config recovered journal table ready (beside ready) journal call table refl (answered answer)
-      (Went-none g.tells g.state g.moment g.left_since g.counts journal (beside ready).usable only) ready step
+      nothing-appended g next config recovered sticky_log table ready (beside ready) sticky_log call table refl (answered answer)
+      (Went-none g.tells g.state g.moment g.left_since g.counts sticky_log (beside ready).usable only) ready step
 
   -- a write fault was kept, or the page is the cache's own
-  pub judged-refused : (refusal : Refusal) → Judges journal.fault table pid old (Err refusal) → Steps g cache call (answered (Err (error_by refusal))) cache
-  judged-refused refusal judges = by journal.fault refl judges
+  pub judged-refused : (refusal : Refusal) → Judges sticky_log.fault table pid old (Err refusal) → Steps g cache call (answered (Err (error_by refusal))) cache
+  judged-refused refusal judges = by sticky_log.fault refl judges
     where
-      by : (fault : Bool) → journal.fault ≡ fault → MatchBool fault (refusal ≡ refusals.Io Write) ((is_reserved pid ≡ true) × (refusal ≡ refusals.Unsupported ReservedId))
+      by : (fault : Bool) → sticky_log.fault ≡ fault → MatchBool fault (refusal ≡ refusals.Io Write) ((is_reserved pid ≡ true) × (refusal ≡ refusals.Unsupported ReservedId))
           → Steps g cache call (answered (Err (error_by refusal))) cache
       by true kept is =
           rw is (steps-stuck g cache call (answered (Err (Io Write))) kept
@@ -59,7 +59,7 @@ module _ {L : Type 0} (g : Ghosts L) (next : ℕ) (config : Config) (recovered :
           (λ s clear are. swap.step s (Err (Unsupported ReservedId)) (unchanged s) (reserved-passes s old.pid (tests_then s) clear (ap is_reserved same ∙ own))))
 
   -- the token is handed back, or nothing is
-  handed : (back : Option (Token × R)) → is_reserved pid ≡ false → journal.fault ≡ false
+  handed : (back : Option (Token × R)) → is_reserved pid ≡ false → sticky_log.fault ≡ false
       → (let answer : Swapped R = Ok (Err back) in ((s : State) → AreKnown s.pages table → SwapsPage s old rejected (page_at s pid) answer (unchanged s) (goes_on s answer (unchanged s))) → Steps g cache call (answered answer) cache)
   handed back free ready is =
       let answer : Swapped R = Ok (Err back) in
@@ -68,7 +68,7 @@ module _ {L : Type 0} (g : Ghosts L) (next : ℕ) (config : Config) (recovered :
       (passes s old.pid (tests_then s) answer (unchanged s) clear (ap is_reserved same ∙ free)
       (subst (λ (n : ℕ). SwapsPage s old rejected (page_at s n) answer (unchanged s) (goes_on s answer (unchanged s))) (sym same) (is s are))))
 
-  pub judged-gone : Judges journal.fault table pid old (Ok Gone) → Steps g cache call (answered (Ok (Err None))) cache
+  pub judged-gone : Judges sticky_log.fault table pid old (Ok Gone) → Steps g cache call (answered (Ok (Err None))) cache
   judged-gone (ready, free, judged) = handed None free ready (λ s are. by s are (slice_get table pid) refl judged)
     where
       by : (s : State) → AreKnown s.pages table → (o : Option Page) → slice_get table pid ≡ o → IsJudged o pid old Gone
@@ -76,7 +76,7 @@ module _ {L : Type 0} (g : Ghosts L) (next : ℕ) (config : Config) (recovered :
       by s are None at judged = rw (found-none s.pages table pid are at) (refl, refl)
       by s are (Some q) at judged = let found = found-known s.pages table pid q are at in rw (found.is, found.known.free, judged) (refl, refl)
 
-  pub judged-stale : (present : Token) → Judges journal.fault table pid old (Ok (Stale present)) → Steps g cache call (answered (Ok (Err (Some (present, rejected))))) cache
+  pub judged-stale : (present : Token) → Judges sticky_log.fault table pid old (Ok (Stale present)) → Steps g cache call (answered (Ok (Err (Some (present, rejected))))) cache
   judged-stale present (ready, free, judged) = handed (Some (present, rejected)) free ready (λ s are. by s are (slice_get table pid) refl judged)
     where
       by : (s : State) → AreKnown s.pages table → (o : Option Page) → slice_get table pid ≡ o → IsJudged o pid old (Stale present)
@@ -118,14 +118,14 @@ fresh-at fault table pid old judgement q is judges at = fresh-is fault table pid
 
 -- ---- what is known over any log
 
-module _ {L : Type 0} (next : ℕ) (config : Config) (recovered : Bool) (journal : Journal L) (table : List Page) (pid : ℕ) (old : Token) (q : Page) (fresh : IsFresh journal.fault table pid old q) where
+module _ {L : Type 0} (next : ℕ) (config : Config) (recovered : Bool) (sticky_log : StickyLog L) (table : List Page) (pid : ℕ) (old : Token) (q : Page) (fresh : IsFresh sticky_log.fault table pid old q) where
   -- the token's page was at its stamp
   pub fresh-answered : old.pid ≡ pid → (R : Type 0) (given : R) → (made : Token) → made ≡ token old.pid (old.stamp + 1) → IsAnswered (stamps_in table) old given (Ok made)
   fresh-answered same R given made is = (ap (slice_get (stamps_in table)) same ∙ map-at (λ (p : Page). p.stamp) table pid q fresh.at ∙ ap (λ n. Some n) fresh.stamp, is)
 
   -- and has risen
-  pub keeps-fresh : (R : Type 0) (after : Journal L) (page : Page) → after.fault ≡ false → page.stamp ≡ q.stamp + 1 → (made : Token) → made ≡ token pid (old.stamp + 1)
-      → (let answer : Swapped R = Ok (Ok made) in Keeps (view next config recovered journal table) (view next config recovered after (slice_set table pid page)) answer (swapped (stamps_in table)))
+  pub keeps-fresh : (R : Type 0) (after : StickyLog L) (page : Page) → after.fault ≡ false → page.stamp ≡ q.stamp + 1 → (made : Token) → made ≡ token pid (old.stamp + 1)
+      → (let answer : Swapped R = Ok (Ok made) in Keeps (view next config recovered sticky_log table) (view next config recovered after (slice_set table pid page)) answer (swapped (stamps_in table)))
   keeps-fresh R after page free raised made is =
-      keeps-ok (view next config recovered journal table) (view next config recovered after (slice_set table pid page)) (swapped {R = R} (stamps_in table)) (Ok made) fresh.clear free
+      keeps-ok (view next config recovered sticky_log table) (view next config recovered after (slice_set table pid page)) (swapped {R = R} (stamps_in table)) (Ok made) fresh.clear free
       (rw is (map-set (λ (p : Page). p.stamp) table pid page ∙ ap (λ n. slice_set (stamps_in table) pid n) (raised ∙ ap (λ n. n + 1) fresh.stamp)))

@@ -1,8 +1,8 @@
 -- A link as a step of the machine.
-use Rattle.sled_pagecache.proofs.Names.{◌≡◌, ◌≢◌, ◌≤◌, ◌<◌, ◌+◌, ◌-◌, ◌^◌, inl, inr, ℕ, Bool, true, false, cond, ltb, List, [], ◌∷◌, ◌++◌, length, Option, Some, Result, Ok, Err, slice_get, slice_set, slice_index_or, refl, sym, ◌∙◌, ap, subst, arith, eq-eqb, get_or-map, ne_eqb, ltb-true, length-map, map-set, same_Some, slice_get_within, get_or_from_slice_get, error_of, LinkRefused, Write, Error, Refusal, ReportableBug, Io, Corruption, OutOfMemory, StampUsedUp, LogFull, chains_from, Content, Free, Node, Update, Put, Link, after_link, contents_from, Event, Change, Entry, Chain, Told, told, effect_of, effect_of_entry, holds-made, one_content, Makes, Hold, MayChange, now-told, message_of, Ghosts, Accepts, applied, WholeNode, Cache, chain_length, IsIn, HasNoRoom, StepOver, Steps, link_update, chain_at, IsCaused, is_write_fault, RefusesUntold, RefusesPull, update_by, TellsLink, TakesLink, RefusesTold, Logged, HoldsChain, is_free, IsProper, page, State, page_at, with_page, Outcome, outcome, unchanged, is_reserved, Does, Links, LinksNode, LinksContent, stamps_in, IsConsistent, Token, token, Linked, Config, Journal}
+use Rattle.sled_pagecache.proofs.Names.{◌≡◌, ◌≢◌, ◌≤◌, ◌<◌, ◌+◌, ◌-◌, ◌^◌, inl, inr, ℕ, Bool, true, false, cond, ltb, List, [], ◌∷◌, ◌++◌, length, Option, Some, Result, Ok, Err, slice_get, slice_set, slice_index_or, refl, sym, ◌∙◌, ap, subst, arith, eq-eqb, get_or-map, ne_eqb, ltb-true, length-map, map-set, same_Some, slice_get_within, get_or_from_slice_get, error_of, LinkRefused, Write, Error, Refusal, ReportableBug, Io, Corruption, OutOfMemory, StampUsedUp, LogFull, chains_from, Content, Free, Node, Update, Put, Link, after_link, contents_from, Event, Change, Entry, Chain, Messages, unplaced, effect_of, effect_of_entry, holds-made, one_content, Makes, Hold, MayChange, now-unplaced, message_of, Ghosts, Accepts, applied, WholeNode, Cache, chain_length, IsIn, HasNoRoom, StepOver, Steps, link_update, chain_at, IsCaused, is_write_fault, RefusesUnappended, RefusesPull, update_by, AppendsLink, TakesLink, RefusesAppended, Logged, HoldsChain, is_free, IsProper, page, State, page_at, with_page, Outcome, outcome, unchanged, is_reserved, Does, Links, LinksNode, LinksContent, stamps_in, IsConsistent, Token, token, Linked, Config, StickyLog}
 use Rattle.sled_base.specs.declared.types.Error.TheVariants as error
 use Rattle.sled_base.specs.declared.types.Refusal.TheVariants.{Unsupported}
-use Rattle.sled_log.specs.State as log
+use Rattle.sled_log.specs.LogState as log
 use Rattle.sled_node.specs.declared.node.link.Link.{Link as NodeLink}
 use Rattle.sled_pagecache.proofs.CacheSteps.{LeadsTo, steps-went}
 use Rattle.sled_pagecache.proofs.Carrying.{proper-now}
@@ -17,13 +17,13 @@ use Rattle.sled_pagecache.proofs.TableNodes.{view}
 use Rattle.sled_pagecache.proofs.Standing.{kept-free}
 use Rattle.sled_pagecache.specs.LinkedPages as linked
 use Rattle.sled_pagecache.specs.Logged.{now}
-use Rattle.sled_pagecache.specs.State.{Page, is_free as is_free_content}
+use Rattle.sled_pagecache.specs.State.{StampedPage, is_free as is_free_content}
 use Rattle.sled_pagecache.specs.declared.pagecache.call.Call.TheVariants as call
 use Rattle.sled_pagecache.specs.declared.pagecache.page.Page.{Page as KeptPage}
 
 -- ---- what is written
 
-module _ (contents : List Content) (pages : List Told) (hold : Hold pages contents) (proper : IsProper pages contents) (pid : ℕ) (from : 2 ≤ pid)
+module _ (contents : List Content) (pages : List Messages) (hold : Hold pages contents) (proper : IsProper pages contents) (pid : ℕ) (from : 2 ≤ pid)
     (link : NodeLink) (node : WholeNode) (at : slice_get contents pid ≡ Some (Node node)) (accepts : Accepts node link) (n : ℕ) (count : length (slice_index_or pages pid []) ≡ n) where
   within : pid < length contents
   within = slice_get_within contents pid (Node node) at
@@ -77,7 +77,7 @@ module _ (messages : ℕ → ℕ) (no_room : Event Update → Type 0) (s : State
 -- ---- the cache
 
 module _ {L : Type 0} (g : Ghosts L) where
-  module _ (next : ℕ) (config : Config) (recovered : Bool) (before : Journal L) (pages : List KeptPage) (free : List ℕ) (pid : ℕ)
+  module _ (next : ℕ) (config : Config) (recovered : Bool) (before : StickyLog L) (pages : List KeptPage) (free : List ℕ) (pid : ℕ)
       (c : IsConsistent g.tells g.state before pages free) (ready : before.fault ≡ false) (t : Token) (same : t.pid ≡ pid) (link : NodeLink) where
     abbrev old : Cache L
     old = view next config recovered before pages
@@ -105,19 +105,19 @@ module _ {L : Type 0} (g : Ghosts L) where
             stamp-is : stands.stamp ≡ q.stamp
             stamp-is =
                 same_Some stands.stamp q.stamp
-                (sym (map-at (λ (p : Page). p.stamp) s.pages pid (page stands.stamp stands.content) stands.there) ∙ ap (λ (l : List ℕ). slice_get l pid) is.stamps
+                (sym (map-at (λ (p : StampedPage). p.stamp) s.pages pid (page stands.stamp stands.content) stands.there) ∙ ap (λ (l : List ℕ). slice_get l pid) is.stamps
                 ∙ map-at (λ (p : KeptPage). p.stamp) pages pid q at)
 
-          module _ (after : Journal L) (page_then : KeptPage) (is_fresh : q.stamp ≡ t.stamp) where
+          module _ (after : StickyLog L) (page_then : KeptPage) (is_fresh : q.stamp ≡ t.stamp) where
             abbrev new : Cache L
             new = view next config recovered after (slice_set pages pid page_then)
 
-            module _ (held : Logged) (s : State) (is : IsIn g old held s) (clear : s.fault ≡ false) (node : WholeNode) (made : Makes (told chain) (Node node)) where
+            module _ (held : Logged) (s : State) (is : IsIn g old held s) (clear : s.fault ≡ false) (node : WholeNode) (made : Makes (unplaced chain) (Node node)) where
               abbrev update : Update
               update = update_by q link node
 
-              abbrev pages_now : List Told
-              pages_now = log.now effect_of (log.told_state (g.state before.log))
+              abbrev pages_now : List Messages
+              pages_now = log.now effect_of (log.unplaced_state (g.state before.log))
 
               at_stamp : (stands held s is clear).stamp ≡ t.stamp
               at_stamp = stamp-is held s is clear ∙ is_fresh
@@ -125,22 +125,22 @@ module _ {L : Type 0} (g : Ghosts L) where
               there : page_at s pid ≡ Some (page (stands held s is clear).stamp (Node node))
               there =
                   (stands held s is clear).there
-                  ∙ ap (λ (content : Content). Some (page (stands held s is clear).stamp content)) (holds-made (told chain) (stands held s is clear).content (Node node) (stands held s is clear).holds made)
+                  ∙ ap (λ (content : Content). Some (page (stands held s is clear).stamp content)) (holds-made (unplaced chain) (stands held s is clear).content (Node node) (stands held s is clear).holds made)
 
               content-there : slice_get (now held) pid ≡ Some (Node node)
               content-there =
-                  sym (ap (λ (l : List Content). slice_get l pid) (is.known clear).contents) ∙ map-at (λ (p : Page). p.content) s.pages pid (page (stands held s is clear).stamp (Node node)) there
+                  sym (ap (λ (l : List Content). slice_get l pid) (is.known clear).contents) ∙ map-at (λ (p : StampedPage). p.content) s.pages pid (page (stands held s is clear).stamp (Node node)) there
 
               holds-now : Hold pages_now (now held)
-              holds-now = subst (λ (l : List Told). Hold l (now held)) (now-told (g.state before.log)) (holds_now (g.state before.log) held (is.known clear).logged)
+              holds-now = subst (λ (l : List Messages). Hold l (now held)) (now-unplaced (g.state before.log)) (holds_now (g.state before.log) held (is.known clear).logged)
 
               is-proper : IsProper pages_now (now held)
-              is-proper = proper-now (log.told_state (g.state before.log)) held (is.known clear).logged
+              is-proper = proper-now (log.unplaced_state (g.state before.log)) held (is.known clear).logged
 
               count : length (slice_index_or pages_now pid []) ≡ length q.infos.items
               count =
-                  ap (λ (l : List Told). length (slice_index_or l pid [])) (sym (now-told (g.state before.log)))
-                  ∙ ap length (get_or-map told (log.now effect_of_entry (g.state before.log)) pid []) ∙ length-map chain (λ (e : Entry). e.message)
+                  ap (λ (l : List Messages). length (slice_index_or l pid [])) (sym (now-unplaced (g.state before.log)))
+                  ∙ ap length (get_or-map unplaced (log.now effect_of_entry (g.state before.log)) pid []) ∙ length-map chain (λ (e : Entry). e.message)
                   ∙ places-length chain q (page-kept-at g before before pages free pid q q c ready behind at is.tells)
 
               module _ (accepts : Accepts node link) where
@@ -180,34 +180,34 @@ module _ {L : Type 0} (g : Ghosts L) where
                   (unread-content s pid chain found (λ content. LinksContent lengths no_room s t link (Err e) out content) (Result Token (Option (Token × NodeLink))) refusal why (λ node h. inl h) (λ h. h)))
                   stamps fault
 
-              module _ (node : WholeNode) (made : Makes (told chain) (Node node)) (e : Error) where
+              module _ (node : WholeNode) (made : Makes (unplaced chain) (Node node)) (e : Error) where
                 -- the node was read
                 still : LinksNode lengths no_room s t link node (Err e) (unchanged s) → after.fault ≡ false → LeadsTo g old new held s (call.Link t link) (Linked (Err e)) []
                 still h fault = leads-same g old new held s is clear (call.Link t link) (Linked (Err e)) refl (node-step held s is clear node made (Err e) (unchanged s) h) stamps fault
 
-              untold : (refusal : Refusal) → RefusesUntold chain q.stamp link refusal
+              unappended : (refusal : Refusal) → RefusesUnappended chain q.stamp link refusal
                   → (let err : Result (Unit {0}) Refusal = Err refusal in after.fault ≡ is_write_fault err)
                   → (refusal ≡ Unsupported LogFull → linked.HadNoRoom g before pid q link)
                   → LeadsTo g old new held s (call.Link t link) (Linked (Err (error_of refusal))) []
-              untold OutOfMemory why fault full = unread-leads OutOfMemory why fault
-              untold (Io device) why fault full = unread-leads (Io device) why fault
-              untold (Corruption (Some pointer)) why fault full = unread-leads (Corruption (Some pointer)) why fault
-              untold (ReportableBug LinkRefused) (node, made, not) fault full = still node made (error.ReportableBug LinkRefused) (inr (inl (not, (refl, refl)))) fault
-              untold (Unsupported StampUsedUp) (node, made, accepts, most) fault full =
+              unappended OutOfMemory why fault full = unread-leads OutOfMemory why fault
+              unappended (Io device) why fault full = unread-leads (Io device) why fault
+              unappended (Corruption (Some pointer)) why fault full = unread-leads (Corruption (Some pointer)) why fault
+              unappended (ReportableBug LinkRefused) (node, made, not) fault full = still node made (error.ReportableBug LinkRefused) (inr (inl (not, (refl, refl)))) fault
+              unappended (Unsupported StampUsedUp) (node, made, accepts, most) fault full =
                   still node made (error.Unsupported StampUsedUp) (inr (inr (accepts, rw (eq-eqb t.stamp (2 ^ 64 - 1) (sym is_fresh ∙ most)) (refl, refl)))) fault
-              untold (Unsupported LogFull) (node, made, accepts, below) fault full =
+              unappended (Unsupported LogFull) (node, made, accepts, below) fault full =
                   let had = full refl in
-                  let one : had.node ≡ node = (let e : Node had.node ≡ Node node = one_content (told chain) (Node had.node) (Node node) (had.made is.tells) made in cc) in
+                  let one : had.node ≡ node = (let e : Node had.node ≡ Node node = one_content (unplaced chain) (Node had.node) (Node node) (had.made is.tells) made in cc) in
                   leads-same g old new held s is clear (call.Link t link) (Linked (Err (error.Unsupported LogFull))) refl
                   (accepted-step held s is clear node made accepts below (Err (error.Unsupported LogFull)) (unchanged s)
                   (subst (λ (n : WholeNode). g.is_full before.log (length (message_of (update_by q link n)).payload)) one had.full, refl))
                   stamps fault
-              untold refusal why fault full = absurd why
+              unappended refusal why fault full = absurd why
 
             -- ---- an update was told
 
-            module _ (held : Logged) (s : State) (is : IsIn g old held s) (clear : s.fault ≡ false) (tells : TellsLink g before pid q link after) where
-              made : Makes (told chain) (Node tells.node)
+            module _ (held : Logged) (s : State) (is : IsIn g old held s) (clear : s.fault ≡ false) (tells : AppendsLink g before pid q link after) where
+              made : Makes (unplaced chain) (Node tells.node)
               made = tells.made is.tells
 
               failed : page_then.stamp ≡ q.stamp → after.fault ≡ true
@@ -232,13 +232,13 @@ module _ {L : Type 0} (g : Ghosts L) where
             -- ---- the call
 
             -- it was refused
-            pub link-refused : (refusal : Refusal) → RefusesTold g before pid q link after refusal
+            pub link-refused : (refusal : Refusal) → RefusesAppended g before pid q link after refusal
                 → (let err : Result (Unit {0}) Refusal = Err refusal in IsCaused g.tells g.state g.moment g.left_since g.counts before after (g.tells → linked.HadNoRoom g before pid q link) err)
                 → page_then.stamp ≡ q.stamp → Steps g old (call.Link t link) (Linked (Err (error_of refusal))) new
             link-refused refusal (inl (went, why)) = λ cause stamp.
                 let again : Refusal → Result (Unit {0}) Refusal = λ r. Err r in
                 steps-went g old new before after (call.Link t link) (Linked (Err (error_of refusal))) [] (record { config = refl; recovered = refl }) refl refl refl ready went
-                (λ held s is clear. untold stamp held s is clear refusal why cause.fault (λ e. cause.full (ap again e) is.tells))
+                (λ held s is clear. unappended stamp held s is clear refusal why cause.fault (λ e. cause.full (ap again e) is.tells))
             link-refused refusal (inr (write, tells)) = rw write (λ cause stamp.
                 steps-went g old new before after (call.Link t link) (Linked (Err (error.Io Write))) (Change pid (message_of (update_by q link tells.node)) ∷ []) (record { config = refl; recovered = refl }) refl refl refl ready tells.went
                 (λ held s is clear. failed held s is clear tells stamp cause.fault))

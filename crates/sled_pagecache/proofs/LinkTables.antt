@@ -1,6 +1,6 @@
 -- The table of a cache after a link, and what one sees of it who knows the cache by its model.
-use Rattle.sled_pagecache.proofs.Names.{◌≡◌, ◌≤◌, ◌+◌, ℕ, Bool, true, false, cond, ltb, List, [], ◌∷◌, length, Some, slice_get, slice_set, refl, sym, ◌∙◌, ap, subst, arith, ltb-true, is_open, Change, effect_of_entry, message_of, Ghosts, Cache, chain_length, IsResident, IsAway, chain_at, update_by, TakesLink, WasBegun, IsKept, is_free, is_resident, is_reserved, linked_length, IsFreeOrNode, IsConsistent, Config, Journal, Page}
-use Rattle.sled_log.specs.State as log
+use Rattle.sled_pagecache.proofs.Names.{◌≡◌, ◌≤◌, ◌+◌, ℕ, Bool, true, false, cond, ltb, List, [], ◌∷◌, length, Some, slice_get, slice_set, refl, sym, ◌∙◌, ap, subst, arith, ltb-true, is_open, Change, effect_of_entry, message_of, Ghosts, Cache, chain_length, IsResident, IsAway, chain_at, update_by, TakesLink, WasBegun, IsKept, is_free, is_resident, is_reserved, linked_length, IsFreeOrNode, IsConsistent, Config, StickyLog, Page}
+use Rattle.sled_log.specs.LogState as log
 use Rattle.sled_node.specs.declared.node.link.Link.{Link as NodeLink}
 use Rattle.sled_pagecache.proofs.Lookups.{behind-own}
 use Rattle.sled_pagecache.proofs.PagingIn.{page-short-at, places-length, length-before, same-consistent, before-is, is-after}
@@ -15,7 +15,7 @@ linked-short n short = by (ltb n 10) refl
     by true below = let few = ltb-true n 10 below in omega (arith, few)
     by false above = omega arith
 
-module _ {L : Type 0} (g : Ghosts L) (before after : Journal L) (pages : List Page) (free : List ℕ) (pid : ℕ) (q page : Page)
+module _ {L : Type 0} (g : Ghosts L) (before after : StickyLog L) (pages : List Page) (free : List ℕ) (pid : ℕ) (q page : Page)
     (c : IsConsistent g.tells g.state before pages free) (ready : before.fault ≡ false) (behind : is_reserved pid ≡ false) (at : slice_get pages pid ≡ Some q) (link : NodeLink) where
   pub refused-consistent : WasBegun g before after
       → (g.tells → after.fault ≡ false → log.now effect_of_entry (g.state after.log) ≡ log.now effect_of_entry (g.state before.log))

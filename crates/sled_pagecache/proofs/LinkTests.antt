@@ -1,7 +1,7 @@
 -- A link that is tested, and one of a damaged page.
-use Rattle.sled_pagecache.proofs.Names.{◌≡◌, inl, inr, ℕ, Bool, true, false, List, Option, Some, None, Result, Ok, Err, slice_get, slice_set, refl, sym, ◌∙◌, ap, subst, false≢true, option_map, slice_get-map, none-some, same_Some, MatchBool, error_of, LinkRefused, Write, Refusal, ReportableBug, Io, Corruption, OutOfMemory, ReservedId, StampUsedUp, LogFull, is_empty, Node, Chain, told, effect_of_entry, Makes, one_content, Ghosts, Accepts, WholeNode, Cache, IsIn, IsResident, chain_at, ReportsWrong, MeetsDamage, ReportsDamage, Judges, IsJudged, IsTested, TestsFirst, RefusesUntold, TakesLink, RefusesTold, Logged, HoldsChain, is_resident, is_free, State, page, page_at, Swapped, is_reserved, RefusesLink, stamps_in, resident_in, IsFreeOrNode, IsConsistent, Token, Config, Journal, Judgement, Fresh, Stale, Gone, Kept}
+use Rattle.sled_pagecache.proofs.Names.{◌≡◌, inl, inr, ℕ, Bool, true, false, List, Option, Some, None, Result, Ok, Err, slice_get, slice_set, refl, sym, ◌∙◌, ap, subst, false≢true, option_map, slice_get-map, none-some, same_Some, MatchBool, error_of, LinkRefused, Write, Refusal, ReportableBug, Io, Corruption, OutOfMemory, ReservedId, StampUsedUp, LogFull, is_empty, Node, Chain, unplaced, effect_of_entry, Makes, one_content, Ghosts, Accepts, WholeNode, Cache, IsIn, IsResident, chain_at, ReportsWrong, MeetsDamage, ReportsDamage, Judges, IsJudged, IsTested, TestsFirst, RefusesUnappended, TakesLink, RefusesAppended, Logged, HoldsChain, is_resident, is_free, State, page, page_at, Swapped, is_reserved, RefusesLink, stamps_in, resident_in, IsFreeOrNode, IsConsistent, Token, Config, StickyLog, Judgement, Fresh, Stale, Gone, Kept}
 use Rattle.sled_base.specs.declared.types.Refusal.TheVariants.{Unsupported}
-use Rattle.sled_log.specs.State as log
+use Rattle.sled_log.specs.LogState as log
 use Rattle.sled_node.specs.declared.node.link.Link.{Link as NodeLink}
 use Rattle.sled_pagecache.proofs.Held.{state-page}
 use Rattle.sled_pagecache.proofs.Judging.{IsFresh}
@@ -9,14 +9,14 @@ use Rattle.sled_pagecache.proofs.Lookups.{map-at, kept-at, own-at, behind-own}
 use Rattle.sled_pagecache.proofs.PagingIn.{stamps-same}
 use Rattle.sled_pagecache.proofs.Standing.{node-full, kept-free}
 use Rattle.sled_pagecache.proofs.TableNodes.{view}
-use Rattle.sled_pagecache.specs.State.{Page}
+use Rattle.sled_pagecache.specs.State.{StampedPage}
 use Rattle.sled_pagecache.specs.declared.pagecache.page.Kept.TheVariants as kept
 use Rattle.sled_pagecache.specs.declared.pagecache.page.Page.{Page as KeptPage}
 
 no-stamp : (table : List KeptPage) (pid : ℕ) → slice_get table pid ≡ None → slice_get (stamps_in table) pid ≡ None
 no-stamp table pid none = slice_get-map (λ (q : KeptPage). q.stamp) table pid ∙ ap (option_map (λ (q : KeptPage). q.stamp)) none
 
-module _ {L : Type 0} (g : Ghosts L) (next : ℕ) (config : Config) (recovered : Bool) (before : Journal L) (pages : List KeptPage) (free : List ℕ) (pid : ℕ)
+module _ {L : Type 0} (g : Ghosts L) (next : ℕ) (config : Config) (recovered : Bool) (before : StickyLog L) (pages : List KeptPage) (free : List ℕ) (pid : ℕ)
     (c : IsConsistent g.tells g.state before pages free) (t : Token) where
   abbrev old : Cache L
   old = view next config recovered before pages
@@ -49,13 +49,13 @@ module _ {L : Type 0} (g : Ghosts L) (next : ℕ) (config : Config) (recovered :
     found : page_at s pid ≡ Some (page t.stamp (Node node))
     found = ap (page_at s) (sym same) ∙ there
 
-    makes : Makes (told chain) (Node node)
+    makes : Makes (unplaced chain) (Node node)
     makes = state-page g old held s is clear pid (page t.stamp (Node node)) found
 
     tests-judged : (result : Result Judgement Refusal) → Judges before.fault pages pid t result → result ≡ Ok Fresh
     tests-judged result judges =
         judged-fresh result judges is.tells (sym is.fault ∙ clear) (ap is_reserved (sym same) ∙ own) (node-full chain node makes)
-        (sym (ap (λ (l : List ℕ). slice_get l pid) is.stamps) ∙ map-at (λ (p : Page). p.stamp) s.pages pid (page t.stamp (Node node)) found)
+        (sym (ap (λ (l : List ℕ). slice_get l pid) is.stamps) ∙ map-at (λ (p : StampedPage). p.stamp) s.pages pid (page t.stamp (Node node)) found)
 
   pub judged-tests : t.pid ≡ pid → (result : Result Judgement Refusal) → Judges before.fault pages pid t result → (result ≡ Ok Fresh → ⊥) → (link : NodeLink) (answer : Swapped NodeLink) → TestsFirst g old t link answer
   judged-tests same result judges not link answer held s node is clear own resident there = absurd (not (tests-judged same held s node is clear own there result judges))
@@ -67,9 +67,9 @@ module _ {L : Type 0} (g : Ghosts L) (next : ℕ) (config : Config) (recovered :
     kept-holds : g.tells → HoldsChain chain q.kept
     kept-holds known = (kept-at (log.now effect_of_entry (g.state before.log)) pages pid q ((c.beside fresh.clear).kept known) fresh.at).holds
 
-    module _ (node : WholeNode) (made : Makes (told chain) (Node node)) where
-      same-node : (other : WholeNode) → Makes (told chain) (Node other) → other ≡ node
-      same-node other makes = (let e : Node other ≡ Node node = one_content (told chain) (Node other) (Node node) makes made in cc)
+    module _ (node : WholeNode) (made : Makes (unplaced chain) (Node node)) where
+      same-node : (other : WholeNode) → Makes (unplaced chain) (Node other) → other ≡ node
+      same-node other makes = (let e : Node other ≡ Node node = one_content (unplaced chain) (Node other) (Node node) makes made in cc)
 
       refused-by : (k : Kept) → HoldsChain chain k → IsFreeOrNode k → is_free k ≡ false → is_resident k ≡ true → (refusal : Refusal) → RefusesLink q.stamp k link refusal → IsTested node link t.stamp (Err (error_of refusal))
       refused-by kept.Free holds own full resident refusal why = absurd (false≢true (sym full))
@@ -99,7 +99,7 @@ module _ {L : Type 0} (g : Ghosts L) (next : ℕ) (config : Config) (recovered :
         refused-by node (makes same held s node is clear own there) q.kept (kept-holds is.tells) kept-own fresh.full lies refusal (why is.tells lies)
 
     -- a link that was taken
-    pub taken-tests : t.pid ≡ pid → (after : Journal L) (page_then : KeptPage) → TakesLink g before pid q link after page_then → (answer : Swapped NodeLink) → TestsFirst g old t link answer
+    pub taken-tests : t.pid ≡ pid → (after : StickyLog L) (page_then : KeptPage) → TakesLink g before pid q link after page_then → (answer : Swapped NodeLink) → TestsFirst g old t link answer
     taken-tests same after page_then takes answer held s node is clear own resident there =
         let one = same-node node (makes same held s node is clear own there) takes.tells.node (takes.tells.made is.tells) in
         record {
@@ -109,21 +109,21 @@ module _ {L : Type 0} (g : Ghosts L) (next : ℕ) (config : Config) (recovered :
 
     -- ---- a damaged page
 
-    module _ (meets : MeetsDamage g old pid) (after : Journal L) (page_then : KeptPage) where
-      untold-wrong : (refusal : Refusal) → RefusesUntold chain q.stamp link refusal → ReportsWrong chain (error_of refusal)
-      untold-wrong OutOfMemory why = tt
-      untold-wrong (Io device) why = tt
-      untold-wrong (Corruption (Some pointer)) why = why
-      untold-wrong (ReportableBug LinkRefused) why = absurd (meets.damaged.1 (why.0, why.1))
-      untold-wrong (Unsupported StampUsedUp) why = absurd (meets.damaged.1 (why.0, why.1))
-      untold-wrong (Unsupported LogFull) why = absurd (meets.damaged.1 (why.0, why.1))
-      untold-wrong refusal why = absurd why
+    module _ (meets : MeetsDamage g old pid) (after : StickyLog L) (page_then : KeptPage) where
+      unappended-wrong : (refusal : Refusal) → RefusesUnappended chain q.stamp link refusal → ReportsWrong chain (error_of refusal)
+      unappended-wrong OutOfMemory why = tt
+      unappended-wrong (Io device) why = tt
+      unappended-wrong (Corruption (Some pointer)) why = why
+      unappended-wrong (ReportableBug LinkRefused) why = absurd (meets.damaged.1 (why.0, why.1))
+      unappended-wrong (Unsupported StampUsedUp) why = absurd (meets.damaged.1 (why.0, why.1))
+      unappended-wrong (Unsupported LogFull) why = absurd (meets.damaged.1 (why.0, why.1))
+      unappended-wrong refusal why = absurd why
 
-      pub refused-damage : (refusal : Refusal) → RefusesTold g before pid q link after refusal → page_then.stamp ≡ q.stamp
+      pub refused-damage : (refusal : Refusal) → RefusesAppended g before pid q link after refusal → page_then.stamp ≡ q.stamp
           → (g.tells → after.fault ≡ false → log.now effect_of_entry (g.state after.log) ≡ log.now effect_of_entry (g.state before.log))
           → ReportsDamage g old pid (let answer : Swapped NodeLink = Err (error_of refusal) in answer) (view next config recovered after (slice_set pages pid page_then))
       refused-damage refusal (inl (went, why)) stamp still = record {
-        reported = untold-wrong refusal why;
+        reported = unappended-wrong refusal why;
         left = record {
           opening = record { config = refl; recovered = refl };
           stamps = stamps-same g next config recovered before after pages free pid q page_then c fresh.clear fresh.behind fresh.at stamp;

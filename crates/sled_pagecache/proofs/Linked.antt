@@ -1,6 +1,6 @@
 -- What a link makes of the chain of its page.
-use Rattle.sled_pagecache.proofs.Names.{◌≡◌, ◌+◌, ◌<◌, ℤ, ℕ, Bool, true, false, cond, ltb, List, [], ◌∷◌, ◌++◌, length, map, refl, sym, ◌∙◌, ap, subst, slice_set, slice_index_or, length-map, length-append, map-append, ◌⊎◌, Result, Err, LinkRefused, Read, Write, DiskPtr, Refusal, ReportableBug, Io, Counts, is_empty, chains_from, Node, Update, Put, Link, Event, Change, Message, Entry, Chain, Told, told, placed, effect_of_entry, said_of, IsUpdate, Makes, message_of, Accepts, applied, WholeNode, place_of, Went, IsCaused, begun_by, IsCaused-handed_on, HoldsChain, IsKept, is_free, RefusesSwap, RefusesLink, link_update, infos_after, linked_length, update_of, CacheInfo, Journal, Kept, Page}
-use Rattle.sled_log.specs.State.{State}
+use Rattle.sled_pagecache.proofs.Names.{◌≡◌, ◌+◌, ◌<◌, ℤ, ℕ, Bool, true, false, cond, ltb, List, [], ◌∷◌, ◌++◌, length, map, refl, sym, ◌∙◌, ap, subst, slice_set, slice_index_or, length-map, length-append, map-append, ◌⊎◌, Result, Err, LinkRefused, Read, Write, DiskPtr, Refusal, ReportableBug, Io, Counts, is_empty, chains_from, Node, Update, Put, Link, Event, Change, Message, Entry, Chain, Messages, unplaced, placed, effect_of_entry, said_of, IsUpdate, Makes, message_of, Accepts, applied, WholeNode, place_of, Went, IsCaused, begun_by, IsCaused-handed_on, HoldsChain, IsKept, is_free, RefusesSwap, RefusesLink, link_update, infos_after, linked_length, update_of, CacheInfo, StickyLog, Kept, Page}
+use Rattle.sled_log.specs.LogState.{LogState}
 use Rattle.sled_node.specs.declared.node.link.Link.{Link as NodeLink}
 use Rattle.sled_pagecache.specs.declared.pagecache.page.Kept.TheVariants as kept
 use Rattle.sled_pagecache.proofs.FoundMessages.{makes-more}
@@ -41,16 +41,16 @@ places-after chain infos link after info known = by (ltb (length infos) 10)
     by false = refl
 
 pub makes-after : (messages : ℕ) (chain : Chain) (link : NodeLink) (before made : WholeNode) (info : CacheInfo)
-    → Makes (told chain) (Node before) → Accepts before link → made ≡ applied link before
-    → IsUpdate (message_of (link_update messages link made)) (link_update messages link made) → Makes (told (chain_after messages chain link made info)) (Node made)
+    → Makes (unplaced chain) (Node before) → Accepts before link → made ≡ applied link before
+    → IsUpdate (message_of (link_update messages link made)) (link_update messages link made) → Makes (unplaced (chain_after messages chain link made info)) (Node made)
 makes-after messages chain link before made info makes accepts applies reads = by (ltb messages 10) reads
   where
     by : (b : Bool)
         → IsUpdate (message_of (cond b (Link link) (Put (Node made)))) (cond b (Link link) (Put (Node made)))
-        → Makes (told (cond b (chain ++ placed (message_of (Link link)) (place_of info) ∷ []) (placed (message_of (Put (Node made))) (place_of info) ∷ []))) (Node made)
+        → Makes (unplaced (cond b (chain ++ placed (message_of (Link link)) (place_of info) ∷ []) (placed (message_of (Put (Node made))) (place_of info) ∷ []))) (Node made)
     by true reads =
-        subst (λ (messages : Told). Makes messages (Node made)) (sym (map-append (λ (entry : Entry). entry.message) chain (placed (message_of (Link link)) (place_of info) ∷ [])))
-        (makes-more (told chain) before (message_of (Link link)) made makes (link, reads, accepts, applies))
+        subst (λ (messages : Messages). Makes messages (Node made)) (sym (map-append (λ (entry : Entry). entry.message) chain (placed (message_of (Link link)) (place_of info) ∷ [])))
+        (makes-more (unplaced chain) before (message_of (Link link)) made makes (link, reads, accepts, applies))
     by false reads = (Node made, reads, refl)
 
 -- what a link wrote, in the words of the page before it
@@ -75,8 +75,8 @@ begun-handed T U (Io Write) events = refl
 begun-handed T U refusal events = refl
 
 -- a refusal of the log is handed on
-module _ {L : Type 0} (tells : Type 0) (state : L → State Entry) (moment : L → ℕ) (left_since : L → ℕ → List Told → Type 0) (counts : L → Counts) (is_full : L → ℕ → Type 0)
-    (old new : Journal L) (pid : ℕ) (one other : Update) (same : one ≡ other) (refusal : Refusal) (T U : Type 0) where
+module _ {L : Type 0} (tells : Type 0) (state : L → LogState Entry) (moment : L → ℕ) (left_since : L → ℕ → List Messages → Type 0) (counts : L → Counts) (is_full : L → ℕ → Type 0)
+    (old new : StickyLog L) (pid : ℕ) (one other : Update) (same : one ≡ other) (refusal : Refusal) (T U : Type 0) where
   pub went-handed : (let err : Result T Refusal = Err refusal in Went tells state moment left_since counts old new (begun_by err (Change pid (message_of one) ∷ [])))
       → (let err : Result U Refusal = Err refusal in Went tells state moment left_since counts old new (begun_by err (Change pid (message_of other) ∷ [])))
   went-handed went =
@@ -116,7 +116,7 @@ kept-still old new pid page same is = subst (λ (chains : List Chain). IsKept (s
 module _ (chains : List Chain) (pid : ℕ) (there : pid < length chains) (page : Page) (is : IsKept (slice_index_or chains pid []) page)
     (link : NodeLink) (before made : WholeNode) (holds : page.kept ≡ kept.Node before) (accepts : Accepts before link) (applies : made ≡ applied link before)
     (messages : ℕ) (count : messages ≡ length page.infos.items) where
-  makes : Makes (told (slice_index_or chains pid [])) (Node before)
+  makes : Makes (unplaced (slice_index_or chains pid [])) (Node before)
   makes = subst (HoldsChain (slice_index_or chains pid [])) holds is.holds
 
   pub page-full : is_empty effect_of_entry (slice_index_or chains pid []) ≡ false
@@ -145,6 +145,6 @@ module _ (chains : List Chain) (pid : ℕ) (there : pid < length chains) (page :
           places = λ _. places;
           long = sym (length-map (slice_index_or after pid []) said_of) ∙ ap length places ∙ length-map new.infos.items place_of;
           holds = subst (HoldsChain (slice_index_or after pid [])) (sym held)
-              (subst (λ (c : Chain). Makes (told c) (Node made)) (sym same)
+              (subst (λ (c : Chain). Makes (unplaced c) (Node made)) (sym same)
               (makes-after (length page.infos.items) (slice_index_or chains pid []) link before made info makes accepts applies (subst (λ (u : Update). IsUpdate (message_of u) u) written reads)));
         }

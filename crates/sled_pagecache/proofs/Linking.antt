@@ -1,12 +1,12 @@
 -- A link of a page that is read first: what the two calls of the log make together.
-use Rattle.sled_pagecache.proofs.Names.{◌≡◌, ◌≢◌, ◌≤◌, ◌-◌, ◌^◌, inl, inr, ℕ, Bool, true, false, List, [], ◌∷◌, length, Result, Ok, Err, slice_set, refl, sym, ◌∙◌, ap, subst, arith, false≢true, AllByRecursion, IfErr, OnOk, OnErr, IsErrOf, Read, Write, Refusal, Io, OutOfMemory, LogFull, Event, Change, Message, Chain, told, effect_of_entry, IsSized, IsUpdate, Makes, now, message_of, Ghosts, Accepts, applied, WholeNode, chain_at, more, Went, IsCaused, IsOfLog, begun_by, Went-then, IsCaused-since, TellsLink, TakesLink, RefusesTold, HadNoRoom, WasBegun, HoldsChain, IsKept, is_free, is_resident, IsRaised, IsLinked, RefusesLink, update_of, link_update, linked_length, IsFreeOrNode, Journal, Kept, Page}
+use Rattle.sled_pagecache.proofs.Names.{◌≡◌, ◌≢◌, ◌≤◌, ◌-◌, ◌^◌, inl, inr, ℕ, Bool, true, false, List, [], ◌∷◌, length, Result, Ok, Err, slice_set, refl, sym, ◌∙◌, ap, subst, arith, false≢true, AllByRecursion, IfErr, OnOk, OnErr, IsErrOf, Read, Write, Refusal, Io, OutOfMemory, LogFull, Event, Change, Message, Chain, unplaced, effect_of_entry, IsSized, IsUpdate, Makes, now, message_of, Ghosts, Accepts, applied, WholeNode, chain_at, more, Went, IsCaused, IsOfLog, begun_by, Went-then, IsCaused-since, AppendsLink, TakesLink, RefusesAppended, HadNoRoom, WasBegun, HoldsChain, IsKept, is_free, is_resident, IsRaised, IsLinked, RefusesLink, update_of, link_update, linked_length, IsFreeOrNode, StickyLog, Kept, Page}
 use Rattle.sled_base.specs.declared.types.Refusal.TheVariants.{Unsupported}
 use Rattle.sled_log.specs.Contents as content
 use Rattle.sled_node.specs.declared.node.link.Link.{Link as NodeLink}
 use Rattle.sled_pagecache.proofs.Tables.{marks-begun}
 use Rattle.sled_pagecache.specs.declared.pagecache.page.Kept.TheVariants as kept
 
-module _ {L : Type 0} (g : Ghosts L) (old mid new : Journal L) (pid : ℕ) (q page page_then : Page) (link : NodeLink)
+module _ {L : Type 0} (g : Ghosts L) (old mid new : StickyLog L) (pid : ℕ) (q page page_then : Page) (link : NodeLink)
     (went : Went g.tells g.state g.moment g.left_since g.counts old mid []) (clear : mid.fault ≡ false) (same : g.tells → mid.fault ≡ false → now effect_of_entry (g.state mid.log) ≡ now effect_of_entry (g.state old.log))
     (is : g.tells → IsKept (chain_at (g.state old.log) pid) page) (stamp : page.stamp ≡ q.stamp) (infos : page.infos.items ≡ q.infos.items) (resident : is_resident page.kept ≡ true) where
   abbrev chain : Chain
@@ -22,8 +22,8 @@ module _ {L : Type 0} (g : Ghosts L) (old mid new : Journal L) (pid : ℕ) (q pa
   joined : (more : List (Event Message)) → Went g.tells g.state g.moment g.left_since g.counts mid new more → Went g.tells g.state g.moment g.left_since g.counts old new more
   joined more second = Went-then g.tells g.state g.moment g.left_since g.counts old mid new [] more went clear second
 
-  tells : (node : WholeNode) → (g.tells → Makes (told chain) (content.Node node)) → Accepts node link → q.stamp ≢ 2 ^ 64 - 1 → IsUpdate (message_of (update (kept.Node node))) (update (kept.Node node))
-      → Went g.tells g.state g.moment g.left_since g.counts mid new (events (kept.Node node)) → TellsLink g old pid q link new
+  tells : (node : WholeNode) → (g.tells → Makes (unplaced chain) (content.Node node)) → Accepts node link → q.stamp ≢ 2 ^ 64 - 1 → IsUpdate (message_of (update (kept.Node node))) (update (kept.Node node))
+      → Went g.tells g.state g.moment g.left_since g.counts mid new (events (kept.Node node)) → AppendsLink g old pid q link new
   tells node made accepts below reads second =
       let n : length page.infos.items ≡ length q.infos.items = ap length infos in
       record {
@@ -62,10 +62,10 @@ module _ {L : Type 0} (g : Ghosts L) (old mid new : Journal L) (pid : ℕ) (q pa
 
   -- ---- refused
 
-  of-log : (node : WholeNode) (refusal : Refusal) → Makes (told chain) (content.Node node) → Accepts node link → q.stamp ≢ 2 ^ 64 - 1 → IsOfLog refusal
+  of-log : (node : WholeNode) (refusal : Refusal) → Makes (unplaced chain) (content.Node node) → Accepts node link → q.stamp ≢ 2 ^ 64 - 1 → IsOfLog refusal
       → (let err : Result (Unit {0}) Refusal = Err refusal in Went g.tells g.state g.moment g.left_since g.counts mid new (begun_by err (events (kept.Node node))))
       → (refusal ≡ Io Write → IsUpdate (message_of (update (kept.Node node))) (update (kept.Node node)))
-      → RefusesTold g old pid q link new refusal
+      → RefusesAppended g old pid q link new refusal
   of-log node OutOfMemory made accepts below why second reads = inl (joined [] second, tt)
   of-log node (Io Read) made accepts below why second reads = inl (joined [] second, tt)
   of-log node (Io Write) made accepts below why second reads = inr (refl, tells node (λ _. made) accepts below (reads refl) second)
@@ -75,7 +75,7 @@ module _ {L : Type 0} (g : Ghosts L) (old mid new : Journal L) (pid : ℕ) (q pa
   refused-by : (k : Kept) (refusal : Refusal) → HoldsChain chain k → is_resident k ≡ true → is_free k ≡ false → IsFreeOrNode k → RefusesLink page.stamp k link refusal
       → (let err : Result (Unit {0}) Refusal = Err refusal in Went g.tells g.state g.moment g.left_since g.counts mid new (begun_by err (events k)))
       → (refusal ≡ Io Write → IsUpdate (message_of (update k)) (update k))
-      → RefusesTold g old pid q link new refusal
+      → RefusesAppended g old pid q link new refusal
   refused-by kept.Free refusal holds there full own why = absurd (false≢true (sym full))
   refused-by kept.Away refusal holds there full own why = absurd (false≢true there)
   refused-by (kept.Node node) refusal holds there full own (inl (not, why)) = rw why (λ second reads. inl (joined [] second, (node, holds, not)))
@@ -86,7 +86,7 @@ module _ {L : Type 0} (g : Ghosts L) (old mid new : Journal L) (pid : ℕ) (q pa
   pub refused : g.tells → is_free page.kept ≡ false → IsFreeOrNode page.kept → (result : Result (Unit {0}) Refusal) → IfErr result (RefusesLink page.stamp page.kept link)
       → Went g.tells g.state g.moment g.left_since g.counts mid new (begun_by result (events page.kept))
       → (IsErrOf result (Io Write) → IsUpdate (message_of (update page.kept)) (update page.kept))
-      → IfErr result (RefusesTold g old pid q link new)
+      → IfErr result (RefusesAppended g old pid q link new)
   refused known full own (Ok done) why second reads = tt
   refused known full own (Err refusal) why second reads =
       let again : Refusal → Result (Unit {0}) Refusal = λ r. Err r in
@@ -133,5 +133,5 @@ module _ {L : Type 0} (g : Ghosts L) (old mid new : Journal L) (pid : ℕ) (q pa
   read-at_most (Err refusal) unread whole quiet = by (is_resident q.kept) refl
     where
       by : (b : Bool) → is_resident q.kept ≡ b → (times : ℕ) × (times ≤ length q.infos.items) × ((g.counts new.log).reads ≡ more times (g.counts old.log).reads)
-      by true held = (0, omega arith, quiet ∙ ap (λ (j : Journal L). (g.counts j.log).reads) (unread held))
+      by true held = (0, omega arith, quiet ∙ ap (λ (j : StickyLog L). (g.counts j.log).reads) (unread held))
       by false held = (length q.infos.items, omega arith, quiet ∙ whole held)

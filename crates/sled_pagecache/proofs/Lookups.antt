@@ -1,8 +1,8 @@
 -- What the table and the state of a cache hold at an id.
-use Rattle.sled_pagecache.proofs.Names.{◌≡◌, ◌≤◌, ℕ, zero, suc, ◌==◌, ◌||◌, false, List, [], ◌∷◌, length, map, None, Some, slice_get, slice_set, slice_index_or, refl, sym, ◌∙◌, ap, subst, arith, false≢true, or_parts, eqb-false, set-get_or, option_map, slice_get-map, get_or-map, none-some, get_or_from_slice_get, AllByRecursion, AllZip, is_empty, Content, Chain, Told, told, effect_of_entry, Holds, Hold, IsKept, IsUsers, is_reserved, meta_pid, counter_pid, batch_manifest_pid}
+use Rattle.sled_pagecache.proofs.Names.{◌≡◌, ◌≤◌, ℕ, zero, suc, ◌==◌, ◌||◌, false, List, [], ◌∷◌, length, map, None, Some, slice_get, slice_set, slice_index_or, refl, sym, ◌∙◌, ap, subst, arith, false≢true, or_parts, eqb-false, set-get_or, option_map, slice_get-map, get_or-map, none-some, get_or_from_slice_get, AllByRecursion, AllZip, is_empty, Content, Chain, Messages, unplaced, effect_of_entry, Holds, Hold, IsKept, IsUsers, is_reserved, meta_pid, counter_pid, batch_manifest_pid}
 use Rattle.sled_pagecache.proofs.ByIds.{all-by-id, at-id, past-two, zip-second}
 use Rattle.sled_pagecache.specs.Proper.{AreOwn, AreRoots, IsCounter, IsOwnAt}
-use Rattle.sled_pagecache.specs.State.{Page}
+use Rattle.sled_pagecache.specs.State.{StampedPage}
 use Rattle.sled_pagecache.specs.Table as table
 use Rattle.sled_pagecache.specs.declared.pagecache.page.Page.{Page as KeptPage}
 
@@ -56,15 +56,15 @@ pub content-own : (contents : List Content) (pid : ℕ) (content : Content) → 
 content-own contents pid content own from at = (past-two AreRoots IsCounter IsUsers pid content from).1 (at-id IsOwnAt contents pid content own at)
 
 -- a page of the state holds what its chain makes, or is damaged
-pub holds-at : (pages : List Page) (chains : List Chain) (pid : ℕ) (p : Page) → Hold (map told chains) (map (λ (p : Page). p.content) pages)
-    → slice_get pages pid ≡ Some p → Holds (told (slice_index_or chains pid [])) p.content
+pub holds-at : (pages : List StampedPage) (chains : List Chain) (pid : ℕ) (p : StampedPage) → Hold (map unplaced chains) (map (λ (p : StampedPage). p.content) pages)
+    → slice_get pages pid ≡ Some p → Holds (unplaced (slice_index_or chains pid [])) p.content
 holds-at pages chains pid p hold at =
-    subst (λ (t : Told). Holds t p.content) (get_or-map told chains pid [])
-    (zip-second Holds (map told chains) (map (λ (p : Page). p.content) pages) pid p.content [] hold (map-at (λ (p : Page). p.content) pages pid p at))
+    subst (λ (t : Messages). Holds t p.content) (get_or-map unplaced chains pid [])
+    (zip-second Holds (map unplaced chains) (map (λ (p : StampedPage). p.content) pages) pid p.content [] hold (map-at (λ (p : StampedPage). p.content) pages pid p at))
 
 -- the page stands where its chain isn't empty
-pub stands-full : (pages : List Page) (chains : List Chain) (pid : ℕ) → Hold (map told chains) (map (λ (p : Page). p.content) pages)
-    → is_empty effect_of_entry (slice_index_or chains pid []) ≡ false → (p : Page) × (slice_get pages pid ≡ Some p)
+pub stands-full : (pages : List StampedPage) (chains : List Chain) (pid : ℕ) → Hold (map unplaced chains) (map (λ (p : StampedPage). p.content) pages)
+    → is_empty effect_of_entry (slice_index_or chains pid []) ≡ false → (p : StampedPage) × (slice_get pages pid ≡ Some p)
 stands-full [] [] pid hold full = absurd (false≢true (sym full))
 stands-full [] (chain ∷ chains) pid hold full = absurd hold
 stands-full (p ∷ pages) [] pid hold full = absurd hold

@@ -24,19 +24,19 @@ pub use Rattle.sled_log.specs.Calls.{Called, Counts, HasGrown, one_more}
 pub use Rattle.sled_log.specs.Chains.{chains_after, chains_from, changed, is_chain, is_empty, is_freeing, is_linking, linked, may_follow}
 pub use Rattle.sled_log.specs.Contents.{Content, Counter, Damaged, Free, Link, Node, Put, Roots, Update, after_link, contents_after, contents_from, effect_of_update}
 pub use Rattle.sled_log.specs.Events.{Cancel, Change, Event, Pin, Seal, seen}
-pub use Rattle.sled_log.specs.HoldingLaws.{holds-added, holds-after, holds-made, may-tell}
+pub use Rattle.sled_log.specs.HoldingLaws.{holds-added, holds-after, holds-made, may-append}
 pub use Rattle.sled_log.specs.Items.{left_now}
-pub use Rattle.sled_log.specs.Laws.{Adds-none, IsLeft-more, StopsLeave-none, is_open-drop, now-Adds, open_after-append}
+pub use Rattle.sled_log.specs.Laws.{Adds-none, IsLeft-more, CrashesSinceLeave-none, is_open-drop, now-Adds, open_after-append}
 pub use Rattle.sled_log.specs.Limits.{head_size}
 pub use Rattle.sled_log.specs.Memory.{clock_of, counts_of, might_have_left, state_of}
-pub use Rattle.sled_log.specs.Messages.{Chain, Entry, Message, Told, blob_kind, effect_of, effect_of_entry, kind_at, message, message_in, placed, told}
+pub use Rattle.sled_log.specs.Messages.{Chain, Entry, Message, Messages, blob_kind, effect_of, effect_of_entry, kind_at, message, message_in, placed, unplaced}
 pub use Rattle.sled_log.specs.Pages.{IsAt, IsPageState, IsRead, IsSized, freed_of, said_of}
-pub use Rattle.sled_log.specs.Reading.{AreTold, Hold, Holds, IsUpdate, LeadTo, Makes, MayChange, Reads}
-pub use Rattle.sled_log.specs.ReadingLaws.{one_content, one_update, reads-fair, reads-open, reads_effect, told-append, told-take}
-pub use Rattle.sled_log.specs.RunLaws.{StopsLeave-weaker}
+pub use Rattle.sled_log.specs.Reading.{AreEvents, Hold, Holds, IsUpdate, LeadTo, Makes, MayChange, Decodes}
+pub use Rattle.sled_log.specs.ReadingLaws.{one_content, one_update, reads-fair, reads-open, reads_effect, events-append, events-take}
+pub use Rattle.sled_log.specs.RunLaws.{CrashesSinceLeave-weaker}
 pub use Rattle.sled_log.specs.ShapeLaws.{AreChains, chains-are}
-pub use Rattle.sled_log.specs.State.{IsBeginning, IsLeft, StopsLeave, now, told_state}
-pub use Rattle.sled_log.specs.TellingLaws.{Adds-told, is_open-told, now-told, told_events}
+pub use Rattle.sled_log.specs.LogState.{IsPrefix, IsLeft, CrashesSinceLeave, now, unplaced_state}
+pub use Rattle.sled_log.specs.UnplacedLaws.{Adds-unplaced, is_open-unplaced, now-unplaced, unplaced_events}
 pub use Rattle.sled_log.specs.Writing.{CanWrite, message_of}
 pub use Rattle.sled_log.specs.WritingLaws.{written-update}
 pub use Rattle.sled_log.specs.ZipLaws.{zip-append, zip-at, zip-set}
@@ -51,31 +51,31 @@ pub use Rattle.sled_node.specs.Payloads.Roots.{ReadsRoots}
 pub use Rattle.sled_pagecache.specs.Accesses.{IsTouched, WasAccessed, capped}
 pub use Rattle.sled_pagecache.specs.Adding.{HasOneMore, RefusesPage}
 pub use Rattle.sled_pagecache.specs.Answers.{Keeps, stamped, swapped}
-pub use Rattle.sled_pagecache.specs.ByIds.{AllById, IsInOrder}
+pub use Rattle.sled_pagecache.specs.ByIds.{AllById, FitsId}
 pub use Rattle.sled_pagecache.specs.Cache.{Cache, IsAway, IsIn, IsResident, KnowsLog, chain_length, chain_size, unlisted}
 pub use Rattle.sled_pagecache.specs.Calls.{HasNoRoom, IsBlamed, IsSameOpening, IsStep, StepOver, Steps}
 pub use Rattle.sled_pagecache.specs.ChainReads.{IsFoundAs, chain_at, more, place_of}
 pub use Rattle.sled_pagecache.specs.Changes.{link_update}
 pub use Rattle.sled_pagecache.specs.Damage.{MeetsDamage, ReportsDamage, ReportsWrong}
-pub use Rattle.sled_pagecache.specs.Journal.{IsCaused, IsOfLog, Went, begun_by, is_write_fault, told_by}
-pub use Rattle.sled_pagecache.specs.JournalLaws.{HasGrown-since, IsCaused-handed_on, IsCaused-since, Went-last, Went-none, Went-then, now-Went}
+pub use Rattle.sled_pagecache.specs.StickyLog.{IsCaused, IsOfLog, Went, begun_by, is_write_fault, cache_answer}
+pub use Rattle.sled_pagecache.specs.StickyLogLaws.{HasGrown-since, IsCaused-handed_on, IsCaused-since, Went-last, Went-none, Went-then, now-Went}
 pub use Rattle.sled_pagecache.specs.Judging.{IsJudged, Judges}
 pub use Rattle.sled_pagecache.specs.Lending.{IsGot}
 pub use Rattle.sled_pagecache.specs.Limits.{batch_manifest_pid, chunk_length, counter_pid, meta_pid}
 pub use Rattle.sled_pagecache.specs.LinkTests.{IsTested, TestsFirst}
-pub use Rattle.sled_pagecache.specs.LinkedPages.{HadNoRoom, RefusesTold, RefusesUntold, TakesLink, TellsLink, WasBegun, update_by}
-pub use Rattle.sled_pagecache.specs.Loading.{AreFound, AreRead, AreRecovered, IsFoundAt, IsLoaded, IsOpenedWith, IsTable, IsUnread, RefusesOwn, RefusesPages, counter_told, next_id, roots_told, stamps_at_start, told_at_start, told_of_roots}
+pub use Rattle.sled_pagecache.specs.LinkedPages.{HadNoRoom, RefusesAppended, RefusesUnappended, TakesLink, AppendsLink, WasBegun, update_by}
+pub use Rattle.sled_pagecache.specs.Loading.{AreFound, AreRead, AreRecovered, IsFoundAt, IsLoaded, IsOpenedWith, IsTable, IsUnread, RefusesOwn, RefusesPages, counter_event, next_id, roots_event, stamps_at_start, events_at_start, events_of_roots}
 pub use Rattle.sled_pagecache.specs.Logged.{Adds, AreKept, IsLogged, Logged}
 pub use Rattle.sled_pagecache.specs.Memory.{AccessesPage, AreListed, AreSized, FindsPage, HasNoNode, HasNode, IsBounded, KeepsMemory, LeavesMemory, LeavesNodes, LeavesOthers, ListsResident, StaysAt}
 pub use Rattle.sled_pagecache.specs.Opening.{changes_of_start, fault_of, first_id, missing, opened}
 pub use Rattle.sled_pagecache.specs.PageTables.{TableView, has_room}
-pub use Rattle.sled_pagecache.specs.Pages.{HoldsChain, IsKept, free_ids, freed_at, is_free, is_resident, node_size, size_if, size_in, size_linked, size_of}
-pub use Rattle.sled_pagecache.specs.PagesIn.{BringsIn, IsNodeAt, LeavesPages, RefusesReading, journal_of}
+pub use Rattle.sled_pagecache.specs.Pages.{HoldsChain, IsKept, free_ids, freed_at, is_free, is_resident, node_access_size, size_if, size_in, size_linked, access_size}
+pub use Rattle.sled_pagecache.specs.PagesIn.{BringsIn, IsNodeAt, LeavesPages, RefusesReading, sticky_log_of}
 pub use Rattle.sled_pagecache.specs.PagingOut.{IsPagedOut, PagesOut, paged_out}
 pub use Rattle.sled_pagecache.specs.Proceeding.{Comes, IsCutShort, LacksRoom, Proceeds, Reaches, TakesNoRoom, is_fault, refusal_in}
 pub use Rattle.sled_pagecache.specs.Proper.{AreRoots, IsProper, IsUsers, StayProper}
 pub use Rattle.sled_pagecache.specs.Pulling.{RefusesPull}
-pub use Rattle.sled_pagecache.specs.Reading.{BeginsFree, IsDamaged, IsFirstWrong, IsFoundWrong, IsWrongAt, Leads, MakesNode, RefusesMessage, RefusesNode, told_of}
+pub use Rattle.sled_pagecache.specs.Reading.{BeginsFree, IsDamaged, IsFirstWrong, IsFoundWrong, IsWrongAt, Leads, MakesNode, RefusesMessage, RefusesNode, found_message}
 pub use Rattle.sled_pagecache.specs.Reads.{HasRead, ReadsNothing, ReadsPage, own_among}
 pub use Rattle.sled_pagecache.specs.Recovered.{AllFit, BeginsMisfit, IsRecovered, info_at, is_misfit, kept_by}
 pub use Rattle.sled_pagecache.specs.Relisting.{IsSettled, Settles, lost_by, relisted}
@@ -97,7 +97,7 @@ pub use Rattle.sled_pagecache.specs.declared.pagecache.call.Call.TheVariants.{Al
 pub use Rattle.sled_pagecache.specs.declared.pagecache.page.CacheInfo.{CacheInfo}
 pub use Rattle.sled_pagecache.specs.declared.pagecache.call.Call.{Call}
 pub use Rattle.sled_pagecache.specs.declared.pagecache.config.Config.{Config}
-pub use Rattle.sled_pagecache.specs.declared.pagecache.journal.Journal.{Journal}
+pub use Rattle.sled_pagecache.specs.declared.pagecache.sticky_log.StickyLog.{StickyLog}
 pub use Rattle.sled_pagecache.specs.declared.pagecache.judge.Judgement.TheVariants.{Fresh, Gone, Stale}
 pub use Rattle.sled_pagecache.specs.declared.pagecache.judge.Judgement.{Judgement}
 pub use Rattle.sled_pagecache.specs.declared.pagecache.page.Kept.{Kept}

@@ -1,5 +1,5 @@
 -- What lies in memory, and what is listed, once a cache was opened.
-use Rattle.sled_pagecache.proofs.Names.{◌≡◌, ◌≤◌, ℕ, zero, suc, Bool, List, Option, None, Some, slice_get, refl, sym, ◌∙◌, ap, subst, arith, none-some, IfSome, AreOwn, IsRoots, IsCounter, IsOwnAt, IsUnread, Config, Journal, Kept, Page, slice_get-map, option_map, HasNoNode, node_size, size_of, size_if, LacksNodes}
+use Rattle.sled_pagecache.proofs.Names.{◌≡◌, ◌≤◌, ℕ, zero, suc, Bool, List, Option, None, Some, slice_get, refl, sym, ◌∙◌, ap, subst, arith, none-some, IfSome, AreOwn, IsRoots, IsCounter, IsOwnAt, IsUnread, Config, StickyLog, Kept, Page, slice_get-map, option_map, HasNoNode, node_access_size, access_size, size_if, LacksNodes}
 use Rattle.sled_pagecache.proofs.ByIds.{at-id}
 use Rattle.sled_pagecache.proofs.InMemory.{none-at}
 use Rattle.sled_pagecache.proofs.TableNodes.{view}
@@ -20,17 +20,17 @@ unread-none size kept.Free unread = refl
 unread-none size kept.Away unread = refl
 unread-none size k unread = absurd unread
 
-none-kept : (pid : ℕ) (q : Page) → IsOwnAt pid q.kept → (2 ≤ pid → IsUnread q.kept) → node_size q ≡ None
-none-kept zero q own unread = roots-none (size_of q) q.kept own
-none-kept (suc zero) q own unread = counter-none (size_of q) q.kept own
-none-kept (suc (suc pid)) q own unread = unread-none (size_of q) q.kept (unread (omega arith))
+none-kept : (pid : ℕ) (q : Page) → IsOwnAt pid q.kept → (2 ≤ pid → IsUnread q.kept) → node_access_size q ≡ None
+none-kept zero q own unread = roots-none (access_size q) q.kept own
+none-kept (suc zero) q own unread = counter-none (access_size q) q.kept own
+none-kept (suc (suc pid)) q own unread = unread-none (access_size q) q.kept (unread (omega arith))
 
-pub lacks-nodes : {L : Type 0} (next : ℕ) (config : Config) (recovered : Bool) (journal : Journal L) (pages : List Page) → AreOwn pages
-    → ((pid : ℕ) → 2 ≤ pid → IfSome (slice_get pages pid) (λ page. IsUnread page.kept)) → LacksNodes (view next config recovered journal pages)
-lacks-nodes next config recovered journal pages own unread pid = by (slice_get pages pid) refl
+pub lacks-nodes : {L : Type 0} (next : ℕ) (config : Config) (recovered : Bool) (sticky_log : StickyLog L) (pages : List Page) → AreOwn pages
+    → ((pid : ℕ) → 2 ≤ pid → IfSome (slice_get pages pid) (λ page. IsUnread page.kept)) → LacksNodes (view next config recovered sticky_log pages)
+lacks-nodes next config recovered sticky_log pages own unread pid = by (slice_get pages pid) refl
   where
-    by : (o : Option Page) → slice_get pages pid ≡ o → HasNoNode (view next config recovered journal pages) pid
-    by None past = λ size has. none-some (Some size) (sym (slice_get-map (λ (p : Page). node_size p) pages pid ∙ ap (option_map (λ (p : Page). node_size p)) past) ∙ has)
+    by : (o : Option Page) → slice_get pages pid ≡ o → HasNoNode (view next config recovered sticky_log pages) pid
+    by None past = λ size has. none-some (Some size) (sym (slice_get-map (λ (p : Page). node_access_size p) pages pid ∙ ap (option_map (λ (p : Page). node_access_size p)) past) ∙ has)
     by (Some q) at =
-        none-at next next config recovered journal journal pages pid q at
+        none-at next next config recovered sticky_log sticky_log pages pid q at
         (none-kept pid q (at-id (λ (id : ℕ) (page : Page). IsOwnAt id page.kept) pages pid q own at) (λ from. subst (λ (o : Option Page). IfSome o (λ page. IsUnread page.kept)) at (unread pid from)))

@@ -1,5 +1,5 @@
 -- The cache's own pages, as they are read from a log, and as they are made.
-use Rattle.sled_pagecache.proofs.Names.{◌≡◌, ◌≤◌, ◌<◌, ◌&&◌, ◌||◌, ℤ, ℕ, zero, suc, Bool, true, false, List, [], ◌∷◌, length, map, get_or, ltb, Some, refl, sym, ◌∙◌, ap, subst, arith, false≢true, nat_tests, none-some, AllZip-long, AllZip, MessageKind, DiskPtr, Refusal, Corruption, OutOfMemory, ReadsU64, is_freeing, is_empty, Content, Counter, Roots, Node, Put, effect_of_update, Entry, Chain, Told, told, effect_of_entry, freed_of, Reads, IsUpdate, LeadTo, Makes, reads_effect, applied, WholeNode, ReadsRoots, IsFoundAs, IsLoaded, RefusesOwn, is_free, freed_at, told_of, RefusesMessage, is_misfit, IsFit, CacheInfo, Page, Found}
+use Rattle.sled_pagecache.proofs.Names.{◌≡◌, ◌≤◌, ◌<◌, ◌&&◌, ◌||◌, ℤ, ℕ, zero, suc, Bool, true, false, List, [], ◌∷◌, length, map, get_or, ltb, Some, refl, sym, ◌∙◌, ap, subst, arith, false≢true, nat_tests, none-some, AllZip-long, AllZip, MessageKind, DiskPtr, Refusal, Corruption, OutOfMemory, ReadsU64, is_freeing, is_empty, Content, Counter, Roots, Node, Put, effect_of_update, Entry, Chain, Messages, unplaced, effect_of_entry, freed_of, Decodes, IsUpdate, LeadTo, Makes, reads_effect, applied, WholeNode, ReadsRoots, IsFoundAs, IsLoaded, RefusesOwn, is_free, freed_at, found_message, RefusesMessage, is_misfit, IsFit, CacheInfo, Page, Found}
 use Rattle.std.specs.List.{slice_get}
 use Rattle.sled_base.specs.declared.kinds.MessageKind.TheVariants as kinds
 use Rattle.sled_node.specs.Meta as meta
@@ -21,22 +21,22 @@ own-effect (Counter n) own = refl
 own-effect content own = absurd own
 
 -- what leads from a node leads to a node
-node-leads : (node : WholeNode) (messages : Told) (content : Content) → IsOwn content → LeadTo (Node node) messages content → ⊥
+node-leads : (node : WholeNode) (messages : Messages) (content : Content) → IsOwn content → LeadTo (Node node) messages content → ⊥
 node-leads node [] content own h = subst IsOwn (sym h) own
 node-leads node (m ∷ messages) content own h = node-leads (applied h.1 h.0) messages content own h.5
 
-pub own-one : (chain : Chain) (content : Content) → IsOwn content → Makes (told chain) content → (length chain ≡ 1) × (is_empty effect_of_entry chain ≡ false)
+pub own-one : (chain : Chain) (content : Content) → IsOwn content → Makes (unplaced chain) content → (length chain ≡ 1) × (is_empty effect_of_entry chain ≡ false)
 own-one [] content own h = absurd h
 own-one (entry ∷ []) content own h =
     (refl, ap is_freeing (reads_effect entry.message.kind entry.message.payload (Put h.0) h.1) ∙ ap (λ (c : Content). is_freeing (effect_of_update (Put c))) h.2 ∙ own-effect content own)
-own-one (entry ∷ next ∷ chain) content own h = absurd (node-leads (applied h.2.1 h.2.0) (told chain) content own h.2.5)
+own-one (entry ∷ next ∷ chain) content own h = absurd (node-leads (applied h.2.1 h.2.0) (unplaced chain) content own h.2.5)
 
 -- ---- which pages are so
 
 abbrev misfit_by : ℕ → ℕ → Bool → Bool
 misfit_by pid len free = ltb 10 len || (ltb pid 2 && (free || ltb 1 len))
 
-own-fits : (pid : ℕ) (chain : Chain) (page : Page) (content : Content) → IsLoaded chain page → IsOwn content → Makes (told chain) content → is_misfit pid page ≡ false
+own-fits : (pid : ℕ) (chain : Chain) (page : Page) (content : Content) → IsLoaded chain page → IsOwn content → Makes (unplaced chain) content → is_misfit pid page ≡ false
 own-fits pid chain page content is own makes =
     let one = own-one chain content own makes in
     let sole = is.kept.long in
@@ -92,13 +92,13 @@ found-at (entry ∷ chain) first zip = ap (λ (p : DiskPtr). Some p) (sym zip.0.
 
 -- ---- what one message makes
 
-pub made-one : (chain : Chain) (first : Found) (content : Content) → AllZip IsFoundAs chain (first ∷ []) → IsUpdate (told_of first) (Put content) → Makes (told chain) content
+pub made-one : (chain : Chain) (first : Found) (content : Content) → AllZip IsFoundAs chain (first ∷ []) → IsUpdate (found_message first) (Put content) → Makes (unplaced chain) content
 made-one chain first content zip reads = makes-found chain (first ∷ []) content zip (content, reads, refl)
 
-one-made : (chain : Chain) (first : Found) (content : Content) → AllZip IsFoundAs chain (first ∷ []) → Makes (told chain) content → IsUpdate (told_of first) (Put content)
+one-made : (chain : Chain) (first : Found) (content : Content) → AllZip IsFoundAs chain (first ∷ []) → Makes (unplaced chain) content → IsUpdate (found_message first) (Put content)
 one-made chain first content zip makes =
     let made = found-makes chain (first ∷ []) content zip makes in
-    subst (λ (c : Content). IsUpdate (told_of first) (Put c)) made.2 made.1
+    subst (λ (c : Content). IsUpdate (found_message first) (Put c)) made.2 made.1
 
 -- ---- why the one message was refused
 
@@ -108,19 +108,19 @@ module _ (chain : Chain) (first : Found) (zip : AllZip IsFoundAs chain (first �
   refuses-at pid amiss unfit (Corruption (Some pointer)) r = (unfit r.1, found-at chain first zip ∙ ap (λ (p : DiskPtr). Some p) (sym r.0))
   refuses-at pid amiss unfit e r = absurd r
 
-  pub refuses-roots : (e : Refusal) → RefusesMessage first.pointer ((roots : meta.Roots) → ¬ IsUpdate (told_of first) (Put (Roots roots))) e → RefusesOwn 0 chain e
+  pub refuses-roots : (e : Refusal) → RefusesMessage first.pointer ((roots : meta.Roots) → ¬ IsUpdate (found_message first) (Put (Roots roots))) e → RefusesOwn 0 chain e
   refuses-roots e r = refuses-at 0 _ (λ amiss fit. amiss fit.0 (one-made chain first (Roots fit.0) zip fit.1)) e r
 
-  pub refuses-counter : (e : Refusal) → RefusesMessage first.pointer ((n : ℕ) → ¬ IsUpdate (told_of first) (Put (Counter n))) e → RefusesOwn 1 chain e
+  pub refuses-counter : (e : Refusal) → RefusesMessage first.pointer ((n : ℕ) → ¬ IsUpdate (found_message first) (Put (Counter n))) e → RefusesOwn 1 chain e
   refuses-counter e r = refuses-at 1 _ (λ amiss fit. amiss fit.0 (one-made chain first (Counter fit.0) zip fit.1)) e r
 
--- ---- what a payload spells
+-- ---- what a payload encodes
 
-pub roots_spelled : (kind : MessageKind) (payload : List ℕ) (roots : meta.Roots) → Reads kind payload (Put (Roots roots)) → ReadsRoots payload roots []
-roots_spelled kinds.InlineMeta payload roots h = h
-roots_spelled kinds.BlobMeta payload roots h = h
-roots_spelled kind payload roots h = absurd h
+pub roots_encoded : (kind : MessageKind) (payload : List ℕ) (roots : meta.Roots) → Decodes kind payload (Put (Roots roots)) → ReadsRoots payload roots []
+roots_encoded kinds.InlineMeta payload roots h = h
+roots_encoded kinds.BlobMeta payload roots h = h
+roots_encoded kind payload roots h = absurd h
 
-pub counter_spelled : (kind : MessageKind) (payload : List ℕ) (n : ℕ) → Reads kind payload (Put (Counter n)) → ReadsU64 payload n []
-counter_spelled kinds.Counter payload n h = h
-counter_spelled kind payload n h = absurd h
+pub counter_encoded : (kind : MessageKind) (payload : List ℕ) (n : ℕ) → Decodes kind payload (Put (Counter n)) → ReadsU64 payload n []
+counter_encoded kinds.Counter payload n h = h
+counter_encoded kind payload n h = absurd h

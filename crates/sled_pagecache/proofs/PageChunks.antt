@@ -2,7 +2,7 @@
 use Rattle.std.proofs.Common.{◌≡◌, ◌+◌, ◌-◌, ◌*◌, ◌/◌, ◌%◌, ◌<◌, ◌≤◌, ℕ, zero, suc, Bool, true, false, List, [], ◌∷◌, ◌++◌, length, Option, Some, None, slice_get, get_or, set, vec_len, Bor, refl, sym, ◌∙◌, ap, subst, arith, length-append}
 use Rattle.sled_pagecache.proofs.Names.{false≢true, ltb-false, append-nil, append_assoc, length-set, length_push, set-append_left, set-append_right, set-get_or, get_or-set_same, div-add-mod', mod_below, slice_get-get_or, slice_get_past, slice_get_read, slice_get_within, option_and_then_some, Vec, IsItemAt, Page}
 use Rattle.std.specs.Option.{MatchOption, option_and_then, option_map, unwrap_or}
-use Rattle.sled_pagecache.specs.PageTables.{pages_in, AreFilled, at_last, is_open}
+use Rattle.sled_pagecache.specs.PageTables.{pages_in, AreFilled, at_last, is_unfilled}
 
 -- ---- lists
 
@@ -196,11 +196,11 @@ module _ (fan : ℕ) where
   filled-push (chunk ∷ next ∷ chunks) new are full few =
       (are.0, filled-push (next ∷ chunks) new are.1 (λ last it is_last is. full (suc last) it (omega arith) is) few)
 
-  pub filled-one_more : (chunks : List (Vec Page)) (new : Vec Page) → AreFilled fan chunks → at_last (is_open fan) chunks ≡ false → vec_len new ≤ fan → AreFilled fan (chunks ++ new ∷ [])
+  pub filled-one_more : (chunks : List (Vec Page)) (new : Vec Page) → AreFilled fan chunks → at_last (is_unfilled fan) chunks ≡ false → vec_len new ≤ fan → AreFilled fan (chunks ++ new ∷ [])
   filled-one_more chunks new are closed few =
       filled-push chunks new are (λ last chunk is_last is.
       let most = chunk-few chunks last are (omega arith) chunk is in
-      let least : fan ≤ vec_len chunk = ltb-false (vec_len chunk) fan (sym (at_last-read (is_open fan) chunks last chunk is_last is) ∙ closed) in
+      let least : fan ≤ vec_len chunk = ltb-false (vec_len chunk) fan (sym (at_last-read (is_unfilled fan) chunks last chunk is_last is) ∙ closed) in
       omega arith) few
 
   -- ---- the page at an id

@@ -2,7 +2,7 @@
 use Rattle.sled_pagecache.proofs.Names.{◌≡◌, ◌+◌, ◌-◌, ◌*◌, ◌/◌, ◌%◌, ◌<◌, ◌≤◌, ℕ, Bool, true, List, [], ◌∷◌, ◌++◌, length, Some, None, slice_get, get_or, set, vec_len, vec_capacity, nat_lt, refl, sym, ◌∙◌, ap, arith, lt-ltb, ltb-true, and_parts, and_from, slice_get_past, slice_get_within, get_or_from_slice_get, Vec, option_and_then, with_item, Page}
 use Rattle.sled_pagecache.proofs.PageChunks as of_chunks
 use Rattle.sled_pagecache.specs.TableLoans.{with_page}
-use Rattle.sled_pagecache.specs.PageTables.{TableView, pages_in, AreFilled, at_last, is_open, has_room, view_of, IsPageTable}
+use Rattle.sled_pagecache.specs.PageTables.{TableView, pages_in, AreFilled, at_last, is_unfilled, has_room, view_of, IsPageTable}
 use Rattle.sled_pagecache.specs.Limits.{chunk_length as fan, most_pages}
 
 -- ---- the page at an id
@@ -84,12 +84,12 @@ module _ (chunks : List (Vec Page)) (last : ℕ) (is_last : last + 1 ≡ length 
   pub room-in : at_last (has_room fan) chunks ≡ true → vec_len chunk < fan
   room-in room =
       let here : has_room fan chunk ≡ true = sym (of_chunks.at_last-read (has_room fan) chunks last chunk is_last at) ∙ room in
-      ltb-true (vec_len chunk) fan (and_parts (is_open fan chunk) (nat_lt (vec_len chunk) (vec_capacity chunk)) here).0
+      ltb-true (vec_len chunk) fan (and_parts (is_unfilled fan chunk) (nat_lt (vec_len chunk) (vec_capacity chunk)) here).0
 
-  pub room-after : at_last (is_open fan) chunks ≡ true → (new : Vec Page) → vec_len new ≡ vec_len chunk → vec_len new < vec_capacity new → at_last (has_room fan) (set chunks last new) ≡ true
+  pub room-after : at_last (is_unfilled fan) chunks ≡ true → (new : Vec Page) → vec_len new ≡ vec_len chunk → vec_len new < vec_capacity new → at_last (has_room fan) (set chunks last new) ≡ true
   room-after is_open_last new len spare =
-      let few = ltb-true (vec_len chunk) fan (sym (of_chunks.at_last-read (is_open fan) chunks last chunk is_last at) ∙ is_open_last) in
-      of_chunks.at_last-set (has_room fan) chunks last new is_last ∙ and_from (is_open fan new) (nat_lt (vec_len new) (vec_capacity new)) (lt-ltb (vec_len new) fan (omega arith)) (lt-ltb (vec_len new) (vec_capacity new) spare)
+      let few = ltb-true (vec_len chunk) fan (sym (of_chunks.at_last-read (is_unfilled fan) chunks last chunk is_last at) ∙ is_open_last) in
+      of_chunks.at_last-set (has_room fan) chunks last new is_last ∙ and_from (is_unfilled fan new) (nat_lt (vec_len new) (vec_capacity new)) (lt-ltb (vec_len new) fan (omega arith)) (lt-ltb (vec_len new) (vec_capacity new) spare)
 
   module _ (is : IsPageTable chunks) (new : Vec Page) where
     pub grows-table : at_last (has_room fan) chunks ≡ true → length (pages_in chunks) < most_pages → vec_len new ≤ vec_len chunk + 1 → IsPageTable (set chunks last new)

@@ -1,6 +1,6 @@
 -- A page that is brought into memory: the table beside its log, and what one sees who knows the cache by its model.
-use Rattle.sled_pagecache.proofs.Names.{◌≡◌, ◌≤◌, inr, ℕ, Bool, true, false, List, [], length, Some, Result, Ok, Err, slice_get, slice_set, slice_index_or, refl, sym, ◌∙◌, ap, subst, arith, false≢true, false_from_ne_true, map-set, set-get_or, length-map, get_or_past, none-some, same_Some, slice_get_past, AllZip-long, AllByRecursion, IfErr, OnOk, OnErr, IsOk, Refusal, is_open, open_after, is_empty, is_chain, Event, Message, Chain, effect_of, effect_of_entry, IsSized, Ghosts, Cache, chain_length, IsResident, IsAway, chain_at, more, Went, IsCaused, Went-none, HoldsChain, IsKept, is_free, is_resident, RefusesReading, BringsIn, RefusesPull, IsDamaged, ReadsPage, is_reserved, stamps_in, resident_in, IsFreeOrNode, IsConsistent, Config, Journal, Kept, Page}
-use Rattle.sled_log.specs.State as log
+use Rattle.sled_pagecache.proofs.Names.{◌≡◌, ◌≤◌, inr, ℕ, Bool, true, false, List, [], length, Some, Result, Ok, Err, slice_get, slice_set, slice_index_or, refl, sym, ◌∙◌, ap, subst, arith, false≢true, false_from_ne_true, map-set, set-get_or, length-map, get_or_past, none-some, same_Some, slice_get_past, AllZip-long, AllByRecursion, IfErr, OnOk, OnErr, IsOk, Refusal, is_open, open_after, is_empty, is_chain, Event, Message, Chain, effect_of, effect_of_entry, IsSized, Ghosts, Cache, chain_length, IsResident, IsAway, chain_at, more, Went, IsCaused, Went-none, HoldsChain, IsKept, is_free, is_resident, RefusesReading, BringsIn, RefusesPull, IsDamaged, ReadsPage, is_reserved, stamps_in, resident_in, IsFreeOrNode, IsConsistent, Config, StickyLog, Kept, Page}
+use Rattle.sled_log.specs.LogState as log
 use Rattle.sled_pagecache.proofs.Lookups.{map-at, set-at, put-back, all-at, behind-own, kept-at, own-at}
 use Rattle.sled_pagecache.proofs.ReadCounts.{reads-none, reads-whole, reads-part}
 use Rattle.sled_pagecache.proofs.TableNodes.{view}
@@ -24,7 +24,7 @@ pub part-pulled : (q page : Page) (P : ℕ → Type 0) (result : Result (Unit {0
 part-pulled q page P (Ok done) err part held = tt
 part-pulled q page P (Err refusal) err part held = (ap is_resident err ∙ held, part.0, part.1, part.2)
 
-module _ {L : Type 0} (g : Ghosts L) (before after : Journal L) (pages : List Page) (free : List ℕ) (pid : ℕ) (q page : Page)
+module _ {L : Type 0} (g : Ghosts L) (before after : StickyLog L) (pages : List Page) (free : List ℕ) (pid : ℕ) (q page : Page)
     (c : IsConsistent g.tells g.state before pages free) (ready : before.fault ≡ false) (behind : is_reserved pid ≡ false) (at : slice_get pages pid ≡ Some q) where
   abbrev chain : Chain
   chain = chain_at (g.state before.log) pid
@@ -66,19 +66,19 @@ module _ {L : Type 0} (g : Ghosts L) (before after : Journal L) (pages : List Pa
 -- ---- in the words of the model
 
 module _ {L : Type 0} (g : Ghosts L) (next : ℕ) (config : Config) (recovered : Bool) where
-  abbrev cache : Journal L → List Page → Cache L
-  cache journal pages = view next config recovered journal pages
+  abbrev cache : StickyLog L → List Page → Cache L
+  cache sticky_log pages = view next config recovered sticky_log pages
 
   -- no page is there
-  pub brings-none : (journal : Journal L) (pages : List Page) (free : List ℕ) (pid : ℕ) → IsConsistent g.tells g.state journal pages free → is_reserved pid ≡ false → journal.fault ≡ false → length pages ≤ pid
-      → ((l : List _) → g.tells → (g.state journal.log).usable ≡ true → g.left_since journal.log (g.moment journal.log) l → log.IsLeft effect_of (log.told_state (g.state journal.log)) [] l)
-      → (let ok : Result (Unit {0}) Refusal = Ok tt in BringsIn g (cache journal pages) pid ok (cache journal pages))
-  brings-none journal pages free pid is behind ready past only = record {
+  pub brings-none : (sticky_log : StickyLog L) (pages : List Page) (free : List ℕ) (pid : ℕ) → IsConsistent g.tells g.state sticky_log pages free → is_reserved pid ≡ false → sticky_log.fault ≡ false → length pages ≤ pid
+      → ((l : List _) → g.tells → (g.state sticky_log.log).usable ≡ true → g.left_since sticky_log.log (g.moment sticky_log.log) l → log.IsLeft effect_of (log.unplaced_state (g.state sticky_log.log)) [] l)
+      → (let ok : Result (Unit {0}) Refusal = Ok tt in BringsIn g (cache sticky_log pages) pid ok (cache sticky_log pages))
+  brings-none sticky_log pages free pid is behind ready past only = record {
     left = record {
       opening = record { config = refl; recovered = refl };
       stamps = refl;
       next = refl;
-      went = Went-none g.tells g.state g.moment g.left_since g.counts journal (is.beside ready).usable only;
+      went = Went-none g.tells g.state g.moment g.left_since g.counts sticky_log (is.beside ready).usable only;
       same = λ _ _. refl;
     };
     cause = record { fault = ready; read = λ h. cc; write = λ h. cc; full = λ h. cc };
@@ -87,10 +87,10 @@ module _ {L : Type 0} (g : Ghosts L) (next : ℕ) (config : Config) (recovered :
     refused = λ _. tt;
   }
     where
-      past-chain : g.tells → chain_at (g.state journal.log) pid ≡ []
-      past-chain known = get_or_past (log.now effect_of_entry (g.state journal.log)) pid [] (let long = AllZip-long IsKept _ pages ((is.beside ready).kept known) in omega (arith, past, long))
+      past-chain : g.tells → chain_at (g.state sticky_log.log) pid ≡ []
+      past-chain known = get_or_past (log.now effect_of_entry (g.state sticky_log.log)) pid [] (let long = AllZip-long IsKept _ pages ((is.beside ready).kept known) in omega (arith, past, long))
 
-  module _ (before after : Journal L) (pages : List Page) (free : List ℕ) (pid : ℕ) (q page : Page) (c : IsConsistent g.tells g.state before pages free) (ready : before.fault ≡ false)
+  module _ (before after : StickyLog L) (pages : List Page) (free : List ℕ) (pid : ℕ) (q page : Page) (c : IsConsistent g.tells g.state before pages free) (ready : before.fault ≡ false)
       (behind : is_reserved pid ≡ false) (at : slice_get pages pid ≡ Some q) where
     old_resident : slice_get (resident_in pages) pid ≡ Some (is_resident q.kept)
     old_resident = map-at (λ (page : Page). is_resident page.kept) pages pid q at

@@ -1,6 +1,6 @@
 -- A page leaves memory, and its cache stays as it always is.
-use Rattle.sled_pagecache.proofs.Names.{eqb_tells, Contains-append_left, Contains-append_right, Contains-append_cases, Contains, ◌++◌, ◌≡◌, ◌≢◌, ◌⊎◌, ◌≤◌, inl, inr, ℕ, zero, suc, Bool, true, false, List, [], ◌∷◌, length, length-set, ◌^◌, map, Some, None, slice_get, slice_set, refl, sym, ◌∙◌, ap, subst, arith, false≢true, none-some, same_Some, map-set, AllZip, Chain, effect_of_entry, Ghosts, Cache, IsResident, IsAway, HoldsChain, IsKept, place_of, is_free, is_resident, AreOwn, IsRoots, IsCounter, IsFreeOrNode, IsOwnAt, IsConsistent, stamps_in, Config, CacheInfo, Journal, Kept, Page, HasNode, HasNoNode, StaysAt, size_of, size_if, paged_out, IsPagedOut, PagesOut}
-use Rattle.sled_log.specs.State as log
+use Rattle.sled_pagecache.proofs.Names.{eqb_tells, Contains-append_left, Contains-append_right, Contains-append_cases, Contains, ◌++◌, ◌≡◌, ◌≢◌, ◌⊎◌, ◌≤◌, inl, inr, ℕ, zero, suc, Bool, true, false, List, [], ◌∷◌, length, length-set, ◌^◌, map, Some, None, slice_get, slice_set, refl, sym, ◌∙◌, ap, subst, arith, false≢true, none-some, same_Some, map-set, AllZip, Chain, effect_of_entry, Ghosts, Cache, IsResident, IsAway, HoldsChain, IsKept, place_of, is_free, is_resident, AreOwn, IsRoots, IsCounter, IsFreeOrNode, IsOwnAt, IsConsistent, stamps_in, Config, CacheInfo, StickyLog, Kept, Page, HasNode, HasNoNode, StaysAt, access_size, size_if, paged_out, IsPagedOut, PagesOut}
+use Rattle.sled_log.specs.LogState as log
 use Rattle.sled_pagecache.proofs.InMemory.{stays-same, stays-then, set-others, set-none}
 use Rattle.sled_pagecache.proofs.ByIds.{at-id, set-by-id}
 use Rattle.sled_pagecache.proofs.Lookups.{map-at, set-at, put-back, all-at}
@@ -82,15 +82,15 @@ owns-out : (pages : List Page) (pid : ℕ) (q page : Page) → AreOwn pages → 
 owns-out pages pid q page own at out =
     set-by-id (λ (id : ℕ) (p : Page). IsOwnAt id p.kept) pages pid page own (subst (IsOwnAt pid) (sym out.kept) (own-kept pid q.kept (at-id (λ (id : ℕ) (p : Page). IsOwnAt id p.kept) pages pid q own at)))
 
-pub consistent-out : {L : Type 0} (g : Ghosts L) (journal : Journal L) (pages : List Page) (free : List ℕ) (pid : ℕ) (q page : Page)
-    → IsConsistent g.tells g.state journal pages free → slice_get pages pid ≡ Some q → IsPagedOut q page → IsConsistent g.tells g.state journal (slice_set pages pid page) free
-consistent-out g journal pages free pid q page is at out = record {
+pub consistent-out : {L : Type 0} (g : Ghosts L) (sticky_log : StickyLog L) (pages : List Page) (free : List ℕ) (pid : ℕ) (q page : Page)
+    → IsConsistent g.tells g.state sticky_log pages free → slice_get pages pid ≡ Some q → IsPagedOut q page → IsConsistent g.tells g.state sticky_log (slice_set pages pid page) free
+consistent-out g sticky_log pages free pid q page is at out = record {
   beside = λ clear.
       let beside = is.beside clear in
       record {
         usable = beside.usable;
         closed = beside.closed;
-        kept = λ known. zip-out (log.now effect_of_entry (g.state journal.log)) pages pid q page (beside.kept known) at out;
+        kept = λ known. zip-out (log.now effect_of_entry (g.state sticky_log.log)) pages pid q page (beside.kept known) at out;
         chains = beside.chains;
         sized = beside.sized;
       };
@@ -141,18 +141,18 @@ module _ {L : Type 0} where
       by other (inr (suc k, lt, is)) = absurd (omega (arith, lt))
 
   -- the node of a page
-  module _ (next : ℕ) (config : Config) (recovered : Bool) (journal : Journal L) (pages : List Page) (pid : ℕ) (q page : Page) (at : slice_get pages pid ≡ Some q) (out : IsPagedOut q page) where
+  module _ (next : ℕ) (config : Config) (recovered : Bool) (sticky_log : StickyLog L) (pages : List Page) (pid : ℕ) (q page : Page) (at : slice_get pages pid ≡ Some q) (out : IsPagedOut q page) where
     abbrev old : Cache L
-    old = view next config recovered journal pages
+    old = view next config recovered sticky_log pages
 
     abbrev new : Cache L
-    new = view next config recovered journal (slice_set pages pid page)
+    new = view next config recovered sticky_log (slice_set pages pid page)
 
     others : (other : ℕ) → other ≢ pid → StaysAt old new other
-    others = set-others next next config recovered journal journal pages pid q page at
+    others = set-others next next config recovered sticky_log sticky_log pages pid q page at
 
     gone : HasNoNode new pid
-    gone = set-none next next config recovered journal journal pages pid q page at (ap (λ (k : Kept). size_if (size_of page) k) out.kept ∙ no-node-out (size_of page) q.kept)
+    gone = set-none next next config recovered sticky_log sticky_log pages pid q page at (ap (λ (k : Kept). size_if (access_size page) k) out.kept ∙ no-node-out (access_size page) q.kept)
 
     new-at : slice_get new.resident pid ≡ Some (is_resident page.kept)
     new-at = map-at (λ (p : Page). is_resident p.kept) (slice_set pages pid page) pid page (set-at pages pid q page at)

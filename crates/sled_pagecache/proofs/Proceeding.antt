@@ -1,5 +1,5 @@
 -- Calls of a log, one after another up to the first that is refused.
-use Rattle.sled_pagecache.proofs.Names.{◌≡◌, length, true, false, List, [], ◌∷◌, ◌++◌, Option, None, Some, Result, Ok, Err, refl, sym, ◌∙◌, ap, subst, append_assoc, append-nil, Read, Write, Refusal, ReportableBug, Io, Corruption, OutOfMemory, LogFull, Event, Change, Message, Told, effect_of, IsLeft, told_state, Ghosts, IsCaused, is_write_fault, begun_by, HasGrown-since, IsCaused-since, Went-none, Went-then, Went-last, refusal_in, is_fault, Comes, TakesNoRoom, LacksRoom, Reaches, Proceeds, Journal}
+use Rattle.sled_pagecache.proofs.Names.{◌≡◌, length, true, false, List, [], ◌∷◌, ◌++◌, Option, None, Some, Result, Ok, Err, refl, sym, ◌∙◌, ap, subst, append_assoc, append-nil, Read, Write, Refusal, ReportableBug, Io, Corruption, OutOfMemory, LogFull, Event, Change, Message, Messages, effect_of, IsLeft, unplaced_state, Ghosts, IsCaused, is_write_fault, begun_by, HasGrown-since, IsCaused-since, Went-none, Went-then, Went-last, refusal_in, is_fault, Comes, TakesNoRoom, LacksRoom, Reaches, Proceeds, StickyLog}
 use Rattle.sled_base.specs.declared.types.Refusal.TheVariants.{Unsupported}
 use Rattle.sled_pagecache.specs.Proceeding.{WasFull}
 
@@ -33,7 +33,7 @@ module _ {L : Type 0} (g : Ghosts L) where
 
   -- ---- one call
 
-  reaches-behind : {T : Type 0} (old new : Journal L) (events : List (Event Message)) (result : Result T Refusal) → Comes g old new events
+  reaches-behind : {T : Type 0} (old new : StickyLog L) (events : List (Event Message)) (result : Result T Refusal) → Comes g old new events
       → IsCaused g.tells g.state g.moment g.left_since g.counts old new ⊥ result → Reaches g old new events (refusal_in result)
   reaches-behind old new events (Ok answer) went cause = went
   reaches-behind old new events (Err refusal) went cause = record {
@@ -47,7 +47,7 @@ module _ {L : Type 0} (g : Ghosts L) where
   }
 
   -- a call that tells nothing, behind others that were done
-  pub proceeds-behind : {T : Type 0} (old mid new : Journal L) (events : List (Event Message)) (result : Result T Refusal) → Proceeds g old mid events None
+  pub proceeds-behind : {T : Type 0} (old mid new : StickyLog L) (events : List (Event Message)) (result : Result T Refusal) → Proceeds g old mid events None
       → Comes g mid new []
       → IsCaused g.tells g.state g.moment g.left_since g.counts mid new ⊥ result
       → (events ≡ [] → TakesNoRoom g mid.log new.log)
@@ -61,23 +61,23 @@ module _ {L : Type 0} (g : Ghosts L) where
   }
 
   -- no call at all
-  pub proceeds-none : (journal : Journal L)
-      → ((pages : List Told) → g.tells → (g.state journal.log).usable ≡ true → g.left_since journal.log (g.moment journal.log) pages → IsLeft effect_of (told_state (g.state journal.log)) [] pages)
-      → journal.fault ≡ false → (g.state journal.log).usable ≡ true → Proceeds g journal journal [] None
-  proceeds-none journal only clear usable = record {
-    reaches = Went-none g.tells g.state g.moment g.left_since g.counts journal usable only;
+  pub proceeds-none : (sticky_log : StickyLog L)
+      → ((pages : List Messages) → g.tells → (g.state sticky_log.log).usable ≡ true → g.left_since sticky_log.log (g.moment sticky_log.log) pages → IsLeft effect_of (unplaced_state (g.state sticky_log.log)) [] pages)
+      → sticky_log.fault ≡ false → (g.state sticky_log.log).usable ≡ true → Proceeds g sticky_log sticky_log [] None
+  proceeds-none sticky_log only clear usable = record {
+    reaches = Went-none g.tells g.state g.moment g.left_since g.counts sticky_log usable only;
     fault = clear;
     room = λ none n full. full;
   }
 
   -- a call that tells one message
-  pub proceeds-told : {T : Type 0} (old new : Journal L) (event : Event Message) (result : Result T Refusal)
-      → ((pages : List Told) → g.tells → (g.state old.log).usable ≡ true → g.left_since old.log (g.moment old.log) pages → IsLeft effect_of (told_state (g.state old.log)) [] pages)
+  pub proceeds-unplaced : {T : Type 0} (old new : StickyLog L) (event : Event Message) (result : Result T Refusal)
+      → ((pages : List Messages) → g.tells → (g.state old.log).usable ≡ true → g.left_since old.log (g.moment old.log) pages → IsLeft effect_of (unplaced_state (g.state old.log)) [] pages)
       → old.fault ≡ false → (g.state old.log).usable ≡ true
       → Comes g old new (begun_by result (event ∷ []))
       → IsCaused g.tells g.state g.moment g.left_since g.counts old new (LacksRoom g old.log (event ∷ [])) result
       → Proceeds g old new (event ∷ []) (refusal_in result)
-  proceeds-told old new event result only clear usable went cause = record { reaches = by result went cause; fault = cause.fault ∙ fault-same result; room = λ none. (let e = none in cc) }
+  proceeds-unplaced old new event result only clear usable went cause = record { reaches = by result went cause; fault = cause.fault ∙ fault-same result; room = λ none. (let e = none in cc) }
     where
       by : {T : Type 0} (result : Result T Refusal) → Comes g old new (begun_by result (event ∷ []))
           → IsCaused g.tells g.state g.moment g.left_since g.counts old new (LacksRoom g old.log (event ∷ [])) result → Reaches g old new (event ∷ []) (refusal_in result)
@@ -101,7 +101,7 @@ module _ {L : Type 0} (g : Ghosts L) where
   own-clear refusal own = refl
 
   -- a refusal of the cache's own, after calls that were done
-  pub proceeds-refused : (old new : Journal L) (events : List (Event Message)) (refusal : Refusal) → IsOwnRefusal refusal → Proceeds g old new events None → Proceeds g old new events (Some refusal)
+  pub proceeds-refused : (old new : StickyLog L) (events : List (Event Message)) (refusal : Refusal) → IsOwnRefusal refusal → Proceeds g old new events None → Proceeds g old new events (Some refusal)
   proceeds-refused old new events refusal own done = record {
     reaches = record {
       came = events;
@@ -118,7 +118,7 @@ module _ {L : Type 0} (g : Ghosts L) where
 
   -- ---- calls after calls
 
-  full-then : (old mid new : Journal L) (first came rest : List (Event Message)) → Proceeds g old mid first None → WasFull g mid new came rest → WasFull g old new (first ++ came) rest
+  full-then : (old mid new : StickyLog L) (first came rest : List (Event Message)) → Proceeds g old mid first None → WasFull g mid new came rest → WasFull g old new (first ++ came) rest
   full-then old mid new first came rest one full = record {
     at = full.at;
     went = Went-then g.tells g.state g.moment g.left_since g.counts old mid full.at first came one.reaches one.fault full.went;
@@ -128,7 +128,7 @@ module _ {L : Type 0} (g : Ghosts L) where
     behind = full.behind;
   }
 
-  reaches-then : (old mid new : Journal L) (first second : List (Event Message)) (refusal : Option Refusal) → Proceeds g old mid first None → Reaches g mid new second refusal → Reaches g old new (first ++ second) refusal
+  reaches-then : (old mid new : StickyLog L) (first second : List (Event Message)) (refusal : Option Refusal) → Proceeds g old mid first None → Reaches g mid new second refusal → Reaches g old new (first ++ second) refusal
   reaches-then old mid new first second None one two = Went-then g.tells g.state g.moment g.left_since g.counts old mid new first second one.reaches one.fault two
   reaches-then old mid new first second (Some refusal) one two = record {
     came = first ++ two.came;
@@ -141,7 +141,7 @@ module _ {L : Type 0} (g : Ghosts L) where
   }
 
   -- more calls after some that were done
-  pub proceeds-then : (old mid new : Journal L) (first second : List (Event Message)) (refusal : Option Refusal)
+  pub proceeds-then : (old mid new : StickyLog L) (first second : List (Event Message)) (refusal : Option Refusal)
       → Proceeds g old mid first None → Proceeds g mid new second refusal → Proceeds g old new (first ++ second) refusal
   proceeds-then old mid new first second refusal one two = record {
     reaches = reaches-then old mid new first second refusal one two.reaches;
@@ -154,7 +154,7 @@ module _ {L : Type 0} (g : Ghosts L) where
   lacks-more log rest more lacks = absurd lacks
 
   -- a refusal of the first calls, where more were to come
-  pub proceeds-first : (old new : Journal L) (first second : List (Event Message)) (refusal : Refusal) → Proceeds g old new first (Some refusal) → Proceeds g old new (first ++ second) (Some refusal)
+  pub proceeds-first : (old new : StickyLog L) (first second : List (Event Message)) (refusal : Refusal) → Proceeds g old new first (Some refusal) → Proceeds g old new (first ++ second) (Some refusal)
   proceeds-first old new first second refusal one =
       let cut = one.reaches in
       record {

@@ -1,5 +1,5 @@
 -- What a change of a page from 2 on makes of pages as a cache leaves them.
-use Rattle.sled_pagecache.proofs.Names.{◌≡◌, ◌≤◌, ◌<◌, ◌^◌, ℕ, Bool, true, false, cond, List, [], ◌∷◌, ◌++◌, length, set, Some, slice_get, slice_set, slice_index_or, sym, subst, arith, eq-eqb, ne_eqb, length-append, length-set, get_or_from_slice_get, AllZip-long, AllByRecursion, applied, WholeNode, is_empty, linked, chains_from, Content, Free, Node, Put, Link, after_link, contents_from, Change, Message, Told, effect_of, Holds, Hold, message_of, IsUsers, IsProper, if◌then◌else◌, ◌==◌}
+use Rattle.sled_pagecache.proofs.Names.{◌≡◌, ◌≤◌, ◌<◌, ◌^◌, ℕ, Bool, true, false, cond, List, [], ◌∷◌, ◌++◌, length, set, Some, slice_get, slice_set, slice_index_or, sym, subst, arith, eq-eqb, ne_eqb, length-append, length-set, get_or_from_slice_get, AllZip-long, AllByRecursion, applied, WholeNode, is_empty, linked, chains_from, Content, Free, Node, Put, Link, after_link, contents_from, Change, Message, Messages, effect_of, Holds, Hold, message_of, IsUsers, IsProper, if◌then◌else◌, ◌==◌}
 pub use Rattle.sled_node.proofs.Edits.{all_append as all-append}
 use Rattle.sled_pagecache.proofs.ByIds.{add-by-id, all-by-id, by-id-all, past-two, set-by-id}
 use Rattle.sled_node.specs.declared.node.link.Link.{Link as NodeLink}
@@ -12,7 +12,7 @@ all-set P i xs x h p = by-id-all P (set xs i x) (set-by-id (λ _. P) xs i x (all
 
 -- ---- a page changes, or is added
 
-pub proper-set : (pages : List Told) (contents : List Content) (pid : ℕ) (told : Told) (content : Content)
+pub proper-set : (pages : List Messages) (contents : List Content) (pid : ℕ) (told : Messages) (content : Content)
     → IsProper pages contents → 2 ≤ pid → length told ≤ 10 → IsUsers content
     → IsProper (slice_set pages pid told) (slice_set contents pid content)
 proper-set pages contents pid told content proper from fits node = record {
@@ -21,7 +21,7 @@ proper-set pages contents pid told content proper from fits node = record {
   few = subst (λ n. n ≤ 2 ^ 37) (sym (length-set contents pid content)) proper.few;
 }
 
-pub proper-add : (pages : List Told) (contents : List Content) (told : Told) (content : Content)
+pub proper-add : (pages : List Messages) (contents : List Content) (told : Messages) (content : Content)
     → IsProper pages contents → 2 ≤ length contents → length contents < 2 ^ 37 → length told ≤ 10 → IsUsers content
     → IsProper (pages ++ told ∷ []) (contents ++ content ∷ [])
 proper-add pages contents told content proper from room fits node = record {
@@ -36,7 +36,7 @@ IsPut Free = Unit {0}
 IsPut (Node node) = Unit {0}
 IsPut other = ⊥
 
-module _ (pages : List Told) (contents : List Content) (hold : Hold pages contents) (proper : IsProper pages contents) (pid : ℕ) (from : 2 ≤ pid) where
+module _ (pages : List Messages) (contents : List Content) (hold : Hold pages contents) (proper : IsProper pages contents) (pid : ℕ) (from : 2 ≤ pid) where
   put-one : (m : Message) (content : Content) → IsUsers content → pid < length contents
       → IsProper (if pid == length pages then pages ++ (m ∷ []) ∷ [] else slice_set pages pid (m ∷ [])) (if pid == length contents then contents ++ content ∷ [] else slice_set contents pid content)
   put-one m content users lt =
@@ -59,7 +59,7 @@ module _ (pages : List Told) (contents : List Content) (hold : Hold pages conten
       rw (eq-eqb pid (length pages) (omega (arith, last, long)), eq-eqb pid (length contents) last)
       (proper-add pages contents (message_of (Put (Node node)) ∷ []) (Node node) proper (omega (arith, from, last)) room (omega arith) tt)
 
-  linked-fits : (told : Told) (m : Message) → length told < 10 → length (linked effect_of told m) ≤ 10
+  linked-fits : (told : Messages) (m : Message) → length told < 10 → length (linked effect_of told m) ≤ 10
   linked-fits told m short = by (is_empty effect_of told)
     where
       by : (b : Bool) → length (cond b told (told ++ m ∷ [])) ≤ 10

@@ -1,17 +1,17 @@
 -- What was found of a page makes what the messages of its chain make, and why no node is read.
-use Rattle.sled_pagecache.proofs.Names.{◌≡◌, ◌⊎◌, inl, inr, ℕ, true, false, List, [], ◌∷◌, ◌++◌, map, Some, refl, sym, ◌∙◌, ap, subst, false≢true, AllZip, log_kind_of, MessageKind, FreeInPull, DiskPtr, Inline, Blob, Refusal, ReportableBug, Corruption, OutOfMemory, is_freeing, is_empty, Content, Roots, Node, Update, Put, Link, Message, Entry, Chain, Told, told, effect_of_entry, blob_kind, kind_at, Reads, IsUpdate, LeadTo, Makes, zip-append, applied, IsFoundAs, RefusesPull, told_of, MakesNode, IsFoundWrong, IsWrongAt, BeginsFree, RefusesNode, Found}
+use Rattle.sled_pagecache.proofs.Names.{◌≡◌, ◌⊎◌, inl, inr, ℕ, true, false, List, [], ◌∷◌, ◌++◌, map, Some, refl, sym, ◌∙◌, ap, subst, false≢true, AllZip, log_kind_of, MessageKind, FreeInPull, DiskPtr, Inline, Blob, Refusal, ReportableBug, Corruption, OutOfMemory, is_freeing, is_empty, Content, Roots, Node, Update, Put, Link, Message, Entry, Chain, Messages, unplaced, effect_of_entry, blob_kind, kind_at, Decodes, IsUpdate, LeadTo, Makes, zip-append, applied, IsFoundAs, RefusesPull, found_message, MakesNode, IsFoundWrong, IsWrongAt, BeginsFree, RefusesNode, Found}
 use Rattle.sled_base.specs.declared.kinds.MessageKind.TheVariants as kinds
 
 -- ---- a kind, and that of its blob
 
 -- a payload reads as a blob what it reads
-reads-blob : (kind : MessageKind) (payload : List ℕ) (u : Update) → Reads (blob_kind kind) payload u ≡ Reads kind payload u
+reads-blob : (kind : MessageKind) (payload : List ℕ) (u : Update) → Decodes (blob_kind kind) payload u ≡ Decodes kind payload u
 reads-blob kinds.InlineMeta payload (Put (Roots roots)) = refl
 reads-blob kinds.InlineNode payload (Put (Node node)) = refl
 reads-blob kinds.InlineLink payload (Link link) = refl
 reads-blob kind payload u = refl
 
-reads-at : (pointer : DiskPtr) (kind : MessageKind) (payload : List ℕ) (u : Update) → Reads (kind_at pointer kind) payload u ≡ Reads kind payload u
+reads-at : (pointer : DiskPtr) (kind : MessageKind) (payload : List ℕ) (u : Update) → Decodes (kind_at pointer kind) payload u ≡ Decodes kind payload u
 reads-at (Inline place) kind payload u = refl
 reads-at (Blob place pointer) kind payload u = reads-blob kind payload u
 
@@ -31,39 +31,39 @@ effect-at (Blob place pointer) kind = blob-effect kind
 abbrev IsToo : Message → Message → Type 0
 IsToo m n = (u : Update) → IsUpdate m u → IsUpdate n u
 
-lead-too : (before : Content) (ms ns : Told) (after : Content) → AllZip IsToo ms ns → LeadTo before ms after → LeadTo before ns after
+lead-too : (before : Content) (ms ns : Messages) (after : Content) → AllZip IsToo ms ns → LeadTo before ms after → LeadTo before ns after
 lead-too before [] [] after too h = h
 lead-too before (m ∷ ms) (n ∷ ns) after too h = (h.0, h.1, h.2, too.0 (Link h.1) h.3, h.4, lead-too (Node (applied h.1 h.0)) ms ns after too.1 h.5)
 lead-too before ms ns after too h = absurd too
 
-makes-too : (ms ns : Told) (content : Content) → AllZip IsToo ms ns → Makes ms content → Makes ns content
+makes-too : (ms ns : Messages) (content : Content) → AllZip IsToo ms ns → Makes ms content → Makes ns content
 makes-too [] ns content too h = absurd h
 makes-too (m ∷ ms) (n ∷ ns) content too h = (h.0, too.0 (Put h.0) h.1, lead-too h.0 ms ns content too.1 h.2)
 makes-too (m ∷ ms) [] content too h = absurd too
 
 -- ---- what was found of a chain
 
-found-is : (entry : Entry) (found : Found) → IsFoundAs entry found → (u : Update) → IsUpdate (told_of found) u ≡ IsUpdate entry.message u
+found-is : (entry : Entry) (found : Found) → IsFoundAs entry found → (u : Update) → IsUpdate (found_message found) u ≡ IsUpdate entry.message u
 found-is entry found is u =
-    ap (λ (kind : MessageKind). Reads kind found.payload.items u) is.0.0 ∙ ap (λ (payload : List ℕ). Reads (kind_at entry.place.pointer entry.message.kind) payload u) is.0.1
+    ap (λ (kind : MessageKind). Decodes kind found.payload.items u) is.0.0 ∙ ap (λ (payload : List ℕ). Decodes (kind_at entry.place.pointer entry.message.kind) payload u) is.0.1
     ∙ reads-at entry.place.pointer entry.message.kind entry.message.payload u
 
-all-found : (chain : Chain) (found : List Found) → AllZip IsFoundAs chain found → AllZip IsToo (told chain) (map told_of found)
+all-found : (chain : Chain) (found : List Found) → AllZip IsFoundAs chain found → AllZip IsToo (unplaced chain) (map found_message found)
 all-found [] [] zip = tt
 all-found (e ∷ chain) (x ∷ found) zip = ((λ u. subst (λ (T : Type 0). T) (sym (found-is e x zip.0 u))), all-found chain found zip.1)
 all-found chain found zip = absurd zip
 
-found-all : (chain : Chain) (found : List Found) → AllZip IsFoundAs chain found → AllZip IsToo (map told_of found) (told chain)
+found-all : (chain : Chain) (found : List Found) → AllZip IsFoundAs chain found → AllZip IsToo (map found_message found) (unplaced chain)
 found-all [] [] zip = tt
 found-all (e ∷ chain) (x ∷ found) zip = ((λ u. subst (λ (T : Type 0). T) (found-is e x zip.0 u)), found-all chain found zip.1)
 found-all chain found zip = absurd zip
 
 -- what was found makes what the chain makes, and nothing else
-pub makes-found : (chain : Chain) (found : List Found) (content : Content) → AllZip IsFoundAs chain found → Makes (map told_of found) content → Makes (told chain) content
-makes-found chain found content zip h = makes-too (map told_of found) (told chain) content (found-all chain found zip) h
+pub makes-found : (chain : Chain) (found : List Found) (content : Content) → AllZip IsFoundAs chain found → Makes (map found_message found) content → Makes (unplaced chain) content
+makes-found chain found content zip h = makes-too (map found_message found) (unplaced chain) content (found-all chain found zip) h
 
-pub found-makes : (chain : Chain) (found : List Found) (content : Content) → AllZip IsFoundAs chain found → Makes (told chain) content → Makes (map told_of found) content
-found-makes chain found content zip h = makes-too (told chain) (map told_of found) content (all-found chain found zip) h
+pub found-makes : (chain : Chain) (found : List Found) (content : Content) → AllZip IsFoundAs chain found → Makes (unplaced chain) content → Makes (map found_message found) content
+found-makes chain found content zip h = makes-too (unplaced chain) (map found_message found) content (all-found chain found zip) h
 
 -- what was found of a page that isn't free doesn't begin so
 pub begins-full : (chain : Chain) (found : List Found) → AllZip IsFoundAs chain found → is_empty effect_of_entry chain ≡ false → ¬ BeginsFree found
@@ -95,7 +95,7 @@ wrong-at : (chain : Chain) (found : List Found) (pointer : DiskPtr) → AllZip I
 wrong-at chain found pointer zip r =
     let at = split chain r.before r.first r.after (subst (λ (l : List Found). AllZip IsFoundAs chain l) r.is zip) in
     let both : AllZip IsFoundAs (at.0 ++ at.1 ∷ []) (r.before ++ r.first ∷ []) = zip-append IsFoundAs at.0 r.before (at.1 ∷ []) (r.first ∷ []) at.4 (at.5, tt) in
-    let sound : (r.before ≡ []) ⊎ MakesNode (map told_of r.before) → (at.0 ≡ []) ⊎ MakesNode (told at.0) =
+    let sound : (r.before ≡ []) ⊎ MakesNode (map found_message r.before) → (at.0 ≡ []) ⊎ MakesNode (unplaced at.0) =
     elim [ inl none ↦ inl (none-found at.0 r.before at.4 none) | inr made ↦ inr (made.0, makes-found at.0 r.before (Node made.0) at.4 made.1) ] in
     record {
       before = at.0;

@@ -1,9 +1,9 @@
 -- A call that puts a content on one page, as a step of the machine, told of the table that the cache keeps.
-use Rattle.sled_pagecache.proofs.Names.{◌≡◌, ◌≤◌, ◌<◌, ◌^◌, ℕ, Bool, true, false, List, [], ◌∷◌, ◌++◌, length, Result, Err, slice_set, refl, sym, ◌∙◌, ap, subst, arith, eq-eqb, ne_eqb, length-map, map-append, map-set, MatchBool, Read, Write, Error, Unsupported, Refusal, LogFull, chains_from, Node, Update, Put, contents_from, Content, Free, Event, Change, holds-after, effect_of, IsUpdate, MayChange, Hold, message_of, Ghosts, WholeNode, Cache, chain_length, IsIn, HasNoRoom, StepOver, Steps, IsBlamed, Went, IsCaused, IsOfLog, begun_by, Logged, journal_of, IsProper, page, State, with_page, Outcome, outcome, unchanged, IsRefused, UnlessFaulty, Fails, stamps_in, IsBeside, Answer, Call, Config, Journal}
+use Rattle.sled_pagecache.proofs.Names.{◌≡◌, ◌≤◌, ◌<◌, ◌^◌, ℕ, Bool, true, false, List, [], ◌∷◌, ◌++◌, length, Result, Err, slice_set, refl, sym, ◌∙◌, ap, subst, arith, eq-eqb, ne_eqb, length-map, map-append, map-set, MatchBool, Read, Write, Error, Unsupported, Refusal, LogFull, chains_from, Node, Update, Put, contents_from, Content, Free, Event, Change, holds-after, effect_of, IsUpdate, MayChange, Hold, message_of, Ghosts, WholeNode, Cache, chain_length, IsIn, HasNoRoom, StepOver, Steps, IsBlamed, Went, IsCaused, IsOfLog, begun_by, Logged, sticky_log_of, IsProper, page, State, with_page, Outcome, outcome, unchanged, IsRefused, UnlessFaulty, Fails, stamps_in, IsBeside, Answer, Call, Config, StickyLog}
 use Rattle.sled_base.specs.Errors.{error_of as error_by}
 use Rattle.sled_base.specs.declared.types.Error.TheVariants.{Io, OutOfMemory}
 use Rattle.sled_base.specs.declared.types.Refusal.TheVariants as refusals
-use Rattle.sled_log.specs.State as log
+use Rattle.sled_log.specs.LogState as log
 use Rattle.sled_pagecache.proofs.CacheSteps.{steps-went}
 use Rattle.sled_pagecache.proofs.Carrying.{proper-now}
 use Rattle.sled_pagecache.proofs.Changing.{leads-same, leads-begun, leads-set, leads-add}
@@ -11,7 +11,7 @@ use Rattle.sled_pagecache.proofs.ProperPages.{IsPut, put-proper, add-proper}
 use Rattle.sled_pagecache.proofs.Standing.{AreKnown, known-in, known-length}
 use Rattle.sled_pagecache.proofs.TableNodes.{view}
 use Rattle.sled_pagecache.specs.Logged.{now}
-use Rattle.sled_pagecache.specs.State.{Page}
+use Rattle.sled_pagecache.specs.State.{StampedPage}
 use Rattle.sled_pagecache.specs.declared.pagecache.page.Page.{Page as KeptPage}
 
 -- no write fault is kept
@@ -22,25 +22,25 @@ module _ {L : Type 0} (g : Ghosts L) where
   -- a content may be put on the page, which leaves pages as a cache does
   pub record MayPut (l : L) (held : Logged) (pid : ℕ) (content : Content) : Type 0 where
     pub may : MayChange (now held) pid (Put content)
-    pub proper : IsProper (chains_from effect_of (log.now effect_of (log.told_state (g.state l))) (Change pid (message_of (Put content)))) (contents_from (now held) (Change pid (Put content)))
+    pub proper : IsProper (chains_from effect_of (log.now effect_of (log.unplaced_state (g.state l))) (Change pid (message_of (Put content)))) (contents_from (now held) (Change pid (Put content)))
 
   -- what the log holds makes the contents, which are as many as the pages
-  holds_told : (cache : Cache L) (held : Logged) (s : State) → IsIn g cache held s → s.fault ≡ false → Hold (log.now effect_of (log.told_state (g.state cache.log))) (now held)
-  holds_told cache held s is clear =
+  holds_unplaced : (cache : Cache L) (held : Logged) (s : State) → IsIn g cache held s → s.fault ≡ false → Hold (log.now effect_of (log.unplaced_state (g.state cache.log))) (now held)
+  holds_unplaced cache held s is clear =
       let logged = (is.known clear).logged in
-      holds-after (log.told_state (g.state cache.log)).stable held.stable (log.told_state (g.state cache.log)).pending held.pending logged.stable logged.pending
+      holds-after (log.unplaced_state (g.state cache.log)).stable held.stable (log.unplaced_state (g.state cache.log)).pending held.pending logged.stable logged.pending
 
   module _ (next : ℕ) (config : Config) (recovered : Bool) where
-    abbrev cache : Journal L → List KeptPage → Cache L
-    cache journal table = view next config recovered journal table
+    abbrev cache : StickyLog L → List KeptPage → Cache L
+    cache sticky_log table = view next config recovered sticky_log table
 
-    module _ (before : Journal L) (table : List KeptPage) (ready : before.fault ≡ false) (beside : IsBeside g.tells g.state before.log table) where
+    module _ (before : StickyLog L) (table : List KeptPage) (ready : before.fault ≡ false) (beside : IsBeside g.tells g.state before.log table) where
       known : (held : Logged) (s : State) → IsIn g (cache before table) held s → s.fault ≡ false → AreKnown s.pages table
       known held s is clear = known-in g (cache before table) table held s is clear refl beside
 
       many : (held : Logged) (s : State) → IsIn g (cache before table) held s → s.fault ≡ false → length (now held) ≡ length table
       many held s is clear =
-          ap length (sym (is.known clear).contents) ∙ length-map s.pages (λ (p : Page). p.content) ∙ known-length s.pages table (known held s is clear)
+          ap length (sym (is.known clear).contents) ∙ length-map s.pages (λ (p : StampedPage). p.content) ∙ known-length s.pages table (known held s is clear)
 
       -- on a page from 2 on, or on the next new one
       pub may-set : (held : Logged) (s : State) → IsIn g (cache before table) held s → s.fault ≡ false → (pid : ℕ) (content : Content) → IsPut content → 2 ≤ pid → pid < length table → MayPut before.log held pid content
@@ -49,7 +49,7 @@ module _ {L : Type 0} (g : Ghosts L) where
           let within : pid < length (now held) = omega (arith, same, there) in
           record {
             may = may-change content put within;
-            proper = put-proper (log.now effect_of (log.told_state (g.state before.log))) (now held) (holds_told (cache before table) held s is clear) (proper-now (log.told_state (g.state before.log)) held (is.known clear).logged) pid from content put within;
+            proper = put-proper (log.now effect_of (log.unplaced_state (g.state before.log))) (now held) (holds_unplaced (cache before table) held s is clear) (proper-now (log.unplaced_state (g.state before.log)) held (is.known clear).logged) pid from content put within;
           }
         where
           may-change : (content : Content) → IsPut content → pid < length (now held) → MayChange (now held) pid (Put content)
@@ -62,15 +62,15 @@ module _ {L : Type 0} (g : Ghosts L) where
           let same = many held s is clear in
           record {
             may = omega (arith, same);
-            proper = add-proper (log.now effect_of (log.told_state (g.state before.log))) (now held) (holds_told (cache before table) held s is clear) (proper-now (log.told_state (g.state before.log)) held (is.known clear).logged) (length table) from node (sym same) (omega (arith, same, room));
+            proper = add-proper (log.now effect_of (log.unplaced_state (g.state before.log))) (now held) (holds_unplaced (cache before table) held s is clear) (proper-now (log.unplaced_state (g.state before.log)) held (is.known clear).logged) (length table) from node (sym same) (omega (arith, same, room));
           }
 
-      module _ (after : Journal L) (call : Call) where
+      module _ (after : StickyLog L) (call : Call) where
         -- nothing was told to the log, and nothing changes
-        pub nothing-told : (pages : List KeptPage) → pages ≡ table → (answer : Answer) → Went g.tells g.state g.moment g.left_since g.counts before after [] → after.fault ≡ false
+        pub nothing-appended : (pages : List KeptPage) → pages ≡ table → (answer : Answer) → Went g.tells g.state g.moment g.left_since g.counts before after [] → after.fault ≡ false
             → ((s : State) → s.fault ≡ false → AreKnown s.pages table → StepOver g (cache before table) s call answer (unchanged s))
             → Steps g (cache before table) call answer (cache after pages)
-        nothing-told pages back answer went free step =
+        nothing-appended pages back answer went free step =
             steps-went g (cache before table) (cache after pages) before after call answer [] (record { config = refl; recovered = refl }) refl refl refl ready went
             (λ held s is clear. leads-same g (cache before table) (cache after pages) held s is clear call answer refl (step s clear (known held s is clear)) (ap stamps_in back) free)
 
@@ -97,13 +97,13 @@ module _ {L : Type 0} (g : Ghosts L) where
               → (let told : Result T Refusal = Err refusal in IsCaused g.tells g.state g.moment g.left_since g.counts before after (g.is_full before.log (length (message_of (Put content)).payload)) told)
               → Steps g (cache before table) call (answer (error_by refusal)) (cache after pages)
           put-refused T pages back answer step refusals.OutOfMemory of went cause =
-              nothing-told pages back (answer OutOfMemory) went cause.fault (λ s clear are. step s clear are OutOfMemory (unchanged s) refl)
+              nothing-appended pages back (answer OutOfMemory) went cause.fault (λ s clear are. step s clear are OutOfMemory (unchanged s) refl)
           put-refused T pages back answer step (refusals.Io Read) of went cause =
-              nothing-told pages back (answer (Io Read)) went cause.fault (λ s clear are. step s clear are (Io Read) (unchanged s) refl)
+              nothing-appended pages back (answer (Io Read)) went cause.fault (λ s clear are. step s clear are (Io Read) (unchanged s) refl)
           put-refused T pages back answer step (refusals.Io Write) of went cause =
               put-failed pages back (answer (Io Write)) went cause.fault (λ s clear are. step s clear are (Io Write) (outcome (record s { fault = true }) (change ∷ [])) refl)
           put-refused T pages back answer step (refusals.Unsupported LogFull) of went cause =
-              nothing-told pages back (answer (Unsupported LogFull)) went cause.fault (λ s clear are. step s clear are (Unsupported LogFull) (unchanged s) (cause.full refl, refl))
+              nothing-appended pages back (answer (Unsupported LogFull)) went cause.fault (λ s clear are. step s clear are (Unsupported LogFull) (unchanged s) (cause.full refl, refl))
           put-refused T pages back answer step refusal of went cause = absurd of
 
           module _ (went : Went g.tells g.state g.moment g.left_since g.counts before after (Change pid (message_of (Put content)) ∷ [])) (free : after.fault ≡ false) (answer : Answer) (stamp : ℕ) (q : KeptPage) (at : q.stamp ≡ stamp) where
@@ -134,7 +134,7 @@ module _ {L : Type 0} (g : Ghosts L) where
 
   -- a fault is told only where its count grew
   pub blamed : {T U : Type 0} (old new : Cache L) (no_room : Type 0) (refusal : Refusal)
-      → (let told : Result T Refusal = Err refusal in IsCaused g.tells g.state g.moment g.left_since g.counts (journal_of old) (journal_of new) no_room told)
+      → (let told : Result T Refusal = Err refusal in IsCaused g.tells g.state g.moment g.left_since g.counts (sticky_log_of old) (sticky_log_of new) no_room told)
       → (let answer : Result U Error = Err (error_by refusal) in IsBlamed g old new answer)
   blamed old new no_room (refusals.Io Read) cause = record { read = λ said. cause.read refl; write = λ said clear. absurd cc }
   blamed old new no_room (refusals.Io Write) cause = record { read = λ said. absurd cc; write = λ said clear. cause.write refl }

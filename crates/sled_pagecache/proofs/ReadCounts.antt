@@ -1,5 +1,5 @@
 -- How often a call that may bring a page into memory reads its log.
-use Rattle.sled_pagecache.proofs.Names.{◌≡◌, ◌≤◌, ◌<◌, ◌+◌, ℕ, zero, suc, List, length, Result, Ok, Err, refl, ◌∙◌, ap, arith, AllZip-long, AllZip, Bool, true, false, Refusal, is_resident, Journal, Counts, Chain, Ghosts, Cache, chain_length, IsResident, IsAway, more, IsLoaded, Page, ReadsNothing, ReadsPage, HasRead, own_among, OnErr}
+use Rattle.sled_pagecache.proofs.Names.{◌≡◌, ◌≤◌, ◌<◌, ◌+◌, ℕ, zero, suc, List, length, Result, Ok, Err, refl, ◌∙◌, ap, arith, AllZip-long, AllZip, Bool, true, false, Refusal, is_resident, StickyLog, Counts, Chain, Ghosts, Cache, chain_length, IsResident, IsAway, more, IsLoaded, Page, ReadsNothing, ReadsPage, HasRead, own_among, OnErr}
 use Rattle.sled_pagecache.proofs.ChainReads.{more-add}
 
 module _ {L : Type 0} (g : Ghosts L) (old new : Cache L) (pid : ℕ) where
@@ -67,9 +67,9 @@ module _ {L : Type 0} (counts : L → Counts) where
       read-known old new (own_among (length chains)) result (second ∙ ap (more (own_among (length pages))) first ∙ ap (λ n. more (own_among n) (counts old).reads) (AllZip-long IsLoaded chains pages loaded))
 
 -- a refusal that comes once a page was read, or lay in memory
-pub read-all : {L T : Type 0} (counts : L → Counts) (before after : Journal L) (q : Page) (result : Result T Refusal) (resident : Bool) → is_resident q.kept ≡ resident
+pub read-all : {L T : Type 0} (counts : L → Counts) (before after : StickyLog L) (q : Page) (result : Result T Refusal) (resident : Bool) → is_resident q.kept ≡ resident
     → (is_resident q.kept ≡ true → after ≡ before) → (is_resident q.kept ≡ false → (counts after.log).reads ≡ more (length q.infos.items) (counts before.log).reads)
     → OnErr result ((times : ℕ) × (times ≤ length q.infos.items) × ((counts after.log).reads ≡ more times (counts before.log).reads))
 read-all counts before after q (Ok done) resident is unread reads = tt
-read-all counts before after q (Err refusal) true is unread reads = (0, omega arith, ap (λ journal. (counts journal.log).reads) (unread is))
+read-all counts before after q (Err refusal) true is unread reads = (0, omega arith, ap (λ sticky_log. (counts sticky_log.log).reads) (unread is))
 read-all counts before after q (Err refusal) false is unread reads = (length q.infos.items, omega arith, reads is)

@@ -1,20 +1,20 @@
 -- Putting another content on a page, as a step of the machine.
-use Rattle.sled_pagecache.proofs.Names.{◌≡◌, ◌≢◌, inl, inr, ◌≤◌, ◌<◌, ◌+◌, ◌-◌, ◌^◌, ℕ, Bool, false, List, [], ◌∷◌, length, Some, Result, Ok, Err, slice_get, slice_set, refl, sym, ◌∙◌, ap, eq-eqb, ne_eqb, slice_get_within, Unsupported, Refusal, StampUsedUp, Content, Event, Update, Put, Change, IsUpdate, message_of, Ghosts, Cache, chain_length, HasNoRoom, StepOver, IsIn, Steps, Went, IsCaused, begun_by, Logged, page, State, page_at, with_page, is_reserved, Does, Outcome, outcome, unchanged, Swapped, Swaps, SwapsContent, RefusesSwap, IsBeside, Token, token, Answer, Call, Config, Journal}
+use Rattle.sled_pagecache.proofs.Names.{◌≡◌, ◌≢◌, inl, inr, ◌≤◌, ◌<◌, ◌+◌, ◌-◌, ◌^◌, ℕ, Bool, false, List, [], ◌∷◌, length, Some, Result, Ok, Err, slice_get, slice_set, refl, sym, ◌∙◌, ap, eq-eqb, ne_eqb, slice_get_within, Unsupported, Refusal, StampUsedUp, Content, Event, Update, Put, Change, IsUpdate, message_of, Ghosts, Cache, chain_length, HasNoRoom, StepOver, IsIn, Steps, Went, IsCaused, begun_by, Logged, page, State, page_at, with_page, is_reserved, Does, Outcome, outcome, unchanged, Swapped, Swaps, SwapsContent, RefusesSwap, IsBeside, Token, token, Answer, Call, Config, StickyLog}
 use Rattle.sled_base.specs.Errors.{error_of as error_by}
 use Rattle.sled_pagecache.proofs.Judging.{IsSwap}
 use Rattle.sled_pagecache.proofs.Lookups.{behind-own}
 use Rattle.sled_pagecache.proofs.ProperPages.{IsPut}
-use Rattle.sled_pagecache.proofs.Putting.{unless-clear, MayPut, may-set, nothing-told, put-refused, put-set}
+use Rattle.sled_pagecache.proofs.Putting.{unless-clear, MayPut, may-set, nothing-appended, put-refused, put-set}
 use Rattle.sled_pagecache.proofs.Standing.{AreKnown, found-known}
 use Rattle.sled_pagecache.proofs.TableNodes.{view}
 use Rattle.sled_pagecache.specs.Pages as kept
-use Rattle.sled_pagecache.specs.State.{Page, is_free}
+use Rattle.sled_pagecache.specs.State.{StampedPage, is_free}
 use Rattle.sled_pagecache.specs.declared.pagecache.page.Page.{Page as KeptPage}
 
 -- ---- what the machine tests
 
 module _ (messages : ℕ → ℕ) (no_room : Event Update → Type 0) (s : State) (old : Token) {R : Type 0} (rejected : R) (content : Content) (clear : s.fault ≡ false) (free : is_reserved old.pid ≡ false)
-    (p : Page) (at : page_at s old.pid ≡ Some p) (full : is_free p.content ≡ false) (same : p.stamp ≡ old.stamp) where
+    (p : StampedPage) (at : page_at s old.pid ≡ Some p) (full : is_free p.content ≡ false) (same : p.stamp ≡ old.stamp) where
   abbrev Puts : Swapped R → Outcome → Type 0
   Puts answer out = Swaps s old rejected answer out (λ _. SwapsContent messages no_room s old (Put content) content answer out)
 
@@ -29,15 +29,15 @@ module _ (messages : ℕ → ℕ) (no_room : Event Update → Type 0) (s : State
 
 -- ---- the call, told of the table
 
-module _ {L : Type 0} (g : Ghosts L) (next : ℕ) (config : Config) (recovered : Bool) (before : Journal L) (table : List KeptPage) (ready : before.fault ≡ false) (beside : IsBeside g.tells g.state before.log table)
+module _ {L : Type 0} (g : Ghosts L) (next : ℕ) (config : Config) (recovered : Bool) (before : StickyLog L) (table : List KeptPage) (ready : before.fault ≡ false) (beside : IsBeside g.tells g.state before.log table)
     (old : Token) (pid : ℕ) {R : Type 0} (rejected : R) (content : Content) (put : IsPut content) (call : Call) (answered : Swapped R → Answer)
     (swap : let cache = view next config recovered before table in IsSwap g cache old rejected call answered (λ s answer out _. SwapsContent (chain_length g.state cache) (HasNoRoom g before.log) s old (Put content) content answer out))
     (same : old.pid ≡ pid) (pages : List KeptPage) (back : pages ≡ table) where
-  abbrev cache : Journal L → List KeptPage → Cache L
-  cache journal kept = view next config recovered journal kept
+  abbrev cache : StickyLog L → List KeptPage → Cache L
+  cache sticky_log kept = view next config recovered sticky_log kept
 
   -- the page is to be changed
-  module _ (after : Journal L) (free : is_reserved pid ≡ false) (q : KeptPage) (at : slice_get table pid ≡ Some q) (full : kept.is_free q.kept ≡ false) (stamp : q.stamp ≡ old.stamp)
+  module _ (after : StickyLog L) (free : is_reserved pid ≡ false) (q : KeptPage) (at : slice_get table pid ≡ Some q) (full : kept.is_free q.kept ≡ false) (stamp : q.stamp ≡ old.stamp)
       (reads : IsUpdate (message_of (Put content)) (Put content)) where
     from : 2 ≤ pid
     from = behind-own pid free
@@ -70,7 +70,7 @@ module _ {L : Type 0} (g : Ghosts L) (next : ℕ) (config : Config) (recovered :
         → (let told : Result (Unit {0}) Refusal = Err refusal in IsCaused g.tells g.state g.moment g.left_since g.counts before after (g.is_full before.log (length (message_of (Put content)).payload)) told)
         → Steps g (cache before table) call (answered (Err (error_by refusal))) (cache after pages)
     swaps-refused refusal (inl (last, is)) =
-        rw is (λ went cause. nothing-told g next config recovered before table ready beside after call pages back (answered (Err (Unsupported StampUsedUp))) went cause.fault (λ s clear are. last-step s clear are last))
+        rw is (λ went cause. nothing-appended g next config recovered before table ready beside after call pages back (answered (Err (Unsupported StampUsedUp))) went cause.fault (λ s clear are. last-step s clear are last))
     swaps-refused refusal (inr (below, of)) =
         put-refused g next config recovered before table ready beside after call pid content reads may (Unit {0}) pages back (λ e. answered (Err e))
         (λ s clear are e out fails. does s clear are below (Err e) out fails)

@@ -1,5 +1,5 @@
 -- What holds of pages holds of the cache that stands on them, and what a call makes of memory once it is settled.
-use Rattle.sled_pagecache.proofs.Names.{eqb, eqb_tells, Vec, Contains, IfOk, IfErr, IsSomeAnd, MatchOption, OnOk, OnErr, Recency, IsAccessed, IsListed, IsSound, rounded, itself_stays, itself_is_listed, others_stay_or_leave, ◌≡◌, ◌≢◌, ◌⊎◌, inl, inr, ℕ, Bool, true, false, List, Option, Some, None, Result, Ok, Err, refl, sym, ◌∙◌, ap, subst, same_Some, none-some, IsErrOf, Error, IsNodeAt, NodeView, Write, Refusal, Ghosts, Keeps, Cache, IsIn, IsResident, IsAway, chain_length, IsBlamed, IsCaused, Steps, is_reserved, ReadsNothing, ReadsPage, TestsFirst, MeetsDamage, ReportsDamage, BringsIn, journal_of, Logged, State, Answer, Call, Token, IsHindrance, more, WasAccessed, IsTouched, HasNode, HasNoNode, AreSized, IsBounded, StaysAt, KeepsMemory, AccessesPage, FindsPage, LeavesOthers, LeavesMemory, LeavesNodes, LeavesPages, PagesOut, relisted, IsSettled, Settles, lost_by, Swapped, AllStay, TakesNode, TakesPage, FindsNode, LosesAtMost, LosesNone, Accesses}
+use Rattle.sled_pagecache.proofs.Names.{eqb, eqb_tells, Vec, Contains, IfOk, IfErr, IsSomeAnd, MatchOption, OnOk, OnErr, Recency, IsAccessed, IsListed, IsSound, rounded, itself_stays, itself_is_listed, others_stay_or_leave, ◌≡◌, ◌≢◌, ◌⊎◌, inl, inr, ℕ, Bool, true, false, List, Option, Some, None, Result, Ok, Err, refl, sym, ◌∙◌, ap, subst, same_Some, none-some, IsErrOf, Error, IsNodeAt, NodeView, Write, Refusal, Ghosts, Keeps, Cache, IsIn, IsResident, IsAway, chain_length, IsBlamed, IsCaused, Steps, is_reserved, ReadsNothing, ReadsPage, TestsFirst, MeetsDamage, ReportsDamage, BringsIn, sticky_log_of, Logged, State, Answer, Call, Token, IsHindrance, more, WasAccessed, IsTouched, HasNode, HasNoNode, AreSized, IsBounded, StaysAt, KeepsMemory, AccessesPage, FindsPage, LeavesOthers, LeavesMemory, LeavesNodes, LeavesPages, PagesOut, relisted, IsSettled, Settles, lost_by, Swapped, AllStay, TakesNode, TakesPage, FindsNode, LosesAtMost, LosesNone, Accesses}
 use Rattle.sled_base.specs.declared.types.Error.TheVariants.{Io}
 use Rattle.sled_base.specs.declared.types.Refusal.TheVariants as refusal
 use Rattle.sled_node.specs.declared.node.link.Link.{Link as NodeLink}
@@ -135,7 +135,7 @@ module _ {L : Type 0} (g : Ghosts L) (old new : Cache L) (lru : Recency) where
     pub brings-moved : (pid : ℕ) (result : Result (Unit {0}) Refusal) → OnOk result (IsAway upper pid → IsAway new pid) → BringsIn g old pid result new → BringsIn g (relisted old lru) pid result upper
     brings-moved pid result back brings = record {
       left = carried (LeavesPages g (relisted old lru)) (left-record upper.resident upper.nodes upper.lru brings.left);
-      cause = carried (λ cache. IsCaused g.tells g.state g.moment g.left_since g.counts (journal_of old) (journal_of cache) ⊥ result) brings.cause;
+      cause = carried (λ cache. IsCaused g.tells g.state g.moment g.left_since g.counts (sticky_log_of old) (sticky_log_of cache) ⊥ result) brings.cause;
       in_memory = by result back brings.in_memory;
       sound = brings.sound;
       refused = brings.refused;

@@ -1,7 +1,7 @@
 -- How much of the log the messages of a page take, beside those of its chain.
-use Rattle.sled_pagecache.proofs.Names.{◌≡◌, ◌<◌, ◌^◌, ◌+◌, ℕ, ℤ, false, true, Bool, List, [], ◌∷◌, ◌++◌, map, Option, None, Some, slice_get, refl, sym, ◌∙◌, ap, subst, arith, none-some, same_Some, slice_get-map, option_map, slice_index_or, zero, suc, length, AllZip, AllByRecursion, ◌-◌, sum_by, sum_by-cons, DiskPtr, Chain, Entry, effect_of_entry, said_of, IsSized, Ghosts, chain_size, place_of, IsKept, is_free, IsConsistent, infos_after, message_of, link_update, WholeNode, Config, CacheInfo, Journal, Kept, Page, sum_by_push, head_size, capped, AreSized, size_in, size_of, size_if, node_size, size_linked}
+use Rattle.sled_pagecache.proofs.Names.{◌≡◌, ◌<◌, ◌^◌, ◌+◌, ℕ, ℤ, false, true, Bool, List, [], ◌∷◌, ◌++◌, map, Option, None, Some, slice_get, refl, sym, ◌∙◌, ap, subst, arith, none-some, same_Some, slice_get-map, option_map, slice_index_or, zero, suc, length, AllZip, AllByRecursion, ◌-◌, sum_by, sum_by-cons, DiskPtr, Chain, Entry, effect_of_entry, said_of, IsSized, Ghosts, chain_size, place_of, IsKept, is_free, IsConsistent, infos_after, message_of, link_update, WholeNode, Config, CacheInfo, StickyLog, Kept, Page, sum_by_push, head_size, capped, AreSized, size_in, access_size, size_if, node_access_size, size_linked}
 use Rattle.std.specs.Prelude.{nat_lt, min, if◌then◌else◌}
-use Rattle.sled_log.specs.State as log
+use Rattle.sled_log.specs.LogState as log
 use Rattle.sled_node.specs.declared.node.link.Link.{Link as NodeLink}
 use Rattle.sled_pagecache.proofs.TableNodes.{view}
 use Rattle.sled_pagecache.specs.declared.pagecache.page.Kept.TheVariants as kept
@@ -18,7 +18,7 @@ places-kept [] = refl
 places-kept (info ∷ infos) = sum_by-cons (λ (place : Place). place.2) (place_of info) (map place_of infos) ∙ ap (λ (n : ℕ). info.log_size + n) (places-kept infos) ∙ sym (sum_by-cons (λ (info : CacheInfo). info.log_size) info infos)
 
 -- a page that isn't free takes what its chain takes, which is little enough
-page-size : (chain : Chain) (page : Page) → IsKept chain page → IsSized chain → is_free page.kept ≡ false → size_of page ≡ sum_by (λ (entry : Entry). entry.place.log_size) chain
+page-size : (chain : Chain) (page : Page) → IsKept chain page → IsSized chain → is_free page.kept ≡ false → access_size page ≡ sum_by (λ (entry : Entry). entry.place.log_size) chain
 page-size chain page is sized full =
     let same : size_in page.infos.items ≡ sum_by (λ (entry : Entry). entry.place.log_size) chain = sym (places-kept page.infos.items) ∙ ap (λ (l : List Place). sum_by (λ (place : Place). place.2) l) (sym (is.places full)) ∙ places-said chain in
     let few = sized.total in
@@ -32,24 +32,24 @@ node-full size its (kept.Node node) is = (refl, sym (same_Some size its is))
 node-full size its k is = absurd cc
 
 -- what the messages of a node in memory take is what those of its chain take
-pub sized-view : {L : Type 0} (g : Ghosts L) (next : ℕ) (config : Config) (recovered : Bool) (journal : Journal L) (pages : List Page) (free : List ℕ)
-    → IsConsistent g.tells g.state journal pages free → AreSized g (view next config recovered journal pages)
-sized-view g next config recovered journal pages free is told clear pid size has = by (slice_get pages pid) refl
+pub sized-view : {L : Type 0} (g : Ghosts L) (next : ℕ) (config : Config) (recovered : Bool) (sticky_log : StickyLog L) (pages : List Page) (free : List ℕ)
+    → IsConsistent g.tells g.state sticky_log pages free → AreSized g (view next config recovered sticky_log pages)
+sized-view g next config recovered sticky_log pages free is told clear pid size has = by (slice_get pages pid) refl
   where
     chains : List Chain
-    chains = log.now effect_of_entry (g.state journal.log)
+    chains = log.now effect_of_entry (g.state sticky_log.log)
 
     sized-at : (chains : List Chain) (pages : List Page) (pid : ℕ) (q : Page) → AllZip IsKept chains pages → AllByRecursion IsSized chains → slice_get pages pid ≡ Some q → is_free q.kept ≡ false
-        → size_of q ≡ sum_by (λ (entry : Entry). entry.place.log_size) (slice_index_or chains pid [])
+        → access_size q ≡ sum_by (λ (entry : Entry). entry.place.log_size) (slice_index_or chains pid [])
     sized-at chains [] pid q zip all at full = absurd (none-some q at)
     sized-at [] (p ∷ pages) pid q zip all at full = absurd zip
     sized-at (chain ∷ chains) (p ∷ pages) zero q zip all at full = page-size chain q (subst (IsKept chain) (same_Some p q at) zip.0) all.0 full
     sized-at (chain ∷ chains) (p ∷ pages) (suc pid) q zip all at full = sized-at chains pages pid q zip.1 all.1 at full
 
-    by : (o : Option Page) → slice_get pages pid ≡ o → size ≡ chain_size g.state (view next config recovered journal pages) pid
-    by None past = absurd (none-some (Some size) (sym (slice_get-map (λ (p : Page). node_size p) pages pid ∙ ap (option_map (λ (p : Page). node_size p)) past) ∙ has))
+    by : (o : Option Page) → slice_get pages pid ≡ o → size ≡ chain_size g.state (view next config recovered sticky_log pages) pid
+    by None past = absurd (none-some (Some size) (sym (slice_get-map (λ (p : Page). node_access_size p) pages pid ∙ ap (option_map (λ (p : Page). node_access_size p)) past) ∙ has))
     by (Some q) at =
-        let full = node-full (size_of q) size q.kept (same_Some (node_size q) (Some size) (sym (slice_get-map (λ (p : Page). node_size p) pages pid ∙ ap (option_map (λ (p : Page). node_size p)) at) ∙ has)) in
+        let full = node-full (access_size q) size q.kept (same_Some (node_access_size q) (Some size) (sym (slice_get-map (λ (p : Page). node_access_size p) pages pid ∙ ap (option_map (λ (p : Page). node_access_size p)) at) ∙ has)) in
         full.1 ∙ sized-at chains pages pid q ((is.beside clear).kept told) ((is.beside clear).sized told) at full.0
 
 -- ---- what is accessed
@@ -62,7 +62,7 @@ size-alone infos info payload alone is = sized (info.log_size) is ∙ ap (λ (in
     sized size same = let one : size_in (info ∷ []) ≡ head_size + payload = sum_by-cons (λ (info : CacheInfo). info.log_size) info [] ∙ omega (arith, is) in omega (arith, one)
 
 -- a page with the message of a link
-pub size-link : (infos : List CacheInfo) (page : Page) (info : CacheInfo) (payload : ℕ) → page.infos.items ≡ infos_after infos info → info.log_size ≡ head_size + payload → capped (size_linked infos payload) ≡ size_of page
+pub size-link : (infos : List CacheInfo) (page : Page) (info : CacheInfo) (payload : ℕ) → page.infos.items ≡ infos_after infos info → info.log_size ≡ head_size + payload → capped (size_linked infos payload) ≡ access_size page
 size-link infos page info payload after is = ap capped (by (nat_lt (length infos) 10)) ∙ ap (λ (infos : List CacheInfo). capped (size_in infos)) (sym after)
   where
     by : (few : Bool) → (if few then size_in infos else 0) + head_size + payload ≡ size_in (if few then infos ++ info ∷ [] else info ∷ [])
@@ -72,7 +72,7 @@ size-link infos page info payload after is = ap capped (by (nat_lt (length infos
 -- the same, where so many messages make the page
 pub linked-size : (lent infos : List CacheInfo) (messages : ℕ) (link : NodeLink) (node : WholeNode) (page : Page) (info : CacheInfo) → lent ≡ infos → messages ≡ length infos
     → page.infos.items ≡ infos_after infos info → info.log_size ≡ head_size + length (message_of (link_update messages link node)).payload
-    → capped (size_linked lent (length (message_of (link_update (length lent) link node)).payload)) ≡ size_of page
+    → capped (size_linked lent (length (message_of (link_update (length lent) link node)).payload)) ≡ access_size page
 linked-size lent infos messages link node page info same count after is =
     ap (λ (l : List CacheInfo). capped (size_linked l (length (message_of (link_update (length l) link node)).payload))) same
     ∙ size-link infos page info (length (message_of (link_update (length infos) link node)).payload) after (is ∙ ap (λ n. head_size + length (message_of (link_update n link node)).payload) count)

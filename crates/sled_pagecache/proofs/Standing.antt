@@ -1,15 +1,15 @@
 -- The pages of the state that a cache is in, beside those of its table.
-use Rattle.sled_pagecache.proofs.Names.{◌≡◌, ◌≤◌, ◌<◌, ℕ, zero, suc, Bool, true, false, List, [], ◌∷◌, ◌++◌, length, map, Some, None, slice_get, slice_set, refl, sym, ◌∙◌, ap, subst, arith, length-map, none-some, same_Some, AllZip-long, AllZip, is_freeing, is_empty, Content, Free, Counter, Roots, Node, Damaged, Put, effect_of_update, Chain, Entry, Told, told, effect_of, effect_of_entry, LeadTo, Makes, Holds, Hold, reads_effect, Ghosts, applied, WholeNode, Cache, IsIn, Logged, HoldsChain, IsKept, State, stamps_in, resident_in, IsBeside, CacheInfo, Kept}
-use Rattle.sled_log.specs.State as log
+use Rattle.sled_pagecache.proofs.Names.{◌≡◌, ◌≤◌, ◌<◌, ℕ, zero, suc, Bool, true, false, List, [], ◌∷◌, ◌++◌, length, map, Some, None, slice_get, slice_set, refl, sym, ◌∙◌, ap, subst, arith, length-map, none-some, same_Some, AllZip-long, AllZip, is_freeing, is_empty, Content, Free, Counter, Roots, Node, Damaged, Put, effect_of_update, Chain, Entry, Messages, unplaced, effect_of, effect_of_entry, LeadTo, Makes, Holds, Hold, reads_effect, Ghosts, applied, WholeNode, Cache, IsIn, Logged, HoldsChain, IsKept, State, stamps_in, resident_in, IsBeside, CacheInfo, Kept}
+use Rattle.sled_log.specs.LogState as log
 use Rattle.sled_pagecache.proofs.PagesAt.{holds_now}
 use Rattle.sled_pagecache.specs.Pages as kept
-use Rattle.sled_pagecache.specs.State.{Page, is_free}
+use Rattle.sled_pagecache.specs.State.{StampedPage, is_free}
 use Rattle.sled_pagecache.specs.declared.pagecache.page.Kept.TheVariants as held
 use Rattle.sled_pagecache.specs.declared.pagecache.page.Page.{Page as KeptPage}
 
 -- ---- a chain is empty where what it makes is free
 
-linked-full : (node : WholeNode) (messages : Told) (content : Content) → LeadTo (Node node) messages content → is_free content ≡ false
+linked-full : (node : WholeNode) (messages : Messages) (content : Content) → LeadTo (Node node) messages content → is_free content ≡ false
 linked-full node [] content leads = ap is_free (sym leads)
 linked-full node (m ∷ messages) content (other, link, is, reads, accepts, leads) = linked-full (applied link other) messages content leads
 
@@ -17,26 +17,26 @@ put-free : (content : Content) → is_freeing (effect_of_update (Put content)) �
 put-free Free = refl
 put-free content = refl
 
-lead-free : (first : Content) (messages : Told) (content : Content) → LeadTo first messages content → is_free first ≡ is_free content
+lead-free : (first : Content) (messages : Messages) (content : Content) → LeadTo first messages content → is_free first ≡ is_free content
 lead-free first [] content leads = ap is_free leads
 lead-free first (m ∷ messages) content (node, link, is, reads, accepts, leads) = ap is_free is ∙ sym (linked-full (applied link node) messages content leads)
 
-chain-free : (chain : Chain) (content : Content) → Makes (told chain) content → is_empty effect_of_entry chain ≡ is_free content
+chain-free : (chain : Chain) (content : Content) → Makes (unplaced chain) content → is_empty effect_of_entry chain ≡ is_free content
 chain-free [] content makes = absurd makes
 chain-free (entry ∷ chain) content (first, reads, leads) =
-    ap is_freeing (reads_effect entry.message.kind entry.message.payload (Put first) reads) ∙ put-free first ∙ lead-free first (told chain) content leads
+    ap is_freeing (reads_effect entry.message.kind entry.message.payload (Put first) reads) ∙ put-free first ∙ lead-free first (unplaced chain) content leads
 
 -- a chain that makes a node isn't
-pub node-full : (chain : Chain) (node : WholeNode) → Makes (told chain) (Node node) → is_empty effect_of_entry chain ≡ false
+pub node-full : (chain : Chain) (node : WholeNode) → Makes (unplaced chain) (Node node) → is_empty effect_of_entry chain ≡ false
 node-full chain node makes = chain-free chain (Node node) makes
 
-pub full-told : (chain : Chain) → is_empty effect_of (told chain) ≡ is_empty effect_of_entry chain
-full-told [] = refl
-full-told (entry ∷ chain) = refl
+pub full-unplaced : (chain : Chain) → is_empty effect_of (unplaced chain) ≡ is_empty effect_of_entry chain
+full-unplaced [] = refl
+full-unplaced (entry ∷ chain) = refl
 
 -- the same of what its page holds
-pub holds-free : (chain : Chain) (content : Content) → Holds (told chain) content → is_empty effect_of_entry chain ≡ is_free content
-holds-free chain Damaged (full, none) = sym (full-told chain) ∙ full
+pub holds-free : (chain : Chain) (content : Content) → Holds (unplaced chain) content → is_empty effect_of_entry chain ≡ is_free content
+holds-free chain Damaged (full, none) = sym (full-unplaced chain) ∙ full
 holds-free chain content holds = chain-free chain content holds
 
 pub kept-free : (chain : Chain) (page : Kept) → HoldsChain chain page → is_empty effect_of_entry chain ≡ kept.is_free page
@@ -48,15 +48,15 @@ kept-free chain page holds = holds
 -- ---- the pages of the state are those of the table
 
 -- the page is at the stamp of the one that is kept, and free where that is
-pub record IsKnown (page : Page) (kept_page : KeptPage) : Type 0 where
+pub record IsKnown (page : StampedPage) (kept_page : KeptPage) : Type 0 where
   pub stamp : page.stamp ≡ kept_page.stamp
   pub free : is_free page.content ≡ kept.is_free kept_page.kept
 
-abbrev pub AreKnown : List Page → List KeptPage → Type 0
+abbrev pub AreKnown : List StampedPage → List KeptPage → Type 0
 AreKnown = AllZip IsKnown
 
-are-known : (pages : List Page) (chains : List Chain) (table : List KeptPage)
-    → map (λ (p : Page). p.stamp) pages ≡ stamps_in table → Hold (map told chains) (map (λ (p : Page). p.content) pages) → AllZip IsKept chains table → AreKnown pages table
+are-known : (pages : List StampedPage) (chains : List Chain) (table : List KeptPage)
+    → map (λ (p : StampedPage). p.stamp) pages ≡ stamps_in table → Hold (map unplaced chains) (map (λ (p : StampedPage). p.content) pages) → AllZip IsKept chains table → AreKnown pages table
 are-known [] chains [] same holds beside = tt
 are-known [] chains (q ∷ table) same holds beside = absurd cc
 are-known (p ∷ pages) chains [] same holds beside = absurd cc
@@ -72,21 +72,21 @@ module _ {L : Type 0} (g : Ghosts L) where
       → IsIn g cache held_by s → s.fault ≡ false → cache.stamps ≡ stamps_in table → IsBeside g.tells g.state cache.log table → AreKnown s.pages table
   known-in cache table held_by s is clear same beside =
       are-known s.pages (log.now effect_of_entry (g.state cache.log)) table (is.stamps ∙ same)
-      (subst (λ (l : List Content). Hold (map told (log.now effect_of_entry (g.state cache.log))) l) (sym (is.known clear).contents) (holds_now (g.state cache.log) held_by (is.known clear).logged))
+      (subst (λ (l : List Content). Hold (map unplaced (log.now effect_of_entry (g.state cache.log))) l) (sym (is.known clear).contents) (holds_now (g.state cache.log) held_by (is.known clear).logged))
       (beside.kept is.tells)
 
 -- ---- one of them
 
-pub known-length : (pages : List Page) (table : List KeptPage) → AreKnown pages table → length pages ≡ length table
+pub known-length : (pages : List StampedPage) (table : List KeptPage) → AreKnown pages table → length pages ≡ length table
 known-length pages table known = sym (AllZip-long IsKnown pages table known)
 
 -- the page of the state where the table keeps one
-pub record IsFound (pages : List Page) (pid : ℕ) (kept_page : KeptPage) : Type 0 where
-  pub page : Page
+pub record IsFound (pages : List StampedPage) (pid : ℕ) (kept_page : KeptPage) : Type 0 where
+  pub page : StampedPage
   pub is : slice_get pages pid ≡ Some page
   pub known : IsKnown page kept_page
 
-pub found-known : (pages : List Page) (table : List KeptPage) (pid : ℕ) (q : KeptPage) → AreKnown pages table → slice_get table pid ≡ Some q → IsFound pages pid q
+pub found-known : (pages : List StampedPage) (table : List KeptPage) (pid : ℕ) (q : KeptPage) → AreKnown pages table → slice_get table pid ≡ Some q → IsFound pages pid q
 found-known pages [] pid q known at = absurd (none-some q at)
 found-known [] (k ∷ table) pid q known at = absurd known
 found-known (p ∷ pages) (k ∷ table) zero q known at = record { page = p; is = refl; known = subst (IsKnown p) (same_Some k q at) known.0 }
@@ -94,7 +94,7 @@ found-known (p ∷ pages) (k ∷ table) (suc pid) q known at =
     let rest = found-known pages table pid q known.1 at in record { page = rest.page; is = rest.is; known = rest.known }
 
 -- there is none where the table ends
-pub found-none : (pages : List Page) (table : List KeptPage) (pid : ℕ) → AreKnown pages table → slice_get table pid ≡ None → slice_get pages pid ≡ None
+pub found-none : (pages : List StampedPage) (table : List KeptPage) (pid : ℕ) → AreKnown pages table → slice_get table pid ≡ None → slice_get pages pid ≡ None
 found-none [] table pid known at = refl
 found-none (p ∷ pages) [] pid known at = absurd known
 found-none (p ∷ pages) (k ∷ table) zero known at = absurd (none-some k (sym at))
@@ -103,8 +103,8 @@ found-none (p ∷ pages) (k ∷ table) (suc pid) known at = found-none pages tab
 -- ---- the table
 
 -- it has a page for each chain
-pub beside-long : {L : Type 0} (tells : Type 0) (state : L → log.State Entry) (l : L) (table : List KeptPage) → IsBeside tells state l table → tells → length table ≡ length (log.now effect_of_entry (state l))
-beside-long tells state l table beside told = AllZip-long IsKept (log.now effect_of_entry (state l)) table (beside.kept told)
+pub beside-long : {L : Type 0} (tells : Type 0) (state : L → log.LogState Entry) (l : L) (table : List KeptPage) → IsBeside tells state l table → tells → length table ≡ length (log.now effect_of_entry (state l))
+beside-long tells state l table beside unplaced = AllZip-long IsKept (log.now effect_of_entry (state l)) table (beside.kept unplaced)
 
 -- a page lies in memory where its content does
 pub resident-set : (table : List KeptPage) (pid : ℕ) (page : KeptPage) → pid < length table → kept.is_resident page.kept ≡ true → slice_get (resident_in (slice_set table pid page)) pid ≡ Some true

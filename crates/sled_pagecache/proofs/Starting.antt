@@ -1,5 +1,5 @@
 -- The pages that a cache is opened with.
-use Rattle.sled_pagecache.proofs.Names.{◌≡◌, ◌≤◌, ◌<◌, ◌^◌, ℕ, zero, suc, Bool, true, false, cond, List, [], ◌∷◌, ◌++◌, length, map, take, drop, set, get_or, slice_get, slice_index_or, Option, None, Some, is_some, Result, Ok, refl, sym, ◌∙◌, ap, subst, arith, eq-eqb, drop-nil, take-nil, take-append_seam, false≢true, nat_tests, length-append, length-map, append-nil, AllZip-long, slice_get-get_or, slice_get_past, slice_get_within, none-some, same_Some, AllByRecursion, AllZip, IfSome, DiskPtr, Refusal, Io, Corruption, OutOfMemory, is_open, open_after, is_chain, is_empty, changed, Content, Put, Event, Change, Message, Entry, Chain, Told, told, placed, effect_of, effect_of_entry, holds-made, IsSized, Makes, Holds, Hold, IsLeft, now, told_state, message_of, zip-append, Ghosts, place_of, roots_told, IsLoaded, IsUnread, AreRecovered, AreRead, AreFound, IsFoundAt, IsOwnAt, IfSome_then, IsTable, IsOpenedWith, RefusesOwn, RefusesPages, next_id, counter_told, told_of_roots, told_at_start, stamps_at_start, first_id, HoldsChain, IsKept, is_resident, freed_at, free_ids, Proceeds, refusal_in, is_misfit, AllFit, BeginsMisfit, IsFit, Wrote, IsRoots, IsCounter, IsFreeOrNode, AreOwn, IsConsistent, stamps_in, resident_in, CacheInfo, Config, Journal, Kept, Page, get_or_from_slice_get, zip-at}
+use Rattle.sled_pagecache.proofs.Names.{◌≡◌, ◌≤◌, ◌<◌, ◌^◌, ℕ, zero, suc, Bool, true, false, cond, List, [], ◌∷◌, ◌++◌, length, map, take, drop, set, get_or, slice_get, slice_index_or, Option, None, Some, is_some, Result, Ok, refl, sym, ◌∙◌, ap, subst, arith, eq-eqb, drop-nil, take-nil, take-append_seam, false≢true, nat_tests, length-append, length-map, append-nil, AllZip-long, slice_get-get_or, slice_get_past, slice_get_within, none-some, same_Some, AllByRecursion, AllZip, IfSome, DiskPtr, Refusal, Io, Corruption, OutOfMemory, is_open, open_after, is_chain, is_empty, changed, Content, Put, Event, Change, Message, Entry, Chain, Messages, unplaced, placed, effect_of, effect_of_entry, holds-made, IsSized, Makes, Holds, Hold, IsLeft, now, unplaced_state, message_of, zip-append, Ghosts, place_of, roots_event, IsLoaded, IsUnread, AreRecovered, AreRead, AreFound, IsFoundAt, IsOwnAt, IfSome_then, IsTable, IsOpenedWith, RefusesOwn, RefusesPages, next_id, counter_event, events_of_roots, events_at_start, stamps_at_start, first_id, HoldsChain, IsKept, is_resident, freed_at, free_ids, Proceeds, refusal_in, is_misfit, AllFit, BeginsMisfit, IsFit, Wrote, IsRoots, IsCounter, IsFreeOrNode, AreOwn, IsConsistent, stamps_in, resident_in, CacheInfo, Config, StickyLog, Kept, Page, get_or_from_slice_get, zip-at}
 use Rattle.sled_base.specs.declared.kinds.LogKind.TheVariants as effects
 use Rattle.sled_log.specs.Chains.{begun as begin_page}
 use Rattle.sled_log.specs.Contents as contents
@@ -8,7 +8,7 @@ use Rattle.sled_pagecache.proofs.ByIds.{add-by-id, all-by-id, at-id, by-id-all, 
 use Rattle.sled_pagecache.proofs.ProperPages.{all-append}
 use Rattle.sled_pagecache.proofs.Linked.{full-free}
 use Rattle.sled_pagecache.proofs.OwnPages.{IsOwn, own-one, misfit-unfit, first-pointer}
-use Rattle.sled_pagecache.proofs.Proceeding.{nil-right, proceeds-told, proceeds-then, proceeds-first}
+use Rattle.sled_pagecache.proofs.Proceeding.{nil-right, proceeds-unplaced, proceeds-then, proceeds-first}
 use Rattle.sled_pagecache.proofs.Tables.{went-chains}
 use Rattle.sled_pagecache.specs.State as state
 use Rattle.sled_pagecache.specs.declared.pagecache.page.Kept.TheVariants as kept
@@ -19,7 +19,7 @@ new-chain : (held : List Chain) (pid : ℕ) (entry : Entry) → pid ≡ length h
 new-chain held pid entry is = ap (λ b. cond b (held ++ (entry ∷ []) ∷ []) (set held pid (entry ∷ []))) (eq-eqb pid (length held) is)
 
 module _ {L : Type 0} (g : Ghosts L) where
-  module _ (old new : Journal L) (pid stamp : ℕ) (content : Content) (info : CacheInfo) (wrote : Wrote g.tells g.state g.moment g.left_since g.counts g.is_full old new pid (Put content) stamp (Ok info)) where
+  module _ (old new : StickyLog L) (pid stamp : ℕ) (content : Content) (info : CacheInfo) (wrote : Wrote g.tells g.state g.moment g.left_since g.counts g.is_full old new pid (Put content) stamp (Ok info)) where
     abbrev entry : Entry
     entry = placed (message_of (Put content)) (place_of info)
 
@@ -28,7 +28,7 @@ module _ {L : Type 0} (g : Ghosts L) where
         → pid ≡ length pages → pid < 2
         → effect_of (message_of (Put content)) ≡ effects.Replace
         → page.infos.items ≡ info ∷ []
-        → ((chain : Chain) → Makes (told chain) content → HoldsChain chain page.kept)
+        → ((chain : Chain) → Makes (unplaced chain) content → HoldsChain chain page.kept)
         → IsOwnAt pid page.kept
         → IsTable g.tells (now effect_of_entry (g.state new.log)) after
     own-table pages before after page table more same last few effect infos holds own =
@@ -49,19 +49,19 @@ module _ {L : Type 0} (g : Ghosts L) where
         })
 
   -- the page of the named roots, of which there are none
-  pub wrote-roots : (old new : Journal L) (stamp : ℕ) (result : Result CacheInfo Refusal) (roots : meta.Roots) (pages : List Page)
-      → ((pages : List Told) → g.tells → (g.state old.log).usable ≡ true → g.left_since old.log (g.moment old.log) pages → IsLeft effect_of (told_state (g.state old.log)) [] pages)
+  pub wrote-roots : (old new : StickyLog L) (stamp : ℕ) (result : Result CacheInfo Refusal) (roots : meta.Roots) (pages : List Page)
+      → ((pages : List Messages) → g.tells → (g.state old.log).usable ≡ true → g.left_since old.log (g.moment old.log) pages → IsLeft effect_of (unplaced_state (g.state old.log)) [] pages)
       → old.fault ≡ false → (g.state old.log).usable ≡ true → roots ≡ [] → pages ≡ []
       → Wrote g.tells g.state g.moment g.left_since g.counts g.is_full old new 0 (Put (contents.Roots roots)) stamp result
-      → Proceeds g old new (told_of_roots pages) (refusal_in result)
+      → Proceeds g old new (events_of_roots pages) (refusal_in result)
   wrote-roots old new stamp result roots pages only clear usable none empty wrote =
-      subst (λ (l : List Page). Proceeds g old new (told_of_roots l) (refusal_in result)) (sym empty)
+      subst (λ (l : List Page). Proceeds g old new (events_of_roots l) (refusal_in result)) (sym empty)
       (subst (λ (r : meta.Roots). Proceeds g old new (Change 0 (message_of (Put (contents.Roots r))) ∷ []) (refusal_in result)) none
-      (proceeds-told g old new (Change 0 (message_of (Put (contents.Roots roots)))) result only clear usable wrote.went wrote.cause))
+      (proceeds-unplaced g old new (Change 0 (message_of (Put (contents.Roots roots)))) result only clear usable wrote.went wrote.cause))
 
 -- ---- the contents of the system pages
 
-loaded-with : (chain : Chain) (page other : Page) (content : Content) → IsLoaded chain page → IsOwn content → Makes (told chain) content
+loaded-with : (chain : Chain) (page other : Page) (content : Content) → IsLoaded chain page → IsOwn content → Makes (unplaced chain) content
     → other.stamp ≡ page.stamp → other.infos.items ≡ page.infos.items → HoldsChain chain other.kept → IsLoaded chain other
 loaded-with chain page other content is own makes stamp infos holds = record {
   kept = record {
@@ -94,11 +94,11 @@ second-none [] other none = omega arith
 second-none (x ∷ []) other none = omega arith
 second-none (x ∷ y ∷ pages) other none = absurd cc
 
-module _ {tells : Type 0} (held : List Chain) (roots : meta.Roots) (n : ℕ) (makes : tells → Makes (told (slice_index_or held 0 [])) (contents.Roots roots)) where
+module _ {tells : Type 0} (held : List Chain) (roots : meta.Roots) (n : ℕ) (makes : tells → Makes (unplaced (slice_index_or held 0 [])) (contents.Roots roots)) where
   pub read-both : (then : List Chain) (pages : List Page) (p q first second : Page) → (tells → then ≡ held) → AreRecovered tells held pages → 1 < length pages
       → p ≡ get_or pages 0 p → first.stamp ≡ p.stamp → first.infos.items ≡ p.infos.items → first.kept ≡ kept.Roots roots
       → q ≡ get_or (set pages 0 first) 1 q → second.stamp ≡ q.stamp → second.infos.items ≡ q.infos.items → second.kept ≡ kept.Counter n
-      → (tells → Makes (told (slice_index_or then 1 [])) (contents.Counter n))
+      → (tells → Makes (unplaced (slice_index_or then 1 [])) (contents.Counter n))
       → AreRead tells held (set (set pages 0 first) 1 second) (Some n)
   read-both then (x ∷ y ∷ pages) p q first second same are long p-is p-stamp p-infos p-kept q-is q-stamp q-infos q-kept counts = record {
     kept = λ known. by held (makes known) (same known) (are.kept known) (counts known);
@@ -113,10 +113,10 @@ module _ {tells : Type 0} (held : List Chain) (roots : meta.Roots) (n : ℕ) (ma
       found (suc zero) = (n, q-kept, refl)
       found (suc (suc k)) = all-by-id _ pages are.hold.1.1 k
 
-      by : (held : List Chain) → Makes (told (slice_index_or held 0 [])) (contents.Roots roots) → then ≡ held → AllZip IsLoaded held (x ∷ y ∷ pages) → Makes (told (slice_index_or then 1 [])) (contents.Counter n)
+      by : (held : List Chain) → Makes (unplaced (slice_index_or held 0 [])) (contents.Roots roots) → then ≡ held → AllZip IsLoaded held (x ∷ y ∷ pages) → Makes (unplaced (slice_index_or then 1 [])) (contents.Counter n)
           → AllZip IsLoaded held (set (set (x ∷ y ∷ pages) 0 first) 1 second)
       by (c ∷ d ∷ rest) makes same loaded counts =
-          let counted : Makes (told d) (contents.Counter n) = subst (λ (l : List Chain). Makes (told (slice_index_or l 1 [])) (contents.Counter n)) same counts in (
+          let counted : Makes (unplaced d) (contents.Counter n) = subst (λ (l : List Chain). Makes (unplaced (slice_index_or l 1 [])) (contents.Counter n)) same counts in (
             loaded-with c p first (contents.Roots roots) (subst (IsLoaded c) (sym p-is) loaded.0) tt makes p-stamp p-infos (subst (HoldsChain c) (sym p-kept) makes),
             (loaded-with d q second (contents.Counter n) (subst (IsLoaded d) (sym q-is) loaded.1.0) tt counted q-stamp q-infos (subst (HoldsChain d) (sym q-kept) counted), loaded.1.1),
           )
@@ -124,7 +124,7 @@ module _ {tells : Type 0} (held : List Chain) (roots : meta.Roots) (n : ℕ) (ma
   read-both then pages p q first second same are long p-is p-stamp p-infos p-kept q-is q-stamp q-infos q-kept counts = absurd (omega (arith, long))
 
 -- the first alone, where there is no other
-pub read-first : {tells : Type 0} (held : List Chain) (roots : meta.Roots) (pages : List Page) (p first : Page) → (tells → Makes (told (slice_index_or held 0 [])) (contents.Roots roots)) → AreRecovered tells held pages → length pages < 2
+pub read-first : {tells : Type 0} (held : List Chain) (roots : meta.Roots) (pages : List Page) (p first : Page) → (tells → Makes (unplaced (slice_index_or held 0 [])) (contents.Roots roots)) → AreRecovered tells held pages → length pages < 2
     → slice_get pages 0 ≡ Some p → first.stamp ≡ p.stamp → first.infos.items ≡ p.infos.items → first.kept ≡ kept.Roots roots → AreRead tells held (set pages 0 first) None
 read-first held roots [] p first makes are few at p-stamp p-infos p-kept = absurd cc
 read-first held roots (x ∷ []) p first makes are few at p-stamp p-infos p-kept = record {
@@ -139,7 +139,7 @@ read-first held roots (x ∷ []) p first makes are few at p-stamp p-infos p-kept
     found zero = subst IsRoots (sym p-kept) tt
     found (suc k) = tt
 
-    by : (held : List Chain) → Makes (told (slice_index_or held 0 [])) (contents.Roots roots) → AllZip IsLoaded held (x ∷ []) → AllZip IsLoaded held (first ∷ [])
+    by : (held : List Chain) → Makes (unplaced (slice_index_or held 0 [])) (contents.Roots roots) → AllZip IsLoaded held (x ∷ []) → AllZip IsLoaded held (first ∷ [])
     by (c ∷ rest) makes loaded =
         (loaded-with c p first (contents.Roots roots) (subst (IsLoaded c) (same_Some x p at) loaded.0) tt makes p-stamp p-infos (subst (HoldsChain c) (sym p-kept) makes), loaded.1)
     by held makes loaded = absurd (assumption loaded)
@@ -147,7 +147,7 @@ read-first held roots (x ∷ y ∷ pages) p first makes are few at p-stamp p-inf
 
 -- ---- why they weren't read
 
-pub first-fits : (held : List Chain) (roots : meta.Roots) → Makes (told (slice_index_or held 0 [])) (contents.Roots roots)
+pub first-fits : (held : List Chain) (roots : meta.Roots) → Makes (unplaced (slice_index_or held 0 [])) (contents.Roots roots)
     → (before : ℕ) → before < 1 → IfSome (slice_get held before) (IsFit before)
 first-fits [] roots makes before lt = tt
 first-fits (c ∷ held) roots makes zero lt = (roots, makes)
@@ -268,60 +268,60 @@ resident-empty (c ∷ held) (p ∷ pages) all (suc pid) unread is = resident-emp
 
 -- ---- what is told of the pages that are missing
 
-told-split : {X : Type 0} (pages : List X) → length pages < 2 → told_of_roots pages ++ counter_told ∷ [] ≡ told_at_start pages
-told-split (p ∷ q ∷ pages) few = absurd (omega (arith, few))
-told-split pages few = refl
+events-split : {X : Type 0} (pages : List X) → length pages < 2 → events_of_roots pages ++ counter_event ∷ [] ≡ events_at_start pages
+events-split (p ∷ q ∷ pages) few = absurd (omega (arith, few))
+events-split pages few = refl
 
-pub told-same : {X Y : Type 0} (pages : List X) (others : List Y) → length pages ≡ length others → told_at_start pages ≡ told_at_start others
-told-same pages others long = ap (λ n. drop n (roots_told ∷ counter_told ∷ [])) long
+pub events-same : {X Y : Type 0} (pages : List X) (others : List Y) → length pages ≡ length others → events_at_start pages ≡ events_at_start others
+events-same pages others long = ap (λ n. drop n (roots_event ∷ counter_event ∷ [])) long
 
 pub read-fewer : {tells : Type 0} (held : List Chain) (pages : List Page) (counter : Option ℕ) → AreRead tells held pages counter → tells → length held < 2 → length pages < 2
 read-fewer held pages counter are known few = let long : length pages ≡ length held = AllZip-long IsLoaded held pages (are.kept known) in omega (arith, long, few)
 
-pub none-missing : {X : Type 0} (pages : List X) → 1 < length pages → told_at_start pages ≡ []
+pub none-missing : {X : Type 0} (pages : List X) → 1 < length pages → events_at_start pages ≡ []
 none-missing (p ∷ q ∷ pages) both = drop-nil (length pages)
 none-missing pages both = absurd (omega (arith, both))
 
 -- however many of them came, no batch is open
-pub changes-closed : (n : ℕ) (came rest : List (Event Message)) → came ++ rest ≡ drop n (roots_told ∷ counter_told ∷ []) → open_after false came ≡ false
+pub changes-closed : (n : ℕ) (came rest : List (Event Message)) → came ++ rest ≡ drop n (roots_event ∷ counter_event ∷ []) → open_after false came ≡ false
 changes-closed n came rest is = ap (open_after false) (sym (take-append_seam came rest) ∙ ap (take (length came)) is) ∙ by (length came) n
   where
-    by : (k n : ℕ) → open_after false (take k (drop n (roots_told ∷ counter_told ∷ []))) ≡ false
+    by : (k n : ℕ) → open_after false (take k (drop n (roots_event ∷ counter_event ∷ []))) ≡ false
     by zero n = refl
     by (suc zero) zero = refl
     by (suc (suc k)) zero = rw (take-nil {A = Event Message} k) refl
     by (suc k) (suc zero) = rw (take-nil {A = Event Message} k) refl
     by (suc k) (suc (suc n)) = rw (drop-nil {A = Event Message} n) refl
 
-pub told-closed : {X : Type 0} (pages : List X) → open_after false (told_at_start pages) ≡ false
-told-closed pages = changes-closed (length pages) (told_at_start pages) [] (append-nil (told_at_start pages))
+pub events-closed : {X : Type 0} (pages : List X) → open_after false (events_at_start pages) ≡ false
+events-closed pages = changes-closed (length pages) (events_at_start pages) [] (append-nil (events_at_start pages))
 
 module _ {L : Type 0} (g : Ghosts L) where
   -- no batch is open then
-  pub stays-closed : (old new : Journal L) (events : List (Event Message)) → Proceeds g old new events None
+  pub stays-closed : (old new : StickyLog L) (events : List (Event Message)) → Proceeds g old new events None
       → is_open (g.state old.log).pending ≡ false → open_after false events ≡ false → is_open (g.state new.log).pending ≡ false
   stays-closed old new events done closed marks = done.reaches.opened done.fault ∙ ap (λ b. open_after b events) closed ∙ marks
 
   -- the pages that are missing are made
-  module _ {X : Type 0} (old mid : Journal L) (pages : List X) (few : length pages < 2) where
-    pub missing-first : (refusal : Refusal) → Proceeds g old mid (told_of_roots pages) (Some refusal) → Proceeds g old mid (told_at_start pages) (Some refusal)
+  module _ {X : Type 0} (old mid : StickyLog L) (pages : List X) (few : length pages < 2) where
+    pub missing-first : (refusal : Refusal) → Proceeds g old mid (events_of_roots pages) (Some refusal) → Proceeds g old mid (events_at_start pages) (Some refusal)
     missing-first refusal one =
-        subst (λ (l : List (Event Message)). Proceeds g old mid l (Some refusal)) (told-split pages few) (proceeds-first g old mid (told_of_roots pages) (counter_told ∷ []) refusal one)
+        subst (λ (l : List (Event Message)). Proceeds g old mid l (Some refusal)) (events-split pages few) (proceeds-first g old mid (events_of_roots pages) (counter_event ∷ []) refusal one)
 
-    pub missing-both : (new : Journal L) (refusal : Option Refusal) → Proceeds g old mid (told_of_roots pages) None → Proceeds g mid new (counter_told ∷ []) refusal → Proceeds g old new (told_at_start pages) refusal
+    pub missing-both : (new : StickyLog L) (refusal : Option Refusal) → Proceeds g old mid (events_of_roots pages) None → Proceeds g mid new (counter_event ∷ []) refusal → Proceeds g old new (events_at_start pages) refusal
     missing-both new refusal one two =
-        subst (λ (l : List (Event Message)). Proceeds g old new l refusal) (told-split pages few) (proceeds-then g old mid new (told_of_roots pages) (counter_told ∷ []) refusal one two)
+        subst (λ (l : List (Event Message)). Proceeds g old new l refusal) (events-split pages few) (proceeds-then g old mid new (events_of_roots pages) (counter_event ∷ []) refusal one two)
 
-    pub missing-some : told_at_start pages ≡ [] → ⊥
-    missing-some none = (let e = nil-right (told_of_roots pages) (counter_told ∷ []) (told-split pages few ∙ none) in cc)
+    pub missing-some : events_at_start pages ≡ [] → ⊥
+    missing-some none = (let e = nil-right (events_of_roots pages) (counter_event ∷ []) (events-split pages few ∙ none) in cc)
 
   -- what always holds of a cache
-  pub table-consistent : {X : Type 0} (old new : Journal L) (before : List X) (pages : List Page) (free : List ℕ)
-      → Proceeds g old new (told_at_start before) None → is_open (g.state old.log).pending ≡ false
+  pub table-consistent : {X : Type 0} (old new : StickyLog L) (before : List X) (pages : List Page) (free : List ℕ)
+      → Proceeds g old new (events_at_start before) None → is_open (g.state old.log).pending ≡ false
       → IsTable g.tells (now effect_of_entry (g.state new.log)) pages → 1 < length pages → free ≡ free_ids 0 pages
       → IsConsistent g.tells g.state new pages free
   table-consistent old new before pages free done closed table both frees = record {
-    beside = λ clear. record { usable = done.reaches.usable clear; closed = stays-closed old new (told_at_start before) done closed (told-closed before); kept = table.kept; chains = table.chains_are; sized = table.sized };
+    beside = λ clear. record { usable = done.reaches.usable clear; closed = stays-closed old new (events_at_start before) done closed (events-closed before); kept = table.kept; chains = table.chains_are; sized = table.sized };
     own = table.hold.0;
     both = omega (arith, both);
     short = table.hold.1;
@@ -331,30 +331,30 @@ module _ {L : Type 0} (g : Ghosts L) where
 
 -- ---- what the cache is opened with
 
-zeros : (pages : List Page) (held : List Content) → length pages ≡ length held → map (λ (p : Page). 0) pages ≡ map (λ (p : state.Page). p.stamp) (map (state.page 0) held ++ [])
+zeros : (pages : List Page) (held : List Content) → length pages ≡ length held → map (λ (p : Page). 0) pages ≡ map (λ (p : state.StampedPage). p.stamp) (map (state.page 0) held ++ [])
 zeros [] [] long = refl
 zeros (p ∷ pages) (c ∷ held) long = ap (λ (l : List ℕ). 0 ∷ l) (zeros pages held (omega (arith, long)))
 zeros pages held long = absurd (omega (arith, long))
 
 counted : (interval n : ℕ) (own : Kept) (counter : Option ℕ) (chain : Chain) (roots content : Content) (held : List Content)
-    → own ≡ kept.Counter n → counter ≡ Some n → HoldsChain chain own → Holds (told chain) content → next_id interval counter ≡ first_id interval (roots ∷ content ∷ held)
+    → own ≡ kept.Counter n → counter ≡ Some n → HoldsChain chain own → Holds (unplaced chain) content → next_id interval counter ≡ first_id interval (roots ∷ content ∷ held)
 counted interval n own counter chain roots content held is some holds makes =
-    let same : contents.Counter n ≡ content = sym (holds-made (told chain) content (contents.Counter n) makes (subst (HoldsChain chain) is holds)) in
+    let same : contents.Counter n ≡ content = sym (holds-made (unplaced chain) content (contents.Counter n) makes (subst (HoldsChain chain) is holds)) in
     ap (next_id interval) some ∙ ap (λ (c : Content). first_id interval (roots ∷ c ∷ held)) same
 
 pub opened-with : {tells : Type 0} (config : Config) (chains : List Chain) (pages : List Page) (counter : Option ℕ) (stamps : List ℕ) (next : ℕ) (recovered : Bool)
     → AreRead tells chains pages counter → tells → stamps ≡ stamps_at_start pages → next ≡ next_id config.idgen_persist_interval counter → recovered ≡ is_some counter
-    → (held : List Content) → Hold (map told chains) held → IsOpenedWith config held stamps next recovered
+    → (held : List Content) → Hold (map unplaced chains) held → IsOpenedWith config held stamps next recovered
 opened-with config chains pages counter stamps next recovered are known stamps-are next-is recovered-is = by chains pages (are.kept known) are.hold stamps-are
   where
     by : (chains : List Chain) (pages : List Page) → AllZip IsLoaded chains pages → AreFound pages counter → stamps ≡ stamps_at_start pages
-        → (held : List Content) → Hold (map told chains) held → IsOpenedWith config held stamps next recovered
+        → (held : List Content) → Hold (map unplaced chains) held → IsOpenedWith config held stamps next recovered
     by [] [] loaded found stamps-are [] hold = record { stamps_are = stamps-are; next_is = next-is ∙ ap (next_id config.idgen_persist_interval) (found.1 (omega arith)); recovered_is = recovered-is ∙ ap is_some (found.1 (omega arith)) }
     by (c ∷ []) (p ∷ []) loaded found stamps-are (x ∷ []) hold = record { stamps_are = stamps-are; next_is = next-is ∙ ap (next_id config.idgen_persist_interval) (found.1 (omega arith)); recovered_is = recovered-is ∙ ap is_some (found.1 (omega arith)) }
     by (c ∷ d ∷ chains) (p ∷ q ∷ pages) loaded found stamps-are (x ∷ y ∷ held) hold =
         let wide : length pages ≡ length chains = AllZip-long IsLoaded chains pages loaded.1.1 in
-        let long : length held ≡ length (map told chains) = AllZip-long Holds (map told chains) held hold.1.1 in
-        let same = length-map chains told in
+        let long : length held ≡ length (map unplaced chains) = AllZip-long Holds (map unplaced chains) held hold.1.1 in
+        let same = length-map chains unplaced in
         let read = found.0 1 in
         record {
           stamps_are = rw (drop-nil {A = Content} (length held)) (stamps-are ∙ zeros (p ∷ q ∷ pages) (x ∷ y ∷ held) (omega (arith, wide, long, same)));

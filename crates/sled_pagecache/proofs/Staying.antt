@@ -1,21 +1,21 @@
 -- Pages that stay as a cache leaves them, while messages come.
-use Rattle.sled_pagecache.proofs.Names.{ℕ, zero, suc, List, [], ◌∷◌, ◌++◌, take, drop, chains_from, chains_after, Content, Update, contents_from, contents_after, Event, Message, Told, effect_of, AreTold, IsProper, StayProper}
+use Rattle.sled_pagecache.proofs.Names.{ℕ, zero, suc, List, [], ◌∷◌, ◌++◌, take, drop, chains_from, chains_after, Content, Update, contents_from, contents_after, Event, Message, Messages, effect_of, AreEvents, IsProper, StayProper}
 
 -- no message comes
-pub stay-none : (pages : List Told) (contents : List Content) → IsProper pages contents → StayProper pages contents [] []
+pub stay-none : (pages : List Messages) (contents : List Content) → IsProper pages contents → StayProper pages contents [] []
 stay-none pages contents proper zero = proper
 stay-none pages contents proper (suc n) = proper
 
 -- one message comes
-pub stay-one : (pages : List Told) (contents : List Content) (m : Event Message) (u : Event Update)
+pub stay-one : (pages : List Messages) (contents : List Content) (m : Event Message) (u : Event Update)
     → IsProper pages contents → IsProper (chains_from effect_of pages m) (contents_from contents u) → StayProper pages contents (m ∷ []) (u ∷ [])
 stay-one pages contents m u before after zero = before
 stay-one pages contents m u before after (suc zero) = after
 stay-one pages contents m u before after (suc (suc n)) = after
 
 -- some come behind others
-pub stay-append : (pages : List Told) (contents : List Content) (ms ns : List (Event Message)) (us vs : List (Event Update))
-    → AreTold contents ms us → StayProper pages contents ms us → StayProper (chains_after effect_of pages ms) (contents_after contents us) ns vs
+pub stay-append : (pages : List Messages) (contents : List Content) (ms ns : List (Event Message)) (us vs : List (Event Update))
+    → AreEvents contents ms us → StayProper pages contents ms us → StayProper (chains_after effect_of pages ms) (contents_after contents us) ns vs
     → StayProper pages contents (ms ++ ns) (us ++ vs)
 stay-append pages contents [] ns [] vs h first second n = second n
 stay-append pages contents (m ∷ ms) ns (u ∷ us) vs h first second zero = first zero
@@ -24,8 +24,8 @@ stay-append pages contents (m ∷ ms) ns (u ∷ us) vs h first second (suc n) =
 stay-append pages contents ms ns us vs h first second n = absurd h
 
 -- a beginning of them comes
-pub stay-take : (k : ℕ) (pages : List Told) (contents : List Content) (ms : List (Event Message)) (us : List (Event Update))
-    → AreTold contents ms us → StayProper pages contents ms us → StayProper pages contents (take k ms) (take k us)
+pub stay-take : (k : ℕ) (pages : List Messages) (contents : List Content) (ms : List (Event Message)) (us : List (Event Update))
+    → AreEvents contents ms us → StayProper pages contents ms us → StayProper pages contents (take k ms) (take k us)
 stay-take zero pages contents ms us h stays n = stay-none pages contents (stays zero) n
 stay-take (suc k) pages contents [] [] h stays n = stay-none pages contents (stays zero) n
 stay-take (suc k) pages contents (m ∷ ms) (u ∷ us) h stays zero = stays zero
@@ -34,8 +34,8 @@ stay-take (suc k) pages contents (m ∷ ms) (u ∷ us) h stays (suc n) =
 stay-take k pages contents ms us h stays n = absurd h
 
 -- those behind a cut come
-pub stay-drop : (cut : ℕ) (pages : List Told) (contents : List Content) (ms : List (Event Message)) (us : List (Event Update))
-    → AreTold contents ms us → StayProper pages contents ms us
+pub stay-drop : (cut : ℕ) (pages : List Messages) (contents : List Content) (ms : List (Event Message)) (us : List (Event Update))
+    → AreEvents contents ms us → StayProper pages contents ms us
     → StayProper (chains_after effect_of pages (take cut ms)) (contents_after contents (take cut us)) (drop cut ms) (drop cut us)
 stay-drop zero pages contents ms us h stays = stays
 stay-drop (suc cut) pages contents [] [] h stays = stays
@@ -43,8 +43,8 @@ stay-drop (suc cut) pages contents (m ∷ ms) (u ∷ us) h stays = stay-drop cut
 stay-drop cut pages contents ms us h stays = absurd h
 
 -- all of them have come
-pub stay-all : (pages : List Told) (contents : List Content) (ms : List (Event Message)) (us : List (Event Update))
-    → AreTold contents ms us → StayProper pages contents ms us → IsProper (chains_after effect_of pages ms) (contents_after contents us)
+pub stay-all : (pages : List Messages) (contents : List Content) (ms : List (Event Message)) (us : List (Event Update))
+    → AreEvents contents ms us → StayProper pages contents ms us → IsProper (chains_after effect_of pages ms) (contents_after contents us)
 stay-all pages contents [] [] h stays = stays zero
 stay-all pages contents (m ∷ ms) (u ∷ us) h stays = stay-all (chains_from effect_of pages m) (contents_from contents u) ms us h.2 (λ k. stays (suc k))
 stay-all pages contents ms us h stays = absurd h

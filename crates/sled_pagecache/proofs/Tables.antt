@@ -1,47 +1,47 @@
 -- What always holds of a cache's table stays so where a page from 2 on changes, or one is added.
-use Rattle.sled_pagecache.proofs.Names.{◌≡◌, ◌≤◌, ◌<◌, ◌+◌, ◌^◌, ℕ, zero, suc, Bool, true, false, cond, List, [], ◌∷◌, ◌++◌, length, map, Some, Result, Ok, Err, slice_get, slice_set, refl, sym, ◌∙◌, ap, subst, arith, length-append, length-set, none-some, same_Some, AllByRecursion, AllZip, list_all, LogKind, Read, Write, Refusal, Io, is_open, open_after, Counts, is_linking, may_follow, is_chain, Event, Change, Message, Entry, Chain, Told, told, effect_of, effect_of_entry, IsSized, AreChains, chains-are, now-told, zip-append, zip-set, WholeNode, chain_at, Went, begun_by, now-Went, IsKept, is_free, free_ids, IsCounter, IsFreeOrNode, IsRoots, IsConsistent, Journal, Page}
+use Rattle.sled_pagecache.proofs.Names.{◌≡◌, ◌≤◌, ◌<◌, ◌+◌, ◌^◌, ℕ, zero, suc, Bool, true, false, cond, List, [], ◌∷◌, ◌++◌, length, map, Some, Result, Ok, Err, slice_get, slice_set, refl, sym, ◌∙◌, ap, subst, arith, length-append, length-set, none-some, same_Some, AllByRecursion, AllZip, list_all, LogKind, Read, Write, Refusal, Io, is_open, open_after, Counts, is_linking, may_follow, is_chain, Event, Change, Message, Entry, Chain, Messages, unplaced, effect_of, effect_of_entry, IsSized, AreChains, chains-are, now-unplaced, zip-append, zip-set, WholeNode, chain_at, Went, begun_by, now-Went, IsKept, is_free, free_ids, IsCounter, IsFreeOrNode, IsRoots, IsConsistent, StickyLog, Page}
 use Rattle.sled_base.specs.declared.kinds.LogKind.TheVariants as kinds
-use Rattle.sled_log.specs.State as log
+use Rattle.sled_log.specs.LogState as log
 use Rattle.sled_pagecache.proofs.ByIds.{add-by-id, past-two, set-by-id}
 use Rattle.sled_pagecache.proofs.ProperPages.{all-set, all-append}
 use Rattle.sled_pagecache.specs.declared.pagecache.page.Kept.TheVariants as kept
 
 -- ---- chains, with their places and without
 
-links-told : (chain : Chain) → list_all (λ (m : Message). is_linking (effect_of m)) (told chain) ≡ list_all (λ (e : Entry). is_linking (effect_of_entry e)) chain
-links-told [] = refl
-links-told (entry ∷ chain) = rw (links-told chain) refl
+links-unplaced : (chain : Chain) → list_all (λ (m : Message). is_linking (effect_of m)) (unplaced chain) ≡ list_all (λ (e : Entry). is_linking (effect_of_entry e)) chain
+links-unplaced [] = refl
+links-unplaced (entry ∷ chain) = rw (links-unplaced chain) refl
 
-follow-told : (kind : LogKind) (chain : Chain) → may_follow effect_of kind (told chain) ≡ may_follow effect_of_entry kind chain
-follow-told kinds.Free [] = refl
-follow-told kinds.Free (entry ∷ chain) = refl
-follow-told kinds.Replace chain = links-told chain
-follow-told kind chain = refl
+follow-unplaced : (kind : LogKind) (chain : Chain) → may_follow effect_of kind (unplaced chain) ≡ may_follow effect_of_entry kind chain
+follow-unplaced kinds.Free [] = refl
+follow-unplaced kinds.Free (entry ∷ chain) = refl
+follow-unplaced kinds.Replace chain = links-unplaced chain
+follow-unplaced kind chain = refl
 
-is_chain-told : (chain : Chain) → is_chain effect_of (told chain) ≡ is_chain effect_of_entry chain
-is_chain-told [] = refl
-is_chain-told (entry ∷ chain) = follow-told (effect_of_entry entry) chain
+is_chain-unplaced : (chain : Chain) → is_chain effect_of (unplaced chain) ≡ is_chain effect_of_entry chain
+is_chain-unplaced [] = refl
+is_chain-unplaced (entry ∷ chain) = follow-unplaced (effect_of_entry entry) chain
 
-told-chains : (chains : List Chain) → AreChains effect_of_entry chains → AreChains effect_of (map told chains)
-told-chains [] h = tt
-told-chains (chain ∷ chains) h = (is_chain-told chain ∙ h.0, told-chains chains h.1)
+unplaced-chains : (chains : List Chain) → AreChains effect_of_entry chains → AreChains effect_of (map unplaced chains)
+unplaced-chains [] h = tt
+unplaced-chains (chain ∷ chains) h = (is_chain-unplaced chain ∙ h.0, unplaced-chains chains h.1)
 
-chains-told : (chains : List Chain) → AreChains effect_of (map told chains) → AreChains effect_of_entry chains
-chains-told [] h = tt
-chains-told (chain ∷ chains) h = (sym (is_chain-told chain) ∙ h.0, chains-told chains h.1)
+chains-unplaced : (chains : List Chain) → AreChains effect_of (map unplaced chains) → AreChains effect_of_entry chains
+chains-unplaced [] h = tt
+chains-unplaced (chain ∷ chains) h = (sym (is_chain-unplaced chain) ∙ h.0, chains-unplaced chains h.1)
 
-module _ {L : Type 0} (tells : Type 0) (state : L → log.State Entry) (moment : L → ℕ) (left_since : L → ℕ → List Told → Type 0) (counts : L → Counts) where
+module _ {L : Type 0} (tells : Type 0) (state : L → log.LogState Entry) (moment : L → ℕ) (left_since : L → ℕ → List Messages → Type 0) (counts : L → Counts) where
   -- whatever messages a log was told, its chains are chains
-  pub went-chains : (old new : Journal L) (events : List (Event Message)) → Went tells state moment left_since counts old new events → tells → new.fault ≡ false
+  pub went-chains : (old new : StickyLog L) (events : List (Event Message)) → Went tells state moment left_since counts old new events → tells → new.fault ≡ false
       → AreChains effect_of_entry (log.now effect_of_entry (state old.log)) → AreChains effect_of_entry (log.now effect_of_entry (state new.log))
   went-chains old new events went known clear h =
-      chains-told (log.now effect_of_entry (state new.log))
-      (subst (AreChains effect_of) (sym (now-told (state new.log) ∙ now-Went tells state moment left_since counts old new events went known clear))
-      (chains-are effect_of (log.now effect_of (log.told_state (state old.log))) events
-      (subst (AreChains effect_of) (now-told (state old.log)) (told-chains (log.now effect_of_entry (state old.log)) h))))
+      chains-unplaced (log.now effect_of_entry (state new.log))
+      (subst (AreChains effect_of) (sym (now-unplaced (state new.log) ∙ now-Went tells state moment left_since counts old new events went known clear))
+      (chains-are effect_of (log.now effect_of (log.unplaced_state (state old.log))) events
+      (subst (AreChains effect_of) (now-unplaced (state old.log)) (unplaced-chains (log.now effect_of_entry (state old.log)) h))))
 
   -- where the messages leave a batch open or closed, no batch is open
-  pub went-closed : (old new : Journal L) (events : List (Event Message)) → Went tells state moment left_since counts old new events → ((was : Bool) → open_after was events ≡ was) → new.fault ≡ false
+  pub went-closed : (old new : StickyLog L) (events : List (Event Message)) → Went tells state moment left_since counts old new events → ((was : Bool) → open_after was events ≡ was) → new.fault ≡ false
       → is_open (state old.log).pending ≡ false → is_open (state new.log).pending ≡ false
   went-closed old new events went marks clear closed =
       went.opened clear ∙ marks (is_open (state old.log).pending) ∙ closed
@@ -56,7 +56,7 @@ marks-begun (Err refusal) pid m was = refl
 -- ---- the table
 
 -- the log holds the chain of a page in place of the one that it held
-pub record IsSet (tells : Type 0) (old new : log.State Entry) (pid : ℕ) (page : Page) : Type 0 where
+pub record IsSet (tells : Type 0) (old new : log.LogState Entry) (pid : ℕ) (page : Page) : Type 0 where
   pub usable : new.usable ≡ true
   pub closed : is_open new.pending ≡ false
   pub kept : tells → IsKept (chain_at new pid) page
@@ -64,7 +64,7 @@ pub record IsSet (tells : Type 0) (old new : log.State Entry) (pid : ℕ) (page 
   pub chains : tells → AreChains effect_of_entry (log.now effect_of_entry new)
   pub sized : tells → AllByRecursion IsSized (log.now effect_of_entry new)
 
-module _ {L : Type 0} (tells : Type 0) (state : L → log.State Entry) (old new : Journal L) (pages : List Page) (free free_then : List ℕ) (c : IsConsistent tells state old pages free) (ready : old.fault ≡ false) where
+module _ {L : Type 0} (tells : Type 0) (state : L → log.LogState Entry) (old new : StickyLog L) (pages : List Page) (free free_then : List ℕ) (c : IsConsistent tells state old pages free) (ready : old.fault ≡ false) where
   pub consistent-set : (pid : ℕ) (page : Page) → 2 ≤ pid → IsFreeOrNode page.kept → length page.infos.items ≤ 10
       → (new.fault ≡ false → IsSet tells (state old.log) (state new.log) pid page)
       → free_then ≡ free_ids 0 (slice_set pages pid page)
@@ -90,7 +90,7 @@ module _ {L : Type 0} (tells : Type 0) (state : L → log.State Entry) (old new 
   }
 
   -- nothing comes to the log, but where a write fault is kept
-  pub consistent-same : (moment : L → ℕ) (left_since : L → ℕ → List Told → Type 0) (counts : L → Counts) (events : List (Event Message))
+  pub consistent-same : (moment : L → ℕ) (left_since : L → ℕ → List Messages → Type 0) (counts : L → Counts) (events : List (Event Message))
       → Went tells state moment left_since counts old new events → ((was : Bool) → open_after was events ≡ was)
       → (tells → new.fault ≡ false → log.now effect_of_entry (state new.log) ≡ log.now effect_of_entry (state old.log))
       → IsConsistent tells state new pages free
@@ -111,7 +111,7 @@ module _ {L : Type 0} (tells : Type 0) (state : L → log.State Entry) (old new 
     free = c.free;
   }
 
-  module _ (moment : L → ℕ) (left_since : L → ℕ → List Told → Type 0) (counts : L → Counts) (pid : ℕ) (m : Message) (went : Went tells state moment left_since counts old new (Change pid m ∷ []))
+  module _ (moment : L → ℕ) (left_since : L → ℕ → List Messages → Type 0) (counts : L → Counts) (pid : ℕ) (m : Message) (went : Went tells state moment left_since counts old new (Change pid m ∷ []))
       (page : Page) (own : IsFreeOrNode page.kept) (short : length page.infos.items ≤ 10) (is_kept : tells → IsKept (chain_at (state new.log) pid) page)
       (sized : tells → AllByRecursion IsSized (log.now effect_of_entry (state new.log))) where
     still-closed : new.fault ≡ false → is_open (state new.log).pending ≡ false

@@ -5,7 +5,7 @@ use Rattle.sled_base.specs.declared.types.Refusal.TheVariants.{Unsupported}
 use Rattle.sled_base.specs.declared.types.Why.TheVariants.{PagesUsedUp}
 use Rattle.sled_log.specs.Messages.{Chain}
 use Rattle.sled_node.specs.Node.{WholeNode}
-use Rattle.sled_pagecache.specs.Journal.{IsOfLog}
+use Rattle.sled_pagecache.specs.StickyLog.{IsOfLog}
 use Rattle.sled_pagecache.specs.Pages.{IsKept}
 use Rattle.sled_pagecache.specs.Limits.{most_pages}
 use Rattle.sled_pagecache.specs.declared.pagecache.page.Kept.TheVariants.{Node}

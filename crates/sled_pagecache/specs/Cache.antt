@@ -4,7 +4,7 @@ use Rattle.std.specs.List.{sum_by}
 use Rattle.sled_base.specs.Lru.{Recency}
 use Rattle.sled_log.specs.Batches.{is_open}
 use Rattle.sled_log.specs.Messages.{Entry, effect_of_entry}
-use Rattle.sled_log.specs.State as log
+use Rattle.sled_log.specs.LogState as log
 use Rattle.sled_log.specs.declared.log.Log.{Ghosts}
 use Rattle.sled_pagecache.specs.Logged.{Logged, IsLogged, now}
 use Rattle.sled_pagecache.specs.State.{State, contents_of, stamps_of}
@@ -35,7 +35,7 @@ IsAway cache pid = slice_get cache.resident pid ≡ Some false
 abbrev pub unlisted : Recency
 unlisted = record { capacity = 0; shards = [] }
 
-module _ {L : Type 0} (state : L → log.State Entry) where
+module _ {L : Type 0} (state : L → log.LogState Entry) where
   -- how many messages make a page
   abbrev pub chain_length : Cache L → ℕ → ℕ
   chain_length cache pid = length (slice_index_or (log.now effect_of_entry (state cache.log)) pid [])
@@ -48,7 +48,7 @@ module _ {L : Type 0} (g : Ghosts L) where
   -- what is known of the log, which holds that
   pub record KnowsLog (cache : Cache L) (held : Logged) (s : State) : Type 0 where
     pub usable : (g.state cache.log).usable ≡ true
-    pub logged : IsLogged (log.told_state (g.state cache.log)) held
+    pub logged : IsLogged (log.unplaced_state (g.state cache.log)) held
     pub contents : contents_of s ≡ now held
 
   -- The cache is in this state, and its log, which tells its bytes, holds that. After a write error nothing is known of the log.

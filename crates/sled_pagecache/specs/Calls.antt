@@ -7,7 +7,7 @@ use Rattle.sled_base.specs.declared.types.Error.TheVariants.{Io}
 use Rattle.sled_log.specs.Calls.{HasGrown}
 use Rattle.sled_log.specs.Contents.{Update}
 use Rattle.sled_log.specs.Events.{Event, Change, Pin, Seal, Cancel}
-use Rattle.sled_log.specs.State as log
+use Rattle.sled_log.specs.LogState as log
 use Rattle.sled_log.specs.Writing.{message_of}
 use Rattle.sled_log.specs.declared.log.Log.{Ghosts}
 use Rattle.sled_pagecache.specs.Cache.{Cache, chain_length, IsIn}
@@ -42,7 +42,7 @@ module _ {L : Type 0} (g : Ghosts L) where
     pub held_then : Logged
     pub is : IsIn g new held_then out.state
     pub added : out.state.fault ≡ false → Adds held out.changes held_then
-    pub stop : s.fault ≡ false → log.StopsLeave g.moment g.left_since old.log new.log (IsLeft held out.changes)
+    pub stop : s.fault ≡ false → log.CrashesSinceLeave g.moment g.left_since old.log new.log (IsLeft held out.changes)
     pub stuck : s.fault ≡ true → new.log ≡ old.log
 
   -- The call is one step, in whatever state the cache is.

@@ -4,12 +4,12 @@ use Rattle.sled_base.specs.declared.types.DiskPtr.{DiskPtr}
 use Rattle.sled_log.specs.Calls.{one_more}
 use Rattle.sled_log.specs.Messages.{Entry, Chain, effect_of_entry}
 use Rattle.sled_log.specs.Pages.{IsRead}
-use Rattle.sled_log.specs.State.{State, now}
+use Rattle.sled_log.specs.LogState.{LogState, now}
 use Rattle.sled_pagecache.specs.declared.pagecache.page.CacheInfo.{CacheInfo}
 use Rattle.sled_pagecache.specs.declared.pagecache.reading.Found.{Found}
 
 -- the chain of a page
-abbrev pub chain_at : State Entry → ℕ → Chain
+abbrev pub chain_at : LogState Entry → ℕ → Chain
 chain_at state pid = slice_index_or (now effect_of_entry state) pid []
 
 -- the place of a message, as its page keeps it

@@ -21,24 +21,24 @@ use Rattle.sled_pagecache.specs.declared.pagecache.view.NodeView.{NodeView}
 use Rattle.sled_pagecache.specs.contracts.pagecache.cache.PageCache.{the_row}
 
 -- the answer of a call that lends a node
-abbrev pub told : Result (Option NodeView) Refusal → Result (Option (Token × WholeNode)) Error
-told (Ok None) = Ok None
-told (Ok (Some view)) = Ok (Some (view.token, view.node.now))
-told (Err refusal) = Err (error_of refusal)
+abbrev pub lent_answer : Result (Option NodeView) Refusal → Result (Option (Token × WholeNode)) Error
+lent_answer (Ok None) = Ok None
+lent_answer (Ok (Some view)) = Ok (Some (view.token, view.node.now))
+lent_answer (Err refusal) = Err (error_of refusal)
 
 -- The call is one step, and reads the page's messages where the page doesn't lie in memory; then it does. What a refused call
 -- has read isn't kept.
 pub record IsGot {L : Type 0} (g : Ghosts L) (old : Cache L) (pid : ℕ) (result : Result (Option NodeView) Refusal) (new : Cache L) : Type 0 where
-  pub step : Steps g old (Get pid) (Got (told result)) new
-  pub blame : IsBlamed g old new (told result)
-  pub keeps : Keeps old new (told result) (λ _. old.stamps)
+  pub step : Steps g old (Get pid) (Got (lent_answer result)) new
+  pub blame : IsBlamed g old new (lent_answer result)
+  pub keeps : Keeps old new (lent_answer result) (λ _. old.stamps)
   pub reads : ReadsPage g old pid new
   pub once : IfOk result (λ found. IfSome found (λ view. IsResident new pid))
   -- the token is that of the page that was asked for
   pub token : IfOk result (λ found. IfSome found (λ view. view.token.pid ≡ pid))
   pub kept_out : OnErr result (IsAway old pid → IsAway new pid)
   -- a page whose messages make no node is reported, whatever else the log holds
-  pub damaged : MeetsDamage g old pid → ReportsDamage g old pid (told result) new
+  pub damaged : MeetsDamage g old pid → ReportsDamage g old pid (lent_answer result) new
   -- a page that lies in memory is lent without memory and without the device
   pub always : old.fault ≡ false → is_reserved pid ≡ false → IsResident old pid → IsOk result
   -- a page whose node it finds is accessed, and else nothing changes in memory

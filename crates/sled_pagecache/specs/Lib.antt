@@ -15,8 +15,8 @@ pub mod Starts
 pub mod Rows
 pub mod RowLaws
 pub mod Reopening
-pub mod Journal
-pub mod JournalLaws
+pub mod StickyLog
+pub mod StickyLogLaws
 pub mod ChainReads
 pub mod Stamps
 pub mod Reads

@@ -10,53 +10,53 @@ use Rattle.sled_log.specs.Contents.{Update}
 use Rattle.sled_log.specs.Contents as content
 use Rattle.sled_log.specs.Batches.{open_after}
 use Rattle.sled_log.specs.Events.{Event, Change}
-use Rattle.sled_log.specs.Messages.{Message, Chain, told, effect_of_entry}
+use Rattle.sled_log.specs.Messages.{Message, Chain, unplaced, effect_of_entry}
 use Rattle.sled_log.specs.Pages.{IsSized}
 use Rattle.sled_log.specs.Reading.{IsUpdate, Makes}
-use Rattle.sled_log.specs.State.{now}
+use Rattle.sled_log.specs.LogState.{now}
 use Rattle.sled_log.specs.Writing.{message_of}
 use Rattle.sled_log.specs.declared.log.Log.{Ghosts}
 use Rattle.sled_node.specs.Links.{Accepts, applied}
 use Rattle.sled_node.specs.Node.{WholeNode}
 use Rattle.sled_node.specs.declared.node.link.Link.{Link as NodeLink}
 use Rattle.sled_pagecache.specs.ChainReads.{chain_at}
-use Rattle.sled_pagecache.specs.Journal.{Went}
+use Rattle.sled_pagecache.specs.StickyLog.{Went}
 use Rattle.sled_pagecache.specs.Pages.{IsKept}
 use Rattle.sled_pagecache.specs.Reading.{IsWrongAt}
 use Rattle.sled_pagecache.specs.Changes.{link_update}
 use Rattle.sled_pagecache.specs.Swaps.{IsRaised, linked_length}
-use Rattle.sled_pagecache.specs.declared.pagecache.journal.Journal.{Journal}
+use Rattle.sled_pagecache.specs.declared.pagecache.sticky_log.StickyLog.{StickyLog}
 use Rattle.sled_pagecache.specs.declared.pagecache.page.Kept.TheVariants as kept
 use Rattle.sled_pagecache.specs.declared.pagecache.page.Page.{Page}
 
 -- why a link was refused of which nothing was appended to the log
-abbrev pub RefusesUntold : Chain → ℕ → NodeLink → Refusal → Type 0
-RefusesUntold chain stamp link OutOfMemory = ⊤
-RefusesUntold chain stamp link (Io device) = ⊤
-RefusesUntold chain stamp link (Corruption (Some pointer)) = IsWrongAt chain pointer
-RefusesUntold chain stamp link (ReportableBug LinkRefused) = (node : WholeNode) × Makes (told chain) (content.Node node) × (¬ Accepts node link)
-RefusesUntold chain stamp link (Unsupported StampUsedUp) = (node : WholeNode) × Makes (told chain) (content.Node node) × Accepts node link × (stamp ≡ 2 ^ 64 - 1)
-RefusesUntold chain stamp link (Unsupported LogFull) = (node : WholeNode) × Makes (told chain) (content.Node node) × Accepts node link × (stamp ≢ 2 ^ 64 - 1)
+abbrev pub RefusesUnappended : Chain → ℕ → NodeLink → Refusal → Type 0
+RefusesUnappended chain stamp link OutOfMemory = ⊤
+RefusesUnappended chain stamp link (Io device) = ⊤
+RefusesUnappended chain stamp link (Corruption (Some pointer)) = IsWrongAt chain pointer
+RefusesUnappended chain stamp link (ReportableBug LinkRefused) = (node : WholeNode) × Makes (unplaced chain) (content.Node node) × (¬ Accepts node link)
+RefusesUnappended chain stamp link (Unsupported StampUsedUp) = (node : WholeNode) × Makes (unplaced chain) (content.Node node) × Accepts node link × (stamp ≡ 2 ^ 64 - 1)
+RefusesUnappended chain stamp link (Unsupported LogFull) = (node : WholeNode) × Makes (unplaced chain) (content.Node node) × Accepts node link × (stamp ≢ 2 ^ 64 - 1)
 -- there is no other reason
-RefusesUntold chain stamp link refusal = ⊥
+RefusesUnappended chain stamp link refusal = ⊥
 
 -- what is appended to the log where this node of a page takes the link
 abbrev pub update_by : Page → NodeLink → WholeNode → Update
 update_by page link node = link_update (length page.infos.items) link (applied link node)
 
-module _ {L : Type 0} (g : Ghosts L) (old : Journal L) (pid : ℕ) (page : Page) (link : NodeLink) where
+module _ {L : Type 0} (g : Ghosts L) (old : StickyLog L) (pid : ℕ) (page : Page) (link : NodeLink) where
   -- The update was appended to the log, at most in part: the node accepts the link, and the stamp may rise.
-  pub record TellsLink (new : Journal L) : Type 0 where
+  pub record AppendsLink (new : StickyLog L) : Type 0 where
     pub node : WholeNode
-    pub made : g.tells → Makes (told (chain_at (g.state old.log) pid)) (content.Node node)
+    pub made : g.tells → Makes (unplaced (chain_at (g.state old.log) pid)) (content.Node node)
     pub accepts : Accepts node link
     pub below : page.stamp ≢ 2 ^ 64 - 1
     pub is : IsUpdate (message_of (update_by page link node)) (update_by page link node)
     pub went : Went g.tells g.state g.moment g.left_since g.counts old new (Change pid (message_of (update_by page link node)) ∷ [])
 
   -- The page holds the node that the link makes, at its next stamp.
-  pub record TakesLink (new : Journal L) (page_then : Page) : Type 0 where
-    pub tells : TellsLink new
+  pub record TakesLink (new : StickyLog L) (page_then : Page) : Type 0 where
+    pub tells : AppendsLink new
     pub raised : IsRaised page.stamp page_then.stamp
     pub holds : page_then.kept ≡ kept.Node (applied link tells.node)
     pub kept : g.tells → IsKept (chain_at (g.state new.log) pid) page_then
@@ -65,19 +65,19 @@ module _ {L : Type 0} (g : Ghosts L) (old : Journal L) (pid : ℕ) (page : Page)
     pub sized : g.tells → AllByRecursion IsSized (now effect_of_entry (g.state new.log))
 
   -- Nothing was appended, or a write failed while the update was.
-  abbrev pub RefusesTold : Journal L → Refusal → Type 0
-  RefusesTold new refusal =
-      (Went g.tells g.state g.moment g.left_since g.counts old new [] × RefusesUntold (chain_at (g.state old.log) pid) page.stamp link refusal)
-      ⊎ ((refusal ≡ Io Write) × TellsLink new)
+  abbrev pub RefusesAppended : StickyLog L → Refusal → Type 0
+  RefusesAppended new refusal =
+      (Went g.tells g.state g.moment g.left_since g.counts old new [] × RefusesUnappended (chain_at (g.state old.log) pid) page.stamp link refusal)
+      ⊎ ((refusal ≡ Io Write) × AppendsLink new)
 
   -- The log had no room for the update.
   pub record HadNoRoom : Type 0 where
     pub node : WholeNode
-    pub made : g.tells → Makes (told (chain_at (g.state old.log) pid)) (content.Node node)
+    pub made : g.tells → Makes (unplaced (chain_at (g.state old.log) pid)) (content.Node node)
     pub full : g.is_full old.log (length (message_of (update_by page link node)).payload)
 
 -- something was begun, which leaves a batch open or closed as it was
-pub record WasBegun {L : Type 0} (g : Ghosts L) (old new : Journal L) : Type 0 where
+pub record WasBegun {L : Type 0} (g : Ghosts L) (old new : StickyLog L) : Type 0 where
   pub came : List (Event Message)
   pub marks : (was : Bool) → open_after was came ≡ was
   pub went : Went g.tells g.state g.moment g.left_since g.counts old new came

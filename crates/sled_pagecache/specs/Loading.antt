@@ -10,7 +10,7 @@ use Rattle.sled_log.specs.Events.{Event, Change}
 use Rattle.sled_log.specs.Messages.{Message, Chain, effect_of_entry}
 use Rattle.sled_log.specs.Pages.{IsSized, freed_of}
 use Rattle.sled_log.specs.Writing.{message_of}
-use Rattle.sled_pagecache.specs.ByIds.{AllById, IsInOrder}
+use Rattle.sled_pagecache.specs.ByIds.{AllById, FitsId}
 use Rattle.sled_pagecache.specs.Opening.{opened, first_id}
 use Rattle.sled_pagecache.specs.Pages.{IsKept, freed_at}
 use Rattle.sled_pagecache.specs.Starts.{IsFit, BeginsAmiss, has_own}
@@ -36,7 +36,7 @@ IsUnread other = ⊥
 
 -- The named roots and the counter were read, as far as their pages are there, and no other content.
 abbrev pub IsFoundAt : Option ℕ → ℕ → Kept → Type 0
-IsFoundAt counter = IsInOrder IsRoots (λ kept. (n : ℕ) × (kept ≡ Counter n) × (counter ≡ Some n)) IsUnread
+IsFoundAt counter = FitsId IsRoots (λ kept. (n : ℕ) × (kept ≡ Counter n) × (counter ≡ Some n)) IsUnread
 
 abbrev pub AreFound : List Page → Option ℕ → Type 0
 AreFound pages counter = AllById (λ pid page. IsFoundAt counter pid page.kept) pages × (length pages < 2 → counter ≡ None)
@@ -82,20 +82,20 @@ RefusesPages chains refusal = ⊥
 
 -- ---- what is appended for the system pages that are missing
 
-abbrev pub roots_told : Event Message
-roots_told = Change 0 (message_of (Put (contents.Roots [])))
+abbrev pub roots_event : Event Message
+roots_event = Change 0 (message_of (Put (contents.Roots [])))
 
-abbrev pub counter_told : Event Message
-counter_told = Change 1 (message_of (Put (contents.Counter 0)))
+abbrev pub counter_event : Event Message
+counter_event = Change 1 (message_of (Put (contents.Counter 0)))
 
 module _ {X : Type 0} where
   -- by the pages, or the contents of pages, that are there
-  abbrev pub told_of_roots : List X → List (Event Message)
-  told_of_roots [] = roots_told ∷ []
-  told_of_roots (page ∷ pages) = []
+  abbrev pub events_of_roots : List X → List (Event Message)
+  events_of_roots [] = roots_event ∷ []
+  events_of_roots (page ∷ pages) = []
 
-  abbrev pub told_at_start : List X → List (Event Message)
-  told_at_start pages = drop (length pages) (roots_told ∷ counter_told ∷ [])
+  abbrev pub events_at_start : List X → List (Event Message)
+  events_at_start pages = drop (length pages) (roots_event ∷ counter_event ∷ [])
 
   -- the stamps of the pages then
   abbrev pub stamps_at_start : List X → List ℕ

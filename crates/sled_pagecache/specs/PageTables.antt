@@ -26,12 +26,12 @@ abbrev pub at_last : (Vec Page → Bool) → List (Vec Page) → Bool
 at_last test chunks = unwrap_or (option_map test (slice_get chunks (length chunks - 1))) false
 
 -- whether a chunk can have one more page
-abbrev pub is_open : ℕ → Vec Page → Bool
-is_open most chunk = nat_lt (vec_len chunk) most
+abbrev pub is_unfilled : ℕ → Vec Page → Bool
+is_unfilled most chunk = nat_lt (vec_len chunk) most
 
 -- whether it can have it without memory
 abbrev pub has_room : ℕ → Vec Page → Bool
-has_room most chunk = is_open most chunk && nat_lt (vec_len chunk) (vec_capacity chunk)
+has_room most chunk = is_unfilled most chunk && nat_lt (vec_len chunk) (vec_capacity chunk)
 
 -- what one sees of chunks
 abbrev pub view_of : List (Vec Page) → TableView

@@ -6,7 +6,7 @@ use Rattle.sled_base.specs.declared.types.page_state.PageState.{PageState}
 use Rattle.sled_base.specs.declared.types.page_state.PageState.TheVariants as said
 use Rattle.sled_log.specs.Chains.{is_empty}
 use Rattle.sled_log.specs.Contents as content
-use Rattle.sled_log.specs.Messages.{Chain, told, effect_of_entry}
+use Rattle.sled_log.specs.Messages.{Chain, unplaced, effect_of_entry}
 use Rattle.sled_log.specs.Pages.{said_of}
 use Rattle.sled_log.specs.Reading.{Makes}
 use Rattle.sled_log.specs.Limits.{head_size}
@@ -22,9 +22,9 @@ use Rattle.sled_pagecache.specs.declared.pagecache.page.Page.{Page}
 abbrev pub HoldsChain : Chain → Kept → Type 0
 HoldsChain chain Free = is_empty effect_of_entry chain ≡ true
 HoldsChain chain Away = is_empty effect_of_entry chain ≡ false
-HoldsChain chain (Counter n) = Makes (told chain) (content.Counter n)
-HoldsChain chain (Roots roots) = Makes (told chain) (content.Roots roots)
-HoldsChain chain (Node node) = Makes (told chain) (content.Node node)
+HoldsChain chain (Counter n) = Makes (unplaced chain) (content.Counter n)
+HoldsChain chain (Roots roots) = Makes (unplaced chain) (content.Roots roots)
+HoldsChain chain (Node node) = Makes (unplaced chain) (content.Node node)
 
 -- whether the content lies in memory
 abbrev pub is_resident : Kept → Bool
@@ -46,8 +46,8 @@ abbrev pub size_in : List CacheInfo → ℕ
 size_in infos = sum_by (λ info. info.log_size) infos
 
 -- how much the messages of a page take, as it is accessed with
-abbrev pub size_of : Page → ℕ
-size_of page = capped (size_in page.infos.items)
+abbrev pub access_size : Page → ℕ
+access_size page = capped (size_in page.infos.items)
 
 -- the same, where what is kept is a node
 abbrev pub size_if : ℕ → Kept → Option ℕ
@@ -57,8 +57,8 @@ size_if size Away = None
 size_if size (Counter n) = None
 size_if size (Roots roots) = None
 
-abbrev pub node_size : Page → Option ℕ
-node_size page = size_if (size_of page) page.kept
+abbrev pub node_access_size : Page → Option ℕ
+node_access_size page = size_if (access_size page) page.kept
 
 -- how much messages take with that of a link, whose payload is so long, or with that of the node, where they are as many as may be
 abbrev pub size_linked : List CacheInfo → ℕ → ℕ

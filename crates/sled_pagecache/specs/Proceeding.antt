@@ -8,8 +8,8 @@ use Rattle.sled_log.specs.Calls.{HasGrown}
 use Rattle.sled_log.specs.Events.{Event, Change}
 use Rattle.sled_log.specs.Messages.{Message}
 use Rattle.sled_log.specs.declared.log.Log.{Ghosts}
-use Rattle.sled_pagecache.specs.Journal.{Went}
-use Rattle.sled_pagecache.specs.declared.pagecache.journal.Journal.{Journal}
+use Rattle.sled_pagecache.specs.StickyLog.{Went}
+use Rattle.sled_pagecache.specs.declared.pagecache.sticky_log.StickyLog.{StickyLog}
 
 -- the refusal that was answered, if one was
 abbrev pub refusal_in : {T : Type 0} → Result T Refusal → Option Refusal
@@ -24,7 +24,7 @@ is_fault (Some other) = false
 
 module _ {L : Type 0} (g : Ghosts L) where
   -- the events came
-  abbrev pub Comes : Journal L → Journal L → List (Event Message) → Type 0
+  abbrev pub Comes : StickyLog L → StickyLog L → List (Event Message) → Type 0
   Comes = Went g.tells g.state g.moment g.left_since g.counts
 
   -- the log has no room for the message of the first of the events
@@ -36,8 +36,8 @@ module _ {L : Type 0} (g : Ghosts L) where
   TakesNoRoom old new = (n : ℕ) → g.is_full new n → g.is_full old n
 
   -- Once some events had come, which left no room for the rest, nothing more came. Where none had come, the log had no room before.
-  pub record WasFull (old new : Journal L) (came rest : List (Event Message)) : Type 0 where
-    pub at : Journal L
+  pub record WasFull (old new : StickyLog L) (came rest : List (Event Message)) : Type 0 where
+    pub at : StickyLog L
     pub went : Comes old at came
     pub clear : at.fault ≡ false
     pub room : LacksRoom at.log rest
@@ -45,7 +45,7 @@ module _ {L : Type 0} (g : Ghosts L) where
     pub behind : Comes at new []
 
   -- A refusal, which has its cause, left the rest of the events out.
-  pub record IsCutShort (old new : Journal L) (events : List (Event Message)) (refusal : Refusal) : Type 0 where
+  pub record IsCutShort (old new : StickyLog L) (events : List (Event Message)) (refusal : Refusal) : Type 0 where
     pub came : List (Event Message)
     pub rest : List (Event Message)
     pub is : came ++ rest ≡ events
@@ -54,12 +54,12 @@ module _ {L : Type 0} (g : Ghosts L) where
     pub write : refusal ≡ Io Write → HasGrown (g.counts old.log).write_faults (g.counts new.log).write_faults
     pub full : refusal ≡ Unsupported LogFull → WasFull old new came rest
 
-  abbrev pub Reaches : Journal L → Journal L → List (Event Message) → Option Refusal → Type 0
+  abbrev pub Reaches : StickyLog L → StickyLog L → List (Event Message) → Option Refusal → Type 0
   Reaches old new events None = Comes old new events
   Reaches old new events (Some refusal) = IsCutShort old new events refusal
 
   -- The events came in order, up to the refusal, if there is one. Calls of no event take up no room.
-  pub record Proceeds (old new : Journal L) (events : List (Event Message)) (refusal : Option Refusal) : Type 0 where
+  pub record Proceeds (old new : StickyLog L) (events : List (Event Message)) (refusal : Option Refusal) : Type 0 where
     pub reaches : Reaches old new events refusal
     pub fault : new.fault ≡ is_fault refusal
     pub room : events ≡ [] → TakesNoRoom old.log new.log

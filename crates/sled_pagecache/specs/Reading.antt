@@ -7,7 +7,7 @@ use Rattle.sled_base.specs.declared.types.Refusal.{Refusal}
 use Rattle.sled_base.specs.declared.types.Refusal.TheVariants.{ReportableBug, Corruption, OutOfMemory}
 use Rattle.sled_log.specs.Chains.{is_empty}
 use Rattle.sled_log.specs.Contents.{Node, Link}
-use Rattle.sled_log.specs.Messages.{Message, Chain, Told, told, message, effect_of_entry}
+use Rattle.sled_log.specs.Messages.{Message, Chain, Messages, unplaced, message, effect_of_entry}
 use Rattle.sled_log.specs.Reading.{IsUpdate, Makes}
 use Rattle.sled_node.specs.Links.{Accepts, applied}
 use Rattle.sled_node.specs.Node.{WholeNode}
@@ -15,12 +15,12 @@ use Rattle.sled_node.specs.declared.node.link.Link.{Link as NodeLink}
 use Rattle.sled_pagecache.specs.declared.pagecache.reading.Found.{Found}
 
 -- a message that was found, without its place
-abbrev pub told_of : Found → Message
-told_of found = message found.kind found.payload.items
+abbrev pub found_message : Found → Message
+found_message found = message found.kind found.payload.items
 
 -- the messages make some node
-abbrev pub MakesNode : Told → Type 0
-MakesNode told = (node : WholeNode) × Makes told (Node node)
+abbrev pub MakesNode : Messages → Type 0
+MakesNode unplaced = (node : WholeNode) × Makes unplaced (Node node)
 
 -- The message kept there is the first that doesn't belong where it stands: those before it make a node, where there are any,
 -- and with it they make none.
@@ -35,14 +35,14 @@ pub record IsFirstWrong {M : Type 0} (message : M → Message) (kept_at : M → 
 
 -- the page has a content, and its messages make no node
 abbrev pub IsDamaged : Chain → Type 0
-IsDamaged chain = (is_empty effect_of_entry chain ≡ false) × ¬ MakesNode (told chain)
+IsDamaged chain = (is_empty effect_of_entry chain ≡ false) × ¬ MakesNode (unplaced chain)
 
 -- it is the first wrong one of a page's chain, or of what was found of it
 abbrev pub IsWrongAt : Chain → DiskPtr → Type 0
 IsWrongAt chain pointer = IsFirstWrong (λ entry. entry.message) (λ entry. entry.place.pointer) chain pointer
 
 abbrev pub IsFoundWrong : List Found → DiskPtr → Type 0
-IsFoundWrong found pointer = IsFirstWrong told_of (λ found. found.pointer) found pointer
+IsFoundWrong found pointer = IsFirstWrong found_message (λ found. found.pointer) found pointer
 
 -- the first message says that the page is free
 abbrev pub BeginsFree : List Found → Type 0
@@ -60,8 +60,8 @@ RefusesNode found refusal = ⊥
 -- ---- one message
 
 -- no value is encoded by the payload from its front to its end
-abbrev pub SpellsNothing : {V : Type 0} → (List ℕ → V → List ℕ → Type 0) → List ℕ → Type 0
-SpellsNothing {V} reads payload = (value : V) → reads payload value [] → ⊥
+abbrev pub EncodesNothing : {V : Type 0} → (List ℕ → V → List ℕ → Type 0) → List ℕ → Type 0
+EncodesNothing {V} reads payload = (value : V) → reads payload value [] → ⊥
 
 -- the message is a link which the node accepts, and with which it is the other
 abbrev pub Leads : WholeNode → Message → WholeNode → Type 0

@@ -5,8 +5,8 @@ use Rattle.sled_base.specs.declared.types.Error.TheVariants.{Unsupported}
 use Rattle.sled_base.specs.declared.types.Why.{Why}
 use Rattle.sled_log.specs.Contents.{Content, Update, contents_after}
 use Rattle.sled_log.specs.Events.{Event}
-use Rattle.sled_log.specs.Messages.{Told}
-use Rattle.sled_log.specs.State.{CrashKeeps, told_state}
+use Rattle.sled_log.specs.Messages.{Messages}
+use Rattle.sled_log.specs.LogState.{CrashKeeps, unplaced_state}
 use Rattle.sled_log.specs.declared.log.Log.{Ghosts}
 use Rattle.sled_pagecache.specs.Cache.{Cache, IsIn}
 use Rattle.sled_pagecache.specs.Logged.{Logged, IsLogged}
@@ -24,14 +24,14 @@ module _ {L : Type 0} (g : Ghosts L) where
   pub record HoldsCrash (crashed : L) (since : ℕ) (log : L) : Type 0 where
     pub at : ℕ
     pub later : since ≤ at
-    pub pages : List Told
+    pub pages : List Messages
     pub left : g.left_since crashed at pages
-    pub holds : told_state (g.state log) ≡ only_stable pages true
+    pub holds : unplaced_state (g.state log) ≡ only_stable pages true
 
   -- what `start` says of its answer, over a log that tells its bytes
   pub record Started (log : L) (config : Config) (result : Result (Cache L) (Error × L)) : Type 0 where
     pub settings : (why : Why) → fault_of config ≡ Some why → result ≡ Err (Unsupported why, log)
-    pub opens : fault_of config ≡ None → (held : Logged) → IsLogged (told_state (g.state log)) held → Opens g log config held result
+    pub opens : fault_of config ≡ None → (held : Logged) → IsLogged (unplaced_state (g.state log)) held → Opens g log config held result
 
   -- The cache is what is opened of the pages after a prefix of the changes.
   pub record Reopens (held : Logged) (begun : List (Event Update)) (config : Config) (cache : Cache L) : Type 0 where

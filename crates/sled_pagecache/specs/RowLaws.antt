@@ -8,12 +8,12 @@ use Rattle.sled_log.specs.Chains.{chains_after}
 use Rattle.sled_log.specs.Contents.{Update, contents_after}
 use Rattle.sled_log.specs.Events.{Event}
 use Rattle.sled_log.specs.HoldingLaws.{holds-after}
-use Rattle.sled_log.specs.Laws.{AddsEvents-none, AddsEvents-then, CrashKeeps-behind, CrashKeeps-more, StopsLeave-none}
-use Rattle.sled_log.specs.Messages.{Message, Told, effect_of}
-use Rattle.sled_log.specs.ReadingLaws.{contents_after-append, told-take, reads-fair}
-use Rattle.sled_log.specs.RunLaws.{StopsLeave-weaker}
-use Rattle.sled_log.specs.State as log
-use Rattle.sled_log.specs.State.{IsBeginning, StopsLeave}
+use Rattle.sled_log.specs.Laws.{AddsEvents-none, AddsEvents-then, CrashKeeps-behind, CrashKeeps-more, CrashesSinceLeave-none}
+use Rattle.sled_log.specs.Messages.{Message, Messages, effect_of}
+use Rattle.sled_log.specs.ReadingLaws.{contents_after-append, events-take, reads-fair}
+use Rattle.sled_log.specs.RunLaws.{CrashesSinceLeave-weaker}
+use Rattle.sled_log.specs.LogState as log
+use Rattle.sled_log.specs.LogState.{IsPrefix, CrashesSinceLeave}
 use Rattle.sled_log.specs.declared.log.Log.{Ghosts}
 use Rattle.sled_pagecache.specs.Cache.{Cache}
 use Rattle.sled_pagecache.specs.Calls.{StepOver, Steps}
@@ -37,22 +37,22 @@ adds-then : (held mid new : Logged) (first second : List (Event Update)) → Add
 adds-then held mid new first second = AddsEvents-then contents_after contents_after-append held.stable mid.stable new.stable held.pending mid.pending new.pending first second
 
 -- what a crash leaves in the second
-left-behind : (held mid : Logged) (first second : List (Event Update)) (pages : List Told) → Adds held first mid → IsLeft mid second pages → IsLeft held (first ++ second) pages
+left-behind : (held mid : Logged) (first second : List (Event Update)) (pages : List Messages) → Adds held first mid → IsLeft mid second pages → IsLeft held (first ++ second) pages
 left-behind held mid first second pages = CrashKeeps-behind contents_after contents_after-append held.stable mid.stable held.pending mid.pending first second (AreKept pages)
 
 -- what it leaves where more come
-left-more : (held : Logged) (first all : List (Event Update)) (pages : List Told) → IsBeginning first all → IsLeft held first pages → IsLeft held all pages
+left-more : (held : Logged) (first all : List (Event Update)) (pages : List Messages) → IsPrefix first all → IsLeft held first pages → IsLeft held all pages
 left-more held first all pages = CrashKeeps-more contents_after contents_after-append held.stable held.pending first all (AreKept pages)
 
 -- ---- crashes
 
 -- what has come of nothing
-none-came : {E : Type 0} (came : List (Event E)) → IsBeginning came [] → came ≡ []
+none-came : {E : Type 0} (came : List (Event E)) → IsPrefix came [] → came ≡ []
 none-came [] b = refl
 none-came (event ∷ came) b = let e = b.1 in absurd cc
 
 -- what a crash leaves of a log between two calls
-left-now : (state : log.State Message) (held : Logged) (pages : List Told) → IsLogged state held → log.IsLeft effect_of state [] pages → IsLeft held [] pages
+left-now : (state : log.LogState Message) (held : Logged) (pages : List Messages) → IsLogged state held → log.IsLeft effect_of state [] pages → IsLeft held [] pages
 left-now state held pages logged left =
     let all : state.pending ++ left.came ≡ state.pending = ap (λ (l : List (Event Message)). state.pending ++ l) (none-came left.came left.beginning) ∙ append-nil state.pending in
     let fair : IsFair state.pending left.cut = subst (λ (l : List (Event Message)). IsFair l left.cut) all left.fair in
@@ -65,17 +65,17 @@ left-now state held pages logged left =
       fair = subst (λ (l : List (Event Update)). IsFair l left.cut) known (reads-fair held.stable state.pending held.pending left.cut logged.pending fair);
       is =
           subst (λ (l : List (Event Update)). AreKept pages (contents_after held.stable (take left.cut l))) known
-          (subst (λ (l : List Told). AreKept l (contents_after held.stable (take left.cut held.pending))) (sym is)
+          (subst (λ (l : List Messages). AreKept l (contents_after held.stable (take left.cut held.pending))) (sym is)
           (record {
-            holds = holds-after state.stable held.stable (take left.cut state.pending) (take left.cut held.pending) logged.stable (told-take held.stable left.cut state.pending held.pending logged.pending);
+            holds = holds-after state.stable held.stable (take left.cut state.pending) (take left.cut held.pending) logged.stable (events-take held.stable left.cut state.pending held.pending logged.pending);
             proper = logged.proper left.cut;
           }));
     }
 
-module _ {L : Type 0} (moment : L → ℕ) (left_since : L → ℕ → List Told → Type 0) where
+module _ {L : Type 0} (moment : L → ℕ) (left_since : L → ℕ → List Messages → Type 0) where
   -- what crashes leave of two calls is what they leave of one of them
-  stops-then : (old mid new : L) (P Q R : List Told → Type 0) → ((pages : List Told) → P pages → R pages) → ((pages : List Told) → Q pages → R pages)
-      → StopsLeave moment left_since old mid P → StopsLeave moment left_since mid new Q → StopsLeave moment left_since old new R
+  stops-then : (old mid new : L) (P Q R : List Messages → Type 0) → ((pages : List Messages) → P pages → R pages) → ((pages : List Messages) → Q pages → R pages)
+      → CrashesSinceLeave moment left_since old mid P → CrashesSinceLeave moment left_since mid new Q → CrashesSinceLeave moment left_since old new R
   stops-then old mid new P Q R of_one of_two one two = record {
     later = omega (arith, one.later, two.later);
     each = λ c left. ⊎_elim (λ l. of_one c (one.each c l)) (of_two c) (two.before (moment old) c one.later left);
@@ -132,16 +132,16 @@ module _ {L : Type 0} (g : Ghosts L) where
         by false clear = clear
         by true kept = ap (λ u. u.fault) (sym (steps-stuck row.t next.t others next.changes next.steps kept)) ∙ free
 
-    stop : s.fault ≡ false → StopsLeave g.moment g.left_since old.log new.log (IsLeft held (row.changes ++ next.changes))
+    stop : s.fault ≡ false → CrashesSinceLeave g.moment g.left_since old.log new.log (IsLeft held (row.changes ++ next.changes))
     stop free = by row.t.fault refl
       where
-        of_first : (pages : List Told) → IsLeft held row.changes pages → IsLeft held (row.changes ++ next.changes) pages
+        of_first : (pages : List Messages) → IsLeft held row.changes pages → IsLeft held (row.changes ++ next.changes) pages
         of_first pages left = left-more held row.changes (row.changes ++ next.changes) pages (next.changes, refl) left
 
-        by : (fault : Bool) → row.t.fault ≡ fault → StopsLeave g.moment g.left_since old.log new.log (IsLeft held (row.changes ++ next.changes))
+        by : (fault : Bool) → row.t.fault ≡ fault → CrashesSinceLeave g.moment g.left_since old.log new.log (IsLeft held (row.changes ++ next.changes))
         by true kept =
-            subst (λ l. StopsLeave g.moment g.left_since old.log l (IsLeft held (row.changes ++ next.changes))) (sym (next.stuck kept))
-            (StopsLeave-weaker g.state g.moment g.left_since g.counts old.log mid.log (IsLeft held row.changes) (IsLeft held (row.changes ++ next.changes)) of_first (row.stop free))
+            subst (λ l. CrashesSinceLeave g.moment g.left_since old.log l (IsLeft held (row.changes ++ next.changes))) (sym (next.stuck kept))
+            (CrashesSinceLeave-weaker g.state g.moment g.left_since g.counts old.log mid.log (IsLeft held row.changes) (IsLeft held (row.changes ++ next.changes)) of_first (row.stop free))
         by false clear =
             stops-then g.moment g.left_since old.log mid.log new.log (IsLeft held row.changes) (IsLeft row.held_then next.changes) (IsLeft held (row.changes ++ next.changes)) of_first
             (λ pages left. left-behind held row.held_then row.changes next.changes pages (row.added clear) left)
@@ -160,7 +160,7 @@ module _ {L : Type 0} (g : Ghosts L) where
     }
 
   -- no call
-  pub row-none : (cache : Cache L) → ((l : L) (pages : List Told) → g.tells → (g.state l).usable ≡ true → g.left_since l (g.moment l) pages → log.IsLeft effect_of (log.told_state (g.state l)) [] pages) → StepInRow g cache [] cache
+  pub row-none : (cache : Cache L) → ((l : L) (pages : List Messages) → g.tells → (g.state l).usable ≡ true → g.left_since l (g.moment l) pages → log.IsLeft effect_of (log.unplaced_state (g.state l)) [] pages) → StepInRow g cache [] cache
   row-none cache only_now = record {
     opening = record { config = refl; recovered = refl };
     from_each = λ held s is. record {
@@ -170,7 +170,7 @@ module _ {L : Type 0} (g : Ghosts L) where
       changes = [];
       steps = (refl, refl);
       added = λ _. adds-none held;
-      stop = λ free. StopsLeave-none g.moment g.left_since cache.log (IsLeft held []) (λ pages left. left-now (log.told_state (g.state cache.log)) held pages (is.known free).logged (only_now cache.log pages is.tells (is.known free).usable left));
+      stop = λ free. CrashesSinceLeave-none g.moment g.left_since cache.log (IsLeft held []) (λ pages left. left-now (log.unplaced_state (g.state cache.log)) held pages (is.known free).logged (only_now cache.log pages is.tells (is.known free).usable left));
       stuck = λ _. refl;
     };
   }
@@ -203,7 +203,7 @@ module _ {L : Type 0} (g : Ghosts L) where
   }
 
   -- calls that were made one after another
-  pub made-row : (old new : Cache L) (calls : List (Call × Answer)) → ((l : L) (pages : List Told) → g.tells → (g.state l).usable ≡ true → g.left_since l (g.moment l) pages → log.IsLeft effect_of (log.told_state (g.state l)) [] pages) → AreMade g old calls new → StepInRow g old calls new
+  pub made-row : (old new : Cache L) (calls : List (Call × Answer)) → ((l : L) (pages : List Messages) → g.tells → (g.state l).usable ≡ true → g.left_since l (g.moment l) pages → log.IsLeft effect_of (log.unplaced_state (g.state l)) [] pages) → AreMade g old calls new → StepInRow g old calls new
   made-row old new [] only_now same = subst (StepInRow g old []) (sym same) (row-none old only_now)
   made-row old new (made ∷ calls) only_now (mid, first, others) = row-then old mid new (made ∷ []) calls (row-one old mid made.0 made.1 first.step) (made-row mid new calls only_now others)
 

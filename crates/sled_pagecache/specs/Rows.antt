@@ -2,7 +2,7 @@
 use Rattle.std.specs.Prelude.{◌≡◌, true, false, List, [], ◌∷◌, ◌++◌, Ok, ⊤}
 use Rattle.sled_log.specs.Contents.{Update}
 use Rattle.sled_log.specs.Events.{Event}
-use Rattle.sled_log.specs.State as log
+use Rattle.sled_log.specs.LogState as log
 use Rattle.sled_log.specs.declared.log.Log.{Ghosts}
 use Rattle.sled_pagecache.specs.Cache.{Cache, IsIn}
 use Rattle.sled_pagecache.specs.Calls.{IsSameOpening, StepOver, Steps, IsBlamed}
@@ -29,7 +29,7 @@ module _ {L : Type 0} (g : Ghosts L) where
     pub changes : List (Event Update)
     pub steps : AreSteps s calls changes t
     pub added : t.fault ≡ false → Adds held changes held_then
-    pub stop : s.fault ≡ false → log.StopsLeave g.moment g.left_since old.log new.log (IsLeft held changes)
+    pub stop : s.fault ≡ false → log.CrashesSinceLeave g.moment g.left_since old.log new.log (IsLeft held changes)
     pub stuck : s.fault ≡ true → new.log ≡ old.log
 
   -- The calls are steps in a row, in whatever state the cache is.
@@ -38,26 +38,26 @@ module _ {L : Type 0} (g : Ghosts L) where
     pub from_each : (held : Logged) (s : State) → IsIn g old held s → IsRow old calls new held s
 
   -- A flush that was made reports how many bytes were to be written, and nothing is pending behind it; a size is that of the log.
-  abbrev pub TellsBytes : Cache L → Answer → Cache L → Type 0
-  TellsBytes old (Flushed (Ok written)) new = (written ≡ g.to_write old.log) × ((g.state new.log).pending ≡ [])
-  TellsBytes old (Sized (Ok bytes)) new = bytes ≡ g.bytes old.log
-  TellsBytes old answer new = ⊤
+  abbrev pub ReportsBytes : Cache L → Answer → Cache L → Type 0
+  ReportsBytes old (Flushed (Ok written)) new = (written ≡ g.to_write old.log) × ((g.state new.log).pending ≡ [])
+  ReportsBytes old (Sized (Ok bytes)) new = bytes ≡ g.bytes old.log
+  ReportsBytes old answer new = ⊤
 
   -- A fault is reported only where one was met. The size of a log asks no device.
-  abbrev pub TellsFaults : Cache L → Answer → Cache L → Type 0
-  TellsFaults old (Allocated result) new = IsBlamed g old new result
-  TellsFaults old (Got result) new = IsBlamed g old new result
-  TellsFaults old (Linked result) new = IsBlamed g old new result
-  TellsFaults old (Replaced result) new = IsBlamed g old new result
-  TellsFaults old (Freed result) new = IsBlamed g old new result
-  TellsFaults old (Flushed result) new = IsBlamed g old new result
-  TellsFaults old (Sized result) new = ⊤
+  abbrev pub ReportsFaults : Cache L → Answer → Cache L → Type 0
+  ReportsFaults old (Allocated result) new = IsBlamed g old new result
+  ReportsFaults old (Got result) new = IsBlamed g old new result
+  ReportsFaults old (Linked result) new = IsBlamed g old new result
+  ReportsFaults old (Replaced result) new = IsBlamed g old new result
+  ReportsFaults old (Freed result) new = IsBlamed g old new result
+  ReportsFaults old (Flushed result) new = IsBlamed g old new result
+  ReportsFaults old (Sized result) new = ⊤
 
   -- the call was made of a cache: it is a step, and what its answer reports of the log is so
   pub record IsMade (old : Cache L) (call : Call) (answer : Answer) (new : Cache L) : Type 0 where
     pub step : Steps g old call answer new
-    pub bytes : TellsBytes old answer new
-    pub faults : TellsFaults old answer new
+    pub bytes : ReportsBytes old answer new
+    pub faults : ReportsFaults old answer new
 
   -- the calls were made one after another, each of the cache that the one before it left
   abbrev pub AreMade : Cache L → List (Call × Answer) → Cache L → Type 0

@@ -4,15 +4,15 @@ use Rattle.sled_base.specs.declared.types.Refusal.{Refusal}
 use Rattle.sled_log.specs.Batches.{open_after}
 use Rattle.sled_log.specs.Events.{Event}
 use Rattle.sled_log.specs.Messages.{Message, effect_of_entry}
-use Rattle.sled_log.specs.State.{now}
+use Rattle.sled_log.specs.LogState.{now}
 use Rattle.sled_log.specs.declared.log.Log.{Ghosts}
-use Rattle.sled_pagecache.specs.Loading.{told_at_start}
+use Rattle.sled_pagecache.specs.Loading.{events_at_start}
 use Rattle.sled_pagecache.specs.Proceeding.{Proceeds}
-use Rattle.sled_pagecache.specs.declared.pagecache.journal.Journal.{Journal}
+use Rattle.sled_pagecache.specs.declared.pagecache.sticky_log.StickyLog.{StickyLog}
 
 -- Some messages, which leave no batch open: where the device tells its bytes, those of the system pages that are missing.
-pub record Starts {L : Type 0} (g : Ghosts L) (old new : Journal L) (refusal : Option Refusal) : Type 0 where
+pub record Starts {L : Type 0} (g : Ghosts L) (old new : StickyLog L) (refusal : Option Refusal) : Type 0 where
   pub events : List (Event Message)
-  pub are : g.tells → events ≡ told_at_start (now effect_of_entry (g.state old.log))
+  pub are : g.tells → events ≡ events_at_start (now effect_of_entry (g.state old.log))
   pub marks : (part rest : List (Event Message)) → part ++ rest ≡ events → open_after false part ≡ false
   pub proceeds : Proceeds g old new events refusal

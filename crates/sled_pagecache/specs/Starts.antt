@@ -12,11 +12,11 @@ use Rattle.sled_log.specs.Chains.{is_empty}
 use Rattle.sled_log.specs.Contents.{Update}
 use Rattle.sled_log.specs.Contents as content
 use Rattle.sled_log.specs.Events.{Event}
-use Rattle.sled_log.specs.Messages.{Message, Chain, Told, told, effect_of_entry}
+use Rattle.sled_log.specs.Messages.{Message, Chain, Messages, unplaced, effect_of_entry}
 use Rattle.sled_log.specs.Reading.{Makes}
-use Rattle.sled_log.specs.State.{State, StopsLeave, told_state}
+use Rattle.sled_log.specs.LogState.{LogState, CrashesSinceLeave, unplaced_state}
 use Rattle.sled_log.specs.declared.log.Log.{Ghosts}
-use Rattle.sled_pagecache.specs.ByIds.{IsInOrder}
+use Rattle.sled_pagecache.specs.ByIds.{FitsId}
 use Rattle.sled_pagecache.specs.Cache.{Cache, IsResident, IsIn}
 use Rattle.sled_pagecache.specs.Calls.{HasNoRoom}
 use Rattle.sled_pagecache.specs.ChainReads.{chain_at}
@@ -31,7 +31,7 @@ log_after (Ok cache) = cache.log
 log_after (Err refused) = refused.1
 
 -- a log that holds these pages, of which nothing is pending, and what it holds
-abbrev pub only_stable : List Told → Bool → State Message
+abbrev pub only_stable : List Messages → Bool → LogState Message
 only_stable pages usable = record { stable = pages; pending = []; usable = usable }
 
 abbrev pub only_stable_contents : List content.Content → Logged
@@ -45,7 +45,7 @@ has_own (roots ∷ counter ∷ contents) = true
 
 -- the chain is that of a page as a cache leaves it at this id
 abbrev pub IsFit : ℕ → Chain → Type 0
-IsFit = IsInOrder (λ chain. (roots : meta.Roots) × Makes (told chain) (content.Roots roots)) (λ chain. (n : ℕ) × Makes (told chain) (content.Counter n)) (λ chain. length chain ≤ most_messages)
+IsFit = FitsId (λ chain. (roots : meta.Roots) × Makes (unplaced chain) (content.Roots roots)) (λ chain. (n : ℕ) × Makes (unplaced chain) (content.Counter n)) (λ chain. length chain ≤ most_messages)
 
 -- the pointer is that of the first message of the first page, by id, that isn't so
 pub record BeginsAmiss (chains : List Chain) (pointer : DiskPtr) : Type 0 where
@@ -77,12 +77,12 @@ module _ {L : Type 0} (g : Ghosts L) where
   -- the log holds what was held and, behind it, the changes
   pub record HasAdded (held : Logged) (changes : List (Event Update)) (log : L) : Type 0 where
     pub held_then : Logged
-    pub logged : IsLogged (told_state (g.state log)) held_then
+    pub logged : IsLogged (unplaced_state (g.state log)) held_then
     pub added : Adds held changes held_then
 
   -- A crash at any moment of the call leaves what was held and a prefix of the changes that splits no batch.
   abbrev pub CrashLeaves : L → Logged → List (Event Update) → L → Type 0
-  CrashLeaves log held changes after = StopsLeave g.moment g.left_since log after (IsLeft held changes)
+  CrashLeaves log held changes after = CrashesSinceLeave g.moment g.left_since log after (IsLeft held changes)
 
   -- the log has no room for the message of the first change
   abbrev pub LacksRoomFor : L → List (Event Update) → Type 0

@@ -4,16 +4,16 @@ use Rattle.sled_log.specs.Contents.{Content, Free, Counter, Roots, Node, Damaged
 use Rattle.sled_pagecache.specs.Token.{Token, token}
 
 -- each change of a page raises its stamp
-pub record Page : Type 0 where
+pub record StampedPage : Type 0 where
   pub stamp : ℕ
   pub content : Content
 
-abbrev pub page : ℕ → Content → Page
+abbrev pub page : ℕ → Content → StampedPage
 page stamp content = record { stamp = stamp; content = content }
 
 -- the pages by their ids, the next generated id, whether a batch is open, and whether a write fault is kept
 pub record State : Type 0 where
-  pub pages : List Page
+  pub pages : List StampedPage
   pub next : ℕ
   pub batch : Bool
   pub fault : Bool
@@ -25,11 +25,11 @@ abbrev pub stamps_of : State → List ℕ
 stamps_of s = map (λ p. p.stamp) s.pages
 
 -- the page at an id, if there is one
-abbrev pub page_at : State → ℕ → Option Page
+abbrev pub page_at : State → ℕ → Option StampedPage
 page_at s pid = slice_get s.pages pid
 
 -- the state with another page at the id
-abbrev pub with_page : State → ℕ → Page → State
+abbrev pub with_page : State → ℕ → StampedPage → State
 with_page s pid changed = record s { pages = slice_set s.pages pid changed }
 
 abbrev pub is_free : Content → Bool
@@ -40,7 +40,7 @@ is_free (Node node) = false
 is_free Damaged = false
 
 -- the token of the page, if it is free
-abbrev pub free_token : ℕ → Page → Option Token
+abbrev pub free_token : ℕ → StampedPage → Option Token
 free_token pid p = if is_free p.content then Some (token pid p.stamp) else None
 
 abbrev pub later : Option Token → Option Token → Option Token
@@ -48,6 +48,6 @@ later None first = first
 later (Some last) first = Some last
 
 -- the token of the free page with the greatest id, of pages of which the first has this id
-abbrev pub greatest_free : ℕ → List Page → Option Token
+abbrev pub greatest_free : ℕ → List StampedPage → Option Token
 greatest_free pid [] = None
 greatest_free pid (p ∷ pages) = later (greatest_free (pid + 1) pages) (free_token pid p)

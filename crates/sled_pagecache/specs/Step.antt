@@ -17,7 +17,7 @@ use Rattle.sled_pagecache.specs.declared.pagecache.call.Call.TheVariants.{Alloca
 use Rattle.sled_pagecache.specs.declared.pagecache.call.Call.TheVariants as call
 use Rattle.sled_log.specs.Contents.{Content, Free, Counter, Roots, Node, Damaged, Update, Put}
 use Rattle.sled_log.specs.Events.{Event, Change}
-use Rattle.sled_pagecache.specs.State.{Page, page, State, page_at, with_page, is_free, greatest_free}
+use Rattle.sled_pagecache.specs.State.{StampedPage, page, State, page_at, with_page, is_free, greatest_free}
 use Rattle.sled_pagecache.specs.Token.{Token, token}
 
 -- What a call leaves: the state, and the changes that it has begun to write.
@@ -80,7 +80,7 @@ FindsContent s pid stamp (Counter n) answer out = IsCorruption s answer out
 FindsContent s pid stamp (Roots roots) answer out = IsCorruption s answer out
 FindsContent s pid stamp Damaged answer out = IsCorruption s answer out
 
-abbrev pub Finds : State → ℕ → Option Page → Result (Option (Token × WholeNode)) Error → Outcome → Type 0
+abbrev pub Finds : State → ℕ → Option StampedPage → Result (Option (Token × WholeNode)) Error → Outcome → Type 0
 Finds s pid None answer out = (answer ≡ Ok None) × (out ≡ unchanged s)
 Finds s pid (Some found) answer out = FindsContent s pid found.stamp found.content answer out
 
@@ -113,7 +113,7 @@ abbrev pub UnlessStale : {R : Type 0} → State → Token → R → ℕ → Swap
 UnlessStale s old rejected stamp answer out goes_on =
     MatchBool (stamp == old.stamp) goes_on ((answer ≡ Ok (Err (Some (token old.pid stamp, rejected)))) × (out ≡ unchanged s))
 
-abbrev pub SwapsPage : {R : Type 0} → State → Token → R → Option Page → Swapped R → Outcome → (Content → Type 0) → Type 0
+abbrev pub SwapsPage : {R : Type 0} → State → Token → R → Option StampedPage → Swapped R → Outcome → (Content → Type 0) → Type 0
 SwapsPage s old rejected None answer out goes_on = IsGone s answer out
 SwapsPage s old rejected (Some found) answer out goes_on =
     MatchBool (is_free found.content) (IsGone s answer out) (UnlessStale s old rejected found.stamp answer out (goes_on found.content))

@@ -11,20 +11,20 @@ use Rattle.sled_log.specs.Contents.{Update}
 use Rattle.sled_log.specs.Contents as content
 use Rattle.sled_log.specs.Events.{Change}
 use Rattle.sled_log.specs.Limits.{head_size, size_limit}
-use Rattle.sled_log.specs.Messages.{Entry, Told, placed, effect_of_entry}
+use Rattle.sled_log.specs.Messages.{Entry, Messages, placed, effect_of_entry}
 use Rattle.sled_log.specs.Pages.{IsSized}
 use Rattle.sled_log.specs.Reading.{IsUpdate}
-use Rattle.sled_log.specs.State.{State, now}
+use Rattle.sled_log.specs.LogState.{LogState, now}
 use Rattle.sled_log.specs.Writing.{message_of}
 use Rattle.sled_node.specs.Links.{Accepts, applied}
 use Rattle.sled_node.specs.Meta.{IsRootMap}
 use Rattle.sled_node.specs.declared.node.link.Link.{Link as NodeLink}
 use Rattle.sled_pagecache.specs.Changes.{link_update}
 use Rattle.sled_pagecache.specs.ChainReads.{place_of}
-use Rattle.sled_pagecache.specs.Journal.{Went, IsCaused, IsOfLog, begun_by}
+use Rattle.sled_pagecache.specs.StickyLog.{Went, IsCaused, IsOfLog, begun_by}
 use Rattle.sled_pagecache.specs.Limits.{most_messages}
 use Rattle.sled_pagecache.specs.declared.pagecache.page.CacheInfo.{CacheInfo}
-use Rattle.sled_pagecache.specs.declared.pagecache.journal.Journal.{Journal}
+use Rattle.sled_pagecache.specs.declared.pagecache.sticky_log.StickyLog.{StickyLog}
 use Rattle.sled_pagecache.specs.declared.pagecache.page.Kept.{Kept}
 use Rattle.sled_pagecache.specs.declared.pagecache.page.Kept.TheVariants.{Free, Away, Counter, Roots, Node}
 
@@ -84,9 +84,9 @@ RefusesLink stamp Away link refusal = refusal ≡ Corruption None
 RefusesLink stamp (Counter n) link refusal = refusal ≡ Corruption None
 RefusesLink stamp (Roots roots) link refusal = refusal ≡ Corruption None
 
-module _ {L : Type 0} (tells : Type 0) (state : L → State Entry) (moment : L → ℕ) (left_since : L → ℕ → List Told → Type 0) (counts : L → Counts) (is_full : L → ℕ → Type 0) where
+module _ {L : Type 0} (tells : Type 0) (state : L → LogState Entry) (moment : L → ℕ) (left_since : L → ℕ → List Messages → Type 0) (counts : L → Counts) (is_full : L → ℕ → Type 0) where
   -- An update of a page was written to the log, and the answer is how it is kept, or why it was refused.
-  pub record Wrote (old new : Journal L) (pid : ℕ) (update : Update) (stamp : ℕ) (result : Result CacheInfo Refusal) : Type 0 where
+  pub record Wrote (old new : StickyLog L) (pid : ℕ) (update : Update) (stamp : ℕ) (result : Result CacheInfo Refusal) : Type 0 where
     pub is : IsUpdate (message_of update) update
     pub went : Went tells state moment left_since counts old new (begun_by result (Change pid (message_of update) ∷ []))
     pub cause : IsCaused tells state moment left_since counts old new (is_full old.log (length (message_of update).payload)) result

@@ -5,11 +5,11 @@ use Rattle.sled_log.specs.Batches.{is_open}
 use Rattle.sled_log.specs.Chains.{is_chain}
 use Rattle.sled_log.specs.Messages.{Entry, effect_of_entry}
 use Rattle.sled_log.specs.Pages.{IsSized}
-use Rattle.sled_log.specs.State as log
-use Rattle.sled_pagecache.specs.ByIds.{AllById, IsInOrder}
-use Rattle.sled_pagecache.specs.Pages.{IsKept, is_resident, free_ids, node_size}
+use Rattle.sled_log.specs.LogState as log
+use Rattle.sled_pagecache.specs.ByIds.{AllById, FitsId}
+use Rattle.sled_pagecache.specs.Pages.{IsKept, is_resident, free_ids, node_access_size}
 use Rattle.sled_pagecache.specs.Limits.{most_messages, most_pages}
-use Rattle.sled_pagecache.specs.declared.pagecache.journal.Journal.{Journal}
+use Rattle.sled_pagecache.specs.declared.pagecache.sticky_log.StickyLog.{StickyLog}
 use Rattle.sled_pagecache.specs.declared.pagecache.page.Kept.{Kept}
 use Rattle.sled_pagecache.specs.declared.pagecache.page.Kept.TheVariants.{Free, Away, Counter, Roots, Node}
 use Rattle.sled_pagecache.specs.declared.pagecache.page.Page.{Page}
@@ -21,7 +21,7 @@ abbrev pub resident_in : List Page → List Bool
 resident_in pages = map (λ page. is_resident page.kept) pages
 
 abbrev pub nodes_in : List Page → List (Option ℕ)
-nodes_in pages = map (λ page. node_size page) pages
+nodes_in pages = map (λ page. node_access_size page) pages
 
 abbrev pub IsRoots : Kept → Type 0
 IsRoots (Roots roots) = Unit {0}
@@ -39,12 +39,12 @@ IsFreeOrNode other = ⊥
 
 -- the named roots are on page 0 and the counter on page 1, in memory, as far as they are there; no other page is kept so
 abbrev pub IsOwnAt : ℕ → Kept → Type 0
-IsOwnAt = IsInOrder IsRoots IsCounter IsFreeOrNode
+IsOwnAt = FitsId IsRoots IsCounter IsFreeOrNode
 
 abbrev pub AreOwn : List Page → Type 0
 AreOwn pages = AllById (λ pid page. IsOwnAt pid page.kept) pages
 
-module _ {L : Type 0} (tells : Type 0) (state : L → log.State Entry) where
+module _ {L : Type 0} (tells : Type 0) (state : L → log.LogState Entry) where
   -- What the log is beside the table. Where its device tells its bytes, the pages are kept as their chains say.
   pub record IsBeside (l : L) (pages : List Page) : Type 0 where
     pub usable : (state l).usable ≡ true
@@ -54,8 +54,8 @@ module _ {L : Type 0} (tells : Type 0) (state : L → log.State Entry) where
     pub sized : tells → AllByRecursion IsSized (log.now effect_of_entry (state l))
 
   -- With a write fault kept nothing is known of the log.
-  pub record IsConsistent (journal : Journal L) (pages : List Page) (free_pids : List ℕ) : Type 0 where
-    pub beside : journal.fault ≡ false → IsBeside journal.log pages
+  pub record IsConsistent (sticky_log : StickyLog L) (pages : List Page) (free_pids : List ℕ) : Type 0 where
+    pub beside : sticky_log.fault ≡ false → IsBeside sticky_log.log pages
     pub own : AreOwn pages
     pub both : 2 ≤ length pages
     pub short : AllByRecursion (λ page. length page.infos.items ≤ most_messages) pages

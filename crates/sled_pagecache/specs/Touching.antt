@@ -5,18 +5,18 @@ use Rattle.sled_base.specs.declared.types.Error.{Error}
 use Rattle.sled_pagecache.specs.Accesses.{WasAccessed, IsTouched}
 use Rattle.sled_pagecache.specs.Cache.{Cache}
 use Rattle.sled_pagecache.specs.Memory.{HasNode, HasNoNode, StaysAt}
-use Rattle.sled_pagecache.specs.Pages.{node_size}
+use Rattle.sled_pagecache.specs.Pages.{node_access_size}
 use Rattle.sled_pagecache.specs.Starts.{IsHindrance}
 use Rattle.sled_pagecache.specs.declared.pagecache.accesses.Accesses.{Accesses}
 use Rattle.sled_pagecache.specs.declared.pagecache.page.Page.{Page}
 
 -- the page is listed with its size, where it holds a node
 abbrev pub IsListedAt : ℕ → Page → Recency → Type 0
-IsListedAt pid page lru = IfSome (node_size page) (λ size. IsListed pid (rounded size) lru)
+IsListedAt pid page lru = IfSome (node_access_size page) (λ size. IsListed pid (rounded size) lru)
 
 -- it was accessed with it, where it holds one
 abbrev pub AccessesNode : Accesses → ℕ → Page → Accesses → Type 0
-AccessesNode old pid page new = MatchOption (node_size page) (new ≡ old) (λ size. WasAccessed old pid size new)
+AccessesNode old pid page new = MatchOption (node_access_size page) (new ≡ old) (λ size. WasAccessed old pid size new)
 
 -- no node lies in memory
 abbrev pub LacksNodes : {L : Type 0} → Cache L → Type 0

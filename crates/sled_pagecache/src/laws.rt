@@ -3,8 +3,8 @@
 ghost use Rattle.std.specs.Prelude.{◌≡◌, [], ◌++◌, Bool, false, List, Result, take};
 ghost use Rattle.sled_log.specs.Contents.{Update, contents_after};
 ghost use Rattle.sled_log.specs.Events.{Event};
-ghost use Rattle.sled_log.specs.Messages.{Told};
-ghost use Rattle.sled_log.specs.State.{IsBeginning};
+ghost use Rattle.sled_log.specs.Messages.{Messages};
+ghost use Rattle.sled_log.specs.LogState.{IsPrefix};
 ghost use Rattle.sled_pagecache.specs.Cache.{Cache, IsIn};
 ghost use Rattle.sled_pagecache.specs.Calls.{StepOver, Steps};
 ghost use Rattle.sled_pagecache.specs.Limits.{meta_pid, counter_pid, batch_manifest_pid, most_messages, pid_bits, chunk_bits, chunk_length};
@@ -43,8 +43,8 @@ pub fn an_empty_log_is_logged()
 {}
 
 /// What a crash leaves is a log again that a cache can be opened over, and holds the contents that the crash left.
-pub fn what_a_stop_leaves_is_logged()
-    ensures { (held : Logged) (changes : List (Event Update)) (pages : List Told) (left : IsLeft held changes pages) (usable : Bool) → IsLogged (only_stable pages usable) (only_stable_contents (contents_after held.stable (take left.cut (held.pending ++ left.came)))) }
+pub fn what_a_crash_leaves_is_logged()
+    ensures { (held : Logged) (changes : List (Event Update)) (pages : List Messages) (left : IsLeft held changes pages) (usable : Bool) → IsLogged (only_stable pages usable) (only_stable_contents (contents_after held.stable (take left.cut (held.pending ++ left.came)))) }
 {}
 
 /// A crash at any moment, inside a call too, reopens to the pages after a prefix of the changes begun, which holds all that was
@@ -56,5 +56,5 @@ pub fn what_a_stop_leaves_is_logged()
 pub fn a_crash_reopens_to_a_prefix<L: Log>()
     ensures of_a_call { (old new : Cache L) (call : Call) (answer : Answer) → Steps L.Log old call answer new → (held : Logged) (s : State) → IsIn L.Log old held s → s.fault ≡ false → (out : Outcome) × StepOver L.Log old s call answer out × CrashReopens L.Log new.log (L.moment old.log) held out.changes }
     ensures of_calls { (old new : Cache L) (calls : List (Call × Answer)) → StepInRow L.Log old calls new → (held : Logged) (s : State) → IsIn L.Log old held s → s.fault ≡ false → (begun : List (Event Update)) × (t : State) × AreSteps L.Log s calls begun t × CrashReopens L.Log new.log (L.moment old.log) held begun }
-    ensures of_opening { L.tells → (log : L) (config : Config) (held : Logged) (result : Result (Cache L) (Error × L)) → Opens L.Log log config held result → (begun : List (Event Update)) × IsBeginning begun (changes_of_start (now held)) × CrashReopens L.Log (log_after result) (L.moment log) held begun }
+    ensures of_opening { L.tells → (log : L) (config : Config) (held : Logged) (result : Result (Cache L) (Error × L)) → Opens L.Log log config held result → (begun : List (Event Update)) × IsPrefix begun (changes_of_start (now held)) × CrashReopens L.Log (log_after result) (L.moment log) held begun }
 {}

@@ -11,7 +11,7 @@
 //! - `pull`, `chain`, `reading`: reading a page that doesn't lie in memory, its chain, and the node of its messages
 //! - `write`: writing a page's messages to the log
 //! - `page`, `pagetable`, `free`: pages as the cache keeps them, the table of them by their ids, and the ids of the free ones
-//! - `journal`: the log of a cache, and the write error that is kept of it
+//! - `sticky_log`: the log of a cache, and the write error that is kept of it
 
 mod accesses;
 mod add;
@@ -20,7 +20,6 @@ mod call;
 mod chain;
 mod config;
 mod free;
-mod journal;
 mod judge;
 mod own;
 mod page;
@@ -30,6 +29,7 @@ mod pull;
 mod reading;
 mod recovered;
 mod start;
+mod sticky_log;
 mod swap;
 mod view;
 mod write;

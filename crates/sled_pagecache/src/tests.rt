@@ -5,9 +5,9 @@ mod free;
 mod full;
 mod generic;
 mod memory;
+mod prefixes;
 mod reads;
 mod recovery;
-mod stops;
 mod writes;
 
 use self::crashes::reopen;

@@ -5,15 +5,15 @@ use Rattle.std.specs.Io.KnownBytes.{Appends, Keeps}
 use Rattle.std.specs.List.{AllZip}
 use Rattle.std.proofs.KnownBytes.{Appends-nil, Appends-trans, Appends-kept}
 use Rattle.sled_base.specs.Order.{Bytes}
-use Rattle.sled_log.specs.Messages.{Told, effect_of}
-use Rattle.sled_log.specs.State.{IsLeft, told_state}
+use Rattle.sled_log.specs.Messages.{Messages, effect_of}
+use Rattle.sled_log.specs.LogState.{IsLeft, unplaced_state}
 use Rattle.sled_log.specs.declared.log.Log.{Ghosts}
 use Rattle.sled_pagecache.specs.Cache.{Cache}
 use Rattle.sled_pagecache.specs.RowLaws.{row-none, row-one, row-then, made-more}
 use Rattle.sled_pagecache.specs.Rows.{StepInRow, AreMade}
-use Rattle.sledpc.specs.Lines.{lines_of, ReadsLine, IsUnread}
-use Rattle.sledpc.specs.Output.{AppendsBeginning}
-use Rattle.sledpc.specs.Runs.{Served, AsksFor, reply_to, text_of, calls_of, Answers, Serves, error_of}
+use Rattle.sledpc.specs.Lines.{lines_of, ReadsLine, IsUnreadLine}
+use Rattle.sledpc.specs.Output.{AppendsPrefix}
+use Rattle.sledpc.specs.Runs.{Served, AsksFor, reply_to, text_of, calls_of, Answers, Serves, run_error_of}
 use Rattle.sledpc.specs.Served.{Goes, RepliesLine}
 use Rattle.sledpc.specs.declared.lines.Line.TheVariants as read
 use Rattle.sledpc.specs.declared.lines.ReadError.{ReadError}
@@ -90,10 +90,10 @@ kept_next E f (Some rest) (Some next) line one at asks = (line, at.1, asks)
 long_next : (E : Type 0) (rest next : Option Bytes) (kept : Bytes) → ReadsLine {E = E} rest next (Ok read.TooLong) kept → IsNext rest next None
 long_next E None next kept at = tt
 long_next E (Some rest) None kept at = absurd at
-long_next E (Some rest) (Some next) kept at = (at.0, at.2, λ call spells. let long = at.1 in let short : length at.0 ≤ longest_line = spells.0 in absurd (omega arith))
+long_next E (Some rest) (Some next) kept at = (at.0, at.2, λ call encodes. let long = at.1 in let short : length at.0 ≤ longest_line = encodes.0 in absurd (omega arith))
 
 -- what was written and not flushed stands
-stands : (mid new last : Option Bytes) (text : Bytes) → Appends mid new text → Keeps new last → AppendsBeginning mid last text
+stands : (mid new last : Option Bytes) (text : Bytes) → Appends mid new text → Keeps new last → AppendsPrefix mid last text
 stands mid new last text wrote kept = (text, [], sym (append-nil text), Appends-kept mid new last text wrote kept)
 
 module _ {L : Type 0} (g : Ghosts L) where
@@ -105,7 +105,7 @@ module _ {L : Type 0} (g : Ghosts L) where
     pub row : StepInRow g cache (calls_of served) after
     pub written : Appends old new (text_of served)
 
-  pub none_yet : (cache : Cache L) (input old : Option Bytes) → ((l : L) (pages : List Told) → g.tells → (g.state l).usable ≡ true → g.left_since l (g.moment l) pages → IsLeft effect_of (told_state (g.state l)) [] pages) → SoFar cache input input old old cache
+  pub none_yet : (cache : Cache L) (input old : Option Bytes) → ((l : L) (pages : List Messages) → g.tells → (g.state l).usable ≡ true → g.left_since l (g.moment l) pages → IsLeft effect_of (unplaced_state (g.state l)) [] pages) → SoFar cache input input old old cache
   none_yet cache input old only_now = record { served = []; behind = here input; made = refl; row = row-none g cache only_now; written = Appends-nil old }
     where
       here : (input : Option Bytes) → IsBehind input input []
@@ -131,12 +131,12 @@ module _ {L : Type 0} (g : Ghosts L) where
   gives_up cache after input rest old new so = record { served = so.served; answers = read_ends input rest so.served so.behind; made = so.made; row = so.row; written = so.written }
 
   -- the next line is not read
-  pub line_unread : (cache after : Cache L) (input rest next old new : Option Bytes) (kept : Bytes) (e : ReadError) → SoFar cache input rest old new after → IsUnread e rest next kept → Serves g cache input old new (Err (error_of e)) after
+  pub line_unread : (cache after : Cache L) (input rest next old new : Option Bytes) (kept : Bytes) (e : ReadError) → SoFar cache input rest old new after → IsUnreadLine e rest next kept → Serves g cache input old new (Err (run_error_of e)) after
   line_unread cache after input rest next old new kept unread.Read so why = gives_up cache after input rest old new so
   line_unread cache after input rest next old new kept unread.Memory so why =
       record { served = so.served; answers = ends input rest next so.behind why; made = so.made; row = so.row; written = so.written }
     where
-      ends : (input rest next : Option Bytes) → IsBehind input rest so.served → IsUnread unread.Memory rest next kept → Answers input (Err Memory) so.served
+      ends : (input rest next : Option Bytes) → IsBehind input rest so.served → IsUnreadLine unread.Memory rest next kept → Answers input (Err Memory) so.served
       ends None rest next behind why = tt
       ends (Some input) None next behind why = absurd behind
       ends (Some input) (Some rest) None behind why = absurd why.0
@@ -166,7 +166,7 @@ module _ {L : Type 0} (g : Ghosts L) where
     }
 
     -- a beginning of its reply is written
-    breaks_off : (one : Served) → IsNext rest next one → Goes g mid one after → AppendsBeginning between new (reply_to one ++ 10 ∷ []) → Serves g cache input old new (Err Write) after
+    breaks_off : (one : Served) → IsNext rest next one → Goes g mid one after → AppendsPrefix between new (reply_to one ++ 10 ∷ []) → Serves g cache input old new (Err Write) after
     breaks_off one at goes wrote = record {
       served = so.served ++ one ∷ [];
       answers = write_ends input rest next so.served one so.behind at;
@@ -205,7 +205,7 @@ module _ {L : Type 0} (g : Ghosts L) where
     pub long_done : Appends between new (codes "error line" ++ 10 ∷ []) → SoFar cache input next old new mid
     long_done wrote = goes_on cache mid mid input rest next old between new so None (long_next E rest next kept at) refl wrote
 
-    pub long_stops : AppendsBeginning between new (codes "error line" ++ 10 ∷ []) → Serves g cache input old new (Err Write) mid
+    pub long_stops : AppendsPrefix between new (codes "error line" ++ 10 ∷ []) → Serves g cache input old new (Err Write) mid
     long_stops wrote = breaks_off cache mid mid input rest next old between new so None (long_next E rest next kept at) refl wrote
 
     pub long_unflushed : (last : Option Bytes) → Appends between last (codes "error line" ++ 10 ∷ []) → Keeps last new → Serves g cache input old new (Err Write) mid

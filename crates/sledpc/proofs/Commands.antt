@@ -15,14 +15,14 @@ use Rattle.sled_node.specs.Pairs.{IsWithinLimit, HasPairs}
 use Rattle.sled_pagecache.specs.Token.{Token, token, pid_of, stamp_of}
 use Rattle.sled_pagecache.specs.declared.pagecache.call.Call.{Call}
 use Rattle.sled_pagecache.specs.declared.pagecache.call.Call.TheVariants.{Allocate, Get, Link, Replace, Free, Flush, SizeOnDisk}
-use Rattle.sledpc.specs.Asked.{AsksBehind, AreTwo, BeginsWithToken, SpellLeaf, at_the_end}
-use Rattle.sledpc.specs.Commands.{Asks, IsToken, Spells}
+use Rattle.sledpc.specs.Asked.{AsksBehind, AreTwo, BeginsWithToken, EncodeLeaf, at_the_end}
+use Rattle.sledpc.specs.Commands.{Asks, IsToken, Encodes}
 use Rattle.sledpc.specs.Cut.{HasNo}
 use Rattle.sledpc.specs.Settings.{longest_line}
-use Rattle.sledpc.specs.Words.{AreBytes, ArePairs, SpellPairs, bytes_word, pair_word, after_name, HasNoSpace, BeginsLine}
+use Rattle.sledpc.specs.Words.{AreBytes, ArePairs, EncodePairs, bytes_word, pair_word, after_name, HasNoSpace, BeginsLine}
 use Rattle.sledpc.proofs.Cut.{cut_once, no_mark}
 use Rattle.sledpc.proofs.Words.{no_space, no_space_in_pair}
-use Rattle.sledpc.proofs.Spelled.{pair_once}
+use Rattle.sledpc.proofs.Encoded.{pair_once}
 
 -- ---- numbers
 
@@ -74,26 +74,26 @@ words_once (pair ∷ pairs) (other ∷ others) are also e =
     let front = pair_once pair other are.0 also.0 cut.0 in
     cc
 
--- a text spells one list of pairs
-pub pairs_once : (text : Option Bytes) (pairs others : List (Bytes × Bytes)) → ArePairs pairs → ArePairs others → SpellPairs text pairs → SpellPairs text others → pairs ≡ others
-pairs_once text pairs others are also spell spelled = words_once pairs others are also (sym spell ∙ spelled)
+-- a text encodes one list of pairs
+pub pairs_once : (text : Option Bytes) (pairs others : List (Bytes × Bytes)) → ArePairs pairs → ArePairs others → EncodePairs text pairs → EncodePairs text others → pairs ≡ others
+pairs_once text pairs others are also encode encoded = words_once pairs others are also (sym encode ∙ encoded)
 
 -- the pairs of a text make one leaf, where they make one at all
-pub leaf_spelled : {E : Type 0} (text : Option Bytes) (pairs : List (Bytes × Bytes)) (result : Result (Option WholeNode) E) → SpellPairs text pairs → ArePairs pairs
-    → IfOk result (λ node. SomeIff node (HasPairs IsWithinLimit pairs) (leaf_of (map (λ pair. (pair.0, Value pair.1)) pairs))) → IfOk result (λ found. IfSome found (SpellLeaf text))
-leaf_spelled text pairs (Ok None) spelled bytes made = tt
-leaf_spelled text pairs (Ok (Some node)) spelled bytes made = (pairs, record { bytes = bytes; fits = made.0; leaf = made.1 }, spelled)
-leaf_spelled text pairs (Err error) spelled bytes made = tt
+pub leaf_encoded : {E : Type 0} (text : Option Bytes) (pairs : List (Bytes × Bytes)) (result : Result (Option WholeNode) E) → EncodePairs text pairs → ArePairs pairs
+    → IfOk result (λ node. SomeIff node (HasPairs IsWithinLimit pairs) (leaf_of (map (λ pair. (pair.0, Value pair.1)) pairs))) → IfOk result (λ found. IfSome found (EncodeLeaf text))
+leaf_encoded text pairs (Ok None) encoded bytes made = tt
+leaf_encoded text pairs (Ok (Some node)) encoded bytes made = (pairs, record { bytes = bytes; fits = made.0; leaf = made.1 }, encoded)
+leaf_encoded text pairs (Err error) encoded bytes made = tt
 
-pub no_leaf_spelled : {E : Type 0} (text : Option Bytes) (pairs : List (Bytes × Bytes)) (result : Result (Option WholeNode) E) → SpellPairs text pairs → ArePairs pairs
-    → IfOk result (λ node. SomeIff node (HasPairs IsWithinLimit pairs) (leaf_of (map (λ pair. (pair.0, Value pair.1)) pairs))) → IfOk result (λ found. IfNone found ((node : WholeNode) → SpellLeaf text node → ⊥))
-no_leaf_spelled text pairs (Ok None) spelled bytes made = λ node leaf. made (subst (HasPairs IsWithinLimit) (pairs_once text leaf.0 pairs leaf.1.bytes bytes leaf.2 spelled) leaf.1.fits)
-no_leaf_spelled text pairs (Ok (Some node)) spelled bytes made = tt
-no_leaf_spelled text pairs (Err error) spelled bytes made = tt
+pub no_leaf_encoded : {E : Type 0} (text : Option Bytes) (pairs : List (Bytes × Bytes)) (result : Result (Option WholeNode) E) → EncodePairs text pairs → ArePairs pairs
+    → IfOk result (λ node. SomeIff node (HasPairs IsWithinLimit pairs) (leaf_of (map (λ pair. (pair.0, Value pair.1)) pairs))) → IfOk result (λ found. IfNone found ((node : WholeNode) → EncodeLeaf text node → ⊥))
+no_leaf_encoded text pairs (Ok None) encoded bytes made = λ node leaf. made (subst (HasPairs IsWithinLimit) (pairs_once text leaf.0 pairs leaf.1.bytes bytes leaf.2 encoded) leaf.1.fits)
+no_leaf_encoded text pairs (Ok (Some node)) encoded bytes made = tt
+no_leaf_encoded text pairs (Err error) encoded bytes made = tt
 
 pub record IsAllocate (text : Option Bytes) : Type 0 where
   pub node : WholeNode
-  pub leaf : SpellLeaf text node
+  pub leaf : EncodeLeaf text node
 
 pub allocate_asked : (text : Option Bytes) (call : Call) → AsksBehind (codes "alloc") text call → IsAllocate text
 allocate_asked text (Allocate node) asked =
@@ -205,7 +205,7 @@ token_joined text rest old words token e =
 token_in_front : (text : Option Bytes) (old : Token) (words more : List Bytes) → IsToken old → text ≡ after_name words → words ≡ decimal (pid_of old) ∷ decimal (stamp_of old) ∷ more → BeginsWithToken text old (after_name more)
 token_in_front text old words more token e f = record { token = token; joined = e ∙ ap after_name f ∙ end_joined (decimal (pid_of old)) (decimal (stamp_of old)) more }
 
--- what a text behind `set` spells
+-- what a text behind `set` encodes
 pub record IsSet (text : Option Bytes) : Type 0 where
   pub old : Token
   pub key : Bytes
@@ -238,7 +238,7 @@ set_asked text (Free old) asked = let e : ◌≡◌ {A = ℕ} 115 102 = ap first
 set_asked text Flush asked = let e : ◌≡◌ {A = ℕ} 115 102 = ap first_byte asked.1 in absurd (omega arith)
 set_asked text SizeOnDisk asked = let e : ◌≡◌ {A = ℕ} 101 105 = ap second_byte asked.1 in absurd (omega arith)
 
--- what a text behind `del` spells
+-- what a text behind `del` encodes
 pub record IsDel (text : Option Bytes) : Type 0 where
   pub old : Token
   pub key : Bytes
@@ -260,12 +260,12 @@ del_asked text (Free old) asked = let e : ◌≡◌ {A = ℕ} 100 102 = ap first
 del_asked text Flush asked = let e : ◌≡◌ {A = ℕ} 100 102 = ap first_byte asked.1 in absurd (omega arith)
 del_asked text SizeOnDisk asked = let e : ◌≡◌ {A = ℕ} 100 115 = ap first_byte asked.1 in absurd (omega arith)
 
--- what a text behind `replace` spells
+-- what a text behind `replace` encodes
 pub record IsReplace (text : Option Bytes) : Type 0 where
   pub old : Token
   pub node : WholeNode
   pub rest : Option Bytes
-  pub leaf : SpellLeaf rest node
+  pub leaf : EncodeLeaf rest node
   pub token : BeginsWithToken text old rest
 
 pub replace_asked : (text : Option Bytes) (call : Call) → AsksBehind (codes "replace") text call → IsReplace text
@@ -284,7 +284,7 @@ replace_asked text (Free old) asked = let e : ◌≡◌ {A = ℕ} 114 102 = ap f
 replace_asked text Flush asked = let e : ◌≡◌ {A = ℕ} 114 102 = ap first_byte asked.1 in absurd (omega arith)
 replace_asked text SizeOnDisk asked = let e : ◌≡◌ {A = ℕ} 114 115 = ap first_byte asked.1 in absurd (omega arith)
 
--- what a text behind `free` spells
+-- what a text behind `free` encodes
 pub record IsFree (text : Option Bytes) : Type 0 where
   pub old : Token
   pub token : BeginsWithToken text old None
@@ -360,22 +360,22 @@ is_named words (Free old) asks = record { name = codes "free"; rest = decimal (p
 is_named words Flush asks = record { name = codes "flush"; rest = []; plain = search rules; joined = asks }
 is_named words SizeOnDisk asks = record { name = codes "size"; rest = []; plain = search rules; joined = asks }
 
--- a line that spells a call is its name and the text behind it
-pub spelled_behind : (line name : Bytes) (text : Option Bytes) (call : Call) → BeginsLine line name text → Spells line call → AsksBehind name text call
-spelled_behind line name text call begins spells =
-    let front = is_named spells.1.0 call spells.1.1 in
-    let cut = named line name front.name text front.rest begins front.plain (spells.1.2 ∙ ap (join_with_byte 32) front.joined) in
-    (front.rest, subst (λ words. Asks words call) (front.joined ∙ ap (λ first. first ∷ front.rest) (sym cut.0)) spells.1.1, cut.1)
+-- a line that encodes a call is its name and the text behind it
+pub encoded_behind : (line name : Bytes) (text : Option Bytes) (call : Call) → BeginsLine line name text → Encodes line call → AsksBehind name text call
+encoded_behind line name text call begins encodes =
+    let front = is_named encodes.1.0 call encodes.1.1 in
+    let cut = named line name front.name text front.rest begins front.plain (encodes.1.2 ∙ ap (join_with_byte 32) front.joined) in
+    (front.rest, subst (λ words. Asks words call) (front.joined ∙ ap (λ first. first ∷ front.rest) (sym cut.0)) encodes.1.1, cut.1)
 
--- a name and the text behind it are a line that spells the call
+-- a name and the text behind it are a line that encodes the call
 joined_line : (line name : Bytes) (text : Option Bytes) (words : List Bytes) → BeginsLine line name text → text ≡ after_name words → line ≡ join_with_byte 32 (name ∷ words)
 joined_line line name text [] begins e = (subst (BeginsLine line name) e begins).1
 joined_line line name text (word ∷ words) begins e = (subst (BeginsLine line name) e begins).1
 
-pub some_spelled_if_ok : {E : Type 0} (line name : Bytes) (text : Option Bytes) (result : Result (Option Call) E) → length line ≤ longest_line → BeginsLine line name text → IfOk result (λ found. IfSome found (AsksBehind name text)) → IfOk result (λ found. IfSome found (Spells line))
-some_spelled_if_ok line name text (Ok None) short begins some = tt
-some_spelled_if_ok line name text (Ok (Some call)) short begins some = (short, (name ∷ some.0, some.1, joined_line line name text some.0 begins some.2))
-some_spelled_if_ok line name text (Err error) short begins some = tt
+pub some_encoded_if_ok : {E : Type 0} (line name : Bytes) (text : Option Bytes) (result : Result (Option Call) E) → length line ≤ longest_line → BeginsLine line name text → IfOk result (λ found. IfSome found (AsksBehind name text)) → IfOk result (λ found. IfSome found (Encodes line))
+some_encoded_if_ok line name text (Ok None) short begins some = tt
+some_encoded_if_ok line name text (Ok (Some call)) short begins some = (short, (name ∷ some.0, some.1, joined_line line name text some.0 begins some.2))
+some_encoded_if_ok line name text (Err error) short begins some = tt
 
 -- a word of seven bytes, byte by byte
 pub seven_bytes : (word : Bytes) (a b c d e f g : ℕ) → length word ≡ 7 → get_or word 0 0 ≡ a → get_or word 1 0 ≡ b → get_or word 2 0 ≡ c → get_or word 3 0 ≡ d → get_or word 4 0 ≡ e → get_or word 5 0 ≡ f → get_or word 6 0 ≡ g → word ≡ a ∷ b ∷ c ∷ d ∷ e ∷ f ∷ g ∷ []
@@ -403,11 +403,11 @@ no_name name text (Free old) alloc get set del replace free flush size asked = f
 no_name name text Flush alloc get set del replace free flush size asked = flush (cc (asked.1))
 no_name name text SizeOnDisk alloc get set del replace free flush size asked = size (cc (asked.1))
 
--- what no call is asked for behind the name, no call is spelled for by the line
-pub none_spelled : (line name : Bytes) (text : Option Bytes) (found : Option Call) → BeginsLine line name text → IfNone found ((call : Call) → AsksBehind name text call → ⊥) → IfNone found ((call : Call) → Spells line call → ⊥)
-none_spelled line name text None begins none = λ call spells. none call (spelled_behind line name text call begins spells)
-none_spelled line name text (Some call) begins none = tt
+-- what no call is asked for behind the name, no call is encoded for by the line
+pub none_encoded : (line name : Bytes) (text : Option Bytes) (found : Option Call) → BeginsLine line name text → IfNone found ((call : Call) → AsksBehind name text call → ⊥) → IfNone found ((call : Call) → Encodes line call → ⊥)
+none_encoded line name text None begins none = λ call encodes. none call (encoded_behind line name text call begins encodes)
+none_encoded line name text (Some call) begins none = tt
 
-pub none_spelled_if_ok : {E : Type 0} (line name : Bytes) (text : Option Bytes) (result : Result (Option Call) E) → BeginsLine line name text → IfOk result (λ found. IfNone found ((call : Call) → AsksBehind name text call → ⊥)) → IfOk result (λ found. IfNone found ((call : Call) → Spells line call → ⊥))
-none_spelled_if_ok line name text (Ok found) begins none = none_spelled line name text found begins none
-none_spelled_if_ok line name text (Err error) begins none = tt
+pub none_encoded_if_ok : {E : Type 0} (line name : Bytes) (text : Option Bytes) (result : Result (Option Call) E) → BeginsLine line name text → IfOk result (λ found. IfNone found ((call : Call) → AsksBehind name text call → ⊥)) → IfOk result (λ found. IfNone found ((call : Call) → Encodes line call → ⊥))
+none_encoded_if_ok line name text (Ok found) begins none = none_encoded line name text found begins none
+none_encoded_if_ok line name text (Err error) begins none = tt

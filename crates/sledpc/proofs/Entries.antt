@@ -5,21 +5,21 @@ use Rattle.std.specs.List.{flat_map, slice_get}
 use Rattle.std.proofs.KnownBytes.{Appends-trans}
 use Rattle.std.proofs.lemmas.List.{append-nil}
 use Rattle.sled_base.specs.Order.{Bytes}
-use Rattle.sledpc.specs.Output.{AppendsBeginning, Writes}
+use Rattle.sledpc.specs.Output.{AppendsPrefix, Writes}
 use Rattle.sledpc.proofs.Written.{writes_more, stops_before}
 
 -- ---- one entry: a space, a key, an equals sign, an item
 
 module _ {T E : Type 0} (a b c d e : Option Bytes) (result : Result T E) (key item : Bytes) where
-  pub stops_at_space : IsErr result → AppendsBeginning a b (32 ∷ []) → Writes a b result (32 ∷ (key ++ 61 ∷ [] ++ item))
+  pub stops_at_space : IsErr result → AppendsPrefix a b (32 ∷ []) → Writes a b result (32 ∷ (key ++ 61 ∷ [] ++ item))
   stops_at_space failed part = stops_before a b result (32 ∷ []) (key ++ 61 ∷ [] ++ item) (32 ∷ (key ++ 61 ∷ [] ++ item)) failed part refl
 
-  pub stops_at_key : Appends a b (32 ∷ []) → IsErr result → AppendsBeginning b c key → Writes a c result (32 ∷ (key ++ 61 ∷ [] ++ item))
+  pub stops_at_key : Appends a b (32 ∷ []) → IsErr result → AppendsPrefix b c key → Writes a c result (32 ∷ (key ++ 61 ∷ [] ++ item))
   stops_at_key space failed part =
       writes_more a b c result (32 ∷ []) (key ++ 61 ∷ [] ++ item) (32 ∷ (key ++ 61 ∷ [] ++ item)) space
       (stops_before b c result key (61 ∷ item) (key ++ 61 ∷ [] ++ item) failed part (append_assoc key (61 ∷ []) item)) refl
 
-  pub stops_at_sign : Appends a b (32 ∷ []) → Appends b c key → IsErr result → AppendsBeginning c d (61 ∷ []) → Writes a d result (32 ∷ (key ++ 61 ∷ [] ++ item))
+  pub stops_at_sign : Appends a b (32 ∷ []) → Appends b c key → IsErr result → AppendsPrefix c d (61 ∷ []) → Writes a d result (32 ∷ (key ++ 61 ∷ [] ++ item))
   stops_at_sign space keyed failed part =
       writes_more a c d result (32 ∷ key) (61 ∷ item) (32 ∷ (key ++ 61 ∷ [] ++ item)) (Appends-trans a b c (32 ∷ []) key space keyed)
       (stops_before c d result (61 ∷ []) item (61 ∷ item) failed part refl) (ap (λ (l : Bytes). 32 ∷ l) (append_assoc key (61 ∷ []) item))

@@ -1,7 +1,7 @@
 -- A list of one item, and a log that holds nothing.
 use Rattle.std.proofs.Common.{◌≡◌, ◌≢◌, ◌<◌, ◌≤◌, zero, suc, true, List, [], ◌∷◌, length, map, get_or, sym, ap, ◌∙◌, arith}
 use Rattle.sled_log.specs.Messages.{Message}
-use Rattle.sled_log.specs.State as log
+use Rattle.sled_log.specs.LogState as log
 use Rattle.sled_pagecache.specs.Logged.{Logged, IsLogged}
 use Rattle.sled_pagecache.specs.Opening.{missing}
 use Rattle.sled_pagecache.specs.Proper.{IsProper, StayProper}
@@ -21,7 +21,7 @@ stay-none : StayProper [] [] [] []
 stay-none zero = proper-none
 stay-none (suc n) = proper-none
 
-abbrev pub empty : log.State Message
+abbrev pub empty : log.LogState Message
 empty = record { stable = []; pending = []; usable = true }
 
 pub empty_logged : IsLogged empty nothing

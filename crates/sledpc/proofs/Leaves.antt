@@ -5,7 +5,7 @@ use Rattle.std.specs.List.{AllByRecursion}
 use Rattle.std.proofs.lemmas.List.{length-map}
 use Rattle.sled_base.specs.Order.{Bytes, IsBelow, IsAtMost}
 use Rattle.sled_node.specs.Node.{Item, Value, WholeNode, IsWellFormed, IsInRange, leaf_of}
-use Rattle.sled_node.specs.Pairs.{IsWithinLimit, IsRising, HasPairs}
+use Rattle.sled_node.specs.Pairs.{IsWithinLimit, IsAscending, HasPairs}
 
 abbrev items_of : List (Bytes × Bytes) → List (Bytes × Item)
 items_of pairs = map (λ pair. (pair.0, Value pair.1)) pairs
@@ -14,9 +14,9 @@ all_items : (P : Bytes × Bytes → Type 0) (Q : Bytes × Item → Type 0) → (
 all_items P Q so [] all = tt
 all_items P Q so (pair ∷ pairs) all = (so pair all.0, all_items P Q so pairs all.1)
 
-items_rise : (pairs : List (Bytes × Bytes)) → IsRising pairs → IsRising (items_of pairs)
-items_rise [] rising = tt
-items_rise (pair ∷ pairs) rising = (all_items (λ later. IsBelow pair.0 later.0) (λ later. IsBelow pair.0 later.0) (λ later below. below) pairs rising.0, items_rise pairs rising.1)
+items_rise : (pairs : List (Bytes × Bytes)) → IsAscending pairs → IsAscending (items_of pairs)
+items_rise [] ascending = tt
+items_rise (pair ∷ pairs) ascending = (all_items (λ later. IsBelow pair.0 later.0) (λ later. IsBelow pair.0 later.0) (λ later below. below) pairs ascending.0, items_rise pairs ascending.1)
 
 -- no key is below the empty one
 above_empty : (key : Bytes) → IsAtMost [] key
@@ -29,7 +29,7 @@ leaf_formed pairs has = record {
   prefix_byte = omega arith;
   prefix_open = λ none. refl;
   prefix_common = refl;
-  rising = items_rise pairs has.rising;
+  ascending = items_rise pairs has.ascending;
   in_range = all_items (λ pair. IsWithinLimit pair.0) (λ pair. IsInRange (leaf_of (items_of pairs)) pair.0) (λ pair fits. (above_empty pair.0, λ some. absurd (some refl))) pairs has.keys;
   few = simp length-map has.few;
   bounds = (omega arith, omega arith);

@@ -8,7 +8,7 @@ pub mod Taken
 pub mod Entries
 pub mod Answered
 pub mod Making
-pub mod Spelled
+pub mod Encoded
 pub mod Commands
 pub mod Leaves
 pub mod Job

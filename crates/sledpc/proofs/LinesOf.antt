@@ -6,7 +6,7 @@ use Rattle.std.proofs.KnownBytes.{Consumes-trans, Consumes-kept}
 use Rattle.std.proofs.lemmas.Bool.Decides.{nat_tests}
 use Rattle.sled_base.specs.Order.{Bytes}
 use Rattle.sledpc.specs.Cut.{HasNo}
-use Rattle.sledpc.specs.Lines.{onto_first, lines_of, ReadsLine, IsUnread}
+use Rattle.sledpc.specs.Lines.{onto_first, lines_of, ReadsLine, IsUnreadLine}
 use Rattle.sledpc.specs.Parts.{TakesPart}
 use Rattle.sledpc.specs.Settings.{longest_line}
 use Rattle.sledpc.specs.declared.lines.Ended.TheVariants as Ended
@@ -155,7 +155,7 @@ module _ (old mid new : Option Bytes) (before kept : Bytes) (clean : HasNo 10 be
   stays : (part : Bytes) → kept ≡ before ++ part → part ≡ [] → Keeps mid new → Consumes old new kept
   stays part e none keeps = subst (Consumes old new) (sym (nothing part e none)) (Consumes-kept old mid new before taken keeps)
 
-  pub part_unread : (e : ReadError) → TakesPart mid new before kept (Err e) → IsUnread e old new kept
+  pub part_unread : (e : ReadError) → TakesPart mid new before kept (Err e) → IsUnreadLine e old new kept
   part_unread unread.Read (part, fresh, e, (none, keeps)) = inl (stays part e none keeps)
   part_unread unread.Memory (part, fresh, e, (none, keeps, left)) = (stays part e none keeps, more old mid taken left)
     where

@@ -18,11 +18,11 @@ plain_front : (n : ℕ) → n < 2 ^ 64 → HasPlainFront (decimal n)
 plain_front zero small = let e = decimal_digit 0 (lit< tt) in subst HasPlainFront (sym e) (omega arith, λ _. refl)
 plain_front (suc n) small = let above = first_decimal (suc n) (omega arith) small in (omega arith, omega arith)
 
-pub spelled_is_plain : (word : Bytes) (n : ℕ) → n < 2 ^ 64 → word ≡ decimal n → HasPlainFront word
-spelled_is_plain word n small e = subst HasPlainFront (sym e) (plain_front n small)
+pub encoded_is_plain : (word : Bytes) (n : ℕ) → n < 2 ^ 64 → word ≡ decimal n → HasPlainFront word
+encoded_is_plain word n small e = subst HasPlainFront (sym e) (plain_front n small)
 
-pub spelled_is_text : (word : Bytes) (n : ℕ) → n < 2 ^ 64 → word ≡ decimal n → IsUtf8 word
-spelled_is_text word n small e = subst IsUtf8 (sym e) (IsUtf8-from_ascii (decimal n) (IsAscii-decimal n small))
+pub encoded_is_text : (word : Bytes) (n : ℕ) → n < 2 ^ 64 → word ≡ decimal n → IsUtf8 word
+encoded_is_text word n small e = subst IsUtf8 (sym e) (IsUtf8-from_ascii (decimal n) (IsAscii-decimal n small))
 
 -- what is read from a text with a plain front
 pub read_number : {E : Type 0} (word : Bytes) (r : Result ℕ E) (o : Option ℕ) → HasPlainFront word → ParsesUnsigned 64 10 word r → o ≡ result_ok r

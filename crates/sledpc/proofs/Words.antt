@@ -1,4 +1,4 @@
--- How bytes and pairs are spelled.
+-- How bytes and pairs are encoded.
 use Rattle.std.proofs.Common.{◌≡◌, ◌≢◌, Bool, true, false, eqb, ℕ, zero, suc, ◌+◌, ◌*◌, ◌/◌, ◌%◌, ◌<◌, ◌≤◌, List, [], ◌∷◌, ◌++◌, length, length-append, take, map, get_or, Option, None, Some, codes, sym, ap, ◌∙◌, arith, refl, append_assoc}
 use lib.Pointwise.{pointwise}
 use native.Mathlib.Numerals.{unary_clauses}
@@ -7,7 +7,7 @@ use Rattle.std.proofs.lemmas.List.{take_more}
 use Rattle.std.proofs.lemmas.Bool.Decides.{nat_tests}
 use Rattle.sled_base.specs.Order.{Bytes}
 use Rattle.sledpc.specs.Cut.{HasNo}
-use Rattle.sledpc.specs.Words.{AreBytes, ArePairs, IsPairOfBytes, hex_digit, hex, bytes_word, pair_word, SpellPairs, BeginsLine}
+use Rattle.sledpc.specs.Words.{AreBytes, ArePairs, IsPairOfBytes, hex_digit, hex, bytes_word, pair_word, EncodePairs, BeginsLine}
 use Rattle.sledpc.proofs.Cut.{cut_once, no_mark, none_in_both}
 
 -- ---- hexadecimal
@@ -44,15 +44,15 @@ no_dash word dash test e by failed same = let is : pointwise eqb (codes "-") (co
 -- so it has two digits a byte
 pub even_word : (bytes word : Bytes) → word ≡ bytes_word bytes → word ≢ codes "-" → (0 < length word) × (length word % 2 ≡ 0)
 even_word bytes word e other =
-    let spelled = hex_from_word bytes word e other in
-    let count : length word ≡ 2 * length bytes = ap length spelled.0 ∙ length-hex bytes in
+    let encoded = hex_from_word bytes word e other in
+    let count : length word ≡ 2 * length bytes = ap length encoded.0 ∙ length-hex bytes in
     (omega arith, omega arith)
 
 take_two : (word : Bytes) (n : ℕ) → n + 1 < length word → take (n + 1 + 1) word ≡ take n word ++ get_or word n 0 ∷ get_or word (n + 1) 0 ∷ []
 take_two word n below =
     take_more word (n + 1) 0 below ∙ ap (λ front. front ++ get_or word (n + 1) 0 ∷ []) (take_more word n 0 (omega arith)) ∙ append_assoc (take n word) (get_or word n 0 ∷ []) (get_or word (n + 1) 0 ∷ [])
 
--- where two digits spell a byte, the word spells one byte more
+-- where two digits encode a byte, the word encodes one byte more
 pub byte_more : (word bytes new : Bytes) (i byte : ℕ) → take (2 * i) word ≡ hex bytes → 2 * i + 1 < length word → get_or word (2 * i) 0 ≡ hex_digit (byte / 16) → get_or word (2 * i + 1) 0 ≡ hex_digit (byte % 16) → new ≡ bytes ++ byte ∷ []
     → take (2 * (i + 1)) word ≡ hex new
 byte_more word bytes new i byte so_far below high low e =
@@ -103,28 +103,28 @@ no_sides pair word none same = no_mark 61 word (bytes_word pair.0) (bytes_word p
 -- ---- the words of a line
 
 -- a pair's word in front of others
-pub one_more : (line word : Bytes) (pair : Bytes × Bytes) (rest : Option Bytes) (pairs : List (Bytes × Bytes)) → BeginsLine line word rest → word ≡ pair_word pair → SpellPairs rest pairs → SpellPairs (Some line) (pair ∷ pairs)
-one_more line word pair None [] begins e spell = ap Some (begins.1 ∙ e)
-one_more line word pair None (next ∷ pairs) begins e spell = absurd cc
-one_more line word pair (Some rest) [] begins e spell = absurd cc
-one_more line word pair (Some rest) (next ∷ pairs) begins e spell =
+pub one_more : (line word : Bytes) (pair : Bytes × Bytes) (rest : Option Bytes) (pairs : List (Bytes × Bytes)) → BeginsLine line word rest → word ≡ pair_word pair → EncodePairs rest pairs → EncodePairs (Some line) (pair ∷ pairs)
+one_more line word pair None [] begins e encode = ap Some (begins.1 ∙ e)
+one_more line word pair None (next ∷ pairs) begins e encode = absurd cc
+one_more line word pair (Some rest) [] begins e encode = absurd cc
+one_more line word pair (Some rest) (next ∷ pairs) begins e encode =
     let more = join_with_byte 32 (map pair_word (next ∷ pairs)) in
     let same : rest ≡ more = cc in
     ap Some (begins.1 ∙ ap (λ front. front ++ 32 ∷ rest) e ∙ ap (λ text. pair_word pair ++ 32 ∷ text) same)
 
 -- the first word of the words of pairs is the word of the first pair
-pub one_less : (line word : Bytes) (rest : Option Bytes) (pairs : List (Bytes × Bytes)) → BeginsLine line word rest → ArePairs pairs → SpellPairs (Some line) pairs
-    → (pair : Bytes × Bytes) × (others : List (Bytes × Bytes)) × IsPairOfBytes pair × (word ≡ pair_word pair) × ArePairs others × SpellPairs rest others
-one_less line word rest [] begins are spell = absurd cc
-one_less line word None (pair ∷ []) begins are spell = let whole : line ≡ pair_word pair = cc in (pair, [], are.0, sym begins.1 ∙ whole, tt, refl)
-one_less line word (Some rest) (pair ∷ []) begins are spell =
+pub one_less : (line word : Bytes) (rest : Option Bytes) (pairs : List (Bytes × Bytes)) → BeginsLine line word rest → ArePairs pairs → EncodePairs (Some line) pairs
+    → (pair : Bytes × Bytes) × (others : List (Bytes × Bytes)) × IsPairOfBytes pair × (word ≡ pair_word pair) × ArePairs others × EncodePairs rest others
+one_less line word rest [] begins are encode = absurd cc
+one_less line word None (pair ∷ []) begins are encode = let whole : line ≡ pair_word pair = cc in (pair, [], are.0, sym begins.1 ∙ whole, tt, refl)
+one_less line word (Some rest) (pair ∷ []) begins are encode =
     let whole : line ≡ pair_word pair = cc in
     absurd (no_mark 32 (pair_word pair) word rest (no_space_in_pair pair are.0) (sym whole ∙ begins.1))
-one_less line word None (pair ∷ next ∷ pairs) begins are spell =
+one_less line word None (pair ∷ next ∷ pairs) begins are encode =
     let more = join_with_byte 32 (map pair_word (next ∷ pairs)) in
     let whole : line ≡ pair_word pair ++ 32 ∷ more = cc in
     absurd (no_mark 32 word (pair_word pair) more begins.0 (sym begins.1 ∙ whole))
-one_less line word (Some rest) (pair ∷ next ∷ pairs) begins are spell =
+one_less line word (Some rest) (pair ∷ next ∷ pairs) begins are encode =
     let more = join_with_byte 32 (map pair_word (next ∷ pairs)) in
     let whole : line ≡ pair_word pair ++ 32 ∷ more = cc in
     let cut = cut_once 32 word (pair_word pair) rest more begins.0 (no_space_in_pair pair are.0) (sym begins.1 ∙ whole) in

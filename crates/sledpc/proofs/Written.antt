@@ -4,7 +4,7 @@ use Rattle.std.specs.Io.KnownBytes.{Appends}
 use Rattle.std.proofs.KnownBytes.{Appends-trans}
 use Rattle.std.proofs.lemmas.List.{take_rest, take_more}
 use Rattle.sled_base.specs.Order.{Bytes}
-use Rattle.sledpc.specs.Output.{AppendsBeginning, Writes}
+use Rattle.sledpc.specs.Output.{AppendsPrefix, Writes}
 use Rattle.sledpc.specs.Words.{hex_digit, hex, bytes_word}
 use Rattle.sledpc.proofs.Words.{hex_more}
 
@@ -20,7 +20,7 @@ writes_more a b c (Err x) done text whole before now e =
     (done ++ now.0, now.1, e ∙ ap (λ l. done ++ l) now.2 ∙ sym (append_assoc done now.0 now.1), Appends-trans a b c done now.0 before now.3)
 
 -- an error before the rest is written
-pub stops_before : {T E : Type 0} (a b : Option Bytes) (result : Result T E) (text rest whole : Bytes) → IsErr result → AppendsBeginning a b text → whole ≡ text ++ rest → Writes a b result whole
+pub stops_before : {T E : Type 0} (a b : Option Bytes) (result : Result T E) (text rest whole : Bytes) → IsErr result → AppendsPrefix a b text → whole ≡ text ++ rest → Writes a b result whole
 stops_before a b (Ok x) text rest whole failed now e = absurd cc
 stops_before a b (Err x) text rest whole failed now e =
     (now.0, now.1 ++ rest, e ∙ ap (λ l. l ++ rest) now.2 ∙ append_assoc now.0 now.1 rest, now.3)

@@ -7,7 +7,7 @@ use Rattle.sled_node.specs.Node.{WholeNode}
 use Rattle.sled_pagecache.specs.Token.{Token, pid_of, stamp_of}
 use Rattle.sled_pagecache.specs.declared.pagecache.call.Call.{Call}
 use Rattle.sledpc.specs.Commands.{Asks, IsLeafOf, IsToken}
-use Rattle.sledpc.specs.Words.{after_name, HasNoSpace, SpellPairs}
+use Rattle.sledpc.specs.Words.{after_name, HasNoSpace, EncodePairs}
 
 -- the name and the words in the text behind it ask for the call
 abbrev pub AsksBehind : Bytes → Option Bytes → Call → Type 0
@@ -29,5 +29,5 @@ pub record BeginsWithToken (text : Option Bytes) (old : Token) (rest : Option By
   pub joined : text ≡ after_name (decimal (pid_of old) ∷ decimal (stamp_of old) ∷ at_the_end rest)
 
 -- the words in the text encode the pairs of the leaf
-abbrev pub SpellLeaf : Option Bytes → WholeNode → Type 0
-SpellLeaf text node = (pairs : List (Bytes × Bytes)) × IsLeafOf pairs node × SpellPairs text pairs
+abbrev pub EncodeLeaf : Option Bytes → WholeNode → Type 0
+EncodeLeaf text node = (pairs : List (Bytes × Bytes)) × IsLeafOf pairs node × EncodePairs text pairs

@@ -37,5 +37,5 @@ Asks words Flush = words ≡ codes "flush" ∷ []
 Asks words SizeOnDisk = words ≡ codes "size" ∷ []
 
 -- the line has such words, with single spaces between them
-abbrev pub Spells : Bytes → Call → Type 0
-Spells line call = (length line ≤ longest_line) × ((words : List Bytes) × Asks words call × (line ≡ join_with_byte 32 words))
+abbrev pub Encodes : Bytes → Call → Type 0
+Encodes line call = (length line ≤ longest_line) × ((words : List Bytes) × Asks words call × (line ≡ join_with_byte 32 words))

@@ -6,7 +6,7 @@ pub mod Parts
 pub mod Output
 pub mod Commands
 pub mod Replies
-pub mod Told
+pub mod LentAnswers
 pub mod Runs
 pub mod Served
 pub mod Asked

@@ -32,6 +32,6 @@ ReadsLine (Some input) None (Ok line) kept = ⊥
 ReadsLine (Some input) new (Err e) kept = ⊤
 
 -- Why a line was not read. An allocation failed for bytes of it that are left behind those that were kept; or the input was not read behind what was kept, or in a line that is too long.
-abbrev pub IsUnread : ReadError → Option Bytes → Option Bytes → Bytes → Type 0
-IsUnread Memory old new kept = Consumes old new kept × IfSome old (λ input. input ≢ kept)
-IsUnread Read old new kept = Consumes old new kept ⊎ (longest_line < length kept)
+abbrev pub IsUnreadLine : ReadError → Option Bytes → Option Bytes → Bytes → Type 0
+IsUnreadLine Memory old new kept = Consumes old new kept × IfSome old (λ input. input ≢ kept)
+IsUnreadLine Read old new kept = Consumes old new kept ⊎ (longest_line < length kept)

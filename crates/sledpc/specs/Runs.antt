@@ -8,9 +8,9 @@ use Rattle.sled_pagecache.specs.Cache.{Cache}
 use Rattle.sled_pagecache.specs.Rows.{StepInRow, AreMade}
 use Rattle.sled_pagecache.specs.declared.pagecache.call.Answer.{Answer}
 use Rattle.sled_pagecache.specs.declared.pagecache.call.Call.{Call}
-use Rattle.sledpc.specs.Commands.{Spells}
+use Rattle.sledpc.specs.Commands.{Encodes}
 use Rattle.sledpc.specs.Lines.{lines_of}
-use Rattle.sledpc.specs.Output.{AppendsBeginning}
+use Rattle.sledpc.specs.Output.{AppendsPrefix}
 use Rattle.sledpc.specs.Replies.{reply_of}
 use Rattle.sledpc.specs.declared.lines.ReadError.{ReadError}
 use Rattle.sledpc.specs.declared.lines.ReadError.TheVariants as unread
@@ -23,8 +23,8 @@ Served = Option (Call × Answer)
 
 -- the line asks for the call, or for none
 abbrev pub AsksFor : Bytes → Served → Type 0
-AsksFor line None = (call : Call) → ¬ Spells line call
-AsksFor line (Some made) = Spells line made.0
+AsksFor line None = (call : Call) → ¬ Encodes line call
+AsksFor line (Some made) = Encodes line made.0
 
 abbrev pub reply_to : Served → Bytes
 reply_to None = codes "error line"
@@ -57,7 +57,7 @@ abbrev pub IsWritten : Result Unit RunError → Option Bytes → Option Bytes �
 IsWritten (Ok done) old new text = Appends old new text
 IsWritten (Err Read) old new text = Appends old new text
 IsWritten (Err Memory) old new text = Appends old new text
-IsWritten (Err Write) old new text = AppendsBeginning old new text
+IsWritten (Err Write) old new text = AppendsPrefix old new text
 
 -- What a run makes of an input: the calls that the lines ask for are made, and are steps in a row, and the replies to their
 -- answers are written, one line to each line.
@@ -69,6 +69,6 @@ pub record Serves {L : Type 0} (g : Ghosts L) (cache : Cache L) (input old new :
   pub written : IsWritten result old new (text_of served)
 
 -- the error that ends a run where a line was not read
-abbrev pub error_of : ReadError → RunError
-error_of unread.Read = Read
-error_of unread.Memory = Memory
+abbrev pub run_error_of : ReadError → RunError
+run_error_of unread.Read = Read
+run_error_of unread.Memory = Memory

@@ -7,7 +7,7 @@ use Rattle.sled_pagecache.specs.Cache.{Cache}
 use Rattle.sled_pagecache.specs.Rows.{IsMade}
 use Rattle.sled_pagecache.specs.declared.pagecache.call.Answer.{Answer}
 use Rattle.sled_pagecache.specs.declared.pagecache.call.Call.{Call}
-use Rattle.sledpc.specs.Output.{AppendsBeginning, Writes}
+use Rattle.sledpc.specs.Output.{AppendsPrefix, Writes}
 use Rattle.sledpc.specs.Replies.{reply_of}
 use Rattle.sledpc.specs.Runs.{Served, AsksFor, reply_to}
 use Rattle.sledpc.specs.declared.script.run.RunError.{RunError}
@@ -28,6 +28,6 @@ module _ {L : Type 0} (g : Ghosts L) where
   -- The line is answered, and the reply is written as a line, or where it is not written whole, a prefix of it; or an allocation failed for the line, and nothing is changed or written.
   abbrev pub RepliesLine : Cache L → Bytes → Option Bytes → Option Bytes → Result Unit RunError → Cache L → Type 0
   RepliesLine cache line old new (Ok done) after = (one : Served) × AsksFor line one × Goes cache one after × Appends old new (reply_to one ++ 10 ∷ [])
-  RepliesLine cache line old new (Err Write) after = (one : Served) × AsksFor line one × Goes cache one after × AppendsBeginning old new (reply_to one ++ 10 ∷ [])
+  RepliesLine cache line old new (Err Write) after = (one : Served) × AsksFor line one × Goes cache one after × AppendsPrefix old new (reply_to one ++ 10 ∷ [])
   RepliesLine cache line old new (Err Memory) after = (after ≡ cache) × Appends old new []
   RepliesLine cache line old new (Err Read) after = ⊥

@@ -27,8 +27,8 @@ after_name [] = None
 after_name (word ∷ words) = Some (join_with_byte 32 (word ∷ words))
 
 -- the words behind a command's name encode these pairs, a word each
-abbrev pub SpellPairs : Option Bytes → List (Bytes × Bytes) → Type 0
-SpellPairs words pairs = words ≡ after_name (map pair_word pairs)
+abbrev pub EncodePairs : Option Bytes → List (Bytes × Bytes) → Type 0
+EncodePairs words pairs = words ≡ after_name (map pair_word pairs)
 
 -- numbers that are bytes
 abbrev pub AreBytes : Bytes → Type 0

@@ -2,7 +2,7 @@
 
 ghost use Rattle.std.specs.Prelude.{◌≡◌, ◌⊎◌, ◌+◌, ◌≤◌, length, Bool, Ok, Err, IfOk, IfErr};
 ghost use Rattle.std.specs.Io.BufRead.{DropsThrough};
-ghost use Rattle.sledpc.specs.Lines.{ReadsLine, IsUnread};
+ghost use Rattle.sledpc.specs.Lines.{ReadsLine, IsUnreadLine};
 ghost use Rattle.sledpc.specs.Parts.{TakesPart, FitsLine};
 ghost use Rattle.sledpc.specs.Settings.{longest_line};
 
@@ -48,7 +48,7 @@ enum Ended {
 pub fn read_line<R: BufRead>(reader: &mut R, kept: &mut Vec<u8>) -> Result<Line, ReadError>
     ensures reads { ReadsLine (R.remaining reader.old) (R.remaining reader.new) result kept.new.items }
     ensures whole { (is_followed : Bool) → result ≡ Ok (Line.Whole is_followed) → length kept.new.items ≤ longest_line }
-    ensures unread { IfErr result (λ e. IsUnread e (R.remaining reader.old) (R.remaining reader.new) kept.new.items) }
+    ensures unread { IfErr result (λ e. IsUnreadLine e (R.remaining reader.old) (R.remaining reader.new) kept.new.items) }
     ensures few { length kept.new.items ≤ longest_line + 1 }
 {
     kept.clear();

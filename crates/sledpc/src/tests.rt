@@ -4,7 +4,7 @@ mod readme;
 
 use crate::lines::{Line, read_line};
 use crate::output::{write_bytes_word, write_number, write_text};
-use crate::script::reply::{Told, write_line};
+use crate::script::reply::{LentAnswer, write_line};
 use crate::script::words::{bytes_of, first_word, number_of, pair_of, pairs_of};
 use sled_pagecache::{Bug, Device, Error, IVec, Why};
 use std::alloc::{AllocError, Global};
@@ -55,7 +55,7 @@ fn slow_writer(alloc: Global, room: usize) -> Slow {
 // may be kept.
 
 // Whether the word encodes these bytes, or none.
-fn spells_bytes(alloc: Global, word: &str, want: Option<&[u8]>) -> Result<bool, AllocError> {
+fn encodes_bytes(alloc: Global, word: &str, want: Option<&[u8]>) -> Result<bool, AllocError> {
     let found = bytes_of(alloc, word.as_bytes())?;
     Ok(match (&found, want) {
         (Some(bytes), Some(want)) => bytes.as_slice() == want,
@@ -81,7 +81,7 @@ fn are_pairs(pairs: &[(IVec, IVec)], want: &[(&str, &str)]) -> bool {
 }
 
 // Whether the word encodes this pair, or none.
-fn spells_pair(alloc: Global, word: &str, want: Option<(&str, &str)>) -> Result<bool, AllocError> {
+fn encodes_pair(alloc: Global, word: &str, want: Option<(&str, &str)>) -> Result<bool, AllocError> {
     let found = pair_of(alloc, word.as_bytes())?;
     Ok(match (&found, want) {
         (Some(pair), Some(want)) => is_pair(pair, want),
@@ -91,7 +91,7 @@ fn spells_pair(alloc: Global, word: &str, want: Option<(&str, &str)>) -> Result<
 }
 
 // Whether the words behind a name encode these pairs, or none.
-fn spell_pairs(
+fn encode_pairs(
     alloc: Global,
     words: Option<&str>,
     want: Option<&[(&str, &str)]>,
@@ -156,7 +156,7 @@ fn are_written(alloc: Global, numbers: &[u64], strings: &[&[u8]], want: &str) ->
 // Whether a call that is refused so is replied to by this line.
 fn replies_to_error(alloc: Global, error: Error, want: &str) -> io::Result<bool> {
     let mut writer = slow_writer(alloc, 99);
-    write_line(&mut writer, Told::Flushed(&Err(error)))?;
+    write_line(&mut writer, LentAnswer::Flushed(&Err(error)))?;
     Ok(writer.got.as_slice() == want.as_bytes())
 }
 
@@ -210,7 +210,7 @@ fn reads_byte_strings(rt: HostRuntime) -> Result<(), Fail> {
         ("G161616161616161616161616161616161616161616161", None),
         ("6161616161616161616161616161616161616161616161616", None),
     ] {
-        assert!(rt; spells_bytes(rt.alloc(), word, want)?, "at {word}");
+        assert!(rt; encodes_bytes(rt.alloc(), word, want)?, "at {word}");
     }
     Ok(())
 }
@@ -225,7 +225,7 @@ fn reads_pairs(rt: HostRuntime) -> Result<(), Fail> {
         ("61", None),
         ("61=62=63", None),
     ] {
-        assert!(rt; spells_pair(rt.alloc(), word, want)?, "at {word}");
+        assert!(rt; encodes_pair(rt.alloc(), word, want)?, "at {word}");
     }
     Ok(())
 }
@@ -242,9 +242,9 @@ fn reads_pairs_behind_a_name(rt: HostRuntime) -> Result<(), Fail> {
         (" 61=62", None),
         ("61=62  62=63", None),
     ] {
-        assert!(rt; spell_pairs(rt.alloc(), Some(words), want)?, "at {words}");
+        assert!(rt; encode_pairs(rt.alloc(), Some(words), want)?, "at {words}");
     }
-    assert!(rt; spell_pairs(rt.alloc(), None, Some(&[]))?);
+    assert!(rt; encode_pairs(rt.alloc(), None, Some(&[]))?);
     Ok(())
 }
 
@@ -282,7 +282,7 @@ fn reads_long_lines(rt: HostRuntime) -> Result<(), Fail> {
 }
 
 #[test]
-fn writes_a_beginning_before_an_error(rt: HostRuntime) {
+fn writes_a_prefix_before_an_error(rt: HostRuntime) {
     for (room, want) in [(3, "abc"), (5, "abcde")] {
         assert!(rt; takes_of_five(rt.alloc(), room, want), "of {room}");
     }

@@ -6,7 +6,7 @@ use Rattle.std.proofs.lemmas.Bool.{cases_lt, cases_eq, le-ltb, lt-ltb, eq-eqb, n
 use Rattle.std.proofs.lemmas.List.{length-append, length-set}
 use Rattle.std.proofs.lemmas.Option.{same_Some}
 use Rattle.sled_base.specs.Dll.{Listed, listed, slots, last_slot_or, last_slot}
-use Rattle.sled_base.specs.Links.{first_slot_or, first_of, AreLinked, AreFree, times, IsKeptAs, IsKept, listed_in, ChangesLink, with_before, with_after}
+use Rattle.sled_base.specs.Links.{first_slot_or, first_of, AreLinked, AreFree, times, IsLinkedListOf, IsLinkedList, listed_in, ChangesLink, with_before, with_after}
 use Rattle.sled_base.specs.declared.dll.Slot.{Slot}
 use Rattle.sled_base.specs.declared.dll.links.Links.{Links}
 use Rattle.sled_base.specs.declared.dll.links.Cell.{Cell}
@@ -21,7 +21,7 @@ last_or slot other [] = refl
 last_or slot other (x ∷ list) = last_or x.slot other list
 
 -- a cell that was taken is set
-module _ (old : Links) (list : List Listed) (spare : List Slot) (slot : Slot) (kept : IsKeptAs (slot ∷ []) old list spare) (cell : Cell) where
+module _ (old : Links) (list : List Listed) (spare : List Slot) (slot : Slot) (kept : IsLinkedListOf (slot ∷ []) old list spare) (cell : Cell) where
   out_of_both : times slot.0 (slots list) + times slot.0 spare ≡ 0
   out_of_both = omega (arith, stands_once (slot ∷ []) old list spare kept slot.0, one_there slot.0)
 
@@ -38,7 +38,7 @@ module _ (old : Links) (list : List Listed) (spare : List Slot) (slot : Slot) (k
       free_kept old.cells.items (set old.cells.items slot.0 cell) spare (keeps_from_set spare old.cells.items slot cell (omega (arith, out_of_both))) kept.unused
 
 -- an item is put in front of the row
-pub linked_at_head : (old new : Links) (list : List Listed) (spare : List Slot) (slot : Slot) (item : ℕ) → IsKeptAs (slot ∷ []) old list spare → ChangesLink (with_before (Some slot)) (first_slot_or None list) (set old.cells.items slot.0 (Linked (record { item = item; before = None; after = first_slot_or None list }))) new.cells.items → new.head ≡ Some slot → new.tail ≡ option_or old.tail (Some slot) → new.len ≡ old.len + 1 → new.free ≡ old.free → IsKeptAs [] new (listed slot item ∷ list) spare
+pub linked_at_head : (old new : Links) (list : List Listed) (spare : List Slot) (slot : Slot) (item : ℕ) → IsLinkedListOf (slot ∷ []) old list spare → ChangesLink (with_before (Some slot)) (first_slot_or None list) (set old.cells.items slot.0 (Linked (record { item = item; before = None; after = first_slot_or None list }))) new.cells.items → new.head ≡ Some slot → new.tail ≡ option_or old.tail (Some slot) → new.len ≡ old.len + 1 → new.free ≡ old.free → IsLinkedListOf [] new (listed slot item ∷ list) spare
 linked_at_head old new list spare slot item kept changes head tail len free =
     let cell = Linked (record { item = item; before = None; after = first_slot_or None list }) in
     let middle = set old.cells.items slot.0 cell in
@@ -63,7 +63,7 @@ linked_at_head old new list spare slot item kept changes head tail len free =
     new_tail (y ∷ list) slot = last_or y.slot slot list
 
 -- an item is put behind the row
-pub linked_at_tail : (old new : Links) (list : List Listed) (spare : List Slot) (slot : Slot) (item : ℕ) → IsKeptAs (slot ∷ []) old list spare → ChangesLink (with_after (Some slot)) (last_slot list) (set old.cells.items slot.0 (Linked (record { item = item; before = last_slot list; after = None }))) new.cells.items → new.tail ≡ Some slot → new.head ≡ option_or old.head (Some slot) → new.len ≡ old.len + 1 → new.free ≡ old.free → IsKeptAs [] new (list ++ listed slot item ∷ []) spare
+pub linked_at_tail : (old new : Links) (list : List Listed) (spare : List Slot) (slot : Slot) (item : ℕ) → IsLinkedListOf (slot ∷ []) old list spare → ChangesLink (with_after (Some slot)) (last_slot list) (set old.cells.items slot.0 (Linked (record { item = item; before = last_slot list; after = None }))) new.cells.items → new.tail ≡ Some slot → new.head ≡ option_or old.head (Some slot) → new.len ≡ old.len + 1 → new.free ≡ old.free → IsLinkedListOf [] new (list ++ listed slot item ∷ []) spare
 linked_at_tail old new list spare slot item kept changes tail head len free =
     let cell = Linked (record { item = item; before = last_slot list; after = None }) in
     let middle = set old.cells.items slot.0 cell in
@@ -88,7 +88,7 @@ linked_at_tail old new list spare slot item kept changes tail head len free =
     new_head (y ∷ list) slot item = refl
 
 -- a cell is set free
-pub released : (old new : Links) (list : List Listed) (spare : List Slot) (slot : Slot) → IsKeptAs (slot ∷ []) old list spare → new.cells.items ≡ set old.cells.items slot.0 (Free old.free) → new.free ≡ Some slot → new.head ≡ old.head → new.tail ≡ old.tail → new.len ≡ old.len → IsKeptAs [] new list (slot ∷ spare)
+pub released : (old new : Links) (list : List Listed) (spare : List Slot) (slot : Slot) → IsLinkedListOf (slot ∷ []) old list spare → new.cells.items ≡ set old.cells.items slot.0 (Free old.free) → new.free ≡ Some slot → new.head ≡ old.head → new.tail ≡ old.tail → new.len ≡ old.len → IsLinkedListOf [] new list (slot ∷ spare)
 released old new list spare slot kept cells free head tail len =
     let cell = Free old.free in
     let size : length new.cells.items ≡ length old.cells.items = ap length cells ∙ length-set old.cells.items slot.0 cell in
@@ -104,14 +104,14 @@ released old new list spare slot kept cells free head tail len =
     }
 
 -- a free cell is taken
-pub taken : (old new : Links) (list : List Listed) (spare : List Slot) (slot : Slot) (next : Option Slot) → IsKeptAs [] old list spare → old.free ≡ Some slot → slice_get old.cells.items slot.0 ≡ Some (Free next) → new.cells.items ≡ old.cells.items → new.free ≡ next → new.head ≡ old.head → new.tail ≡ old.tail → new.len ≡ old.len → Lists (slot ∷ []) new list
+pub taken : (old new : Links) (list : List Listed) (spare : List Slot) (slot : Slot) (next : Option Slot) → IsLinkedListOf [] old list spare → old.free ≡ Some slot → slice_get old.cells.items slot.0 ≡ Some (Free next) → new.cells.items ≡ old.cells.items → new.free ≡ next → new.head ≡ old.head → new.tail ≡ old.tail → new.len ≡ old.len → Lists (slot ∷ []) new list
 taken old new list [] slot next kept first cell cells free head tail len = let none = kept.free in absurd cc
 taken old new list (s ∷ spare) slot next kept first cell cells free head tail len =
     let same : s ≡ slot = same_Some s slot (sym kept.free ∙ first) in
     let here : slice_get old.cells.items slot.0 ≡ Some (Free (first_of spare)) = subst (λ (t : Slot). slice_get old.cells.items t.0 ≡ Some (Free (first_of spare))) same kept.unused.0 in
     let next_is : next ≡ first_of spare = cc in
     let size : length new.cells.items ≡ length old.cells.items = ap length cells in
-    let result : IsKeptAs (s ∷ []) new list spare = record {
+    let result : IsLinkedListOf (s ∷ []) new list spare = record {
       linked = subst (λ (cs : List Cell). AreLinked cs None list None) (sym cells) kept.linked;
       head = head ∙ kept.head;
       tail = tail ∙ kept.tail;
@@ -121,7 +121,7 @@ taken old new list (s ∷ spare) slot next kept first cell cells free head tail 
       once = once_again [] (s ∷ []) list list (s ∷ spare) spare (length old.cells.items) (length new.cells.items) size (λ place. omega arith) (times_in_all [] old list (s ∷ spare) kept);
       total = omega (arith, size, kept.total);
     } in
-    lists (slot ∷ []) new list spare (subst (λ (t : Slot). IsKeptAs (t ∷ []) new list spare) same result)
+    lists (slot ∷ []) new list spare (subst (λ (t : Slot). IsLinkedListOf (t ∷ []) new list spare) same result)
 
 -- a new cell is taken
 one_more : (place size : ℕ) → cond (eqb size place) 1 0 + cond (ltb place size) 1 0 ≡ cond (ltb place (size + 1)) 1 0
@@ -134,7 +134,7 @@ one_more place size =
       ]
     ]
 
-pushed : (old new : Links) (list : List Listed) (spare : List Slot) (slot : Slot) (cell : Cell) → IsKeptAs [] old list spare → slot.0 ≡ length old.cells.items → new.cells.items ≡ old.cells.items ++ cell ∷ [] → new.free ≡ old.free → new.head ≡ old.head → new.tail ≡ old.tail → new.len ≡ old.len → IsKeptAs (slot ∷ []) new list spare
+pushed : (old new : Links) (list : List Listed) (spare : List Slot) (slot : Slot) (cell : Cell) → IsLinkedListOf [] old list spare → slot.0 ≡ length old.cells.items → new.cells.items ≡ old.cells.items ++ cell ∷ [] → new.free ≡ old.free → new.head ≡ old.head → new.tail ≡ old.tail → new.len ≡ old.len → IsLinkedListOf (slot ∷ []) new list spare
 pushed old new list spare slot cell kept place_is cells free head tail len =
     let all = times_in_all [] old list spare kept in
     let within = stands_within [] old list spare kept in
@@ -150,6 +150,6 @@ pushed old new list spare slot cell kept place_is cells free head tail len =
       total = omega (arith, size, kept.total);
     }
 
-pub added : (old new : Links) (slot : Slot) (cell : Cell) → IsKept [] old → slot.0 ≡ length old.cells.items → new.cells.items ≡ old.cells.items ++ cell ∷ [] → new.free ≡ old.free → new.head ≡ old.head → new.tail ≡ old.tail → new.len ≡ old.len → Lists (slot ∷ []) new (listed_in old)
+pub added : (old new : Links) (slot : Slot) (cell : Cell) → IsLinkedList [] old → slot.0 ≡ length old.cells.items → new.cells.items ≡ old.cells.items ++ cell ∷ [] → new.free ≡ old.free → new.head ≡ old.head → new.tail ≡ old.tail → new.len ≡ old.len → Lists (slot ∷ []) new (listed_in old)
 added old new slot cell kept place cells free head tail len =
     lists (slot ∷ []) new (listed_in old) kept.0 (pushed old new (listed_in old) kept.0 slot cell kept.1 place cells free head tail len)

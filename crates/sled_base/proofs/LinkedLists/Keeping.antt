@@ -5,7 +5,7 @@ use Rattle.std.specs.List.{slice_get}
 use Rattle.std.proofs.lemmas.Bool.{cases_lt, cases_eq, le-ltb, lt-ltb, ne_eqb}
 use Rattle.std.proofs.lemmas.Option.{same_Some, slice_get_within}
 use Rattle.sled_base.specs.Dll.{Listed, listed, slots, last_slot, AreDistinct}
-use Rattle.sled_base.specs.Links.{first_slot_or, first_of, AreFree, times, IsKeptAs, IsKept, listed_in, IsWithin}
+use Rattle.sled_base.specs.Links.{first_slot_or, first_of, AreFree, times, IsLinkedListOf, IsLinkedList, listed_in, IsSlotIn}
 use Rattle.sled_base.specs.declared.dll.Slot.{Slot}
 use Rattle.sled_base.specs.declared.dll.links.Link.{Link}
 use Rattle.sled_base.specs.declared.dll.links.Links.{Links}
@@ -16,20 +16,20 @@ use Rattle.sled_base.proofs.LinkedLists.Linking.{listed_from-linked, linked_spli
 
 -- the list that is kept is the one that is found
 pub record Lists (out : List Slot) (links : Links) (list : List Listed) : Type 0 where
-  pub kept : IsKept out links
+  pub kept : IsLinkedList out links
   pub is : listed_in links ≡ list
 
-pub lists : (out : List Slot) (links : Links) (list : List Listed) (spare : List Slot) → IsKeptAs out links list spare → Lists out links list
+pub lists : (out : List Slot) (links : Links) (list : List Listed) (spare : List Slot) → IsLinkedListOf out links list spare → Lists out links list
 lists out links list spare kept =
     let is : listed_in links ≡ list = rw (kept.len, kept.head) (listed_from-linked links.cells.items None list kept.linked) in
-    record { kept = (spare, subst (λ l. IsKeptAs out links l spare) (sym is) kept); is = is }
+    record { kept = (spare, subst (λ l. IsLinkedListOf out links l spare) (sym is) kept); is = is }
 
 at_most_one : (b : Bool) → cond b 1 0 ≤ 1
 at_most_one true = omega arith
 at_most_one false = omega arith
 
 -- what stands once
-module _ (out : List Slot) (links : Links) (list : List Listed) (spare : List Slot) (kept : IsKeptAs out links list spare) where
+module _ (out : List Slot) (links : Links) (list : List Listed) (spare : List Slot) (kept : IsLinkedListOf out links list spare) where
   pub times_in_all : (place : ℕ) → times place out + (times place (slots list) + times place spare) ≡ cond (ltb place (length links.cells.items)) 1 0
   times_in_all place =
       sym (times-append place out (slots list ++ spare) ∙ ap (λ n. times place out + n) (times-append place (slots list) spare)) ∙ kept.once place
@@ -45,17 +45,17 @@ module _ (out : List Slot) (links : Links) (list : List Listed) (spare : List Sl
       ]
 
 -- the cell of an item
-pub cell_at : (out : List Slot) (links : Links) (front back : List Listed) (x : Listed) (spare : List Slot) → IsKeptAs out links (front ++ x ∷ back) spare → slice_get links.cells.items x.slot.0 ≡ Some (Linked (record { item = x.item; before = last_slot front; after = first_slot_or None back }))
+pub cell_at : (out : List Slot) (links : Links) (front back : List Listed) (x : Listed) (spare : List Slot) → IsLinkedListOf out links (front ++ x ∷ back) spare → slice_get links.cells.items x.slot.0 ≡ Some (Linked (record { item = x.item; before = last_slot front; after = first_slot_or None back }))
 cell_at out links front back x spare kept = (linked_split links.cells.items None None front (x ∷ back) kept.linked).1.0
 
-pub live_cell : (out : List Slot) (links : Links) (slot : Slot) → IsKept out links → Contains (slots (listed_in links)) slot → (link : Link) × (slice_get links.cells.items slot.0 ≡ Some (Linked link))
+pub live_cell : (out : List Slot) (links : Links) (slot : Slot) → IsLinkedList out links → Contains (slots (listed_in links)) slot → (link : Link) × (slice_get links.cells.items slot.0 ≡ Some (Linked link))
 live_cell out links slot kept live =
     let found = stands_from_times (listed_in links) slot (times_from_contains (slots (listed_in links)) slot live) in (
       record { item = found.item; before = last_slot found.front; after = first_slot_or None found.back },
-      cell_at out links found.front found.back (listed slot found.item) kept.0 (subst (λ list. IsKeptAs out links list kept.0) found.is kept.1),
+      cell_at out links found.front found.back (listed slot found.item) kept.0 (subst (λ list. IsLinkedListOf out links list kept.0) found.is kept.1),
     )
 
-pub live_within : (out : List Slot) (links : Links) (slot : Slot) → IsKept out links → Contains (slots (listed_in links)) slot → slot.0 < length links.cells.items
+pub live_within : (out : List Slot) (links : Links) (slot : Slot) → IsLinkedList out links → Contains (slots (listed_in links)) slot → slot.0 < length links.cells.items
 live_within out links slot kept live =
     slice_get_within links.cells.items slot.0 (Linked (live_cell out links slot kept live).0) (live_cell out links slot kept live).1
 
@@ -68,7 +68,7 @@ free_at cells (slot ∷ spare) place unused some =
       | inr other ↦ free_at cells spare place unused.1 (let rest : 0 < 0 + times place spare = rw (ne_eqb slot.0 place other) at some in omega arith)
     ]
 
-pub linked_is_live : (links : Links) (slot : Slot) (link : Link) → IsKept [] links → slice_get links.cells.items slot.0 ≡ Some (Linked link) → Contains (slots (listed_in links)) slot
+pub linked_is_live : (links : Links) (slot : Slot) (link : Link) → IsLinkedList [] links → slice_get links.cells.items slot.0 ≡ Some (Linked link) → Contains (slots (listed_in links)) slot
 linked_is_live links slot link kept here =
     let within = slice_get_within links.cells.items slot.0 (Linked link) here in
     let one : cond {A = ℕ} (ltb slot.0 (length links.cells.items)) 1 0 ≡ 1 = rw (lt-ltb slot.0 (length links.cells.items) within) in
@@ -78,15 +78,15 @@ linked_is_live links slot link kept here =
     ]
 
 -- a slot that is out has no item
-pub out_is_fresh : (links : Links) (slot : Slot) → IsKept (slot ∷ []) links → ¬ Contains (slots (listed_in links)) slot
+pub out_is_fresh : (links : Links) (slot : Slot) → IsLinkedList (slot ∷ []) links → ¬ Contains (slots (listed_in links)) slot
 out_is_fresh links slot kept live =
     omega (arith, times_from_contains (slots (listed_in links)) slot live, stands_once (slot ∷ []) links (listed_in links) kept.0 kept.1 slot.0, one_there slot.0)
 
-pub out_within : (links : Links) (slot : Slot) → IsKept (slot ∷ []) links → slot.0 < length links.cells.items
+pub out_within : (links : Links) (slot : Slot) → IsLinkedList (slot ∷ []) links → slot.0 < length links.cells.items
 out_within links slot kept =
     stands_within (slot ∷ []) links (listed_in links) kept.0 kept.1 slot.0 (omega (arith, one_there slot.0))
 
-pub are_distinct : (links : Links) → IsKept [] links → AreDistinct (slots (listed_in links))
+pub are_distinct : (links : Links) → IsLinkedList [] links → AreDistinct (slots (listed_in links))
 are_distinct links kept =
     distinct_from_times (slots (listed_in links)) (λ place. omega (arith, stands_once [] links (listed_in links) kept.0 kept.1 place))
 
@@ -106,31 +106,31 @@ once_again out other_out list other spare other_spare size other_size same moved
     ∙ ap (λ n. cond (ltb place n) 1 0) (sym same)
 
 -- what the cell of an item links
-pub link_is : (links : Links) (front back : List Listed) (x : Listed) (spare : List Slot) (link : Link) → IsKeptAs [] links (front ++ x ∷ back) spare → slice_get links.cells.items x.slot.0 ≡ Some (Linked link) → link ≡ record { item = x.item; before = last_slot front; after = first_slot_or None back }
+pub link_is : (links : Links) (front back : List Listed) (x : Listed) (spare : List Slot) (link : Link) → IsLinkedListOf [] links (front ++ x ∷ back) spare → slice_get links.cells.items x.slot.0 ≡ Some (Linked link) → link ≡ record { item = x.item; before = last_slot front; after = first_slot_or None back }
 link_is links front back x spare link kept here = let cell = cell_at [] links front back x spare kept in cc
 
 -- the neighbours of an item are places in the cells
-within_from : (slot : Option Slot) (cells : List Cell) → ((s : Slot) → slot ≡ Some s → s.0 < length cells) → IsWithin slot cells
+within_from : (slot : Option Slot) (cells : List Cell) → ((s : Slot) → slot ≡ Some s → s.0 < length cells) → IsSlotIn slot cells
 within_from None cells h = tt
 within_from (Some s) cells h = h s refl
 
-pub first_within : (out : List Slot) (links : Links) (cells : List Cell) → IsKept out links → length cells ≡ length links.cells.items → IsWithin links.head cells
+pub first_within : (out : List Slot) (links : Links) (cells : List Cell) → IsLinkedList out links → length cells ≡ length links.cells.items → IsSlotIn links.head cells
 first_within out links cells kept size =
     within_from links.head cells (λ s is. omega (arith, size, stands_within out links (listed_in links) kept.0 kept.1 s.0 (omega (arith, first_stands (listed_in links) s (sym kept.1.head ∙ is)))))
 
-pub last_within : (out : List Slot) (links : Links) (cells : List Cell) → IsKept out links → length cells ≡ length links.cells.items → IsWithin links.tail cells
+pub last_within : (out : List Slot) (links : Links) (cells : List Cell) → IsLinkedList out links → length cells ≡ length links.cells.items → IsSlotIn links.tail cells
 last_within out links cells kept size =
     within_from links.tail cells (λ s is. omega (arith, size, stands_within out links (listed_in links) kept.0 kept.1 s.0 (omega (arith, end_stands (listed_in links) s (sym kept.1.tail ∙ is)))))
 
 pub record NeighboursAreWithin (link : Link) (cells : List Cell) : Type 0 where
-  pub before : IsWithin link.before cells
-  pub after : IsWithin link.after cells
+  pub before : IsSlotIn link.before cells
+  pub after : IsSlotIn link.after cells
 
-pub neighbours_within : (links : Links) (cells : List Cell) (slot : Slot) (link : Link) → IsKept [] links → Contains (slots (listed_in links)) slot → slice_get links.cells.items slot.0 ≡ Some (Linked link) → length cells ≡ length links.cells.items → NeighboursAreWithin link cells
+pub neighbours_within : (links : Links) (cells : List Cell) (slot : Slot) (link : Link) → IsLinkedList [] links → Contains (slots (listed_in links)) slot → slice_get links.cells.items slot.0 ≡ Some (Linked link) → length cells ≡ length links.cells.items → NeighboursAreWithin link cells
 neighbours_within links cells slot link kept live here size =
     let stands = stands_from_times (listed_in links) slot (times_from_contains (slots (listed_in links)) slot live) in
     let x = listed slot stands.item in
-    let kept_as : IsKeptAs [] links (stands.front ++ x ∷ stands.back) kept.0 = subst (λ list. IsKeptAs [] links list kept.0) stands.is kept.1 in
+    let kept_as : IsLinkedListOf [] links (stands.front ++ x ∷ stands.back) kept.0 = subst (λ list. IsLinkedListOf [] links list kept.0) stands.is kept.1 in
     let is = link_is links stands.front stands.back x kept.0 link kept_as here in
     let within = stands_within [] links (stands.front ++ x ∷ stands.back) kept.0 kept_as in
     record {

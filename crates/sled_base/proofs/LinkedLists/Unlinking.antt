@@ -4,7 +4,7 @@ use Rattle.std.specs.Prelude.{MatchOption, Contains}
 use Rattle.std.specs.List.{slice_get}
 use Rattle.std.proofs.lemmas.List.{length-append}
 use Rattle.sled_base.specs.Dll.{Listed, listed, slots, last_slot_or, last_slot}
-use Rattle.sled_base.specs.Links.{first_slot_or, AreLinked, AreFree, times, IsKeptAs, IsKept, listed_in, ChangesLink, with_before, with_after, TakesOut}
+use Rattle.sled_base.specs.Links.{first_slot_or, AreLinked, AreFree, times, IsLinkedListOf, IsLinkedList, listed_in, ChangesLink, with_before, with_after, TakesOut}
 use Rattle.sled_base.specs.declared.dll.Slot.{Slot}
 use Rattle.sled_base.specs.declared.dll.links.Link.{Link}
 use Rattle.sled_base.specs.declared.dll.links.Links.{Links}
@@ -20,7 +20,7 @@ last_there slot [] P Q h = h
 last_there slot (x ∷ list) P Q h = last_there x.slot list P Q h
 
 -- the item at x is taken out of the row
-module _ (old new : Links) (middle : List Cell) (front back : List Listed) (x : Listed) (spare : List Slot) (kept : IsKeptAs [] old (front ++ x ∷ back) spare) (first : ChangesLink (with_after (first_slot_or None back)) (last_slot front) old.cells.items middle) (second : ChangesLink (with_before (last_slot front)) (first_slot_or None back) middle new.cells.items) where
+module _ (old new : Links) (middle : List Cell) (front back : List Listed) (x : Listed) (spare : List Slot) (kept : IsLinkedListOf [] old (front ++ x ∷ back) spare) (first : ChangesLink (with_after (first_slot_or None back)) (last_slot front) old.cells.items middle) (second : ChangesLink (with_before (last_slot front)) (first_slot_or None back) middle new.cells.items) where
   out_once : (place : ℕ) → times place (slots front) + ((cond {A = ℕ} (eqb x.slot.0 place) 1 0) + times place (slots back)) + times place spare ≤ 1
   out_once place = omega (arith, stands_once [] old (front ++ x ∷ back) spare kept place, times_of_split place front back x)
 
@@ -45,7 +45,7 @@ out_tail : (tail other : Option Slot) (front back : List Listed) (x : Listed) �
 out_tail tail other front [] x is moved = moved ∙ sym (last-append None front [])
 out_tail tail other front (y ∷ back) x is moved = moved ∙ is ∙ last-append None front (x ∷ y ∷ back) ∙ sym (last-append None front (y ∷ back))
 
-pub unlinked : (old new : Links) (middle : List Cell) (front back : List Listed) (x : Listed) (spare : List Slot) → IsKeptAs [] old (front ++ x ∷ back) spare → ChangesLink (with_after (first_slot_or None back)) (last_slot front) old.cells.items middle → ChangesLink (with_before (last_slot front)) (first_slot_or None back) middle new.cells.items → MatchOption (last_slot front) (new.head ≡ first_slot_or None back) (λ _. new.head ≡ old.head) → MatchOption (first_slot_or None back) (new.tail ≡ last_slot front) (λ _. new.tail ≡ old.tail) → new.len ≡ old.len - 1 → new.free ≡ old.free → IsKeptAs (x.slot ∷ []) new (front ++ back) spare
+pub unlinked : (old new : Links) (middle : List Cell) (front back : List Listed) (x : Listed) (spare : List Slot) → IsLinkedListOf [] old (front ++ x ∷ back) spare → ChangesLink (with_after (first_slot_or None back)) (last_slot front) old.cells.items middle → ChangesLink (with_before (last_slot front)) (first_slot_or None back) middle new.cells.items → MatchOption (last_slot front) (new.head ≡ first_slot_or None back) (λ _. new.head ≡ old.head) → MatchOption (first_slot_or None back) (new.tail ≡ last_slot front) (λ _. new.tail ≡ old.tail) → new.len ≡ old.len - 1 → new.free ≡ old.free → IsLinkedListOf (x.slot ∷ []) new (front ++ back) spare
 unlinked old new middle front back x spare kept first second head tail len free =
     let size : length new.cells.items ≡ length old.cells.items = second.length ∙ first.length in
     record {
@@ -60,20 +60,20 @@ unlinked old new middle front back x spare kept first second head tail len free 
     }
 
 -- the same by what the cell links
-pub unlinked_by : (old new : Links) (middle : List Cell) (front back : List Listed) (slot : Slot) (item : ℕ) (spare : List Slot) (link : Link) → IsKeptAs [] old (front ++ listed slot item ∷ back) spare → slice_get old.cells.items slot.0 ≡ Some (Linked link) → ChangesLink (with_after link.after) link.before old.cells.items middle → ChangesLink (with_before link.before) link.after middle new.cells.items → MatchOption link.before (new.head ≡ link.after) (λ _. new.head ≡ old.head) → MatchOption link.after (new.tail ≡ link.before) (λ _. new.tail ≡ old.tail) → new.len ≡ old.len - 1 → new.free ≡ old.free → IsKeptAs (slot ∷ []) new (front ++ back) spare
+pub unlinked_by : (old new : Links) (middle : List Cell) (front back : List Listed) (slot : Slot) (item : ℕ) (spare : List Slot) (link : Link) → IsLinkedListOf [] old (front ++ listed slot item ∷ back) spare → slice_get old.cells.items slot.0 ≡ Some (Linked link) → ChangesLink (with_after link.after) link.before old.cells.items middle → ChangesLink (with_before link.before) link.after middle new.cells.items → MatchOption link.before (new.head ≡ link.after) (λ _. new.head ≡ old.head) → MatchOption link.after (new.tail ≡ link.before) (λ _. new.tail ≡ old.tail) → new.len ≡ old.len - 1 → new.free ≡ old.free → IsLinkedListOf (slot ∷ []) new (front ++ back) spare
 unlinked_by old new middle front back slot item spare link kept here first second head tail len free =
-    let P : Link → Type 0 = λ l. ChangesLink (with_after l.after) l.before old.cells.items middle → ChangesLink (with_before l.before) l.after middle new.cells.items → MatchOption l.before (new.head ≡ l.after) (λ _. new.head ≡ old.head) → MatchOption l.after (new.tail ≡ l.before) (λ _. new.tail ≡ old.tail) → IsKeptAs (slot ∷ []) new (front ++ back) spare in
+    let P : Link → Type 0 = λ l. ChangesLink (with_after l.after) l.before old.cells.items middle → ChangesLink (with_before l.before) l.after middle new.cells.items → MatchOption l.before (new.head ≡ l.after) (λ _. new.head ≡ old.head) → MatchOption l.after (new.tail ≡ l.before) (λ _. new.tail ≡ old.tail) → IsLinkedListOf (slot ∷ []) new (front ++ back) spare in
     subst P (sym (link_is old front back (listed slot item) spare link kept here)) (λ one two three four. unlinked old new middle front back (listed slot item) spare kept one two three four len free) first second head tail
 
 -- the row after the slot's item is taken out, and the item
 pub record Unlinks (slot : Slot) (link : Link) (old new : Links) : Type 0 where
-  pub kept : IsKept (slot ∷ []) new
+  pub kept : IsLinkedList (slot ∷ []) new
   pub list : TakesOut slot link.item (listed_in old) (listed_in new)
 
-pub unlinks : (old new : Links) (middle : List Cell) (slot : Slot) (link : Link) → IsKept [] old → Contains (slots (listed_in old)) slot → slice_get old.cells.items slot.0 ≡ Some (Linked link) → ChangesLink (with_after link.after) link.before old.cells.items middle → ChangesLink (with_before link.before) link.after middle new.cells.items → MatchOption link.before (new.head ≡ link.after) (λ _. new.head ≡ old.head) → MatchOption link.after (new.tail ≡ link.before) (λ _. new.tail ≡ old.tail) → new.len ≡ old.len - 1 → new.free ≡ old.free → Unlinks slot link old new
+pub unlinks : (old new : Links) (middle : List Cell) (slot : Slot) (link : Link) → IsLinkedList [] old → Contains (slots (listed_in old)) slot → slice_get old.cells.items slot.0 ≡ Some (Linked link) → ChangesLink (with_after link.after) link.before old.cells.items middle → ChangesLink (with_before link.before) link.after middle new.cells.items → MatchOption link.before (new.head ≡ link.after) (λ _. new.head ≡ old.head) → MatchOption link.after (new.tail ≡ link.before) (λ _. new.tail ≡ old.tail) → new.len ≡ old.len - 1 → new.free ≡ old.free → Unlinks slot link old new
 unlinks old new middle slot link kept live here first second head tail len free =
     let stands = stands_from_times (listed_in old) slot (times_from_contains (slots (listed_in old)) slot live) in
-    let kept_as : (front back : List Listed) (item : ℕ) → listed_in old ≡ front ++ listed slot item ∷ back → IsKeptAs [] old (front ++ listed slot item ∷ back) kept.0 = λ front back item is. subst (λ list. IsKeptAs [] old list kept.0) is kept.1 in
+    let kept_as : (front back : List Listed) (item : ℕ) → listed_in old ≡ front ++ listed slot item ∷ back → IsLinkedListOf [] old (front ++ listed slot item ∷ back) kept.0 = λ front back item is. subst (λ list. IsLinkedListOf [] old list kept.0) is kept.1 in
     let after : (front back : List Listed) (item : ℕ) → listed_in old ≡ front ++ listed slot item ∷ back → Lists (slot ∷ []) new (front ++ back) = λ front back item is. lists (slot ∷ []) new (front ++ back) kept.0 (unlinked_by old new middle front back slot item kept.0 link (kept_as front back item is) here first second head tail len free) in
     record {
       kept = (after stands.front stands.back stands.item stands.is).kept;

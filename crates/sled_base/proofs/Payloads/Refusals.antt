@@ -3,10 +3,10 @@ use Rattle.std.proofs.Common.{◌≡◌, ℕ, ◌-◌, ◌≤◌, List, ◌∷�
 use Rattle.std.proofs.lemmas.Slice.{first_rest}
 use Rattle.sled_base.specs.declared.types.Error.{Error}
 use Rattle.sled_base.specs.declared.types.Error.TheVariants.{CollectionNotFound, Unsupported, ReportableBug, Io, Corruption, OutOfMemory}
-use Rattle.sled_base.specs.Payloads.Reading.{IsRefusal, ReadsNothing}
+use Rattle.sled_base.specs.Payloads.Reading.{IsRefusal, ReadsNoValue}
 
 -- where nothing is read of the one kind, nothing is of the other
-pub refused_so : {V W : Type 0} (asks_one asks_other : List ℕ → Type 0) (one : List ℕ → V → List ℕ → Type 0) (other : List ℕ → W → List ℕ → Type 0) (input text : List ℕ) (e : Error) → (asks_one input → asks_other text) → (ReadsNothing one input → ReadsNothing other text) → IsRefusal asks_one one input e → IsRefusal asks_other other text e
+pub refused_so : {V W : Type 0} (asks_one asks_other : List ℕ → Type 0) (one : List ℕ → V → List ℕ → Type 0) (other : List ℕ → W → List ℕ → Type 0) (input text : List ℕ) (e : Error) → (asks_one input → asks_other text) → (ReadsNoValue one input → ReadsNoValue other text) → IsRefusal asks_one one input e → IsRefusal asks_other other text e
 refused_so asks_one asks_other one other input text OutOfMemory asks so refused = asks refused
 refused_so asks_one asks_other one other input text (Corruption None) asks so refused = so refused
 refused_so asks_one asks_other one other input text (Corruption (Some pointer)) asks so refused = refused
@@ -15,8 +15,8 @@ refused_so asks_one asks_other one other input text (Unsupported why) asks so re
 refused_so asks_one asks_other one other input text (ReportableBug bug) asks so refused = refused
 refused_so asks_one asks_other one other input text (Io device) asks so refused = refused
 
--- where no number is read, no value that is spelled as a number is
-pub by_number : {V W : Type 0} (reads : List ℕ → V → List ℕ → Type 0) (f : W → V) (input : List ℕ) → ReadsNothing reads input → ReadsNothing (λ text value rest. reads text (f value) rest) input
+-- where no number is read, no value that is encoded as a number is
+pub by_number : {V W : Type 0} (reads : List ℕ → V → List ℕ → Type 0) (f : W → V) (input : List ℕ) → ReadsNoValue reads input → ReadsNoValue (λ text value rest. reads text (f value) rest) input
 by_number reads f input nothing value rest found = nothing (f value) rest found
 
 -- what stands behind the first byte

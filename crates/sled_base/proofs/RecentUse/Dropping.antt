@@ -64,11 +64,11 @@ record IsPart (place size : ℕ) (old : List Listing) : Type 0 where
 is_part : (place size : ℕ) (old : List Listing) → Contains old (listing place size) → IsPart place size old
 is_part place size old there =
     let is_place : Listing → Bool = λ l. l.place == place in
-    let size_of : Listing → ℕ = λ l. l.size in
+    let entry_size : Listing → ℕ = λ l. l.size in
     let mine = contains-filter is_place old (listing place size) (eq-eqb place place refl) there in
-    let part = get_or-le-sum_by size_of (filter is_place old) mine.0 (listing place size) mine.1 in
-    let is : size_of (get_or (filter is_place old) mine.0 (listing place size)) ≡ size = ap size_of mine.2 in
-    let sizes = sum_by-filter_both is_place (is_other place) (λ _. refl) size_of old in
+    let part = get_or-le-sum_by entry_size (filter is_place old) mine.0 (listing place size) mine.1 in
+    let is : entry_size (get_or (filter is_place old) mine.0 (listing place size)) ≡ size = ap entry_size mine.2 in
+    let sizes = sum_by-filter_both is_place (is_other place) (λ _. refl) entry_size old in
     let places = length-filter_both is_place (is_other place) (λ _. refl) old in
     record { sizes = omega (arith, part, is, sizes); places = omega (arith, mine.1, places) }
 

@@ -10,7 +10,7 @@ use Rattle.std.proofs.lemmas.List.Sums.{sum_by-append, sum_by-cons}
 use Rattle.sled_base.specs.Containing.{contains_first, contains_later, contains_cases, contains_mid, contains-map, mapped_from, split_at, filter-cons_kept, filter-cons_left_out}
 use Rattle.sled_base.specs.Dll.{Listed, listed, slots, items, AreDistinct}
 use Rattle.sled_base.specs.Lru.{Listing, listing, total, others}
-use Rattle.sled_base.specs.Shards.{entry_at, size_of, listings_of, HasSlot, IsKept, PutsFirst}
+use Rattle.sled_base.specs.Shards.{entry_at, entry_size, listings_of, HasSlot, IsIndexed, PutsFirst}
 use Rattle.sled_base.specs.declared.dll.Slot.{Slot}
 use Rattle.sled_base.specs.declared.lru.entry.Entry.{Entry}
 
@@ -64,8 +64,8 @@ module _ (entries : Entries) (place : ℕ) (entry : Option Entry) where
   frame-listings : (list : List Listed) → ¬ Contains (items list) place → listings_of (slice_set entries place entry) list ≡ listings_of entries list
   frame-listings [] lacks = refl
   frame-listings (x ∷ list) lacks =
-      ap (λ e. listing x.item (size_of e) ∷ listings_of (slice_set entries place entry) list) (frame-entry x (other_first x list lacks))
-      ∙ ap (λ ls. listing x.item (size_of (entry_at entries x.item)) ∷ ls) (frame-listings list (other_rest x list lacks))
+      ap (λ e. listing x.item (entry_size e) ∷ listings_of (slice_set entries place entry) list) (frame-entry x (other_first x list lacks))
+      ∙ ap (λ ls. listing x.item (entry_size (entry_at entries x.item)) ∷ ls) (frame-listings list (other_rest x list lacks))
 
   frame-named : (list : List Listed) → ¬ Contains (items list) place → AllByRecursion (HasSlot entries) list → AllByRecursion (HasSlot (slice_set entries place entry)) list
   frame-named [] lacks named = tt
@@ -77,25 +77,25 @@ module _ (entries : Entries) (place : ℕ) (entry : Option Entry) where
 others-none : (entries : Entries) (place : ℕ) (list : List Listed) → ¬ Contains (items list) place → others place (listings_of entries list) ≡ listings_of entries list
 others-none entries place [] lacks = refl
 others-none entries place (x ∷ list) lacks =
-    let l : Listing = listing x.item (size_of (entry_at entries x.item)) in
+    let l : Listing = listing x.item (entry_size (entry_at entries x.item)) in
     filter-cons_kept (is_other place) l (listings_of entries list) (ap not (ne_eqb x.item place (other_first entries place None x list lacks)))
     ∙ ap (λ ls. l ∷ ls) (others-none entries place list (other_rest entries place None x list lacks))
 
 others-mid : (entries : Entries) (place : ℕ) (slot : Slot) (before after : List Listed) → ¬ Contains (items (before ++ after)) place → others place (listings_of entries (before ++ listed slot place ∷ after)) ≡ listings_of entries (before ++ after)
 others-mid entries place slot [] after lacks =
-    filter-cons_left_out (is_other place) (listing place (size_of (entry_at entries place))) (listings_of entries after) (ap not (eq-eqb place place refl))
+    filter-cons_left_out (is_other place) (listing place (entry_size (entry_at entries place))) (listings_of entries after) (ap not (eq-eqb place place refl))
     ∙ others-none entries place after lacks
 others-mid entries place slot (x ∷ before) after lacks =
-    let l : Listing = listing x.item (size_of (entry_at entries x.item)) in
+    let l : Listing = listing x.item (entry_size (entry_at entries x.item)) in
     filter-cons_kept (is_other place) l (listings_of entries (before ++ listed slot place ∷ after)) (ap not (ne_eqb x.item place (other_first entries place None x (before ++ after) lacks)))
     ∙ ap (λ ls. l ∷ ls) (others-mid entries place slot before after (other_rest entries place None x (before ++ after) lacks))
 
-total-mid : (entries : Entries) (place : ℕ) (slot : Slot) (before after : List Listed) → total (listings_of entries (before ++ listed slot place ∷ after)) ≡ total (listings_of entries (before ++ after)) + size_of (entry_at entries place)
+total-mid : (entries : Entries) (place : ℕ) (slot : Slot) (before after : List Listed) → total (listings_of entries (before ++ listed slot place ∷ after)) ≡ total (listings_of entries (before ++ after)) + entry_size (entry_at entries place)
 total-mid entries place slot before after =
-    let f : Listed → Listing = λ x. listing x.item (size_of (entry_at entries x.item)) in
+    let f : Listed → Listing = λ x. listing x.item (entry_size (entry_at entries x.item)) in
     let a = ap total (map-append f before (listed slot place ∷ after)) ∙ total-append (map f before) (map f (listed slot place ∷ after)) in
     let b = ap total (map-append f before after) ∙ total-append (map f before) (map f after) in
-    let d = total-cons (listing place (size_of (entry_at entries place))) (map f after) in
+    let d = total-cons (listing place (entry_size (entry_at entries place))) (map f after) in
     omega (arith, a, b, d)
 
 -- ---- the rest of a list without a place
@@ -107,7 +107,7 @@ pub record IsRest (entries : Entries) (place : ℕ) (slot : Slot) (list rest : L
   pub named : AllByRecursion (HasSlot entries) rest
   pub distinct : AreDistinct (slots rest)
   pub others_are : others place (listings_of entries list) ≡ listings_of entries rest
-  pub total_is : total (listings_of entries list) ≡ total (listings_of entries rest) + size_of (entry_at entries place)
+  pub total_is : total (listings_of entries list) ≡ total (listings_of entries rest) + entry_size (entry_at entries place)
   pub others_stay : (other : ℕ) (s : Slot) → other ≢ place → Contains list (listed s other) → Contains rest (listed s other)
 
 module _ {X : Type 0} (x : X) (after : List X) where
@@ -155,13 +155,13 @@ rest_of_parts entries place slot before after named distinct =
     }
 
 -- where the place was listed
-pub rest_of_split : (entries : Entries) (list : List Listed) (sum place : ℕ) (slot : Slot) (before after : List Listed) → IsKept entries list sum → list ≡ before ++ listed slot place ∷ after → IsRest entries place slot list (before ++ after)
+pub rest_of_split : (entries : Entries) (list : List Listed) (sum place : ℕ) (slot : Slot) (before after : List Listed) → IsIndexed entries list sum → list ≡ before ++ listed slot place ∷ after → IsRest entries place slot list (before ++ after)
 rest_of_split entries list sum place slot before after kept is =
     subst (λ xs. IsRest entries place slot xs (before ++ after)) (sym is)
     (rest_of_parts entries place slot before after (subst (AllByRecursion (HasSlot entries)) is kept.named) (subst (λ xs. AreDistinct (slots xs)) is kept.distinct))
 
 -- where it was not
-pub rest_of_none : (entries : Entries) (list : List Listed) (sum place : ℕ) (slot : Slot) → IsKept entries list sum → entry_at entries place ≡ None → ¬ Contains (slots list) slot → IsRest entries place slot list list
+pub rest_of_none : (entries : Entries) (list : List Listed) (sum place : ℕ) (slot : Slot) → IsIndexed entries list sum → entry_at entries place ≡ None → ¬ Contains (slots list) slot → IsRest entries place slot list list
 rest_of_none entries list sum place slot kept none fresh =
     let lacks = not_listed entries list place kept.named none in
     record {
@@ -170,16 +170,16 @@ rest_of_none entries list sum place slot kept none fresh =
       named = kept.named;
       distinct = kept.distinct;
       others_are = others-none entries place list lacks;
-      total_is = omega (arith, ap size_of none);
+      total_is = omega (arith, ap entry_size none);
       others_stay = λ other s differs h. h;
     }
 
 -- the others and the place take all together
-pub total-others : (entries : Entries) (list : List Listed) (sum place : ℕ) → IsKept entries list sum → total (others place (listings_of entries list)) + size_of (entry_at entries place) ≡ sum
+pub total-others : (entries : Entries) (list : List Listed) (sum place : ℕ) → IsIndexed entries list sum → total (others place (listings_of entries list)) + entry_size (entry_at entries place) ≡ sum
 total-others entries list sum place kept = of_found (entry_at entries place) refl
   where
-    of_found : (found : Option Entry) → entry_at entries place ≡ found → total (others place (listings_of entries list)) + size_of (entry_at entries place) ≡ sum
-    of_found None is = omega (arith, ap total (others-none entries place list (not_listed entries list place kept.named is)), ap size_of is, kept.sum_is)
+    of_found : (found : Option Entry) → entry_at entries place ≡ found → total (others place (listings_of entries list)) + entry_size (entry_at entries place) ≡ sum
+    of_found None is = omega (arith, ap total (others-none entries place list (not_listed entries list place kept.named is)), ap entry_size is, kept.sum_is)
     of_found (Some entry) is =
         let s = split_at list (listed entry.slot place) (kept.there place entry is) in
         let rest = rest_of_split entries list sum place entry.slot s.front s.back kept s.is in
@@ -190,9 +190,9 @@ pub record HasEntry (entries : Entries) (place : ℕ) : Type 0 where
   pub entry : Entry
   pub is : entry_at entries place ≡ Some entry
 
-pub listed_entry : (entries : Entries) (list : List Listed) (sum place size : ℕ) → IsKept entries list sum → Contains (listings_of entries list) (listing place size) → HasEntry entries place
+pub listed_entry : (entries : Entries) (list : List Listed) (sum place size : ℕ) → IsIndexed entries list sum → Contains (listings_of entries list) (listing place size) → HasEntry entries place
 listed_entry entries list sum place size kept there =
-    let m = mapped_from (λ (x : Listed). listing x.item (size_of (entry_at entries x.item))) list (listing place size) there in
+    let m = mapped_from (λ (x : Listed). listing x.item (entry_size (entry_at entries x.item))) list (listing place size) there in
     let has = named_at entries list m.from kept.named m.there in
     let same : m.from.item ≡ place = ap (λ (l : Listing). l.place) m.is in
     record { entry = record { slot = m.from.slot; size = has.0 }; is = ap (entry_at entries) (sym same) ∙ has.1 }
@@ -201,10 +201,10 @@ listed_entry entries list sum place size kept there =
 pub entry_read : (entries : Entries) (place : ℕ) (found : Option Entry) → place < length entries → found ≡ slice_index_or entries place found → entry_at entries place ≡ found
 entry_read entries place found within is = sym (get_or_read entries place found within is None)
 
-pub size_read : (entries read : Entries) (place n : ℕ) → n ≡ size_of (entry_at read place) → read ≡ entries → n ≡ size_of (entry_at entries place)
-size_read entries read place n is same = is ∙ ap (λ es. size_of (entry_at es place)) same
+pub size_read : (entries read : Entries) (place n : ℕ) → n ≡ entry_size (entry_at read place) → read ≡ entries → n ≡ entry_size (entry_at entries place)
+size_read entries read place n is same = is ∙ ap (λ es. entry_size (entry_at es place)) same
 
-pub slot_there : (entries : Entries) (list : List Listed) (sum place : ℕ) (entry : Entry) → IsKept entries list sum → entry_at entries place ≡ Some entry → Contains (slots list) entry.slot
+pub slot_there : (entries : Entries) (list : List Listed) (sum place : ℕ) (entry : Entry) → IsIndexed entries list sum → entry_at entries place ≡ Some entry → Contains (slots list) entry.slot
 slot_there entries list sum place entry kept is = contains-map (λ (x : Listed). x.slot) list (listed entry.slot place) (kept.there place entry is)
 
 -- ---- changes
@@ -215,7 +215,7 @@ pub record PutsBefore (entries : Entries) (place : ℕ) (slot : Slot) (list new 
   pub is : new ≡ listed slot place ∷ rest
   pub rest_is : IsRest entries place slot list rest
 
-of_entry : (entries : Entries) (list new : List Listed) (sum place : ℕ) (slot : Slot) (found : Option Entry) → IsKept entries list sum → entry_at entries place ≡ found → PutsFirst slot place found list new → PutsBefore entries place slot list new
+of_entry : (entries : Entries) (list new : List Listed) (sum place : ℕ) (slot : Slot) (found : Option Entry) → IsIndexed entries list sum → entry_at entries place ≡ found → PutsFirst slot place found list new → PutsBefore entries place slot list new
 of_entry entries list new sum place slot None kept is puts =
     record { rest = list; is = puts.1; rest_is = rest_of_none entries list sum place slot kept is puts.0 }
 of_entry entries list new sum place slot (Some entry) kept is puts =
@@ -240,7 +240,7 @@ of_entry entries list new sum place slot (Some entry) kept is puts =
           | inr differ ↦ absurd (free.0 (contains-map (λ (y : Listed). y.slot) (s.front ++ s.back) (listed slot b) (in_rest (listed slot a) s.back s.front (listed slot b) (λ same. differ (ap (λ (y : Listed). y.item) same)) (subst (λ xs. Contains xs (listed slot b)) s.is of_b))))
         ]
 
-pub puts_before : (entries : Entries) (list new : List Listed) (sum place : ℕ) (slot : Slot) → IsKept entries list sum → PutsFirst slot place (entry_at entries place) list new → PutsBefore entries place slot list new
+pub puts_before : (entries : Entries) (list new : List Listed) (sum place : ℕ) (slot : Slot) → IsIndexed entries list sum → PutsFirst slot place (entry_at entries place) list new → PutsBefore entries place slot list new
 puts_before entries list new sum place slot kept puts = of_entry entries list new sum place slot (entry_at entries place) kept refl puts
 
 -- the slot is live after it
@@ -251,17 +251,17 @@ puts_live old new place slot (Some entry) puts =
 
 -- what is kept after it
 pub record IsPut (entries : Entries) (place size : ℕ) (old : List Listing) (new : List Listed) (sum : ℕ) : Type 0 where
-  pub kept : IsKept entries new sum
+  pub kept : IsIndexed entries new sum
   pub is : listings_of entries new ≡ listing place size ∷ others place old
 
-pub kept-put : (entries : Entries) (list new : List Listed) (sum place size : ℕ) (slot : Slot) → IsKept entries list sum → place < length entries → PutsBefore entries place slot list new → IsPut (slice_set entries place (Some (record { slot = slot; size = size }))) place size (listings_of entries list) new (sum - size_of (entry_at entries place) + size)
+pub kept-put : (entries : Entries) (list new : List Listed) (sum place size : ℕ) (slot : Slot) → IsIndexed entries list sum → place < length entries → PutsBefore entries place slot list new → IsPut (slice_set entries place (Some (record { slot = slot; size = size }))) place size (listings_of entries list) new (sum - entry_size (entry_at entries place) + size)
 kept-put entries list new sum place size slot kept within puts =
     let rest = puts.rest in
     let entry : Entry = record { slot = slot; size = size } in
     let written : Entries = slice_set entries place (Some entry) in
     let here : entry_at written place ≡ Some entry = get_or-set_same entries place (Some entry) None within in
     let listings : listings_of written (listed slot place ∷ rest) ≡ listing place size ∷ listings_of entries rest =
-    ap (λ e. listing place (size_of e) ∷ listings_of written rest) here ∙ ap (λ ls. listing place size ∷ ls) (frame-listings entries place (Some entry) rest puts.rest_is.lacks) in
+    ap (λ e. listing place (entry_size e) ∷ listings_of written rest) here ∙ ap (λ ls. listing place size ∷ ls) (frame-listings entries place (Some entry) rest puts.rest_is.lacks) in
     let sum_is = ap total listings ∙ total-cons (listing place size) (listings_of entries rest) in
     let there : (q : ℕ) (e : Entry) → entry_at written q ≡ Some e → Contains (listed slot place ∷ rest) (listed e.slot q) = λ q e at. elim (cases_eq q place) [
       | inl same ↦ (let is : ◌≡◌ {A = Option Entry} (Some e) (Some entry) = sym at ∙ ap (entry_at written) same ∙ here in
@@ -270,7 +270,7 @@ kept-put entries list new sum place size slot kept within puts =
       | inr differs ↦ contains_later (listed slot place) rest (listed e.slot q) (puts.rest_is.others_stay q e.slot differs (kept.there q e (sym (get_or-set_other entries place q (Some entry) None differs) ∙ at)))
     ] in
     record {
-      kept = subst (λ xs. IsKept written xs (sum - size_of (entry_at entries place) + size)) (sym puts.is) (record {
+      kept = subst (λ xs. IsIndexed written xs (sum - entry_size (entry_at entries place) + size)) (sym puts.is) (record {
         named = ((size, here), frame-named entries place (Some entry) rest puts.rest_is.lacks puts.rest_is.named);
         there = there;
         distinct = (puts.rest_is.fresh, puts.rest_is.distinct);
@@ -283,11 +283,11 @@ kept-put entries list new sum place size slot kept within puts =
 -- The last place is taken out.
 pub record IsTaken (entries : Entries) (place : ℕ) (list new : List Listed) (sum : ℕ) : Type 0 where
   pub within : place < length entries
-  pub part : size_of (entry_at entries place) ≤ sum
-  pub kept : IsKept (slice_set entries place None) new (sum - size_of (entry_at entries place))
-  pub is : listings_of entries list ≡ listings_of (slice_set entries place None) new ++ listing place (size_of (entry_at entries place)) ∷ []
+  pub part : entry_size (entry_at entries place) ≤ sum
+  pub kept : IsIndexed (slice_set entries place None) new (sum - entry_size (entry_at entries place))
+  pub is : listings_of entries list ≡ listings_of (slice_set entries place None) new ++ listing place (entry_size (entry_at entries place)) ∷ []
 
-pub kept-taken : (entries : Entries) (list new : List Listed) (sum place : ℕ) (slot : Slot) → IsKept entries list sum → list ≡ new ++ listed slot place ∷ [] → IsTaken entries place list new sum
+pub kept-taken : (entries : Entries) (list new : List Listed) (sum place : ℕ) (slot : Slot) → IsIndexed entries list sum → list ≡ new ++ listed slot place ∷ [] → IsTaken entries place list new sum
 kept-taken entries list new sum place slot kept is =
     let rest : IsRest entries place slot list new = subst (IsRest entries place slot list) (append-nil new) (rest_of_split entries list sum place slot new [] kept is) in
     let last = named_at entries list (listed slot place) kept.named (subst (λ xs. Contains xs (listed slot place)) (sym is) (contains_mid new (listed slot place) [])) in
@@ -309,7 +309,7 @@ kept-taken entries list new sum place slot kept is =
         sum_is = omega (arith, kept.sum_is, rest.total_is, ap total same);
         few = omega (arith, kept.few, length-set entries place None);
       };
-      is = ap (listings_of entries) is ∙ map-append (λ (x : Listed). listing x.item (size_of (entry_at entries x.item))) new (listed slot place ∷ []) ∙ ap (λ ls. ls ++ listing place (size_of (entry_at entries place)) ∷ []) (sym same);
+      is = ap (listings_of entries) is ∙ map-append (λ (x : Listed). listing x.item (entry_size (entry_at entries x.item))) new (listed slot place ∷ []) ∙ ap (λ ls. ls ++ listing place (entry_size (entry_at entries place)) ∷ []) (sym same);
     }
 
 -- ---- entries that say the same
@@ -318,13 +318,13 @@ module _ (old new : Entries) (same : (place : ℕ) → entry_at new place ≡ en
   pub same-listings : (list : List Listed) → listings_of new list ≡ listings_of old list
   same-listings [] = refl
   same-listings (x ∷ list) =
-      ap (λ e. listing x.item (size_of e) ∷ listings_of new list) (same x.item) ∙ ap (λ ls. listing x.item (size_of (entry_at old x.item)) ∷ ls) (same-listings list)
+      ap (λ e. listing x.item (entry_size e) ∷ listings_of new list) (same x.item) ∙ ap (λ ls. listing x.item (entry_size (entry_at old x.item)) ∷ ls) (same-listings list)
 
   same-named : (list : List Listed) → AllByRecursion (HasSlot old) list → AllByRecursion (HasSlot new) list
   same-named [] named = tt
   same-named (x ∷ list) named = ((named.0.0, same x.item ∙ named.0.1), same-named list named.1)
 
-  pub same-kept : (list : List Listed) (sum : ℕ) → length new ≤ 2 ^ 56 → IsKept old list sum → IsKept new list sum
+  pub same-kept : (list : List Listed) (sum : ℕ) → length new ≤ 2 ^ 56 → IsIndexed old list sum → IsIndexed new list sum
   same-kept list sum few kept = record {
     named = same-named list kept.named;
     there = λ place entry is. kept.there place entry (sym (same place) ∙ is);

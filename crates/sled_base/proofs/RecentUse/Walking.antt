@@ -8,7 +8,7 @@ use Rattle.std.proofs.lemmas.Option.{same_Some}
 use Rattle.sled_base.specs.Containing.{contains_mid, contains-map, filter-cons_kept, filter-cons_left_out}
 use Rattle.sled_base.specs.Dll.{Listed, listed, slots, last_slot_or, last_slot}
 use Rattle.sled_base.specs.Lru.{Listing, listing, total, others, IsTooMuch}
-use Rattle.sled_base.specs.Shards.{entry_at, size_of, listings_of, IsKept, IsCut}
+use Rattle.sled_base.specs.Shards.{entry_at, entry_size, listings_of, IsIndexed, IsCut}
 use Rattle.sled_base.specs.declared.dll.Slot.{Slot}
 use Rattle.sled_base.proofs.RecentUse.Keeping.{Entries, is_other, total-append, total-cons, total-others}
 
@@ -57,7 +57,7 @@ pub record IsWalked (entries : Entries) (list : List Listed) (capacity place siz
   pub needed : IsTooMuch capacity (listing place size ∷ others place (listings_of entries front)) (others place (listings_of entries back))
 
 module _ (entries : Entries) (list : List Listed) (capacity place size : ℕ) where
-  pub walk_start : (sum : ℕ) (last : Option Slot) → IsKept entries list sum → last ≡ last_slot list → IsWalked entries list capacity place size (sum - size_of (entry_at entries place) + size) 0 0 last
+  pub walk_start : (sum : ℕ) (last : Option Slot) → IsIndexed entries list sum → last ≡ last_slot list → IsWalked entries list capacity place size (sum - entry_size (entry_at entries place) + size) 0 0 last
   walk_start sum last kept is = record {
     front = list;
     back = [];
@@ -97,40 +97,40 @@ module _ (entries : Entries) (list : List Listed) (capacity place size : ℕ) wh
         contains-map (λ (x : Listed). x.slot) list (listed slot h.item) (subst (λ xs. Contains xs (listed slot h.item)) (sym h.list_is) (contains_mid h.before (listed slot h.item) walk.back))
 
     listing_here : Listing
-    listing_here = listing walk_here.item (size_of (entry_at entries walk_here.item))
+    listing_here = listing walk_here.item (entry_size (entry_at entries walk_here.item))
 
-    others_front : others place (listings_of entries walk.front) ≡ others place (listings_of entries walk_here.before) ++ others place (listing walk_here.item (size_of (entry_at entries walk_here.item)) ∷ [])
+    others_front : others place (listings_of entries walk.front) ≡ others place (listings_of entries walk_here.before) ++ others place (listing walk_here.item (entry_size (entry_at entries walk_here.item)) ∷ [])
     others_front =
         let h = walk_here in
-        let f : Listed → Listing = λ x. listing x.item (size_of (entry_at entries x.item)) in
+        let f : Listed → Listing = λ x. listing x.item (entry_size (entry_at entries x.item)) in
         ap (λ front. others place (map f front)) h.front_is
         ∙ ap (others place) (map-append f h.before (listed slot h.item ∷ []))
-        ∙ filter-append (is_other place) (map f h.before) (listing h.item (size_of (entry_at entries h.item)) ∷ [])
+        ∙ filter-append (is_other place) (map f h.before) (listing h.item (entry_size (entry_at entries h.item)) ∷ [])
 
     left_here : length walk_here.before + (steps + 1) ≡ length list
     left_here = let h = walk_here in omega (arith, walk.left, ap length h.front_is, length-append h.before (listed slot h.item ∷ []))
 
     -- a place that is another's is counted
-    front_takes : walk_here.item ≢ place → others place (listings_of entries walk.front) ≡ others place (listings_of entries walk_here.before) ++ listing walk_here.item (size_of (entry_at entries walk_here.item)) ∷ []
+    front_takes : walk_here.item ≢ place → others place (listings_of entries walk.front) ≡ others place (listings_of entries walk_here.before) ++ listing walk_here.item (entry_size (entry_at entries walk_here.item)) ∷ []
     front_takes differs =
-        let l : Listing = listing walk_here.item (size_of (entry_at entries walk_here.item)) in
+        let l : Listing = listing walk_here.item (entry_size (entry_at entries walk_here.item)) in
         others_front ∙ ap (λ ls. others place (listings_of entries walk_here.before) ++ ls) (filter-cons_kept (is_other place) l [] (ap not (ne_eqb walk_here.item place differs)))
 
-    back_takes : walk_here.item ≢ place → others place (listings_of entries (listed slot walk_here.item ∷ walk.back)) ≡ listing walk_here.item (size_of (entry_at entries walk_here.item)) ∷ others place (listings_of entries walk.back)
-    back_takes differs = filter-cons_kept (is_other place) (listing walk_here.item (size_of (entry_at entries walk_here.item))) (listings_of entries walk.back) (ap not (ne_eqb walk_here.item place differs))
+    back_takes : walk_here.item ≢ place → others place (listings_of entries (listed slot walk_here.item ∷ walk.back)) ≡ listing walk_here.item (entry_size (entry_at entries walk_here.item)) ∷ others place (listings_of entries walk.back)
+    back_takes differs = filter-cons_kept (is_other place) (listing walk_here.item (entry_size (entry_at entries walk_here.item))) (listings_of entries walk.back) (ap not (ne_eqb walk_here.item place differs))
 
-    sum_takes : walk_here.item ≢ place → sum ≡ size + (total (others place (listings_of entries walk_here.before)) + size_of (entry_at entries walk_here.item))
+    sum_takes : walk_here.item ≢ place → sum ≡ size + (total (others place (listings_of entries walk_here.before)) + entry_size (entry_at entries walk_here.item))
     sum_takes differs =
-        let l : Listing = listing walk_here.item (size_of (entry_at entries walk_here.item)) in
+        let l : Listing = listing walk_here.item (entry_size (entry_at entries walk_here.item)) in
         omega (arith, walk.sum_is, ap total (front_takes differs), total-append (others place (listings_of entries walk_here.before)) (l ∷ []), total-cons l [])
 
-    pub part_of_sum : walk_here.item ≢ place → size_of (entry_at entries walk_here.item) ≤ sum
+    pub part_of_sum : walk_here.item ≢ place → entry_size (entry_at entries walk_here.item) ≤ sum
     part_of_sum differs = omega (arith, sum_takes differs)
 
-    pub walk_takes : capacity < sum → walk_here.item ≢ place → (last : Option Slot) → last ≡ last_slot walk_here.before → IsWalked entries list capacity place size (sum - size_of (entry_at entries walk_here.item)) (count + 1) (steps + 1) last
+    pub walk_takes : capacity < sum → walk_here.item ≢ place → (last : Option Slot) → last ≡ last_slot walk_here.before → IsWalked entries list capacity place size (sum - entry_size (entry_at entries walk_here.item)) (count + 1) (steps + 1) last
     walk_takes over differs last last_is =
         let h = walk_here in
-        let l : Listing = listing h.item (size_of (entry_at entries h.item)) in
+        let l : Listing = listing h.item (entry_size (entry_at entries h.item)) in
         let stays = others place (listings_of entries h.before) in
         let enough : total ((listing place size ∷ stays) ++ l ∷ []) ≡ size + (total stays + l.size) = (let a = total-cons (listing place size) (stays ++ l ∷ []) in let b = total-append stays (l ∷ []) in let d = total-cons l [] in omega (arith, a, b, d)) in
         record {
@@ -148,11 +148,11 @@ module _ (entries : Entries) (list : List Listed) (capacity place size : ℕ) wh
     -- the place itself is passed over
     front_passes : walk_here.item ≡ place → others place (listings_of entries walk.front) ≡ others place (listings_of entries walk_here.before)
     front_passes same =
-        let l : Listing = listing walk_here.item (size_of (entry_at entries walk_here.item)) in
+        let l : Listing = listing walk_here.item (entry_size (entry_at entries walk_here.item)) in
         others_front ∙ ap (λ ls. others place (listings_of entries walk_here.before) ++ ls) (filter-cons_left_out (is_other place) l [] (ap not (eq-eqb walk_here.item place same))) ∙ append-nil (others place (listings_of entries walk_here.before))
 
     back_passes : walk_here.item ≡ place → others place (listings_of entries (listed slot walk_here.item ∷ walk.back)) ≡ others place (listings_of entries walk.back)
-    back_passes same = filter-cons_left_out (is_other place) (listing walk_here.item (size_of (entry_at entries walk_here.item))) (listings_of entries walk.back) (ap not (eq-eqb walk_here.item place same))
+    back_passes same = filter-cons_left_out (is_other place) (listing walk_here.item (entry_size (entry_at entries walk_here.item))) (listings_of entries walk.back) (ap not (eq-eqb walk_here.item place same))
 
     pub walk_passes : walk_here.item ≡ place → (last : Option Slot) → last ≡ last_slot walk_here.before → IsWalked entries list capacity place size sum count (steps + 1) last
     walk_passes same last last_is =
@@ -174,16 +174,16 @@ module _ (entries : Entries) (list : List Listed) (capacity place size : ℕ) wh
       same_item : other ≡ walk_here.item
       same_item = other_is walk_here.before walk.back walk_here.item walk_here.list_is
 
-      pub step_part : other ≢ place → size_of (entry_at entries other) ≤ sum
-      step_part differs = subst (λ o. size_of (entry_at entries o) ≤ sum) (sym same_item) (part_of_sum (λ same. differs (same_item ∙ same)))
+      pub step_part : other ≢ place → entry_size (entry_at entries other) ≤ sum
+      step_part differs = subst (λ o. entry_size (entry_at entries o) ≤ sum) (sym same_item) (part_of_sum (λ same. differs (same_item ∙ same)))
 
       module _ (last : Option Slot) (last_is : (front back : List Listed) (item : ℕ) → list ≡ front ++ listed slot item ∷ back → last ≡ last_slot front) where
         last_before : last ≡ last_slot walk_here.before
         last_before = last_is walk_here.before walk.back walk_here.item walk_here.list_is
 
-        pub step_takes : capacity < sum → other ≢ place → IsWalked entries list capacity place size (sum - size_of (entry_at entries other)) (count + 1) (steps + 1) last
+        pub step_takes : capacity < sum → other ≢ place → IsWalked entries list capacity place size (sum - entry_size (entry_at entries other)) (count + 1) (steps + 1) last
         step_takes over differs =
-            subst (λ o. IsWalked entries list capacity place size (sum - size_of (entry_at entries o)) (count + 1) (steps + 1) last) (sym same_item) (walk_takes over (λ same. differs (same_item ∙ same)) last last_before)
+            subst (λ o. IsWalked entries list capacity place size (sum - entry_size (entry_at entries o)) (count + 1) (steps + 1) last) (sym same_item) (walk_takes over (λ same. differs (same_item ∙ same)) last last_before)
 
         pub step_passes : other ≡ place → IsWalked entries list capacity place size sum count (steps + 1) last
         step_passes same = walk_passes (sym same_item ∙ same) last last_before
@@ -193,7 +193,7 @@ module _ (entries : Entries) (list : List Listed) (capacity place size : ℕ) wh
   module _ (sum count steps : ℕ) (last : Option Slot) (walk : IsWalked entries list capacity place size sum count steps last) where
     cut : (size + total (others place (listings_of entries walk.front)) ≤ capacity) ⊎ (others place (listings_of entries walk.front) ≡ []) → IsCut capacity place size (listings_of entries list) count
     cut fits =
-        let f : Listed → Listing = λ x. listing x.item (size_of (entry_at entries x.item)) in
+        let f : Listed → Listing = λ x. listing x.item (entry_size (entry_at entries x.item)) in
         record {
           stays = others place (listings_of entries walk.front);
           leaves = others place (listings_of entries walk.back);

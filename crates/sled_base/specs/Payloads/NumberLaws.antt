@@ -9,7 +9,7 @@ use Rattle.std.proofs.lemmas.Int.{ints, to_z-of_z}
 use Rattle.std.specs.Int.{w64, cast_signed, cast_unsigned}
 use Rattle.std.specs.Int.RustNames.{FitsSigned}
 use Rattle.sled_base.specs.Payloads.Reading.{IsGrammar}
-use Rattle.sled_base.specs.Payloads.Numbers.{from_low_bytes, low_bytes, SpellsU64, ReadsU64, written_u64, ReadsLow, ReadsI64, written_i64, ReadsU8, written_u8, ReadsBool, written_bool}
+use Rattle.sled_base.specs.Payloads.Numbers.{from_low_bytes, low_bytes, EncodesU64, ReadsU64, written_u64, ReadsLow, ReadsI64, written_i64, ReadsU8, written_u8, ReadsBool, written_bool}
 use Rattle.sled_base.specs.Payloads.PlainNumbers.{u64_at, after_one, after_two, after_many}
 
 -- a fact of both choices is a fact of the choice
@@ -37,10 +37,10 @@ below_seven n count lt few =
 
 -- ---- what is written is an encoding
 
-pub spells_written : (n : ℕ) → n < 2 ^ 64 → SpellsU64 (written_u64 n) n
-spells_written n lt =
-    let P = λ (s : List ℕ). SpellsU64 s n in
-    let Q = λ (count : ℕ). SpellsU64 ((247 + count) ∷ low_bytes count n) n in
+pub encodes_written : (n : ℕ) → n < 2 ^ 64 → EncodesU64 (written_u64 n) n
+encodes_written n lt =
+    let P = λ (s : List ℕ). EncodesU64 s n in
+    let Q = λ (count : ℕ). EncodesU64 ((247 + count) ∷ low_bytes count n) n in
     chosen P (nat_le n 240) _ _ (λ e. (leb-true n 240 e, refl)) (λ above_240.
     chosen P (nat_le n 2287) _ _ (λ e. let low = leb-true n 2287 e in let high = leb-false n 240 above_240 in (omega arith, omega arith, omega arith)) (λ above_2287.
     chosen P (nat_le n 67823) _ _ (λ e. let low = leb-true n 67823 e in let high = leb-false n 2287 above_2287 in (refl, omega arith)) (λ above_67823.
@@ -54,13 +54,13 @@ spells_written n lt =
 -- ---- the plain reader computes the grammar
 
 -- an encoding in front is read
-pub reads_spelling : (spelling rest : List ℕ) (n : ℕ) → SpellsU64 spelling n → u64_at (spelling ++ rest) ≡ Some (n, rest)
+pub reads_encoding : (encoding rest : List ℕ) (n : ℕ) → EncodesU64 encoding n → u64_at (encoding ++ rest) ≡ Some (n, rest)
 unfolding u64_at
-reads_spelling [] rest n h = absurd h
-reads_spelling (b ∷ []) rest n h = rw (le-leb b 240 h.0) (ap (λ k. Some (k, rest)) (sym h.1))
-reads_spelling (b ∷ c ∷ []) rest n h = rw (lt-leb b 240 h.0, le-leb b 248 h.1) (ap (λ k. Some (k, rest)) (sym h.2))
-reads_spelling (b ∷ c ∷ d ∷ []) rest n h = rw (h.0) (ap (λ k. Some (k, rest)) (sym h.1))
-reads_spelling (b ∷ c ∷ d ∷ e ∷ bytes) rest n h =
+reads_encoding [] rest n h = absurd h
+reads_encoding (b ∷ []) rest n h = rw (le-leb b 240 h.0) (ap (λ k. Some (k, rest)) (sym h.1))
+reads_encoding (b ∷ c ∷ []) rest n h = rw (lt-leb b 240 h.0, le-leb b 248 h.1) (ap (λ k. Some (k, rest)) (sym h.2))
+reads_encoding (b ∷ c ∷ d ∷ []) rest n h = rw (h.0) (ap (λ k. Some (k, rest)) (sym h.1))
+reads_encoding (b ∷ c ∷ d ∷ e ∷ bytes) rest n h =
     let tail : List ℕ = c ∷ d ∷ e ∷ bytes in
     let count : b - 247 ≡ length tail = omega arith in
     let enough : nat_lt (length (tail ++ rest)) (length tail) ≡ false = le-ltb _ _ (omega (arith, length-append tail rest)) in
@@ -73,10 +73,10 @@ abbrev found : ℕ → List ℕ → Option (ℕ × List ℕ)
 found n rest = Some (n, rest)
 
 -- an encoding that is followed by the rest
-after : (spelling rest : List ℕ) (n m : ℕ) (out : List ℕ) → SpellsU64 spelling m → found m out ≡ found n rest → ReadsU64 (spelling ++ out) n rest
-after spelling rest n m out spells e =
+after : (encoding rest : List ℕ) (n m : ℕ) (out : List ℕ) → EncodesU64 encoding m → found m out ≡ found n rest → ReadsU64 (encoding ++ out) n rest
+after encoding rest n m out encodes e =
     let parts = some_pair_parts m n out rest e in
-    (spelling, ap (λ k. spelling ++ k) parts.1, subst (SpellsU64 spelling) parts.0 spells)
+    (encoding, ap (λ k. encoding ++ k) parts.1, subst (EncodesU64 encoding) parts.0 encodes)
 
 -- what follows a first byte of 241 to 248, of 249, and above
 one_more : (b : ℕ) (bytes : List ℕ) (n : ℕ) (rest : List ℕ) → 240 < b → b ≤ 248 → after_one b bytes ≡ Some (n, rest) → ReadsU64 (b ∷ bytes) n rest
@@ -89,11 +89,11 @@ two_more b (c ∷ []) n rest is e = absurd cc
 two_more b (c ∷ d ∷ out) n rest is e = after (b ∷ c ∷ d ∷ []) rest n (2288 + 256 * c + d) out (is, refl) e
 
 -- three bytes or more behind the first
-many_spell : (b : ℕ) (low : List ℕ) → b < 256 → 3 ≤ length low → b ≡ 247 + length low → SpellsU64 (b ∷ low) (from_low_bytes low)
-many_spell b [] byte long is = absurd (omega arith)
-many_spell b (c ∷ []) byte long is = absurd (omega arith)
-many_spell b (c ∷ d ∷ []) byte long is = absurd (omega arith)
-many_spell b (c ∷ d ∷ e ∷ low) byte long is = (omega arith, omega arith, refl)
+many_encode : (b : ℕ) (low : List ℕ) → b < 256 → 3 ≤ length low → b ≡ 247 + length low → EncodesU64 (b ∷ low) (from_low_bytes low)
+many_encode b [] byte long is = absurd (omega arith)
+many_encode b (c ∷ []) byte long is = absurd (omega arith)
+many_encode b (c ∷ d ∷ []) byte long is = absurd (omega arith)
+many_encode b (c ∷ d ∷ e ∷ low) byte long is = (omega arith, omega arith, refl)
 
 many_more : (b : ℕ) (bytes : List ℕ) (n : ℕ) (rest : List ℕ) → b < 256 → 249 < b → after_many (b - 247) bytes ≡ Some (n, rest) → ReadsU64 (b ∷ bytes) n rest
 many_more b bytes n rest byte low =
@@ -101,14 +101,14 @@ many_more b bytes n rest byte low =
     chosen (λ (r : Option (ℕ × List ℕ)). r ≡ Some (n, rest) → ReadsU64 (b ∷ bytes) n rest) (nat_lt (length bytes) count) None (Some (from_low_bytes (take count bytes), drop count bytes)) (λ short e. absurd cc) (λ enough e.
     let room = ltb-false (length bytes) count enough in
     let len : length (take count bytes) ≡ count = omega (arith, length-take count bytes) in
-    let spells = many_spell b (take count bytes) byte (omega arith) (omega arith) in
-    subst (λ input. ReadsU64 (b ∷ input) n rest) (take-append-drop count bytes) (after (b ∷ take count bytes) rest n (from_low_bytes (take count bytes)) (drop count bytes) spells e))
+    let encodes = many_encode b (take count bytes) byte (omega arith) (omega arith) in
+    subst (λ input. ReadsU64 (b ∷ input) n rest) (take-append-drop count bytes) (after (b ∷ take count bytes) rest n (from_low_bytes (take count bytes)) (drop count bytes) encodes e))
 
 -- what is read has an encoding in front
-pub spelling_read : (input : List ℕ) (n : ℕ) (rest : List ℕ) → get_or input 0 0 < 256 → u64_at input ≡ Some (n, rest) → ReadsU64 input n rest
+pub encoding_read : (input : List ℕ) (n : ℕ) (rest : List ℕ) → get_or input 0 0 < 256 → u64_at input ≡ Some (n, rest) → ReadsU64 input n rest
 unfolding u64_at
-spelling_read [] n rest byte e = absurd cc
-spelling_read (b ∷ bytes) n rest byte e =
+encoding_read [] n rest byte e = absurd cc
+encoding_read (b ∷ bytes) n rest byte e =
     let P = λ (r : Option (ℕ × List ℕ)). r ≡ Some (n, rest) → ReadsU64 (b ∷ bytes) n rest in
     chosen P (nat_le b 240) _ _ (λ t is. after (b ∷ []) rest n b bytes (leb-true b 240 t, refl) is) (λ low.
     chosen P (nat_le b 248) _ _ (λ t is. one_more b bytes n rest (leb-false b 240 low) (leb-true b 248 t) is) (λ high.
@@ -120,16 +120,16 @@ spelling_read (b ∷ bytes) n rest byte e =
 
 -- the grammar of numbers has one reading, reads what is written, and takes a byte
 pub U64-complete : (input : List ℕ) (n : ℕ) (rest : List ℕ) → ReadsU64 input n rest → u64_at input ≡ Some (n, rest)
-U64-complete input n rest (spelling, is, spells) = rw is (reads_spelling spelling rest n spells)
+U64-complete input n rest (encoding, is, encodes) = rw is (reads_encoding encoding rest n encodes)
 
 takes_one : (input : List ℕ) (n : ℕ) (rest : List ℕ) → ReadsU64 input n rest → length rest + 1 ≤ length input
-takes_one input n rest ([], is, spells) = absurd spells
-takes_one input n rest (b ∷ bytes, is, spells) = omega (arith, ap length is, length-append bytes rest)
+takes_one input n rest ([], is, encodes) = absurd encodes
+takes_one input n rest (b ∷ bytes, is, encodes) = omega (arith, ap length is, length-append bytes rest)
 
 pub U64-grammar : IsGrammar ReadsU64 written_u64 (λ n. n < 2 ^ 64) (λ _ _. Unit {0}) 1
 U64-grammar = record {
   one_reading = λ input v w r s left right. some_pair_parts v w r s (sym (U64-complete input v r left) ∙ U64-complete input w s right);
-  read_again = λ v rest can follows. (written_u64 v, refl, spells_written v can);
+  read_again = λ v rest can follows. (written_u64 v, refl, encodes_written v can);
   takes = takes_one;
 }
 

@@ -8,16 +8,16 @@ from_low_bytes [] = 0
 from_low_bytes (byte ∷ bytes) = byte + 256 * from_low_bytes bytes
 
 -- An encoding of a number, by how many bytes it has: the number itself; 240 and more; 2288 and more; or 3 to 8 bytes, of any value.
-abbrev pub SpellsU64 : List ℕ → ℕ → Type 0
-SpellsU64 [] n = ⊥
-SpellsU64 (b ∷ []) n = (b ≤ 240) × (n ≡ b)
-SpellsU64 (b ∷ c ∷ []) n = (241 ≤ b) × (b ≤ 248) × (n ≡ 240 + 256 * (b - 241) + c)
-SpellsU64 (b ∷ c ∷ d ∷ []) n = (b ≡ 249) × (n ≡ 2288 + 256 * c + d)
-SpellsU64 (b ∷ c ∷ d ∷ e ∷ bytes) n = (b ≤ 255) × (b ≡ 250 + length bytes) × (n ≡ from_low_bytes (c ∷ d ∷ e ∷ bytes))
+abbrev pub EncodesU64 : List ℕ → ℕ → Type 0
+EncodesU64 [] n = ⊥
+EncodesU64 (b ∷ []) n = (b ≤ 240) × (n ≡ b)
+EncodesU64 (b ∷ c ∷ []) n = (241 ≤ b) × (b ≤ 248) × (n ≡ 240 + 256 * (b - 241) + c)
+EncodesU64 (b ∷ c ∷ d ∷ []) n = (b ≡ 249) × (n ≡ 2288 + 256 * c + d)
+EncodesU64 (b ∷ c ∷ d ∷ e ∷ bytes) n = (b ≤ 255) × (b ≡ 250 + length bytes) × (n ≡ from_low_bytes (c ∷ d ∷ e ∷ bytes))
 
 -- the input is an encoding of the number, and then the rest
 abbrev pub ReadsU64 : List ℕ → ℕ → List ℕ → Type 0
-ReadsU64 input n rest = (spelling : List ℕ) × (input ≡ spelling ++ rest) × SpellsU64 spelling n
+ReadsU64 input n rest = (encoding : List ℕ) × (input ≡ encoding ++ rest) × EncodesU64 encoding n
 
 -- so many bytes of a number, the lowest first
 abbrev pub low_bytes : ℕ → ℕ → List ℕ

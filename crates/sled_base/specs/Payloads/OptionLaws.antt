@@ -7,7 +7,7 @@ use Rattle.std.specs.declared.num.NonZeroU64.{NonZeroU64}
 use Rattle.sled_base.specs.Payloads.Reading.{IsGrammar}
 use Rattle.sled_base.specs.Payloads.ReadingLaws.{By-grammar}
 use Rattle.sled_base.specs.Payloads.NumberLaws.{U64-grammar, I64-grammar}
-use Rattle.sled_base.specs.Payloads.Options.{number_of, ReadsOption, written_option, CanWriteOption, signed_of, ReadsSigned, written_signed, CanWriteSigned, page_number, ReadsPage, written_page, CanWritePage}
+use Rattle.sled_base.specs.Payloads.Options.{number_of, ReadsOption, written_option, CanWriteOption, signed_of, ReadsSigned, written_signed, CanWriteSigned, page_number, ReadsPageNumber, written_page, CanWritePage}
 
 same_number : (v w : Option ℕ) → number_of v ≡ number_of w → v ≡ w
 same_number None None e = refl
@@ -47,5 +47,5 @@ same_page None (Some q) e = absurd (omega (arith, q.ok))
 same_page (Some p) None e = absurd (omega (arith, p.ok))
 same_page (Some p) (Some q) e = ap (λ n. Some n) (same_page_number p q e)
 
-pub Page-grammar : IsGrammar ReadsPage written_page CanWritePage (λ _ _. Unit {0}) 1
+pub Page-grammar : IsGrammar ReadsPageNumber written_page CanWritePage (λ _ _. Unit {0}) 1
 Page-grammar = By-grammar page_number same_page U64-grammar

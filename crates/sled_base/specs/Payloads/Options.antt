@@ -42,8 +42,8 @@ abbrev pub page_number : Option NonZeroU64 → ℕ
 page_number None = 0
 page_number (Some page) = non_zero_u64_get page
 
-abbrev pub ReadsPage : List ℕ → Option NonZeroU64 → List ℕ → Type 0
-ReadsPage input page rest = ReadsU64 input (page_number page) rest
+abbrev pub ReadsPageNumber : List ℕ → Option NonZeroU64 → List ℕ → Type 0
+ReadsPageNumber input page rest = ReadsU64 input (page_number page) rest
 
 abbrev pub written_page : Option NonZeroU64 → List ℕ
 written_page page = written_u64 (page_number page)

@@ -4,8 +4,8 @@ use Rattle.sled_base.specs.declared.types.Error.{Error}
 use Rattle.sled_base.specs.declared.types.Error.TheVariants.{CollectionNotFound, Unsupported, ReportableBug, Io, Corruption, OutOfMemory}
 
 -- no value is read from the input
-abbrev pub ReadsNothing : {V : Type 0} → (List ℕ → V → List ℕ → Type 0) → List ℕ → Type 0
-ReadsNothing {V} reads input = (value : V) (rest : List ℕ) → reads input value rest → ⊥
+abbrev pub ReadsNoValue : {V : Type 0} → (List ℕ → V → List ℕ → Type 0) → List ℕ → Type 0
+ReadsNoValue {V} reads input = (value : V) (rest : List ℕ) → reads input value rest → ⊥
 
 -- a reading takes a byte at least of an input that has one
 abbrev pub TakesAByte : {V : Type 0} → (List ℕ → V → List ℕ → Type 0) → Type 0
@@ -14,7 +14,7 @@ TakesAByte {V} reads = (input : List ℕ) (value : V) (rest : List ℕ) → inpu
 -- A reader answers an error where an allocation failed, for an input that asks for one, or Corruption(None) where no value is read.
 abbrev pub IsRefusal : {V : Type 0} → (List ℕ → Type 0) → (List ℕ → V → List ℕ → Type 0) → List ℕ → Error → Type 0
 IsRefusal asks reads input OutOfMemory = asks input
-IsRefusal asks reads input (Corruption None) = ReadsNothing reads input
+IsRefusal asks reads input (Corruption None) = ReadsNoValue reads input
 IsRefusal asks reads input (Corruption (Some pointer)) = ⊥
 IsRefusal asks reads input (CollectionNotFound name) = ⊥
 IsRefusal asks reads input (Unsupported why) = ⊥

@@ -6,7 +6,7 @@
 ghost use Rattle.std.specs.Prelude.{◌≡◌, ◌<◌, [], ◌∷◌, ◌++◌, length, IfOk, OnErr, IfSome, IfNone, Contains, IsTrue, ◌↔◌, Option, Some};
 ghost use Rattle.std.specs.List.{slice_get};
 ghost use Rattle.sled_base.specs.Dll.{listed, slots, last_slot};
-ghost use Rattle.sled_base.specs.Links.{first_slot_or, listed_in, IsKept, TakesOut, IsLinkAt, ChangesLink, with_before, with_after, IsWithin};
+ghost use Rattle.sled_base.specs.Links.{first_slot_or, listed_in, IsLinkedList, TakesOut, IsLinkAt, ChangesLink, with_before, with_after, IsSlotIn};
 ghost use Rattle.sled_base.specs.declared.dll.Slot.{Slot};
 
 use super::{OptionalSlot, Slot};
@@ -45,7 +45,7 @@ pub struct Link {
 impl Links {
     /// No cells. It allocates nothing.
     pub fn new(alloc: Global) -> Links
-        ensures kept { IsKept [] result }
+        ensures kept { IsLinkedList [] result }
         ensures list { listed_in result ≡ [] }
     {
         Links {
@@ -64,7 +64,7 @@ impl Links {
 
     /// How many items there are.
     pub fn len(&self) -> usize
-        requires { IsKept [] self.now }
+        requires { IsLinkedList [] self.now }
         ensures { result ≡ length (listed_in self.now) }
     {
         self.len
@@ -72,7 +72,7 @@ impl Links {
 
     /// The slot of the first item, or None where there is none.
     pub fn first(&self) -> Option<Slot>
-        requires { IsKept [] self.now }
+        requires { IsLinkedList [] self.now }
         ensures value { result ≡ first_slot_or None (listed_in self.now) }
         ensures live { IfSome result (Contains (slots (listed_in self.now))) }
         ensures empty { IfNone result (listed_in self.now ≡ []) }
@@ -82,7 +82,7 @@ impl Links {
 
     /// The slot of the last item, or None where there is none.
     pub fn last(&self) -> Option<Slot>
-        requires { IsKept [] self.now }
+        requires { IsLinkedList [] self.now }
         ensures value { result ≡ last_slot (listed_in self.now) }
         ensures live { IfSome result (Contains (slots (listed_in self.now))) }
         ensures empty { IfNone result (listed_in self.now ≡ []) }
@@ -92,7 +92,7 @@ impl Links {
 
     /// Whether the slot has an item.
     pub fn is_linked(&self, slot: Slot) -> bool
-        requires { IsKept [] self.now }
+        requires { IsLinkedList [] self.now }
         ensures { IsTrue result ↔ Contains (slots (listed_in self.now)) slot }
     {
         slot.0 < self.cells.len() && matches!(self.cells[slot.0], Cell::Linked(_))
@@ -100,7 +100,7 @@ impl Links {
 
     /// The slot in the space of one number.
     pub fn packed(&self, slot: Slot) -> OptionalSlot
-        requires kept { IsKept [] self.now }
+        requires kept { IsLinkedList [] self.now }
         requires live { Contains (slots (listed_in self.now)) slot }
         ensures { result ≡ Some slot }
     {
@@ -109,7 +109,7 @@ impl Links {
 
     /// The item of the slot with its neighbours.
     pub fn link(&self, slot: Slot) -> Link
-        requires kept { IsKept [] self.now }
+        requires kept { IsLinkedList [] self.now }
         requires live { Contains (slots (listed_in self.now)) slot }
         ensures { IsLinkAt self.now slot result }
     {
@@ -123,9 +123,9 @@ impl Links {
     ///
     /// It is neither listed nor free then. An error means out of memory, and leaves the list unchanged.
     pub fn take(&mut self) -> Result<Slot, AllocError>
-        requires { IsKept [] self.old }
-        ensures ok { IfOk result (λ slot. IsKept (slot ∷ []) self.new) }
-        ensures err { OnErr result (IsKept [] self.new) }
+        requires { IsLinkedList [] self.old }
+        ensures ok { IfOk result (λ slot. IsLinkedList (slot ∷ []) self.new) }
+        ensures err { OnErr result (IsLinkedList [] self.new) }
         ensures list { listed_in self.new ≡ listed_in self.old }
     {
         match self.free {
@@ -144,8 +144,8 @@ impl Links {
 
     /// Puts an item into a cell that was taken, and in front of the others.
     pub fn link_head(&mut self, slot: Slot, item: PageId)
-        requires { IsKept (slot ∷ []) self.old }
-        ensures kept { IsKept [] self.new }
+        requires { IsLinkedList (slot ∷ []) self.old }
+        ensures kept { IsLinkedList [] self.new }
         ensures list { listed_in self.new ≡ listed slot item ∷ listed_in self.old }
     {
         let first = self.head;
@@ -163,8 +163,8 @@ impl Links {
 
     /// Puts an item into a cell that was taken, and behind the others.
     pub fn link_tail(&mut self, slot: Slot, item: PageId)
-        requires { IsKept (slot ∷ []) self.old }
-        ensures kept { IsKept [] self.new }
+        requires { IsLinkedList (slot ∷ []) self.old }
+        ensures kept { IsLinkedList [] self.new }
         ensures list { listed_in self.new ≡ listed_in self.old ++ listed slot item ∷ [] }
     {
         let last = self.tail;
@@ -182,9 +182,9 @@ impl Links {
 
     /// Takes an item out. Its cell is neither listed nor free then.
     pub fn unlink(&mut self, slot: Slot) -> PageId
-        requires kept { IsKept [] self.old }
+        requires kept { IsLinkedList [] self.old }
         requires live { Contains (slots (listed_in self.old)) slot }
-        ensures kept { IsKept (slot ∷ []) self.new }
+        ensures kept { IsLinkedList (slot ∷ []) self.new }
         ensures list { TakesOut slot result (listed_in self.old) (listed_in self.new) }
     {
         let link = self.link(slot);
@@ -204,9 +204,9 @@ impl Links {
 
     /// Takes an item out, and sets its cell free.
     pub fn remove(&mut self, slot: Slot) -> PageId
-        requires kept { IsKept [] self.old }
+        requires kept { IsLinkedList [] self.old }
         requires live { Contains (slots (listed_in self.old)) slot }
-        ensures kept { IsKept [] self.new }
+        ensures kept { IsLinkedList [] self.new }
         ensures list { TakesOut slot result (listed_in self.old) (listed_in self.new) }
     {
         let item = self.unlink(slot);
@@ -229,7 +229,7 @@ fn next_free(cells: &Vec<Cell>, slot: Slot) -> Option<Slot>
 
 // Gives the cell of the slot, if there is one, another neighbour on the side of the head.
 fn set_before(cells: &mut Vec<Cell>, slot: OptionalSlot, before: OptionalSlot)
-    requires { IsWithin slot cells.old.items }
+    requires { IsSlotIn slot cells.old.items }
     ensures { ChangesLink (with_before before) slot cells.old.items cells.new.items }
 {
     if let Some(slot) = slot.get()
@@ -241,7 +241,7 @@ fn set_before(cells: &mut Vec<Cell>, slot: OptionalSlot, before: OptionalSlot)
 
 // The same on the side of the tail.
 fn set_after(cells: &mut Vec<Cell>, slot: OptionalSlot, after: OptionalSlot)
-    requires { IsWithin slot cells.old.items }
+    requires { IsSlotIn slot cells.old.items }
     ensures { ChangesLink (with_after after) slot cells.old.items cells.new.items }
 {
     if let Some(slot) = slot.get()

@@ -19,15 +19,15 @@ impl Model for OptionalSlot {
     ghost use Rattle.std.specs.Prelude.{Option};
     ghost use Rattle.std.proofs.Common.{ap};
     ghost use Rattle.sled_base.specs.declared.dll.Slot.{Slot};
-    ghost use Rattle.sled_base.specs.OptionalSlots.{slot_of, number_of, number_of-slot_of};
+    ghost use Rattle.sled_base.specs.OptionalSlots.{slot_of, slot_number, slot_number-slot_of};
 
     ghost Value = { Option Slot };
 
     ghost view = { λ s. slot_of s.0 };
 
-    ghost inverse = { λ slot. record { 0 = number_of slot } };
+    ghost inverse = { λ slot. record { 0 = slot_number slot } };
 
-    ghost inverse_ok = { λ s h. ap (λ n. record { 0 = n }) (number_of-slot_of s.0) };
+    ghost inverse_ok = { λ s h. ap (λ n. record { 0 = n }) (slot_number-slot_of s.0) };
 }
 
 impl OptionalSlot {

@@ -2,7 +2,7 @@
 
 ghost use Rattle.std.specs.Prelude.{◌≡◌, None};
 ghost use Rattle.std.specs.Option.{IsSome};
-ghost use Rattle.sled_base.specs.Shards.{size_of};
+ghost use Rattle.sled_base.specs.Shards.{entry_size};
 ghost use Rattle.sled_base.specs.Entries.{entry_of};
 
 use crate::dll::{OptionalSlot, Slot};
@@ -31,14 +31,14 @@ impl Model for OptionalEntry {
 
     ghost Value = { Option Entry };
 
-    ghost use Rattle.sled_base.specs.Shards.{size_of};
+    ghost use Rattle.sled_base.specs.Shards.{entry_size};
     ghost use Rattle.sled_base.specs.Entries.{entry_of, slot_in, IsExact, kept_entry};
 
     ghost view = { λ e. entry_of e.slot e.size };
 
     ghost invariant = { λ e. IsExact e.slot e.size };
 
-    ghost inverse = { λ entry. record { slot = slot_in entry; size = size_of entry } };
+    ghost inverse = { λ entry. record { slot = slot_in entry; size = entry_size entry } };
 
     ghost inverse_ok = { λ e exact. kept_entry e exact };
 }
@@ -75,7 +75,7 @@ impl OptionalEntry {
 
     /// The size of the entry, or 0 where there is none.
     pub fn size(self) -> u64
-        ensures { result ≡ size_of self }
+        ensures { result ≡ entry_size self }
     {
         self.size
     }

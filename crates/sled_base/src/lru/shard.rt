@@ -7,7 +7,7 @@ ghost use Rattle.std.specs.Prelude.{◌≡◌, ◌≢◌, ◌<◌, ◌≤◌, �
 ghost use Rattle.std.specs.Option.{ForSome};
 ghost use Rattle.sled_base.specs.Dll.{slots};
 ghost use Rattle.sled_base.specs.Lru.{listing, total, others, IsUsed, IsWithin};
-ghost use Rattle.sled_base.specs.Shards.{entry_at, size_of, PutsFirst, IsCut, TakesLast};
+ghost use Rattle.sled_base.specs.Shards.{entry_at, entry_size, PutsFirst, IsCut, TakesLast};
 
 use super::entry::{Entry, OptionalEntry};
 use crate::PageId;
@@ -33,11 +33,11 @@ impl Model for Shard {
 
     ghost Value = { Shelf };
 
-    ghost use Rattle.sled_base.specs.Shards.{listings_of, IsKept};
+    ghost use Rattle.sled_base.specs.Shards.{listings_of, IsIndexed};
 
     ghost view = { λ s. record { capacity = s.capacity; listings = listings_of s.entries.items s.list } };
 
-    ghost invariant = { λ s. IsKept s.entries.items s.list s.total };
+    ghost invariant = { λ s. IsIndexed s.entries.items s.list s.total };
 }
 
 impl Shard {
@@ -151,7 +151,7 @@ fn put_in_front(
 
 // The size of the place, or 0 where it isn't listed.
 fn size_at(entries: &[OptionalEntry], place: u64) -> u64
-    ensures { result ≡ size_of (entry_at entries.now place) }
+    ensures { result ≡ entry_size (entry_at entries.now place) }
 {
     match entries.get(place as usize) {
         Some(entry) => entry.size(),

@@ -1,7 +1,7 @@
 //! Byte strings.
 
 ghost use Rattle.std.specs.Prelude.{◌≡◌, IfSome, IfNone};
-ghost use Rattle.sled_base.specs.Payloads.Reading.{ReadsNothing};
+ghost use Rattle.sled_base.specs.Payloads.Reading.{ReadsNoValue};
 ghost use Rattle.sled_base.specs.Payloads.ByteStrings.{ReadsBytes, AsksBytes, written_bytes, CanWriteBytes};
 ghost use Rattle.sled_base.specs.Payloads.ByteStringLaws.{Bytes-grammar};
 ghost use Rattle.sled_base.specs.Payloads.ReadingLaws.{some_taken};
@@ -15,7 +15,7 @@ use std::alloc::Global;
 /// The byte string at the front, where it lies, and the rest, or none where none is read. It allocates nothing.
 pub fn split_bytes(bytes: &[u8]) -> Option<(&[u8], &[u8])>
     ensures read { IfSome result (λ x. ReadsBytes bytes.now x.0.now x.1.now) }
-    ensures nothing { IfNone result (ReadsNothing ReadsBytes bytes.now) }
+    ensures nothing { IfNone result (ReadsNoValue ReadsBytes bytes.now) }
 {
     let (len, rest) = read_u64(bytes)?;
     if len > rest.len() as u64 {

@@ -7,7 +7,7 @@ ghost use Rattle.std.specs.Option.{option_map};
 ghost use Rattle.sled_base.specs.Payloads.Numbers.{from_low_bytes, low_bytes, byte_count, ReadsU64, written_u64, ReadsLow, ReadsI64, written_i64, ReadsBool, written_bool, ReadsU8, written_u8};
 ghost use Rattle.sled_base.specs.Payloads.NumberLaws.{U64-grammar, U32-grammar, I64-grammar, Bool-grammar, U8-grammar};
 ghost use Rattle.sled_base.specs.Payloads.PlainNumbers.{u64_at};
-ghost use Rattle.sled_base.specs.Payloads.Reading.{ReadsNothing, AsksNever};
+ghost use Rattle.sled_base.specs.Payloads.Reading.{ReadsNoValue, AsksNever};
 ghost use Rattle.sled_base.specs.Payloads.ReadingLaws.{some_taken};
 
 use super::Serialize;
@@ -46,7 +46,7 @@ fn put_low_bytes(value: u64, out: &mut [u8])
 fn read_low(bytes: &[u8], count: usize) -> Option<(u64, &[u8])>
     requires { count ≤ 8 }
     ensures read { IfSome result (λ x. ReadsLow count bytes.now x.0 x.1.now) }
-    ensures nothing { IfNone result (ReadsNothing (ReadsLow count) bytes.now) }
+    ensures nothing { IfNone result (ReadsNoValue (ReadsLow count) bytes.now) }
     ensures bound { IfSome result (λ x. x.0 < 256 ^ count) }
 {
     if bytes.len() < count {
@@ -59,7 +59,7 @@ fn read_low(bytes: &[u8], count: usize) -> Option<(u64, &[u8])>
 /// The number at the front and the rest, or none where none is read.
 pub fn read_u64(bytes: &[u8]) -> Option<(u64, &[u8])>
     ensures read { IfSome result (λ x. ReadsU64 bytes.now x.0 x.1.now) }
-    ensures nothing { IfNone result (ReadsNothing ReadsU64 bytes.now) }
+    ensures nothing { IfNone result (ReadsNoValue ReadsU64 bytes.now) }
 {
     plain_u64(bytes)
 }

@@ -3,7 +3,7 @@
 ghost use Rattle.std.specs.Prelude.{◌≡◌, ◌<◌, ◌^◌};
 ghost use Rattle.std.specs.Int.{w64};
 ghost use Rattle.std.specs.Int.RustNames.{FitsSigned};
-ghost use Rattle.sled_base.specs.Payloads.Options.{number_of, ReadsOption, written_option, CanWriteOption, signed_of, ReadsSigned, written_signed, CanWriteSigned, page_number, ReadsPage, written_page, CanWritePage};
+ghost use Rattle.sled_base.specs.Payloads.Options.{number_of, ReadsOption, written_option, CanWriteOption, signed_of, ReadsSigned, written_signed, CanWriteSigned, page_number, ReadsPageNumber, written_page, CanWritePage};
 ghost use Rattle.sled_base.specs.Payloads.Reading.{AsksNever};
 ghost use Rattle.sled_base.specs.Payloads.OptionLaws.{Option-grammar, Signed-grammar, Page-grammar};
 ghost use Rattle.sled_base.specs.Payloads.ReadingLaws.{some_taken};
@@ -109,7 +109,7 @@ fn missing_at_0(number: i64) -> Option<i64>
 }
 
 impl Serialize for Option<NonZeroU64> {
-    ghost reads = { ReadsPage };
+    ghost reads = { ReadsPageNumber };
 
     ghost asks = { AsksNever };
 

@@ -76,7 +76,7 @@ fn pushed(alloc: Global, byte: u8) -> Result<Vec<u8>, Error> {
 }
 
 #[test]
-fn wanting_memory_is_an_error_of_the_cache(rt: HostRuntime) -> Result<(), Fail> {
+fn an_allocation_failure_is_an_error_of_the_cache(rt: HostRuntime) -> Result<(), Fail> {
     assert!(rt; pushed(rt.alloc(), 7)?.as_slice() == [7].as_slice());
     assert!(rt; Error::from(AllocError) == Error::OutOfMemory);
     Ok(())

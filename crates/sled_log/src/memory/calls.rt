@@ -10,7 +10,7 @@ ghost use Rattle.sled_log.specs.Items.{state_at, WasLeft, left_now, left_earlier
 ghost use Rattle.sled_log.specs.Limits.{head_size, size_limit};
 ghost use Rattle.sled_log.specs.Messages.{effect_of_entry, message, placed};
 ghost use Rattle.sled_log.specs.Pages.{IsPageState, IsSized, IsAt, IsRead};
-ghost use Rattle.sled_log.specs.State.{now};
+ghost use Rattle.sled_log.specs.LogState.{now};
 ghost use Rattle.sled_log.specs.declared.log.LogError.TheVariants.{Memory, Full};
 
 use super::MemLog;
@@ -95,7 +95,7 @@ impl Log for MemLog {
         ensures past { Remembers self.old self.new }
     {
         self.count_read();
-        self.told(pointer)?.ok_or(LogError::Corruption)
+        self.kind_and_payload(pointer)?.ok_or(LogError::Corruption)
     }
 
     // It is never refused.

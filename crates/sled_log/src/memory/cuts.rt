@@ -4,10 +4,10 @@ ghost use Rattle.std.specs.Prelude.{◌≡◌, ◌↔◌, map, IsTrue};
 ghost use Rattle.sled_log.specs.Batches.{is_open, is_cancelled, IsFair};
 ghost use Rattle.sled_log.specs.Stored.{bare_event};
 
-use super::item::{Item, Mark};
+use super::item::{LogItem, Mark};
 
 // Whether these items leave a batch open.
-fn leaves_open(items: &[Item]) -> bool
+fn leaves_open(items: &[LogItem]) -> bool
     ensures { result ≡ is_open (map bare_event items.now) }
 {
     let mut open = false;
@@ -22,7 +22,7 @@ fn leaves_open(items: &[Item]) -> bool
 }
 
 // Whether these items cancel a batch that is open before them.
-fn cancels(items: &[Item]) -> bool
+fn cancels(items: &[LogItem]) -> bool
     ensures { result ≡ is_cancelled (map bare_event items.now) }
 {
     for item in items {
@@ -36,7 +36,7 @@ fn cancels(items: &[Item]) -> bool
 }
 
 // Whether a crash may keep the first `n` of these items.
-pub(super) fn is_fair_cut(items: &[Item], n: usize) -> bool
+pub(super) fn is_fair_cut(items: &[LogItem], n: usize) -> bool
     ensures { IsTrue result ↔ IsFair (map bare_event items.now) n }
 {
     if items.len() < n {

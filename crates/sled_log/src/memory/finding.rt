@@ -1,21 +1,21 @@
 // How a message is found by its place.
 
 ghost use Rattle.std.specs.Prelude.{◌≡◌, ℕ, Some, IfOk, slice_get, IsSomeAnd};
-ghost use Rattle.sled_base.specs.Pointers.{place_of};
+ghost use Rattle.sled_base.specs.Pointers.{offset_of};
 ghost use Rattle.sled_log.specs.Items.{entry_of};
-ghost use Rattle.sled_log.specs.Kept.{Item as KeptItem, KeptChange};
+ghost use Rattle.sled_log.specs.Kept.{LogItem as KeptItem, KeptChange};
 ghost use Rattle.sled_log.specs.Kept as kept;
 ghost use Rattle.sled_log.specs.Messages.{kind_at};
 ghost use Rattle.sled_log.specs.Pages.{IsRead};
 ghost use Rattle.sled_log.specs.Stored.{place_after, start_after};
 
 use super::MemLog;
-use super::item::{Item, Mark};
+use super::item::{LogItem, Mark};
 use sled_base::{DiskPtr, LogOffset, MessageKind};
 use std::alloc::AllocError;
 
 // The kind that a reader is told of a message of a kind that is kept there.
-fn kind_told(kind: MessageKind, pointer: DiskPtr) -> MessageKind
+fn kind_read(kind: MessageKind, pointer: DiskPtr) -> MessageKind
     ensures { result ≡ kind_at pointer kind }
 {
     match (pointer, kind) {
@@ -27,7 +27,7 @@ fn kind_told(kind: MessageKind, pointer: DiskPtr) -> MessageKind
 }
 
 // Where a message behind these items stands in the log, and its payload in the buffer.
-pub(super) fn behind(items: &[Item]) -> (LogOffset, usize)
+pub(super) fn behind(items: &[LogItem]) -> (LogOffset, usize)
     ensures place { result.0 ≡ place_after 0 items.now }
     ensures start { result.1 ≡ start_after 0 items.now }
 {
@@ -42,13 +42,13 @@ impl MemLog {
 
     // Where the message at that place stands among the items, if there is one.
     fn index_of(&self, place: LogOffset) -> usize
-        ensures { (i : ℕ) (item : KeptItem) (change : KeptChange) → slice_get (kept_in self.now) i ≡ Some item → item.mark ≡ kept.Change change → place_of change.pointer ≡ place → result ≡ i }
+        ensures { (i : ℕ) (item : KeptItem) (change : KeptChange) → slice_get (kept_in self.now) i ≡ Some item → item.mark ≡ kept.Change change → offset_of change.pointer ≡ place → result ≡ i }
     {
         self.items.partition_point(|item| item.end <= place)
     }
 
     // The message that the pointer leads to, as a reader is told, if there is one.
-    pub(super) fn told(
+    pub(super) fn kind_and_payload(
         &self,
         pointer: DiskPtr,
     ) -> Result<Option<(MessageKind, Vec<u8>)>, AllocError>
@@ -63,6 +63,6 @@ impl MemLog {
         };
         let (_, start) = behind(&self.items[..at]);
         let payload = self.bytes[start..item.payload_end].to_vec(self.alloc)?;
-        Ok(Some((kind_told(kind, pointer), payload)))
+        Ok(Some((kind_read(kind, pointer), payload)))
     }
 }

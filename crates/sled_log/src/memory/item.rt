@@ -25,7 +25,7 @@ pub(super) enum Mark {
 // What the log was told, with the log sizes of all up to it, the place in the buffer where its payload ends, the moment when it
 // came, and that when it became stable.
 #[derive(Debug, Drop)]
-pub(super) struct Item {
+pub(super) struct LogItem {
     pub(super) mark: Mark,
     pub(super) end: u64,
     pub(super) payload_end: usize,

@@ -3,10 +3,10 @@
 ghost use Rattle.std.specs.Prelude.{◌≡◌, ◌≤◌, ◌<◌, ◌+◌, [], ◌∷◌, ◌++◌, length, take, map, vec_len, vec_capacity};
 ghost use Rattle.sled_log.specs.Stored.{settles_at, settle_all, restarts};
 
-use super::item::Item;
+use super::item::LogItem;
 
 // Adds an item behind the others, and its payload behind theirs. There is room.
-pub(super) fn push(items: &mut Vec<Item>, bytes: &mut Vec<u8>, item: Item, payload: &[u8])
+pub(super) fn push(items: &mut Vec<LogItem>, bytes: &mut Vec<u8>, item: LogItem, payload: &[u8])
     requires room { vec_len items.old < vec_capacity items.old }
     requires payload_room { vec_len bytes.old + length payload.now ≤ vec_capacity bytes.old }
     ensures items { items.new.items ≡ items.old.items ++ item ∷ [] }
@@ -18,7 +18,7 @@ pub(super) fn push(items: &mut Vec<Item>, bytes: &mut Vec<u8>, item: Item, paylo
 }
 
 // Makes these items stable.
-pub(super) fn settle(items: &mut [Item], now: u64)
+pub(super) fn settle(items: &mut [LogItem], now: u64)
     ensures { items.new ≡ map (settles_at now) items.old }
 {
     for item in items.iter_mut() {
@@ -27,7 +27,7 @@ pub(super) fn settle(items: &mut [Item], now: u64)
 }
 
 // Makes the items from a place on stable.
-pub(super) fn settle_from(items: &mut Vec<Item>, from: usize, now: u64)
+pub(super) fn settle_from(items: &mut Vec<LogItem>, from: usize, now: u64)
     requires { from ≤ vec_len items.old }
     ensures { items.new.items ≡ settle_all now from items.old.items }
 {
@@ -35,7 +35,7 @@ pub(super) fn settle_from(items: &mut Vec<Item>, from: usize, now: u64)
 }
 
 // Lets the clock begin again with these items, all of them stable.
-fn restart(items: &mut [Item])
+fn restart(items: &mut [LogItem])
     ensures { items.new ≡ map restarts items.old }
 {
     for item in items.iter_mut() {
@@ -45,7 +45,7 @@ fn restart(items: &mut [Item])
 }
 
 // Keeps the first items, as a crash does.
-pub(super) fn keep_first(items: &mut Vec<Item>, count: usize)
+pub(super) fn keep_first(items: &mut Vec<LogItem>, count: usize)
     ensures { items.new.items ≡ map restarts (take count items.old.items) }
 {
     items.truncate(count);

@@ -32,7 +32,7 @@ fn filled(alloc: Global, bytes: &[u8], count: usize) -> Result<(MemLog, Vec<Disk
 }
 
 // Whether a reader is told this payload, and the kind that it is kept under.
-fn is_told(found: &Option<(MessageKind, Vec<u8>)>, payload: &[u8]) -> bool {
+fn is_read_so(found: &Option<(MessageKind, Vec<u8>)>, payload: &[u8]) -> bool {
     let expected = if payload.len() <= LIMIT {
         MessageKind::InlineNode
     } else {
@@ -47,9 +47,9 @@ fn is_told(found: &Option<(MessageKind, Vec<u8>)>, payload: &[u8]) -> bool {
 // Whether the log tells the first messages where they were put, and none of the others.
 fn tells(log: &MemLog, bytes: &[u8], pointers: &[DiskPtr], kept: usize) -> Result<bool, LogError> {
     for (number, pointer) in pointers.iter().enumerate() {
-        let found = log.told(*pointer)?;
+        let found = log.kind_and_payload(*pointer)?;
         let so = if number < kept {
-            is_told(&found, payload(bytes, number))
+            is_read_so(&found, payload(bytes, number))
         } else {
             found.is_none()
         };

@@ -6,7 +6,7 @@ ghost use Rattle.std.specs.Prelude.{⊤, ◌≡◌, ℕ, ◌+◌, ◌≤◌, pos
 ghost use Rattle.sled_log.specs.Laws.{IsFair-none};
 ghost use Rattle.sled_log.specs.Limits.{head_size, size_limit};
 ghost use Rattle.sled_log.specs.Memory.{state_of, clock_of, was_at, counts_of, size_of, stable_size_of, pending_size_of};
-ghost use Rattle.sled_log.specs.State.{told_state};
+ghost use Rattle.sled_log.specs.LogState.{unplaced_state};
 
 use super::*;
 use sled_base::PageId;
@@ -35,7 +35,7 @@ impl Log for BufferedLog {
 
     ghost moment = { λ log. clock_of log.log };
 
-    ghost left_since = { λ log t pages. (at : ℕ) × (t ≤ at) × (at ≤ clock_of log.log) × (pages ≡ (told_state (was_at at log.log)).stable) };
+    ghost left_since = { λ log t pages. (at : ℕ) × (t ≤ at) × (at ≤ clock_of log.log) × (pages ≡ (unplaced_state (was_at at log.log)).stable) };
 
     ghost counts = { λ log. counts_of log.log };
 
@@ -51,7 +51,7 @@ impl Log for BufferedLog {
 
     ghost keeps_stable = { λ log told usable. (clock_of log.log, le_refl (clock_of log.log), le_refl (clock_of log.log), refl) };
 
-    ghost only_now = { λ log pages told usable left. record { came = []; beginning = ([], refl); cut = 0; fair = IsFair-none _; is = left.3 ∙ ap (λ moment. (told_state (was_at moment log.log)).stable) (le_antisymm left.2 left.1) } };
+    ghost only_now = { λ log pages told usable left. record { came = []; beginning = ([], refl); cut = 0; fair = IsFair-none _; is = left.3 ∙ ap (λ moment. (unplaced_state (was_at moment log.log)).stable) (le_antisymm left.2 left.1) } };
 
     ghost since_earlier = { λ log t u pages told le left. (left.0, le_trans le left.1, left.2, left.3) };
 

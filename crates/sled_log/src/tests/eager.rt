@@ -7,7 +7,7 @@ ghost use Rattle.sled_log.specs.Items.{left_now, left_earlier, stable_left};
 ghost use Rattle.sled_log.specs.Limits.{head_size, size_limit};
 ghost use Rattle.sled_log.specs.Memory.{kept_in, state_of, clock_of, might_have_left, counts_of, size_of, stable_size_of, pending_size_of};
 ghost use Rattle.sled_log.specs.Messages.{effect_of, effect_of_entry};
-ghost use Rattle.sled_log.specs.State.{State, Adds, IsLeft, StopsLeave, told_state};
+ghost use Rattle.sled_log.specs.LogState.{LogState, Adds, IsLeft, CrashesSinceLeave, unplaced_state};
 
 use crate::{Log, LogError, MemLog, PageState};
 use sled_base::{DiskPtr, Lsn, MessageKind, PageId};
@@ -34,7 +34,7 @@ impl EagerLog {
 // Makes all that is pending stable, unless a batch is open.
 fn settle(log: &mut MemLog)
     ensures adds { Adds effect_of_entry (state_of log.old) [] (state_of log.new) }
-    ensures stop { StopsLeave clock_of might_have_left log.old log.new (IsLeft effect_of (told_state (state_of log.old)) []) }
+    ensures stop { CrashesSinceLeave clock_of might_have_left log.old log.new (IsLeft effect_of (unplaced_state (state_of log.old)) []) }
     ensures counts { counts_of log.new ≡ counts_of log.old }
     ensures size { size_of log.new ≡ size_of log.old }
     ensures stable { is_open (state_of log.new).pending ≡ false → (state_of log.new).pending ≡ [] }

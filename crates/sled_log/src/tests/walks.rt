@@ -4,7 +4,7 @@ ghost use Rattle.std.specs.Prelude.{◌≡◌, ◌≢◌, [], Bool, List, true, 
 ghost use Rattle.std.specs.List.{Any};
 ghost use Rattle.sled_log.specs.Messages.{Chain, effect_of_entry};
 ghost use Rattle.sled_log.specs.Pages.{IsAt};
-ghost use Rattle.sled_log.specs.State.{now};
+ghost use Rattle.sled_log.specs.LogState.{now};
 ghost use Rattle.sled_log.specs.Walks.{Stands};
 ghost use Rattle.sled_log.specs.declared.log.LogError.TheVariants.{WriteFault};
 

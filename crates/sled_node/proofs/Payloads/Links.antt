@@ -1,7 +1,7 @@
 -- Where no link is read.
 use Rattle.std.proofs.Common.{◌≡◌, ℕ, ◌≤◌, List, length, get_or, inl, inr, subst, arith}
 use Rattle.sled_node.specs.declared.node.link.Link.TheVariants.{Set, Del, ParentMergeIntention}
-use Rattle.sled_base.specs.Payloads.Reading.{ReadsPair, AsksPair, ReadsNothing}
+use Rattle.sled_base.specs.Payloads.Reading.{ReadsPair, AsksPair, ReadsNoValue}
 use Rattle.sled_base.specs.Payloads.Numbers.{ReadsU64}
 use Rattle.sled_node.specs.Payloads.ShortStrings.{ReadsShort, AsksShort}
 use Rattle.sled_node.specs.Payloads.Links.{ReadsLink, AsksLink}
@@ -10,17 +10,17 @@ use Rattle.sled_node.specs.Payloads.LinkLaws.{tag_is}
 use Rattle.sled_base.proofs.Payloads.Refusals.{rest_of, behind_first}
 
 module _ (input : List ℕ) (long : 1 ≤ length input) where
-  pub no_set : get_or input 0 0 ≡ 0 → ReadsNothing (ReadsPair ReadsShort ReadsShort) (rest_of input) → ReadsNothing ReadsLink input
+  pub no_set : get_or input 0 0 ≡ 0 → ReadsNoValue (ReadsPair ReadsShort ReadsShort) (rest_of input) → ReadsNoValue ReadsLink input
   no_set is nothing (Set key value) rest (parts, also, found) =
       nothing (key, value) rest (subst (λ text. ReadsPair ReadsShort ReadsShort text (key, value) rest) (behind 0 input parts (rest_of input) also (behind_first input 0 long is)) found)
   no_set is nothing link rest found = absurd (omega (arith, tag_is input link rest found, first input 0 (rest_of input) (behind_first input 0 long is)))
 
-  pub no_del : get_or input 0 0 ≡ 1 → ReadsNothing ReadsShort (rest_of input) → ReadsNothing ReadsLink input
+  pub no_del : get_or input 0 0 ≡ 1 → ReadsNoValue ReadsShort (rest_of input) → ReadsNoValue ReadsLink input
   no_del is nothing (Del key) rest (parts, also, found) =
       nothing key rest (subst (λ text. ReadsShort text key rest) (behind 1 input parts (rest_of input) also (behind_first input 1 long is)) found)
   no_del is nothing link rest found = absurd (omega (arith, tag_is input link rest found, first input 1 (rest_of input) (behind_first input 1 long is)))
 
-  pub no_intention : get_or input 0 0 ≡ 2 → ReadsNothing ReadsU64 (rest_of input) → ReadsNothing ReadsLink input
+  pub no_intention : get_or input 0 0 ≡ 2 → ReadsNoValue ReadsU64 (rest_of input) → ReadsNoValue ReadsLink input
   no_intention is nothing (ParentMergeIntention page) rest (parts, also, found) =
       nothing page rest (subst (λ text. ReadsU64 text page rest) (behind 2 input parts (rest_of input) also (behind_first input 2 long is)) found)
   no_intention is nothing link rest found = absurd (omega (arith, tag_is input link rest found, first input 2 (rest_of input) (behind_first input 2 long is)))

@@ -7,9 +7,9 @@ use Rattle.std.specs.Int.NonZero.{non_zero_u64_get}
 use Rattle.std.specs.Option.{option_map}
 use Rattle.sled_node.specs.Node.{WholeNode, IsPage, IsWellFormed}
 use Rattle.sled_node.specs.Parts.{HasStored}
-use Rattle.sled_base.specs.Payloads.Reading.{ReadsNothing, AsksNever, ReadsTriple, AsksTriple}
+use Rattle.sled_base.specs.Payloads.Reading.{ReadsNoValue, AsksNever, ReadsTriple, AsksTriple}
 use Rattle.sled_base.specs.Payloads.Numbers.{ReadsBool, ReadsU8, written_u64, written_bool, written_u8}
-use Rattle.sled_base.specs.Payloads.Options.{page_number, ReadsPage, written_page, CanWritePage}
+use Rattle.sled_base.specs.Payloads.Options.{page_number, ReadsPageNumber, written_page, CanWritePage}
 use Rattle.sled_base.specs.Payloads.ByteStrings.{ReadsBytes, AsksBytes, written_bytes}
 use Rattle.sled_node.specs.Payloads.Data.{AsksData, written_data}
 use Rattle.sled_node.specs.Payloads.Nodes.{NodeParts, ReadsParts, AsksNode, node_from, ReadsNode, written_node}
@@ -64,17 +64,17 @@ can_write_page None is = omega arith
 can_write_page (Some page) is = is.1
 
 -- where the parts that are read make no well-formed node, no node is read
-pub only_parts : (input : List ℕ) (parts : NodeParts) (rest : List ℕ) → ReadsParts input parts rest → (IsWellFormed (node_from parts) → ⊥) → ReadsNothing ReadsNode input
+pub only_parts : (input : List ℕ) (parts : NodeParts) (rest : List ℕ) → ReadsParts input parts rest → (IsWellFormed (node_from parts) → ⊥) → ReadsNoValue ReadsNode input
 only_parts input parts rest read ill n others (found, reading, is, formed) =
     let same = one_parts input parts found rest others read reading in
     ill (subst IsWellFormed (sym (ap node_from same.0 ∙ is)) formed)
 
-pub no_parts : (input : List ℕ) → ReadsNothing ReadsParts input → ReadsNothing ReadsNode input
+pub no_parts : (input : List ℕ) → ReadsNoValue ReadsParts input → ReadsNoValue ReadsNode input
 no_parts input nothing n rest found = nothing found.0 rest found.1
 
 -- the parts, as a triple of triples, ask for memory only where the node does
 abbrev pub AsksParts : List ℕ → Type 0
-AsksParts = AsksTriple (AsksTriple AsksNever ReadsPage AsksNever ReadsPage AsksNever) (ReadsTriple ReadsPage ReadsPage ReadsBool) (AsksTriple AsksNever ReadsU8 AsksBytes ReadsBytes AsksBytes) (ReadsTriple ReadsU8 ReadsBytes ReadsBytes) AsksData
+AsksParts = AsksTriple (AsksTriple AsksNever ReadsPageNumber AsksNever ReadsPageNumber AsksNever) (ReadsTriple ReadsPageNumber ReadsPageNumber ReadsBool) (AsksTriple AsksNever ReadsU8 AsksBytes ReadsBytes AsksBytes) (ReadsTriple ReadsU8 ReadsBytes ReadsBytes) AsksData
 
 pub asks_node : (input : List ℕ) → AsksParts input → AsksNode input
 asks_node input (inl (inl never)) = absurd never

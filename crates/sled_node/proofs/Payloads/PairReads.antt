@@ -3,7 +3,7 @@ use Rattle.std.proofs.Common.{◌≡◌, ℕ, ◌+◌, ◌*◌, ◌<◌, ◌≤�
 use Rattle.std.proofs.Math.Nat.{mul-le-mul_left}
 use Rattle.std.proofs.lemmas.List.{length-map}
 use Rattle.sled_base.specs.Order.{Bytes}
-use Rattle.sled_base.specs.Payloads.Reading.{IsGrammar, ReadsNothing}
+use Rattle.sled_base.specs.Payloads.Reading.{IsGrammar, ReadsNoValue}
 use Rattle.sled_base.specs.Payloads.Numbers.{ReadsU64}
 use Rattle.sled_base.specs.Payloads.NumberLaws.{U64-grammar}
 use Rattle.sled_base.specs.Payloads.ByteStrings.{ReadsBytes}
@@ -33,7 +33,7 @@ module _ {V : Type 0} (pairs : List (Bytes × V)) where
   length-items_of = length-map pairs (λ pair. pair.1)
 
 -- where the next key isn't read, so many keys aren't
-pub no_more_keys : (count : ℕ) (input : List ℕ) (keys : List Bytes) (rest : List ℕ) → ReadsAll ReadsBytes input keys rest → length keys < count → ReadsNothing ReadsBytes rest → ReadsNothing (ReadsCount count ReadsBytes) input
+pub no_more_keys : (count : ℕ) (input : List ℕ) (keys : List Bytes) (rest : List ℕ) → ReadsAll ReadsBytes input keys rest → length keys < count → ReadsNoValue ReadsBytes rest → ReadsNoValue (ReadsCount count ReadsBytes) input
 no_more_keys count input keys rest so_far lt nothing others end found = ReadsAll-stops Bytes-grammar input keys rest so_far nothing others end (omega (arith, lt, found.0)) found.1
 
 -- so many keys are followed by one rest
@@ -44,11 +44,11 @@ module _ {V : Type 0} (reads : List ℕ → V → List ℕ → Type 0) {written 
   -- ---- keys from the one input and items from the other
 
   module _ (count : ℕ) (keys input : List ℕ) (pairs : List (Bytes × V)) (lt : length pairs < count) where
-    pub no_key : (rest : List ℕ) → ReadsAll ReadsBytes keys (keys_of pairs) rest → ReadsNothing ReadsBytes rest → ReadsNothing (ReadsBoth reads count keys) input
+    pub no_key : (rest : List ℕ) → ReadsAll ReadsBytes keys (keys_of pairs) rest → ReadsNoValue ReadsBytes rest → ReadsNoValue (ReadsBoth reads count keys) input
     no_key rest so_far nothing others end found =
         ReadsAll-stops Bytes-grammar keys (keys_of pairs) rest so_far nothing (keys_of others) input (omega (arith, lt, found.0, length-keys_of pairs, length-keys_of others)) found.1
 
-    pub no_item : (rest : List ℕ) → ReadsAll reads input (items_of pairs) rest → ReadsNothing reads rest → ReadsNothing (ReadsBoth reads count keys) input
+    pub no_item : (rest : List ℕ) → ReadsAll reads input (items_of pairs) rest → ReadsNoValue reads rest → ReadsNoValue (ReadsBoth reads count keys) input
     no_item rest so_far nothing others end found =
         ReadsAll-stops grammar input (items_of pairs) rest so_far nothing (items_of others) end (omega (arith, lt, found.0, length-items_of pairs, length-items_of others)) found.2
 
@@ -60,7 +60,7 @@ module _ {V : Type 0} (reads : List ℕ → V → List ℕ → Type 0) {written 
   -- ---- pairs
 
   module _ (input : List ℕ) where
-    pub no_count : ReadsNothing ReadsU64 input → ReadsNothing (ReadsPairs reads) input
+    pub no_count : ReadsNoValue ReadsU64 input → ReadsNoValue (ReadsPairs reads) input
     no_count nothing pairs rest found = nothing (length pairs) found.0 found.2
 
     module _ (count : ℕ) (keys : List ℕ) (number : ReadsU64 input count keys) where
@@ -74,7 +74,7 @@ module _ {V : Type 0} (reads : List ℕ → V → List ℕ → Type 0) {written 
       same_length : (pairs : List (Bytes × V)) (rest : List ℕ) → ReadsPairs reads input pairs rest → length (keys_of pairs) ≡ count
       same_length pairs rest found = length-keys_of pairs ∙ sym (same_count pairs rest found).0
 
-      pub big_count : 1 ≤ least → (count ≤ 2 ^ 24 → length keys < 2 * count) → ReadsNothing (ReadsPairs reads) input
+      pub big_count : 1 ≤ least → (count ≤ 2 ^ 24 → length keys < 2 * count) → ReadsNoValue (ReadsPairs reads) input
       big_count one big pairs rest found =
           let same = same_count pairs rest found in
           let first = ReadsAll-takes Bytes-grammar found.0 (keys_of pairs) found.1 found.4 in
@@ -83,10 +83,10 @@ module _ {V : Type 0} (reads : List ℕ → V → List ℕ → Type 0) {written 
           let few : count ≤ 2 ^ 24 = omega (arith, same.0, found.3) in
           omega (arith, big few, same.0, first, second, enough, length-keys_of pairs, length-items_of pairs, ap length same.1)
 
-      pub no_keys : ReadsNothing (ReadsCount count ReadsBytes) keys → ReadsNothing (ReadsPairs reads) input
+      pub no_keys : ReadsNoValue (ReadsCount count ReadsBytes) keys → ReadsNoValue (ReadsPairs reads) input
       no_keys nothing pairs rest found = nothing (keys_of pairs) found.1 (same_length pairs rest found, same_keys pairs rest found)
 
-      pub no_both : (items : List ℕ) → IsBehindKeys count keys items → ReadsNothing (ReadsBoth reads count keys) items → ReadsNothing (ReadsPairs reads) input
+      pub no_both : (items : List ℕ) → IsBehindKeys count keys items → ReadsNoValue (ReadsBoth reads count keys) items → ReadsNoValue (ReadsPairs reads) input
       no_both items behind nothing pairs rest found =
           let same = one_behind count keys (keys_of pairs) behind.0 found.1 items (same_length pairs rest found) (same_keys pairs rest found) behind.1.0 behind.1.1 in
           nothing pairs rest (sym (same_count pairs rest found).0, subst (λ k. ReadsAll ReadsBytes keys (keys_of pairs) k) same (same_keys pairs rest found), subst (λ k. ReadsAll reads k (items_of pairs) rest) same found.5)
@@ -97,5 +97,5 @@ module _ {V : Type 0} (reads : List ℕ → V → List ℕ → Type 0) {written 
 
 -- where other pairs are read, or where they don't have what they should
 pub only_others : {V : Type 0} (reads : List ℕ → V → List ℕ → Type 0) (Has : V → Type 0) {written : V → List ℕ} {can_write : V → Type 0} {can_follow : V → List ℕ → Type 0} {least : ℕ} → IsGrammar reads written can_write can_follow least
-    → (input : List ℕ) (v : V) (r : List ℕ) → reads input v r → (Has v → ⊥) → ReadsNothing (λ text value rest. reads text value rest × Has value) input
+    → (input : List ℕ) (v : V) (r : List ℕ) → reads input v r → (Has v → ⊥) → ReadsNoValue (λ text value rest. reads text value rest × Has value) input
 only_others reads Has grammar input v r found has_not w rest other = has_not (subst Has (sym (grammar.one_reading input v w r rest found other.0).0) other.1)

@@ -4,9 +4,9 @@ use Rattle.std.specs.List.{AllByRecursion}
 use Rattle.std.proofs.lemmas.List.{length-append}
 use Rattle.std.proofs.lemmas.List.Sums.{fold-append}
 use Rattle.sled_base.specs.Order.{Bytes}
-use Rattle.sled_node.specs.Pairs.{IsRising}
+use Rattle.sled_node.specs.Pairs.{IsAscending}
 use Rattle.sled_node.specs.Meta.{Roots, with_root, with_roots, IsRootMap}
-use Rattle.sled_base.specs.Payloads.Reading.{ReadsNothing}
+use Rattle.sled_base.specs.Payloads.Reading.{ReadsNoValue}
 use Rattle.sled_base.specs.Payloads.Numbers.{written_u64}
 use Rattle.sled_base.specs.Payloads.ByteStrings.{written_bytes}
 use Rattle.sled_node.specs.Payloads.ShortStrings.{ReadsShort, AsksShort}
@@ -14,7 +14,7 @@ use Rattle.sled_node.specs.Payloads.Sequences.{ReadsAll}
 use Rattle.sled_node.specs.Payloads.SequenceLaws.{ReadsAll-more}
 use Rattle.sled_node.specs.Payloads.Roots.{ReadsRoot, ReadsRoots, AsksRoots, written_root, written_roots}
 use Rattle.sled_node.specs.Payloads.RootLaws.{CanWriteRoot, go_on, can_write_roots}
-use Rattle.sled_node.proofs.Roots.{never_fewer, rising_with}
+use Rattle.sled_node.proofs.Roots.{never_fewer, ascending_with}
 use Rattle.sled_node.proofs.Payloads.Sizes.{all_size, number_size, string_size}
 
 -- the pairs that a map comes from, so far
@@ -30,7 +30,7 @@ put_more input middle rest roots pair (pairs, so_far, is) read =
     (pairs ++ pair ∷ [], ReadsAll-more ReadsRoot input pairs middle pair rest so_far read, ap (with_root pair.0 pair.1) is ∙ sym (put_last pairs pair))
 
 -- where bytes are left that are no pair, no map is read
-pub no_pair : (input middle : List ℕ) (roots : Roots) → PutSoFar input middle roots → middle ≢ [] → ReadsNothing ReadsRoot middle → ReadsNothing ReadsRoots input
+pub no_pair : (input middle : List ℕ) (roots : Roots) → PutSoFar input middle roots → middle ≢ [] → ReadsNoValue ReadsRoot middle → ReadsNoValue ReadsRoots input
 no_pair input middle roots (pairs, so_far, is) left nothing others rest (end, qs, all, was, few) = by (go_on input pairs qs middle so_far all)
   where
     by : (more : List (Bytes × ℕ)) × (qs ≡ pairs ++ more) × ReadsAll ReadsRoot middle more [] → ⊥
@@ -38,11 +38,11 @@ no_pair input middle roots (pairs, so_far, is) left nothing others rest (end, qs
     by (q ∷ more, same, (m, a, behind)) = nothing q m a
 
 -- nor where the pairs so far make too many names
-pub too_many : (input middle : List ℕ) (roots : Roots) → PutSoFar input middle roots → 2 ^ 24 < length roots → ReadsNothing ReadsRoots input
+pub too_many : (input middle : List ℕ) (roots : Roots) → PutSoFar input middle roots → 2 ^ 24 < length roots → ReadsNoValue ReadsRoots input
 too_many input middle roots (pairs, so_far, is) many others rest (end, qs, all, was, few) =
     let (more, same, behind) = go_on input pairs qs middle so_far all in
     let put : others ≡ with_roots more roots = was ∙ ap (λ k. with_roots k []) same ∙ fold-append (λ so_far x. with_root x.0 x.1 so_far) [] pairs more ∙ ap (with_roots more) (sym is) in
-    let kept = never_fewer more roots (subst IsRising (sym is) (rising_with pairs [] tt)) in
+    let kept = never_fewer more roots (subst IsAscending (sym is) (ascending_with pairs [] tt)) in
     omega (arith, many, few, ap length put, kept)
 
 -- memory is asked for behind a name: the first one, or the one that stands here

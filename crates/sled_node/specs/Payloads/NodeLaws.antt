@@ -15,7 +15,7 @@ use Rattle.sled_base.specs.Order.{Bytes, bytes_cmp, IsBelow, IsAtMost}
 use Rattle.sled_base.specs.OrderLaws.{under_one_front}
 use Rattle.sled_node.specs.declared.node.data.Data.{Data}
 use Rattle.sled_node.specs.declared.node.data.Data.TheVariants.{Leaf, Index}
-use Rattle.sled_node.specs.Pairs.{IsWithinLimit, IsRising, HasPairs}
+use Rattle.sled_node.specs.Pairs.{IsWithinLimit, IsAscending, HasPairs}
 use Rattle.sled_node.specs.Node.{Item, Value, Child, WholeNode, IsInRange, ItemFits, IsPage, IsWellFormed}
 use Rattle.sled_node.specs.Parts.{is_index, pairs_under, HasStored}
 use Rattle.sled_base.specs.Payloads.Reading.{IsGrammar}
@@ -28,7 +28,7 @@ use Rattle.sled_base.specs.Payloads.ByteStrings.{written_bytes, CanWriteBytes}
 use Rattle.sled_base.specs.Payloads.ByteStringLaws.{Bytes-grammar}
 use Rattle.sled_node.specs.Payloads.Data.{written_data}
 use Rattle.sled_node.specs.Payloads.DataLaws.{Data-grammar}
-use Rattle.sled_node.specs.Payloads.Nodes.{NodeParts, ReadsParts, node_from, ReadsNode, page_of, value_in, page_in, stored_pairs, stored_as, written_node}
+use Rattle.sled_node.specs.Payloads.Nodes.{NodeParts, ReadsParts, node_from, ReadsNode, page_or_zero, value_in, page_of_item, stored_pairs, stored_as, written_node}
 
 -- ---- between two keys with a front in common, each has it
 
@@ -107,17 +107,17 @@ module _ {V : Type 0} (pick : Item → V) (make : V → Item) (front : Bytes) (p
   below_stored a b x y lt =
       sym (under_one_front front (drop p a) (drop p b)) ∙ ap (λ k. bytes_cmp k (front ++ drop p b)) (whole_again a x) ∙ ap (bytes_cmp a) (whole_again b y) ∙ lt
 
-  rising_stored : (pairs : List (Bytes × Item)) → IsRising pairs → AllByRecursion Begins pairs → IsRising (stored_pairs pick p pairs)
-  rising_stored [] rising begin = tt
-  rising_stored (pair ∷ pairs) rising begin =
-      let later = all_with {P = λ other. IsBelow pair.0 other.0} {Q = Begins} {R = λ other. IsBelow (drop p pair.0) (drop p other.0)} (λ other lt is. below_stored pair.0 other.0 begin.0 is lt) pairs rising.0 begin.1 in
-      (all_map {P = λ other. IsBelow (drop p pair.0) (drop p other.0)} (λ other. IsBelow (drop p pair.0) other.0) (λ other. (drop p other.0, pick other.1)) (λ other lt. lt) pairs later, rising_stored pairs rising.1 begin.1)
+  ascending_stored : (pairs : List (Bytes × Item)) → IsAscending pairs → AllByRecursion Begins pairs → IsAscending (stored_pairs pick p pairs)
+  ascending_stored [] ascending begin = tt
+  ascending_stored (pair ∷ pairs) ascending begin =
+      let later = all_with {P = λ other. IsBelow pair.0 other.0} {Q = Begins} {R = λ other. IsBelow (drop p pair.0) (drop p other.0)} (λ other lt is. below_stored pair.0 other.0 begin.0 is lt) pairs ascending.0 begin.1 in
+      (all_map {P = λ other. IsBelow (drop p pair.0) (drop p other.0)} (λ other. IsBelow (drop p pair.0) other.0) (λ other. (drop p other.0, pick other.1)) (λ other lt. lt) pairs later, ascending_stored pairs ascending.1 begin.1)
 
-  has_stored : {Fits : Item → Type 0} (fits : V → Type 0) → ((item : Item) → Fits item → fits (pick item)) → (pairs : List (Bytes × Item)) → length pairs ≤ 2 ^ 24 → IsRising pairs → AllByRecursion Begins pairs → AllByRecursion (λ pair. IsWithinLimit pair.0) pairs
+  has_stored : {Fits : Item → Type 0} (fits : V → Type 0) → ((item : Item) → Fits item → fits (pick item)) → (pairs : List (Bytes × Item)) → length pairs ≤ 2 ^ 24 → IsAscending pairs → AllByRecursion Begins pairs → AllByRecursion (λ pair. IsWithinLimit pair.0) pairs
       → AllByRecursion (λ pair. Fits pair.1) pairs → HasPairs fits (stored_pairs pick p pairs)
-  has_stored {Fits = Fits} fits so pairs few rising begin keys items = record {
+  has_stored {Fits = Fits} fits so pairs few ascending begin keys items = record {
     few = omega (arith, few, length-map {B = Bytes × V} pairs (λ pair. (drop p pair.0, pick pair.1)));
-    rising = rising_stored pairs rising begin;
+    ascending = ascending_stored pairs ascending begin;
     keys = all_map {P = λ pair. IsWithinLimit pair.0} (λ pair. IsWithinLimit pair.0) (λ pair. (drop p pair.0, pick pair.1)) (λ pair short. omega (arith, short, length-drop p pair.0)) pairs keys;
     items = all_map {P = λ pair. Fits pair.1} (λ pair. fits pair.1) (λ pair. (drop p pair.0, pick pair.1)) (λ pair h. so pair.1 h) pairs items;
   }
@@ -126,7 +126,7 @@ value_back : (item : Item) → ItemFits false item → Value (value_in item) ≡
 value_back (Value value) fits = refl
 value_back (Child page) fits = absurd fits
 
-page_back : (item : Item) → ItemFits true item → Child (page_in item) ≡ item
+page_back : (item : Item) → ItemFits true item → Child (page_of_item item) ≡ item
 page_back (Value value) fits = absurd fits
 page_back (Child page) fits = refl
 
@@ -134,22 +134,22 @@ value_fits : (item : Item) → ItemFits false item → IsWithinLimit (value_in i
 value_fits (Value value) fits = fits
 value_fits (Child page) fits = absurd fits
 
-page_fits : (item : Item) → ItemFits true item → page_in item < 2 ^ 64
+page_fits : (item : Item) → ItemFits true item → page_of_item item < 2 ^ 64
 page_fits (Value value) fits = absurd fits
 page_fits (Child page) fits = fits
 
 -- what is stored of a node's pairs, made whole, is the pairs again, and keeps what is stored has to
-module _ (front : Bytes) (p : ℕ) (pairs : List (Bytes × Item)) (few : length pairs ≤ 2 ^ 24) (rising : IsRising pairs) (begin : AllByRecursion (λ pair. take p pair.0 ≡ front) pairs) (keys : AllByRecursion (λ pair. IsWithinLimit pair.0) pairs) where
+module _ (front : Bytes) (p : ℕ) (pairs : List (Bytes × Item)) (few : length pairs ≤ 2 ^ 24) (ascending : IsAscending pairs) (begin : AllByRecursion (λ pair. take p pair.0 ≡ front) pairs) (keys : AllByRecursion (λ pair. IsWithinLimit pair.0) pairs) where
   whole_stored : (b : Bool) → AllByRecursion (λ pair. ItemFits b pair.1) pairs → (is_index (stored_as b p pairs) ≡ b) × (pairs_under front (stored_as b p pairs) ≡ pairs) × HasStored (stored_as b p pairs)
   whole_stored false items =
-      (refl, stored_under value_in (λ v. Value v) front p {Fits = ItemFits false} value_back pairs items begin, has_stored value_in (λ v. Value v) front p {Fits = ItemFits false} IsWithinLimit value_fits pairs few rising begin keys items)
+      (refl, stored_under value_in (λ v. Value v) front p {Fits = ItemFits false} value_back pairs items begin, has_stored value_in (λ v. Value v) front p {Fits = ItemFits false} IsWithinLimit value_fits pairs few ascending begin keys items)
   whole_stored true items =
-      (refl, stored_under page_in (λ page. Child page) front p {Fits = ItemFits true} page_back pairs items begin, has_stored page_in (λ page. Child page) front p {Fits = ItemFits true} (λ page. page < 2 ^ 64) page_fits pairs few rising begin keys items)
+      (refl, stored_under page_of_item (λ page. Child page) front p {Fits = ItemFits true} page_back pairs items begin, has_stored page_of_item (λ page. Child page) front p {Fits = ItemFits true} (λ page. page < 2 ^ 64) page_fits pairs few ascending begin keys items)
 
 -- what is stored of the pairs that stored pairs were made into
 pub stored_again : (front : Bytes) (p : ℕ) (parts : Data) → length front ≡ p → stored_as (is_index parts) p (pairs_under front parts) ≡ parts
 stored_again front p (Leaf pairs) len = ap (λ ps. Leaf ps) (under_stored value_in (λ v. Value v) front p (λ v. refl) len pairs)
-stored_again front p (Index pairs) len = ap (λ ps. Index ps) (under_stored page_in (λ page. Child page) front p (λ page. refl) len pairs)
+stored_again front p (Index pairs) len = ap (λ ps. Index ps) (under_stored page_of_item (λ page. Child page) front p (λ page. refl) len pairs)
 
 -- ---- the parts
 
@@ -179,7 +179,7 @@ get_page_from : (o : Option ℕ) (h : IfSome o IsPage) → option_map non_zero_u
 get_page_from None h = refl
 get_page_from (Some page) h = refl
 
-number_page_from : (o : Option ℕ) (h : IfSome o IsPage) → page_number (page_from o h) ≡ page_of o
+number_page_from : (o : Option ℕ) (h : IfSome o IsPage) → page_number (page_from o h) ≡ page_or_zero o
 number_page_from None h = refl
 number_page_from (Some page) h = refl
 
@@ -187,7 +187,7 @@ can_page_from : (o : Option ℕ) (h : IfSome o IsPage) → CanWritePage (page_fr
 can_page_from None h = omega arith
 can_page_from (Some page) h = h.1
 
-pub number_of_page : (o : Option NonZeroU64) → page_number o ≡ page_of (option_map non_zero_u64_get o)
+pub number_of_page : (o : Option NonZeroU64) → page_number o ≡ page_or_zero (option_map non_zero_u64_get o)
 number_of_page None = refl
 number_of_page (Some page) = refl
 
@@ -205,7 +205,7 @@ all_begin n formed = all_so {P = λ pair. IsInRange n pair.0} (λ pair inside. b
 
 -- what is stored of a well-formed node keeps what is stored has to
 pub formed_stored : (n : WholeNode) → IsWellFormed n → HasStored (stored_as n.is_index n.prefix_len n.pairs)
-formed_stored n formed = (whole_stored (take n.prefix_len n.lo) n.prefix_len n.pairs formed.few formed.rising (all_begin n formed) formed.keys n.is_index formed.items).2
+formed_stored n formed = (whole_stored (take n.prefix_len n.lo) n.prefix_len n.pairs formed.few formed.ascending (all_begin n formed) formed.keys n.is_index formed.items).2
 
 node_again : (n : WholeNode) (rest : List ℕ) → IsWellFormed n → ReadsNode (written_node n ++ rest) n rest
 node_again n rest formed =
@@ -213,7 +213,7 @@ node_again n rest formed =
     let next = page_from n.next formed.pages.0 in
     let child = page_from n.child formed.pages.1 in
     let contents = stored_as n.is_index p n.pairs in
-    let kept = whole_stored (take p n.lo) p n.pairs formed.few formed.rising (all_begin n formed) formed.keys n.is_index formed.items in
+    let kept = whole_stored (take p n.lo) p n.pairs formed.few formed.ascending (all_begin n formed) formed.keys n.is_index formed.items in
     let parts : NodeParts = ((next, child, n.capped), (p, n.lo, n.hi), contents) in
     let same : node_from parts ≡ n = λ i. record {
       prefix_len = p;

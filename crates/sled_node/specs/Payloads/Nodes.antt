@@ -10,7 +10,7 @@ use Rattle.sled_node.specs.Node.{Item, Value, Child, WholeNode, IsWellFormed}
 use Rattle.sled_node.specs.Parts.{node_of}
 use Rattle.sled_base.specs.Payloads.Reading.{ReadsTriple}
 use Rattle.sled_base.specs.Payloads.Numbers.{written_u64, ReadsBool, written_bool, ReadsU8, written_u8}
-use Rattle.sled_base.specs.Payloads.Options.{ReadsPage}
+use Rattle.sled_base.specs.Payloads.Options.{ReadsPageNumber}
 use Rattle.sled_base.specs.Payloads.ByteStrings.{ReadsBytes, AsksBytes, written_bytes}
 use Rattle.sled_node.specs.Payloads.Data.{ReadsData, AsksData, written_data}
 
@@ -19,11 +19,11 @@ abbrev pub NodeParts : Type 0
 NodeParts = (Option NonZeroU64 × Option NonZeroU64 × Bool) × (ℕ × Bytes × Bytes) × Data
 
 abbrev pub ReadsParts : List ℕ → NodeParts → List ℕ → Type 0
-ReadsParts = ReadsTriple (ReadsTriple ReadsPage ReadsPage ReadsBool) (ReadsTriple ReadsU8 ReadsBytes ReadsBytes) ReadsData
+ReadsParts = ReadsTriple (ReadsTriple ReadsPageNumber ReadsPageNumber ReadsBool) (ReadsTriple ReadsU8 ReadsBytes ReadsBytes) ReadsData
 
 -- lo begins behind next, the merging child, the mark and the prefix length; hi begins behind lo, and the pairs behind hi
 abbrev pub BeginsLo : List ℕ → List ℕ → Type 0
-BeginsLo input at = (head : Option NonZeroU64 × Option NonZeroU64 × Bool) × (middle : List ℕ) × (prefix_len : ℕ) × ReadsTriple ReadsPage ReadsPage ReadsBool input head middle × ReadsU8 middle prefix_len at
+BeginsLo input at = (head : Option NonZeroU64 × Option NonZeroU64 × Bool) × (middle : List ℕ) × (prefix_len : ℕ) × ReadsTriple ReadsPageNumber ReadsPageNumber ReadsBool input head middle × ReadsU8 middle prefix_len at
 
 abbrev pub BeginsHi : List ℕ → List ℕ → Type 0
 BeginsHi input at = (lo middle : List ℕ) × BeginsLo input middle × ReadsBytes middle lo at
@@ -44,18 +44,18 @@ abbrev pub ReadsNode : List ℕ → WholeNode → List ℕ → Type 0
 ReadsNode input n rest = (parts : NodeParts) × ReadsParts input parts rest × (node_from parts ≡ n) × IsWellFormed n
 
 -- 0 where there is no page
-abbrev pub page_of : Option ℕ → ℕ
-page_of None = 0
-page_of (Some page) = page
+abbrev pub page_or_zero : Option ℕ → ℕ
+page_or_zero None = 0
+page_or_zero (Some page) = page
 
 -- what stands behind the keys of a leaf, and of an index
 abbrev pub value_in : Item → Bytes
 value_in (Value value) = value
 value_in (Child page) = []
 
-abbrev pub page_in : Item → ℕ
-page_in (Value value) = 0
-page_in (Child page) = page
+abbrev pub page_of_item : Item → ℕ
+page_of_item (Value value) = 0
+page_of_item (Child page) = page
 
 -- the pairs as they are stored: keys lack their first bytes
 abbrev pub stored_pairs : {V : Type 0} → (Item → V) → ℕ → List (Bytes × Item) → List (Bytes × V)
@@ -63,10 +63,10 @@ stored_pairs pick p pairs = map (λ pair. (drop p pair.0, pick pair.1)) pairs
 
 abbrev pub stored_as : Bool → ℕ → List (Bytes × Item) → Data
 stored_as false p pairs = Leaf (stored_pairs value_in p pairs)
-stored_as true p pairs = Index (stored_pairs page_in p pairs)
+stored_as true p pairs = Index (stored_pairs page_of_item p pairs)
 
 abbrev pub written_node : WholeNode → List ℕ
 written_node n =
-    (written_u64 (page_of n.next) ++ (written_u64 (page_of n.child) ++ written_bool n.capped)) ++
+    (written_u64 (page_or_zero n.next) ++ (written_u64 (page_or_zero n.child) ++ written_bool n.capped)) ++
     ((written_u8 n.prefix_len ++ (written_bytes n.lo ++ written_bytes n.hi)) ++
     written_data (stored_as n.is_index n.prefix_len n.pairs))

@@ -59,7 +59,7 @@ map_again roots rest map end =
       end,
       roots,
       subst (λ k. ReadsAll ReadsRoot (written_roots roots ++ rest) roots k) end (ReadsAll-again Root-grammar (λ v bytes. (tt, tt)) roots rest (can_write_roots roots map)),
-      sym (put_in_order roots map.rising),
+      sym (put_in_order roots map.ascending),
       few,
     )
 

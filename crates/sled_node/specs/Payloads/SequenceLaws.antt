@@ -3,7 +3,7 @@ use Rattle.std.specs.Prelude.{◌≡◌, ℕ, ◌+◌, ◌*◌, ◌<◌, ◌≤�
 use Rattle.std.proofs.Common.{sym, ap, subst, ◌∙◌, append_assoc, arith}
 use Rattle.std.specs.List.{flat_map, AllByRecursion}
 use Rattle.std.proofs.Math.Nat.{suc-mul}
-use Rattle.sled_base.specs.Payloads.Reading.{IsGrammar, ReadsNothing}
+use Rattle.sled_base.specs.Payloads.Reading.{IsGrammar, ReadsNoValue}
 use Rattle.sled_node.specs.Payloads.Sequences.{ReadsAll}
 
 module _ {V : Type 0} {reads : List ℕ → V → List ℕ → Type 0} {written : V → List ℕ} {can_write : V → Type 0} {can_follow : V → List ℕ → Type 0} {least : ℕ} where
@@ -33,7 +33,7 @@ module _ {V : Type 0} {reads : List ℕ → V → List ℕ → Type 0} {written 
       rw suc-mul (omega arith)
 
   -- where the next value isn't read, no longer list is
-  pub ReadsAll-stops : IsGrammar reads written can_write can_follow least → (input : List ℕ) (vs : List V) (middle : List ℕ) → ReadsAll reads input vs middle → ReadsNothing reads middle → (ws : List V) (rest : List ℕ) → length vs < length ws → ReadsAll reads input ws rest → ⊥
+  pub ReadsAll-stops : IsGrammar reads written can_write can_follow least → (input : List ℕ) (vs : List V) (middle : List ℕ) → ReadsAll reads input vs middle → ReadsNoValue reads middle → (ws : List V) (rest : List ℕ) → length vs < length ws → ReadsAll reads input ws rest → ⊥
   ReadsAll-stops g input [] middle is nothing [] rest lt found = absurd (omega arith)
   ReadsAll-stops g input [] middle is nothing (w ∷ ws) rest lt (m, a, found) = nothing w m (subst (λ k. reads k w m) is a)
   ReadsAll-stops g input (v ∷ vs) middle (m, a, others) nothing [] rest lt found = absurd (omega arith)

@@ -1,7 +1,7 @@
 //! Names with their pages, in std's map.
 
 ghost use Rattle.std.specs.Prelude.{◌≡◌, IfOk, OnOk, OnErr};
-ghost use Rattle.sled_node.specs.Pairs.{IsRising};
+ghost use Rattle.sled_node.specs.Pairs.{IsAscending};
 ghost use Rattle.sled_node.specs.Meta.{named_pages, root_of, with_root, without_root};
 
 use sled_base::PageId;
@@ -9,7 +9,7 @@ use std::alloc::{AllocError, Global};
 use std::collections::BTreeMap;
 
 // The page of a name, if the name is there.
-pub fn page_of(pages: &BTreeMap<Vec<u8>, PageId>, name: &[u8]) -> Option<PageId>
+pub fn root_of(pages: &BTreeMap<Vec<u8>, PageId>, name: &[u8]) -> Option<PageId>
     ensures { result ≡ root_of name.now (named_pages pages.now) }
 {
     pages.get(name).copied()
@@ -22,7 +22,7 @@ pub fn set_page(
     name: &[u8],
     page: PageId,
 ) -> Result<Option<PageId>, AllocError>
-    requires rising { IsRising (named_pages pages.old) }
+    requires ascending { IsAscending (named_pages pages.old) }
     ensures former { IfOk result (λ former. former ≡ root_of name.now (named_pages pages.old)) }
     ensures ok { OnOk result (named_pages pages.new ≡ with_root name.now page (named_pages pages.old)) }
     ensures err { OnErr result (named_pages pages.new ≡ named_pages pages.old) }
@@ -34,7 +34,7 @@ pub fn set_page(
 
 // Takes a name out, and answers the page that it had, if the name was there.
 pub fn take_page(pages: &mut BTreeMap<Vec<u8>, PageId>, name: &[u8]) -> Option<PageId>
-    requires rising { IsRising (named_pages pages.old) }
+    requires ascending { IsAscending (named_pages pages.old) }
     ensures former { result ≡ root_of name.now (named_pages pages.old) }
     ensures value { named_pages pages.new ≡ without_root name.now (named_pages pages.old) }
 {

@@ -1,10 +1,10 @@
 //! The children of an index: which one a key leads to, and how they come to be there.
 
 ghost use Rattle.std.specs.Prelude.{◌≡◌, ◌≢◌, ◌↔◌, ◌⊎◌, ◌<◌, ◌^◌, [], ◌∷◌, true, length, map, IsTrue, IfOk, IsOk, OnErr};
-ghost use Rattle.sled_node.specs.Pairs.{IsWithinLimit, IsRising, HasPairs};
+ghost use Rattle.sled_node.specs.Pairs.{IsWithinLimit, IsAscending, HasPairs};
 ghost use Rattle.sled_node.specs.Node.{IsInRange, Child};
 ghost use Rattle.sled_node.specs.Inserts.{HasKey, inserted};
-ghost use Rattle.sled_node.specs.Children.{index_of, BeginsAtMost, HasChildFor, IsLastAtMost, AcceptsChild, with_child};
+ghost use Rattle.sled_node.specs.Children.{index_of, BeginsAtMost, HasChildFor, IsLeadingPair, AcceptsChild, with_child};
 ghost use Rattle.sled_node.specs.Limits.{pairs_limit};
 
 use super::pairs::is_below;
@@ -54,11 +54,11 @@ impl Node {
     /// [`has_child_for`](Node::has_child_for) the key.
     pub fn index_next_node(&self, key: &[u8]) -> (usize, PageId)
         requires { HasChildFor self.now key.now }
-        ensures { IsLastAtMost self.now.pairs key.now result.0 (Child result.1) }
+        ensures { IsLeadingPair self.now.pairs key.now result.0 (Child result.1) }
     {
         match &self.contents {
             Data::Leaf(_) => unreachable!(),
-            Data::Index(index) => last_at_most(index.pairs(), self.without_prefix(key)),
+            Data::Index(index) => leading_pair(index.pairs(), self.without_prefix(key)),
         }
     }
 
@@ -127,10 +127,10 @@ fn begins_at_most(pairs: &[(IVec, PageId)], key: &[u8]) -> bool
 }
 
 // The place of the last pair whose key isn't above, and the page that it leads to.
-fn last_at_most(pairs: &[(IVec, PageId)], key: &[u8]) -> (usize, PageId)
-    requires rising { IsRising pairs.now }
+fn leading_pair(pairs: &[(IVec, PageId)], key: &[u8]) -> (usize, PageId)
+    requires ascending { IsAscending pairs.now }
     requires begins { BeginsAtMost pairs.now key.now }
-    ensures { IsLastAtMost pairs.now key.now result.0 result.1 }
+    ensures { IsLeadingPair pairs.now key.now result.0 result.1 }
 {
     let count = pairs.partition_point(|pair| !is_below(key, pair.0.as_slice()));
     let last = count - 1;

@@ -4,7 +4,7 @@ ghost use Rattle.std.specs.Prelude.{◌≡◌, ◌↔◌, ◌⊎◌, ◌==◌, �
 ghost use Rattle.std.specs.Cmp.{partial_equiv_from_equiv};
 ghost use Rattle.std.specs.Option.{SomeIff};
 ghost use Rattle.std.specs.List.{AllByRecursion};
-ghost use Rattle.sled_node.specs.Pairs.{IsWithinLimit, IsRising, HasPairs, set_pair};
+ghost use Rattle.sled_node.specs.Pairs.{IsWithinLimit, IsAscending, HasPairs, set_pair};
 ghost use Rattle.sled_node.specs.Inserts.{HasKey, inserted};
 ghost use Rattle.sled_node.specs.Equality.{same_pairs, index_equiv};
 ghost use Rattle.sled_node.specs.Parts.{CanSet, set_stored, del_stored, LeadsTo, without_page, without_stored};
@@ -12,7 +12,7 @@ ghost use Rattle.sled_node.specs.Limits.{pairs_limit};
 
 use super::MAX_PAIRS;
 use super::leaf::Leaf;
-use super::pairs::{are_rising, are_short, place_of};
+use super::pairs::{are_ascending, are_short, place_of_key};
 use sled_base::{IVec, PageId};
 use std::alloc::{AllocError, Global};
 use std::marker::Model;
@@ -65,7 +65,7 @@ impl Index {
         ensures value { IfOk result (λ index. SomeIff index (HasPairs (λ page. page < 2 ^ 64) pairs.items) pairs.items) }
     {
         know_pages(&pairs);
-        if pairs.len() > MAX_PAIRS || !are_rising(&pairs) || !are_short(&pairs) {
+        if pairs.len() > MAX_PAIRS || !are_ascending(&pairs) || !are_short(&pairs) {
             return Ok(None);
         }
         Ok(Some(Index { pairs }))
@@ -186,13 +186,13 @@ fn remove_from(pairs: &mut Vec<(IVec, PageId)>, page: PageId)
 
 // Puts the pair in, unless the key is there, and answers whether it was put in.
 fn insert_in(pairs: &mut Vec<(IVec, PageId)>, key: &[u8], page: PageId) -> Result<bool, AllocError>
-    requires { IsRising pairs.old.items }
+    requires { IsAscending pairs.old.items }
     ensures new { IfOk result (λ is_new. IsTrue is_new ↔ (HasKey pairs.old.items key.now → ⊥)) }
     ensures value { IfOk result (λ is_new. pairs.new.items ≡ inserted is_new (set_pair key.now page pairs.old.items) pairs.old.items) }
     ensures there { HasKey pairs.old.items key.now → IsOk result }
     ensures err { OnErr result (pairs.new.items ≡ pairs.old.items) }
 {
-    let Err(at) = place_of(pairs, key) else {
+    let Err(at) = place_of_key(pairs, key) else {
         return Ok(false);
     };
     let key = IVec::from_slice(*pairs.allocator(), key)?;
@@ -202,10 +202,10 @@ fn insert_in(pairs: &mut Vec<(IVec, PageId)>, key: &[u8], page: PageId) -> Resul
 
 // Whether the key is there.
 fn has_key(pairs: &[(IVec, PageId)], key: &[u8]) -> bool
-    requires { IsRising pairs.now }
+    requires { IsAscending pairs.now }
     ensures { IsTrue result ↔ HasKey pairs.now key.now }
 {
-    match place_of(pairs, key) {
+    match place_of_key(pairs, key) {
         Ok(_) => true,
         Err(_) => false,
     }

@@ -9,7 +9,7 @@ ghost use Rattle.sled_node.specs.Equality.{same_pairs, leaf_equiv};
 ghost use Rattle.sled_node.specs.Pairs.{IsWithinLimit, HasPairs, set_pair, del_pair};
 ghost use Rattle.sled_node.specs.Limits.{pairs_limit};
 
-use super::pairs::{are_rising, are_short, del_from, place_of, set_in};
+use super::pairs::{are_ascending, are_short, del_from, place_of_key, set_in};
 use super::{MAX_BYTES, MAX_PAIRS};
 use sled_base::IVec;
 use std::alloc::{AllocError, Global};
@@ -51,7 +51,7 @@ impl Leaf {
         ensures value { IfOk result (λ leaf. SomeIff leaf (HasPairs IsWithinLimit pairs.items) pairs.items) }
     {
         if pairs.len() > MAX_PAIRS
-            || !are_rising(&pairs)
+            || !are_ascending(&pairs)
             || !are_short(&pairs)
             || !have_short_values(&pairs)
         {
@@ -113,7 +113,7 @@ impl Leaf {
     pub(super) fn has_room(&self, key: &[u8]) -> bool
         ensures { IsTrue result ↔ (length (set_pair key.now [] self.now) ≤ pairs_limit) }
     {
-        self.pairs.len() < MAX_PAIRS || place_of(&self.pairs, key).is_ok()
+        self.pairs.len() < MAX_PAIRS || place_of_key(&self.pairs, key).is_ok()
     }
 
     // Where its pairs come from.

@@ -4,11 +4,11 @@ ghost use Rattle.std.specs.Prelude.{◌≡◌, ◌<◌, false, take, drop, lengt
 ghost use Rattle.std.specs.List.{HoldsAt};
 ghost use Rattle.sled_node.specs.declared.node.data.Data.TheVariants.{Leaf as Stored};
 ghost use Rattle.sled_node.specs.Node.{whole, IsInRange, IsWellFormed};
-ghost use Rattle.sled_node.specs.Pairs.{IsRising, StandsAt, IsGap};
+ghost use Rattle.sled_node.specs.Pairs.{IsAscending, StandsAt, IsGap};
 ghost use Rattle.sled_node.specs.Parts.{pairs_under};
 ghost use Rattle.sled_node.specs.Lookups.{HasValue, LacksKey};
 
-use super::pairs::{is_below, place_of};
+use super::pairs::{is_below, place_of_key};
 use super::{Data, Node};
 use sled_base::IVec;
 use std::alloc::AllocError;
@@ -23,7 +23,7 @@ impl Node {
         ensures value { IfSome result (λ pair. HasValue self.now key.now pair.1.now) }
         ensures absent { IfNone result (LacksKey self.now key.now) }
     {
-        match self.place_of_whole(key) {
+        match self.place_of_whole_key(key) {
             Ok(at) => {
                 let pair = &self.leaf_pairs()[at];
                 Some((pair.0.as_slice(), pair.1.as_slice()))
@@ -43,7 +43,7 @@ impl Node {
         ensures value { IfOk result (λ pair. IfSome pair.1 (HasValue self.now key.now)) }
         ensures absent { IfOk result (λ pair. IfNone pair.1 (LacksKey self.now key.now)) }
     {
-        match self.place_of_whole(key) {
+        match self.place_of_whole_key(key) {
             Ok(at) => {
                 let pair = &self.leaf_pairs()[at];
                 Ok((pair.0.clone()?, Some(pair.1.clone()?)))
@@ -56,7 +56,7 @@ impl Node {
     }
 
     // Where the whole key stands in a leaf, or else where it would.
-    pub(super) fn place_of_whole(&self, key: &[u8]) -> Result<usize, usize>
+    pub(super) fn place_of_whole_key(&self, key: &[u8]) -> Result<usize, usize>
         requires leaf { self.now.is_index ≡ false }
         ensures found { IfOk result (StandsAt self.now.pairs key.now) }
         ensures same { IfOk result (HoldsAt (λ pair. pair.0 ≡ key.now) self.now.pairs) }
@@ -70,7 +70,7 @@ impl Node {
     pub(super) fn leaf_pairs(&self) -> &[(IVec, IVec)]
         requires leaf { self.now.is_index ≡ false }
         ensures value { self.now.pairs ≡ pairs_under (take self.now.prefix_len self.now.lo) (Stored result.now) }
-        ensures rising { IsRising result.now }
+        ensures ascending { IsAscending result.now }
         ensures well_formed { IsWellFormed self.now }
     {
         match &self.contents {
@@ -99,13 +99,13 @@ impl Node {
 
 // Where the whole key stands among pairs whose stored keys lack the prefix, or else where it would.
 fn place_under(pairs: &[(IVec, IVec)], prefix: &[u8], key: &[u8]) -> Result<usize, usize>
-    requires { IsRising pairs.now }
+    requires { IsAscending pairs.now }
     ensures found { IfOk result (StandsAt (pairs_under prefix.now (Stored pairs.now)) key.now) }
     ensures same { IfOk result (HoldsAt (λ pair. pair.0 ≡ key.now) (pairs_under prefix.now (Stored pairs.now))) }
     ensures missing { IfErr result (IsGap (pairs_under prefix.now (Stored pairs.now)) key.now) }
 {
     match key.strip_prefix(prefix) {
-        Some(stored) => place_of(pairs, stored),
+        Some(stored) => place_of_key(pairs, stored),
         None if is_below(key, prefix) => Err(0),
         None => Err(pairs.len()),
     }

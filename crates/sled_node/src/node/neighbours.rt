@@ -73,7 +73,7 @@ impl Node {
         requires leaf { self.now.is_index ≡ false }
         ensures { IsCount (λ other. IsBelow other key.now) (λ other. IsAtMost key.now other) self.now.pairs result }
     {
-        match self.place_of_whole(key) {
+        match self.place_of_whole_key(key) {
             Ok(at) => at,
             Err(at) => at,
         }
@@ -84,7 +84,7 @@ impl Node {
         requires leaf { self.now.is_index ≡ false }
         ensures { IsCount (λ other. IsAtMost other key.now) (λ other. IsBelow key.now other) self.now.pairs result }
     {
-        match self.place_of_whole(key) {
+        match self.place_of_whole_key(key) {
             Ok(at) => at + 1,
             Err(at) => at,
         }

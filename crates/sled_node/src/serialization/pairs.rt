@@ -3,7 +3,7 @@
 ghost use Rattle.std.specs.Prelude.{◌≡◌, ◌+◌, ◌*◌, ◌<◌, ◌≤◌, ◌^◌, ◌++◌, [], length, drop, take, IfSome, IfNone, IfOk, IfErr, OnErr};
 ghost use Rattle.std.specs.List.{flat_map, AllByRecursion};
 ghost use Rattle.std.specs.Vec.{vec_capacity};
-ghost use Rattle.sled_base.specs.Payloads.Reading.{ReadsNothing, IsRefusal};
+ghost use Rattle.sled_base.specs.Payloads.Reading.{ReadsNoValue, IsRefusal};
 ghost use Rattle.sled_base.specs.Payloads.ByteStrings.{ReadsBytes, written_bytes, CanWriteBytes};
 ghost use Rattle.sled_node.specs.Payloads.Sequences.{ReadsCount};
 ghost use Rattle.sled_node.specs.Payloads.Pairs.{keys_of, items_of, IsBehindKeys, SplitsPairs, AsksPairs, ReadsBoth, ReadsPairs, CanWritePairs, written_pairs};
@@ -38,7 +38,7 @@ pub fn read_pairs<V: Serialize>(alloc: Global, input: &mut &[u8]) -> Result<Vec<
 fn split_pairs<V: Serialize>(input: &[u8]) -> Option<(usize, &[u8], &[u8])>
     requires { 1 ≤ V.least_size }
     ensures found { IfSome result (λ x. SplitsPairs input.now x.0 x.1.now x.2.now) }
-    ensures nothing { IfNone result (ReadsNothing (ReadsPairs V.reads) input.now) }
+    ensures nothing { IfNone result (ReadsNoValue (ReadsPairs V.reads) input.now) }
 {
     let (count, keys) = read_u64(input)?;
     if count > MOST_PAIRS {
@@ -55,7 +55,7 @@ fn split_pairs<V: Serialize>(input: &[u8]) -> Option<(usize, &[u8], &[u8])>
 // What is left behind so many keys, if there are so many.
 fn skip_keys(input: &[u8], count: usize) -> Option<&[u8]>
     ensures found { IfSome result (λ rest. IsBehindKeys count input.now rest.now) }
-    ensures nothing { IfNone result (ReadsNothing (ReadsCount count ReadsBytes) input.now) }
+    ensures nothing { IfNone result (ReadsNoValue (ReadsCount count ReadsBytes) input.now) }
 {
     let mut rest = input;
     for _ in 0..count {

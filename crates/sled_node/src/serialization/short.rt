@@ -1,7 +1,7 @@
 //! The byte strings of a link, and the names of roots.
 
 ghost use Rattle.std.specs.Prelude.{◌≡◌, IfSome, IfNone, IfOk, IfErr, OnErr};
-ghost use Rattle.sled_base.specs.Payloads.Reading.{ReadsNothing, IsRefusal};
+ghost use Rattle.sled_base.specs.Payloads.Reading.{ReadsNoValue, IsRefusal};
 ghost use Rattle.sled_node.specs.Payloads.ShortStrings.{ReadsShort, AsksShort};
 
 use crate::node::MAX_BYTES;
@@ -12,7 +12,7 @@ use std::alloc::Global;
 // The byte string at the front, where it lies, and the rest, if there is one that is short enough.
 fn split_short(bytes: &[u8]) -> Option<(&[u8], &[u8])>
     ensures read { IfSome result (λ x. ReadsShort bytes.now x.0.now x.1.now) }
-    ensures nothing { IfNone result (ReadsNothing ReadsShort bytes.now) }
+    ensures nothing { IfNone result (ReadsNoValue ReadsShort bytes.now) }
 {
     let (short, rest) = split_bytes(bytes)?;
     if short.len() > MAX_BYTES {

@@ -141,7 +141,7 @@ fn no_links(rt: HostRuntime) {
 
 // Run with the first allocation refused too: none of these asks for any.
 #[test]
-fn a_lie_about_a_length_takes_no_memory(rt: HostRuntime) {
+fn a_forged_length_takes_no_memory(rt: HostRuntime) {
     for bytes in [
         [0, 255, 255, 255, 255, 255, 255, 255, 255, 255].as_slice(),
         &[0, 250, 0, 0, 1, 1, 97, 1, 98],
@@ -199,7 +199,7 @@ fn index_of(alloc: Global, left: &[u8], right: &[u8]) -> Result<Option<Index>, F
 
 #[test]
 fn indexes(rt: HostRuntime) -> Result<(), Fail> {
-    let index = Data::Index(index_of(rt.alloc(), b"", b"a")?.ok_or("rising")?);
+    let index = Data::Index(index_of(rt.alloc(), b"", b"a")?.ok_or("ascending")?);
     expect_data(&rt, rt.alloc(), &index, &[1, 2, 0, 1, 97, 2, 241, 1])?;
     assert!(rt; index_of(rt.alloc(), b"a", b"")?.is_none());
     assert!(rt; index_of(rt.alloc(), b"a", b"a")?.is_none());

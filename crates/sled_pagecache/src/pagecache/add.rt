@@ -7,20 +7,20 @@ ghost use Rattle.sled_log.specs.Events.{Change};
 ghost use Rattle.sled_log.specs.Messages.{effect_of_entry};
 ghost use Rattle.sled_log.specs.Pages.{IsSized};
 ghost use Rattle.sled_log.specs.Reading.{IsUpdate};
-ghost use Rattle.sled_log.specs.State.{now};
+ghost use Rattle.sled_log.specs.LogState.{now};
 ghost use Rattle.sled_log.specs.Writing.{message_of};
 ghost use Rattle.sled_pagecache.specs.Accesses.{WasAccessed, IsTouched};
 ghost use Rattle.sled_pagecache.specs.Adding.{HasOneMore, RefusesPage};
 ghost use Rattle.sled_pagecache.specs.ChainReads.{chain_at};
 ghost use Rattle.sled_pagecache.specs.Limits.{most_pages};
-ghost use Rattle.sled_pagecache.specs.Journal.{Went, IsCaused, IsOfLog, begun_by};
-ghost use Rattle.sled_pagecache.specs.Pages.{size_of};
+ghost use Rattle.sled_pagecache.specs.StickyLog.{Went, IsCaused, IsOfLog, begun_by};
+ghost use Rattle.sled_pagecache.specs.Pages.{access_size};
 
 use super::MAX_PAGES;
 use super::accesses::{Accesses, size_with};
-use super::journal::Journal;
 use super::page::{Kept, Page};
 use super::pagetable::PageTable;
+use super::sticky_log::StickyLog;
 use super::write::write_node;
 use sled_base::{PageId, Refusal, Serialize, Why};
 use sled_log::Log;
@@ -30,27 +30,27 @@ use std::alloc::Global;
 // Puts a node on a new page, at stamp 1, and answers its id. A refusal leaves the pages.
 pub(super) fn add_page<L: Log>(
     alloc: Global,
-    journal: &mut Journal<L>,
+    sticky_log: &mut StickyLog<L>,
     accesses: &mut Accesses,
     pages: &mut PageTable,
     node: Node,
 ) -> Result<PageId, Refusal>
-    requires ready { journal.old.fault ≡ false }
-    requires usable { (L.state journal.old.log).usable ≡ true }
-    requires there { L.tells → length pages.old.pages ≡ length (now effect_of_entry (L.state journal.old.log)) }
+    requires ready { sticky_log.old.fault ≡ false }
+    requires usable { (L.state sticky_log.old.log).usable ≡ true }
+    requires there { L.tells → length pages.old.pages ≡ length (now effect_of_entry (L.state sticky_log.old.log)) }
     ensures pid { IfOk result (λ pid. pid ≡ length pages.old.pages) }
-    ensures page { OnOk result (HasOneMore L.tells pages.old.pages pages.new.pages (chain_at (L.state journal.new.log) (length pages.old.pages)) node) }
-    ensures others { L.tells → OnOk result (now effect_of_entry (L.state journal.new.log) ≡ now effect_of_entry (L.state journal.old.log) ++ chain_at (L.state journal.new.log) (length pages.old.pages) ∷ []) }
+    ensures page { OnOk result (HasOneMore L.tells pages.old.pages pages.new.pages (chain_at (L.state sticky_log.new.log) (length pages.old.pages)) node) }
+    ensures others { L.tells → OnOk result (now effect_of_entry (L.state sticky_log.new.log) ≡ now effect_of_entry (L.state sticky_log.old.log) ++ chain_at (L.state sticky_log.new.log) (length pages.old.pages) ∷ []) }
     ensures room { OnOk result (length pages.old.pages ≢ most_pages) }
     ensures left { OnErr result (pages.new.pages ≡ pages.old.pages) }
-    ensures same { L.tells → OnErr result (journal.new.fault ≡ false → now effect_of_entry (L.state journal.new.log) ≡ now effect_of_entry (L.state journal.old.log)) }
+    ensures same { L.tells → OnErr result (sticky_log.new.fault ≡ false → now effect_of_entry (L.state sticky_log.new.log) ≡ now effect_of_entry (L.state sticky_log.old.log)) }
     ensures refused { L.tells → IfErr result (RefusesPage (length pages.old.pages)) }
     ensures is { IsUpdate (message_of (contents.Put (contents.Node node))) (contents.Put (contents.Node node)) }
-    ensures went { Went L.tells L.state L.moment L.left_since L.counts journal.old journal.new (begun_by result (Change (length pages.old.pages) (message_of (contents.Put (contents.Node node))) ∷ [])) }
-    ensures cause { IsCaused L.tells L.state L.moment L.left_since L.counts journal.old journal.new (L.is_full journal.old.log (length (message_of (contents.Put (contents.Node node))).payload)) result }
-    ensures reads { (L.counts journal.new.log).reads ≡ (L.counts journal.old.log).reads }
-    ensures sized { L.tells → OnOk result (AllByRecursion IsSized (now effect_of_entry (L.state journal.new.log))) }
-    ensures accessed { OnOk result (IfSome (slice_get pages.new.pages (length pages.old.pages)) (λ page. WasAccessed accesses.old (length pages.old.pages) (size_of page) accesses.new)) }
+    ensures went { Went L.tells L.state L.moment L.left_since L.counts sticky_log.old sticky_log.new (begun_by result (Change (length pages.old.pages) (message_of (contents.Put (contents.Node node))) ∷ [])) }
+    ensures cause { IsCaused L.tells L.state L.moment L.left_since L.counts sticky_log.old sticky_log.new (L.is_full sticky_log.old.log (length (message_of (contents.Put (contents.Node node))).payload)) result }
+    ensures reads { (L.counts sticky_log.new.log).reads ≡ (L.counts sticky_log.old.log).reads }
+    ensures sized { L.tells → OnOk result (AllByRecursion IsSized (now effect_of_entry (L.state sticky_log.new.log))) }
+    ensures accessed { OnOk result (IfSome (slice_get pages.new.pages (length pages.old.pages)) (λ page. WasAccessed accesses.old (length pages.old.pages) (access_size page) accesses.new)) }
     ensures touched { OnErr result (IsTouched accesses.old (length pages.old.pages) accesses.new) }
     ensures unasked { L.tells → IfErr result (λ refusal. IsOfLog refusal ⊎ (accesses.new ≡ accesses.old)) }
 {
@@ -69,7 +69,7 @@ pub(super) fn add_page<L: Log>(
     let Ok(()) = accesses.access(pid, size_with(0, node.serialized_size())) else {
         return Err(Refusal::OutOfMemory);
     };
-    let info = write_node(alloc, journal, pid, &node, 1)?;
+    let info = write_node(alloc, sticky_log, pid, &node, 1)?;
     infos.push_reserved(info);
     pages.push_reserved(Page {
         stamp: 1,

@@ -8,7 +8,7 @@ ghost use Rattle.sled_base.specs.declared.types.Refusal.TheVariants as refusal;
 ghost use Rattle.sled_base.specs.declared.types.Why.{Why};
 ghost use Rattle.sled_log.specs.Batches.{is_open};
 ghost use Rattle.sled_log.specs.Messages.{effect_of_entry};
-ghost use Rattle.sled_log.specs.State.{now, told_state};
+ghost use Rattle.sled_log.specs.LogState.{now, unplaced_state};
 ghost use Rattle.sled_pagecache.specs.Answers.{Keeps, stamped, swapped};
 ghost use Rattle.sled_pagecache.specs.Cache.{IsResident, IsAway, chain_length};
 ghost use Rattle.sled_pagecache.specs.Calls.{Steps, IsBlamed};
@@ -85,7 +85,7 @@ impl<L: Log> PageCache<L> {
         requires usable { (L.state log).usable ≡ true }
         requires closed { is_open (L.state log).pending ≡ false }
         ensures settings { (why : Why) → fault_of config ≡ Some why → result ≡ Err (Unsupported why, log) }
-        ensures opens { fault_of config ≡ None → L.tells → (held : Logged) → IsLogged (told_state (L.state log)) held → Opens L.Log log config held result }
+        ensures opens { fault_of config ≡ None → L.tells → (held : Logged) → IsLogged (unplaced_state (L.state log)) held → Opens L.Log log config held result }
         ensures refused { L.tells → IfErr result (λ e. RefusesOpening config (now effect_of_entry (L.state log)) e.0) }
         ensures blame { IsBlamedOpening L.Log log result }
         ensures again { IfErr result (λ e. e.0 ≢ Io Write → MayBeOpened L.Log e.1) }

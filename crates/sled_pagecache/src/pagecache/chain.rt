@@ -4,13 +4,13 @@ ghost use Rattle.std.specs.Prelude.{◌≡◌, ℕ, ◌≤◌, [], false, true, 
 ghost use Rattle.std.specs.List.{AllZip};
 ghost use Rattle.sled_log.specs.Messages.{effect_of_entry};
 ghost use Rattle.sled_log.specs.Pages.{said_of};
-ghost use Rattle.sled_log.specs.State.{now};
+ghost use Rattle.sled_log.specs.LogState.{now};
 ghost use Rattle.sled_pagecache.specs.ChainReads.{IsFoundAs, chain_at, place_of, more};
-ghost use Rattle.sled_pagecache.specs.Journal.{Went, IsCaused, IsOfLog};
+ghost use Rattle.sled_pagecache.specs.StickyLog.{Went, IsCaused, IsOfLog};
 
-use super::journal::Journal;
 use super::page::CacheInfo;
 use super::reading::Found;
+use super::sticky_log::StickyLog;
 use sled_base::{PageId, Refusal};
 use sled_log::Log;
 use std::alloc::Global;
@@ -19,28 +19,28 @@ use std::alloc::Global;
 // read, but for that of the payloads.
 pub(super) fn read_chain<L: Log>(
     alloc: Global,
-    journal: &mut Journal<L>,
+    sticky_log: &mut StickyLog<L>,
     pid: PageId,
     infos: &[CacheInfo],
 ) -> Result<Vec<Found>, Refusal>
-    requires ready { journal.old.fault ≡ false }
-    requires usable { (L.state journal.old.log).usable ≡ true }
-    requires known { L.tells → map said_of (chain_at (L.state journal.old.log) pid) ≡ map place_of infos.now }
+    requires ready { sticky_log.old.fault ≡ false }
+    requires usable { (L.state sticky_log.old.log).usable ≡ true }
+    requires known { L.tells → map said_of (chain_at (L.state sticky_log.old.log) pid) ≡ map place_of infos.now }
     ensures len { IfOk result (λ found. length found.items ≡ length infos.now) }
-    ensures found { L.tells → IfOk result (λ found. AllZip IsFoundAs (chain_at (L.state journal.old.log) pid) found.items) }
-    ensures went { Went L.tells L.state L.moment L.left_since L.counts journal.old journal.new [] }
-    ensures cause { IsCaused L.tells L.state L.moment L.left_since L.counts journal.old journal.new ⊥ result }
+    ensures found { L.tells → IfOk result (λ found. AllZip IsFoundAs (chain_at (L.state sticky_log.old.log) pid) found.items) }
+    ensures went { Went L.tells L.state L.moment L.left_since L.counts sticky_log.old sticky_log.new [] }
+    ensures cause { IsCaused L.tells L.state L.moment L.left_since L.counts sticky_log.old sticky_log.new ⊥ result }
     ensures sound { L.tells → IfErr result IsOfLog }
-    ensures same { L.tells → journal.new.fault ≡ false → now effect_of_entry (L.state journal.new.log) ≡ now effect_of_entry (L.state journal.old.log) }
-    ensures room { (n : ℕ) → L.is_full journal.new.log n → L.is_full journal.old.log n }
-    ensures reads { OnOk result ((L.counts journal.new.log).reads ≡ more (length infos.now) (L.counts journal.old.log).reads) }
-    ensures at_most { OnErr result ((times : ℕ) × (times ≤ length infos.now) × ((L.counts journal.new.log).reads ≡ more times (L.counts journal.old.log).reads)) }
+    ensures same { L.tells → sticky_log.new.fault ≡ false → now effect_of_entry (L.state sticky_log.new.log) ≡ now effect_of_entry (L.state sticky_log.old.log) }
+    ensures room { (n : ℕ) → L.is_full sticky_log.new.log n → L.is_full sticky_log.old.log n }
+    ensures reads { OnOk result ((L.counts sticky_log.new.log).reads ≡ more (length infos.now) (L.counts sticky_log.old.log).reads) }
+    ensures at_most { OnErr result ((times : ℕ) × (times ≤ length infos.now) × ((L.counts sticky_log.new.log).reads ≡ more times (L.counts sticky_log.old.log).reads)) }
 {
     let Ok(mut found) = Vec::with_capacity(alloc, infos.len()) else {
         return Err(Refusal::OutOfMemory);
     };
     for info in infos {
-        let (kind, payload) = journal.read(pid, info.lsn, info.pointer)?;
+        let (kind, payload) = sticky_log.read(pid, info.lsn, info.pointer)?;
         found.push_reserved(Found {
             kind,
             payload,

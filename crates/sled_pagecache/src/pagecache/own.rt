@@ -3,24 +3,24 @@
 ghost use Rattle.std.specs.Prelude.{◌≡◌, ◌<◌, ℕ, [], ◌∷◌, ◌++◌, false, true, length, map, IfOk, IfErr, OnOk};
 ghost use Rattle.std.specs.List.{AllZip};
 ghost use Rattle.sled_log.specs.Contents as contents;
-ghost use Rattle.sled_log.specs.Messages.{effect_of_entry, told};
+ghost use Rattle.sled_log.specs.Messages.{effect_of_entry, unplaced};
 ghost use Rattle.sled_log.specs.Reading.{IsUpdate, Makes};
-ghost use Rattle.sled_log.specs.State.{now};
+ghost use Rattle.sled_log.specs.LogState.{now};
 ghost use Rattle.sled_node.specs.Meta as meta;
 ghost use Rattle.sled_pagecache.specs.ChainReads.{IsFoundAs, chain_at};
-ghost use Rattle.sled_pagecache.specs.Journal.{IsOfLog};
-ghost use Rattle.sled_pagecache.specs.Loading.{IsLoaded, IsTable, RefusesOwn, told_of_roots, counter_told, stamps_at_start};
+ghost use Rattle.sled_pagecache.specs.StickyLog.{IsOfLog};
+ghost use Rattle.sled_pagecache.specs.Loading.{IsLoaded, IsTable, RefusesOwn, events_of_roots, counter_event, stamps_at_start};
 ghost use Rattle.sled_pagecache.specs.Proceeding.{Proceeds, refusal_in};
-ghost use Rattle.sled_pagecache.specs.Reading.{told_of, RefusesMessage};
+ghost use Rattle.sled_pagecache.specs.Reading.{found_message, RefusesMessage};
 ghost use Rattle.sled_pagecache.specs.Reads.{HasRead};
 ghost use Rattle.sled_pagecache.specs.Table.{stamps_in};
 
 use super::chain::read_chain;
-use super::journal::Journal;
 use super::page::{Kept, Page};
 use super::pagetable::PageTable;
 use super::reading::{Found, whole};
 use super::recovered::is_misfit;
+use super::sticky_log::StickyLog;
 use super::write::{write_counter, write_roots};
 use super::{COUNTER_PID, META_PID};
 use sled_base::{Bug, MessageKind, PageId, Refusal};
@@ -31,63 +31,63 @@ use std::alloc::Global;
 // Reads the named roots.
 pub(super) fn read_roots<L: Log>(
     alloc: Global,
-    journal: &mut Journal<L>,
+    sticky_log: &mut StickyLog<L>,
     page: &Page,
 ) -> Result<Meta, Refusal>
-    requires ready { journal.old.fault ≡ false }
-    requires usable { (L.state journal.old.log).usable ≡ true }
-    requires loaded { L.tells → IsLoaded (chain_at (L.state journal.old.log) 0) page.now }
-    ensures proceeds { Proceeds L.Log journal.old journal.new [] (refusal_in result) }
-    ensures same { L.tells → journal.new.fault ≡ false → now effect_of_entry (L.state journal.new.log) ≡ now effect_of_entry (L.state journal.old.log) }
-    ensures read { L.tells → IfOk result (λ roots. Makes (told (chain_at (L.state journal.old.log) 0)) (contents.Roots roots)) }
-    ensures refused { L.tells → IfErr result (RefusesOwn 0 (chain_at (L.state journal.old.log) 0)) }
-    ensures reads { HasRead L.counts journal.old.log journal.new.log 1 result }
+    requires ready { sticky_log.old.fault ≡ false }
+    requires usable { (L.state sticky_log.old.log).usable ≡ true }
+    requires loaded { L.tells → IsLoaded (chain_at (L.state sticky_log.old.log) 0) page.now }
+    ensures proceeds { Proceeds L.Log sticky_log.old sticky_log.new [] (refusal_in result) }
+    ensures same { L.tells → sticky_log.new.fault ≡ false → now effect_of_entry (L.state sticky_log.new.log) ≡ now effect_of_entry (L.state sticky_log.old.log) }
+    ensures read { L.tells → IfOk result (λ roots. Makes (unplaced (chain_at (L.state sticky_log.old.log) 0)) (contents.Roots roots)) }
+    ensures refused { L.tells → IfErr result (RefusesOwn 0 (chain_at (L.state sticky_log.old.log) 0)) }
+    ensures reads { HasRead L.counts sticky_log.old.log sticky_log.new.log 1 result }
 {
-    let found = read_own(alloc, journal, META_PID, page)?;
+    let found = read_own(alloc, sticky_log, META_PID, page)?;
     roots_of(&found[0], alloc)
 }
 
 // Reads the counter.
 pub(super) fn read_counter<L: Log>(
     alloc: Global,
-    journal: &mut Journal<L>,
+    sticky_log: &mut StickyLog<L>,
     page: &Page,
 ) -> Result<u64, Refusal>
-    requires ready { journal.old.fault ≡ false }
-    requires usable { (L.state journal.old.log).usable ≡ true }
-    requires loaded { L.tells → IsLoaded (chain_at (L.state journal.old.log) 1) page.now }
-    ensures proceeds { Proceeds L.Log journal.old journal.new [] (refusal_in result) }
-    ensures same { L.tells → journal.new.fault ≡ false → now effect_of_entry (L.state journal.new.log) ≡ now effect_of_entry (L.state journal.old.log) }
-    ensures read { L.tells → IfOk result (λ n. Makes (told (chain_at (L.state journal.old.log) 1)) (contents.Counter n)) }
-    ensures refused { L.tells → IfErr result (RefusesOwn 1 (chain_at (L.state journal.old.log) 1)) }
-    ensures reads { HasRead L.counts journal.old.log journal.new.log 1 result }
+    requires ready { sticky_log.old.fault ≡ false }
+    requires usable { (L.state sticky_log.old.log).usable ≡ true }
+    requires loaded { L.tells → IsLoaded (chain_at (L.state sticky_log.old.log) 1) page.now }
+    ensures proceeds { Proceeds L.Log sticky_log.old sticky_log.new [] (refusal_in result) }
+    ensures same { L.tells → sticky_log.new.fault ≡ false → now effect_of_entry (L.state sticky_log.new.log) ≡ now effect_of_entry (L.state sticky_log.old.log) }
+    ensures read { L.tells → IfOk result (λ n. Makes (unplaced (chain_at (L.state sticky_log.old.log) 1)) (contents.Counter n)) }
+    ensures refused { L.tells → IfErr result (RefusesOwn 1 (chain_at (L.state sticky_log.old.log) 1)) }
+    ensures reads { HasRead L.counts sticky_log.old.log sticky_log.new.log 1 result }
 {
-    let found = read_own(alloc, journal, COUNTER_PID, page)?;
+    let found = read_own(alloc, sticky_log, COUNTER_PID, page)?;
     counter_of(&found[0], alloc)
 }
 
 // Reads the one message of a system page. A page that is free, or has more, is refused before.
 fn read_own<L: Log>(
     alloc: Global,
-    journal: &mut Journal<L>,
+    sticky_log: &mut StickyLog<L>,
     pid: PageId,
     page: &Page,
 ) -> Result<Vec<Found>, Refusal>
-    requires ready { journal.old.fault ≡ false }
-    requires usable { (L.state journal.old.log).usable ≡ true }
+    requires ready { sticky_log.old.fault ≡ false }
+    requires usable { (L.state sticky_log.old.log).usable ≡ true }
     requires own { pid < 2 }
-    requires loaded { L.tells → IsLoaded (chain_at (L.state journal.old.log) pid) page.now }
-    ensures proceeds { Proceeds L.Log journal.old journal.new [] (refusal_in result) }
-    ensures same { L.tells → journal.new.fault ≡ false → now effect_of_entry (L.state journal.new.log) ≡ now effect_of_entry (L.state journal.old.log) }
-    ensures found { L.tells → IfOk result (λ found. AllZip IsFoundAs (chain_at (L.state journal.old.log) pid) found.items) }
+    requires loaded { L.tells → IsLoaded (chain_at (L.state sticky_log.old.log) pid) page.now }
+    ensures proceeds { Proceeds L.Log sticky_log.old sticky_log.new [] (refusal_in result) }
+    ensures same { L.tells → sticky_log.new.fault ≡ false → now effect_of_entry (L.state sticky_log.new.log) ≡ now effect_of_entry (L.state sticky_log.old.log) }
+    ensures found { L.tells → IfOk result (λ found. AllZip IsFoundAs (chain_at (L.state sticky_log.old.log) pid) found.items) }
     ensures one { IfOk result (λ found. length found.items ≡ 1) }
-    ensures refused { L.tells → IfErr result (RefusesOwn pid (chain_at (L.state journal.old.log) pid)) }
-    ensures reads { HasRead L.counts journal.old.log journal.new.log 1 result }
+    ensures refused { L.tells → IfErr result (RefusesOwn pid (chain_at (L.state sticky_log.old.log) pid)) }
+    ensures reads { HasRead L.counts sticky_log.old.log sticky_log.new.log 1 result }
 {
     if is_misfit(pid as usize, page) {
         return Err(Refusal::Corruption(Some(page.infos[0].pointer)));
     }
-    let found = read_chain(alloc, journal, pid, &page.infos)?;
+    let found = read_chain(alloc, sticky_log, pid, &page.infos)?;
     if found[0].kind == MessageKind::Free {
         return Err(Refusal::ReportableBug(Bug::FreeInPull));
     }
@@ -96,8 +96,8 @@ fn read_own<L: Log>(
 
 // The root map that a message puts on its page.
 fn roots_of(found: &Found, alloc: Global) -> Result<Meta, Refusal>
-    ensures read { IfOk result (λ roots. IsUpdate (told_of found.now) (contents.Put (contents.Roots roots))) }
-    ensures refused { IfErr result (RefusesMessage found.now.pointer ((roots : meta.Roots) → ¬ IsUpdate (told_of found.now) (contents.Put (contents.Roots roots)))) }
+    ensures read { IfOk result (λ roots. IsUpdate (found_message found.now) (contents.Put (contents.Roots roots))) }
+    ensures refused { IfErr result (RefusesMessage found.now.pointer ((roots : meta.Roots) → ¬ IsUpdate (found_message found.now) (contents.Put (contents.Roots roots)))) }
 {
     match found.kind {
         MessageKind::InlineMeta | MessageKind::BlobMeta => whole::<Meta>(found, alloc),
@@ -107,8 +107,8 @@ fn roots_of(found: &Found, alloc: Global) -> Result<Meta, Refusal>
 
 // The counter that a message puts on its page.
 fn counter_of(found: &Found, alloc: Global) -> Result<u64, Refusal>
-    ensures read { IfOk result (λ n. IsUpdate (told_of found.now) (contents.Put (contents.Counter n))) }
-    ensures refused { IfErr result (RefusesMessage found.now.pointer ((n : ℕ) → ¬ IsUpdate (told_of found.now) (contents.Put (contents.Counter n)))) }
+    ensures read { IfOk result (λ n. IsUpdate (found_message found.now) (contents.Put (contents.Counter n))) }
+    ensures refused { IfErr result (RefusesMessage found.now.pointer ((n : ℕ) → ¬ IsUpdate (found_message found.now) (contents.Put (contents.Counter n)))) }
 {
     match found.kind {
         MessageKind::Counter => whole::<u64>(found, alloc),
@@ -119,20 +119,20 @@ fn counter_of(found: &Found, alloc: Global) -> Result<u64, Refusal>
 // Makes the page of the named roots, of which there are none, at stamp 1, unless it is there.
 pub(super) fn add_roots<L: Log>(
     alloc: Global,
-    journal: &mut Journal<L>,
+    sticky_log: &mut StickyLog<L>,
     pages: &mut PageTable,
 ) -> Result<(), Refusal>
-    requires ready { journal.old.fault ≡ false }
-    requires usable { (L.state journal.old.log).usable ≡ true }
-    requires table { IsTable L.tells (now effect_of_entry (L.state journal.old.log)) pages.old.pages }
+    requires ready { sticky_log.old.fault ≡ false }
+    requires usable { (L.state sticky_log.old.log).usable ≡ true }
+    requires table { IsTable L.tells (now effect_of_entry (L.state sticky_log.old.log)) pages.old.pages }
     requires some { length pages.old.pages < 2 }
     requires fresh { L.tells → stamps_in pages.old.pages ≡ map (λ _. 0) pages.old.pages }
-    ensures proceeds { Proceeds L.Log journal.old journal.new (told_of_roots pages.old.pages) (refusal_in result) }
+    ensures proceeds { Proceeds L.Log sticky_log.old sticky_log.new (events_of_roots pages.old.pages) (refusal_in result) }
     ensures of_log { L.tells → IfErr result IsOfLog }
-    ensures table { OnOk result (IsTable L.tells (now effect_of_entry (L.state journal.new.log)) pages.new.pages) }
+    ensures table { OnOk result (IsTable L.tells (now effect_of_entry (L.state sticky_log.new.log)) pages.new.pages) }
     ensures one { OnOk result (length pages.new.pages ≡ 1) }
     ensures stamps { L.tells → OnOk result (stamps_in pages.new.pages ++ 1 ∷ [] ≡ stamps_at_start pages.old.pages) }
-    ensures unread { (L.counts journal.new.log).reads ≡ (L.counts journal.old.log).reads }
+    ensures unread { (L.counts sticky_log.new.log).reads ≡ (L.counts sticky_log.old.log).reads }
 {
     if pages.len() > 0 {
         return Ok(());
@@ -141,7 +141,7 @@ pub(super) fn add_roots<L: Log>(
         return Err(Refusal::OutOfMemory);
     };
     let roots = Meta::default(alloc);
-    let info = write_roots(alloc, journal, META_PID, &roots, 1)?;
+    let info = write_roots(alloc, sticky_log, META_PID, &roots, 1)?;
     infos.push_reserved(info);
     pages.push_reserved(Page {
         stamp: 1,
@@ -154,24 +154,24 @@ pub(super) fn add_roots<L: Log>(
 // Makes the page of the counter, which is 0, at stamp 1.
 pub(super) fn add_counter<L: Log>(
     alloc: Global,
-    journal: &mut Journal<L>,
+    sticky_log: &mut StickyLog<L>,
     pages: &mut PageTable,
 ) -> Result<(), Refusal>
-    requires ready { journal.old.fault ≡ false }
-    requires usable { (L.state journal.old.log).usable ≡ true }
-    requires table { IsTable L.tells (now effect_of_entry (L.state journal.old.log)) pages.old.pages }
+    requires ready { sticky_log.old.fault ≡ false }
+    requires usable { (L.state sticky_log.old.log).usable ≡ true }
+    requires table { IsTable L.tells (now effect_of_entry (L.state sticky_log.old.log)) pages.old.pages }
     requires one { length pages.old.pages ≡ 1 }
-    ensures proceeds { Proceeds L.Log journal.old journal.new (counter_told ∷ []) (refusal_in result) }
+    ensures proceeds { Proceeds L.Log sticky_log.old sticky_log.new (counter_event ∷ []) (refusal_in result) }
     ensures of_log { L.tells → IfErr result IsOfLog }
-    ensures table { OnOk result (IsTable L.tells (now effect_of_entry (L.state journal.new.log)) pages.new.pages) }
+    ensures table { OnOk result (IsTable L.tells (now effect_of_entry (L.state sticky_log.new.log)) pages.new.pages) }
     ensures stamps { OnOk result (stamps_in pages.new.pages ≡ stamps_in pages.old.pages ++ 1 ∷ []) }
-    ensures unread { (L.counts journal.new.log).reads ≡ (L.counts journal.old.log).reads }
+    ensures unread { (L.counts sticky_log.new.log).reads ≡ (L.counts sticky_log.old.log).reads }
     ensures two { OnOk result (length pages.new.pages ≡ 2) }
 {
     let (Ok(()), Ok(mut infos)) = (pages.reserve(), Vec::with_capacity(alloc, 1)) else {
         return Err(Refusal::OutOfMemory);
     };
-    let info = write_counter(alloc, journal, COUNTER_PID, 0, 1)?;
+    let info = write_counter(alloc, sticky_log, COUNTER_PID, 0, 1)?;
     infos.push_reserved(info);
     pages.push_reserved(Page {
         stamp: 1,

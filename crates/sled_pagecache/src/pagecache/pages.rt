@@ -7,7 +7,7 @@ ghost use Rattle.sled_base.specs.declared.types.Refusal.TheVariants as refusal;
 ghost use Rattle.sled_base.specs.declared.types.Why.{Why};
 ghost use Rattle.sled_log.specs.Batches.{is_open};
 ghost use Rattle.sled_log.specs.Messages.{effect_of_entry};
-ghost use Rattle.sled_log.specs.State.{now, told_state};
+ghost use Rattle.sled_log.specs.LogState.{now, unplaced_state};
 ghost use Rattle.sled_pagecache.specs.Answers.{Keeps, stamped, swapped};
 ghost use Rattle.sled_pagecache.specs.Cache.{IsResident, IsAway, chain_length};
 ghost use Rattle.sled_pagecache.specs.Calls.{Steps, IsBlamed};
@@ -32,12 +32,12 @@ use super::accesses::Accesses;
 use super::add::add_page;
 use super::config::{Config, fault_of};
 use super::free::FreeIds;
-use super::journal::Journal;
 use super::judge::{Judgement, is_reserved, judge};
 use super::page::Kept;
 use super::pagetable::PageTable;
 use super::pull::{pull_and_access, pull_and_link};
 use super::start::open;
+use super::sticky_log::StickyLog;
 use super::swap::{free_page, put_page};
 use super::view::{NodeView, PageView};
 use sled_base::{Device, Error, PageId, Refusal, Why};
@@ -57,7 +57,7 @@ pub(super) struct Pages<L: Log> {
     free: FreeIds,
     next: u128,
     recovered: bool,
-    journal: Journal<L>,
+    sticky_log: StickyLog<L>,
 }
 
 impl<L: Log> Model for Pages<L> {
@@ -67,9 +67,9 @@ impl<L: Log> Model for Pages<L> {
 
     ghost use Rattle.sled_pagecache.specs.Table.{stamps_in, resident_in, nodes_in, IsConsistent};
 
-    ghost view = { λ c. record { stamps = stamps_in c.pages.pages; resident = resident_in c.pages.pages; nodes = nodes_in c.pages.pages; next = c.next; fault = c.journal.fault; config = c.config; recovered = c.recovered; lru = unlisted; log = c.journal.log } };
+    ghost view = { λ c. record { stamps = stamps_in c.pages.pages; resident = resident_in c.pages.pages; nodes = nodes_in c.pages.pages; next = c.next; fault = c.sticky_log.fault; config = c.config; recovered = c.recovered; lru = unlisted; log = c.sticky_log.log } };
 
-    ghost invariant = { λ c. IsConsistent L.tells L.state c.journal c.pages.pages c.free.ids.keys };
+    ghost invariant = { λ c. IsConsistent L.tells L.state c.sticky_log c.pages.pages c.free.ids.keys };
 }
 
 impl<L: Log> Pages<L> {
@@ -78,7 +78,7 @@ impl<L: Log> Pages<L> {
         requires usable { (L.state log).usable ≡ true }
         requires closed { is_open (L.state log).pending ≡ false }
         ensures settings { (why : Why) → fault_of config ≡ Some why → result ≡ Err (Unsupported why, log) }
-        ensures opens { fault_of config ≡ None → L.tells → (held : Logged) → IsLogged (told_state (L.state log)) held → Opens L.Log log config held result }
+        ensures opens { fault_of config ≡ None → L.tells → (held : Logged) → IsLogged (unplaced_state (L.state log)) held → Opens L.Log log config held result }
         ensures refused { L.tells → IfErr result (λ e. RefusesOpening config (now effect_of_entry (L.state log)) e.0) }
         ensures blame { IsBlamedOpening L.Log log result }
         ensures again { IfErr result (λ e. e.0 ≢ Io Write → MayBeOpened L.Log e.1) }
@@ -90,8 +90,8 @@ impl<L: Log> Pages<L> {
         if let Some(why) = fault_of(config) {
             return Err((Error::Unsupported(why), log));
         }
-        let mut journal = Journal { log, fault: false };
-        match open(alloc, config, &mut journal) {
+        let mut sticky_log = StickyLog { log, fault: false };
+        match open(alloc, config, &mut sticky_log) {
             Ok(opening) => Ok(Pages {
                 alloc,
                 config,
@@ -99,9 +99,9 @@ impl<L: Log> Pages<L> {
                 free: opening.free,
                 next: opening.next,
                 recovered: opening.recovered,
-                journal,
+                sticky_log,
             }),
-            Err(refusal) => Err((Error::from(refusal), journal.log)),
+            Err(refusal) => Err((Error::from(refusal), sticky_log.log)),
         }
     }
 
@@ -126,14 +126,14 @@ impl<L: Log> Pages<L> {
         ensures takes { IfOk result (λ made. TakesNode self.old accesses.old made.0 self.new accesses.new) }
         ensures refused { IfErr result (LosesNone L.tells self.old accesses.old self.new accesses.new) }
     {
-        let stuck = self.journal.fault;
+        let stuck = self.sticky_log.fault;
         if stuck {
             return Err(Error::Io(Device::Write));
         }
         let Some(pid) = self.free.greatest() else {
             let pid = add_page(
                 self.alloc,
-                &mut self.journal,
+                &mut self.sticky_log,
                 accesses,
                 &mut self.pages,
                 node,
@@ -142,7 +142,7 @@ impl<L: Log> Pages<L> {
         };
         let page = self.pages.get_mut(pid);
         let kept = Kept::Node(node);
-        put_page(self.alloc, &mut self.journal, accesses, pid, page, kept)?;
+        put_page(self.alloc, &mut self.sticky_log, accesses, pid, page, kept)?;
         self.free.take_greatest();
         Ok((pid, PageView::new(pid, page.stamp)))
     }
@@ -171,13 +171,13 @@ impl<L: Log> Pages<L> {
         ensures same { IfOk result (λ swapped. OnErr swapped ((self.new ≡ self.old) × (accesses.new ≡ accesses.old))) }
         ensures refused { IfErr result (LosesAtMost self.old accesses.old pid self.new accesses.new L.tells) }
     {
-        match judge(self.journal.fault, &self.pages, pid, old)? {
+        match judge(self.sticky_log.fault, &self.pages, pid, old)? {
             Judgement::Stale(present) => return Ok(Err(Some((present, link)))),
             Judgement::Gone => return Ok(Err(None)),
             Judgement::Fresh => {}
         }
         let page = self.pages.get_mut(pid);
-        pull_and_link(self.alloc, &mut self.journal, accesses, pid, page, &link)?;
+        pull_and_link(self.alloc, &mut self.sticky_log, accesses, pid, page, &link)?;
         let linked = PageView::new(pid, page.stamp);
         Ok(Ok(linked))
     }
@@ -202,14 +202,14 @@ impl<L: Log> Pages<L> {
         ensures same { IfOk result (λ swapped. OnErr swapped ((self.new ≡ self.old) × (accesses.new ≡ accesses.old))) }
         ensures refused { IfErr result (LosesAtMost self.old accesses.old pid self.new accesses.new L.tells) }
     {
-        match judge(self.journal.fault, &self.pages, pid, old)? {
+        match judge(self.sticky_log.fault, &self.pages, pid, old)? {
             Judgement::Stale(present) => return Ok(Err(Some((present, node)))),
             Judgement::Gone => return Ok(Err(None)),
             Judgement::Fresh => {}
         }
         let page = self.pages.get_mut(pid);
         let kept = Kept::Node(node);
-        put_page(self.alloc, &mut self.journal, accesses, pid, page, kept)?;
+        put_page(self.alloc, &mut self.sticky_log, accesses, pid, page, kept)?;
         Ok(Ok(PageView::new(pid, page.stamp)))
     }
 
@@ -233,7 +233,7 @@ impl<L: Log> Pages<L> {
         ensures same { IfOk result (λ swapped. OnErr swapped ((self.new ≡ self.old) × (accesses.new ≡ accesses.old))) }
         ensures refused { IfErr result (LosesAtMost self.old accesses.old pid self.new accesses.new L.tells) }
     {
-        match judge(self.journal.fault, &self.pages, pid, old)? {
+        match judge(self.sticky_log.fault, &self.pages, pid, old)? {
             Judgement::Stale(present) => return Ok(Err(Some((present, ())))),
             Judgement::Gone => return Ok(Err(None)),
             Judgement::Fresh => {}
@@ -241,7 +241,7 @@ impl<L: Log> Pages<L> {
         let page = self.pages.get_mut(pid);
         free_page(
             self.alloc,
-            &mut self.journal,
+            &mut self.sticky_log,
             accesses,
             &mut self.free,
             pid,
@@ -259,10 +259,10 @@ impl<L: Log> Pages<L> {
         ensures number { IfOk result (λ n. n ≡ L.to_write self.old.log) }
         ensures same { AllStay self.old self.new }
     {
-        if self.journal.fault {
+        if self.sticky_log.fault {
             return Err(Error::Io(Device::Write));
         }
-        Ok(self.journal.make_stable()?)
+        Ok(self.sticky_log.make_stable()?)
     }
 
     pub(super) fn size_on_disk(&self) -> Result<u64, Error>
@@ -270,17 +270,17 @@ impl<L: Log> Pages<L> {
         ensures keeps { Keeps self.now self.now result (λ _. self.now.stamps) }
         ensures size { IfOk result (λ size. size ≡ L.bytes self.now.log) }
     {
-        if self.journal.fault {
+        if self.sticky_log.fault {
             return Err(Error::Io(Device::Write));
         }
-        Ok(self.journal.log.size())
+        Ok(self.sticky_log.log.size())
     }
 
     pub(super) fn into_log(self) -> L
         ensures log { result ≡ self.log }
         ensures again { self.fault ≡ false → MayBeOpened L.Log result }
     {
-        self.journal.log
+        self.sticky_log.log
     }
 
     // Refuses what can't be read, reads the page from the log where it doesn't lie in memory, and accesses it.
@@ -295,7 +295,7 @@ impl<L: Log> Pages<L> {
         ensures refused { OnErr result (AllStay self.old self.new) }
         ensures left { OnErr result (accesses.new ≡ accesses.old) }
     {
-        if self.journal.fault {
+        if self.sticky_log.fault {
             return Err(Refusal::Io(Device::Write));
         }
         if is_reserved(pid) {
@@ -306,7 +306,7 @@ impl<L: Log> Pages<L> {
             return Ok(());
         }
         let page = self.pages.get_mut(pid);
-        pull_and_access(self.alloc, &mut self.journal, accesses, pid, page)
+        pull_and_access(self.alloc, &mut self.sticky_log, accesses, pid, page)
     }
 
     // The node at an id that lies in memory, with the page's token.

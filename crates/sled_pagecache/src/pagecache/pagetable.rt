@@ -7,7 +7,7 @@
 ghost use Rattle.std.specs.Prelude.{◌≡◌, ◌<◌, ◌≤◌, ◌/◌, ◌%◌, ◌++◌, [], ◌∷◌, true, length, slice_get, MatchOption, IfErr, IsOk, OnOk};
 ghost use Rattle.std.specs.Borrow.{sem};
 ghost use Rattle.sled_pagecache.specs.Limits.{chunk_length, most_pages};
-ghost use Rattle.sled_pagecache.specs.PageTables.{pages_in, AreFilled, at_last, is_open};
+ghost use Rattle.sled_pagecache.specs.PageTables.{pages_in, AreFilled, at_last, is_unfilled};
 
 use super::MAX_PID_BITS;
 use super::page::Page;
@@ -163,7 +163,7 @@ fn open_last(alloc: Global, chunks: &mut Vec<Vec<Page>>) -> Result<(), AllocErro
     requires { AreFilled chunk_length chunks.old.items }
     ensures same { pages_in chunks.new.items ≡ pages_in chunks.old.items }
     ensures filled { AreFilled chunk_length chunks.new.items }
-    ensures open { OnOk result (at_last (is_open chunk_length) chunks.new.items ≡ true) }
+    ensures open { OnOk result (at_last (is_unfilled chunk_length) chunks.new.items ≡ true) }
 {
     if !is_last_open(chunks) {
         chunks.push(Vec::new(alloc))?;
@@ -173,7 +173,7 @@ fn open_last(alloc: Global, chunks: &mut Vec<Vec<Page>>) -> Result<(), AllocErro
 
 // Whether there is a last chunk, and it is not full.
 fn is_last_open(chunks: &[Vec<Page>]) -> bool
-    ensures { result ≡ at_last (is_open chunk_length) chunks.now }
+    ensures { result ≡ at_last (is_unfilled chunk_length) chunks.now }
 {
     match chunks.last() {
         Some(last) => last.len() < CHUNK_LENGTH,

@@ -2,13 +2,13 @@
 
 ghost use Rattle.std.specs.Prelude.{◌≡◌, ◌⊎◌, ℕ, ◌≤◌, ◌<◌, [], false, true, length, IfErr, IsOk, OnOk, OnErr};
 ghost use Rattle.sled_base.specs.declared.types.Refusal.TheVariants as refusal;
-ghost use Rattle.sled_log.specs.Messages.{effect_of_entry, told};
-ghost use Rattle.sled_log.specs.State.{now};
+ghost use Rattle.sled_log.specs.Messages.{effect_of_entry, unplaced};
+ghost use Rattle.sled_log.specs.LogState.{now};
 ghost use Rattle.sled_pagecache.specs.Accesses.{WasAccessed, IsTouched};
 ghost use Rattle.sled_pagecache.specs.ChainReads.{chain_at, more};
-ghost use Rattle.sled_pagecache.specs.Journal.{Went, IsCaused, IsOfLog};
-ghost use Rattle.sled_pagecache.specs.LinkedPages.{TakesLink, RefusesTold, HadNoRoom, WasBegun};
-ghost use Rattle.sled_pagecache.specs.Pages.{IsKept, is_free, is_resident, size_of};
+ghost use Rattle.sled_pagecache.specs.StickyLog.{Went, IsCaused, IsOfLog};
+ghost use Rattle.sled_pagecache.specs.LinkedPages.{TakesLink, RefusesAppended, HadNoRoom, WasBegun};
+ghost use Rattle.sled_pagecache.specs.Pages.{IsKept, is_free, is_resident, access_size};
 ghost use Rattle.sled_pagecache.specs.Pulling.{RefusesPull};
 ghost use Rattle.sled_pagecache.specs.Swaps.{RefusesLink};
 ghost use Rattle.sled_pagecache.specs.Table.{IsFreeOrNode};
@@ -17,9 +17,9 @@ ghost use Rattle.sled_pagecache.specs.declared.pagecache.page.Kept.TheVariants a
 
 use super::accesses::Accesses;
 use super::chain::read_chain;
-use super::journal::Journal;
 use super::page::{Kept, Page, total_size};
 use super::reading::node_of;
+use super::sticky_log::StickyLog;
 use super::swap::link_page;
 use sled_base::{PageId, Refusal};
 use sled_log::Log;
@@ -29,15 +29,15 @@ use std::alloc::Global;
 // Reads the node of a page from the log, unless what the page holds lies in memory. A refusal leaves the page.
 pub(super) fn pull<L: Log>(
     alloc: Global,
-    journal: &mut Journal<L>,
+    sticky_log: &mut StickyLog<L>,
     pid: PageId,
     page: &mut Page,
 ) -> Result<(), Refusal>
-    requires ready { journal.old.fault ≡ false }
-    requires usable { (L.state journal.old.log).usable ≡ true }
-    requires kept { L.tells → IsKept (chain_at (L.state journal.old.log) pid) page.old }
-    ensures kept { L.tells → IsKept (chain_at (L.state journal.old.log) pid) page.new }
-    ensures same { L.tells → journal.new.fault ≡ false → now effect_of_entry (L.state journal.new.log) ≡ now effect_of_entry (L.state journal.old.log) }
+    requires ready { sticky_log.old.fault ≡ false }
+    requires usable { (L.state sticky_log.old.log).usable ≡ true }
+    requires kept { L.tells → IsKept (chain_at (L.state sticky_log.old.log) pid) page.old }
+    ensures kept { L.tells → IsKept (chain_at (L.state sticky_log.old.log) pid) page.new }
+    ensures same { L.tells → sticky_log.new.fault ≡ false → now effect_of_entry (L.state sticky_log.new.log) ≡ now effect_of_entry (L.state sticky_log.old.log) }
     ensures stamp { page.new.stamp ≡ page.old.stamp }
     ensures infos { page.new.infos.items ≡ page.old.infos.items }
     ensures resident { OnOk result (is_resident page.new.kept ≡ true) }
@@ -46,16 +46,16 @@ pub(super) fn pull<L: Log>(
     ensures own { IsFreeOrNode page.old.kept → IsFreeOrNode page.new.kept }
     ensures is_there { is_resident page.old.kept ≡ true → IsOk result }
     ensures stays { is_resident page.old.kept ≡ true → page.new.kept ≡ page.old.kept }
-    ensures unread { is_resident page.old.kept ≡ true → journal.new ≡ journal.old }
-    ensures went { Went L.tells L.state L.moment L.left_since L.counts journal.old journal.new [] }
-    ensures cause { IsCaused L.tells L.state L.moment L.left_since L.counts journal.old journal.new ⊥ result }
-    ensures room { (n : ℕ) → L.is_full journal.new.log n → L.is_full journal.old.log n }
-    ensures reads { is_resident page.old.kept ≡ false → OnOk result ((L.counts journal.new.log).reads ≡ more (length page.old.infos.items) (L.counts journal.old.log).reads) }
-    ensures at_most { OnErr result ((times : ℕ) × (times ≤ length page.old.infos.items) × ((L.counts journal.new.log).reads ≡ more times (L.counts journal.old.log).reads)) }
-    ensures refused { L.tells → IfErr result (RefusesPull (chain_at (L.state journal.old.log) pid)) }
+    ensures unread { is_resident page.old.kept ≡ true → sticky_log.new ≡ sticky_log.old }
+    ensures went { Went L.tells L.state L.moment L.left_since L.counts sticky_log.old sticky_log.new [] }
+    ensures cause { IsCaused L.tells L.state L.moment L.left_since L.counts sticky_log.old sticky_log.new ⊥ result }
+    ensures room { (n : ℕ) → L.is_full sticky_log.new.log n → L.is_full sticky_log.old.log n }
+    ensures reads { is_resident page.old.kept ≡ false → OnOk result ((L.counts sticky_log.new.log).reads ≡ more (length page.old.infos.items) (L.counts sticky_log.old.log).reads) }
+    ensures at_most { OnErr result ((times : ℕ) × (times ≤ length page.old.infos.items) × ((L.counts sticky_log.new.log).reads ≡ more times (L.counts sticky_log.old.log).reads)) }
+    ensures refused { L.tells → IfErr result (RefusesPull (chain_at (L.state sticky_log.old.log) pid)) }
 {
     if let Kept::Away = page.kept {
-        let found = read_chain(alloc, journal, pid, &page.infos)?;
+        let found = read_chain(alloc, sticky_log, pid, &page.infos)?;
         page.kept = Kept::Node(node_of(&found, alloc)?);
     }
     Ok(())
@@ -65,16 +65,16 @@ pub(super) fn pull<L: Log>(
 // read isn't kept.
 pub(super) fn pull_and_access<L: Log>(
     alloc: Global,
-    journal: &mut Journal<L>,
+    sticky_log: &mut StickyLog<L>,
     accesses: &mut Accesses,
     pid: PageId,
     page: &mut Page,
 ) -> Result<(), Refusal>
-    requires ready { journal.old.fault ≡ false }
-    requires usable { (L.state journal.old.log).usable ≡ true }
-    requires kept { L.tells → IsKept (chain_at (L.state journal.old.log) pid) page.old }
-    ensures kept { L.tells → IsKept (chain_at (L.state journal.old.log) pid) page.new }
-    ensures same { L.tells → journal.new.fault ≡ false → now effect_of_entry (L.state journal.new.log) ≡ now effect_of_entry (L.state journal.old.log) }
+    requires ready { sticky_log.old.fault ≡ false }
+    requires usable { (L.state sticky_log.old.log).usable ≡ true }
+    requires kept { L.tells → IsKept (chain_at (L.state sticky_log.old.log) pid) page.old }
+    ensures kept { L.tells → IsKept (chain_at (L.state sticky_log.old.log) pid) page.new }
+    ensures same { L.tells → sticky_log.new.fault ≡ false → now effect_of_entry (L.state sticky_log.new.log) ≡ now effect_of_entry (L.state sticky_log.old.log) }
     ensures stamp { page.new.stamp ≡ page.old.stamp }
     ensures infos { page.new.infos.items ≡ page.old.infos.items }
     ensures resident { OnOk result (is_resident page.new.kept ≡ true) }
@@ -84,16 +84,16 @@ pub(super) fn pull_and_access<L: Log>(
     ensures own { IsFreeOrNode page.old.kept → IsFreeOrNode page.new.kept }
     ensures is_there { is_resident page.old.kept ≡ true → IsListedAt pid page.old accesses.old.lru → IsOk result }
     ensures stays { is_resident page.old.kept ≡ true → page.new.kept ≡ page.old.kept }
-    ensures unread { is_resident page.old.kept ≡ true → journal.new ≡ journal.old }
-    ensures went { Went L.tells L.state L.moment L.left_since L.counts journal.old journal.new [] }
-    ensures cause { IsCaused L.tells L.state L.moment L.left_since L.counts journal.old journal.new ⊥ result }
-    ensures reads { is_resident page.old.kept ≡ false → OnOk result ((L.counts journal.new.log).reads ≡ more (length page.old.infos.items) (L.counts journal.old.log).reads) }
-    ensures at_most { OnErr result ((times : ℕ) × (times ≤ length page.old.infos.items) × ((L.counts journal.new.log).reads ≡ more times (L.counts journal.old.log).reads)) }
-    ensures refused { L.tells → IfErr result (RefusesPull (chain_at (L.state journal.old.log) pid)) }
+    ensures unread { is_resident page.old.kept ≡ true → sticky_log.new ≡ sticky_log.old }
+    ensures went { Went L.tells L.state L.moment L.left_since L.counts sticky_log.old sticky_log.new [] }
+    ensures cause { IsCaused L.tells L.state L.moment L.left_since L.counts sticky_log.old sticky_log.new ⊥ result }
+    ensures reads { is_resident page.old.kept ≡ false → OnOk result ((L.counts sticky_log.new.log).reads ≡ more (length page.old.infos.items) (L.counts sticky_log.old.log).reads) }
+    ensures at_most { OnErr result ((times : ℕ) × (times ≤ length page.old.infos.items) × ((L.counts sticky_log.new.log).reads ≡ more times (L.counts sticky_log.old.log).reads)) }
+    ensures refused { L.tells → IfErr result (RefusesPull (chain_at (L.state sticky_log.old.log) pid)) }
     ensures accessed { OnOk result (AccessesNode accesses.old pid page.new accesses.new) }
 {
     let was_away = matches!(page.kept, Kept::Away);
-    pull(alloc, journal, pid, page)?;
+    pull(alloc, sticky_log, pid, page)?;
     let outcome = access_node(accesses, pid, page);
     if was_away && outcome.is_err() {
         page.kept = Kept::Away;
@@ -117,40 +117,40 @@ fn access_node(accesses: &mut Accesses, pid: PageId, page: &Page) -> Result<(), 
 // Applies a link to the node of a page, which is read where it doesn't lie in memory. What a refused link has read isn't kept.
 pub(super) fn pull_and_link<L: Log>(
     alloc: Global,
-    journal: &mut Journal<L>,
+    sticky_log: &mut StickyLog<L>,
     accesses: &mut Accesses,
     pid: PageId,
     page: &mut Page,
     link: &Link,
 ) -> Result<(), Refusal>
-    requires ready { journal.old.fault ≡ false }
-    requires usable { (L.state journal.old.log).usable ≡ true }
-    requires there { L.tells → pid < length (now effect_of_entry (L.state journal.old.log)) }
-    requires kept { L.tells → IsKept (chain_at (L.state journal.old.log) pid) page.old }
+    requires ready { sticky_log.old.fault ≡ false }
+    requires usable { (L.state sticky_log.old.log).usable ≡ true }
+    requires there { L.tells → pid < length (now effect_of_entry (L.state sticky_log.old.log)) }
+    requires kept { L.tells → IsKept (chain_at (L.state sticky_log.old.log) pid) page.old }
     requires full { is_free page.old.kept ≡ false }
     requires own { IsFreeOrNode page.old.kept }
-    ensures taken { OnOk result (TakesLink L.Log journal.old pid page.old link.now journal.new page.new) }
-    ensures begun { OnErr result (WasBegun L.Log journal.old journal.new) }
-    ensures refused { L.tells → IfErr result (RefusesTold L.Log journal.old pid page.old link.now journal.new) }
+    ensures taken { OnOk result (TakesLink L.Log sticky_log.old pid page.old link.now sticky_log.new page.new) }
+    ensures begun { OnErr result (WasBegun L.Log sticky_log.old sticky_log.new) }
+    ensures refused { L.tells → IfErr result (RefusesAppended L.Log sticky_log.old pid page.old link.now sticky_log.new) }
     ensures tested { L.tells → is_resident page.old.kept ≡ true → IfErr result (RefusesLink page.old.stamp page.old.kept link.now) }
-    ensures cause { IsCaused L.tells L.state L.moment L.left_since L.counts journal.old journal.new (L.tells → HadNoRoom L.Log journal.old pid page.old link.now) result }
+    ensures cause { IsCaused L.tells L.state L.moment L.left_since L.counts sticky_log.old sticky_log.new (L.tells → HadNoRoom L.Log sticky_log.old pid page.old link.now) result }
     ensures left { OnErr result ((page.new.stamp ≡ page.old.stamp) × (page.new.infos.items ≡ page.old.infos.items)) }
-    ensures same { L.tells → OnErr result (journal.new.fault ≡ false → now effect_of_entry (L.state journal.new.log) ≡ now effect_of_entry (L.state journal.old.log)) }
-    ensures still { L.tells → OnErr result (journal.new.fault ≡ false → IsKept (chain_at (L.state journal.old.log) pid) page.new) }
+    ensures same { L.tells → OnErr result (sticky_log.new.fault ≡ false → now effect_of_entry (L.state sticky_log.new.log) ≡ now effect_of_entry (L.state sticky_log.old.log)) }
+    ensures still { L.tells → OnErr result (sticky_log.new.fault ≡ false → IsKept (chain_at (L.state sticky_log.old.log) pid) page.new) }
     ensures free { is_free page.new.kept ≡ is_free page.old.kept }
     ensures own { IsFreeOrNode page.old.kept → IsFreeOrNode page.new.kept }
-    ensures unread { is_resident page.old.kept ≡ true → (L.counts journal.new.log).reads ≡ (L.counts journal.old.log).reads }
-    ensures reads { is_resident page.old.kept ≡ false → OnOk result ((L.counts journal.new.log).reads ≡ more (length page.old.infos.items) (L.counts journal.old.log).reads) }
+    ensures unread { is_resident page.old.kept ≡ true → (L.counts sticky_log.new.log).reads ≡ (L.counts sticky_log.old.log).reads }
+    ensures reads { is_resident page.old.kept ≡ false → OnOk result ((L.counts sticky_log.new.log).reads ≡ more (length page.old.infos.items) (L.counts sticky_log.old.log).reads) }
     ensures kept_out { is_resident page.old.kept ≡ false → OnErr result (is_resident page.new.kept ≡ false) }
-    ensures accessed { OnOk result (WasAccessed accesses.old pid (size_of page.new) accesses.new) }
+    ensures accessed { OnOk result (WasAccessed accesses.old pid (access_size page.new) accesses.new) }
     ensures touched { OnErr result (IsTouched accesses.old pid accesses.new) }
     ensures lost { OnErr result ((page.new.kept ≡ page.old.kept) ⊎ (page.new.kept ≡ kept.Away)) }
     ensures unasked { L.tells → IfErr result (λ refusal. IsOfLog refusal ⊎ ((page.new.kept ≡ page.old.kept) × (accesses.new ≡ accesses.old))) }
-    ensures at_most { OnErr result ((times : ℕ) × (times ≤ length page.old.infos.items) × ((L.counts journal.new.log).reads ≡ more times (L.counts journal.old.log).reads)) }
+    ensures at_most { OnErr result ((times : ℕ) × (times ≤ length page.old.infos.items) × ((L.counts sticky_log.new.log).reads ≡ more times (L.counts sticky_log.old.log).reads)) }
 {
     let was_away = matches!(page.kept, Kept::Away);
-    pull(alloc, journal, pid, page)?;
-    let outcome = link_page(alloc, journal, accesses, pid, page, link);
+    pull(alloc, sticky_log, pid, page)?;
+    let outcome = link_page(alloc, sticky_log, accesses, pid, page, link);
     if was_away && outcome.is_err() {
         page.kept = Kept::Away;
     }

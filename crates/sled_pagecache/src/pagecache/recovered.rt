@@ -20,7 +20,7 @@ use std::alloc::{AllocError, Global};
 const MAX_MSG_HEADER_LEN: u64 = 17;
 
 // The pages of a table, of which no content lies in memory, and each is at stamp 0.
-pub(super) fn pages_of(alloc: Global, states: &[PageState]) -> Result<PageTable, AllocError>
+pub(super) fn recovered_pages(alloc: Global, states: &[PageState]) -> Result<PageTable, AllocError>
     requires { length states.now ≤ most_pages }
     ensures recovered { IfOk result (λ pages. AllZip IsRecovered states.now pages.pages) }
     ensures loaded { IfOk result (λ pages. (chains : List Chain) → AllZip IsPageState chains states.now → AllZip IsLoaded chains pages.pages) }
@@ -28,7 +28,7 @@ pub(super) fn pages_of(alloc: Global, states: &[PageState]) -> Result<PageTable,
 {
     let mut pages = PageTable::default(alloc);
     for (pid, state) in states.iter().enumerate() {
-        let page = page_of(alloc, state)?;
+        let page = recovered_page(alloc, state)?;
         pages
             .insert(pid as PageId, page)
             .map_err(|refused| refused.1)?;
@@ -37,7 +37,7 @@ pub(super) fn pages_of(alloc: Global, states: &[PageState]) -> Result<PageTable,
 }
 
 // A page of which the content doesn't lie in memory, at stamp 0.
-pub(super) fn page_of(alloc: Global, state: &PageState) -> Result<Page, AllocError>
+pub(super) fn recovered_page(alloc: Global, state: &PageState) -> Result<Page, AllocError>
     ensures { IfOk result (IsRecovered state.now) }
 {
     match state {

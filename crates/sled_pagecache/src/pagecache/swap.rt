@@ -12,15 +12,15 @@ ghost use Rattle.sled_log.specs.Events.{Change};
 ghost use Rattle.sled_log.specs.Messages.{effect_of_entry};
 ghost use Rattle.sled_log.specs.Pages.{IsSized};
 ghost use Rattle.sled_log.specs.Reading.{IsUpdate};
-ghost use Rattle.sled_log.specs.State.{now};
+ghost use Rattle.sled_log.specs.LogState.{now};
 ghost use Rattle.sled_log.specs.Writing.{message_of};
 ghost use Rattle.sled_node.specs.Links.{Accepts, applied};
 ghost use Rattle.sled_node.specs.Payloads.Links.{CanWriteLink};
 ghost use Rattle.sled_pagecache.specs.Accesses.{WasAccessed, IsTouched, capped};
 ghost use Rattle.sled_pagecache.specs.ChainReads.{chain_at};
-ghost use Rattle.sled_pagecache.specs.Journal.{Went, IsCaused, IsOfLog, begun_by};
+ghost use Rattle.sled_pagecache.specs.StickyLog.{Went, IsCaused, IsOfLog, begun_by};
 ghost use Rattle.sled_pagecache.specs.Limits.{most_messages};
-ghost use Rattle.sled_pagecache.specs.Pages.{IsKept, is_free, size_of, size_linked};
+ghost use Rattle.sled_pagecache.specs.Pages.{IsKept, is_free, access_size, size_linked};
 ghost use Rattle.sled_pagecache.specs.Swaps.{CanPut, content_of, IsRaised, IsLinked, RefusesSwap, RefusesLink, Wrote, linked_length, update_of};
 ghost use Rattle.sled_pagecache.specs.Changes.{link_update};
 ghost use Rattle.sled_pagecache.specs.Table.{IsFreeOrNode};
@@ -29,8 +29,8 @@ ghost use Rattle.sled_pagecache.specs.declared.pagecache.page.Kept.TheVariants a
 use super::PAGE_CONSOLIDATION_THRESHOLD;
 use super::accesses::{Accesses, size_with};
 use super::free::FreeIds;
-use super::journal::Journal;
 use super::page::{CacheInfo, Kept, Page, keep_alone, keep_linked, total_size};
+use super::sticky_log::StickyLog;
 use super::write::{write_kept, write_link, write_node};
 use sled_base::{Bug, PageId, Refusal, Serialize, Why};
 use sled_log::Log;
@@ -40,30 +40,30 @@ use std::alloc::{AllocError, Global};
 // Puts a content on a page in place of what it held. A refusal leaves the page.
 pub(super) fn put_page<L: Log>(
     alloc: Global,
-    journal: &mut Journal<L>,
+    sticky_log: &mut StickyLog<L>,
     accesses: &mut Accesses,
     pid: PageId,
     page: &mut Page,
     kept: Kept,
 ) -> Result<(), Refusal>
     requires can_put { CanPut kept }
-    requires ready { journal.old.fault ≡ false }
-    requires usable { (L.state journal.old.log).usable ≡ true }
-    requires there { L.tells → pid < length (now effect_of_entry (L.state journal.old.log)) }
+    requires ready { sticky_log.old.fault ≡ false }
+    requires usable { (L.state sticky_log.old.log).usable ≡ true }
+    requires there { L.tells → pid < length (now effect_of_entry (L.state sticky_log.old.log)) }
     ensures stamp { OnOk result (IsRaised page.old.stamp page.new.stamp) }
     ensures holds { OnOk result (page.new.kept ≡ kept) }
-    ensures kept { L.tells → OnOk result (IsKept (chain_at (L.state journal.new.log) pid) page.new) }
+    ensures kept { L.tells → OnOk result (IsKept (chain_at (L.state sticky_log.new.log) pid) page.new) }
     ensures stamps { OnOk result (map (λ info. info.ts) page.new.infos.items ≡ page.new.stamp ∷ []) }
-    ensures others { L.tells → OnOk result (now effect_of_entry (L.state journal.new.log) ≡ slice_set (now effect_of_entry (L.state journal.old.log)) pid (chain_at (L.state journal.new.log) pid)) }
+    ensures others { L.tells → OnOk result (now effect_of_entry (L.state sticky_log.new.log) ≡ slice_set (now effect_of_entry (L.state sticky_log.old.log)) pid (chain_at (L.state sticky_log.new.log) pid)) }
     ensures left { OnErr result (page.new ≡ page.old) }
-    ensures same { L.tells → OnErr result (journal.new.fault ≡ false → now effect_of_entry (L.state journal.new.log) ≡ now effect_of_entry (L.state journal.old.log)) }
+    ensures same { L.tells → OnErr result (sticky_log.new.fault ≡ false → now effect_of_entry (L.state sticky_log.new.log) ≡ now effect_of_entry (L.state sticky_log.old.log)) }
     ensures refused { L.tells → IfErr result (RefusesSwap page.old.stamp) }
     ensures is { IsUpdate (message_of (contents.Put (content_of kept))) (contents.Put (content_of kept)) }
-    ensures went { Went L.tells L.state L.moment L.left_since L.counts journal.old journal.new (begun_by result (Change pid (message_of (contents.Put (content_of kept))) ∷ [])) }
-    ensures cause { IsCaused L.tells L.state L.moment L.left_since L.counts journal.old journal.new (L.is_full journal.old.log (length (message_of (contents.Put (content_of kept))).payload)) result }
-    ensures reads { (L.counts journal.new.log).reads ≡ (L.counts journal.old.log).reads }
-    ensures sized { L.tells → OnOk result (AllByRecursion IsSized (now effect_of_entry (L.state journal.new.log))) }
-    ensures accessed { OnOk result (WasAccessed accesses.old pid (size_of page.new) accesses.new) }
+    ensures went { Went L.tells L.state L.moment L.left_since L.counts sticky_log.old sticky_log.new (begun_by result (Change pid (message_of (contents.Put (content_of kept))) ∷ [])) }
+    ensures cause { IsCaused L.tells L.state L.moment L.left_since L.counts sticky_log.old sticky_log.new (L.is_full sticky_log.old.log (length (message_of (contents.Put (content_of kept))).payload)) result }
+    ensures reads { (L.counts sticky_log.new.log).reads ≡ (L.counts sticky_log.old.log).reads }
+    ensures sized { L.tells → OnOk result (AllByRecursion IsSized (now effect_of_entry (L.state sticky_log.new.log))) }
+    ensures accessed { OnOk result (WasAccessed accesses.old pid (access_size page.new) accesses.new) }
     ensures touched { OnErr result (IsTouched accesses.old pid accesses.new) }
     ensures unasked { L.tells → IfErr result (λ refusal. IsOfLog refusal ⊎ (accesses.new ≡ accesses.old)) }
 {
@@ -74,7 +74,7 @@ pub(super) fn put_page<L: Log>(
     let Ok(()) = accesses.access(pid, size_with(0, payload)) else {
         return Err(Refusal::OutOfMemory);
     };
-    let info = write_kept(alloc, journal, pid, &kept, page.stamp + 1)?;
+    let info = write_kept(alloc, sticky_log, pid, &kept, page.stamp + 1)?;
     page.kept = kept;
     keep_alone(page, info);
     Ok(())
@@ -83,31 +83,31 @@ pub(super) fn put_page<L: Log>(
 // Frees a page, and puts its id among those of the free ones. A refusal leaves both.
 pub(super) fn free_page<L: Log>(
     alloc: Global,
-    journal: &mut Journal<L>,
+    sticky_log: &mut StickyLog<L>,
     accesses: &mut Accesses,
     free: &mut FreeIds,
     pid: PageId,
     page: &mut Page,
 ) -> Result<(), Refusal>
     requires lacks { AllByRecursion (λ id. id ≢ pid) free.old.ids.keys }
-    requires ready { journal.old.fault ≡ false }
-    requires usable { (L.state journal.old.log).usable ≡ true }
-    requires there { L.tells → pid < length (now effect_of_entry (L.state journal.old.log)) }
+    requires ready { sticky_log.old.fault ≡ false }
+    requires usable { (L.state sticky_log.old.log).usable ≡ true }
+    requires there { L.tells → pid < length (now effect_of_entry (L.state sticky_log.old.log)) }
     ensures freed { OnOk result (free.new.ids.keys ≡ insert_key nat_cmp free.old.ids.keys pid) }
     ensures unfreed { OnErr result (free.new.ids.keys ≡ free.old.ids.keys) }
     ensures stamp { OnOk result (IsRaised page.old.stamp page.new.stamp) }
     ensures holds { OnOk result (page.new.kept ≡ kept.Free) }
-    ensures kept { L.tells → OnOk result (IsKept (chain_at (L.state journal.new.log) pid) page.new) }
+    ensures kept { L.tells → OnOk result (IsKept (chain_at (L.state sticky_log.new.log) pid) page.new) }
     ensures stamps { OnOk result (map (λ info. info.ts) page.new.infos.items ≡ page.new.stamp ∷ []) }
-    ensures others { L.tells → OnOk result (now effect_of_entry (L.state journal.new.log) ≡ slice_set (now effect_of_entry (L.state journal.old.log)) pid (chain_at (L.state journal.new.log) pid)) }
+    ensures others { L.tells → OnOk result (now effect_of_entry (L.state sticky_log.new.log) ≡ slice_set (now effect_of_entry (L.state sticky_log.old.log)) pid (chain_at (L.state sticky_log.new.log) pid)) }
     ensures left { OnErr result (page.new ≡ page.old) }
-    ensures same { L.tells → OnErr result (journal.new.fault ≡ false → now effect_of_entry (L.state journal.new.log) ≡ now effect_of_entry (L.state journal.old.log)) }
+    ensures same { L.tells → OnErr result (sticky_log.new.fault ≡ false → now effect_of_entry (L.state sticky_log.new.log) ≡ now effect_of_entry (L.state sticky_log.old.log)) }
     ensures refused { L.tells → IfErr result (RefusesSwap page.old.stamp) }
-    ensures went { Went L.tells L.state L.moment L.left_since L.counts journal.old journal.new (begun_by result (Change pid (message_of (contents.Put contents.Free)) ∷ [])) }
-    ensures cause { IsCaused L.tells L.state L.moment L.left_since L.counts journal.old journal.new (L.is_full journal.old.log (length (message_of (contents.Put contents.Free)).payload)) result }
-    ensures reads { (L.counts journal.new.log).reads ≡ (L.counts journal.old.log).reads }
-    ensures sized { L.tells → OnOk result (AllByRecursion IsSized (now effect_of_entry (L.state journal.new.log))) }
-    ensures accessed { OnOk result (WasAccessed accesses.old pid (size_of page.new) accesses.new) }
+    ensures went { Went L.tells L.state L.moment L.left_since L.counts sticky_log.old sticky_log.new (begun_by result (Change pid (message_of (contents.Put contents.Free)) ∷ [])) }
+    ensures cause { IsCaused L.tells L.state L.moment L.left_since L.counts sticky_log.old sticky_log.new (L.is_full sticky_log.old.log (length (message_of (contents.Put contents.Free)).payload)) result }
+    ensures reads { (L.counts sticky_log.new.log).reads ≡ (L.counts sticky_log.old.log).reads }
+    ensures sized { L.tells → OnOk result (AllByRecursion IsSized (now effect_of_entry (L.state sticky_log.new.log))) }
+    ensures accessed { OnOk result (WasAccessed accesses.old pid (access_size page.new) accesses.new) }
     ensures touched { OnErr result (IsTouched accesses.old pid accesses.new) }
     ensures unasked { L.tells → IfErr result (λ refusal. IsOfLog refusal ⊎ (accesses.new ≡ accesses.old)) }
 {
@@ -117,7 +117,7 @@ pub(super) fn free_page<L: Log>(
     let Ok(()) = free.put(pid) else {
         return Err(Refusal::OutOfMemory);
     };
-    let freed = put_page(alloc, journal, accesses, pid, page, Kept::Free);
+    let freed = put_page(alloc, sticky_log, accesses, pid, page, Kept::Free);
     if freed.is_err() {
         free.take_back(pid);
     }
@@ -149,34 +149,34 @@ fn payload_size(kept: &Kept) -> u64
 // `Corruption` comes where no node of the page lies in memory, and `LinkRefused` where the node doesn't accept the link.
 pub(super) fn link_page<L: Log>(
     alloc: Global,
-    journal: &mut Journal<L>,
+    sticky_log: &mut StickyLog<L>,
     accesses: &mut Accesses,
     pid: PageId,
     page: &mut Page,
     link: &Link,
 ) -> Result<(), Refusal>
-    requires ready { journal.old.fault ≡ false }
-    requires usable { (L.state journal.old.log).usable ≡ true }
-    requires there { L.tells → pid < length (now effect_of_entry (L.state journal.old.log)) }
-    requires kept { L.tells → IsKept (chain_at (L.state journal.old.log) pid) page.old }
+    requires ready { sticky_log.old.fault ≡ false }
+    requires usable { (L.state sticky_log.old.log).usable ≡ true }
+    requires there { L.tells → pid < length (now effect_of_entry (L.state sticky_log.old.log)) }
+    requires kept { L.tells → IsKept (chain_at (L.state sticky_log.old.log) pid) page.old }
     ensures stamp { OnOk result (IsRaised page.old.stamp page.new.stamp) }
     ensures linked { OnOk result (IsLinked page.old.kept link.now page.new.kept) }
-    ensures kept { L.tells → OnOk result (IsKept (chain_at (L.state journal.new.log) pid) page.new) }
+    ensures kept { L.tells → OnOk result (IsKept (chain_at (L.state sticky_log.new.log) pid) page.new) }
     ensures len { OnOk result (length page.new.infos.items ≡ linked_length (length page.old.infos.items)) }
-    ensures others { L.tells → OnOk result (now effect_of_entry (L.state journal.new.log) ≡ slice_set (now effect_of_entry (L.state journal.old.log)) pid (chain_at (L.state journal.new.log) pid)) }
+    ensures others { L.tells → OnOk result (now effect_of_entry (L.state sticky_log.new.log) ≡ slice_set (now effect_of_entry (L.state sticky_log.old.log)) pid (chain_at (L.state sticky_log.new.log) pid)) }
     ensures left { OnErr result ((page.new.stamp ≡ page.old.stamp) × (page.new.infos.items ≡ page.old.infos.items)) }
-    ensures same { L.tells → OnErr result (journal.new.fault ≡ false → now effect_of_entry (L.state journal.new.log) ≡ now effect_of_entry (L.state journal.old.log)) }
-    ensures still { L.tells → OnErr result (journal.new.fault ≡ false → IsKept (chain_at (L.state journal.new.log) pid) page.new) }
+    ensures same { L.tells → OnErr result (sticky_log.new.fault ≡ false → now effect_of_entry (L.state sticky_log.new.log) ≡ now effect_of_entry (L.state sticky_log.old.log)) }
+    ensures still { L.tells → OnErr result (sticky_log.new.fault ≡ false → IsKept (chain_at (L.state sticky_log.new.log) pid) page.new) }
     ensures refused { L.tells → IfErr result (RefusesLink page.old.stamp page.old.kept link.now) }
-    ensures went { Went L.tells L.state L.moment L.left_since L.counts journal.old journal.new (begun_by result (Change pid (message_of (update_of (length page.old.infos.items) link.now page.old.kept)) ∷ [])) }
-    ensures cause { IsCaused L.tells L.state L.moment L.left_since L.counts journal.old journal.new (L.is_full journal.old.log (length (message_of (update_of (length page.old.infos.items) link.now page.old.kept)).payload)) result }
-    ensures reads { (L.counts journal.new.log).reads ≡ (L.counts journal.old.log).reads }
+    ensures went { Went L.tells L.state L.moment L.left_since L.counts sticky_log.old sticky_log.new (begun_by result (Change pid (message_of (update_of (length page.old.infos.items) link.now page.old.kept)) ∷ [])) }
+    ensures cause { IsCaused L.tells L.state L.moment L.left_since L.counts sticky_log.old sticky_log.new (L.is_full sticky_log.old.log (length (message_of (update_of (length page.old.infos.items) link.now page.old.kept)).payload)) result }
+    ensures reads { (L.counts sticky_log.new.log).reads ≡ (L.counts sticky_log.old.log).reads }
     ensures is { OnOk result (IsUpdate (message_of (update_of (length page.old.infos.items) link.now page.old.kept)) (update_of (length page.old.infos.items) link.now page.old.kept)) }
     ensures is_begun { IsErrOf result (Io Write) → IsUpdate (message_of (update_of (length page.old.infos.items) link.now page.old.kept)) (update_of (length page.old.infos.items) link.now page.old.kept) }
-    ensures sized { L.tells → OnOk result (AllByRecursion IsSized (now effect_of_entry (L.state journal.new.log))) }
+    ensures sized { L.tells → OnOk result (AllByRecursion IsSized (now effect_of_entry (L.state sticky_log.new.log))) }
     ensures free { is_free page.new.kept ≡ is_free page.old.kept }
     ensures own { IsFreeOrNode page.old.kept → IsFreeOrNode page.new.kept }
-    ensures accessed { OnOk result (WasAccessed accesses.old pid (size_of page.new) accesses.new) }
+    ensures accessed { OnOk result (WasAccessed accesses.old pid (access_size page.new) accesses.new) }
     ensures touched { OnErr result (IsTouched accesses.old pid accesses.new) }
     ensures lost { OnErr result ((page.new.kept ≡ page.old.kept) ⊎ (page.new.kept ≡ kept.Away)) }
     ensures unasked { L.tells → IfErr result (λ refusal. IsOfLog refusal ⊎ ((page.new.kept ≡ page.old.kept) × (accesses.new ≡ accesses.old))) }
@@ -198,7 +198,7 @@ pub(super) fn link_page<L: Log>(
         return Err(Refusal::OutOfMemory);
     };
     let messages = page.infos.len();
-    match write_linked(alloc, journal, pid, messages, node, link, page.stamp + 1) {
+    match write_linked(alloc, sticky_log, pid, messages, node, link, page.stamp + 1) {
         Ok(info) => {
             keep_linked(page, info);
             Ok(())
@@ -277,7 +277,7 @@ fn access_linked(
 // Writes a link to the log, or the node that it made where so many messages make the page as may be.
 fn write_linked<L: Log>(
     alloc: Global,
-    journal: &mut Journal<L>,
+    sticky_log: &mut StickyLog<L>,
     pid: PageId,
     messages: usize,
     node: &Node,
@@ -285,14 +285,14 @@ fn write_linked<L: Log>(
     stamp: u64,
 ) -> Result<CacheInfo, Refusal>
     requires can_write { CanWriteLink link.now }
-    requires ready { journal.old.fault ≡ false }
-    requires usable { (L.state journal.old.log).usable ≡ true }
-    requires there { L.tells → pid < length (now effect_of_entry (L.state journal.old.log)) }
-    requires full { L.tells → is_empty effect_of_entry (chain_at (L.state journal.old.log) pid) ≡ false }
-    ensures { Wrote L.tells L.state L.moment L.left_since L.counts L.is_full journal.old journal.new pid (link_update messages link.now node.now) stamp result }
+    requires ready { sticky_log.old.fault ≡ false }
+    requires usable { (L.state sticky_log.old.log).usable ≡ true }
+    requires there { L.tells → pid < length (now effect_of_entry (L.state sticky_log.old.log)) }
+    requires full { L.tells → is_empty effect_of_entry (chain_at (L.state sticky_log.old.log) pid) ≡ false }
+    ensures { Wrote L.tells L.state L.moment L.left_since L.counts L.is_full sticky_log.old sticky_log.new pid (link_update messages link.now node.now) stamp result }
 {
     if messages < PAGE_CONSOLIDATION_THRESHOLD {
-        return write_link(alloc, journal, pid, link, stamp);
+        return write_link(alloc, sticky_log, pid, link, stamp);
     }
-    write_node(alloc, journal, pid, node, stamp)
+    write_node(alloc, sticky_log, pid, node, stamp)
 }

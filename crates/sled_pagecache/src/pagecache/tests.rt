@@ -1,6 +1,6 @@
 //! Caches over logs with a page that no cache wrote: it is reported by its first wrong message, and the other pages are as ever.
 
-use super::journal::Journal;
+use super::sticky_log::StickyLog;
 use super::*;
 use sled_base::{DiskPtr, Error, MessageKind, Refusal};
 use sled_log::{Log, MemLog};
@@ -31,26 +31,26 @@ fn written(
     links: [&[u8]; 3],
 ) -> Result<(MemLog, [DiskPtr; 4]), Refusal> {
     let log = MemLog::new(alloc, 512, 0);
-    let mut journal = Journal { log, fault: false };
-    let _roots = journal.append(MessageKind::InlineMeta, 0, &[])?;
-    let _counter = journal.append(MessageKind::Counter, 1, &COUNTER)?;
-    let node = journal.append(MessageKind::InlineNode, 2, base)?;
-    let first = journal.append(MessageKind::InlineLink, 2, links[0])?;
-    let second = journal.append(MessageKind::InlineLink, 2, links[1])?;
-    let third = journal.append(MessageKind::InlineLink, 2, links[2])?;
-    let _other = journal.append(MessageKind::InlineNode, 3, &LEAF)?;
-    Ok((journal.log, [node.1, first.1, second.1, third.1]))
+    let mut sticky_log = StickyLog { log, fault: false };
+    let _roots = sticky_log.append(MessageKind::InlineMeta, 0, &[])?;
+    let _counter = sticky_log.append(MessageKind::Counter, 1, &COUNTER)?;
+    let node = sticky_log.append(MessageKind::InlineNode, 2, base)?;
+    let first = sticky_log.append(MessageKind::InlineLink, 2, links[0])?;
+    let second = sticky_log.append(MessageKind::InlineLink, 2, links[1])?;
+    let third = sticky_log.append(MessageKind::InlineLink, 2, links[2])?;
+    let _other = sticky_log.append(MessageKind::InlineNode, 3, &LEAF)?;
+    Ok((sticky_log.log, [node.1, first.1, second.1, third.1]))
 }
 
 // The same, where page 2 is a counter.
 fn of_wrong_kind(alloc: Global) -> Result<(MemLog, DiskPtr), Refusal> {
     let log = MemLog::new(alloc, 512, 0);
-    let mut journal = Journal { log, fault: false };
-    let _roots = journal.append(MessageKind::InlineMeta, 0, &[])?;
-    let _counter = journal.append(MessageKind::Counter, 1, &COUNTER)?;
-    let node = journal.append(MessageKind::Counter, 2, &COUNTER)?;
-    let _other = journal.append(MessageKind::InlineNode, 3, &LEAF)?;
-    Ok((journal.log, node.1))
+    let mut sticky_log = StickyLog { log, fault: false };
+    let _roots = sticky_log.append(MessageKind::InlineMeta, 0, &[])?;
+    let _counter = sticky_log.append(MessageKind::Counter, 1, &COUNTER)?;
+    let node = sticky_log.append(MessageKind::Counter, 2, &COUNTER)?;
+    let _other = sticky_log.append(MessageKind::InlineNode, 3, &LEAF)?;
+    Ok((sticky_log.log, node.1))
 }
 
 // A cache over a log in which no batch is open.

@@ -19,7 +19,7 @@ fn first_changes(alloc: Global, n: usize) -> Result<Option<Cache>, Fail> {
 }
 
 #[test]
-fn a_stop_leaves_the_first_changes(rt: HostRuntime) -> Result<(), Fail> {
+fn a_crash_leaves_the_first_changes(rt: HostRuntime) -> Result<(), Fail> {
     let alloc = rt.alloc();
     let mut neither = first_changes(alloc, 0)?.ok_or("none of the changes")?;
     assert!(rt; neither.was_recovered());
@@ -148,7 +148,7 @@ fn long_payloads_are_blobs(rt: HostRuntime) -> Result<(), Fail> {
 }
 
 #[test]
-fn a_flush_tells_what_was_pending(rt: HostRuntime) -> Result<(), Fail> {
+fn a_flush_reports_what_was_pending(rt: HostRuntime) -> Result<(), Fail> {
     let alloc = rt.alloc();
     let mut cache = opened(alloc)?;
     assert!(rt; adds_leaf(alloc, &mut cache, 2));

@@ -138,7 +138,7 @@ fn put_word(text: &mut Vec<u8>, count: usize) -> Result<(), AllocError> {
     Ok(())
 }
 
-// Whether a pair whose key and value have so many bytes is replied as it was spelled.
+// Whether a pair whose key and value have so many bytes is replied as it was encoded.
 fn returns_pair(alloc: Global, key: usize, value: usize) -> Result<bool, AllocError> {
     let mut pair = Vec::new(alloc);
     put_word(&mut pair, key)?;
@@ -173,20 +173,20 @@ fn are_wrong(alloc: Global, words: Option<&[&str]>) -> Result<bool, AllocError> 
 }
 
 // Whether a reader that fails in its second line ends the program so, with the reply to the first.
-fn tells_reader(alloc: Global) -> Result<bool, AllocError> {
+fn reports_reader(alloc: Global) -> Result<bool, AllocError> {
     let mut input = Broken { reads: 1 };
     let mut output = Vec::new(alloc);
-    let is_told = ends_so(alloc, &mut input, &mut output, 1, "sledpc: error read\n")?;
-    Ok(is_told && output.as_slice() == "page 2 1\n".as_bytes())
+    let is_read_so = ends_so(alloc, &mut input, &mut output, 1, "sledpc: error read\n")?;
+    Ok(is_read_so && output.as_slice() == "page 2 1\n".as_bytes())
 }
 
-fn tells_writer(alloc: Global) -> Result<bool, AllocError> {
+fn reports_writer(alloc: Global) -> Result<bool, AllocError> {
     let mut input = b"get 2\n".as_slice();
     let mut output = Broken { reads: 0 };
     ends_so(alloc, &mut input, &mut output, 1, "sledpc: error write\n")
 }
 
-fn answers_untold(alloc: Global) -> bool {
+fn answers_unreported(alloc: Global) -> bool {
     let mut input = b"".as_slice();
     let mut output = Vec::new(alloc);
     drive(
@@ -282,7 +282,7 @@ fn replies_to_lines(rt: HostRuntime) -> Result<(), Fail> {
 }
 
 #[test]
-fn pairs_of_any_size_are_replied_as_they_were_spelled(rt: HostRuntime) -> Result<(), Fail> {
+fn pairs_of_any_size_are_replied_as_they_were_encoded(rt: HostRuntime) -> Result<(), Fail> {
     for count in [0, 1, 21, 22, 23, 24, 25, 30, 31, 79, 80, 81, 160, 161, 200] {
         assert!(rt;
             returns_pair(rt.alloc(), count, 1)?,
@@ -349,7 +349,7 @@ fn a_line_of_65536_bytes_is_read_and_a_longer_one_is_not(rt: HostRuntime) -> Res
 }
 
 #[test]
-fn wrong_words_are_told_and_touch_no_stream(rt: HostRuntime) -> Result<(), Fail> {
+fn wrong_words_are_reported_and_touch_no_stream(rt: HostRuntime) -> Result<(), Fail> {
     assert!(rt; are_wrong(rt.alloc(), None)?);
     let wrong: [&[&str]; 5] = [
         &[],
@@ -365,9 +365,9 @@ fn wrong_words_are_told_and_touch_no_stream(rt: HostRuntime) -> Result<(), Fail>
 }
 
 #[test]
-fn refused_streams_are_told(rt: HostRuntime) -> Result<(), Fail> {
-    assert!(rt; tells_reader(rt.alloc())?);
-    assert!(rt; tells_writer(rt.alloc())?);
-    assert!(rt; answers_untold(rt.alloc()));
+fn refused_streams_are_reported(rt: HostRuntime) -> Result<(), Fail> {
+    assert!(rt; reports_reader(rt.alloc())?);
+    assert!(rt; reports_writer(rt.alloc())?);
+    assert!(rt; answers_unreported(rt.alloc()));
     Ok(())
 }

@@ -5,8 +5,8 @@ ghost use Rattle.std.specs.Option.{option_map, SomeIff};
 ghost use Rattle.sled_base.specs.Order.{Bytes};
 ghost use Rattle.sled_node.specs.Node.{Value, WholeNode, leaf_of};
 ghost use Rattle.sled_node.specs.Pairs.{IsWithinLimit, HasPairs};
-ghost use Rattle.sledpc.specs.Asked.{AsksBehind, AreTwo, BeginsWithToken, SpellLeaf};
-ghost use Rattle.sledpc.specs.Commands.{Spells};
+ghost use Rattle.sledpc.specs.Asked.{AsksBehind, AreTwo, BeginsWithToken, EncodeLeaf};
+ghost use Rattle.sledpc.specs.Commands.{Encodes};
 ghost use Rattle.sledpc.specs.Settings.{longest_line};
 ghost use Rattle.sled_pagecache.specs.Token.{Token};
 ghost use Rattle.sled_pagecache.specs.declared.pagecache.call.Call.{Call};
@@ -18,8 +18,8 @@ use std::alloc::{AllocError, Global};
 /// The call that a line asks for, or none where it is no command.
 pub fn call_of(alloc: Global, line: &[u8]) -> Result<Option<Call>, AllocError>
     requires { length line.now ≤ longest_line }
-    ensures some { IfOk result (λ found. IfSome found (Spells line.now)) }
-    ensures none { IfOk result (λ found. IfNone found ((call : Call) → ¬ Spells line.now call)) }
+    ensures some { IfOk result (λ found. IfSome found (Encodes line.now)) }
+    ensures none { IfOk result (λ found. IfNone found ((call : Call) → ¬ Encodes line.now call)) }
 {
     let (name, arguments) = first_word(line);
     match name {
@@ -48,8 +48,8 @@ fn allocate_of(alloc: Global, arguments: Option<&[u8]>) -> Result<Option<Call>, 
 
 // The leaf of the pairs that the words encode.
 fn leaf_behind(alloc: Global, arguments: Option<&[u8]>) -> Result<Option<Node>, AllocError>
-    ensures some { IfOk result (λ found. IfSome found (SpellLeaf (option_map (λ rest. rest.now) arguments.entry))) }
-    ensures none { IfOk result (λ found. IfNone found ((node : WholeNode) → ¬ SpellLeaf (option_map (λ rest. rest.now) arguments.entry) node)) }
+    ensures some { IfOk result (λ found. IfSome found (EncodeLeaf (option_map (λ rest. rest.now) arguments.entry))) }
+    ensures none { IfOk result (λ found. IfNone found ((node : WholeNode) → ¬ EncodeLeaf (option_map (λ rest. rest.now) arguments.entry) node)) }
 {
     let Some(pairs) = pairs_of(alloc, arguments)? else {
         return Ok(None);

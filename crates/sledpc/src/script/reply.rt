@@ -7,7 +7,7 @@ ghost use Rattle.sled_node.specs.Parts.{item_of};
 ghost use Rattle.sledpc.specs.Output.{Writes};
 ghost use Rattle.sledpc.specs.Replies.{entry_text, error_text, item_word, node_text, reply_of};
 ghost use Rattle.sledpc.specs.Settings.{piece_room};
-ghost use Rattle.sledpc.specs.Told.{answer_of};
+ghost use Rattle.sledpc.specs.LentAnswers.{answer_of};
 ghost use Rattle.sledpc.specs.Words.{bytes_word};
 
 use crate::output::{write_bytes_word, write_number, write_text};
@@ -18,7 +18,7 @@ use std::io::Write;
 
 /// What a call of the cache answered, lent.
 #[derive(Clone, Copy)]
-pub enum Told<'a> {
+pub enum LentAnswer<'a> {
     Allocated(&'a Result<(PageId, PageView), Error>),
     Got(Result<Option<NodeView<'a>>, Refusal>),
     Linked(&'a Result<Result<PageView, Option<(PageView, Link)>>, Error>),
@@ -29,31 +29,33 @@ pub enum Told<'a> {
 }
 
 /// Writes the reply to an answer as a line.
-pub fn write_line<W: Write>(writer: &mut W, told: Told<'_>) -> io::Result<()>
-    ensures { Writes (W.contents writer.old) (W.contents writer.new) result (reply_of (answer_of told.entry) ++ 10 ∷ []) }
+pub fn write_line<W: Write>(writer: &mut W, lent: LentAnswer<'_>) -> io::Result<()>
+    ensures { Writes (W.contents writer.old) (W.contents writer.new) result (reply_of (answer_of lent.entry) ++ 10 ∷ []) }
 {
-    match told {
-        Told::Allocated(Ok((pid, token))) => write_page(writer, *pid, token.ts()),
-        Told::Got(Ok(Some(view))) => write_node(writer, view.token().ts(), view.node()),
-        Told::Got(Ok(None)) => write_text(writer, b"none\n"),
-        Told::Linked(Ok(Ok(token))) | Told::Replaced(Ok(Ok(token))) | Told::Freed(Ok(Ok(token))) =>
-            { write_labelled(writer, b"ok ", token.ts()) }
-        Told::Linked(Ok(Err(Some((token, _)))))
-        | Told::Replaced(Ok(Err(Some((token, _)))))
-        | Told::Freed(Ok(Err(Some((token, ()))))) => {
+    match lent {
+        LentAnswer::Allocated(Ok((pid, token))) => write_page(writer, *pid, token.ts()),
+        LentAnswer::Got(Ok(Some(view))) => write_node(writer, view.token().ts(), view.node()),
+        LentAnswer::Got(Ok(None)) => write_text(writer, b"none\n"),
+        LentAnswer::Linked(Ok(Ok(token)))
+        | LentAnswer::Replaced(Ok(Ok(token)))
+        | LentAnswer::Freed(Ok(Ok(token))) => { write_labelled(writer, b"ok ", token.ts()) }
+        LentAnswer::Linked(Ok(Err(Some((token, _)))))
+        | LentAnswer::Replaced(Ok(Err(Some((token, _)))))
+        | LentAnswer::Freed(Ok(Err(Some((token, ()))))) => {
             write_labelled(writer, b"stale ", token.ts())
         }
-        Told::Linked(Ok(Err(None))) | Told::Replaced(Ok(Err(None))) | Told::Freed(Ok(Err(None))) =>
-            write_text(writer, b"gone\n"),
-        Told::Flushed(Ok(written)) => write_labelled(writer, b"flushed ", *written as u64),
-        Told::Sized(Ok(bytes)) => write_labelled(writer, b"size ", *bytes),
-        Told::Allocated(Err(error))
-        | Told::Linked(Err(error))
-        | Told::Replaced(Err(error))
-        | Told::Freed(Err(error))
-        | Told::Flushed(Err(error))
-        | Told::Sized(Err(error)) => write_error(writer, error),
-        Told::Got(Err(refusal)) => write_error(writer, &Error::from(refusal)),
+        LentAnswer::Linked(Ok(Err(None)))
+        | LentAnswer::Replaced(Ok(Err(None)))
+        | LentAnswer::Freed(Ok(Err(None))) => write_text(writer, b"gone\n"),
+        LentAnswer::Flushed(Ok(written)) => write_labelled(writer, b"flushed ", *written as u64),
+        LentAnswer::Sized(Ok(bytes)) => write_labelled(writer, b"size ", *bytes),
+        LentAnswer::Allocated(Err(error))
+        | LentAnswer::Linked(Err(error))
+        | LentAnswer::Replaced(Err(error))
+        | LentAnswer::Freed(Err(error))
+        | LentAnswer::Flushed(Err(error))
+        | LentAnswer::Sized(Err(error)) => write_error(writer, error),
+        LentAnswer::Got(Err(refusal)) => write_error(writer, &Error::from(refusal)),
     }
 }
 

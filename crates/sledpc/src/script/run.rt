@@ -2,15 +2,15 @@
 
 ghost use Rattle.std.specs.Prelude.{◌≡◌, ◌≤◌, ◌++◌, [], ◌∷◌, length, codes, IfOk, IfSome, IfNone, IfErr};
 ghost use Rattle.std.specs.Io.KnownBytes.{Keeps};
-ghost use Rattle.sledpc.specs.Commands.{Spells};
+ghost use Rattle.sledpc.specs.Commands.{Encodes};
 ghost use Rattle.sledpc.specs.Output.{Writes};
-ghost use Rattle.sledpc.specs.Runs.{Serves, error_of};
+ghost use Rattle.sledpc.specs.Runs.{Serves, run_error_of};
 ghost use Rattle.sledpc.specs.Served.{RepliesTo, RepliesLine};
 ghost use Rattle.sledpc.specs.Settings.{longest_line};
 ghost use Rattle.sled_pagecache.specs.declared.pagecache.call.Call.{Call};
 
 use super::command::call_of;
-use super::reply::{Told, write_line};
+use super::reply::{LentAnswer, write_line};
 use crate::lines::{Line, ReadError, read_line};
 use crate::output::write_text;
 use sled_pagecache::{Call, Log, PageCache};
@@ -34,7 +34,7 @@ pub enum RunError {
 }
 
 impl From<ReadError> for RunError {
-    ghost from_gives = { λ e r. r ≡ error_of e };
+    ghost from_gives = { λ e r. r ≡ run_error_of e };
 
     fn from(error: ReadError) -> RunError {
         match error {
@@ -140,28 +140,28 @@ fn serve_call<L: Log, W: Write>(
     match call {
         Call::Allocate(node) => {
             let answer = cache.allocate(node);
-            write_line(writer, Told::Allocated(&answer))
+            write_line(writer, LentAnswer::Allocated(&answer))
         }
-        Call::Get(pid) => write_line(writer, Told::Got(cache.get(pid))),
+        Call::Get(pid) => write_line(writer, LentAnswer::Got(cache.get(pid))),
         Call::Link(old, link) => {
             let answer = cache.link(old.pid(), old, link);
-            write_line(writer, Told::Linked(&answer))
+            write_line(writer, LentAnswer::Linked(&answer))
         }
         Call::Replace(old, node) => {
             let answer = cache.replace(old.pid(), old, node);
-            write_line(writer, Told::Replaced(&answer))
+            write_line(writer, LentAnswer::Replaced(&answer))
         }
         Call::Free(old) => {
             let answer = cache.free(old.pid(), old);
-            write_line(writer, Told::Freed(&answer))
+            write_line(writer, LentAnswer::Freed(&answer))
         }
         Call::Flush => {
             let answer = cache.flush();
-            write_line(writer, Told::Flushed(&answer))
+            write_line(writer, LentAnswer::Flushed(&answer))
         }
         Call::SizeOnDisk => {
             let answer = cache.size_on_disk();
-            write_line(writer, Told::Sized(&answer))
+            write_line(writer, LentAnswer::Sized(&answer))
         }
     }
 }

@@ -5,7 +5,7 @@ ghost use Rattle.std.specs.Option.{option_map};
 ghost use Rattle.std.specs.Fmt.{decimal};
 ghost use Rattle.sled_base.specs.Order.{Bytes};
 ghost use Rattle.sledpc.specs.Cut.{HasPlainFront};
-ghost use Rattle.sledpc.specs.Words.{AreBytes, ArePairs, IsPairOfBytes, hex_digit, hex, bytes_word, pair_word, BeginsLine, SpellPairs};
+ghost use Rattle.sledpc.specs.Words.{AreBytes, ArePairs, IsPairOfBytes, hex_digit, hex, bytes_word, pair_word, BeginsLine, EncodePairs};
 
 use crate::cuts::cut_at;
 use sled_base::IVec;
@@ -71,7 +71,7 @@ fn decode(word: &[u8], bytes: &mut [u8]) -> bool
     ensures length { length bytes.new ≡ length bytes.old }
     ensures some { IsTrue result → word.now ≡ hex bytes.new }
     ensures bytes { IsTrue result → AreBytes bytes.new }
-    ensures none { result ≡ false → (spelled : Bytes) → AreBytes spelled → word.now ≢ hex spelled }
+    ensures none { result ≡ false → (encoded : Bytes) → AreBytes encoded → word.now ≢ hex encoded }
 {
     for index in 0..bytes.len() {
         match hex_byte(word[2 * index], word[2 * index + 1]) {
@@ -134,9 +134,9 @@ pub fn pairs_of(
     alloc: Global,
     words: Option<&[u8]>,
 ) -> Result<Option<Vec<(IVec, IVec)>>, AllocError>
-    ensures some { IfOk result (λ found. IfSome found (λ pairs. SpellPairs (option_map (λ rest. rest.now) words.entry) pairs.items)) }
+    ensures some { IfOk result (λ found. IfSome found (λ pairs. EncodePairs (option_map (λ rest. rest.now) words.entry) pairs.items)) }
     ensures bytes { IfOk result (λ found. IfSome found (λ pairs. ArePairs pairs.items)) }
-    ensures none { IfOk result (λ found. IfNone found ((pairs : List (Bytes × Bytes)) → ArePairs pairs → ¬ SpellPairs (option_map (λ rest. rest.now) words.entry) pairs)) }
+    ensures none { IfOk result (λ found. IfNone found ((pairs : List (Bytes × Bytes)) → ArePairs pairs → ¬ EncodePairs (option_map (λ rest. rest.now) words.entry) pairs)) }
 {
     let mut pairs = Vec::new(alloc);
     let mut left = words;

@@ -1,5 +1,5 @@
-use Rattle.sled_log.specs.TellingLaws.{Adds-told}
+use Rattle.sled_log.specs.UnplacedLaws.{Adds-unplaced}
 use Rattle.sled_log.proofs.laws.places_are_forgotten.Goals as goal
 
 pub returns : goal.returns
-returns c = Adds-told
+returns c = Adds-unplaced

@@ -2,7 +2,7 @@ use Rattle.std.proofs.Common.{[], ap}
 use Rattle.std.proofs.lemmas.Result.{err_from_is_err_and}
 use Rattle.sled_log.specs.RunLaws.{append-events, call-stop, call-added, tells-call}
 use Rattle.sled_log.specs.Runs.{events_of}
-use Rattle.sled_log.specs.TellingLaws.{Adds-told}
+use Rattle.sled_log.specs.UnplacedLaws.{Adds-unplaced}
 use Rattle.sled_log.proofs.runs.make_call.Goals as goal
 
 pub returns-in_err-append-in-Append-clause-stop : goal.returns-in_err-append-in-Append-clause-stop
@@ -38,12 +38,12 @@ returns-in_ok-cancel-in-Cancel-clause-added g c = call-added g.L.Log.state g.L.L
 pub returns-in_err-append-in-Append-clause-refused : goal.returns-in_err-append-in-Append-clause-refused
 returns-in_err-append-in-Append-clause-refused g c =
     let p = err_from_is_err_and c.from_residual.result c.from_residual.ensures.1 in
-    rw (p.1, p.2) (λ clear. Adds-told (g.L.Log.state c.args.log.now) (g.L.Log.state c.append.new.self) [] (c.in_err-append-in-Append.ensures.called.refused c.requires.tells clear))
+    rw (p.1, p.2) (λ clear. Adds-unplaced (g.L.Log.state c.args.log.now) (g.L.Log.state c.append.new.self) [] (c.in_err-append-in-Append.ensures.called.refused c.requires.tells clear))
 
 pub returns-in_err-pin-in-Pin-clause-refused : goal.returns-in_err-pin-in-Pin-clause-refused
 returns-in_err-pin-in-Pin-clause-refused g c =
     let p = err_from_is_err_and c.from_residual-in_err-pin-in-Pin.result c.from_residual-in_err-pin-in-Pin.ensures.1 in
-    rw (p.1, p.2) (λ clear. Adds-told (g.L.Log.state c.args.log.now) (g.L.Log.state c.pin.new.self) [] (c.in_err-pin-in-Pin.ensures.called.refused c.requires.tells clear))
+    rw (p.1, p.2) (λ clear. Adds-unplaced (g.L.Log.state c.args.log.now) (g.L.Log.state c.pin.new.self) [] (c.in_err-pin-in-Pin.ensures.called.refused c.requires.tells clear))
 
 pub append-requires-clause-can : goal.append-requires-clause-can
 append-requires-clause-can g c = λ _.

@@ -4,10 +4,10 @@ use Rattle.std.proofs.lemmas.Result.{err_from_is_err_and}
 use Rattle.sled_log.specs.Batches.{is_open}
 use Rattle.sled_log.specs.Events.{Event}
 use Rattle.sled_log.specs.Laws.{Adds-then, IsLeft-more}
-use Rattle.sled_log.specs.Messages.{Message, Told, effect_of}
-use Rattle.sled_log.specs.RunLaws.{Ran, Ran-stop, Ran-more, StopsLeave-weaker, open-call, now-call}
+use Rattle.sled_log.specs.Messages.{Message, Messages, effect_of}
+use Rattle.sled_log.specs.RunLaws.{Ran, Ran-stop, Ran-more, CrashesSinceLeave-weaker, open-call, now-call}
 use Rattle.sled_log.specs.Runs.{events_of, events_of_all, can_make_all, leaves_open}
-use Rattle.sled_log.specs.State.{now, Adds, IsLeft, told_state}
+use Rattle.sled_log.specs.LogState.{now, Adds, IsLeft, unplaced_state}
 use Rattle.sled_log.proofs.CallLists.{events-more, can-next, events-split}
 use Rattle.sled_log.proofs.runs.make_calls.Goals as goal
 
@@ -15,11 +15,11 @@ pub returns-in_err-make_call-clause-stop : goal.returns-in_err-make_call-clause-
 returns-in_err-make_call-clause-stop g c =
     let calls = c.args.calls.now in
     let i = c.loop-call.call-index in
-    let old = told_state (g.L.Log.state c.args.log.now) in
+    let old = unplaced_state (g.L.Log.state c.args.log.now) in
     let first = events_of_all (take i calls) in
     let more = events_of_all (take (i + 1) calls) in
     let others = events_of_all (drop (i + 1) calls) in
-    StopsLeave-weaker g.L.Log.state g.L.Log.moment g.L.Log.left_since g.L.Log.counts c.args.log.now c.make_call.new.log (IsLeft effect_of old (first ++ events_of c.call-item.result)) (IsLeft effect_of old (events_of_all calls))
+    CrashesSinceLeave-weaker g.L.Log.state g.L.Log.moment g.L.Log.left_since g.L.Log.counts c.args.log.now c.make_call.new.log (IsLeft effect_of old (first ++ events_of c.call-item.result)) (IsLeft effect_of old (events_of_all calls))
     (λ pages left.
     subst (λ (l : List (Event Message)). IsLeft effect_of old l pages) (events-split calls (i + 1))
     (IsLeft-more effect_of old more others pages (subst (λ (l : List (Event Message)). IsLeft effect_of old l pages) (events-more calls i c.call-item.result c.loop-call-test.true c.call-item.is) left)))
@@ -34,16 +34,16 @@ loop-call-preserved g c =
     record {
       ran = subst (Ran g.L.Log.state g.L.Log.moment g.L.Log.left_since g.L.Log.counts c.args.log.now c.make_call.new.log) (events-more calls i call c.loop-call-test.true c.call-item.is)
           (Ran-more g.L.Log.state g.L.Log.moment g.L.Log.left_since g.L.Log.counts c.args.log.now c.loop-call.log c.make_call.new.log (events_of_all (take i calls)) (events_of call) tt c.loop-call.invariant.ran made.usable made.added made.stop made.cause);
-      can = ap (λ b. can_make_all (now effect_of (told_state (g.L.Log.state c.make_call.new.log))) b (drop (i + 1) calls)) (open-call (g.L.Log.state c.loop-call.log) (g.L.Log.state c.make_call.new.log) call made.added)
-          ∙ ap (λ (pages : List Told). can_make_all pages (leaves_open (is_open (g.L.Log.state c.loop-call.log).pending) call) (drop (i + 1) calls)) (now-call (g.L.Log.state c.loop-call.log) (g.L.Log.state c.make_call.new.log) call made.added)
-          ∙ (can-next calls i call c.loop-call-test.true c.call-item.is (now effect_of (told_state (g.L.Log.state c.loop-call.log))) (is_open (g.L.Log.state c.loop-call.log).pending) c.loop-call.invariant.can).1;
+      can = ap (λ b. can_make_all (now effect_of (unplaced_state (g.L.Log.state c.make_call.new.log))) b (drop (i + 1) calls)) (open-call (g.L.Log.state c.loop-call.log) (g.L.Log.state c.make_call.new.log) call made.added)
+          ∙ ap (λ (pages : List Messages). can_make_all pages (leaves_open (is_open (g.L.Log.state c.loop-call.log).pending) call) (drop (i + 1) calls)) (now-call (g.L.Log.state c.loop-call.log) (g.L.Log.state c.make_call.new.log) call made.added)
+          ∙ (can-next calls i call c.loop-call-test.true c.call-item.is (now effect_of (unplaced_state (g.L.Log.state c.loop-call.log))) (is_open (g.L.Log.state c.loop-call.log).pending) c.loop-call.invariant.can).1;
     }
 
 pub returns-in_err-make_call-clause-refused : goal.returns-in_err-make_call-clause-refused
 returns-in_err-make_call-clause-refused g c =
     let i = c.loop-call.call-index in
     let first = events_of_all (take i c.args.calls.now) in
-    let old = told_state (g.L.Log.state c.args.log.now) in
-    let new = told_state (g.L.Log.state c.make_call.new.log) in
+    let old = unplaced_state (g.L.Log.state c.args.log.now) in
+    let new = unplaced_state (g.L.Log.state c.make_call.new.log) in
     let p = err_from_is_err_and c.from_residual.result c.from_residual.ensures.1 in
-    rw (p.1, p.2) (λ clear. (i, c.loop-call-test.true, subst (λ (l : List (Event Message)). Adds effect_of old l new) (append-nil first) (Adds-then effect_of old (told_state (g.L.Log.state c.loop-call.log)) new first [] c.loop-call.invariant.ran.added (c.in_err-make_call.ensures.refused clear))))
+    rw (p.1, p.2) (λ clear. (i, c.loop-call-test.true, subst (λ (l : List (Event Message)). Adds effect_of old l new) (append-nil first) (Adds-then effect_of old (unplaced_state (g.L.Log.state c.loop-call.log)) new first [] c.loop-call.invariant.ran.added (c.in_err-make_call.ensures.refused clear))))

@@ -1,5 +1,5 @@
-use Rattle.sled_log.specs.Laws.{StopsLeave-then}
+use Rattle.sled_log.specs.Laws.{CrashesSinceLeave-then}
 use Rattle.sled_log.proofs.runs.parts_make_the_whole.Goals as goal
 
 pub returns : goal.returns
-returns g c = StopsLeave-then g.L.Log.moment g.L.Log.left_since
+returns g c = CrashesSinceLeave-then g.L.Log.moment g.L.Log.left_since

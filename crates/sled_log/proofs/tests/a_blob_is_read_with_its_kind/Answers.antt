@@ -8,11 +8,11 @@ use Rattle.sled_log.specs.Events.{Event, Change}
 use Rattle.sled_log.specs.Memory.{state_of}
 use Rattle.sled_log.specs.Messages.{Entry, Chain, effect_of_entry}
 use Rattle.sled_log.specs.Pages.{IsAt}
-use Rattle.sled_log.specs.State.{State, now}
+use Rattle.sled_log.specs.LogState.{LogState, now}
 use Rattle.sled_log.proofs.tests.a_blob_is_read_with_its_kind.Goals as goal
 
 -- the one message that the log holds
-only : (state : State Entry) (before : List (Event Entry)) (entry : Entry) → state.stable ≡ [] → state.pending ≡ before ++ Change 0 entry ∷ [] → before ≡ [] → entry.message.kind ≡ InlineNode → entry.place.lsn ≡ pos 0
+only : (state : LogState Entry) (before : List (Event Entry)) (entry : Entry) → state.stable ≡ [] → state.pending ≡ before ++ Change 0 entry ∷ [] → before ≡ [] → entry.message.kind ≡ InlineNode → entry.place.lsn ≡ pos 0
     → Any (IsAt (pos 0) entry.place.pointer) (slice_index_or (now effect_of_entry state) 0 [])
 only state before entry stable pending none kind lsn =
     let made : MessageKind → List Chain = λ kind. changed effect_of_entry (log_kind_of kind) [] 0 entry in
@@ -23,4 +23,4 @@ only state before entry stable pending none kind lsn =
 pub read-read-requires : goal.read-read-requires
 read-read-requires g c =
     let made = c.in_ok-pointer.ensures in
-    record { known = only (state_of c.append.new.self) _ _ (made.moves.stable ∙ ap (λ s. s.stable) c.new-log.ensures.state) made.moves.ok (ap (λ (s : State Entry). s.pending) c.new-log.ensures.state) refl (made.lsn ∙ ap pos c.new-log.ensures.size) }
+    record { known = only (state_of c.append.new.self) _ _ (made.moves.stable ∙ ap (λ s. s.stable) c.new-log.ensures.state) made.moves.ok (ap (λ (s : LogState Entry). s.pending) c.new-log.ensures.state) refl (made.lsn ∙ ap pos c.new-log.ensures.size) }

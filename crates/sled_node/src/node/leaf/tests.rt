@@ -27,7 +27,7 @@ fn len_of(alloc: Global, keys: &[&[u8]]) -> Result<Option<usize>, AllocError> {
 }
 
 #[test]
-fn leaves_have_rising_keys(rt: HostRuntime) -> Result<(), Fail> {
+fn leaves_have_ascending_keys(rt: HostRuntime) -> Result<(), Fail> {
     let alloc = rt.alloc();
     for keys in [
         [].as_slice(),

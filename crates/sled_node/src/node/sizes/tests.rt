@@ -10,7 +10,7 @@ fn leaf_of(alloc: Global, count: u8) -> Result<Node, Fail> {
     for key in 0..count {
         pairs.push((IVec::from_slice(alloc, &[key])?, IVec::default()))?;
     }
-    let leaf = Leaf::from_pairs(alloc, pairs)?.ok_or("rising")?;
+    let leaf = Leaf::from_pairs(alloc, pairs)?.ok_or("ascending")?;
     over_all(Data::Leaf(leaf))
 }
 
@@ -20,7 +20,7 @@ fn index_of(alloc: Global, count: u16) -> Result<Node, Fail> {
     for key in 0..count {
         pairs.push((IVec::from_slice(alloc, &key.to_be_bytes())?, 2))?;
     }
-    let index = Index::from_pairs(alloc, pairs)?.ok_or("rising")?;
+    let index = Index::from_pairs(alloc, pairs)?.ok_or("ascending")?;
     over_all(Data::Index(index))
 }
 

@@ -33,7 +33,7 @@ fn is_said(alloc: Global, kept: Kept, state: PageState) -> Result<bool, AllocErr
 }
 
 #[test]
-fn a_page_tells_its_chain(rt: HostRuntime) -> Result<(), Fail> {
+fn a_page_reports_its_chain(rt: HostRuntime) -> Result<(), Fail> {
     let page = page(rt.alloc(), Kept::Counter(5))?;
     assert!(rt; page.cache_infos() == [FIRST, SECOND].as_slice());
     assert!(rt; page.log_size() == 47);

@@ -17,23 +17,23 @@ const SET: [u8; 5] = [0, 1, 98, 1, 118];
 
 // A leaf and a link on it, in a log that keeps payloads above so many bytes as blobs, and their page, whose node doesn't lie
 // in memory.
-fn paged_out(alloc: Global, blob_limit: usize) -> Result<(Journal<MemLog>, Page), Refusal>
+fn paged_out(alloc: Global, blob_limit: usize) -> Result<(StickyLog<MemLog>, Page), Refusal>
     ensures ready { IfOk result (λ made. made.0.fault ≡ false) }
     ensures usable { IfOk result (λ made. (state_of made.0.log).usable ≡ true) }
     ensures kept { IfOk result (λ made. IsKept (chain_at (state_of made.0.log) 0) made.1) }
 {
-    let mut journal = Journal {
+    let mut sticky_log = StickyLog {
         log: MemLog::new(alloc, blob_limit, 0),
         fault: false,
     };
-    let (lsn, pointer, log_size) = journal.append(MessageKind::InlineNode, 0, &LEAF)?;
+    let (lsn, pointer, log_size) = sticky_log.append(MessageKind::InlineNode, 0, &LEAF)?;
     let leaf = CacheInfo {
         ts: 1,
         lsn,
         pointer,
         log_size,
     };
-    let (lsn, pointer, log_size) = journal.append(MessageKind::InlineLink, 0, &SET)?;
+    let (lsn, pointer, log_size) = sticky_log.append(MessageKind::InlineLink, 0, &SET)?;
     let link = CacheInfo {
         ts: 2,
         lsn,
@@ -45,17 +45,17 @@ fn paged_out(alloc: Global, blob_limit: usize) -> Result<(Journal<MemLog>, Page)
     };
     let kept = Kept::Away;
     let stamp = 2;
-    Ok((journal, Page { stamp, infos, kept }))
+    Ok((sticky_log, Page { stamp, infos, kept }))
 }
 
 // Pulls the page twice, and answers how often the log was read after each time, and whether the page holds the node of one
 // pair.
 fn pulled_twice(alloc: Global, blob_limit: usize) -> Result<(u64, u64, bool), Refusal> {
-    let (mut journal, mut page) = paged_out(alloc, blob_limit)?;
-    pull(alloc, &mut journal, 0, &mut page)?;
-    let first = journal.log.reads();
-    pull(alloc, &mut journal, 0, &mut page)?;
-    Ok((first, journal.log.reads(), has_pair(&page, b"b", b"v")))
+    let (mut sticky_log, mut page) = paged_out(alloc, blob_limit)?;
+    pull(alloc, &mut sticky_log, 0, &mut page)?;
+    let first = sticky_log.log.reads();
+    pull(alloc, &mut sticky_log, 0, &mut page)?;
+    Ok((first, sticky_log.log.reads(), has_pair(&page, b"b", b"v")))
 }
 
 // Whether the page holds a node of one pair, of this key and this value.

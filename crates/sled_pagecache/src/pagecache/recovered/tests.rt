@@ -9,7 +9,7 @@ const THERE: DiskPtr = DiskPtr::Inline(26);
 fn a_free_system_page_is_a_misfit(rt: HostRuntime) -> Result<(), Fail> {
     let alloc = rt.alloc();
     let states = [PageState::Free(9, HERE), PageState::Free(26, THERE)];
-    let pages = pages_of(alloc, &states)?;
+    let pages = recovered_pages(alloc, &states)?;
     assert!(rt; misfit(&pages) == Some(HERE));
     assert!(rt; misfit(&PageTable::default(alloc)).is_none());
     assert!(rt; free_of(alloc, &pages)?.greatest() == Some(1));
@@ -30,7 +30,7 @@ fn of_messages(alloc: Global, len: usize) -> Result<PageState, AllocError> {
 
 // Whether no cache leaves a page of so many messages at this id.
 fn misfits(alloc: Global, pid: usize, len: usize) -> Result<bool, AllocError> {
-    let page = page_of(alloc, &of_messages(alloc, len)?)?;
+    let page = recovered_page(alloc, &of_messages(alloc, len)?)?;
     Ok(is_misfit(pid, &page))
 }
 

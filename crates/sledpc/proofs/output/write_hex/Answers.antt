@@ -2,7 +2,7 @@
 use Rattle.std.proofs.Common.{◌≡◌, ◌++◌, take, take-append-drop, sym, ap, subst, ◌∙◌, append_assoc, refl, length, length-take-le, arith}
 use Rattle.std.specs.Io.KnownBytes.{Appends}
 use Rattle.std.proofs.KnownBytes.{Appends-trans}
-use Rattle.sledpc.specs.Output.{AppendsBeginning}
+use Rattle.sledpc.specs.Output.{AppendsPrefix}
 use Rattle.sledpc.specs.Words.{hex}
 use Rattle.sledpc.proofs.Words.{length-hex}
 use Rattle.sledpc.proofs.Written.{hex_append, writes_more, stops_before}
@@ -20,7 +20,7 @@ returns-in_err-write_text g c =
     let rest = c.split_at.result.1.now in
     let left : c.loop-left.left.now ≡ part ++ rest = sym (ap (λ l. l ++ rest) c.split_at.ensures.front ∙ ap (λ l. take c.min.result c.loop-left.left.now ++ l) c.split_at.ensures.back ∙ take-append-drop c.min.result c.loop-left.left.now) in
     let text = c.as_slice.ensures ∙ c.put_hex.ensures ∙ ap (λ l. l ++ hex part) c.new-piece.ensures in
-    let begun = subst (AppendsBeginning (contents c.loop-left.writer) (contents c.write_text.new.writer)) text c.in_err-write_text.ensures in
+    let begun = subst (AppendsPrefix (contents c.loop-left.writer) (contents c.write_text.new.writer)) text c.in_err-write_text.ensures in
     writes_more (contents c.args.writer.now) (contents c.loop-left.writer) (contents c.write_text.new.writer) c.from_residual.result (hex done) (hex part ++ hex rest) (hex c.args.bytes.now) appended
     (stops_before (contents c.loop-left.writer) (contents c.write_text.new.writer) c.from_residual.result (hex part) (hex rest) (hex part ++ hex rest) c.from_residual.ensures.0 begun refl)
     (ap hex (split ∙ ap (λ l. done ++ l) left) ∙ hex_append done (part ++ rest) ∙ ap (λ l. hex done ++ l) (hex_append part rest))

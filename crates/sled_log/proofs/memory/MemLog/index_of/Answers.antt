@@ -3,9 +3,9 @@ use Rattle.std.specs.List.Sorted.{IsNonDecreasingBy}
 use Rattle.std.proofs.lemmas.Bool.{cases_lt, leb-true, leb-false}
 use Rattle.std.proofs.lemmas.List.Sorted.{IsPartitionPoint-from_clause, IsPartitionedBy-leb}
 use Rattle.std.proofs.lemmas.Option.{get_or_from_slice_get, slice_get_within}
-use Rattle.sled_log.specs.Kept.{Item as KeptItem}
+use Rattle.sled_log.specs.Kept.{LogItem as KeptItem}
 use Rattle.sled_log.specs.Memory.{kept_in}
-use Rattle.sled_log.specs.declared.memory.item.Item.{Item}
+use Rattle.sled_log.specs.declared.memory.item.LogItem.{LogItem}
 use Rattle.sled_log.proofs.Places.{ends-rise, change-ends}
 use Rattle.sled_log.proofs.Stored.{kept-length, kept-end, stored-rise, finds}
 use Rattle.sled_log.proofs.memory.MemLog.index_of.Goals as goal
@@ -14,21 +14,21 @@ pub returns : goal.returns
 returns c = λ i item change is mark at.
     let self = c.args.self.now in
     let items = c.deref.result.now in
-    let stored : List Item = self.items.items in
+    let stored : List LogItem = self.items.items in
     let kept : List KeptItem = kept_in self in
     let n : ℕ = c.partition_point.result in
     let same = c.deref.ensures.value in
-    let x : Item = (finds self.blob_limit self.bytes.items stored i item change is mark).0 in
-    let rise = subst (λ (l : List Item). IsNonDecreasingBy (λ (item : Item). item.end) l) (sym same) (stored-rise self.blob_limit self.bytes.items 0 0 stored (ends-rise 0 kept self.placed)) in
-    let parted = IsPartitionedBy-leb (λ (item : Item). item.end) items c.args.place rise in
-    let point = IsPartitionPoint-from_clause (λ (item : Item). leb item.end c.args.place) items n c.partition_point.ensures.partitioned parted (λ a r q k. search rules) in
+    let x : LogItem = (finds self.blob_limit self.bytes.items stored i item change is mark).0 in
+    let rise = subst (λ (l : List LogItem). IsNonDecreasingBy (λ (item : LogItem). item.end) l) (sym same) (stored-rise self.blob_limit self.bytes.items 0 0 stored (ends-rise 0 kept self.placed)) in
+    let parted = IsPartitionedBy-leb (λ (item : LogItem). item.end) items c.args.place rise in
+    let point = IsPartitionPoint-from_clause (λ (item : LogItem). leb item.end c.args.place) items n c.partition_point.ensures.partitioned parted (λ a r q k. search rules) in
     let ends = change-ends 0 kept self.placed i item change is mark in
     let within = slice_get_within kept i item is in
     let long = kept-length self.blob_limit self.bytes.items 0 0 stored in
     let here = ap (λ (y : KeptItem). y.end) (get_or_from_slice_get kept i item item is) in
     let at_end = λ (j : ℕ) (lt : j < length stored). kept-end self.blob_limit self.bytes.items 0 0 j stored item x lt in
-    let found = λ (j : ℕ). ap (λ (l : List Item). (get_or l j x).end) same in
-    let len = ap (λ (l : List Item). length l) same in
+    let found = λ (j : ℕ). ap (λ (l : List LogItem). (get_or l j x).end) same in
+    let len = ap (λ (l : List LogItem). length l) same in
     ⊎_elim
     (λ lt. absurd (let e = ends.2 n item lt in let f = leb-false (get_or items n x).end c.args.place (point.1 n x (omega arith) (omega (arith, lt, within, long, len))) in omega (arith, e, f, at, found n, at_end n (omega (arith, lt, within, long)))))
     (λ le. ⊎_elim

@@ -6,7 +6,7 @@ use Rattle.sled_log.specs.Events.{Event, seen}
 use Rattle.sled_log.specs.Memory.{kept_in, state_of}
 use Rattle.sled_log.specs.SeenLaws.{IsFair-seen, IsFair-unseen}
 use Rattle.sled_log.specs.Stored.{bare_event}
-use Rattle.sled_log.specs.declared.memory.item.Item.{Item}
+use Rattle.sled_log.specs.declared.memory.item.LogItem.{LogItem}
 use Rattle.sled_log.proofs.Moments.{pending_events}
 use Rattle.sled_log.proofs.Stored.{kind_of, bare-drop}
 use Rattle.sled_log.proofs.memory.MemLog.is_fair.Goals as goal
@@ -15,7 +15,7 @@ pub returns : goal.returns
 returns c =
     let self = c.args.self.now in
     let all = c.deref.result.now in
-    let part : take (length all - self.stable) (drop self.stable all) ≡ drop self.stable self.items.items = take_rest all self.stable ∙ ap (λ (l : List Item). drop self.stable l) c.deref.ensures.value in
+    let part : take (length all - self.stable) (drop self.stable all) ≡ drop self.stable self.items.items = take_rest all self.stable ∙ ap (λ (l : List LogItem). drop self.stable l) c.deref.ensures.value in
     let is : map bare_event (take (length all - self.stable) (drop self.stable all)) ≡ map (seen kind_of) (state_of self).pending =
     ap (map bare_event) part ∙ bare-drop self.blob_limit self.bytes.items self.stable 0 0 self.items.items ∙ ap (map (seen kind_of)) (sym (pending_events self.clock self.stable (kept_in self) self.in_order)) in (
       λ h. IsFair-unseen kind_of (state_of self).pending c.args.n (subst (λ (l : List (Event MessageKind)). IsFair l c.args.n) is (c.is_fair_cut.ensures.0 h)),

@@ -3,11 +3,11 @@ use Rattle.std.proofs.lemmas.Bool.{false≢true}
 use Rattle.std.proofs.lemmas.List.{length-map, length-drop, take_all, drop_all}
 use Rattle.sled_log.specs.Batches.{is_open}
 use Rattle.sled_log.specs.Items.{event_of, log_size, restarted, state_at, IsInOrder, are_placed}
-use Rattle.sled_log.specs.Kept.{Item}
+use Rattle.sled_log.specs.Kept.{LogItem}
 use Rattle.sled_log.specs.Memory.{kept_in}
 use Rattle.sled_log.specs.Stored.{place_after, start_after, are_within, restarts, kept_items}
 use Rattle.sled_log.specs.declared.memory.MemLog.{MemLog}
-use Rattle.sled_log.specs.declared.memory.item.Item.{Item as StoredItem}
+use Rattle.sled_log.specs.declared.memory.item.LogItem.{LogItem as StoredItem}
 use Rattle.sled_log.proofs.Moments.{pending_events, size-restarted, log_size-restarted, left-stopped, order-restarted, pending-restarted, stable-restarted}
 use Rattle.sled_log.proofs.Places.{placed-take, placed-restarted}
 use Rattle.sled_log.proofs.Stored.{kept-length, kept-stopped, placed-after}
@@ -52,7 +52,7 @@ invariant_of-result c =
     let n : ℕ = self.stable + c.args.n in
     let items = c.keep_first.new.items.items in
     let bytes = c.truncate.new.self.items in
-    let left : List Item = take n (kept_in self) in
+    let left : List LogItem = take n (kept_in self) in
     let is = kept_is self (self.stable + c.args.n) c.behind-size.result.1 c.keep_first.new.items.items c.deref.result.now c.truncate.new.self.items c.keep_first.ensures c.deref.ensures.value c.behind-size.ensures.start c.truncate.ensures.items in
     let fits = self.fits in
     let sized = self.sized in
@@ -67,7 +67,7 @@ invariant_of-result c =
     record {
       within = within self n c.behind-size.result.1 items c.deref.result.now bytes c.keep_first.ensures c.deref.ensures.value c.behind-size.ensures.start c.truncate.ensures.items;
       fewer = omega (arith, len, ok);
-      in_order = subst (λ m. IsInOrder 0 m (kept_items self.blob_limit bytes items)) (sym all) (subst (λ (l : List Item). IsInOrder 0 (length (map restarted left)) l) (sym is) (order-restarted left));
+      in_order = subst (λ m. IsInOrder 0 m (kept_items self.blob_limit bytes items)) (sym all) (subst (λ (l : List LogItem). IsInOrder 0 (length (map restarted left)) l) (sym is) (order-restarted left));
       counted = omega arith;
       sized = size;
       stable_sized = size ∙ ap log_size (sym (take_all c.len-stable.result (kept_items self.blob_limit bytes items) (omega (arith, len, ok, long))));

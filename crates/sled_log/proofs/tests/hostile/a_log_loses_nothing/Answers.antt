@@ -3,7 +3,7 @@ use Rattle.sled_log.specs.Chains.{chains_after}
 use Rattle.sled_log.specs.Events.{Event, seen}
 use Rattle.sled_log.specs.Items.{left_now}
 use Rattle.sled_log.specs.Memory.{kept_in, state_of}
-use Rattle.sled_log.specs.Messages.{Message, Entry, told, effect_of}
+use Rattle.sled_log.specs.Messages.{Message, Entry, unplaced, effect_of}
 use Rattle.sled_log.proofs.tests.hostile.a_log_loses_nothing.Goals as goal
 
 came-none : (came rest : List (Event Message)) → came ++ rest ≡ [] → came ≡ []
@@ -21,9 +21,9 @@ returns c = λ chain chains stable none law.
     let left = left_now log.clock (kept_in log) [] (later.0 (omega arith)) in
     let pending : map (seen (λ (entry : Entry). entry.message)) (state_of log).pending ++ left.came ≡ [] =
     ap (λ (l : List (Event Entry)). map (seen (λ (entry : Entry). entry.message)) l ++ left.came) none ∙ came-none left.came left.beginning.0 left.beginning.1 in
-    let whole : told chain ∷ map told chains ≡ [] =
+    let whole : unplaced chain ∷ map unplaced chains ≡ [] =
     sym (left.is
-    ∙ ap (λ (l : List (Event Message)). chains_after effect_of (map told (state_of log).stable) (take left.cut l)) pending
-    ∙ ap (chains_after effect_of (map told (state_of log).stable)) (take-none left.cut)
-    ∙ ap (map told) stable) in
+    ∙ ap (λ (l : List (Event Message)). chains_after effect_of (map unplaced (state_of log).stable) (take left.cut l)) pending
+    ∙ ap (chains_after effect_of (map unplaced (state_of log).stable)) (take-none left.cut)
+    ∙ ap (map unplaced) stable) in
     cc

@@ -2,8 +2,8 @@ use Rattle.std.proofs.Common.{◌≡◌, inr, ⊎_elim, ℕ, zero, suc, List, []
 use Rattle.sled_log.specs.Chains.{chains_after}
 use Rattle.sled_log.specs.Events.{Event}
 use Rattle.sled_log.specs.Items.{WasLeft}
-use Rattle.sled_log.specs.Messages.{Message, Told, effect_of}
-use Rattle.sled_log.specs.Kept.{Item}
+use Rattle.sled_log.specs.Messages.{Message, Messages, effect_of}
+use Rattle.sled_log.specs.Kept.{LogItem}
 use Rattle.sled_log.proofs.tests.hostile.a_log_skips_no_moment.Goals as goal
 
 came-none : (came rest : List (Event Message)) → came ++ rest ≡ [] → came ≡ []
@@ -15,7 +15,7 @@ take-none zero = refl
 take-none (suc n) = refl
 
 -- an empty log leaves no page
-none-left : (clock since : ℕ) (pages : List Told) → WasLeft clock [] since pages → pages ≡ []
+none-left : (clock since : ℕ) (pages : List Messages) → WasLeft clock [] since pages → pages ≡ []
 none-left clock since pages was =
     let left = was.left in
     left.is ∙ ap (λ (l : List (Event Message)). chains_after effect_of [] (take left.cut l)) (came-none left.came left.beginning.0 left.beginning.1) ∙ ap (chains_after effect_of []) (take-none left.cut)
@@ -23,7 +23,7 @@ none-left clock since pages was =
 pub returns : goal.returns
 returns c = λ law.
     let log = c.args.log.now in
-    let one : List Told = [] ∷ [] in
+    let one : List Messages = [] ∷ [] in
     let left = law 0 1 one (omega arith) (0, inr refl) in
-    ⊎_elim (λ even. absurd (let none : one ≡ [] = none-left log.clock left.0 one (subst (λ (l : List Item). WasLeft log.clock l left.0 one) c.requires.empty even.1) in cc))
+    ⊎_elim (λ even. absurd (let none : one ≡ [] = none-left log.clock left.0 one (subst (λ (l : List LogItem). WasLeft log.clock l left.0 one) c.requires.empty even.1) in cc))
     (λ odd. absurd (omega (arith, odd))) left.1

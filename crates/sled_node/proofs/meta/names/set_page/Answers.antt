@@ -9,4 +9,4 @@ returns-clause-former c =
 
 pub returns-clause-ok : goal.returns-clause-ok
 returns-clause-ok c =
-    ap named c.in_ok-former.ensures.entries ∙ put_in c.in_ok-copy.copy c.args.page c.args.pages.now.entries c.requires.rising ∙ ap (λ name. with_root name c.args.page (named_pages c.args.pages.now)) c.in_ok-copy.ensures.items
+    ap named c.in_ok-former.ensures.entries ∙ put_in c.in_ok-copy.copy c.args.page c.args.pages.now.entries c.requires.ascending ∙ ap (λ name. with_root name c.args.page (named_pages c.args.pages.now)) c.in_ok-copy.ensures.items

@@ -4,7 +4,7 @@ use Rattle.std.proofs.lemmas.Result.{IfOk-weaker}
 use Rattle.sled_node.specs.Node.{IsWellFormed}
 use Rattle.sled_node.specs.Parts.{is_index, item_of}
 use Rattle.sled_node.specs.Splitting.{least, greatest, SeparatesAt}
-use Rattle.sled_node.proofs.Parting.{cut_within, right_short, index_parts, leaf_parts}
+use Rattle.sled_node.proofs.SplitPairs.{cut_within, right_short, index_parts, leaf_parts}
 use Rattle.sled_node.proofs.node.Node.separator.Goals as goal
 
 pub overflow_add-len : goal.overflow_add-len

@@ -1,5 +1,5 @@
 use Rattle.std.proofs.Common.{◌<◌, ◌^◌, ap, ◌∙◌, subst, add-one, arith}
-use Rattle.sled_node.proofs.Rising.{all_more}
+use Rattle.sled_node.proofs.Ascending.{all_more}
 use Rattle.sled_node.proofs.node.data.know_pages.Goals as goal
 
 pub loop-pair-preserved : goal.loop-pair-preserved

@@ -1,6 +1,6 @@
 use Rattle.std.proofs.Common.{ap, ◌∙◌, subst, add-one, arith}
 use Rattle.sled_node.specs.Parts.{IsStoredWithin}
-use Rattle.sled_node.proofs.Rising.{all_more}
+use Rattle.sled_node.proofs.Ascending.{all_more}
 use Rattle.sled_node.proofs.node.parts.are_within.Goals as goal
 
 pub loop-pair-preserved : goal.loop-pair-preserved

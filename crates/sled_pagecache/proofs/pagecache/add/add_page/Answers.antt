@@ -7,28 +7,28 @@ use Rattle.sled_pagecache.proofs.pagecache.add.add_page.Goals as goal
 
 pub write_node-requires-clause-can : goal.write_node-requires-clause-can
 write_node-requires-clause-can g c = λ told.
-    le-leb c.len-pid.result (length (now effect_of_entry (g.L.Log.state c.args.journal.now.log))) (let there = c.requires.there told in let at = c.len-pid.ensures.number in omega (arith, there, at))
+    le-leb c.len-pid.result (length (now effect_of_entry (g.L.Log.state c.args.sticky_log.now.log))) (let there = c.requires.there told in let at = c.len-pid.ensures.number in omega (arith, there, at))
 
 pub returns-then-len-eq-MAX_PAGES-clause-is : goal.returns-then-len-eq-MAX_PAGES-clause-is
 returns-then-len-eq-MAX_PAGES-clause-is g c = written-update (Put (Node c.args.node)) c.data.ensures.well_formed
 
 pub returns-then-len-eq-MAX_PAGES-clause-went : goal.returns-then-len-eq-MAX_PAGES-clause-went
 returns-then-len-eq-MAX_PAGES-clause-went g c =
-    Went-none g.L.Log.tells g.L.Log.state g.L.Log.moment g.L.Log.left_since g.L.Log.counts c.args.journal.now c.requires.usable (search rules)
+    Went-none g.L.Log.tells g.L.Log.state g.L.Log.moment g.L.Log.left_since g.L.Log.counts c.args.sticky_log.now c.requires.usable (search rules)
 
 pub returns-in_default-clause-is : goal.returns-in_default-clause-is
 returns-in_default-clause-is g c = written-update (Put (Node c.args.node)) c.data.ensures.well_formed
 
 pub returns-in_default-clause-went : goal.returns-in_default-clause-went
 returns-in_default-clause-went g c =
-    Went-none g.L.Log.tells g.L.Log.state g.L.Log.moment g.L.Log.left_since g.L.Log.counts c.args.journal.now c.requires.usable (search rules)
+    Went-none g.L.Log.tells g.L.Log.state g.L.Log.moment g.L.Log.left_since g.L.Log.counts c.args.sticky_log.now c.requires.usable (search rules)
 
 pub returns-in_default-with_capacity-clause-is : goal.returns-in_default-with_capacity-clause-is
 returns-in_default-with_capacity-clause-is g c = written-update (Put (Node c.args.node)) c.data.ensures.well_formed
 
 pub returns-in_default-with_capacity-clause-went : goal.returns-in_default-with_capacity-clause-went
 returns-in_default-with_capacity-clause-went g c =
-    Went-none g.L.Log.tells g.L.Log.state g.L.Log.moment g.L.Log.left_since g.L.Log.counts c.args.journal.now c.requires.usable (search rules)
+    Went-none g.L.Log.tells g.L.Log.state g.L.Log.moment g.L.Log.left_since g.L.Log.counts c.args.sticky_log.now c.requires.usable (search rules)
 
 pub returns-in_err-info-clause-same : goal.returns-in_err-info-clause-same
 returns-in_err-info-clause-same g c =
@@ -38,14 +38,14 @@ pub returns-in_err-info-clause-went : goal.returns-in_err-info-clause-went
 returns-in_err-info-clause-went g c =
     let last : c.len-pid.result ≡ length c.args.pages.now.pages = c.len-pid.ensures.number in
     rw (refused-is c.from_residual.result _ c.from_residual.ensures.1)
-    (new-page-went g.L.Log.tells g.L.Log.state g.L.Log.moment g.L.Log.left_since g.L.Log.counts g.L.Log.is_full c.args.journal.now c.write_node.new.journal c.args.node c.in_err-info.field-0.0
+    (new-page-went g.L.Log.tells g.L.Log.state g.L.Log.moment g.L.Log.left_since g.L.Log.counts g.L.Log.is_full c.args.sticky_log.now c.write_node.new.sticky_log c.args.node c.in_err-info.field-0.0
     (length c.args.pages.now.pages) c.len-pid.result last c.in_err-info.ensures.went)
 
 pub returns-in_err-info-clause-cause : goal.returns-in_err-info-clause-cause
 returns-in_err-info-clause-cause g c =
     rw (refused-is c.from_residual.result _ c.from_residual.ensures.1)
-    (IsCaused-handed_on g.L.Log.tells g.L.Log.state g.L.Log.moment g.L.Log.left_since g.L.Log.counts c.args.journal.now c.write_node.new.journal
-    (g.L.Log.is_full c.args.journal.now.log (length (message_of (Put (Node c.args.node))).payload)) c.in_err-info.field-0.0 c.in_err-info.ensures.cause)
+    (IsCaused-handed_on g.L.Log.tells g.L.Log.state g.L.Log.moment g.L.Log.left_since g.L.Log.counts c.args.sticky_log.now c.write_node.new.sticky_log
+    (g.L.Log.is_full c.args.sticky_log.now.log (length (message_of (Put (Node c.args.node))).payload)) c.in_err-info.field-0.0 c.in_err-info.ensures.cause)
 
 pub returns-clause-page : goal.returns-clause-page
 returns-clause-page g c =
@@ -75,7 +75,7 @@ returns-in_default-access-clause-is g c = written-update (Put (Node c.args.node)
 
 pub returns-in_default-access-clause-went : goal.returns-in_default-access-clause-went
 returns-in_default-access-clause-went g c =
-    Went-none g.L.Log.tells g.L.Log.state g.L.Log.moment g.L.Log.left_since g.L.Log.counts c.args.journal.now c.requires.usable (g.met.L.Log.only_now c.args.journal.now.log)
+    Went-none g.L.Log.tells g.L.Log.state g.L.Log.moment g.L.Log.left_since g.L.Log.counts c.args.sticky_log.now c.requires.usable (g.met.L.Log.only_now c.args.sticky_log.now.log)
 
 pub returns-in_default-access-clause-cause : goal.returns-in_default-access-clause-cause
 returns-in_default-access-clause-cause g c = record { fault = c.requires.ready; read = λ is. absurd cc; write = λ is. absurd cc; full = λ is. absurd cc }

@@ -4,7 +4,7 @@ use Rattle.sled_pagecache.proofs.pagecache.chain.read_chain.Goals as goal
 
 pub read-requires-clause-known : goal.read-requires-clause-known
 read-requires-clause-known g c = λ known.
-    let chain = chain_at (g.L.Log.state c.args.journal.now.log) c.args.pid in
+    let chain = chain_at (g.L.Log.state c.args.sticky_log.now.log) c.args.pid in
     let infos = c.args.infos.now in
     let i = c.loop-info.info-index in
     let info = get_or infos i no_info in
@@ -15,7 +15,7 @@ read-requires-clause-known g c = λ known.
 
 pub returns-in_err-kind-clause-went : goal.returns-in_err-kind-clause-went
 returns-in_err-kind-clause-went g c =
-    Went-then g.L.Log.tells g.L.Log.state g.L.Log.moment g.L.Log.left_since g.L.Log.counts c.args.journal.now c.loop-info.journal c.read.new.self [] []
+    Went-then g.L.Log.tells g.L.Log.state g.L.Log.moment g.L.Log.left_since g.L.Log.counts c.args.sticky_log.now c.loop-info.sticky_log c.read.new.self [] []
     c.loop-info.invariant.went c.loop-info.invariant.ready c.in_err-kind.ensures.went
 
 pub returns-in_err-kind-clause-at_most : goal.returns-in_err-kind-clause-at_most
@@ -24,11 +24,11 @@ returns-in_err-kind-clause-at_most g c =
     let lt = c.loop-info-test.true in
     let le : i + 1 ≤ length c.args.infos.now = omega arith in
     let p = err_from_is_err_and c.from_residual.result c.from_residual.ensures.1 in
-    rw p.1 (i + 1, le, c.in_err-kind.ensures.reads ∙ ap one_more c.loop-info.invariant.reads ∙ more-next i (g.L.Log.counts c.args.journal.now.log).reads)
+    rw p.1 (i + 1, le, c.in_err-kind.ensures.reads ∙ ap one_more c.loop-info.invariant.reads ∙ more-next i (g.L.Log.counts c.args.sticky_log.now.log).reads)
 
 pub loop-info-preserved : goal.loop-info-preserved
 loop-info-preserved g c =
-    let chain = chain_at (g.L.Log.state c.args.journal.now.log) c.args.pid in
+    let chain = chain_at (g.L.Log.state c.args.sticky_log.now.log) c.args.pid in
     let infos = c.args.infos.now in
     let i = c.loop-info.info-index in
     let so_far = c.loop-info.invariant in
@@ -41,7 +41,7 @@ loop-info-preserved g c =
     let lt = c.loop-info-test.true in
     record {
       ready = made.cause.fault;
-      went = Went-then g.L.Log.tells g.L.Log.state g.L.Log.moment g.L.Log.left_since g.L.Log.counts c.args.journal.now c.loop-info.journal c.read.new.self [] []
+      went = Went-then g.L.Log.tells g.L.Log.state g.L.Log.moment g.L.Log.left_since g.L.Log.counts c.args.sticky_log.now c.loop-info.sticky_log c.read.new.self [] []
           so_far.went so_far.ready made.went;
       same = λ known. made.same known made.cause.fault ∙ so_far.same known;
       found = λ known.
@@ -53,7 +53,7 @@ loop-info-preserved g c =
           (so_far.same known) (made.found known) in
           subst (λ (l : List Found). AllZip IsFoundAs (take (i + 1) chain) l) (sym pushed.items)
           (found-more chain c.loop-info.found.items i (entry_at no_info) found within (so_far.found known) (read i (entry_at no_info) within is, sym is.1));
-      reads = made.reads ∙ ap one_more so_far.reads ∙ more-next i (g.L.Log.counts c.args.journal.now.log).reads;
+      reads = made.reads ∙ ap one_more so_far.reads ∙ more-next i (g.L.Log.counts c.args.sticky_log.now.log).reads;
       len = search rules;
       room = search rules;
       as_full = λ n full. so_far.as_full n (made.room n full);
@@ -61,7 +61,7 @@ loop-info-preserved g c =
 
 pub returns-clause-found : goal.returns-clause-found
 returns-clause-found g c = λ known.
-    let chain = chain_at (g.L.Log.state c.args.journal.now.log) c.args.pid in
+    let chain = chain_at (g.L.Log.state c.args.sticky_log.now.log) c.args.pid in
     let same = length-known chain c.args.infos.now (c.requires.known known) in
     let last = c.loop-info-test.false in
     let le : length chain ≤ c.loop-info.info-index = omega arith in

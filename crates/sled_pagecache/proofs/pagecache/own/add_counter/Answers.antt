@@ -1,24 +1,24 @@
-use Rattle.sled_pagecache.proofs.Names.{[], ◌∷◌, ◌++◌, List, sym, refl, ap, ◌∙◌, arith, Err, OutOfMemory, Counter, counter_told, CacheInfo}
-use Rattle.sled_pagecache.proofs.Proceeding.{proceeds-none, proceeds-refused, proceeds-first, proceeds-told}
+use Rattle.sled_pagecache.proofs.Names.{[], ◌∷◌, ◌++◌, List, sym, refl, ap, ◌∙◌, arith, Err, OutOfMemory, Counter, counter_event, CacheInfo}
+use Rattle.sled_pagecache.proofs.Proceeding.{proceeds-none, proceeds-refused, proceeds-first, proceeds-unplaced}
 use Rattle.sled_pagecache.proofs.Starting.{own-table}
 use Rattle.sled_pagecache.proofs.Refused.{refused-is}
 use Rattle.sled_pagecache.proofs.pagecache.own.add_counter.Goals as goal
 
 pub returns-in_default-clause-proceeds : goal.returns-in_default-clause-proceeds
 returns-in_default-clause-proceeds g c =
-    let journal = c.args.journal.now in
-    proceeds-first g.L.Log journal journal [] (counter_told ∷ []) OutOfMemory
-    (proceeds-refused g.L.Log journal journal [] OutOfMemory tt (proceeds-none g.L.Log journal (g.met.L.Log.only_now journal.log) c.requires.ready c.requires.usable))
+    let sticky_log = c.args.sticky_log.now in
+    proceeds-first g.L.Log sticky_log sticky_log [] (counter_event ∷ []) OutOfMemory
+    (proceeds-refused g.L.Log sticky_log sticky_log [] OutOfMemory tt (proceeds-none g.L.Log sticky_log (g.met.L.Log.only_now sticky_log.log) c.requires.ready c.requires.usable))
 
 pub returns-in_err-info-clause-proceeds : goal.returns-in_err-info-clause-proceeds
 returns-in_err-info-clause-proceeds g c =
-    let journal = c.args.journal.now in
+    let sticky_log = c.args.sticky_log.now in
     rw (refused-is c.from_residual.result _ c.from_residual.ensures.1)
-    (proceeds-told g.L.Log {T = CacheInfo} journal c.write_counter.new.journal counter_told (Err c.in_err-info.field-0.0) (g.met.L.Log.only_now journal.log) c.requires.ready c.requires.usable c.in_err-info.ensures.went c.in_err-info.ensures.cause)
+    (proceeds-unplaced g.L.Log {T = CacheInfo} sticky_log c.write_counter.new.sticky_log counter_event (Err c.in_err-info.field-0.0) (g.met.L.Log.only_now sticky_log.log) c.requires.ready c.requires.usable c.in_err-info.ensures.went c.in_err-info.ensures.cause)
 
 pub returns-clause-table : goal.returns-clause-table
 returns-clause-table g c =
     let pages = c.args.pages.now.pages in
     let infos = c.push_reserved.ensures.items ∙ ap (λ (l : List CacheInfo). l ++ c.in_ok-info.info ∷ []) c.in-Ok-Ok.ensures'.items in
-    own-table g.L.Log c.args.journal.now c.write_counter.new.journal 1 1 (Counter 0) c.in_ok-info.info c.in_ok-info.ensures pages c.reserve.new.self.pages c.push_reserved-2.new.self.pages _
+    own-table g.L.Log c.args.sticky_log.now c.write_counter.new.sticky_log 1 1 (Counter 0) c.in_ok-info.info c.in_ok-info.ensures pages c.reserve.new.self.pages c.push_reserved-2.new.self.pages _
     c.requires.table c.push_reserved-2.ensures c.reserve.ensures.same (sym c.requires.one) (omega arith) refl infos (λ chain makes. makes) tt

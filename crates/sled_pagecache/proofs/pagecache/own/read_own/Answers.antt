@@ -5,13 +5,13 @@ use Rattle.sled_pagecache.proofs.pagecache.own.read_own.Goals as goal
 
 pub returns-then-is_misfit-clause-proceeds : goal.returns-then-is_misfit-clause-proceeds
 returns-then-is_misfit-clause-proceeds g c =
-    let journal = c.args.journal.now in
-    proceeds-refused g.L.Log journal journal [] (Corruption (Some c.index.result.now.pointer)) tt
-    (proceeds-none g.L.Log journal (g.met.L.Log.only_now journal.log) c.requires.ready c.requires.usable)
+    let sticky_log = c.args.sticky_log.now in
+    proceeds-refused g.L.Log sticky_log sticky_log [] (Corruption (Some c.index.result.now.pointer)) tt
+    (proceeds-none g.L.Log sticky_log (g.met.L.Log.only_now sticky_log.log) c.requires.ready c.requires.usable)
 
 pub returns-then-is_misfit-clause-refused : goal.returns-then-is_misfit-clause-refused
 returns-then-is_misfit-clause-refused g c = λ told.
-    let chain = chain_at (g.L.Log.state c.args.journal.now.log) c.args.pid in
+    let chain = chain_at (g.L.Log.state c.args.sticky_log.now.log) c.args.pid in
     let page = c.args.page.now in
     (misfit-unfit c.args.pid chain page (c.requires.loaded told) (sym c.is_misfit.ensures ∙ c.if-is_misfit.true), begins-at chain page.infos.items c.index.result.now (c.requires.loaded told).at (search rules) (search rules))
 
@@ -24,7 +24,7 @@ index-requires-2 g c =
 
 pub returns-then-eq-clause-refused : goal.returns-then-eq-clause-refused
 returns-then-eq-clause-refused g c = λ told.
-    let chain = chain_at (g.L.Log.state c.args.journal.now.log) c.args.pid in
+    let chain = chain_at (g.L.Log.state c.args.sticky_log.now.log) c.args.pid in
     let page = c.args.page.now in
     found-full c.args.pid chain page c.in_ok-found.found.items c.index-2.result.now c.requires.own (search rules) (c.requires.loaded told) (sym c.is_misfit.ensures ∙ c.if-is_misfit.false) (c.in_ok-found.ensures.found told) (search rules) (search rules)
 

@@ -4,12 +4,12 @@ use Rattle.sled_pagecache.proofs.pagecache.own.read_roots.Goals as goal
 
 pub returns-clause-read : goal.returns-clause-read
 returns-clause-read g c = λ told.
-    let chain = chain_at (g.L.Log.state c.args.journal.now.log) 0 in
+    let chain = chain_at (g.L.Log.state c.args.sticky_log.now.log) 0 in
     let sole = sole-found chain c.in_ok-found.found.items c.index.result.now (c.in_ok-found.ensures.found told) c.in_ok-found.ensures.one c.index.ensures in
     IfOk-weaker c.roots_of.result _ _ (λ roots reads. made-one chain c.index.result.now (Roots roots) sole reads) c.roots_of.ensures.read
 
 pub returns-clause-refused : goal.returns-clause-refused
 returns-clause-refused g c = λ told.
-    let chain = chain_at (g.L.Log.state c.args.journal.now.log) 0 in
+    let chain = chain_at (g.L.Log.state c.args.sticky_log.now.log) 0 in
     let sole = sole-found chain c.in_ok-found.found.items c.index.result.now (c.in_ok-found.ensures.found told) c.in_ok-found.ensures.one c.index.ensures in
     IfErr-weaker c.roots_of.result _ _ (refuses-roots chain c.index.result.now sole) c.roots_of.ensures.refused

@@ -5,7 +5,7 @@ use Rattle.sled_pagecache.proofs.pagecache.pull.pull.Goals as goal
 
 pub returns-in_err-node_of-clause-refused : goal.returns-in_err-node_of-clause-refused
 returns-in_err-node_of-clause-refused g c = λ known.
-    let chain = chain_at (g.L.Log.state c.args.journal.now.log) c.args.pid in
+    let chain = chain_at (g.L.Log.state c.args.sticky_log.now.log) c.args.pid in
     let full : is_empty effect_of_entry chain ≡ false = subst (HoldsChain chain) c.in-Away.is (c.requires.kept known).holds in
     rw (refused-is c.from_residual-in_err-node_of.result _ c.from_residual-in_err-node_of.ensures.1)
     (unmade chain c.deref-in-Away.result.now c.in_err-node_of.field-0.0
@@ -15,7 +15,7 @@ returns-in_err-node_of-clause-refused g c = λ known.
 
 pub returns-in_ok-node_of-clause-kept : goal.returns-in_ok-node_of-clause-kept
 returns-in_ok-node_of-clause-kept g c = λ known.
-    let chain = chain_at (g.L.Log.state c.args.journal.now.log) c.args.pid in
+    let chain = chain_at (g.L.Log.state c.args.sticky_log.now.log) c.args.pid in
     record {
       places = λ _. (c.requires.kept known).places (ap is_free c.in-Away.is);
       long = (c.requires.kept known).long;

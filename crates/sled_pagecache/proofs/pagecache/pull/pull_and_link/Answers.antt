@@ -13,10 +13,10 @@ returns-then-is_err g c =
     let result = c.link_page-outcome.result in
     record {
       taken = search rules;
-      begun = err-of result (begun g.L.Log c.args.journal.now c.pull.new.journal c.link_page-outcome.new.journal c.args.pid c.args.page.now c.pull.new.page c.link_page-outcome.new.page c.args.link.now read.went read.cause.fault read.same read.kept read.stamp read.infos read.resident result done.went);
-      refused = λ known. refused g.L.Log c.args.journal.now c.pull.new.journal c.link_page-outcome.new.journal c.args.pid c.args.page.now c.pull.new.page c.link_page-outcome.new.page c.args.link.now read.went read.cause.fault read.same read.kept read.stamp read.infos read.resident known (read.free ∙ c.requires.full) (read.own c.requires.own) result (done.refused known) done.went done.is_begun;
+      begun = err-of result (begun g.L.Log c.args.sticky_log.now c.pull.new.sticky_log c.link_page-outcome.new.sticky_log c.args.pid c.args.page.now c.pull.new.page c.link_page-outcome.new.page c.args.link.now read.went read.cause.fault read.same read.kept read.stamp read.infos read.resident result done.went);
+      refused = λ known. refused g.L.Log c.args.sticky_log.now c.pull.new.sticky_log c.link_page-outcome.new.sticky_log c.args.pid c.args.page.now c.pull.new.page c.link_page-outcome.new.page c.args.link.now read.went read.cause.fault read.same read.kept read.stamp read.infos read.resident known (read.free ∙ c.requires.full) (read.own c.requires.own) result (done.refused known) done.went done.is_begun;
       tested = search rules;
-      cause = caused g.L.Log c.args.journal.now c.pull.new.journal c.link_page-outcome.new.journal c.args.pid c.args.page.now c.pull.new.page c.link_page-outcome.new.page c.args.link.now read.went read.cause.fault read.same read.kept read.stamp read.infos read.resident result done.refused read.room done.cause;
+      cause = caused g.L.Log c.args.sticky_log.now c.pull.new.sticky_log c.link_page-outcome.new.sticky_log c.args.pid c.args.page.now c.pull.new.page c.link_page-outcome.new.page c.args.link.now read.went read.cause.fault read.same read.kept read.stamp read.infos read.resident result done.refused read.room done.cause;
       left = search rules;
       same = search rules;
       still = search rules;
@@ -29,7 +29,7 @@ returns-then-is_err g c =
       touched = search rules;
       lost = search rules;
       unasked = search rules;
-      at_most = read-at_most g.L.Log c.args.journal.now c.pull.new.journal c.link_page-outcome.new.journal c.args.pid c.args.page.now c.pull.new.page c.link_page-outcome.new.page c.args.link.now read.went read.cause.fault read.same read.kept read.stamp read.infos read.resident result read.unread read.reads done.reads;
+      at_most = read-at_most g.L.Log c.args.sticky_log.now c.pull.new.sticky_log c.link_page-outcome.new.sticky_log c.args.pid c.args.page.now c.pull.new.page c.link_page-outcome.new.page c.args.link.now read.went read.cause.fault read.same read.kept read.stamp read.infos read.resident result read.unread read.reads done.reads;
     }
 
 pub returns-else-was_away : goal.returns-else-was_away
@@ -38,11 +38,11 @@ returns-else-was_away g c =
     let done = c.link_page-outcome.ensures in
     let result = c.link_page-outcome.result in
     record {
-      taken = taken g.L.Log c.args.journal.now c.pull.new.journal c.link_page-outcome.new.journal c.args.pid c.args.page.now c.pull.new.page c.link_page-outcome.new.page c.args.link.now read.went read.cause.fault read.same read.kept read.stamp read.infos read.resident result done.linked done.is done.went done.stamp done.kept done.len done.others done.sized;
-      begun = err-of result (begun g.L.Log c.args.journal.now c.pull.new.journal c.link_page-outcome.new.journal c.args.pid c.args.page.now c.pull.new.page c.link_page-outcome.new.page c.args.link.now read.went read.cause.fault read.same read.kept read.stamp read.infos read.resident result done.went);
-      refused = λ known. refused g.L.Log c.args.journal.now c.pull.new.journal c.link_page-outcome.new.journal c.args.pid c.args.page.now c.pull.new.page c.link_page-outcome.new.page c.args.link.now read.went read.cause.fault read.same read.kept read.stamp read.infos read.resident known (read.free ∙ c.requires.full) (read.own c.requires.own) result (done.refused known) done.went done.is_begun;
+      taken = taken g.L.Log c.args.sticky_log.now c.pull.new.sticky_log c.link_page-outcome.new.sticky_log c.args.pid c.args.page.now c.pull.new.page c.link_page-outcome.new.page c.args.link.now read.went read.cause.fault read.same read.kept read.stamp read.infos read.resident result done.linked done.is done.went done.stamp done.kept done.len done.others done.sized;
+      begun = err-of result (begun g.L.Log c.args.sticky_log.now c.pull.new.sticky_log c.link_page-outcome.new.sticky_log c.args.pid c.args.page.now c.pull.new.page c.link_page-outcome.new.page c.args.link.now read.went read.cause.fault read.same read.kept read.stamp read.infos read.resident result done.went);
+      refused = λ known. refused g.L.Log c.args.sticky_log.now c.pull.new.sticky_log c.link_page-outcome.new.sticky_log c.args.pid c.args.page.now c.pull.new.page c.link_page-outcome.new.page c.args.link.now read.went read.cause.fault read.same read.kept read.stamp read.infos read.resident known (read.free ∙ c.requires.full) (read.own c.requires.own) result (done.refused known) done.went done.is_begun;
       tested = search rules;
-      cause = caused g.L.Log c.args.journal.now c.pull.new.journal c.link_page-outcome.new.journal c.args.pid c.args.page.now c.pull.new.page c.link_page-outcome.new.page c.args.link.now read.went read.cause.fault read.same read.kept read.stamp read.infos read.resident result done.refused read.room done.cause;
+      cause = caused g.L.Log c.args.sticky_log.now c.pull.new.sticky_log c.link_page-outcome.new.sticky_log c.args.pid c.args.page.now c.pull.new.page c.link_page-outcome.new.page c.args.link.now read.went read.cause.fault read.same read.kept read.stamp read.infos read.resident result done.refused read.room done.cause;
       left = search rules;
       same = search rules;
       still = search rules;
@@ -55,7 +55,7 @@ returns-else-was_away g c =
       touched = search rules;
       lost = search rules;
       unasked = search rules;
-      at_most = read-at_most g.L.Log c.args.journal.now c.pull.new.journal c.link_page-outcome.new.journal c.args.pid c.args.page.now c.pull.new.page c.link_page-outcome.new.page c.args.link.now read.went read.cause.fault read.same read.kept read.stamp read.infos read.resident result read.unread read.reads done.reads;
+      at_most = read-at_most g.L.Log c.args.sticky_log.now c.pull.new.sticky_log c.link_page-outcome.new.sticky_log c.args.pid c.args.page.now c.pull.new.page c.link_page-outcome.new.page c.args.link.now read.went read.cause.fault read.same read.kept read.stamp read.infos read.resident result read.unread read.reads done.reads;
     }
 
 pub returns-in_err-pull-clause-begun : goal.returns-in_err-pull-clause-begun

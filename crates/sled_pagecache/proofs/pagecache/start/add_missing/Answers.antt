@@ -1,45 +1,45 @@
-use Rattle.sled_pagecache.proofs.Names.{◌<◌, List, length, None, subst, sym, rules, Ok, Err, Event, Message, told_at_start, Proceeds}
+use Rattle.sled_pagecache.proofs.Names.{◌<◌, List, length, None, subst, sym, rules, Ok, Err, Event, Message, events_at_start, Proceeds}
 use Rattle.sled_pagecache.proofs.Proceeding.{proceeds-none, proceeds-behind}
-use Rattle.sled_pagecache.proofs.Starting.{none-missing, missing-first, missing-both, missing-some, stays-closed, told-closed, past-both}
+use Rattle.sled_pagecache.proofs.Starting.{none-missing, missing-first, missing-both, missing-some, stays-closed, events-closed, past-both}
 use Rattle.sled_pagecache.proofs.Refused.{refused-is}
 use Rattle.sled_pagecache.proofs.pagecache.start.add_missing.Goals as goal
 
 pub returns-then-len-gt1-clause-proceeds : goal.returns-then-len-gt1-clause-proceeds
 returns-then-len-gt1-clause-proceeds g c =
-    let journal = c.args.journal.now in
-    subst (λ (l : List (Event Message)). Proceeds g.L.Log journal journal l None) (sym (none-missing c.args.pages.now.pages (search rules)))
-    (proceeds-none g.L.Log journal (g.met.L.Log.only_now journal.log) c.requires.ready c.requires.usable)
+    let sticky_log = c.args.sticky_log.now in
+    subst (λ (l : List (Event Message)). Proceeds g.L.Log sticky_log sticky_log l None) (sym (none-missing c.args.pages.now.pages (search rules)))
+    (proceeds-none g.L.Log sticky_log (g.met.L.Log.only_now sticky_log.log) c.requires.ready c.requires.usable)
 
 pub returns-in_err-add_roots-clause-proceeds : goal.returns-in_err-add_roots-clause-proceeds
 returns-in_err-add_roots-clause-proceeds g c =
-    rw (refused-is c.from_residual.result _ c.from_residual.ensures.1) (missing-first g.L.Log c.args.journal.now c.add_roots.new.journal c.args.pages.now.pages (search rules) c.in_err-add_roots.field-0.0 c.in_err-add_roots.ensures.proceeds)
+    rw (refused-is c.from_residual.result _ c.from_residual.ensures.1) (missing-first g.L.Log c.args.sticky_log.now c.add_roots.new.sticky_log c.args.pages.now.pages (search rules) c.in_err-add_roots.field-0.0 c.in_err-add_roots.ensures.proceeds)
 
 pub returns-in_err-add_counter-clause-proceeds : goal.returns-in_err-add_counter-clause-proceeds
 returns-in_err-add_counter-clause-proceeds g c =
-    rw (refused-is c.from_residual-in_err-add_counter.result _ c.from_residual-in_err-add_counter.ensures.1) (missing-both g.L.Log c.args.journal.now c.add_roots.new.journal c.args.pages.now.pages (search rules) c.add_counter.new.journal _ c.in_ok-add_roots.ensures.proceeds c.in_err-add_counter.ensures.proceeds)
+    rw (refused-is c.from_residual-in_err-add_counter.result _ c.from_residual-in_err-add_counter.ensures.1) (missing-both g.L.Log c.args.sticky_log.now c.add_roots.new.sticky_log c.args.pages.now.pages (search rules) c.add_counter.new.sticky_log _ c.in_ok-add_roots.ensures.proceeds c.in_err-add_counter.ensures.proceeds)
 
 pub make_stable-requires-clause-closed : goal.make_stable-requires-clause-closed
 make_stable-requires-clause-closed g c =
     let pages = c.args.pages.now.pages in
-    stays-closed g.L.Log c.args.journal.now c.add_counter.new.journal (told_at_start pages)
-    (missing-both g.L.Log c.args.journal.now c.add_roots.new.journal pages (search rules) c.add_counter.new.journal None c.in_ok-add_roots.ensures.proceeds c.in_ok-add_counter.ensures.proceeds) c.requires.closed (told-closed pages)
+    stays-closed g.L.Log c.args.sticky_log.now c.add_counter.new.sticky_log (events_at_start pages)
+    (missing-both g.L.Log c.args.sticky_log.now c.add_roots.new.sticky_log pages (search rules) c.add_counter.new.sticky_log None c.in_ok-add_roots.ensures.proceeds c.in_ok-add_counter.ensures.proceeds) c.requires.closed (events-closed pages)
 
 pub returns-in_err-make_stable-clause-proceeds : goal.returns-in_err-make_stable-clause-proceeds
 returns-in_err-make_stable-clause-proceeds g c =
     let pages = c.args.pages.now.pages in
     let few : length pages < 2 = search rules in
-    let made = missing-both g.L.Log c.args.journal.now c.add_roots.new.journal pages few c.add_counter.new.journal None c.in_ok-add_roots.ensures.proceeds c.in_ok-add_counter.ensures.proceeds in
+    let made = missing-both g.L.Log c.args.sticky_log.now c.add_roots.new.sticky_log pages few c.add_counter.new.sticky_log None c.in_ok-add_roots.ensures.proceeds c.in_ok-add_counter.ensures.proceeds in
     rw (refused-is c.from_residual-in_err-make_stable.result _ c.from_residual-in_err-make_stable.ensures.1)
-    (proceeds-behind g.L.Log c.args.journal.now c.add_counter.new.journal c.make_stable.new.self (told_at_start pages) (Err c.in_err-make_stable.field-0.0) made
-    c.in_err-make_stable.ensures.went c.in_err-make_stable.ensures.cause (λ none. absurd (missing-some g.L.Log c.args.journal.now c.add_roots.new.journal pages few none)))
+    (proceeds-behind g.L.Log c.args.sticky_log.now c.add_counter.new.sticky_log c.make_stable.new.self (events_at_start pages) (Err c.in_err-make_stable.field-0.0) made
+    c.in_err-make_stable.ensures.went c.in_err-make_stable.ensures.cause (λ none. absurd (missing-some g.L.Log c.args.sticky_log.now c.add_roots.new.sticky_log pages few none)))
 
 pub returns-clause-proceeds : goal.returns-clause-proceeds
 returns-clause-proceeds g c =
     let pages = c.args.pages.now.pages in
     let few : length pages < 2 = search rules in
-    let made = missing-both g.L.Log c.args.journal.now c.add_roots.new.journal pages few c.add_counter.new.journal None c.in_ok-add_roots.ensures.proceeds c.in_ok-add_counter.ensures.proceeds in
-    proceeds-behind g.L.Log c.args.journal.now c.add_counter.new.journal c.make_stable.new.self (told_at_start pages) (Ok c.in_ok-make_stable.field-0) made
-    c.in_ok-make_stable.ensures.went c.in_ok-make_stable.ensures.cause (λ none. absurd (missing-some g.L.Log c.args.journal.now c.add_roots.new.journal pages few none))
+    let made = missing-both g.L.Log c.args.sticky_log.now c.add_roots.new.sticky_log pages few c.add_counter.new.sticky_log None c.in_ok-add_roots.ensures.proceeds c.in_ok-add_counter.ensures.proceeds in
+    proceeds-behind g.L.Log c.args.sticky_log.now c.add_counter.new.sticky_log c.make_stable.new.self (events_at_start pages) (Ok c.in_ok-make_stable.field-0) made
+    c.in_ok-make_stable.ensures.went c.in_ok-make_stable.ensures.cause (λ none. absurd (missing-some g.L.Log c.args.sticky_log.now c.add_roots.new.sticky_log pages few none))
 
 pub returns-clause-others : goal.returns-clause-others
 returns-clause-others g c = past-both c.args.pages.now.pages c.add_counter.new.pages.pages (search rules) c.in_ok-add_counter.ensures.two

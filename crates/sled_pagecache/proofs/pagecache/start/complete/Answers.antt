@@ -1,4 +1,4 @@
-use Rattle.sled_pagecache.proofs.Names.{rules, OutOfMemory, told_at_start}
+use Rattle.sled_pagecache.proofs.Names.{rules, OutOfMemory, events_at_start}
 use Rattle.sled_pagecache.proofs.Proceeding.{proceeds-refused}
 use Rattle.sled_pagecache.proofs.Starting.{read-table, all-fresh, read-unread, table-consistent, opened-with}
 use Rattle.sled_pagecache.proofs.pagecache.start.complete.Goals as goal
@@ -10,11 +10,11 @@ pub add_missing-requires-clause-fresh : goal.add_missing-requires-clause-fresh
 add_missing-requires-clause-fresh g c = λ told. all-fresh _ c.args.pages.pages (c.requires.read.kept told)
 
 pub returns-in_default-clause-proceeds : goal.returns-in_default-clause-proceeds
-returns-in_default-clause-proceeds g c = proceeds-refused g.L.Log c.args.journal.now c.add_missing.new.journal (told_at_start c.args.pages.pages) OutOfMemory tt c.in_ok-add_missing.ensures.proceeds
+returns-in_default-clause-proceeds g c = proceeds-refused g.L.Log c.args.sticky_log.now c.add_missing.new.sticky_log (events_at_start c.args.pages.pages) OutOfMemory tt c.in_ok-add_missing.ensures.proceeds
 
 pub returns-clause-consistent : goal.returns-clause-consistent
 returns-clause-consistent g c =
-    table-consistent g.L.Log c.args.journal.now c.add_missing.new.journal c.args.pages.pages c.add_missing.new.pages.pages c.in-Ok.free.ids.keys c.in_ok-add_missing.ensures.proceeds c.requires.closed
+    table-consistent g.L.Log c.args.sticky_log.now c.add_missing.new.sticky_log c.args.pages.pages c.add_missing.new.pages.pages c.in-Ok.free.ids.keys c.in_ok-add_missing.ensures.proceeds c.requires.closed
     c.in_ok-add_missing.ensures.table c.in_ok-add_missing.ensures.both (search rules)
 
 pub returns-clause-opened : goal.returns-clause-opened

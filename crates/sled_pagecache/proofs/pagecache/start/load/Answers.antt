@@ -7,12 +7,12 @@ use Rattle.sled_pagecache.proofs.pagecache.start.load.Goals as goal
 
 pub returns-in_err-counter-clause-proceeds : goal.returns-in_err-counter-clause-proceeds
 returns-in_err-counter-clause-proceeds g c =
-    rw (refused-is c.from_residual-in_err-counter.result _ c.from_residual-in_err-counter.ensures.1) (proceeds-then g.L.Log c.args.journal.now c.recover_pages.new.journal c.read_system_pages.new.journal [] [] _ c.in_ok-pages.ensures.proceeds c.in_err-counter.ensures.proceeds)
+    rw (refused-is c.from_residual-in_err-counter.result _ c.from_residual-in_err-counter.ensures.1) (proceeds-then g.L.Log c.args.sticky_log.now c.recover_pages.new.sticky_log c.read_system_pages.new.sticky_log [] [] _ c.in_ok-pages.ensures.proceeds c.in_err-counter.ensures.proceeds)
 
 pub returns-in-Some-clause-proceeds : goal.returns-in-Some-clause-proceeds
 returns-in-Some-clause-proceeds g c =
-    proceeds-refused g.L.Log c.args.journal.now c.read_system_pages.new.journal [] (Corruption (Some c.in-Some.pointer)) tt
-    (proceeds-then g.L.Log c.args.journal.now c.recover_pages.new.journal c.read_system_pages.new.journal [] [] None c.in_ok-pages.ensures.proceeds c.in_ok-counter.ensures.proceeds)
+    proceeds-refused g.L.Log c.args.sticky_log.now c.read_system_pages.new.sticky_log [] (Corruption (Some c.in-Some.pointer)) tt
+    (proceeds-then g.L.Log c.args.sticky_log.now c.recover_pages.new.sticky_log c.read_system_pages.new.sticky_log [] [] None c.in_ok-pages.ensures.proceeds c.in_ok-counter.ensures.proceeds)
 
 pub returns-in-Some-clause-refused : goal.returns-in-Some-clause-refused
 returns-in-Some-clause-refused g c = λ told.
@@ -22,7 +22,7 @@ returns-in-Some-clause-refused g c = λ told.
 
 pub returns-in-None-clause-proceeds : goal.returns-in-None-clause-proceeds
 returns-in-None-clause-proceeds g c =
-    proceeds-then g.L.Log c.args.journal.now c.recover_pages.new.journal c.read_system_pages.new.journal [] [] None c.in_ok-pages.ensures.proceeds c.in_ok-counter.ensures.proceeds
+    proceeds-then g.L.Log c.args.sticky_log.now c.recover_pages.new.sticky_log c.read_system_pages.new.sticky_log [] [] None c.in_ok-pages.ensures.proceeds c.in_ok-counter.ensures.proceeds
 
 pub returns-in-None-clause-read : goal.returns-in-None-clause-read
 returns-in-None-clause-read g c =
@@ -30,22 +30,22 @@ returns-in-None-clause-read g c =
 
 pub returns-in_err-pages-clause-reads : goal.returns-in_err-pages-clause-reads
 returns-in_err-pages-clause-reads g c = λ told.
-    rw (refused-is c.from_residual.result _ c.from_residual.ensures.1) (read-handed g.L.Log.counts c.args.journal.now.log c.recover_pages.new.journal.log 0 _ c.in_err-pages.field-0.0 c.in_err-pages.field-0.0 (omega arith)
-    (read-known g.L.Log.counts {T = Option ℕ} c.args.journal.now.log c.recover_pages.new.journal.log 0 _ c.in_err-pages.ensures.unread))
+    rw (refused-is c.from_residual.result _ c.from_residual.ensures.1) (read-handed g.L.Log.counts c.args.sticky_log.now.log c.recover_pages.new.sticky_log.log 0 _ c.in_err-pages.field-0.0 c.in_err-pages.field-0.0 (omega arith)
+    (read-known g.L.Log.counts {T = Option ℕ} c.args.sticky_log.now.log c.recover_pages.new.sticky_log.log 0 _ c.in_err-pages.ensures.unread))
 
 pub returns-in_err-counter-clause-reads : goal.returns-in_err-counter-clause-reads
 returns-in_err-counter-clause-reads g c = λ told.
-    let chains = now effect_of_entry (g.L.Log.state c.args.journal.now.log) in
+    let chains = now effect_of_entry (g.L.Log.state c.args.sticky_log.now.log) in
     let pages = c.in_ok-pages.pages.pages in
     let same : own_among (length pages) ≡ own_among (length chains) = ap own_among (AllZip-long IsLoaded chains pages (c.in_ok-pages.ensures.pages.kept told)) in
     rw (refused-is c.from_residual-in_err-counter.result _ c.from_residual-in_err-counter.ensures.1)
-    (read-handed g.L.Log.counts c.args.journal.now.log c.read_system_pages.new.journal.log (own_among (length pages) + 0) (own_among (length chains)) c.in_err-counter.field-0.0 c.in_err-counter.field-0.0 (omega (arith, same))
-    (read-then g.L.Log.counts {U = Option ℕ} c.args.journal.now.log c.recover_pages.new.journal.log c.read_system_pages.new.journal.log 0 (own_among (length pages)) c.in_err-counter.field-0.0 c.in_ok-pages.ensures.unread c.in_err-counter.ensures.reads))
+    (read-handed g.L.Log.counts c.args.sticky_log.now.log c.read_system_pages.new.sticky_log.log (own_among (length pages) + 0) (own_among (length chains)) c.in_err-counter.field-0.0 c.in_err-counter.field-0.0 (omega (arith, same))
+    (read-then g.L.Log.counts {U = Option ℕ} c.args.sticky_log.now.log c.recover_pages.new.sticky_log.log c.read_system_pages.new.sticky_log.log 0 (own_among (length pages)) c.in_err-counter.field-0.0 c.in_ok-pages.ensures.unread c.in_err-counter.ensures.reads))
 
 pub returns-in-Some-clause-reads : goal.returns-in-Some-clause-reads
 returns-in-Some-clause-reads g c = λ told.
-    read-loaded g.L.Log.counts _ c.args.journal.now.log c.recover_pages.new.journal.log c.read_system_pages.new.journal.log _ c.in_ok-pages.pages.pages (c.in_ok-pages.ensures.pages.kept told) c.in_ok-pages.ensures.unread c.in_ok-counter.ensures.reads.whole
+    read-loaded g.L.Log.counts _ c.args.sticky_log.now.log c.recover_pages.new.sticky_log.log c.read_system_pages.new.sticky_log.log _ c.in_ok-pages.pages.pages (c.in_ok-pages.ensures.pages.kept told) c.in_ok-pages.ensures.unread c.in_ok-counter.ensures.reads.whole
 
 pub returns-in-None-clause-reads : goal.returns-in-None-clause-reads
 returns-in-None-clause-reads g c = λ told.
-    read-loaded g.L.Log.counts _ c.args.journal.now.log c.recover_pages.new.journal.log c.read_system_pages.new.journal.log _ c.in_ok-pages.pages.pages (c.in_ok-pages.ensures.pages.kept told) c.in_ok-pages.ensures.unread c.in_ok-counter.ensures.reads.whole
+    read-loaded g.L.Log.counts _ c.args.sticky_log.now.log c.recover_pages.new.sticky_log.log c.read_system_pages.new.sticky_log.log _ c.in_ok-pages.pages.pages (c.in_ok-pages.ensures.pages.kept told) c.in_ok-pages.ensures.unread c.in_ok-counter.ensures.reads.whole

@@ -1,25 +1,25 @@
-use Rattle.sled_pagecache.proofs.Names.{List, ◌∙◌, [], refl, ap, on_ok_weaker, AllZip-long, Chain, effect_of_entry, now, IsLoaded, told_at_start}
+use Rattle.sled_pagecache.proofs.Names.{List, ◌∙◌, [], refl, ap, on_ok_weaker, AllZip-long, Chain, effect_of_entry, now, IsLoaded, events_at_start}
 use Rattle.sled_pagecache.proofs.Opening.{starts}
 use Rattle.sled_pagecache.proofs.Proceeding.{proceeds-then, proceeds-first}
-use Rattle.sled_pagecache.proofs.Starting.{told-same, read-fewer, stays-closed}
+use Rattle.sled_pagecache.proofs.Starting.{events-same, read-fewer, stays-closed}
 use Rattle.sled_pagecache.proofs.Refused.{refused-is}
 use Rattle.sled_pagecache.proofs.pagecache.start.open.Goals as goal
 
 pub complete-requires-clause-closed : goal.complete-requires-clause-closed
-complete-requires-clause-closed g c = stays-closed g.L.Log c.args.journal.now c.load.new.journal [] c.in_ok-pages.ensures.proceeds c.requires.closed refl
+complete-requires-clause-closed g c = stays-closed g.L.Log c.args.sticky_log.now c.load.new.sticky_log [] c.in_ok-pages.ensures.proceeds c.requires.closed refl
 
 pub returns-in_err-pages-clause-proceeds : goal.returns-in_err-pages-clause-proceeds
 returns-in_err-pages-clause-proceeds g c =
-    let chains = now effect_of_entry (g.L.Log.state c.args.journal.now.log) in
-    rw (refused-is c.from_residual.result _ c.from_residual.ensures.1) (starts g.L.Log c.args.journal.now c.load.new.journal chains _ (λ _. refl) (proceeds-first g.L.Log c.args.journal.now c.load.new.journal [] (told_at_start chains) c.in_err-pages.field-0.0 c.in_err-pages.ensures.proceeds))
+    let chains = now effect_of_entry (g.L.Log.state c.args.sticky_log.now.log) in
+    rw (refused-is c.from_residual.result _ c.from_residual.ensures.1) (starts g.L.Log c.args.sticky_log.now c.load.new.sticky_log chains _ (λ _. refl) (proceeds-first g.L.Log c.args.sticky_log.now c.load.new.sticky_log [] (events_at_start chains) c.in_err-pages.field-0.0 c.in_err-pages.ensures.proceeds))
 
 pub returns-clause-proceeds : goal.returns-clause-proceeds
 returns-clause-proceeds g c =
     let pages = c.in_ok-pages.pages.pages in
     let loaded = c.in_ok-pages.ensures in
-    starts g.L.Log c.args.journal.now c.complete.new.journal pages _
-    (λ known. told-same pages _ (AllZip-long IsLoaded _ pages (loaded.read.kept known)) ∙ ap (λ (l : List Chain). told_at_start l) (loaded.same known loaded.proceeds.fault))
-    (proceeds-then g.L.Log c.args.journal.now c.load.new.journal c.complete.new.journal [] (told_at_start pages) _ loaded.proceeds c.complete.ensures.proceeds)
+    starts g.L.Log c.args.sticky_log.now c.complete.new.sticky_log pages _
+    (λ known. events-same pages _ (AllZip-long IsLoaded _ pages (loaded.read.kept known)) ∙ ap (λ (l : List Chain). events_at_start l) (loaded.same known loaded.proceeds.fault))
+    (proceeds-then g.L.Log c.args.sticky_log.now c.load.new.sticky_log c.complete.new.sticky_log [] (events_at_start pages) _ loaded.proceeds c.complete.ensures.proceeds)
 
 pub returns-clause-stable : goal.returns-clause-stable
 returns-clause-stable g c = λ told.

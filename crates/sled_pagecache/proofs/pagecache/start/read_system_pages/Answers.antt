@@ -22,7 +22,7 @@ returns-in_default-get-clause-read g c =
 
 pub returns-in_err-n-clause-proceeds : goal.returns-in_err-n-clause-proceeds
 returns-in_err-n-clause-proceeds g c =
-    rw (refused-is c.from_residual-in_err-n.result _ c.from_residual-in_err-n.ensures.1) (proceeds-then g.L.Log c.args.journal.now c.read_roots.new.journal c.read_counter.new.journal [] [] _ c.in_ok-roots.ensures.proceeds c.in_err-n.ensures.proceeds)
+    rw (refused-is c.from_residual-in_err-n.result _ c.from_residual-in_err-n.ensures.1) (proceeds-then g.L.Log c.args.sticky_log.now c.read_roots.new.sticky_log c.read_counter.new.sticky_log [] [] _ c.in_ok-roots.ensures.proceeds c.in_err-n.ensures.proceeds)
 
 pub returns-in_err-n-clause-refused : goal.returns-in_err-n-clause-refused
 returns-in_err-n-clause-refused g c = λ told.
@@ -32,7 +32,7 @@ returns-in_err-n-clause-refused g c = λ told.
 
 pub returns-clause-proceeds : goal.returns-clause-proceeds
 returns-clause-proceeds g c =
-    proceeds-then g.L.Log c.args.journal.now c.read_roots.new.journal c.read_counter.new.journal [] [] _ c.in_ok-roots.ensures.proceeds c.in_ok-n.ensures.proceeds
+    proceeds-then g.L.Log c.args.sticky_log.now c.read_roots.new.sticky_log c.read_counter.new.sticky_log [] [] _ c.in_ok-roots.ensures.proceeds c.in_ok-n.ensures.proceeds
 
 pub returns-clause-read : goal.returns-clause-read
 returns-clause-read g c =
@@ -42,22 +42,22 @@ returns-clause-read g c =
 
 pub returns-in_err-roots-clause-reads : goal.returns-in_err-roots-clause-reads
 returns-in_err-roots-clause-reads g c =
-    rw (refused-is c.from_residual.result _ c.from_residual.ensures.1) (read-handed g.L.Log.counts c.args.journal.now.log c.read_roots.new.journal.log 1 (own_among (length c.args.pages.now.pages)) c.in_err-roots.field-0.0 c.in_err-roots.field-0.0
+    rw (refused-is c.from_residual.result _ c.from_residual.ensures.1) (read-handed g.L.Log.counts c.args.sticky_log.now.log c.read_roots.new.sticky_log.log 1 (own_among (length c.args.pages.now.pages)) c.in_err-roots.field-0.0 c.in_err-roots.field-0.0
     (own-some (length c.args.pages.now.pages) (slice_get_within _ 0 _ c.in-Some.ensures)) c.in_err-roots.ensures.reads)
 
 pub returns-in_err-n-clause-reads : goal.returns-in_err-n-clause-reads
 returns-in_err-n-clause-reads g c =
     rw (refused-is c.from_residual-in_err-n.result _ c.from_residual-in_err-n.ensures.1, sym (own-two (length c.args.pages.now.pages) (slice_get_within _ 1 _ (second-found _ _ _ c.in-Some-get.ensures))))
-    (read-then g.L.Log.counts c.args.journal.now.log c.read_roots.new.journal.log c.read_counter.new.journal.log 1 1 c.in_err-n.field-0.0 c.in_ok-roots.ensures.reads.whole c.in_err-n.ensures.reads)
+    (read-then g.L.Log.counts c.args.sticky_log.now.log c.read_roots.new.sticky_log.log c.read_counter.new.sticky_log.log 1 1 c.in_err-n.field-0.0 c.in_ok-roots.ensures.reads.whole c.in_err-n.ensures.reads)
 
 pub returns-clause-reads : goal.returns-clause-reads
 returns-clause-reads g c =
-    let count = (g.L.Log.counts c.args.journal.now.log).reads in
-    read-known g.L.Log.counts c.args.journal.now.log c.read_counter.new.journal.log (own_among (length c.args.pages.now.pages)) _
+    let count = (g.L.Log.counts c.args.sticky_log.now.log).reads in
+    read-known g.L.Log.counts c.args.sticky_log.now.log c.read_counter.new.sticky_log.log (own_among (length c.args.pages.now.pages)) _
     (c.in_ok-n.ensures.reads.whole ∙ ap (more 1) c.in_ok-roots.ensures.reads.whole ∙ ap (λ n. more n count) (own-two (length c.args.pages.now.pages) (slice_get_within _ 1 _ (second-found _ _ _ c.in-Some-get.ensures))))
 
 pub returns-in_default-get-clause-reads : goal.returns-in_default-get-clause-reads
 returns-in_default-get-clause-reads g c =
-    let count = (g.L.Log.counts c.args.journal.now.log).reads in
-    read-known g.L.Log.counts c.args.journal.now.log c.read_roots.new.journal.log (own_among (length c.args.pages.now.pages)) _
+    let count = (g.L.Log.counts c.args.sticky_log.now.log).reads in
+    read-known g.L.Log.counts c.args.sticky_log.now.log c.read_roots.new.sticky_log.log (own_among (length c.args.pages.now.pages)) _
     (c.in_ok-roots.ensures.reads.whole ∙ ap (λ n. more n count) (own-one (length c.args.pages.now.pages) (slice_get_within _ 0 _ c.in-Some.ensures) (second-none _ _ c.in_default-get.ensures)))

@@ -5,7 +5,7 @@ pub returns-then-len-gt-MAX_PAGES-clause-refused : goal.returns-then-len-gt-MAX_
 returns-then-len-gt-MAX_PAGES-clause-refused g c = λ told.
     let states = c.in_ok-states.states.items in
     let more : 2 ^ 37 < length states = search rules in
-    let chains = now effect_of_entry (g.L.Log.state c.args.journal.now.log) in
+    let chains = now effect_of_entry (g.L.Log.state c.args.sticky_log.now.log) in
     let long : length states ≡ length chains = AllZip-long IsPageState chains states (c.in_ok-states.ensures.pages told) in
     let e : 2 ^ 37 < length chains = omega (arith, long, more) in
     e

@@ -6,15 +6,15 @@ use Rattle.sled_pagecache.proofs.pagecache.swap.link_page.Goals as goal
 
 pub returns-then-not-accepts-clause-went : goal.returns-then-not-accepts-clause-went
 returns-then-not-accepts-clause-went g c =
-    Went-none g.L.Log.tells g.L.Log.state g.L.Log.moment g.L.Log.left_since g.L.Log.counts c.args.journal.now c.requires.usable (search rules)
+    Went-none g.L.Log.tells g.L.Log.state g.L.Log.moment g.L.Log.left_since g.L.Log.counts c.args.sticky_log.now c.requires.usable (search rules)
 
 pub returns-then-page-clause-went : goal.returns-then-page-clause-went
 returns-then-page-clause-went g c =
-    Went-none g.L.Log.tells g.L.Log.state g.L.Log.moment g.L.Log.left_since g.L.Log.counts c.args.journal.now c.requires.usable (search rules)
+    Went-none g.L.Log.tells g.L.Log.state g.L.Log.moment g.L.Log.left_since g.L.Log.counts c.args.sticky_log.now c.requires.usable (search rules)
 
 pub returns-in_default-prepare-clause-went : goal.returns-in_default-prepare-clause-went
 returns-in_default-prepare-clause-went g c =
-    Went-none g.L.Log.tells g.L.Log.state g.L.Log.moment g.L.Log.left_since g.L.Log.counts c.args.journal.now c.requires.usable (search rules)
+    Went-none g.L.Log.tells g.L.Log.state g.L.Log.moment g.L.Log.left_since g.L.Log.counts c.args.sticky_log.now c.requires.usable (search rules)
 
 pub write_linked-requires-clause-full : goal.write_linked-requires-clause-full
 write_linked-requires-clause-full g c = λ told.
@@ -22,7 +22,7 @@ write_linked-requires-clause-full g c = λ told.
 
 pub returns-in-Ok-write_linked-clause-went : goal.returns-in-Ok-write_linked-clause-went
 returns-in-Ok-write_linked-clause-went g c =
-    subst (λ (u : Update). Went g.L.Log.tells g.L.Log.state g.L.Log.moment g.L.Log.left_since g.L.Log.counts c.args.journal.now c.write_linked.new.journal (Change c.args.pid (message_of u) ∷ [])) (update-is c.len-messages.result c.args.page.now.infos.items c.args.link.now c.in-Node.node c.prepare.new.node c.args.page.now.kept (search rules) c.in-Ok.ensures.applied c.in-Node.is) c.in-Ok-write_linked.ensures.went
+    subst (λ (u : Update). Went g.L.Log.tells g.L.Log.state g.L.Log.moment g.L.Log.left_since g.L.Log.counts c.args.sticky_log.now c.write_linked.new.sticky_log (Change c.args.pid (message_of u) ∷ [])) (update-is c.len-messages.result c.args.page.now.infos.items c.args.link.now c.in-Node.node c.prepare.new.node c.args.page.now.kept (search rules) c.in-Ok.ensures.applied c.in-Node.is) c.in-Ok-write_linked.ensures.went
 
 pub returns-in-Ok-write_linked-clause-kept : goal.returns-in-Ok-write_linked-clause-kept
 returns-in-Ok-write_linked-clause-kept g c = λ told.
@@ -45,18 +45,18 @@ returns-in-Ok-write_linked-clause-linked g c =
 
 pub returns-in-Err-clause-went : goal.returns-in-Err-clause-went
 returns-in-Err-clause-went g c =
-    went-handed g.L.Log.tells g.L.Log.state g.L.Log.moment g.L.Log.left_since g.L.Log.counts g.L.Log.is_full c.args.journal.now c.write_linked.new.journal c.args.pid _ _ (update-is c.len-messages.result c.args.page.now.infos.items c.args.link.now c.in-Node.node c.prepare.new.node c.args.page.now.kept (search rules) c.in-Ok.ensures.applied c.in-Node.is)
+    went-handed g.L.Log.tells g.L.Log.state g.L.Log.moment g.L.Log.left_since g.L.Log.counts g.L.Log.is_full c.args.sticky_log.now c.write_linked.new.sticky_log c.args.pid _ _ (update-is c.len-messages.result c.args.page.now.infos.items c.args.link.now c.in-Node.node c.prepare.new.node c.args.page.now.kept (search rules) c.in-Ok.ensures.applied c.in-Node.is)
     c.in-Err.refusal CacheInfo (Unit {0}) c.in-Err.ensures.went
 
 pub returns-in-Err-clause-cause : goal.returns-in-Err-clause-cause
 returns-in-Err-clause-cause g c =
-    cause-handed g.L.Log.tells g.L.Log.state g.L.Log.moment g.L.Log.left_since g.L.Log.counts g.L.Log.is_full c.args.journal.now c.write_linked.new.journal c.args.pid _ _ (update-is c.len-messages.result c.args.page.now.infos.items c.args.link.now c.in-Node.node c.prepare.new.node c.args.page.now.kept (search rules) c.in-Ok.ensures.applied c.in-Node.is)
+    cause-handed g.L.Log.tells g.L.Log.state g.L.Log.moment g.L.Log.left_since g.L.Log.counts g.L.Log.is_full c.args.sticky_log.now c.write_linked.new.sticky_log c.args.pid _ _ (update-is c.len-messages.result c.args.page.now.infos.items c.args.link.now c.in-Node.node c.prepare.new.node c.args.page.now.kept (search rules) c.in-Ok.ensures.applied c.in-Node.is)
     c.in-Err.refusal CacheInfo _ c.in-Err.ensures.cause
 
 pub returns-in-Err-clause-still : goal.returns-in-Err-clause-still
 returns-in-Err-clause-still g c = λ told.
     λ clear.
-    kept-still _ (now effect_of_entry (g.L.Log.state c.write_linked.new.journal.log)) c.args.pid _ (c.in-Err.ensures.same told clear)
+    kept-still _ (now effect_of_entry (g.L.Log.state c.write_linked.new.sticky_log.log)) c.args.pid _ (c.in-Err.ensures.same told clear)
     (kept-away _ c.args.page.now _ (c.requires.kept told) (page-full _ c.args.pid (c.requires.there told) c.args.page.now (c.requires.kept told) c.args.link.now c.in-Node.node c.prepare.new.node c.in-Node.is (c.accepts.ensures.accepted.0 c.if-not-accepts.false) c.in-Ok.ensures.applied c.len-messages.result (search rules)) c.prepare.ensures.infos refl)
 
 pub returns-in-Err-clause-refused : goal.returns-in-Err-clause-refused
@@ -65,7 +65,7 @@ returns-in-Err-clause-refused g c = λ told.
 
 pub returns-in_default-access_linked-clause-went : goal.returns-in_default-access_linked-clause-went
 returns-in_default-access_linked-clause-went g c =
-    Went-none g.L.Log.tells g.L.Log.state g.L.Log.moment g.L.Log.left_since g.L.Log.counts c.args.journal.now c.requires.usable (g.met.L.Log.only_now c.args.journal.now.log)
+    Went-none g.L.Log.tells g.L.Log.state g.L.Log.moment g.L.Log.left_since g.L.Log.counts c.args.sticky_log.now c.requires.usable (g.met.L.Log.only_now c.args.sticky_log.now.log)
 
 pub returns-in_default-access_linked-clause-still : goal.returns-in_default-access_linked-clause-still
 returns-in_default-access_linked-clause-still g c = λ told.

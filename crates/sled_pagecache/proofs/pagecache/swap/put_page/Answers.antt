@@ -9,7 +9,7 @@ pub returns-clause-kept : goal.returns-clause-kept
 returns-clause-kept g c = λ told.
     let info = c.in_ok-info.info in
     let is = c.in_ok-info.ensures.chains told ∙ put-chains _ c.args.pid (c.requires.there told) c.args.kept c.requires.can_put info in
-    kept-put (chain_at (g.L.Log.state c.write_kept.new.journal.log) c.args.pid) c.keep_alone.new.page c.args.kept c.requires.can_put info
+    kept-put (chain_at (g.L.Log.state c.write_kept.new.sticky_log.log) c.args.pid) c.keep_alone.new.page c.args.kept c.requires.can_put info
     (at-page _ c.args.pid (c.requires.there told) _ _ is) c.keep_alone.ensures.infos c.keep_alone.ensures.kept c.in_ok-info.ensures.is
 
 pub returns-clause-others : goal.returns-clause-others
@@ -25,7 +25,7 @@ returns-then-page-clause-is g c = c.payload_size-payload.ensures.is
 
 pub returns-then-page-clause-went : goal.returns-then-page-clause-went
 returns-then-page-clause-went g c =
-    Went-none g.L.Log.tells g.L.Log.state g.L.Log.moment g.L.Log.left_since g.L.Log.counts c.args.journal.now c.requires.usable (search rules)
+    Went-none g.L.Log.tells g.L.Log.state g.L.Log.moment g.L.Log.left_since g.L.Log.counts c.args.sticky_log.now c.requires.usable (search rules)
 
 pub returns-in_err-info-clause-same : goal.returns-in_err-info-clause-same
 returns-in_err-info-clause-same g c =
@@ -34,15 +34,15 @@ returns-in_err-info-clause-same g c =
 pub returns-in_err-info-clause-cause : goal.returns-in_err-info-clause-cause
 returns-in_err-info-clause-cause g c =
     rw (refused-is c.from_residual.result _ c.from_residual.ensures.1)
-    (IsCaused-handed_on g.L.Log.tells g.L.Log.state g.L.Log.moment g.L.Log.left_since g.L.Log.counts c.args.journal.now c.write_kept.new.journal
-    (g.L.Log.is_full c.args.journal.now.log (length (message_of (Put (content_of c.args.kept))).payload)) c.in_err-info.field-0.0 c.in_err-info.ensures.cause)
+    (IsCaused-handed_on g.L.Log.tells g.L.Log.state g.L.Log.moment g.L.Log.left_since g.L.Log.counts c.args.sticky_log.now c.write_kept.new.sticky_log
+    (g.L.Log.is_full c.args.sticky_log.now.log (length (message_of (Put (content_of c.args.kept))).payload)) c.in_err-info.field-0.0 c.in_err-info.ensures.cause)
 
 pub returns-in_default-clause-is : goal.returns-in_default-clause-is
 returns-in_default-clause-is g c = c.payload_size-payload.ensures.is
 
 pub returns-in_default-clause-went : goal.returns-in_default-clause-went
 returns-in_default-clause-went g c =
-    Went-none g.L.Log.tells g.L.Log.state g.L.Log.moment g.L.Log.left_since g.L.Log.counts c.args.journal.now c.requires.usable (g.met.L.Log.only_now c.args.journal.now.log)
+    Went-none g.L.Log.tells g.L.Log.state g.L.Log.moment g.L.Log.left_since g.L.Log.counts c.args.sticky_log.now c.requires.usable (g.met.L.Log.only_now c.args.sticky_log.now.log)
 
 pub returns-in_default-clause-cause : goal.returns-in_default-clause-cause
 returns-in_default-clause-cause g c = record { fault = c.requires.ready; read = λ is. absurd cc; write = λ is. absurd cc; full = λ is. absurd cc }
@@ -56,7 +56,7 @@ pub returns-in_err-info-clause-went : goal.returns-in_err-info-clause-went
 returns-in_err-info-clause-went g c =
     let p = err_from_is_err_and c.from_residual.result c.from_residual.ensures.1 in
     rw (p.1, p.2)
-    (went-handed g.L.Log.tells g.L.Log.state g.L.Log.moment g.L.Log.left_since g.L.Log.counts g.L.Log.is_full c.args.journal.now c.write_kept.new.journal c.args.pid (Put (content_of c.args.kept)) (Put (content_of c.args.kept)) refl
+    (went-handed g.L.Log.tells g.L.Log.state g.L.Log.moment g.L.Log.left_since g.L.Log.counts g.L.Log.is_full c.args.sticky_log.now c.write_kept.new.sticky_log c.args.pid (Put (content_of c.args.kept)) (Put (content_of c.args.kept)) refl
     c.in_err-info.field-0.0 CacheInfo (Unit {0}) c.in_err-info.ensures.went)
 
 pub returns-clause-accessed : goal.returns-clause-accessed

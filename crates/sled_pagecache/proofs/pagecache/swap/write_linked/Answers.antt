@@ -5,7 +5,7 @@ pub write_link-requires-clause-can : goal.write_link-requires-clause-can
 write_link-requires-clause-can g c = λ told. ap not (c.requires.full told)
 
 pub write_node-requires-clause-can : goal.write_node-requires-clause-can
-write_node-requires-clause-can g c = λ told. le-leb c.args.pid (length (now effect_of_entry (g.L.Log.state c.args.journal.now.log))) (let there = c.requires.there told in omega (arith, there))
+write_node-requires-clause-can g c = λ told. le-leb c.args.pid (length (now effect_of_entry (g.L.Log.state c.args.sticky_log.now.log))) (let there = c.requires.there told in omega (arith, there))
 
 pub returns-then-messages-lt-PAGE_CONSOLIDATION_THRESHOLD : goal.returns-then-messages-lt-PAGE_CONSOLIDATION_THRESHOLD
 returns-then-messages-lt-PAGE_CONSOLIDATION_THRESHOLD g c =

@@ -1,9 +1,9 @@
-use Rattle.sled_pagecache.proofs.Names.{List, map, true, ap, subst, sym, Event, seen, state_of, clock_of, might_have_left, Entry, Told, message_in, told_state, MemLog, only_stable}
+use Rattle.sled_pagecache.proofs.Names.{List, map, true, ap, subst, sym, Event, seen, state_of, clock_of, might_have_left, Entry, Messages, message_in, unplaced_state, MemLog, only_stable}
 use Rattle.sled_pagecache.proofs.tests.crashes.reopen.Goals as goal
 
 pub returns : goal.returns
 returns c = λ old new call answer held s same steps is clear.
-    let pages : List Told = (told_state (state_of c.stop.result)).stable in
+    let pages : List Messages = (unplaced_state (state_of c.stop.result)).stable in
     let crashed = c.a_crash_reopens_to_a_prefix.ensures.of_a_call old new call answer steps held s is clear in (
       crashed.0,
       crashed.1,

@@ -1,4 +1,4 @@
--- A leaf is allocated where the text spells one.
+-- A leaf is allocated where the text encodes one.
 use Rattle.std.proofs.Common.{map, refl}
 use Rattle.sledpc.specs.Words.{pair_word}
 use Rattle.sledpc.proofs.Commands.{allocate_asked}

@@ -1,23 +1,23 @@
 -- A line's name is its first word.
 use Rattle.std.proofs.Common.{◌≡◌, codes, length, get_or, arith}
 use Rattle.std.proofs.lemmas.Grind.{common_steps}
-use Rattle.sledpc.proofs.Commands.{none_spelled, none_spelled_if_ok, some_spelled_if_ok, no_name, seven_bytes, spelled_behind}
+use Rattle.sledpc.proofs.Commands.{none_encoded, none_encoded_if_ok, some_encoded_if_ok, no_name, seven_bytes, encoded_behind}
 use Rattle.sledpc.proofs.script.command.call_of.Goals as goal
 
 pub returns-in-get-clause-none : goal.returns-in-get-clause-none
 returns-in-get-clause-none c =
     let name : c.first_word.result.0.now ≡ codes "get" = grind (arith, common_steps) in
-    none_spelled _ _ _ _ c.first_word.ensures (rw name c.get_of.ensures.none)
+    none_encoded _ _ _ _ c.first_word.ensures (rw name c.get_of.ensures.none)
 
 pub returns-in-set-clause-none : goal.returns-in-set-clause-none
 returns-in-set-clause-none c =
     let name : c.first_word.result.0.now ≡ codes "set" = grind (arith, common_steps) in
-    none_spelled_if_ok _ _ _ _ c.first_word.ensures (rw name c.set_of.ensures.none)
+    none_encoded_if_ok _ _ _ _ c.first_word.ensures (rw name c.set_of.ensures.none)
 
 pub returns-in-del-clause-none : goal.returns-in-del-clause-none
 returns-in-del-clause-none c =
     let name : c.first_word.result.0.now ≡ codes "del" = grind (arith, common_steps) in
-    none_spelled_if_ok _ _ _ _ c.first_word.ensures (rw name c.del_of.ensures.none)
+    none_encoded_if_ok _ _ _ _ c.first_word.ensures (rw name c.del_of.ensures.none)
 
 pub returns-in-replace-clause-none : goal.returns-in-replace-clause-none
 returns-in-replace-clause-none c =
@@ -31,7 +31,7 @@ returns-in-replace-clause-none c =
     let sixth : get_or word 5 0 ≡ 99 = grind (arith, common_steps) in
     let seventh : get_or word 6 0 ≡ 101 = grind (arith, common_steps) in
     let name : word ≡ codes "replace" = seven_bytes word _ _ _ _ _ _ _ count first second third fourth fifth sixth seventh in
-    none_spelled_if_ok _ _ _ _ c.first_word.ensures (rw name c.replace_of.ensures.none)
+    none_encoded_if_ok _ _ _ _ c.first_word.ensures (rw name c.replace_of.ensures.none)
 
 pub returns-in-replace-clause-some : goal.returns-in-replace-clause-some
 returns-in-replace-clause-some c =
@@ -45,27 +45,27 @@ returns-in-replace-clause-some c =
     let sixth : get_or word 5 0 ≡ 99 = grind (arith, common_steps) in
     let seventh : get_or word 6 0 ≡ 101 = grind (arith, common_steps) in
     let name : word ≡ codes "replace" = seven_bytes word _ _ _ _ _ _ _ count first second third fourth fifth sixth seventh in
-    some_spelled_if_ok _ _ _ _ c.requires c.first_word.ensures (rw name c.replace_of.ensures.some)
+    some_encoded_if_ok _ _ _ _ c.requires c.first_word.ensures (rw name c.replace_of.ensures.some)
 
 pub returns-in-alloc-clause-none : goal.returns-in-alloc-clause-none
 returns-in-alloc-clause-none c =
     let name : c.first_word.result.0.now ≡ codes "alloc" = grind (arith, common_steps) in
-    none_spelled_if_ok _ _ _ _ c.first_word.ensures (rw name c.allocate_of.ensures.none)
+    none_encoded_if_ok _ _ _ _ c.first_word.ensures (rw name c.allocate_of.ensures.none)
 
 pub returns-in_default-clause-none : goal.returns-in_default-clause-none
-returns-in_default-clause-none c = λ call spells. no_name _ _ call (λ e. grind (arith, common_steps)) (λ e. grind (arith, common_steps)) (λ e. grind (arith, common_steps)) (λ e. grind (arith, common_steps)) (λ e. grind (arith, common_steps)) (λ e. grind (arith, common_steps)) (λ e. grind (arith, common_steps)) (λ e. grind (arith, common_steps)) (spelled_behind _ _ _ call c.first_word.ensures spells)
+returns-in_default-clause-none c = λ call encodes. no_name _ _ call (λ e. grind (arith, common_steps)) (λ e. grind (arith, common_steps)) (λ e. grind (arith, common_steps)) (λ e. grind (arith, common_steps)) (λ e. grind (arith, common_steps)) (λ e. grind (arith, common_steps)) (λ e. grind (arith, common_steps)) (λ e. grind (arith, common_steps)) (encoded_behind _ _ _ call c.first_word.ensures encodes)
 
 pub returns-in-free-clause-none : goal.returns-in-free-clause-none
 returns-in-free-clause-none c =
     let name : c.first_word.result.0.now ≡ codes "free" = grind (arith, common_steps) in
-    none_spelled _ _ _ _ c.first_word.ensures (rw name c.free_of.ensures.none)
+    none_encoded _ _ _ _ c.first_word.ensures (rw name c.free_of.ensures.none)
 
 pub returns-in-flush-clause-none : goal.returns-in-flush-clause-none
 returns-in-flush-clause-none c =
     let name : c.first_word.result.0.now ≡ codes "flush" = grind (arith, common_steps) in
-    none_spelled _ _ _ _ c.first_word.ensures (rw name c.flush_of.ensures.none)
+    none_encoded _ _ _ _ c.first_word.ensures (rw name c.flush_of.ensures.none)
 
 pub returns-in-size-clause-none : goal.returns-in-size-clause-none
 returns-in-size-clause-none c =
     let name : c.first_word.result.0.now ≡ codes "size" = grind (arith, common_steps) in
-    none_spelled _ _ _ _ c.first_word.ensures (rw name c.size_of.ensures.none)
+    none_encoded _ _ _ _ c.first_word.ensures (rw name c.size_of.ensures.none)

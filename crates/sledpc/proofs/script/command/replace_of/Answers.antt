@@ -2,7 +2,7 @@
 use Rattle.std.proofs.Common.{◌∷◌, map, subst, sym, refl}
 use Rattle.std.specs.Fmt.{decimal}
 use Rattle.sled_pagecache.specs.Token.{pid_of, stamp_of}
-use Rattle.sledpc.specs.Asked.{SpellLeaf}
+use Rattle.sledpc.specs.Asked.{EncodeLeaf}
 use Rattle.sledpc.specs.Words.{pair_word}
 use Rattle.sledpc.proofs.Commands.{replace_asked, token_rest, token_joined}
 use Rattle.sledpc.proofs.script.command.replace_of.Goals as goal
@@ -16,7 +16,7 @@ pub returns-in_default-2-clause-none : goal.returns-in_default-2-clause-none
 returns-in_default-2-clause-none c = λ call asked.
     let other = replace_asked _ call asked in
     let rest = token_rest _ _ _ _ _ c.in-Some.ensures.some other.token in
-    (rw c.in_default-2.is at c.in_ok-node.ensures.none) other.node (subst (λ text. SpellLeaf text other.node) (sym rest) other.leaf)
+    (rw c.in_default-2.is at c.in_ok-node.ensures.none) other.node (subst (λ text. EncodeLeaf text other.node) (sym rest) other.leaf)
 
 pub returns-clause-some : goal.returns-clause-some
 returns-clause-some c =

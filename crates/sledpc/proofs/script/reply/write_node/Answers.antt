@@ -4,7 +4,7 @@ use Rattle.std.specs.Fmt.{decimal}
 use Rattle.std.specs.Io.KnownBytes.{Appends}
 use Rattle.std.specs.List.{flat_map}
 use Rattle.std.proofs.KnownBytes.{Appends-trans}
-use Rattle.sledpc.specs.Output.{AppendsBeginning}
+use Rattle.sledpc.specs.Output.{AppendsPrefix}
 use Rattle.sledpc.specs.Replies.{entry_text, node_text}
 use Rattle.sledpc.proofs.Written.{writes_more, stops_before}
 use Rattle.sledpc.proofs.script.reply.write_node.Goals as goal

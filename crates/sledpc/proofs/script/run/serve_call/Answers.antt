@@ -1,4 +1,4 @@
-use Rattle.sled_pagecache.specs.Lending.{told}
+use Rattle.sled_pagecache.specs.Lending.{lent_answer}
 use Rattle.sled_pagecache.specs.declared.pagecache.call.Answer.TheVariants.{Allocated, Got, Linked, Replaced, Freed, Flushed, Sized}
 use Rattle.sledpc.proofs.Making.{flush_tells, size_tells}
 use Rattle.sledpc.proofs.script.run.serve_call.Goals as goal
@@ -36,7 +36,7 @@ pub returns-in-Get : goal.returns-in-Get
 returns-in-Get g c =
     let got = c.get.follows.holds-at-none in
     record {
-      answer = Got (told c.get.result);
+      answer = Got (lent_answer c.get.result);
       made = record { step = rw (c.in-Get.is) got.step; bytes = tt; faults = got.blame };
       written = c.write_line-in-Get.ensures;
     }

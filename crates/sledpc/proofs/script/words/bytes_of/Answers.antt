@@ -1,4 +1,4 @@
--- A word that is no dash spells bytes by two digits each.
+-- A word that is no dash encodes bytes by two digits each.
 use Rattle.std.proofs.Common.{arith}
 use Rattle.std.proofs.lemmas.Bool.Decides.{nat_tests}
 use Rattle.sledpc.proofs.Words.{no_dash, even_word}

@@ -3,7 +3,7 @@ use Rattle.std.proofs.Common.{◌≡◌, ◌+◌, ◌*◌, ◌<◌, ◌++◌, �
 use Rattle.std.proofs.lemmas.List.{take_more_set, length-set}
 use Rattle.sledpc.specs.Words.{AreBytes}
 use Rattle.sledpc.proofs.Words.{length-hex, digits_at, byte_more}
-use Rattle.sledpc.proofs.Spelled.{all_and_one}
+use Rattle.sledpc.proofs.Encoded.{all_and_one}
 use Rattle.sledpc.proofs.script.words.decode.Goals as goal
 
 pub returns-in-None-clause-none : goal.returns-in-None-clause-none
@@ -22,5 +22,5 @@ loop-index-preserved c =
     record {
       count = length-set c.loop-index.bytes i byte ∙ c.loop-index.invariant.count;
       bytes = subst AreBytes (sym next) (all_and_one (λ b. b < 256) front byte c.loop-index.invariant.bytes (omega arith));
-      spelled = byte_more c.args.word.now front _ i byte c.loop-index.invariant.spelled (omega arith) c.in-Some.ensures.some.0 c.in-Some.ensures.some.1 next;
+      encoded = byte_more c.args.word.now front _ i byte c.loop-index.invariant.encoded (omega arith) c.in-Some.ensures.some.0 c.in-Some.ensures.some.1 next;
     }

@@ -2,15 +2,15 @@
 use Rattle.std.proofs.Common.{◌+◌, ◌++◌, List, length}
 use Rattle.std.specs.Option.{option_map, option_map_or}
 use Rattle.sled_base.specs.Order.{Bytes}
-use Rattle.sledpc.specs.Words.{ArePairs, SpellPairs}
+use Rattle.sledpc.specs.Words.{ArePairs, EncodePairs}
 use Rattle.sledpc.proofs.script.words.pairs_of.Given as goal
 
 abbrev pub invariant-loop-left : goal.invariant-loop-left
 invariant-loop-left l = record {
-  some : (others : List (Bytes × Bytes)) → SpellPairs (option_map (λ rest. rest.now) l.left) others → SpellPairs (option_map (λ rest. rest.now) l.words) (l.pairs.items ++ others);
+  some : (others : List (Bytes × Bytes)) → EncodePairs (option_map (λ rest. rest.now) l.left) others → EncodePairs (option_map (λ rest. rest.now) l.words) (l.pairs.items ++ others);
   bytes : ArePairs l.pairs.items;
-  none : (pairs : List (Bytes × Bytes)) → ArePairs pairs → SpellPairs (option_map (λ rest. rest.now) l.words) pairs
-      → (others : List (Bytes × Bytes)) × ArePairs others × SpellPairs (option_map (λ rest. rest.now) l.left) others;
+  none : (pairs : List (Bytes × Bytes)) → ArePairs pairs → EncodePairs (option_map (λ rest. rest.now) l.words) pairs
+      → (others : List (Bytes × Bytes)) × ArePairs others × EncodePairs (option_map (λ rest. rest.now) l.left) others;
 }
 
 abbrev pub decreases-loop-left : goal.decreases-loop-left

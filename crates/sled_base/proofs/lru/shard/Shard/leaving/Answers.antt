@@ -1,5 +1,5 @@
 use Rattle.std.proofs.Common.{◌≡◌, ◌-◌, ◌+◌, ◌<◌, sym, ap, subst, ◌∙◌, arith}
-use Rattle.sled_base.specs.Shards.{Shelf, entry_at, size_of, IsCut}
+use Rattle.sled_base.specs.Shards.{Shelf, entry_at, entry_size, IsCut}
 use Rattle.sled_base.proofs.RecentUse.Keeping.{total-others, size_read}
 use Rattle.sled_base.proofs.RecentUse.Walking.{IsWalked, walk_start, walk_some, slot_here, step_part, step_takes, step_passes, cut_fits, cut_none, cut_end}
 use Rattle.sled_base.proofs.lru.shard.Shard.leaving.Goals as goal
@@ -13,7 +13,7 @@ overflow_sub-total c =
 pub loop-init : goal.loop-init
 loop-init c =
     let size = size_read c.self.inside.entries.items c.deref.result.now c.args.place c.from.result (c.from.ensures ∙ c.size_at.ensures) c.deref.ensures.value in
-    let is : c.self.inside.total - size_of (entry_at c.self.inside.entries.items c.args.place) + c.args.size ≡ c.self.inside.total - c.from.result + c.from-2.result = omega (arith, size, c.from-2.ensures) in
+    let is : c.self.inside.total - entry_size (entry_at c.self.inside.entries.items c.args.place) + c.args.size ≡ c.self.inside.total - c.from.result + c.from-2.result = omega (arith, size, c.from-2.ensures) in
     subst (λ sum. IsWalked c.self.inside.entries.items c.self.inside.list c.self.inside.capacity c.args.place c.args.size sum 0 0 c.last-last.result) is
     (walk_start c.self.inside.entries.items c.self.inside.list c.self.inside.capacity c.args.place c.args.size c.self.inside.total c.last-last.result c.self.invariant c.last-last.ensures)
 
@@ -48,7 +48,7 @@ loop-preserved c =
     elim c.if-other-place.branch [
       | then-other-place w ↦ (
           let size = size_read c.self.inside.entries.items w.deref-then-other-place.result.now c.item-other.result w.from-total.result (w.from-total.ensures ∙ w.size_at-then-other-place.ensures) w.deref-then-other-place.ensures.value in
-          let sum : c.loop.total - size_of (entry_at c.self.inside.entries.items c.item-other.result) ≡ c.if-other-place.total = ap (λ n. c.loop.total - n) (sym size) ∙ sym w.total-is in
+          let sum : c.loop.total - entry_size (entry_at c.self.inside.entries.items c.item-other.result) ≡ c.if-other-place.total = ap (λ n. c.loop.total - n) (sym size) ∙ sym w.total-is in
           subst (λ n. IsWalked c.self.inside.entries.items c.self.inside.list c.self.inside.capacity c.args.place c.args.size c.if-other-place.total n (c.loop.counter + 1) c.before-last.result) (sym w.count-is)
           (subst (λ n. IsWalked c.self.inside.entries.items c.self.inside.list c.self.inside.capacity c.args.place c.args.size n (c.loop.count + 1) (c.loop.counter + 1) c.before-last.result) sum
           (step_takes c.self.inside.entries.items c.self.inside.list c.self.inside.capacity c.args.place c.args.size c.loop.total c.loop.count c.loop.counter c.in-Some.slot walk c.item-other.result c.item-other.ensures c.before-last.result c.before-last.ensures over w.if-other-place.true)))

@@ -1,13 +1,13 @@
 use Rattle.std.proofs.lemmas.Result.{err_from_is_err_and}
 use Rattle.sled_base.specs.Payloads.Reading.{AsksNever}
 use Rattle.sled_base.specs.Payloads.Numbers.{ReadsU64}
-use Rattle.sled_base.specs.Payloads.Options.{page_number, ReadsPage}
+use Rattle.sled_base.specs.Payloads.Options.{page_number, ReadsPageNumber}
 use Rattle.sled_base.proofs.Payloads.Refusals.{refused_so, by_number}
 use Rattle.sled_base.proofs.serialization.options.OptionNonZeroU64Serialize.deserialize.Goals as goal
 
--- where the number isn't read, nothing that is spelled as a number is
+-- where the number isn't read, nothing that is encoded as a number is
 pub returns-in_err-deserialize-clause-refused : goal.returns-in_err-deserialize-clause-refused
 returns-in_err-deserialize-clause-refused c =
     let p = err_from_is_err_and c.from_residual.result c.from_residual.ensures.1 in
     let input = c.args.input.now.now in
-    rw (p.1, p.2) (refused_so AsksNever AsksNever ReadsU64 ReadsPage input input c.in_err-deserialize.field-0.0 (λ never. never) (by_number ReadsU64 page_number input) c.in_err-deserialize.ensures.refused)
+    rw (p.1, p.2) (refused_so AsksNever AsksNever ReadsU64 ReadsPageNumber input input c.in_err-deserialize.field-0.0 (λ never. never) (by_number ReadsU64 page_number input) c.in_err-deserialize.ensures.refused)

@@ -5,7 +5,7 @@ use Rattle.sled_base.specs.Payloads.Options.{number_of, ReadsOption}
 use Rattle.sled_base.proofs.Payloads.Refusals.{refused_so, by_number}
 use Rattle.sled_base.proofs.serialization.options.OptionU64Serialize.deserialize.Goals as goal
 
--- where the number isn't read, nothing that is spelled as a number is
+-- where the number isn't read, nothing that is encoded as a number is
 pub returns-in_err-number-clause-refused : goal.returns-in_err-number-clause-refused
 returns-in_err-number-clause-refused c =
     let p = err_from_is_err_and c.from_residual.result c.from_residual.ensures.1 in

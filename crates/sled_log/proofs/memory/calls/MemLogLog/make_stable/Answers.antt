@@ -4,11 +4,11 @@ use Rattle.std.proofs.lemmas.List.{take_all, drop_all}
 use Rattle.std.proofs.lemmas.List.Sums.{sum_by-take-drop}
 use Rattle.sled_log.specs.Batches.{is_open}
 use Rattle.sled_log.specs.Items.{event_of, size_of_mark, log_size, all_settled, state_at, IsInOrder, are_placed}
-use Rattle.sled_log.specs.Kept.{Item}
+use Rattle.sled_log.specs.Kept.{LogItem}
 use Rattle.sled_log.specs.Memory.{kept_in}
 use Rattle.sled_log.specs.Stored.{never, are_within, settle_all, kept_items}
 use Rattle.sled_log.specs.declared.memory.MemLog.{MemLog}
-use Rattle.sled_log.specs.declared.memory.item.Item.{Item as StoredItem}
+use Rattle.sled_log.specs.declared.memory.item.LogItem.{LogItem as StoredItem}
 use Rattle.sled_log.proofs.MemCalls.{called_settled, remembers_settled}
 use Rattle.sled_log.proofs.Moments.{pending_events, order-settled, length-all_settled, log_size-all_settled, pending-settled}
 use Rattle.sled_log.proofs.Places.{placed-settled}
@@ -28,7 +28,7 @@ settled_is self items few is =
 -- what is pending
 pending_size : (self : MemLog) → self.size ≡ self.stable_size + log_size (drop self.stable (kept_in self))
 pending_size self =
-    let parts : log_size (take self.stable (kept_in self)) + log_size (drop self.stable (kept_in self)) ≡ log_size (kept_in self) = sum_by-take-drop (λ (item : Item). size_of_mark item.mark) (kept_in self) self.stable in
+    let parts : log_size (take self.stable (kept_in self)) + log_size (drop self.stable (kept_in self)) ≡ log_size (kept_in self) = sum_by-take-drop (λ (item : LogItem). size_of_mark item.mark) (kept_in self) self.stable in
     let sized = self.sized in
     let stable_sized = self.stable_sized in
     omega (arith, parts, sized, stable_sized)
@@ -37,7 +37,7 @@ pub invariant_of-self : goal.invariant_of-self
 invariant_of-self c =
     let self = c.args.self.now in
     let stored : List StoredItem = c.settle_from.new.items.items in
-    let kept : List Item = kept_items self.blob_limit self.bytes.items stored in
+    let kept : List LogItem = kept_items self.blob_limit self.bytes.items stored in
     let counted = self.counted in
     let many = c.if-self-len.true in
     let one = c.len.ensures in
@@ -57,7 +57,7 @@ invariant_of-self c =
     record {
       within = ap (λ (l : List StoredItem). are_within 0 (length self.bytes.items) l) c.settle_from.ensures ∙ within-settle_all (self.clock + 1) self.stable 0 (length self.bytes.items) self.items.items self.within;
       fewer = omega (arith, two, ok_then);
-      in_order = subst (λ n. IsInOrder (self.clock + 1) n kept) (sym all) (subst (λ (l : List Item). IsInOrder (self.clock + 1) (length (kept_in self)) l) (sym is) order);
+      in_order = subst (λ n. IsInOrder (self.clock + 1) n kept) (sym all) (subst (λ (l : List LogItem). IsInOrder (self.clock + 1) (length (kept_in self)) l) (sym is) order);
       counted = omega (arith, counted, many, one, ok, all, before, after, long, same);
       sized = sized;
       stable_sized = sized ∙ ap log_size (sym (take_all c.len-self.result kept past));
@@ -71,7 +71,7 @@ pub returns-then-self-len-clause-stable : goal.returns-then-self-len-clause-stab
 returns-then-self-len-clause-stable c =
     let self = c.args.self.now in
     let is = settled_is self c.settle_from.new.items.items (let many = c.if-self-len.true in let one = c.len.ensures in let ok = self.items.ok in omega arith) c.settle_from.ensures in
-    ap (λ (l : List Item). (state_at (self.clock + 1) l).pending) is ∙ pending-settled self.clock (self.clock + 1) self.stable (kept_in self) (omega arith) self.in_order
+    ap (λ (l : List LogItem). (state_at (self.clock + 1) l).pending) is ∙ pending-settled self.clock (self.clock + 1) self.stable (kept_in self) (omega arith) self.in_order
 
 pub returns-then-self-len-clause-called : goal.returns-then-self-len-clause-called
 returns-then-self-len-clause-called c =

@@ -3,7 +3,7 @@ use Rattle.sled_log.specs.Batches.{is_open}
 use Rattle.sled_log.specs.Events.{Pin}
 use Rattle.sled_log.specs.Items.{event_of, log_size, are_placed, IsInOrder}
 use Rattle.sled_log.specs.Stored.{are_within, kept_items}
-use Rattle.sled_log.specs.declared.memory.item.Item.{Item as StoredItem}
+use Rattle.sled_log.specs.declared.memory.item.LogItem.{LogItem as StoredItem}
 use Rattle.sled_log.proofs.MemCalls.{called_added}
 use Rattle.sled_log.proofs.memory.calls.MemLogLog.pin.Goals as goal
 

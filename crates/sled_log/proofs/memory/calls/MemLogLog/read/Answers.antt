@@ -2,11 +2,11 @@ use Rattle.std.proofs.Common.{◌≡◌, ℕ, Option, Some, None, Ok, IsSomeAnd,
 use Rattle.std.specs.Global.{Vec}
 use Rattle.std.specs.Option.{ok_or}
 use Rattle.sled_base.specs.declared.kinds.MessageKind.{MessageKind}
-use Rattle.sled_log.specs.Kept.{Item}
+use Rattle.sled_log.specs.Kept.{LogItem}
 use Rattle.sled_log.specs.Memory.{kept_in, state_of}
 use Rattle.sled_log.specs.Messages.{Entry, effect_of_entry}
 use Rattle.sled_log.specs.Pages.{IsRead}
-use Rattle.sled_log.specs.State.{now}
+use Rattle.sled_log.specs.LogState.{now}
 use Rattle.sled_log.specs.declared.log.LogError.{LogError}
 use Rattle.sled_log.specs.declared.log.LogError.TheVariants.{Corruption}
 use Rattle.sled_log.proofs.KeptEntries.{IsKept, Finds, now-kept, finds-entry}
@@ -18,16 +18,16 @@ some-is P None h = absurd h
 some-is P (Some y) h = (y, refl)
 
 -- the search finds what the log holds
-finds : (c : goal.After-ok_or) → Finds (kept_in c.args.self.now) c.args.pointer c.in_ok-told.field-0
-finds c = subst (λ (l : List Item). Finds l c.args.pointer c.in_ok-told.field-0) c.count_read.ensures.kept c.in_ok-told.ensures
+finds : (c : goal.After-ok_or) → Finds (kept_in c.args.self.now) c.args.pointer c.in_ok-kind_and_payload.field-0
+finds c = subst (λ (l : List LogItem). Finds l c.args.pointer c.in_ok-kind_and_payload.field-0) c.count_read.ensures.kept c.in_ok-kind_and_payload.ensures
 
 -- an entry that the log holds is found
-found : (c : goal.After-ok_or) → (y : MessageKind × Vec ℕ) × (c.in_ok-told.field-0 ≡ Some y)
+found : (c : goal.After-ok_or) → (y : MessageKind × Vec ℕ) × (c.in_ok-kind_and_payload.field-0 ≡ Some y)
 found c =
     let self = c.args.self.now in
     let known = c.requires.known in
     let kept = subst (IsKept (kept_in self)) known.3 (now-kept self.clock self.stable (kept_in self) self.in_order c.args.pid known.0 known.1 known.2) in
-    some-is (IsRead known.1) c.in_ok-told.field-0 (finds-entry (kept_in self) c.in_ok-told.field-0 c.args.lsn c.args.pointer known.1 (finds c) kept known.4)
+    some-is (IsRead known.1) c.in_ok-kind_and_payload.field-0 (finds-entry (kept_in self) c.in_ok-kind_and_payload.field-0 c.args.lsn c.args.pointer known.1 (finds c) kept known.4)
 
 is-ok : (c : goal.After-ok_or) → c.ok_or.result ≡ Ok (found c).0
 is-ok c = c.ok_or.ensures.value ∙ ap (λ (o : Option (MessageKind × Vec ℕ)). ok_or {E = LogError} o Corruption) (found c).1
@@ -39,7 +39,7 @@ pub returns-clause-found : goal.returns-clause-found
 returns-clause-found c = rw (is-ok c) (λ k d lt at.
     let self = c.args.self.now in
     let entry : Entry = slice_index_or (slice_index_or (now effect_of_entry (state_of self)) c.args.pid []) k d in
-    let is = finds-entry (kept_in self) c.in_ok-told.field-0 c.args.lsn c.args.pointer entry (finds c) (now-kept self.clock self.stable (kept_in self) self.in_order c.args.pid k d lt) at in
+    let is = finds-entry (kept_in self) c.in_ok-kind_and_payload.field-0 c.args.lsn c.args.pointer entry (finds c) (now-kept self.clock self.stable (kept_in self) self.in_order c.args.pid k d lt) at in
     subst (λ (o : Option (MessageKind × Vec ℕ)). IsSomeAnd o (IsRead entry)) (found c).1 is)
 
 pub returns-clause-only : goal.returns-clause-only

@@ -7,7 +7,7 @@ use Rattle.sled_log.specs.Items.{event_of}
 use Rattle.sled_log.specs.Memory.{kept_in}
 use Rattle.sled_log.specs.Messages.{Chain, effect_of_entry}
 use Rattle.sled_log.specs.ShapeLaws.{AreChains, chains-are}
-use Rattle.sled_log.specs.declared.memory.item.Item.{Item as StoredItem}
+use Rattle.sled_log.specs.declared.memory.item.LogItem.{LogItem as StoredItem}
 use Rattle.sled_log.specs.declared.memory.item.Mark.TheVariants as stored
 use Rattle.sled_log.proofs.MemCalls.{called_memory}
 use Rattle.sled_log.proofs.Moments.{now_is}

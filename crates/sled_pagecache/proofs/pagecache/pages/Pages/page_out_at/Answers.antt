@@ -8,18 +8,18 @@ pub invariant_of-self : goal.invariant_of-self
 invariant_of-self g c =
     let inside = c.self.inside in
     let at = c.get_mut.ensures.page in
-    consistent-out g.L.Log inside.journal inside.pages.pages inside.free.ids.keys c.args.pid c.get_mut.result.now c.page_out.new.self c.self.invariant at c.page_out.ensures
+    consistent-out g.L.Log inside.sticky_log inside.pages.pages inside.free.ids.keys c.args.pid c.get_mut.result.now c.page_out.new.self c.self.invariant at c.page_out.ensures
 
 pub returns-then-pid-len : goal.returns-then-pid-len
 returns-then-pid-len g c =
     let inside = c.self.inside in
     let at = c.get_mut.ensures.page in
-    rw (← c.self.view_is) (out-page inside.next inside.config inside.recovered inside.journal inside.pages.pages c.args.pid c.get_mut.result.now c.page_out.new.self at c.page_out.ensures)
+    rw (← c.self.view_is) (out-page inside.next inside.config inside.recovered inside.sticky_log inside.pages.pages c.args.pid c.get_mut.result.now c.page_out.new.self at c.page_out.ensures)
 
 pub returns-else-pid-len : goal.returns-else-pid-len
 returns-else-pid-len g c =
     let inside = c.self.inside in
     rw (← c.self.view_is)
-    (out-none (λ other. other ≡ c.args.pid) (view inside.next inside.config inside.recovered inside.journal inside.pages.pages)
-    (λ other same. subst (HasNoNode (view inside.next inside.config inside.recovered inside.journal inside.pages.pages)) (sym same)
-    (past-view inside.next inside.next inside.config inside.recovered inside.journal inside.journal inside.pages.pages c.args.pid (omega (arith, c.if-pid-len.false, c.len.ensures.number)))))
+    (out-none (λ other. other ≡ c.args.pid) (view inside.next inside.config inside.recovered inside.sticky_log inside.pages.pages)
+    (λ other same. subst (HasNoNode (view inside.next inside.config inside.recovered inside.sticky_log inside.pages.pages)) (sym same)
+    (past-view inside.next inside.next inside.config inside.recovered inside.sticky_log inside.sticky_log inside.pages.pages c.args.pid (omega (arith, c.if-pid-len.false, c.len.ensures.number)))))

@@ -1,5 +1,0 @@
-use Rattle.sled_log.specs.HoldingLaws.{reads-left}
-use Rattle.sled_log.proofs.laws.stops_leave_contents.Goals as goal
-
-pub returns : goal.returns
-returns c = reads-left

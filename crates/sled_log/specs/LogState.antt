@@ -1,0 +1,65 @@
+-- What a log is, what its calls add to it, and the crash states that a crash at any moment leaves of it.
+use Rattle.std.specs.Prelude.{◌≡◌, ◌⊎◌, ◌≤◌, ℕ, Bool, List, ◌++◌, take, drop, map}
+use Rattle.sled_base.specs.declared.kinds.LogKind.{LogKind}
+use Rattle.sled_log.specs.Batches.{IsFair}
+use Rattle.sled_log.specs.Chains.{chains_after}
+use Rattle.sled_log.specs.Events.{Event, seen}
+use Rattle.sled_log.specs.Messages.{Message, Entry, Messages, message_in}
+
+-- The chains that are durable, the events that came after them, which are pending, and whether the log may be called: not
+-- after a write fault, and then nothing is known but the crash states.
+pub record LogState (E : Type 0) : Type 0 where
+  pub stable : List (List E)
+  pub pending : List (Event E)
+  pub usable : Bool
+
+-- the first list is a prefix of the second
+abbrev pub IsPrefix : {E : Type 0} → List (Event E) → List (Event E) → Type 0
+IsPrefix {E} part events = (rest : List (Event E)) × (part ++ rest ≡ events)
+
+-- What is durable and what is pending, whatever it is that events are made of.
+module _ {E S : Type 0} (after : S → List (Event E) → S) where
+  -- The events were added behind the pending ones. A prefix of all of them, up to a fair cut, became durable.
+  pub record AddsEvents (durable : S) (waiting events : List (Event E)) (durable_then : S) (waiting_then : List (Event E)) : Type 0 where
+    pub cut : ℕ
+    pub fair : IsFair (waiting ++ events) cut
+    pub stable : durable_then ≡ after durable (take cut (waiting ++ events))
+    pub pending : waiting_then ≡ drop cut (waiting ++ events)
+
+  -- Some prefix of the events had come at a crash. It left what was durable, and the pending ones up to a fair cut, which is so.
+  pub record CrashKeeps (durable : S) (waiting events : List (Event E)) (Is : S → Type 0) : Type 0 where
+    pub came : List (Event E)
+    pub beginning : IsPrefix came events
+    pub cut : ℕ
+    pub fair : IsFair (waiting ++ came) cut
+    pub is : Is (after durable (take cut (waiting ++ came)))
+
+module _ {E : Type 0} (effect : E → LogKind) where
+  -- what the log holds now
+  abbrev pub now : LogState E → List (List E)
+  now state = chains_after effect state.stable state.pending
+
+  -- a log to which these events were added
+  abbrev pub Adds : LogState E → List (Event E) → LogState E → Type 0
+  Adds old events new = AddsEvents (chains_after effect) old.stable old.pending events new.stable new.pending
+
+  -- a crash state of a log that was `old` when these events began to come
+  abbrev pub IsLeft : LogState E → List (Event E) → List (List E) → Type 0
+  IsLeft old events pages = CrashKeeps (chains_after effect) old.stable old.pending events (λ kept. pages ≡ kept)
+
+-- the state, where each change is seen so
+abbrev pub seen_state : {E F : Type 0} → (E → F) → LogState E → LogState F
+seen_state see state = record { stable = map (map see) state.stable; pending = map (seen see) state.pending; usable = state.usable }
+
+-- the state without the places
+abbrev pub unplaced_state : LogState Entry → LogState Message
+unplaced_state state = seen_state message_in state
+
+-- A crash at any moment since `old` leaves pages that have P.
+pub record CrashesSinceLeave {L : Type 0} (moment : L → ℕ) (left_since : L → ℕ → List Messages → Type 0) (old new : L) (P : List Messages → Type 0) : Type 0 where
+  pub later : moment old ≤ moment new
+  pub each : (pages : List Messages) → left_since new (moment old) pages → P pages
+  -- for a run of calls that began earlier
+  pub before : (t : ℕ) (pages : List Messages) → t ≤ moment old → left_since new t pages → left_since old t pages ⊎ P pages
+  -- nothing that might have been left is forgotten
+  pub kept : (t : ℕ) (pages : List Messages) → t ≤ moment old → left_since old t pages → left_since new t pages

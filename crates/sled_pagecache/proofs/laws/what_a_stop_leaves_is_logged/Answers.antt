@@ -1,5 +1,0 @@
-use Rattle.sled_pagecache.proofs.Reopening.{crashed-logged}
-use Rattle.sled_pagecache.proofs.laws.what_a_stop_leaves_is_logged.Goals as goal
-
-pub returns : goal.returns
-returns c = crashed-logged

@@ -1,0 +1,66 @@
+-- What the calls of a cache make of its log.
+use Rattle.std.specs.Prelude.{◌≡◌, ◌≤◌, ℕ, Bool, true, false, List, [], None, Result, Ok, Err, IsErrOf, ⊤}
+use Rattle.sled_base.specs.declared.types.Device.TheVariants.{Read, Write}
+use Rattle.sled_base.specs.declared.types.Refusal.{Refusal}
+use Rattle.sled_base.specs.declared.types.Refusal.TheVariants.{Unsupported, Io, Corruption, OutOfMemory}
+use Rattle.sled_base.specs.declared.types.Why.TheVariants.{LogFull}
+use Rattle.sled_log.specs.Batches.{is_open, open_after}
+use Rattle.sled_log.specs.Calls.{Counts, HasGrown}
+use Rattle.sled_log.specs.Events.{Event}
+use Rattle.sled_log.specs.Messages.{Message, Entry, Messages, effect_of}
+use Rattle.sled_log.specs.LogState.{LogState, Adds, IsLeft, CrashesSinceLeave, unplaced_state}
+use Rattle.sled_log.specs.declared.log.LogError.{LogError}
+use Rattle.sled_log.specs.declared.log.LogError.TheVariants as unlogged
+use Rattle.sled_pagecache.specs.declared.pagecache.sticky_log.StickyLog.{StickyLog}
+
+-- what a cache answers where its log refuses a call
+abbrev pub refusal_of : LogError → Refusal
+refusal_of unlogged.Memory = OutOfMemory
+refusal_of unlogged.Full = Unsupported LogFull
+refusal_of unlogged.ReadFault = Io Read
+refusal_of unlogged.WriteFault = Io Write
+refusal_of unlogged.Corruption = Corruption None
+
+-- what a cache answers to what its log answered
+abbrev pub cache_answer : {T : Type 0} → Result T LogError → Result T Refusal
+cache_answer (Ok answer) = Ok answer
+cache_answer (Err error) = Err (refusal_of error)
+
+-- whether a write fault was met
+abbrev pub is_write_fault : {T : Type 0} → Result T Refusal → Bool
+is_write_fault (Ok answer) = false
+is_write_fault (Err (Io Write)) = true
+is_write_fault (Err other) = false
+
+-- the events that a crash may find of a call: none where it was refused, but for a write fault
+abbrev pub begun_by : {T : Type 0} → Result T Refusal → List (Event Message) → List (Event Message)
+begun_by (Ok answer) events = events
+begun_by (Err (Io Write)) events = events
+begun_by (Err other) events = []
+
+-- a refusal that a log makes a cache answer
+abbrev pub IsOfLog : Refusal → Type 0
+IsOfLog OutOfMemory = ⊤
+IsOfLog (Io device) = ⊤
+IsOfLog (Unsupported LogFull) = ⊤
+IsOfLog other = ⊥
+
+module _ {L : Type 0} (tells : Type 0) (state : L → LogState Entry) (moment : L → ℕ) (left_since : L → ℕ → List Messages → Type 0) (counts : L → Counts) where
+  -- If no write fault is kept, the log may be called and a batch is open as these events say; no count falls. Where the device
+  -- tells its bytes, the events were added, and a crash at any moment since `old` leaves what was durable, and a
+  -- prefix of what was pending then and of the events, which splits no batch.
+  pub record Went (old new : StickyLog L) (events : List (Event Message)) : Type 0 where
+    pub usable : new.fault ≡ false → (state new.log).usable ≡ true
+    pub opened : new.fault ≡ false → is_open (state new.log).pending ≡ open_after (is_open (state old.log).pending) events
+    pub failed_reads : (counts old.log).failed_reads ≤ (counts new.log).failed_reads
+    pub write_faults : (counts old.log).write_faults ≤ (counts new.log).write_faults
+    pub added : tells → new.fault ≡ false → Adds effect_of (unplaced_state (state old.log)) events (unplaced_state (state new.log))
+    pub stop : tells → CrashesSinceLeave moment left_since old.log new.log (IsLeft effect_of (unplaced_state (state old.log)) events)
+
+  -- Each refusal has its cause: a read or a write failed in the call, an allocation failed, or the log had no room. A write fault
+  -- is kept.
+  pub record IsCaused {T : Type 0} (old new : StickyLog L) (no_room : Type 0) (result : Result T Refusal) : Type 0 where
+    pub fault : new.fault ≡ is_write_fault result
+    pub read : IsErrOf result (Io Read) → HasGrown (counts old.log).failed_reads (counts new.log).failed_reads
+    pub write : IsErrOf result (Io Write) → HasGrown (counts old.log).write_faults (counts new.log).write_faults
+    pub full : IsErrOf result (Unsupported LogFull) → no_room

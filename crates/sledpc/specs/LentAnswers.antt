@@ -1,0 +1,15 @@
+-- The answers that are lent to a reply, as answers.
+use Rattle.sled_pagecache.specs.Lending.{lent_answer}
+use Rattle.sled_pagecache.specs.declared.pagecache.call.Answer.{Answer}
+use Rattle.sled_pagecache.specs.declared.pagecache.call.Answer.TheVariants.{Allocated, Got, Linked, Replaced, Freed, Flushed, Sized}
+use Rattle.sledpc.specs.declared.script.reply.LentAnswer.{LentAnswer}
+use Rattle.sledpc.specs.declared.script.reply.LentAnswer.TheVariants as lent
+
+abbrev pub answer_of : LentAnswer → Answer
+answer_of (lent.Allocated answer) = Allocated answer.now
+answer_of (lent.Got answer) = Got (lent_answer answer)
+answer_of (lent.Linked answer) = Linked answer.now
+answer_of (lent.Replaced answer) = Replaced answer.now
+answer_of (lent.Freed answer) = Freed answer.now
+answer_of (lent.Flushed answer) = Flushed answer.now
+answer_of (lent.Sized answer) = Sized answer.now
