@@ -30,6 +30,7 @@ const SHORT: &[(&str, &[u8])] = &[
 const LONG: &[(&str, &[u8])] = &[
     ("23 bytes", b"abcdefghijklmnopqrstuvw"),
     ("23 equal bytes", &[6; 23]),
+    ("24 bytes", b"abcdefghijklmnopqrstuvwx"),
     ("26 bytes", LETTERS),
     ("128 bytes", &[4; 128]),
     ("1,000 bytes", &[4; 1000]),
@@ -97,6 +98,7 @@ fn strings_come_from_arrays(rt: HostRuntime) -> Result<(), Fail> {
         ("2 bytes", comes_from_array(alloc, [1, 2])?),
         ("22 bytes", comes_from_array(alloc, [7; 22])?),
         ("23 bytes", comes_from_array(alloc, [7; 23])?),
+        ("24 bytes", comes_from_array(alloc, [7; 24])?),
         ("128 bytes", comes_from_array(alloc, [4; 128])?),
         ("1,000 bytes", comes_from_array(alloc, [4; 1000])?),
     ] {
@@ -161,7 +163,15 @@ fn a_part_is_so_many_bytes_from_its_place_on(rt: HostRuntime) -> Result<(), Fail
             25,
             b"bcdefghijklmnopqrstuvwxyz",
         ),
+        (
+            "24 of 26 bytes",
+            LETTERS,
+            1,
+            24,
+            b"bcdefghijklmnopqrstuvwxy",
+        ),
         ("no byte at the end of 26", LETTERS, 26, 0, b""),
+        ("999 of 1,000 bytes", &[4; 1000], 1, 999, &[4; 999]),
     ] {
         assert!(rt; is_part(rt.alloc(), whole, offset, len, part)?, "{row}");
     }

@@ -2,6 +2,8 @@ use super::*;
 use std::process::Abort;
 use std::test::Fail;
 
+const LENGTHS: &[PageId] = &[0, 1, 2, 3, 16, 17, 1_000];
+
 // The items, each pushed to the head or to the tail.
 fn pushed(alloc: Global, items: &[(PageId, bool)]) -> Result<DoublyLinkedList, AllocError> {
     let mut list = DoublyLinkedList::default(alloc);
@@ -108,21 +110,80 @@ fn popped(
 
 #[test]
 fn every_item_is_popped_once(rt: HostRuntime) -> Result<(), Fail> {
-    for len in [0, 1, 2, 3, 16, 17, 1_000] {
+    for len in LENGTHS {
         for at_tail in [false, true] {
-            let (mut list, _) = counted(rt.alloc(), len)?;
+            let (mut list, _) = counted(rt.alloc(), *len)?;
             let mut items = popped(rt.alloc(), &mut list, at_tail)?;
             if at_tail {
                 items.reverse();
             }
             let mut row = Vec::new(rt.alloc());
-            for item in 0..len {
+            for item in 0..*len {
                 row.push(item)?;
             }
             assert_eq!(rt; items, row, "{len}");
             assert_eq!(rt; list.pop_head(), None);
             assert_eq!(rt; list.pop_tail(), None);
         }
+    }
+    Ok(())
+}
+
+// Whether these are 0, 1 and so on, so many.
+fn are_counted(items: &[PageId], len: PageId) -> bool {
+    for (place, item) in items.iter().enumerate() {
+        if *item != place as u64 {
+            return false;
+        }
+    }
+    items.len() as u64 == len
+}
+
+// Puts each item, from the head on, at the other end.
+fn turn(list: &mut DoublyLinkedList) -> Result<(), AllocError> {
+    for _ in 0..list.len() {
+        if let Some(item) = list.pop_head() {
+            let _ = list.push_tail(item)?;
+        }
+    }
+    Ok(())
+}
+
+// Whether so many items stand in order that were pushed to the tail, and the other way round once each was promoted.
+fn is_turned(alloc: Global, len: PageId, promotes: bool) -> Result<bool, AllocError> {
+    let (mut list, slots) = counted(alloc, len)?;
+    for slot in &slots {
+        if promotes && promote(&mut list, *slot) != Some(*slot) {
+            return Ok(false);
+        }
+    }
+    turn(&mut list)?;
+    let mut items = list.into_vec()?;
+    if promotes {
+        items.reverse();
+    }
+    Ok(are_counted(&items, len))
+}
+
+// Whether so many items stand the other way round that were pushed to the head.
+fn is_stacked(alloc: Global, len: PageId) -> Result<bool, AllocError> {
+    let mut list = DoublyLinkedList::default(alloc);
+    for item in 0..len {
+        let _ = list.push_head(item)?;
+    }
+    let is_long = list.len() as u64 == len;
+    let mut items = list.into_vec()?;
+    items.reverse();
+    Ok(is_long && are_counted(&items, len))
+}
+
+#[test]
+fn lists_hold_at_each_length(rt: HostRuntime) -> Result<(), Fail> {
+    for len in LENGTHS {
+        let is_so = is_stacked(rt.alloc(), *len)?
+            && is_turned(rt.alloc(), *len, false)?
+            && is_turned(rt.alloc(), *len, true)?;
+        assert!(rt; is_so, "{len} items");
     }
     Ok(())
 }

@@ -49,9 +49,9 @@ fn is_encoding<T: Serialize + PartialEq>(
     Ok(is_read(alloc, bytes, value, &[])? && is_read(alloc, &followed, value, &[7, 8])?)
 }
 
-// Whether the bytes are an encoding of the value, and the one that is written where that is wanted. What is written has the
-// size that is answered, and leaves the bytes behind it.
-fn is_encoded<T: Serialize + PartialEq>(
+// Whether the bytes are the one encoding that is written of the value, or else another. What is written has the size that is
+// answered, and leaves the bytes behind it.
+fn writes<T: Serialize>(
     alloc: Global,
     value: &T,
     bytes: &[u8],
@@ -68,7 +68,20 @@ fn is_encoded<T: Serialize + PartialEq>(
     let mut out = vec![in alloc; 9u8; written.len() + 2]?;
     let end = value.serialize_into(&mut out);
     written.extend_from_slice(&[9, 9])?;
-    Ok(end as u64 == size && out == written && is_encoding(alloc, value, bytes)?)
+    Ok(end as u64 == size && out == written)
+}
+
+// Whether the bytes are an encoding of the value, and the one that is written where that is wanted.
+fn is_encoded<T: Serialize + PartialEq>(
+    alloc: Global,
+    value: &T,
+    bytes: &[u8],
+    is_written: bool,
+) -> Result<bool, AllocError>
+    requires can_write { T.can_write value.now }
+    requires fits { length (T.written value.now) < 2 ^ 64 }
+{
+    Ok(writes(alloc, value, bytes, is_written)? && is_encoding(alloc, value, bytes)?)
 }
 
 // ---- values
@@ -83,6 +96,15 @@ fn is_text(
     bytes.extend_from_slice(text)?;
     let string = IVec::from_slice(alloc, text)?;
     is_encoded(alloc, &string, &bytes, is_written)
+}
+
+// Whether so many bytes 6 are written behind this length, and read again.
+fn is_long_text(alloc: Global, len: usize, length: &[u8]) -> Result<bool, AllocError> {
+    let text = vec![in alloc; 6u8; len]?;
+    let mut bytes = Vec::from_slice(alloc, length)?;
+    bytes.extend_from_slice(&text)?;
+    let string = IVec::from_vec(alloc, text)?;
+    Ok(writes(alloc, &string, &bytes, true)? && is_read(alloc, &bytes, &string, &[])?)
 }
 
 // The greatest optional number can't be written.
@@ -104,6 +126,7 @@ fn agrees(alloc: Global, value: Value, bytes: &[u8], is_written: bool) -> Result
         Value::Pair(a, b) => is_encoded(alloc, &(a, b), bytes, is_written),
         Value::Triple(a, c) => is_encoded(alloc, &(a, (), c), bytes, is_written),
         Value::Text(text) => is_text(alloc, text, bytes, is_written),
+        Value::Sixes(len) => is_long_text(alloc, len, bytes),
     }
 }
 
@@ -241,6 +264,70 @@ fn values_come_to_the_end(rt: HostRuntime) {
     ] {
         assert!(rt; gives(rt.alloc(), input, numbers, is_refused), "{row}");
     }
+}
+
+// A byte string of each length at which it is kept or encoded in another way, and a number of each length.
+const LENS: &[usize] = &[0, 1, 21, 22, 23, 24, 240, 241, 1_000];
+
+fn text_at(alloc: Global, i: u32) -> Result<IVec, AllocError> {
+    let len = LENS.get(i as usize % LENS.len()).copied().unwrap_or(0);
+    IVec::from_vec(alloc, vec![in alloc; (i % 256) as u8; len]?)
+}
+
+fn number_at(i: u32) -> u64 {
+    1 << (i % 64)
+}
+
+// A byte string, a number and the next byte string, one behind the other, so often.
+fn triples(alloc: Global, count: u32) -> Result<Vec<u8>, AllocError> {
+    let mut bytes = Vec::new(alloc);
+    for i in 0..count {
+        bytes.extend_from_slice(&text_at(alloc, i)?.serialize(alloc)?)?;
+        bytes.extend_from_slice(&number_at(i).serialize(alloc)?)?;
+        bytes.extend_from_slice(&text_at(alloc, i + 1)?.serialize(alloc)?)?;
+    }
+    Ok(bytes)
+}
+
+// Whether the value comes next.
+fn is_next<T: Serialize + PartialEq>(values: &mut ConsumeSequence<'_, T>, value: &T) -> bool {
+    match values.next() {
+        Some(Ok(next)) => next == *value,
+        _ => false,
+    }
+}
+
+fn come_as_triples(alloc: Global, input: &[u8], count: u32) -> Result<bool, AllocError> {
+    let mut values = ConsumeSequence::<(IVec, u64, IVec)>::new(alloc, input);
+    for i in 0..count {
+        let triple = (text_at(alloc, i)?, number_at(i), text_at(alloc, i + 1)?);
+        if !is_next(&mut values, &triple) {
+            return Ok(false);
+        }
+    }
+    Ok(values.next().is_none())
+}
+
+fn come_as_pairs(alloc: Global, input: &[u8], count: u32) -> Result<bool, AllocError> {
+    let mut values = ConsumeSequence::<((IVec, u64), IVec)>::new(alloc, input);
+    for i in 0..count {
+        let pair = ((text_at(alloc, i)?, number_at(i)), text_at(alloc, i + 1)?);
+        if !is_next(&mut values, &pair) {
+            return Ok(false);
+        }
+    }
+    Ok(values.next().is_none())
+}
+
+#[test]
+fn as_many_values_come_as_were_written(rt: HostRuntime) -> Result<(), Fail> {
+    for count in [0, 1, 2, 3, 16, 17, 1_000] {
+        let bytes = triples(rt.alloc(), count)?;
+        let is_so = come_as_triples(rt.alloc(), &bytes, count)?
+            && come_as_pairs(rt.alloc(), &bytes, count)?;
+        assert!(rt; is_so, "{count} values");
+    }
+    Ok(())
 }
 
 // The second of the last pair, or none where none is read. The loop ends, since a pair takes a byte where a part of it does.

@@ -104,3 +104,44 @@ fn others_keep_the_bytes_from_before_a_write(rt: HostRuntime) -> Result<(), Fail
     }
     Ok(())
 }
+
+// A string of these bytes: a whole one, or where there are bytes in front of them a part of what is shared with these.
+fn behind(alloc: Global, front: &[u8], bytes: &[u8]) -> Result<IVec, AllocError> {
+    let mut list = Vec::from_slice(alloc, front)?;
+    list.extend_from_slice(bytes)?;
+    IVec::from_vec(alloc, list)?.subslice(front.len(), bytes.len())
+}
+
+// Whether the string, which others hold too, is given out as these bytes, and then written and given out as it was written.
+fn is_held(alloc: Global, string: IVec, bytes: &[u8], lens: &[usize]) -> Result<bool, AllocError> {
+    let mut string = string;
+    let others = others_of(alloc, &string, lens)?;
+    let given = string.clone()?.into_arc(alloc)?.as_slice() == bytes;
+    drop(others);
+    let written = writes(alloc, &mut string, bytes, lens)?;
+    let list = string.into_arc(alloc)?;
+    Ok(given && written && matches!(list.as_slice(), [b'A', back @ ..] if bytes.ends_with(back)))
+}
+
+fn is_held_by_some(alloc: Global, front: &[u8], bytes: &[u8]) -> Result<bool, AllocError> {
+    let len = bytes.len();
+    for lens in [[].as_slice(), &[len], &[len, len]] {
+        if !is_held(alloc, behind(alloc, front, bytes)?, bytes, lens)? {
+            return Ok(false);
+        }
+    }
+    Ok(true)
+}
+
+// One to three hold what is shared.
+#[test]
+fn strings_are_written_whoever_holds_them(rt: HostRuntime) -> Result<(), Fail> {
+    for rows in [&SHORT[1..], LONG] {
+        for (row, bytes) in rows {
+            for front in [b"".as_slice(), b"<"] {
+                assert!(rt; is_held_by_some(rt.alloc(), front, bytes)?, "{row}");
+            }
+        }
+    }
+    Ok(())
+}

@@ -21,6 +21,8 @@ pub(super) enum Value {
     Triple(u8, u32),
     // A byte string, of whose encoding a row has only the length.
     Text(&'static [u8]),
+    // So many bytes 6, with the same.
+    Sixes(usize),
 }
 
 // Rows of a name, a value, and its encoding.
@@ -205,9 +207,14 @@ pub(super) const TEXTS: Rows = &[
     ("21 bytes", Value::Text(&[6; 21]), &[21]),
     ("22 bytes", Value::Text(&[6; 22]), &[22]),
     ("23 bytes", Value::Text(&[6; 23]), &[23]),
+    ("24 bytes", Value::Text(&[6; 24]), &[24]),
     ("240 bytes", Value::Text(&[6; 240]), &[240]),
     ("241 bytes", Value::Text(&[6; 241]), &[241, 1]),
     ("1,000 bytes", Value::Text(&[6; 1000]), &[243, 248]),
+    ("2,287 bytes", Value::Sixes(2287), &[248, 255]),
+    ("2,288 bytes", Value::Sixes(2288), &[249, 0, 0]),
+    ("67,823 bytes", Value::Sixes(67823), &[249, 255, 255]),
+    ("67,824 bytes", Value::Sixes(67824), &[250, 240, 8, 1]),
 ];
 
 // What is read but never written. A value above 240 has a longer encoding too.
