@@ -2,6 +2,7 @@ ghost use Rattle.std.specs.Prelude.{◌≡◌, [], true};
 
 mod blind;
 mod buffered;
+mod corners;
 mod eager;
 mod faulty;
 mod hostile;

@@ -1,0 +1,26 @@
+-- The last message of a recovered page is one of the page's chain.
+use Rattle.std.proofs.Common.{rules, ◌≡◌, SFits, w64, to_z, of_z, List, [], length, slice_index_or, refl, sym, ap, subst, ◌∙◌, arith}
+use Rattle.std.specs.List.{Any, AllZip}
+use Rattle.std.proofs.lemmas.Int.{to_z-of_z}
+use Rattle.sled_base.specs.declared.types.page_state.PageState.{PageState}
+use Rattle.sled_log.specs.Laws.{now-Adds}
+use Rattle.sled_log.specs.LogState.{now}
+use Rattle.sled_log.specs.Memory.{state_of}
+use Rattle.sled_log.specs.Messages.{Chain, effect_of_entry}
+use Rattle.sled_log.specs.Pages.{IsAt, IsPageState}
+use Rattle.sled_log.specs.ZipLaws.{zip-at}
+use Rattle.sled_log.proofs.tests.corners.read_last.Goals as goal
+
+pub read-requires : goal.read-requires
+read-requires c =
+    let old = state_of c.args.log.now in
+    let new = state_of c.recover.new.self in
+    let ensures = c.in_ok-pages.ensures in
+    let same : now effect_of_entry new ≡ now effect_of_entry old = now-Adds effect_of_entry old new [] (ensures.called.added tt) in
+    let lookup = c.in-Some.ensures.lookup in
+    let page = c.in-Some.page.now in
+    let pages = c.deref.result.now in
+    let zipped = subst (λ (l : List PageState). AllZip IsPageState (now effect_of_entry old) l) (sym c.deref.ensures.value) ensures.pages in
+    let shape : IsPageState (slice_index_or (now effect_of_entry old) c.args.pid []) page = subst (IsPageState (slice_index_or (now effect_of_entry old) c.args.pid [])) (sym lookup.1) (zip-at IsPageState c.args.pid (now effect_of_entry old) pages [] page zipped lookup.3.0) in
+    let fits : SFits w64 c.last_of-lsn.result.0 = search rules in
+    record { known = subst (λ (l : List Chain). Any (IsAt (to_z w64 (of_z w64 c.last_of-lsn.result.0)) c.last_of-lsn.result.1) (slice_index_or l c.args.pid [])) (sym same) (rw (to_z-of_z w64 c.last_of-lsn.result.0 fits) (c.last_of-lsn.ensures _ shape)) }
