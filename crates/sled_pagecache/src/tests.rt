@@ -1,3 +1,4 @@
+mod corners;
 mod crashes;
 mod eviction;
 mod failing;
