@@ -1,3 +1,5 @@
+mod corners;
+
 use super::*;
 use std::alloc::AllocError;
 use std::io;

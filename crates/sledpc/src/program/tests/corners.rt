@@ -1,0 +1,260 @@
+// Each command at the corners: leaves of none to 1,000 pairs with short and long keys and values, and pages and stamps by the
+// lengths of their numbers.
+
+use super::*;
+
+/// Commands and their replies, in which `*` stands for pairs, each behind a space, `+` for a value, and `#` for a number.
+type Lines = &'static [(&'static str, &'static str)];
+
+/// What stands for the signs in lines.
+#[derive(Clone, Copy)]
+struct Signs<'a> {
+    pairs: &'a [u8],
+    value: &'a [u8],
+    number: &'a [u8],
+}
+
+/// A script, and what it is to be replied to.
+#[derive(Drop)]
+struct Script {
+    asked: Vec<u8>,
+    wanted: Vec<u8>,
+}
+
+fn new_script(alloc: Global) -> Script {
+    Script {
+        asked: Vec::new(alloc),
+        wanted: Vec::new(alloc),
+    }
+}
+
+// Puts a line behind the text, with what stands for its signs.
+fn put_line(text: &mut Vec<u8>, line: &str, signs: Signs<'_>) -> Result<(), AllocError> {
+    for byte in line.as_bytes() {
+        match *byte {
+            b'*' => text.extend_from_slice(signs.pairs)?,
+            b'+' => text.extend_from_slice(signs.value)?,
+            b'#' => text.extend_from_slice(signs.number)?,
+            other => text.push(other)?,
+        }
+    }
+    text.push(b'\n')?;
+    Ok(())
+}
+
+fn put_lines(script: &mut Script, lines: Lines, signs: Signs<'_>) -> Result<(), AllocError> {
+    for (line, reply) in lines {
+        put_line(&mut script.asked, line, signs)?;
+        put_line(&mut script.wanted, reply, signs)?;
+    }
+    Ok(())
+}
+
+// Puts the lines behind the script, with a number in them.
+fn put_numbered(alloc: Global, script: &mut Script, lines: Lines, number: u64) -> Result<(), Fail> {
+    let number = format!(in alloc; "{number}")?;
+    let signs = Signs {
+        pairs: &[],
+        value: &[],
+        number: number.as_bytes(),
+    };
+    put_lines(script, lines, signs)?;
+    Ok(())
+}
+
+// Whether the script is replied to so.
+fn is_replied(alloc: Global, script: &Script) -> Result<bool, AllocError> {
+    let mut output = Vec::new(alloc);
+    let is_done = ends_so(alloc, &mut script.asked.as_slice(), &mut output, 0, "")?;
+    Ok(is_done && output.as_slice() == script.wanted.as_slice())
+}
+
+// ---- leaves
+
+const COUNTS: &[u32] = &[0, 1, 2, 3, 16, 17, 1_000];
+
+// What stands at the end of each key, and a value: of no byte and of one, or more than is kept in place.
+const TAILS: &[(&str, &str)] = &[
+    ("", "76"),
+    (
+        "7878787878787878787878787878787878787878787878",
+        "767676767676767676767676767676767676767676767676",
+    ),
+];
+
+const OF_PAIRS: Lines = &[
+    ("alloc*", "page 2 1"),
+    ("get 2", "leaf 1*"),
+    ("set 2 1 00 +", "ok 2"),
+    ("get 2", "leaf 2 00=+*"),
+    ("set 2 2 00 -", "ok 3"),
+    ("get 2", "leaf 3 00=-*"),
+    ("del 2 3 00", "ok 4"),
+    ("get 2", "leaf 4*"),
+    ("set 2 3 00 +", "stale 4"),
+    ("replace 2 4", "ok 5"),
+    ("get 2", "leaf 5"),
+    ("replace 2 5*", "ok 6"),
+    ("get 2", "leaf 6*"),
+    ("replace 2 5*", "stale 6"),
+    ("flush", "flushed #"),
+    ("flush", "flushed 0"),
+    ("free 2 6", "ok 7"),
+    ("get 2", "none"),
+    ("replace 2 7*", "gone"),
+    ("alloc*", "page 2 8"),
+    ("get 2", "leaf 8*"),
+    ("alloc*", "page 3 1"),
+    ("get 3", "leaf 1*"),
+];
+
+// So many pairs of a key and no byte. The keys have four bytes and the tail.
+fn pair_words(alloc: Global, tail: &str, count: u32) -> Result<Vec<u8>, Fail> {
+    let mut words = Vec::new(alloc);
+    for i in 0..count {
+        let word = format!(in alloc; " {i:08x}{tail}=-")?;
+        words.extend_from_slice(word.as_bytes())?;
+    }
+    Ok(words)
+}
+
+// How many bytes the log takes up to the flush: two messages with the node of the pairs, whose keys and values have so many bytes,
+// three links, and an empty leaf.
+fn flushed(count: u32, key: u64, value: u64) -> u64 {
+    let mut node = if count > 240 { 9u64 } else { 8 };
+    for _ in 0..count {
+        node = node.saturating_add(key).saturating_add(2);
+    }
+    node.saturating_mul(2)
+        .saturating_add(121)
+        .saturating_add(value)
+}
+
+fn serves_pairs(alloc: Global, tail: &str, value: &str, count: u32) -> Result<bool, Fail> {
+    let pairs = pair_words(alloc, tail, count)?;
+    let (tail_len, value_len) = (tail.len() as u64 / 2, value.len() as u64 / 2);
+    let number = flushed(count, tail_len + 4, value_len);
+    let number = format!(in alloc; "{number}")?;
+    let signs = Signs {
+        pairs: &pairs,
+        value: value.as_bytes(),
+        number: number.as_bytes(),
+    };
+    let mut script = new_script(alloc);
+    put_lines(&mut script, OF_PAIRS, signs)?;
+    Ok(is_replied(alloc, &script)?)
+}
+
+#[test]
+fn commands_serve_at_each_number_of_pairs(rt: HostRuntime) -> Result<(), Fail> {
+    for (tail, value) in TAILS {
+        for count in COUNTS {
+            assert!(rt;
+                serves_pairs(rt.alloc(), tail, value, *count)?,
+                "{count} pairs"
+            );
+        }
+    }
+    Ok(())
+}
+
+// ---- numbers
+
+const OF_A_NEW_PAGE: Lines = &[("alloc", "page # 1")];
+
+// There are pages up to this one.
+const LAST_PAGE: u64 = 2_289;
+
+const PAGES: &[u64] = &[
+    2, 9, 10, 99, 100, 239, 240, 241, 999, 1_000, 2_286, 2_287, 2_288,
+];
+
+const OF_A_PAGE: Lines = &[
+    ("get #", "leaf 1"),
+    ("set # 1 61 62", "ok 2"),
+    ("get #", "leaf 2 61=62"),
+    ("del # 2 61", "ok 3"),
+    ("replace # 3 63=64", "ok 4"),
+    ("get #", "leaf 4 63=64"),
+    ("free # 4", "ok 5"),
+    ("get #", "none"),
+    ("free # 5", "gone"),
+    ("alloc 65=66", "page # 6"),
+    ("get #", "leaf 6 65=66"),
+];
+
+// Numbers above all pages, and stamps that no page has.
+const NO_PAGES: &[u64] = &[
+    2_290,
+    67_823,
+    67_824,
+    (1 << 24) - 1,
+    1 << 24,
+    (1 << 32) - 1,
+    1 << 32,
+    (1 << 37) - 1,
+    1 << 37,
+    (1 << 40) - 1,
+    1 << 40,
+    (1 << 48) - 1,
+    1 << 48,
+    (1 << 56) - 1,
+    1 << 56,
+    (1 << 63) - 1,
+    1 << 63,
+    u64::MAX,
+];
+
+const OF_NO_PAGE: Lines = &[
+    ("get #", "none"),
+    ("set # 1 61 62", "gone"),
+    ("del # # 61", "gone"),
+    ("replace # #", "gone"),
+    ("free # #", "gone"),
+    ("set 2289 # 61 62", "stale 1"),
+    ("del 2289 # 61", "stale 1"),
+    ("replace 2289 # 61=62", "stale 1"),
+    ("free 2289 #", "stale 1"),
+];
+
+fn serves_numbers(alloc: Global) -> Result<bool, Fail> {
+    let mut script = new_script(alloc);
+    for page in 2..=LAST_PAGE {
+        put_numbered(alloc, &mut script, OF_A_NEW_PAGE, page)?;
+    }
+    for page in PAGES {
+        put_numbered(alloc, &mut script, OF_A_PAGE, *page)?;
+    }
+    for number in NO_PAGES {
+        put_numbered(alloc, &mut script, OF_NO_PAGE, *number)?;
+    }
+    Ok(is_replied(alloc, &script)?)
+}
+
+const OF_A_STAMP: Lines = &[("set 2 # 61 62", "ok +")];
+
+// Whether page 2 takes links up to this stamp.
+fn serves_stamps(alloc: Global, last: u64) -> Result<bool, Fail> {
+    let mut script = new_script(alloc);
+    put_numbered(alloc, &mut script, OF_A_NEW_PAGE, 2)?;
+    for stamp in 1..last {
+        let (old, new) = (
+            format!(in alloc; "{stamp}")?,
+            format!(in alloc; "{}", stamp + 1)?,
+        );
+        let signs = Signs {
+            pairs: &[],
+            value: new.as_bytes(),
+            number: old.as_bytes(),
+        };
+        put_lines(&mut script, OF_A_STAMP, signs)?;
+    }
+    Ok(is_replied(alloc, &script)?)
+}
+
+#[test]
+fn commands_serve_at_each_length_of_their_numbers(rt: HostRuntime) -> Result<(), Fail> {
+    assert!(rt; serves_numbers(rt.alloc())?, "pages");
+    assert!(rt; serves_stamps(rt.alloc(), 2_290)?, "stamps");
+    Ok(())
+}
