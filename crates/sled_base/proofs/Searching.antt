@@ -1,7 +1,7 @@
 -- Where a key stands among sorted keys, from how many of them aren't above it.
-use Rattle.std.proofs.Common.{inl, inr, ◌≡◌, ◌≢◌, ℕ, zero, suc, ◌+◌, ◌-◌, ◌<◌, ◌≤◌, true, false, List, [], ◌∷◌, length, get_or, map, refl, sym, ap, subst, ◌∙◌, arith}
-use Rattle.std.specs.Prelude.{All, nat_eq}
-use Rattle.std.specs.List.{AllByRecursion, AllWithin, HoldsAt}
+use Rattle.std.proofs.Common.{inl, inr, ◌≡◌, ◌≢◌, ℕ, zero, suc, ◌+◌, ◌-◌, ◌<◌, ◌≤◌, ◌↔◌, Bool, true, false, List, [], ◌∷◌, length, get_or, map, refl, sym, ap, subst, ◌∙◌, arith}
+use Rattle.std.specs.Prelude.{All, IsTrue, nat_eq}
+use Rattle.std.specs.List.{AllByRecursion, AllWithin, AllAdjacentBelow, IsAllAdjacentAnswer, HoldsAt}
 use Rattle.std.specs.List.Sorted.{IsPartitionedBy, IsPartitionPoint}
 use Rattle.std.specs.declared.cmp.Ordering.{Ordering}
 use Rattle.std.specs.declared.cmp.Ordering.TheVariants.{Less, Equal, Greater}
@@ -50,6 +50,42 @@ key_at f xs i x d is lt = get_or-map f xs i x d lt ∙ ap f (sym is)
 within_map : {X : Type 0} (f : X → Bytes) (P : Bytes → Type 0) (xs : List X) (low high : ℕ) → high ≤ length xs → AllWithin (λ x. P (f x)) xs low high → AllWithin P (map f xs) low high
 within_map f P [] low high le h k d from to = absurd (omega arith)
 within_map f P (x ∷ xs) low high le h k d from to = subst P (sym (get_or-map f (x ∷ xs) k x d (omega arith))) (h k x from to)
+
+-- from tests of each key and the next
+all_above : (low key : Bytes) (keys : List Bytes) → IsAtMost low key → AllByRecursion (IsAtMost key) keys → AllByRecursion (IsAtMost low) keys
+all_above low key [] le h = h
+all_above low key (other ∷ keys) le h = (at_most_trans low key other le h.0, all_above low key keys le h.1)
+
+module _ {X : Type 0} (f : X → Bytes) where
+  -- the test of a key and the next
+  abbrev test : X → X → Bool
+  test x y = is_le (bytes_cmp (f x) (f y))
+
+  passes : (x y : X) → test x y ≡ true → IsAtMost (f x) (f y)
+  passes x y pass below = not_greater (bytes_cmp (f x) (f y)) pass (below_is_above (f y) (f x) below)
+
+  fails : (x y : X) → test x y ≡ false → IsAtMost (f x) (f y) → ⊥
+  fails x y fail le = le (above_is_below (f x) (f y) (test_gt (bytes_cmp (f x) (f y)) fail))
+
+  rises : (x : X) (xs : List X) → AllAdjacentBelow (λ x y. true ≡ test x y) (x ∷ xs) (length (x ∷ xs)) → IsSorted (map f (x ∷ xs))
+  rises x [] h = (tt, tt)
+  rises x (y ∷ ys) h =
+      let behind = rises y ys (λ k d lt. let next : suc k + 1 ≡ suc (k + 1) = omega arith in subst (λ n. true ≡ test (get_or (y ∷ ys) k d) (get_or (x ∷ y ∷ ys) n d)) next (h (suc k) d (omega arith))) in
+      let first = passes x y (sym (h 0 x (omega arith))) in
+      ((first, all_above (f x) (f y) (map f ys) first behind.0), behind)
+
+  falls : (xs : List X) (k : ℕ) → k + 1 < length xs → ((d : X) → false ≡ test (get_or xs k d) (get_or xs (k + 1) d)) → IsSorted (map f xs) → ⊥
+  falls [] k lt h sorted = absurd (omega arith)
+  falls (x ∷ xs) k lt h sorted =
+      let all = x ∷ xs in
+      let order = sorted_at (map f all) k (k + 1) (f x) sorted (omega arith) (rw length-map lt) in
+      fails (get_or all k x) (get_or all (k + 1) x) (sym (h x))
+      (subst (λ a. IsAtMost a (f (get_or all (k + 1) x))) (get_or-map f all k x (f x) (omega arith)) (subst (λ b. IsAtMost (get_or (map f all) k (f x)) b) (get_or-map f all (k + 1) x (f x) lt) order))
+
+  pub sorted_by_test : (xs : List X) (r : Bool) → IsAllAdjacentAnswer (λ x y b. b ≡ is_le (bytes_cmp (f x) (f y))) xs r → IsTrue r ↔ IsSorted (map f xs)
+  sorted_by_test [] true h = (λ _. tt, λ _. refl)
+  sorted_by_test (x ∷ xs) true h = (λ _. rises x xs h, λ _. refl)
+  sorted_by_test xs false h = (λ is. absurd cc, λ sorted. absurd (falls xs h.0 h.1 h.2 sorted))
 
 -- from a partition of the items by the test of their keys
 module _ {X : Type 0} (f : X → Bytes) (key : Bytes) (xs : List X) where

@@ -68,7 +68,7 @@ pub fn fastcmp(l: &[u8], r: &[u8]) -> Ordering
 
 /// The greatest place whose item equals the key. Where none does, the error is how many items are below the key.
 ///
-/// The items have to ascend, and there may be doubles. It allocates nothing.
+/// The items have to ascend, as [`is_sorted`](crate::search::is_sorted) tests, and there may be doubles. It allocates nothing.
 pub fn binary_search(key: &[u8], s: &[IVec]) -> Result<usize, usize>
     requires { IsSorted s.now }
     ensures found { IfOk result (IsLastEqual key.now s.now) }
@@ -80,7 +80,7 @@ pub fn binary_search(key: &[u8], s: &[IVec]) -> Result<usize, usize>
 
 /// The greatest place whose item isn't above the key, or None where every item is above.
 ///
-/// The items have to ascend, and there may be doubles. It allocates nothing.
+/// The items have to ascend, as [`is_sorted`](crate::search::is_sorted) tests, and there may be doubles. It allocates nothing.
 pub fn binary_search_lub(key: &[u8], s: &[IVec]) -> Option<usize>
     requires { IsSorted s.now }
     ensures found { IfSome result (IsLastAtMost key.now s.now) }

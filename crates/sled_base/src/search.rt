@@ -1,6 +1,6 @@
 //! Searches in sorted slices of what has a key.
 
-ghost use Rattle.std.specs.Prelude.{◌≡◌, ◌≢◌, ◌≤◌, length, map, All, IfSome, IfNone, IfOk, IfErr, OnErr};
+ghost use Rattle.std.specs.Prelude.{◌≡◌, ◌≢◌, ◌↔◌, ◌≤◌, length, map, All, IsTrue, IfSome, IfNone, IfOk, IfErr, OnErr};
 ghost use Rattle.sled_base.specs.Order.{IsBelow};
 ghost use Rattle.sled_base.specs.Searches.{IsSorted, IsCountAtMost, IsLastAtMost, IsLastEqual, count_below};
 
@@ -34,9 +34,18 @@ impl<V> Keyed for (IVec, V) {
     }
 }
 
+/// Whether the keys of the items ascend, so that the items can be searched. There may be doubles.
+///
+/// It compares each key with the next, and allocates nothing.
+pub fn is_sorted<T: Keyed>(items: &[T]) -> bool
+    ensures { IsTrue result ↔ IsSorted (map T.key_of items.now) }
+{
+    items.is_sorted_by(|key, next| fastcmp(key.key(), next.key()).is_le())
+}
+
 /// How many items aren't above the key, found by halving. They stand before those that are.
 ///
-/// The keys of the items have to ascend, and there may be doubles.
+/// The keys of the items have to ascend, as [`is_sorted`] tests, and there may be doubles.
 pub fn count_at_most<T: Keyed>(key: &[u8], items: &[T]) -> usize
     requires { IsSorted (map T.key_of items.now) }
     ensures bound { result ≤ length items.now }
@@ -47,7 +56,7 @@ pub fn count_at_most<T: Keyed>(key: &[u8], items: &[T]) -> usize
 
 /// The greatest place whose item isn't above the key, or None where every item is above.
 ///
-/// The keys of the items have to ascend, and there may be doubles.
+/// The keys of the items have to ascend, as [`is_sorted`] tests, and there may be doubles.
 pub fn last_at_most<T: Keyed>(key: &[u8], items: &[T]) -> Option<usize>
     requires { IsSorted (map T.key_of items.now) }
     ensures found { IfSome result (IsLastAtMost key.now (map T.key_of items.now)) }
@@ -58,7 +67,7 @@ pub fn last_at_most<T: Keyed>(key: &[u8], items: &[T]) -> Option<usize>
 
 /// The greatest place whose item equals the key. Where none does, the error is how many items are below the key.
 ///
-/// The keys of the items have to ascend, and there may be doubles.
+/// The keys of the items have to ascend, as [`is_sorted`] tests, and there may be doubles.
 pub fn last_equal<T: Keyed>(key: &[u8], items: &[T]) -> Result<usize, usize>
     requires { IsSorted (map T.key_of items.now) }
     ensures found { IfOk result (IsLastEqual key.now (map T.key_of items.now)) }
