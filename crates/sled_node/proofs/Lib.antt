@@ -13,6 +13,7 @@ pub mod NodeEquality
 pub mod Payloads
 pub mod Roots
 pub mod RootEntries
+pub mod ChangedRoots
 pub mod Sizes
 pub mod Inserts
 pub mod Children

@@ -1,12 +1,12 @@
 -- A finite map from names to root pages, as the list of its names with their roots, in the order of names.
-use Rattle.std.specs.Prelude.{◌≡◌, ℕ, ◌+◌, ◌<◌, ◌^◌, Bool, List, [], ◌∷◌, ◌++◌, map, length, Option, Some, None, if◌then◌else◌}
+use Rattle.std.specs.Prelude.{◌≡◌, ℕ, ◌+◌, ◌<◌, ◌^◌, Bool, true, false, List, [], ◌∷◌, ◌++◌, map, length, Option, Some, None, ⊤, if◌then◌else◌}
 use Rattle.std.specs.BTreeMap.{BTreeMap}
 use Rattle.std.specs.Global.{Vec}
 use Rattle.std.specs.List.{fold, sum_by}
 use Rattle.std.specs.Ordering.{is_eq}
-use Rattle.sled_base.specs.Order.{Bytes, bytes_cmp}
-use Rattle.sled_node.specs.Pairs.{pairs_below, pairs_above, HasPairs}
-use Rattle.sled_node.specs.Limits.{names_limit, page_bytes}
+use Rattle.sled_base.specs.Order.{Bytes, bytes_cmp, is_below}
+use Rattle.sled_node.specs.Pairs.{pairs_below, pairs_above, IsWithinLimit, HasPairs}
+use Rattle.sled_node.specs.Limits.{bytes_limit, names_limit, page_bytes}
 
 abbrev pub Roots : Type 0
 Roots = List (Bytes × ℕ)
@@ -35,6 +35,16 @@ with_root name root roots = pairs_below name roots ++ (name, root) ∷ pairs_abo
 abbrev pub without_root : Bytes → Roots → Roots
 without_root name roots = pairs_below name roots ++ pairs_above name roots
 
+-- the map with that name set to the root, or taken out where there is none
+abbrev pub changed_roots : Bytes → Option ℕ → Roots → Roots
+changed_roots name None roots = without_root name roots
+changed_roots name (Some root) roots = with_root name root roots
+
+-- whether the other name is above the name, or below it
+abbrev pub is_on_side : Bool → Bytes → Bytes → Bool
+is_on_side true name other = is_below name other
+is_on_side false name other = is_below other name
+
 -- the map with the pairs set one after the other, so that a later pair of a name wins
 abbrev pub with_roots : List (Bytes × ℕ) → Roots → Roots
 with_roots pairs roots = fold (λ so_far pair. with_root pair.0 pair.1 so_far) roots pairs
@@ -46,6 +56,21 @@ IsRootMap roots = HasPairs (λ page. page < 2 ^ 64) roots
 -- a name that is missing finds room
 abbrev pub HasRoom : Bytes → Roots → Type 0
 HasRoom name roots = root_of name roots ≡ None → length roots < names_limit
+
+-- a name that is to have a root is above the limit
+abbrev pub IsTooLong : Bytes → Option ℕ → Type 0
+IsTooLong name None = ⊥
+IsTooLong name (Some root) = bytes_limit < length name
+
+-- it is not, but finds no room
+abbrev pub LacksRoom : Bytes → Option ℕ → Roots → Type 0
+LacksRoom name None roots = ⊥
+LacksRoom name (Some root) roots = IsWithinLimit name × ¬ HasRoom name roots
+
+-- or it finds room
+abbrev pub CanChange : Bytes → Option ℕ → Roots → Type 0
+CanChange name None roots = ⊤
+CanChange name (Some root) roots = IsWithinLimit name × HasRoom name roots
 
 -- for each name its length, and what counts for its root
 abbrev pub roots_size : Roots → ℕ

@@ -9,7 +9,7 @@ use Rattle.std.specs.Ordering.{is_lt, is_eq, ordering_reverse}
 use Rattle.std.specs.Cmp.Lexicographic.{nat_list_cmp_total}
 use Rattle.std.proofs.lemmas.Cmp.{tied_itself}
 use Rattle.sled_base.specs.Order.{Bytes, bytes_cmp, is_below, IsBelow}
-use Rattle.sled_base.specs.OrderLaws.{below_is_above, equal_is_same, reversed}
+use Rattle.sled_base.specs.OrderLaws.{below_is_above, above_is_below, below_trans, equal_is_same, reversed}
 use Rattle.sled_node.specs.Pairs.{IsAscending, pairs_below, pairs_above}
 use Rattle.sled_node.specs.Meta.{Roots, is_name, root_of, with_root, without_root, with_roots}
 
@@ -28,6 +28,15 @@ module _ (name : Bytes) where
   comes_last root roots below =
       let both = all_before roots below in
       ap (λ front. front ++ (name, root) ∷ pairs_above name roots) both.0 ∙ ap (λ back. roots ++ (name, root) ∷ back) both.1
+
+  -- where all names are above, all of them stay behind the name
+  all_after : (roots : Roots) → AllByRecursion (λ pair. IsBelow name pair.0) roots → (pairs_below name roots ≡ []) × (pairs_above name roots ≡ roots)
+  all_after [] above = (refl, refl)
+  all_after (pair ∷ roots) above =
+      let others = all_after roots above.1 in
+      let here : is_below name pair.0 ≡ true = ap is_lt above.0 in
+      let there : is_below pair.0 name ≡ false = ap is_lt (below_is_above name pair.0 above.0) in
+      (rw there others.0, rw here (ap (λ rest. pair ∷ rest) others.1))
 
 -- among ascending names each is above those before it
 all_behind : (P : Bytes × ℕ → Type 0) (front : Roots) (pair : Bytes × ℕ) (back : Roots) → AllByRecursion P (front ++ pair ∷ back) → P pair
@@ -150,3 +159,44 @@ module _ (name other : Bytes) (roots : Roots) where
 
   pub stays_where_taken_out : other ≢ name → root_of other (without_root name roots) ≡ root_of other roots
   stays_where_taken_out apart = read_in_turn other lows highs ∙ aside (bytes_cmp other name) refl apart
+
+-- ---- a name that was set and is taken out again
+
+module _ (name : Bytes) (root : ℕ) where
+  above_all : (pair : Bytes × ℕ) (roots : Roots) → IsBelow name pair.0 → AllByRecursion (λ later. IsBelow pair.0 later.0) roots → AllByRecursion (λ later. IsBelow name later.0) roots
+  above_all pair [] lt all = tt
+  above_all pair (x ∷ roots) lt all = (below_trans name pair.0 x.0 lt all.0, above_all pair roots lt all.1)
+
+  -- before names that are above it
+  back_before : (roots : Roots) → AllByRecursion (λ later. IsBelow name later.0) roots → without_root name (with_root name root roots) ≡ roots
+  back_before roots above =
+      let parts = all_after name roots above in
+      let itself = not_below_itself name in
+      let put : with_root name root roots ≡ (name, root) ∷ roots = ap (λ front. front ++ (name, root) ∷ pairs_above name roots) parts.0 ∙ ap (λ back. (name, root) ∷ back) parts.1 in
+      ap (without_root name) put ∙ rw itself (ap (λ front. front ++ pairs_above name roots) parts.0 ∙ parts.1)
+
+  -- behind a name that is below it
+  behind_one : (pair : Bytes × ℕ) (roots : Roots) → IsBelow pair.0 name → (pairs_below name (pair ∷ roots) ≡ pair ∷ pairs_below name roots) × (pairs_above name (pair ∷ roots) ≡ pairs_above name roots)
+  behind_one pair roots lt =
+      let here : is_below pair.0 name ≡ true = ap is_lt lt in
+      let there : is_below name pair.0 ≡ false = ap is_lt (below_is_above pair.0 name lt) in
+      (rw here refl, rw there refl)
+
+  back_one : (pair : Bytes × ℕ) (roots : Roots) → IsAscending (pair ∷ roots) → root_of name (pair ∷ roots) ≡ None → (root_of name roots ≡ None → without_root name (with_root name root roots) ≡ roots)
+      → (o : Ordering) → bytes_cmp name pair.0 ≡ o → without_root name (with_root name root (pair ∷ roots)) ≡ pair ∷ roots
+  back_one pair roots ascending missing others Less is = back_before (pair ∷ roots) (is, above_all pair roots is ascending.0)
+  back_one pair roots ascending missing others Equal is = absurd (let none = rw is at missing in cc)
+  back_one pair roots ascending missing others Greater is =
+      let lt = above_is_below name pair.0 is in
+      let parts = behind_one pair roots lt in
+      let put : with_root name root (pair ∷ roots) ≡ pair ∷ with_root name root roots =
+      ap (λ front. front ++ (name, root) ∷ pairs_above name (pair ∷ roots)) parts.0 ∙ ap (λ back. pair ∷ pairs_below name roots ++ (name, root) ∷ back) parts.1 in
+      let taken = behind_one pair (with_root name root roots) lt in
+      ap (without_root name) put
+      ∙ ap (λ front. front ++ pairs_above name (pair ∷ with_root name root roots)) taken.0 ∙ ap (λ back. pair ∷ pairs_below name (with_root name root roots) ++ back) taken.1
+      ∙ ap (λ rest. pair ∷ rest) (others (rw is at missing))
+
+  -- a name that was missing leaves the map as it was
+  pub taken_back : (roots : Roots) → IsAscending roots → root_of name roots ≡ None → without_root name (with_root name root roots) ≡ roots
+  taken_back [] ascending missing = back_before [] tt
+  taken_back (pair ∷ roots) ascending missing = back_one pair roots ascending missing (λ none. taken_back roots ascending.1 none) (bytes_cmp name pair.0) refl

@@ -16,6 +16,3 @@ pub mod serialization;
 pub use meta::Meta;
 pub use node::{Data, Index, Item, Leaf, Link, Node};
 pub use serialization::{ConsumeSequence, Serialize};
-
-#[cfg(test)]
-mod tests;

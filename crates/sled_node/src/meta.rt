@@ -1,15 +1,18 @@
 //! The root map of a page cache: which page is the root of each named tree.
 
-ghost use Rattle.std.specs.Prelude.{◌≡◌, ◌≢◌, ◌↔◌, ◌<◌, ◌^◌, [], length, IsTrue, IfOk, OnOk, OnErr, nat_eq};
+ghost use Rattle.std.specs.Prelude.{◌≡◌, ◌≢◌, ◌↔◌, ◌<◌, ◌^◌, [], length, None, IsTrue, IfSome, IfOk, IsOk, OnOk, OnErr, nat_eq};
 ghost use Rattle.std.specs.Cmp.{partial_equiv_from_equiv};
 ghost use Rattle.sled_node.specs.Pairs.{IsWithinLimit};
 ghost use Rattle.sled_node.specs.Equality.{same_pairs, index_equiv};
-ghost use Rattle.sled_node.specs.Meta.{named_pages, root_of, with_root, without_root, IsRootMap, HasRoom, roots_size};
+ghost use Rattle.sled_node.specs.Meta.{named_pages, root_of, with_root, without_root, changed_roots, IsRootMap, HasRoom, roots_size};
+ghost use Rattle.sled_node.specs.Payloads.Roots.{written_roots};
 
+mod changed;
 mod names;
 mod payload;
 
-use names::{root_of, set_page, take_page};
+use changed::serialize_changed;
+use names::{put_page, root_of, take_page};
 use sled_base::{IVec, PageId};
 use std::alloc::{AllocError, Global};
 use std::collections::BTreeMap;
@@ -52,7 +55,8 @@ impl Meta {
 
     /// How many names there are.
     pub fn len(&self) -> usize
-        ensures { result ≡ length self.now }
+        ensures value { result ≡ length self.now }
+        ensures map { IsRootMap self.now }
     {
         self.roots.len()
     }
@@ -89,7 +93,20 @@ impl Meta {
         ensures ok { OnOk result (self.new ≡ with_root name root self.old) }
         ensures err { OnErr result (self.new ≡ self.old) }
     {
-        let former = set_page(self.alloc, &mut self.roots, name.as_slice(), root)?;
+        let copy = Vec::from_slice(self.alloc, name.as_slice())?;
+        self.put_root(copy, root)
+    }
+
+    /// The same with a name that the map takes. It fails only where the name isn't there.
+    pub fn put_root(&mut self, name: Vec<u8>, root: PageId) -> Result<Option<PageId>, AllocError>
+        requires name { IsWithinLimit name.items }
+        requires room { HasRoom name.items self.old }
+        ensures former { IfOk result (λ former. former ≡ root_of name.items self.old) }
+        ensures ok { OnOk result (self.new ≡ with_root name.items root self.old) }
+        ensures err { OnErr result (self.new ≡ self.old) }
+        ensures there { root_of name.items self.old ≢ None → IsOk result }
+    {
+        let former = put_page(&mut self.roots, name, root)?;
         Ok(former)
     }
 
@@ -99,6 +116,20 @@ impl Meta {
         ensures value { self.new ≡ without_root name.now self.old }
     {
         take_page(&mut self.roots, name)
+    }
+
+    /// How the map would be written with the name at that root page, or without the name where there is none.
+    ///
+    /// A name with a root page isn't longer than [`MAX_BYTES`](crate::node::MAX_BYTES). An error means that an allocation failed.
+    pub fn serialize_changed(
+        &self,
+        name: &[u8],
+        root: Option<PageId>,
+    ) -> Result<Vec<u8>, AllocError>
+        requires { IfSome root (λ _. IsWithinLimit name.now) }
+        ensures { IfOk result (λ bytes. bytes.items ≡ written_roots (changed_roots name.now root self.now)) }
+    {
+        serialize_changed(self.alloc, self.roots(), name, root)
     }
 
     /// A copy of the names with their root pages, in the order of names. An error means that it could not be allocated.
@@ -155,6 +186,3 @@ impl PartialEq for Meta {
 impl Eq for Meta {
     ghost laws = { index_equiv };
 }
-
-#[cfg(test)]
-mod tests;

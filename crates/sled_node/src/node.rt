@@ -20,7 +20,7 @@ mod link;
 mod lookups;
 mod merge;
 mod neighbours;
-mod pairs;
+pub(crate) mod pairs;
 mod parts;
 mod payload;
 mod sizes;

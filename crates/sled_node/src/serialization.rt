@@ -5,6 +5,3 @@ pub(crate) mod pairs;
 pub(crate) mod short;
 
 pub use sled_base::serialization::{ConsumeSequence, Serialize};
-
-#[cfg(test)]
-mod tests;

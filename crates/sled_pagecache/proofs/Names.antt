@@ -50,13 +50,14 @@ pub use Rattle.sled_node.specs.Payloads.Nodes.{ReadsNode}
 pub use Rattle.sled_node.specs.Payloads.Roots.{ReadsRoots}
 pub use Rattle.sled_pagecache.specs.Accesses.{IsTouched, WasAccessed, capped}
 pub use Rattle.sled_pagecache.specs.Adding.{HasOneMore, RefusesPage}
-pub use Rattle.sled_pagecache.specs.Answers.{Keeps, stamped, swapped}
+pub use Rattle.sled_pagecache.specs.Answers.{Keeps, root_swapped, stamped, swapped}
 pub use Rattle.sled_pagecache.specs.ByIds.{AllById, FitsId}
 pub use Rattle.sled_pagecache.specs.Cache.{Cache, IsAway, IsIn, IsResident, KnowsLog, chain_length, chain_size, unlisted}
 pub use Rattle.sled_pagecache.specs.Calls.{HasNoRoom, IsBlamed, IsSameOpening, IsStep, StepOver, Steps}
 pub use Rattle.sled_pagecache.specs.ChainReads.{IsFoundAs, chain_at, more, place_of}
 pub use Rattle.sled_pagecache.specs.Changes.{link_update}
 pub use Rattle.sled_pagecache.specs.Damage.{MeetsDamage, ReportsDamage, ReportsWrong}
+pub use Rattle.sled_pagecache.specs.RootSwaps.{AreKeptRoots, FindsRoots, JudgesRoot, KeepsRoots, PutsMap}
 pub use Rattle.sled_pagecache.specs.StickyLog.{IsCaused, IsOfLog, Went, begun_by, is_write_fault, cache_answer}
 pub use Rattle.sled_pagecache.specs.StickyLogLaws.{HasGrown-since, IsCaused-handed_on, IsCaused-since, Went-last, Went-none, Went-then, now-Went}
 pub use Rattle.sled_pagecache.specs.Judging.{IsJudged, Judges}
@@ -85,15 +86,15 @@ pub use Rattle.sled_pagecache.specs.Stamps.{stamps_to}
 pub use Rattle.sled_pagecache.specs.Starting.{Starts}
 pub use Rattle.sled_pagecache.specs.Starts.{CrashLeaves, HasAdded, IsBlamedOpening, IsFit, IsHindrance, LacksRoomFor, MayBeOpened, Opens, RefusesOpening, WasFull, log_after, only_stable, only_stable_contents}
 pub use Rattle.sled_pagecache.specs.State.{State, contents_of, free_token, greatest_free, later, page, page_at, stamps_of, with_page}
-pub use Rattle.sled_pagecache.specs.Step.{Allocates, Does, Fails, Finds, FindsContent, Flushes, Gets, IsCorruption, IsGone, IsHindered, IsRefused, Links, LinksContent, LinksNode, Outcome, Replaces, Sizes, Swapped, Swaps, SwapsContent, SwapsPage, UnlessFaulty, UnlessReserved, UnlessStale, is_reserved, outcome, unchanged}
+pub use Rattle.sled_pagecache.specs.Step.{Allocates, Does, Fails, Finds, FindsContent, Flushes, Gets, GetsMeta, IsCorruption, IsGone, IsHindered, IsRefused, Links, LinksContent, LinksNode, Outcome, PutsRoots, Replaces, SetsRoot, Sizes, Swapped, Swaps, SwapsContent, SwapsPage, TellsRoot, UnlessFaulty, UnlessReserved, UnlessStale, is_reserved, outcome, unchanged}
 pub use Rattle.sled_pagecache.specs.Swaps.{CanPut, IsLinked, IsRaised, RefusesLink, RefusesSwap, Wrote, content_of, infos_after, linked_length, update_of}
 pub use Rattle.sled_pagecache.specs.Table.{AreOwn, IsBeside, IsConsistent, IsCounter, IsFreeOrNode, IsOwnAt, IsRoots, nodes_in, resident_in, stamps_in}
 pub use Rattle.sled_pagecache.specs.Token.{IsAnswered, Token, pid_of, stamp_of, token}
 pub use Rattle.sled_pagecache.specs.Touching.{AccessesNode, AllStay, FindsNode, IsListedAt, LacksNodes, LosesAtMost, LosesNone, TakesNode, TakesPage}
 pub use Rattle.sled_pagecache.specs.declared.pagecache.accesses.Accesses.{Accesses}
-pub use Rattle.sled_pagecache.specs.declared.pagecache.call.Answer.TheVariants.{Allocated, Flushed, Freed, Got, Linked, Replaced, Sized}
+pub use Rattle.sled_pagecache.specs.declared.pagecache.call.Answer.TheVariants.{Allocated, Flushed, FoundRoot, Freed, Got, GotMeta, Linked, Replaced, RootSwapped, Sized}
 pub use Rattle.sled_pagecache.specs.declared.pagecache.call.Answer.{Answer}
-pub use Rattle.sled_pagecache.specs.declared.pagecache.call.Call.TheVariants.{Allocate, Flush, Get, Replace, SizeOnDisk}
+pub use Rattle.sled_pagecache.specs.declared.pagecache.call.Call.TheVariants.{Allocate, CasRoot, Flush, Get, GetMeta, MetaPidForName, Replace, SizeOnDisk}
 pub use Rattle.sled_pagecache.specs.declared.pagecache.page.CacheInfo.{CacheInfo}
 pub use Rattle.sled_pagecache.specs.declared.pagecache.call.Call.{Call}
 pub use Rattle.sled_pagecache.specs.declared.pagecache.config.Config.{Config}

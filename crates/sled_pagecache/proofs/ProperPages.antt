@@ -12,14 +12,28 @@ all-set P i xs x h p = by-id-all P (set xs i x) (set-by-id (λ _. P) xs i x (all
 
 -- ---- a page changes, or is added
 
-pub proper-set : (pages : List Messages) (contents : List Content) (pid : ℕ) (told : Messages) (content : Content)
-    → IsProper pages contents → 2 ≤ pid → length told ≤ 10 → IsUsers content
+pub proper-set-own : (pages : List Messages) (contents : List Content) (pid : ℕ) (told : Messages) (content : Content)
+    → IsProper pages contents → length told ≤ 10 → IsOwnAt pid content
     → IsProper (slice_set pages pid told) (slice_set contents pid content)
-proper-set pages contents pid told content proper from fits node = record {
-  own = set-by-id IsOwnAt contents pid content proper.own ((past-two AreRoots IsCounter IsUsers pid content from).0 node);
+proper-set-own pages contents pid told content proper fits own = record {
+  own = set-by-id IsOwnAt contents pid content proper.own own;
   short = all-set _ pid pages told proper.short fits;
   few = subst (λ n. n ≤ 2 ^ 37) (sym (length-set contents pid content)) proper.few;
 }
+
+pub proper-set : (pages : List Messages) (contents : List Content) (pid : ℕ) (told : Messages) (content : Content)
+    → IsProper pages contents → 2 ≤ pid → length told ≤ 10 → IsUsers content
+    → IsProper (slice_set pages pid told) (slice_set contents pid content)
+proper-set pages contents pid told content proper from fits node =
+    proper-set-own pages contents pid told content proper fits ((past-two AreRoots IsCounter IsUsers pid content from).0 node)
+
+-- a content of the cache's own, in place of what its page held
+pub put-own : (pages : List Messages) (contents : List Content) → Hold pages contents → IsProper pages contents → (pid : ℕ) (m : Message) (content : Content) → IsOwnAt pid content → pid < length contents
+    → IsProper (if pid == length pages then pages ++ (m ∷ []) ∷ [] else slice_set pages pid (m ∷ [])) (if pid == length contents then contents ++ content ∷ [] else slice_set contents pid content)
+put-own pages contents hold proper pid m content own lt =
+    let long = AllZip-long Holds pages contents hold in
+    rw (ne_eqb pid (length pages) (λ same. omega (arith, same, lt, long)), ne_eqb pid (length contents) (λ same. omega (arith, same, lt)))
+    (proper-set-own pages contents pid (m ∷ []) content proper (omega arith) own)
 
 pub proper-add : (pages : List Messages) (contents : List Content) (told : Messages) (content : Content)
     → IsProper pages contents → 2 ≤ length contents → length contents < 2 ^ 37 → length told ≤ 10 → IsUsers content

@@ -25,7 +25,7 @@ module _ {L : Type 0} (g : Ghosts L) where
     pub proper : IsProper (chains_from effect_of (log.now effect_of (log.unplaced_state (g.state l))) (Change pid (message_of (Put content)))) (contents_from (now held) (Change pid (Put content)))
 
   -- what the log holds makes the contents, which are as many as the pages
-  holds_unplaced : (cache : Cache L) (held : Logged) (s : State) → IsIn g cache held s → s.fault ≡ false → Hold (log.now effect_of (log.unplaced_state (g.state cache.log))) (now held)
+  pub holds_unplaced : (cache : Cache L) (held : Logged) (s : State) → IsIn g cache held s → s.fault ≡ false → Hold (log.now effect_of (log.unplaced_state (g.state cache.log))) (now held)
   holds_unplaced cache held s is clear =
       let logged = (is.known clear).logged in
       holds-after (log.unplaced_state (g.state cache.log)).stable held.stable (log.unplaced_state (g.state cache.log)).pending held.pending logged.stable logged.pending
@@ -38,7 +38,7 @@ module _ {L : Type 0} (g : Ghosts L) where
       known : (held : Logged) (s : State) → IsIn g (cache before table) held s → s.fault ≡ false → AreKnown s.pages table
       known held s is clear = known-in g (cache before table) table held s is clear refl beside
 
-      many : (held : Logged) (s : State) → IsIn g (cache before table) held s → s.fault ≡ false → length (now held) ≡ length table
+      pub many : (held : Logged) (s : State) → IsIn g (cache before table) held s → s.fault ≡ false → length (now held) ≡ length table
       many held s is clear =
           ap length (sym (is.known clear).contents) ∙ length-map s.pages (λ (p : StampedPage). p.content) ∙ known-length s.pages table (known held s is clear)
 

@@ -1,5 +1,5 @@
--- What always holds of a cache's table stays so where a page from 2 on changes, or one is added.
-use Rattle.sled_pagecache.proofs.Names.{◌≡◌, ◌≤◌, ◌<◌, ◌+◌, ◌^◌, ℕ, zero, suc, Bool, true, false, cond, List, [], ◌∷◌, ◌++◌, length, map, Some, Result, Ok, Err, slice_get, slice_set, refl, sym, ◌∙◌, ap, subst, arith, length-append, length-set, none-some, same_Some, AllByRecursion, AllZip, list_all, LogKind, Read, Write, Refusal, Io, is_open, open_after, Counts, is_linking, may_follow, is_chain, Event, Change, Message, Entry, Chain, Messages, unplaced, effect_of, effect_of_entry, IsSized, AreChains, chains-are, now-unplaced, zip-append, zip-set, WholeNode, chain_at, Went, begun_by, now-Went, IsKept, is_free, free_ids, IsCounter, IsFreeOrNode, IsRoots, IsConsistent, StickyLog, Page}
+-- What always holds of a cache's table stays so where a page changes, or one is added.
+use Rattle.sled_pagecache.proofs.Names.{◌≡◌, ◌≤◌, ◌<◌, ◌+◌, ◌^◌, ℕ, zero, suc, Bool, true, false, cond, List, [], ◌∷◌, ◌++◌, length, map, Some, Result, Ok, Err, slice_get, slice_set, refl, sym, ◌∙◌, ap, subst, arith, length-append, length-set, none-some, same_Some, AllByRecursion, AllZip, list_all, LogKind, Read, Write, Refusal, Io, is_open, open_after, Counts, is_linking, may_follow, is_chain, Event, Change, Message, Entry, Chain, Messages, unplaced, effect_of, effect_of_entry, IsSized, AreChains, chains-are, now-unplaced, zip-append, zip-set, WholeNode, chain_at, Went, begun_by, now-Went, IsKept, is_free, free_ids, IsCounter, IsFreeOrNode, IsRoots, IsOwnAt, IsConsistent, StickyLog, Page}
 use Rattle.sled_base.specs.declared.kinds.LogKind.TheVariants as kinds
 use Rattle.sled_log.specs.LogState as log
 use Rattle.sled_pagecache.proofs.ByIds.{add-by-id, past-two, set-by-id}
@@ -65,11 +65,11 @@ pub record IsSet (tells : Type 0) (old new : log.LogState Entry) (pid : ℕ) (pa
   pub sized : tells → AllByRecursion IsSized (log.now effect_of_entry new)
 
 module _ {L : Type 0} (tells : Type 0) (state : L → log.LogState Entry) (old new : StickyLog L) (pages : List Page) (free free_then : List ℕ) (c : IsConsistent tells state old pages free) (ready : old.fault ≡ false) where
-  pub consistent-set : (pid : ℕ) (page : Page) → 2 ≤ pid → IsFreeOrNode page.kept → length page.infos.items ≤ 10
+  pub consistent-set-own : (pid : ℕ) (page : Page) → IsOwnAt pid page.kept → length page.infos.items ≤ 10
       → (new.fault ≡ false → IsSet tells (state old.log) (state new.log) pid page)
       → free_then ≡ free_ids 0 (slice_set pages pid page)
       → IsConsistent tells state new (slice_set pages pid page) free_then
-  consistent-set pid page from node short set frees = record {
+  consistent-set-own pid page own short set frees = record {
     beside = λ clear.
         let done = set clear in
         let beside = c.beside ready in
@@ -82,12 +82,18 @@ module _ {L : Type 0} (tells : Type 0) (state : L → log.LogState Entry) (old n
           chains = done.chains;
           sized = done.sized;
         };
-    own = set-by-id _ pages pid page c.own ((past-two IsRoots IsCounter IsFreeOrNode pid page.kept from).0 node);
+    own = set-by-id _ pages pid page c.own own;
     both = subst (λ n. 2 ≤ n) (sym (length-set pages pid page)) c.both;
     short = all-set _ pid pages page c.short short;
     few = subst (λ n. n ≤ 2 ^ 37) (sym (length-set pages pid page)) c.few;
     free = frees;
   }
+
+  pub consistent-set : (pid : ℕ) (page : Page) → 2 ≤ pid → IsFreeOrNode page.kept → length page.infos.items ≤ 10
+      → (new.fault ≡ false → IsSet tells (state old.log) (state new.log) pid page)
+      → free_then ≡ free_ids 0 (slice_set pages pid page)
+      → IsConsistent tells state new (slice_set pages pid page) free_then
+  consistent-set pid page from node short set frees = consistent-set-own pid page ((past-two IsRoots IsCounter IsFreeOrNode pid page.kept from).0 node) short set frees
 
   -- nothing comes to the log, but where a write fault is kept
   pub consistent-same : (moment : L → ℕ) (left_since : L → ℕ → List Messages → Type 0) (counts : L → Counts) (events : List (Event Message))
@@ -112,7 +118,7 @@ module _ {L : Type 0} (tells : Type 0) (state : L → log.LogState Entry) (old n
   }
 
   module _ (moment : L → ℕ) (left_since : L → ℕ → List Messages → Type 0) (counts : L → Counts) (pid : ℕ) (m : Message) (went : Went tells state moment left_since counts old new (Change pid m ∷ []))
-      (page : Page) (own : IsFreeOrNode page.kept) (short : length page.infos.items ≤ 10) (is_kept : tells → IsKept (chain_at (state new.log) pid) page)
+      (page : Page) (short : length page.infos.items ≤ 10) (is_kept : tells → IsKept (chain_at (state new.log) pid) page)
       (sized : tells → AllByRecursion IsSized (log.now effect_of_entry (state new.log))) where
     still-closed : new.fault ≡ false → is_open (state new.log).pending ≡ false
     still-closed clear = went-closed tells state moment left_since counts old new (Change pid m ∷ []) went (λ was. refl) clear (c.beside ready).closed
@@ -120,12 +126,19 @@ module _ {L : Type 0} (tells : Type 0) (state : L → log.LogState Entry) (old n
     still-chains : new.fault ≡ false → tells → AreChains effect_of_entry (log.now effect_of_entry (state new.log))
     still-chains clear known = went-chains tells state moment left_since counts old new (Change pid m ∷ []) went known clear ((c.beside ready).chains known)
 
-    -- a content was put on a page
+    -- a content was put on a page, from 2 on or one of the cache's own
+    pub consistent-put-own : IsOwnAt pid page.kept → (tells → log.now effect_of_entry (state new.log) ≡ slice_set (log.now effect_of_entry (state old.log)) pid (chain_at (state new.log) pid))
+        → free_then ≡ free_ids 0 (slice_set pages pid page) → IsConsistent tells state new (slice_set pages pid page) free_then
+    consistent-put-own own others frees =
+        consistent-set-own pid page own short
+        (λ clear. record { usable = went.usable clear; closed = still-closed clear; kept = is_kept; others = others; chains = still-chains clear; sized = sized }) frees
+
+  module _ (moment : L → ℕ) (left_since : L → ℕ → List Messages → Type 0) (counts : L → Counts) (pid : ℕ) (m : Message) (went : Went tells state moment left_since counts old new (Change pid m ∷ []))
+      (page : Page) (own : IsFreeOrNode page.kept) (short : length page.infos.items ≤ 10) (is_kept : tells → IsKept (chain_at (state new.log) pid) page)
+      (sized : tells → AllByRecursion IsSized (log.now effect_of_entry (state new.log))) where
     pub consistent-put : 2 ≤ pid → (tells → log.now effect_of_entry (state new.log) ≡ slice_set (log.now effect_of_entry (state old.log)) pid (chain_at (state new.log) pid))
         → free_then ≡ free_ids 0 (slice_set pages pid page) → IsConsistent tells state new (slice_set pages pid page) free_then
-    consistent-put from others frees =
-        consistent-set pid page from own short
-        (λ clear. record { usable = went.usable clear; closed = still-closed clear; kept = is_kept; others = others; chains = still-chains clear; sized = sized }) frees
+    consistent-put from others frees = consistent-put-own moment left_since counts pid m went page short is_kept sized ((past-two IsRoots IsCounter IsFreeOrNode pid page.kept from).0 own) others frees
 
     -- a content was put on a new page
     pub consistent-new : length pages < 2 ^ 37 → (tells → log.now effect_of_entry (state new.log) ≡ log.now effect_of_entry (state old.log) ++ chain_at (state new.log) pid ∷ [])
@@ -133,11 +146,11 @@ module _ {L : Type 0} (tells : Type 0) (state : L → log.LogState Entry) (old n
     consistent-new room others frees = record {
       beside = λ clear. record {
         usable = went.usable clear;
-        closed = still-closed clear;
+        closed = still-closed moment left_since counts pid m went page short is_kept sized clear;
         kept = λ known.
             subst (λ (l : List Chain). AllZip IsKept l (pages ++ page ∷ [])) (sym (others known))
             (zip-append IsKept (log.now effect_of_entry (state old.log)) pages (chain_at (state new.log) pid ∷ []) (page ∷ []) ((c.beside ready).kept known) (is_kept known, tt));
-        chains = still-chains clear;
+        chains = still-chains moment left_since counts pid m went page short is_kept sized clear;
         sized = sized;
       };
       own = add-by-id _ pages page c.own ((past-two IsRoots IsCounter IsFreeOrNode (length pages) page.kept c.both).0 own);

@@ -1,9 +1,10 @@
 -- What is known of a call's answer over any log, whether or not its device tells its bytes.
-use Rattle.std.specs.Prelude.{◌≡◌, ◌==◌, ◌||◌, ℕ, Bool, true, false, List, [], ◌∷◌, ◌++◌, length, Option, Result, Ok, Err, IfOk, OnErr, IsErrOf, slice_set, if◌then◌else◌}
+use Rattle.std.specs.Prelude.{◌≡◌, ◌==◌, ◌||◌, ℕ, Bool, true, false, List, [], ◌∷◌, ◌++◌, ◌+◌, length, Option, Result, Ok, Err, IfOk, OnErr, IsErrOf, slice_set, slice_index_or, if◌then◌else◌}
 use Rattle.sled_base.specs.declared.types.Device.TheVariants.{Write}
 use Rattle.sled_base.specs.declared.types.Error.{Error}
 use Rattle.sled_base.specs.declared.types.Error.TheVariants.{Io}
 use Rattle.sled_pagecache.specs.Cache.{Cache}
+use Rattle.sled_pagecache.specs.Limits.{meta_pid}
 use Rattle.sled_pagecache.specs.Token.{Token}
 
 -- whether the answer is a write fault
@@ -23,6 +24,11 @@ pub record Keeps {L T : Type 0} (old new : Cache L) (result : Result T Error) (s
 -- the stamps with that of a token, whose page is one of them or the next new one
 abbrev pub stamped : List ℕ → Token → List ℕ
 stamped stamps token = if token.pid == length stamps then stamps ++ token.stamp ∷ [] else slice_set stamps token.pid token.stamp
+
+-- the stamps after a swap of a root
+abbrev pub root_swapped : List ℕ → Result (Unit {0}) (Option ℕ) → List ℕ
+root_swapped stamps (Ok done) = slice_set stamps meta_pid (slice_index_or stamps meta_pid 0 + 1)
+root_swapped stamps (Err root) = stamps
 
 -- the stamps after a swap
 abbrev pub swapped : {R : Type 0} → List ℕ → Result Token (Option (Token × R)) → List ℕ

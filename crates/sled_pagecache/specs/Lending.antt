@@ -6,6 +6,7 @@ use Rattle.sled_base.specs.Errors.{error_of}
 use Rattle.sled_base.specs.declared.types.Error.{Error}
 use Rattle.sled_base.specs.declared.types.Refusal.{Refusal}
 use Rattle.sled_log.specs.declared.log.Log.{Ghosts}
+use Rattle.sled_node.specs.Meta.{Roots}
 use Rattle.sled_node.specs.Node.{WholeNode}
 use Rattle.sled_pagecache.specs.Answers.{Keeps}
 use Rattle.sled_pagecache.specs.Cache.{Cache, IsResident, IsAway}
@@ -17,6 +18,7 @@ use Rattle.sled_pagecache.specs.Step.{is_reserved}
 use Rattle.sled_pagecache.specs.Token.{Token}
 use Rattle.sled_pagecache.specs.declared.pagecache.call.Answer.TheVariants.{Got}
 use Rattle.sled_pagecache.specs.declared.pagecache.call.Call.TheVariants.{Get}
+use Rattle.sled_pagecache.specs.declared.pagecache.view.MetaView.{MetaView}
 use Rattle.sled_pagecache.specs.declared.pagecache.view.NodeView.{NodeView}
 use Rattle.sled_pagecache.specs.contracts.pagecache.cache.PageCache.{the_row}
 
@@ -25,6 +27,11 @@ abbrev pub lent_answer : Result (Option NodeView) Refusal → Result (Option (To
 lent_answer (Ok None) = Ok None
 lent_answer (Ok (Some view)) = Ok (Some (view.token, view.node.now))
 lent_answer (Err refusal) = Err (error_of refusal)
+
+-- the same of the map of named roots
+abbrev pub told_meta : Result MetaView Refusal → Result (Token × Roots) Error
+told_meta (Ok view) = Ok (view.token, view.meta.now)
+told_meta (Err refusal) = Err (error_of refusal)
 
 -- The call is one step, and reads the page's messages where the page doesn't lie in memory; then it does. What a refused call
 -- has read isn't kept.

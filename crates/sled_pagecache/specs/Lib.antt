@@ -29,6 +29,7 @@ pub mod Loading
 pub mod Starting
 pub mod Judging
 pub mod Swaps
+pub mod RootSwaps
 pub mod Adding
 pub mod PageTables
 pub mod TableLoans

@@ -22,10 +22,10 @@ use Rattle.sled_pagecache.specs.Rows.{AreSteps, IsRow, StepInRow, IsMade, AreMad
 use Rattle.sled_pagecache.specs.State.{State}
 use Rattle.sled_pagecache.specs.Step.{Outcome, unchanged}
 use Rattle.sled_pagecache.specs.declared.pagecache.call.Answer.{Answer}
-use Rattle.sled_pagecache.specs.declared.pagecache.call.Answer.TheVariants.{Allocated, Got, Linked, Replaced, Freed, Flushed, Sized}
+use Rattle.sled_pagecache.specs.declared.pagecache.call.Answer.TheVariants.{Allocated, Got, Linked, Replaced, Freed, GotMeta, FoundRoot, RootSwapped, Flushed, Sized}
 use Rattle.sled_pagecache.specs.declared.pagecache.call.Call.{Call}
 use Rattle.sled_pagecache.specs.declared.pagecache.call.Call.TheVariants as call
-use Rattle.sled_pagecache.specs.declared.pagecache.call.Call.TheVariants.{Allocate, Get, Link, Replace, Flush, SizeOnDisk}
+use Rattle.sled_pagecache.specs.declared.pagecache.call.Call.TheVariants.{Allocate, Get, Link, Replace, GetMeta, MetaPidForName, CasRoot, Flush, SizeOnDisk}
 
 -- ---- changes that come behind others
 
@@ -97,6 +97,9 @@ module _ {L : Type 0} (g : Ghosts L) where
   step-stuck cache s (Link old link) (Linked answer) out step kept = (taken _ _ s.fault kept step).1
   step-stuck cache s (Replace old node) (Replaced answer) out step kept = (taken _ _ s.fault kept step).1
   step-stuck cache s (call.Free old) (Freed answer) out step kept = (taken _ _ s.fault kept step).1
+  step-stuck cache s GetMeta (GotMeta answer) out step kept = (taken _ _ s.fault kept step).1
+  step-stuck cache s (MetaPidForName name) (FoundRoot answer) out step kept = (taken _ _ s.fault kept step).1
+  step-stuck cache s (CasRoot name old new) (RootSwapped answer) out step kept = (taken _ _ s.fault kept step).1
   step-stuck cache s Flush (Flushed answer) out step kept = (taken _ _ s.fault kept step).1
   step-stuck cache s SizeOnDisk (Sized answer) out step kept = (taken _ _ s.fault kept step).1
   step-stuck cache s asked answer out step kept = absurd step

@@ -10,7 +10,7 @@ use Rattle.sled_pagecache.specs.Logged.{Logged, Adds, IsLeft}
 use Rattle.sled_pagecache.specs.State.{State}
 use Rattle.sled_pagecache.specs.Step.{Outcome}
 use Rattle.sled_pagecache.specs.declared.pagecache.call.Answer.{Answer}
-use Rattle.sled_pagecache.specs.declared.pagecache.call.Answer.TheVariants.{Allocated, Got, Linked, Replaced, Freed, Flushed, Sized}
+use Rattle.sled_pagecache.specs.declared.pagecache.call.Answer.TheVariants.{Allocated, Got, Linked, Replaced, Freed, GotMeta, FoundRoot, RootSwapped, Flushed, Sized}
 use Rattle.sled_pagecache.specs.declared.pagecache.call.Call.{Call}
 
 module _ {L : Type 0} (g : Ghosts L) where
@@ -50,6 +50,9 @@ module _ {L : Type 0} (g : Ghosts L) where
   ReportsFaults old (Linked result) new = IsBlamed g old new result
   ReportsFaults old (Replaced result) new = IsBlamed g old new result
   ReportsFaults old (Freed result) new = IsBlamed g old new result
+  ReportsFaults old (GotMeta result) new = ⊤
+  ReportsFaults old (FoundRoot result) new = ⊤
+  ReportsFaults old (RootSwapped result) new = IsBlamed g old new result
   ReportsFaults old (Flushed result) new = IsBlamed g old new result
   ReportsFaults old (Sized result) new = ⊤
 

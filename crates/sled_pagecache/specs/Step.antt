@@ -1,19 +1,22 @@
 -- The page cache as a machine: which answer a call may get in a state, which state it leaves, and what it begins to write.
-use Rattle.std.specs.Prelude.{◌≡◌, ◌==◌, ◌||◌, ℕ, ◌+◌, ◌-◌, ◌^◌, ◌⊎◌, Bool, true, List, [], ◌∷◌, ◌++◌, length, Option, Some, None, Result, Ok, Err, MatchBool, MatchOption, IsOkAnd}
+use Rattle.std.specs.Prelude.{◌≡◌, ◌≢◌, ◌==◌, ◌||◌, ℕ, ◌+◌, ◌-◌, ◌^◌, ◌⊎◌, Bool, true, List, [], ◌∷◌, ◌++◌, length, Option, Some, None, Result, Ok, Err, MatchBool, MatchOption, IsOkAnd}
 use Rattle.sled_base.specs.declared.types.Bug.TheVariants.{LinkRefused}
 use Rattle.sled_base.specs.declared.types.Device.TheVariants.{Read, Write}
 use Rattle.sled_base.specs.declared.types.Error.{Error}
-use Rattle.sled_base.specs.declared.types.Error.TheVariants.{Unsupported, ReportableBug, Io, Corruption, OutOfMemory}
-use Rattle.sled_base.specs.declared.types.Why.TheVariants.{ReservedId, PagesUsedUp, StampUsedUp, BatchOpen, LogFull}
+use Rattle.sled_base.specs.declared.types.Error.TheVariants.{Unsupported, ReportableBug, Io, Corruption, CollectionNotFound, OutOfMemory}
+use Rattle.sled_base.specs.declared.types.Why.TheVariants.{ReservedId, PagesUsedUp, StampUsedUp, BatchOpen, TooManyNames, NameTooLong, LogFull}
+use Rattle.sled_base.specs.Order.{Bytes}
 use Rattle.sled_node.specs.Links.{Accepts, applied}
+use Rattle.sled_node.specs.Meta as meta
+use Rattle.sled_node.specs.Meta.{IsTooLong, LacksRoom, CanChange}
 use Rattle.sled_node.specs.Node.{WholeNode}
 use Rattle.sled_node.specs.declared.node.link.Link.{Link as NodeLink}
 use Rattle.sled_pagecache.specs.Changes.{link_update}
 use Rattle.sled_pagecache.specs.Limits.{meta_pid, counter_pid, batch_manifest_pid, most_pages}
 use Rattle.sled_pagecache.specs.declared.pagecache.call.Answer.{Answer}
-use Rattle.sled_pagecache.specs.declared.pagecache.call.Answer.TheVariants.{Allocated, Got, Linked, Replaced, Freed, Flushed, Sized}
+use Rattle.sled_pagecache.specs.declared.pagecache.call.Answer.TheVariants.{Allocated, Got, Linked, Replaced, Freed, GotMeta, FoundRoot, RootSwapped, Flushed, Sized}
 use Rattle.sled_pagecache.specs.declared.pagecache.call.Call.{Call}
-use Rattle.sled_pagecache.specs.declared.pagecache.call.Call.TheVariants.{Allocate, Get, Link, Replace, Flush, SizeOnDisk}
+use Rattle.sled_pagecache.specs.declared.pagecache.call.Call.TheVariants.{Allocate, Get, Link, Replace, GetMeta, MetaPidForName, CasRoot, Flush, SizeOnDisk}
 use Rattle.sled_pagecache.specs.declared.pagecache.call.Call.TheVariants as call
 use Rattle.sled_log.specs.Contents.{Content, Free, Counter, Roots, Node, Damaged, Update, Put}
 use Rattle.sled_log.specs.Events.{Event, Change}
@@ -86,6 +89,31 @@ Finds s pid (Some found) answer out = FindsContent s pid found.stamp found.conte
 
 abbrev pub Gets : State → ℕ → Result (Option (Token × WholeNode)) Error → Outcome → Type 0
 Gets s pid answer out = UnlessFaulty s answer out (UnlessReserved s pid answer out (Finds s pid (page_at s pid) answer out))
+
+-- ---- the map of named roots, which page 0 holds
+
+abbrev pub AreRoots : Content → (meta.Roots → Type 0) → Type 0
+AreRoots (Roots roots) holds = holds roots
+AreRoots other holds = ⊥
+
+abbrev pub HoldsRoots : Option StampedPage → (ℕ → meta.Roots → Type 0) → Type 0
+HoldsRoots None holds = ⊥
+HoldsRoots (Some found) holds = AreRoots found.content (λ roots. holds found.stamp roots)
+
+abbrev pub GetsMeta : State → Result (Token × meta.Roots) Error → Outcome → Type 0
+GetsMeta s answer out = UnlessFaulty s answer out (HoldsRoots (page_at s meta_pid) (λ stamp roots. (answer ≡ Ok (token meta_pid stamp, roots)) × (out ≡ unchanged s)))
+
+-- the error holds a copy of the name
+abbrev pub TellsRoot : Bytes → Option ℕ → Result ℕ Error → Type 0
+TellsRoot name None answer = (answer ≡ Err (CollectionNotFound name)) ⊎ (answer ≡ Err OutOfMemory)
+TellsRoot name (Some root) answer = answer ≡ Ok root
+
+abbrev pub FindsRoot : State → Bytes → Result ℕ Error → Outcome → Type 0
+FindsRoot s name answer out = UnlessFaulty s answer out (HoldsRoots (page_at s meta_pid) (λ stamp roots. TellsRoot name (meta.root_of name roots) answer × (out ≡ unchanged s)))
+
+-- what a swap of a root answers: another root that stands there comes back
+abbrev pub RootSwap : Type 0
+RootSwap = Result (Result (Unit {0}) (Option ℕ)) Error
 
 -- ---- flush and size: no page changes, and no change is written
 
@@ -183,6 +211,27 @@ module _ (messages : ℕ → ℕ) (no_room : Event Update → Type 0) where
   abbrev pub Frees : State → Token → Swapped (Unit {0}) → Outcome → Type 0
   Frees s old answer out = Swaps s old tt answer out (λ content. SwapsContent s old (Put Free) Free answer out)
 
+  -- ---- a swap of a named root: the map has that one name at another root, or without it
+
+  abbrev pub PutsRoots : State → ℕ → meta.Roots → RootSwap → Outcome → Type 0
+  PutsRoots s stamp roots answer out =
+      UnlessLastStamp s stamp answer out
+      (Does s (Change meta_pid (Put (Roots roots))) answer out (λ swapped t. (swapped ≡ Ok tt) × (t ≡ with_page s meta_pid (page (stamp + 1) (Roots roots)))))
+
+  -- a name that is to have a root must be short enough, and find room
+  abbrev pub SetsRoot : State → ℕ → Bytes → Option ℕ → meta.Roots → RootSwap → Outcome → Type 0
+  SetsRoot s stamp name new roots answer out =
+      (IsTooLong name new × IsRefused s answer out (Unsupported NameTooLong))
+      ⊎ (LacksRoom name new roots × IsRefused s answer out (Unsupported TooManyNames))
+      ⊎ (CanChange name new roots × PutsRoots s stamp (meta.changed_roots name new roots) answer out)
+
+  abbrev pub SwapsRoot : State → Bytes → Option ℕ → Option ℕ → RootSwap → Outcome → Type 0
+  SwapsRoot s name old new answer out =
+      UnlessFaulty s answer out
+      (HoldsRoots (page_at s meta_pid) (λ stamp roots.
+      ((meta.root_of name roots ≢ old) × (answer ≡ Ok (Err (meta.root_of name roots))) × (out ≡ unchanged s))
+      ⊎ ((meta.root_of name roots ≡ old) × SetsRoot s stamp name new roots answer out)))
+
   -- ---- From s, the cache may give this answer to the call, and leave this.
   abbrev pub Step : State → Call → Answer → Outcome → Type 0
   Step s (Allocate node) (Allocated answer) out = Allocates s node answer out
@@ -190,6 +239,9 @@ module _ (messages : ℕ → ℕ) (no_room : Event Update → Type 0) where
   Step s (Link old link) (Linked answer) out = Links s old link answer out
   Step s (Replace old node) (Replaced answer) out = Replaces s old node answer out
   Step s (call.Free old) (Freed answer) out = Frees s old answer out
+  Step s GetMeta (GotMeta answer) out = GetsMeta s answer out
+  Step s (MetaPidForName name) (FoundRoot answer) out = FindsRoot s name answer out
+  Step s (CasRoot name old new) (RootSwapped answer) out = SwapsRoot s name old new answer out
   Step s Flush (Flushed answer) out = Flushes s answer out
   Step s SizeOnDisk (Sized answer) out = Sizes s answer out
   -- a call gets no answer of another call

@@ -17,6 +17,7 @@ use Rattle.sled_log.specs.Reading.{IsUpdate}
 use Rattle.sled_log.specs.LogState.{LogState, now}
 use Rattle.sled_log.specs.Writing.{message_of}
 use Rattle.sled_node.specs.Links.{Accepts, applied}
+use Rattle.sled_node.specs.Meta as meta
 use Rattle.sled_node.specs.Meta.{IsRootMap}
 use Rattle.sled_node.specs.declared.node.link.Link.{Link as NodeLink}
 use Rattle.sled_pagecache.specs.Changes.{link_update}
@@ -43,6 +44,11 @@ CanPut (Counter n) = n < 2 ^ 64
 CanPut (Roots roots) = IsRootMap roots
 CanPut (Node node) = ⊤
 CanPut Away = ⊥
+
+-- the named roots that are kept
+abbrev pub roots_in : Kept → meta.Roots
+roots_in (Roots roots) = roots
+roots_in other = []
 
 -- the stamp could rise, and rose by one
 abbrev pub IsRaised : ℕ → ℕ → Type 0

@@ -12,7 +12,8 @@ pub mod pagecache;
 pub mod rows;
 
 pub use pagecache::{
-    Answer, CacheInfo, Call, Config, NodeView, Page, PageCache, PageTable, PageView, split_fanout,
+    Answer, CacheInfo, Call, Config, MetaView, NodeView, Page, PageCache, PageTable, PageView,
+    split_fanout,
 };
 pub use sled_base::{
     self, BatchManifest, Bug, ConsumeSequence, Device, DiskPtr, Error, IVec, LogKind, MessageKind,

@@ -7,7 +7,7 @@
 //! - `accesses`: the accesses to pages, by which pages leave memory
 //! - `pages`: the pages of a cache, which stay in memory until they are paged out
 //! - `start`, `recovered`, `own`: opening a cache, the pages that its log recovers, and the cache's own pages
-//! - `add`, `judge`, `swap`: making a page, what the token of a swap is worth, and the swaps
+//! - `add`, `judge`, `swap`, `roots`: making a page, what the token of a swap is worth, the swaps, and the swap of a named root
 //! - `pull`, `chain`, `reading`: reading a page that doesn't lie in memory, its chain, and the node of its messages
 //! - `write`: writing a page's messages to the log
 //! - `page`, `pagetable`, `free`: pages as the cache keeps them, the table of them by their ids, and the ids of the free ones
@@ -28,6 +28,7 @@ mod pagetable;
 mod pull;
 mod reading;
 mod recovered;
+mod roots;
 mod start;
 mod sticky_log;
 mod swap;
@@ -41,7 +42,7 @@ pub use page::{CacheInfo, Page};
 pub use pagetable::{PageTable, split_fanout};
 pub(crate) use pagetable::{CHUNK_BITS, CHUNK_LENGTH};
 use sled_base::PageId;
-pub use view::{NodeView, PageView};
+pub use view::{MetaView, NodeView, PageView};
 
 /// The page of the named roots.
 pub const META_PID: PageId = 0;

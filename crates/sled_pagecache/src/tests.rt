@@ -9,6 +9,7 @@ mod memory;
 mod prefixes;
 mod reads;
 mod recovery;
+mod roots;
 mod writes;
 
 use self::crashes::reopen;

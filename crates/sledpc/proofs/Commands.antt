@@ -1,5 +1,5 @@
 -- Which calls a name and the text behind it ask for.
-use Rattle.std.proofs.Common.{◌≡◌, ◌≢◌, ℕ, ◌<◌, ◌^◌, ◌≤◌, List, [], ◌∷◌, ◌++◌, map, length, get_or, Option, None, Some, IfNone, IfOk, IfSome, Result, Ok, Err, codes, sym, ap, ◌∙◌, subst, arith, rules, refl}
+use Rattle.std.proofs.Common.{◌≡◌, ◌≢◌, ℕ, ◌+◌, ◌*◌, ◌<◌, ◌^◌, ◌≤◌, List, [], ◌∷◌, ◌++◌, map, length, get_or, Option, None, Some, IfNone, IfOk, IfSome, Result, Ok, Err, codes, sym, ap, ◌∙◌, subst, arith, rules, refl}
 use Rattle.std.specs.Fmt.{decimal}
 use Rattle.std.specs.List.{join_with_byte}
 use Rattle.std.specs.Option.{SomeIff}
@@ -14,9 +14,9 @@ use Rattle.sled_node.specs.Node.{Value, WholeNode, leaf_of}
 use Rattle.sled_node.specs.Pairs.{IsWithinLimit, HasPairs}
 use Rattle.sled_pagecache.specs.Token.{Token, token, pid_of, stamp_of}
 use Rattle.sled_pagecache.specs.declared.pagecache.call.Call.{Call}
-use Rattle.sled_pagecache.specs.declared.pagecache.call.Call.TheVariants.{Allocate, Get, Link, Replace, Free, Flush, SizeOnDisk}
-use Rattle.sledpc.specs.Asked.{AsksBehind, AreTwo, BeginsWithToken, EncodeLeaf, at_the_end}
-use Rattle.sledpc.specs.Commands.{Asks, IsToken, Encodes}
+use Rattle.sled_pagecache.specs.declared.pagecache.call.Call.TheVariants.{Allocate, Get, Link, Replace, Free, GetMeta, MetaPidForName, CasRoot, Flush, SizeOnDisk}
+use Rattle.sledpc.specs.Asked.{AsksBehind, AreTwo, BeginsWithToken, EncodeLeaf, EncodeRoots, at_the_end}
+use Rattle.sledpc.specs.Commands.{Asks, IsRootNumber, IsToken, Encodes, IsOfScript, root_word}
 use Rattle.sledpc.specs.Cut.{HasNo}
 use Rattle.sledpc.specs.Settings.{longest_line}
 use Rattle.sledpc.specs.Words.{AreBytes, ArePairs, EncodePairs, bytes_word, pair_word, after_name, HasNoSpace, BeginsLine}
@@ -54,12 +54,35 @@ begins_itself : (word : Bytes) (words : List Bytes) → HasNoSpace word → Begi
 begins_itself word [] plain = (plain, refl)
 begins_itself word (next ∷ words) plain = (plain, refl)
 
--- the names differ in their first byte, or in their second
-abbrev first_byte : List Bytes → ℕ
-first_byte words = get_or (get_or words 0 []) 0 0
+-- the names differ in their first three bytes
+abbrev key_of_name : Bytes → ℕ
+key_of_name name = get_or name 0 0 + 256 * get_or name 1 0 + 65536 * get_or name 2 0
 
-abbrev second_byte : List Bytes → ℕ
-second_byte words = get_or (get_or words 0 []) 1 0
+abbrev key_of : Call → ℕ
+key_of (Allocate node) = 7105633
+key_of (Get pid) = 7628135
+key_of (Link old (Set key value)) = 7628147
+key_of (Link old (Del key)) = 7103844
+key_of (Replace old node) = 7366002
+key_of (Free old) = 6648422
+key_of (MetaPidForName name) = 7303026
+key_of (CasRoot name old new) = 7561571
+key_of Flush = 7695462
+key_of SizeOnDisk = 8022387
+key_of call = 0
+
+asks_by_key : (words : List Bytes) (call : Call) → Asks words call → key_of_name (get_or words 0 []) ≡ key_of call
+asks_by_key words (Allocate node) asks = ap (λ (w : List Bytes). key_of_name (get_or w 0 [])) asks.2
+asks_by_key words (Get pid) asks = ap (λ (w : List Bytes). key_of_name (get_or w 0 [])) asks.1
+asks_by_key words (Link old (Set key value)) asks = ap (λ (w : List Bytes). key_of_name (get_or w 0 [])) asks.3
+asks_by_key words (Link old (Del key)) asks = ap (λ (w : List Bytes). key_of_name (get_or w 0 [])) asks.2
+asks_by_key words (Replace old node) asks = ap (λ (w : List Bytes). key_of_name (get_or w 0 [])) asks.3
+asks_by_key words (Free old) asks = ap (λ (w : List Bytes). key_of_name (get_or w 0 [])) asks.1
+asks_by_key words (MetaPidForName name) asks = ap (λ (w : List Bytes). key_of_name (get_or w 0 [])) asks.1
+asks_by_key words (CasRoot name old new) asks = ap (λ (w : List Bytes). key_of_name (get_or w 0 [])) asks.3
+asks_by_key words Flush asks = ap (λ (w : List Bytes). key_of_name (get_or w 0 [])) asks
+asks_by_key words SizeOnDisk asks = ap (λ (w : List Bytes). key_of_name (get_or w 0 [])) asks
+asks_by_key words call asks = absurd asks
 
 -- ---- the pairs of `alloc` and of `replace`
 
@@ -99,16 +122,8 @@ pub allocate_asked : (text : Option Bytes) (call : Call) → AsksBehind (codes "
 allocate_asked text (Allocate node) asked =
     let e : asked.0 ≡ map pair_word asked.1.0 = cc (asked.1.2) in
     record { node = node; leaf = (asked.1.0, asked.1.1, asked.2 ∙ ap after_name e) }
-allocate_asked text (Get pid) asked = let e : ◌≡◌ {A = ℕ} 97 103 = ap first_byte asked.1.1 in absurd (omega arith)
-allocate_asked text (Link old (Set key value)) asked = let e : ◌≡◌ {A = ℕ} 97 115 = ap first_byte asked.1.3 in absurd (omega arith)
-allocate_asked text (Link old (Del key)) asked = let e : ◌≡◌ {A = ℕ} 97 100 = ap first_byte asked.1.2 in absurd (omega arith)
-allocate_asked text (Link old (ParentMergeIntention page)) asked = absurd (asked.1)
-allocate_asked text (Link old ParentMergeConfirm) asked = absurd (asked.1)
 allocate_asked text (Link old ChildMergeCap) asked = absurd (asked.1)
-allocate_asked text (Replace old node) asked = let e : ◌≡◌ {A = ℕ} 97 114 = ap first_byte asked.1.3 in absurd (omega arith)
-allocate_asked text (Free old) asked = let e : ◌≡◌ {A = ℕ} 97 102 = ap first_byte asked.1.1 in absurd (omega arith)
-allocate_asked text Flush asked = let e : ◌≡◌ {A = ℕ} 97 102 = ap first_byte asked.1 in absurd (omega arith)
-allocate_asked text SizeOnDisk asked = let e : ◌≡◌ {A = ℕ} 97 115 = ap first_byte asked.1 in absurd (omega arith)
+allocate_asked text call asked = let e : ◌≡◌ {A = ℕ} 7105633 (key_of call) = asks_by_key (codes "alloc" ∷ asked.0) call (asked.1) in absurd (omega (arith, e))
 
 -- ---- two words
 
@@ -216,8 +231,6 @@ pub record IsSet (text : Option Bytes) : Type 0 where
   pub token : BeginsWithToken text old rest
 
 pub set_asked : (text : Option Bytes) (call : Call) → AsksBehind (codes "set") text call → IsSet text
-set_asked text (Allocate node) asked = let e : ◌≡◌ {A = ℕ} 115 97 = ap first_byte asked.1.2 in absurd (omega arith)
-set_asked text (Get pid) asked = let e : ◌≡◌ {A = ℕ} 115 103 = ap first_byte asked.1.1 in absurd (omega arith)
 set_asked text (Link old (Set key value)) asked =
     let e : asked.0 ≡ decimal (pid_of old) ∷ decimal (stamp_of old) ∷ bytes_word key ∷ bytes_word value ∷ [] = cc (asked.1.3) in
     record {
@@ -229,14 +242,8 @@ set_asked text (Link old (Set key value)) asked =
       words = record { plain_first = no_space key asked.1.1; joined = refl };
       token = token_in_front text old asked.0 (bytes_word key ∷ bytes_word value ∷ []) asked.1.0 asked.2 e;
     }
-set_asked text (Link old (Del key)) asked = let e : ◌≡◌ {A = ℕ} 115 100 = ap first_byte asked.1.2 in absurd (omega arith)
-set_asked text (Link old (ParentMergeIntention page)) asked = absurd (asked.1)
-set_asked text (Link old ParentMergeConfirm) asked = absurd (asked.1)
 set_asked text (Link old ChildMergeCap) asked = absurd (asked.1)
-set_asked text (Replace old node) asked = let e : ◌≡◌ {A = ℕ} 115 114 = ap first_byte asked.1.3 in absurd (omega arith)
-set_asked text (Free old) asked = let e : ◌≡◌ {A = ℕ} 115 102 = ap first_byte asked.1.1 in absurd (omega arith)
-set_asked text Flush asked = let e : ◌≡◌ {A = ℕ} 115 102 = ap first_byte asked.1 in absurd (omega arith)
-set_asked text SizeOnDisk asked = let e : ◌≡◌ {A = ℕ} 101 105 = ap second_byte asked.1 in absurd (omega arith)
+set_asked text call asked = let e : ◌≡◌ {A = ℕ} 7628147 (key_of call) = asks_by_key (codes "set" ∷ asked.0) call (asked.1) in absurd (omega (arith, e))
 
 -- what a text behind `del` encodes
 pub record IsDel (text : Option Bytes) : Type 0 where
@@ -246,19 +253,11 @@ pub record IsDel (text : Option Bytes) : Type 0 where
   pub token : BeginsWithToken text old (Some (bytes_word key))
 
 pub del_asked : (text : Option Bytes) (call : Call) → AsksBehind (codes "del") text call → IsDel text
-del_asked text (Allocate node) asked = let e : ◌≡◌ {A = ℕ} 100 97 = ap first_byte asked.1.2 in absurd (omega arith)
-del_asked text (Get pid) asked = let e : ◌≡◌ {A = ℕ} 100 103 = ap first_byte asked.1.1 in absurd (omega arith)
-del_asked text (Link old (Set key value)) asked = let e : ◌≡◌ {A = ℕ} 100 115 = ap first_byte asked.1.3 in absurd (omega arith)
 del_asked text (Link old (Del key)) asked =
     let e : asked.0 ≡ decimal (pid_of old) ∷ decimal (stamp_of old) ∷ bytes_word key ∷ [] = cc (asked.1.2) in
     record { old = old; key = key; bytes = asked.1.1; token = token_in_front text old asked.0 (bytes_word key ∷ []) asked.1.0 asked.2 e }
-del_asked text (Link old (ParentMergeIntention page)) asked = absurd (asked.1)
-del_asked text (Link old ParentMergeConfirm) asked = absurd (asked.1)
 del_asked text (Link old ChildMergeCap) asked = absurd (asked.1)
-del_asked text (Replace old node) asked = let e : ◌≡◌ {A = ℕ} 100 114 = ap first_byte asked.1.3 in absurd (omega arith)
-del_asked text (Free old) asked = let e : ◌≡◌ {A = ℕ} 100 102 = ap first_byte asked.1.1 in absurd (omega arith)
-del_asked text Flush asked = let e : ◌≡◌ {A = ℕ} 100 102 = ap first_byte asked.1 in absurd (omega arith)
-del_asked text SizeOnDisk asked = let e : ◌≡◌ {A = ℕ} 100 115 = ap first_byte asked.1 in absurd (omega arith)
+del_asked text call asked = let e : ◌≡◌ {A = ℕ} 7103844 (key_of call) = asks_by_key (codes "del" ∷ asked.0) call (asked.1) in absurd (omega (arith, e))
 
 -- what a text behind `replace` encodes
 pub record IsReplace (text : Option Bytes) : Type 0 where
@@ -269,20 +268,12 @@ pub record IsReplace (text : Option Bytes) : Type 0 where
   pub token : BeginsWithToken text old rest
 
 pub replace_asked : (text : Option Bytes) (call : Call) → AsksBehind (codes "replace") text call → IsReplace text
-replace_asked text (Allocate node) asked = let e : ◌≡◌ {A = ℕ} 114 97 = ap first_byte asked.1.2 in absurd (omega arith)
-replace_asked text (Get pid) asked = let e : ◌≡◌ {A = ℕ} 114 103 = ap first_byte asked.1.1 in absurd (omega arith)
-replace_asked text (Link old (Set key value)) asked = let e : ◌≡◌ {A = ℕ} 114 115 = ap first_byte asked.1.3 in absurd (omega arith)
-replace_asked text (Link old (Del key)) asked = let e : ◌≡◌ {A = ℕ} 114 100 = ap first_byte asked.1.2 in absurd (omega arith)
-replace_asked text (Link old (ParentMergeIntention page)) asked = absurd (asked.1)
-replace_asked text (Link old ParentMergeConfirm) asked = absurd (asked.1)
-replace_asked text (Link old ChildMergeCap) asked = absurd (asked.1)
 replace_asked text (Replace old node) asked =
     let pairs = asked.1.1 in
     let e : asked.0 ≡ decimal (pid_of old) ∷ decimal (stamp_of old) ∷ map pair_word pairs = cc (asked.1.3) in
     record { old = old; node = node; rest = after_name (map pair_word pairs); leaf = (pairs, asked.1.2, refl); token = token_in_front text old asked.0 (map pair_word pairs) asked.1.0 asked.2 e }
-replace_asked text (Free old) asked = let e : ◌≡◌ {A = ℕ} 114 102 = ap first_byte asked.1.1 in absurd (omega arith)
-replace_asked text Flush asked = let e : ◌≡◌ {A = ℕ} 114 102 = ap first_byte asked.1 in absurd (omega arith)
-replace_asked text SizeOnDisk asked = let e : ◌≡◌ {A = ℕ} 114 115 = ap first_byte asked.1 in absurd (omega arith)
+replace_asked text (Link old ChildMergeCap) asked = absurd (asked.1)
+replace_asked text call asked = let e : ◌≡◌ {A = ℕ} 7366002 (key_of call) = asks_by_key (codes "replace" ∷ asked.0) call (asked.1) in absurd (omega (arith, e))
 
 -- what a text behind `free` encodes
 pub record IsFree (text : Option Bytes) : Type 0 where
@@ -290,55 +281,85 @@ pub record IsFree (text : Option Bytes) : Type 0 where
   pub token : BeginsWithToken text old None
 
 pub free_asked : (text : Option Bytes) (call : Call) → AsksBehind (codes "free") text call → IsFree text
-free_asked text (Allocate node) asked = let e : ◌≡◌ {A = ℕ} 102 97 = ap first_byte asked.1.2 in absurd (omega arith)
-free_asked text (Get pid) asked = let e : ◌≡◌ {A = ℕ} 102 103 = ap first_byte asked.1.1 in absurd (omega arith)
-free_asked text (Link old (Set key value)) asked = let e : ◌≡◌ {A = ℕ} 102 115 = ap first_byte asked.1.3 in absurd (omega arith)
-free_asked text (Link old (Del key)) asked = let e : ◌≡◌ {A = ℕ} 102 100 = ap first_byte asked.1.2 in absurd (omega arith)
-free_asked text (Link old (ParentMergeIntention page)) asked = absurd (asked.1)
-free_asked text (Link old ParentMergeConfirm) asked = absurd (asked.1)
-free_asked text (Link old ChildMergeCap) asked = absurd (asked.1)
-free_asked text (Replace old node) asked = let e : ◌≡◌ {A = ℕ} 102 114 = ap first_byte asked.1.3 in absurd (omega arith)
 free_asked text (Free old) asked =
     let e : asked.0 ≡ decimal (pid_of old) ∷ decimal (stamp_of old) ∷ [] = cc (asked.1.1) in
     record { old = old; token = token_in_front text old asked.0 [] asked.1.0 asked.2 e }
-free_asked text Flush asked = let e : ◌≡◌ {A = ℕ} 114 108 = ap second_byte asked.1 in absurd (omega arith)
-free_asked text SizeOnDisk asked = let e : ◌≡◌ {A = ℕ} 102 115 = ap first_byte asked.1 in absurd (omega arith)
+free_asked text (Link old ChildMergeCap) asked = absurd (asked.1)
+free_asked text call asked = let e : ◌≡◌ {A = ℕ} 6648422 (key_of call) = asks_by_key (codes "free" ∷ asked.0) call (asked.1) in absurd (omega (arith, e))
+
+-- what a text behind `root` encodes
+pub record IsRootName (text : Option Bytes) : Type 0 where
+  pub name : Bytes
+  pub bytes : AreBytes name
+  pub words : text ≡ Some (bytes_word name)
+
+pub root_asked : (text : Option Bytes) (call : Call) → AsksBehind (codes "root") text call → IsRootName text
+root_asked text (MetaPidForName name) asked =
+    let e : asked.0 ≡ bytes_word name ∷ [] = cc (asked.1.1) in
+    record { name = name; bytes = asked.1.0; words = asked.2 ∙ ap after_name e }
+root_asked text (Link old ChildMergeCap) asked = absurd (asked.1)
+root_asked text call asked = let e : ◌≡◌ {A = ℕ} 7303026 (key_of call) = asks_by_key (codes "root" ∷ asked.0) call (asked.1) in absurd (omega (arith, e))
+
+-- what a text behind `cas` encodes
+pub record IsCas (text : Option Bytes) : Type 0 where
+  pub name : Bytes
+  pub bytes : AreBytes name
+  pub old : Option ℕ
+  pub new : Option ℕ
+  pub rest : Bytes
+  pub words : AreTwo text (bytes_word name) rest
+  pub roots : EncodeRoots rest old new
+
+pub cas_asked : (text : Option Bytes) (call : Call) → AsksBehind (codes "cas") text call → IsCas text
+cas_asked text (CasRoot name old new) asked =
+    let e : asked.0 ≡ bytes_word name ∷ root_word old ∷ root_word new ∷ [] = cc (asked.1.3) in
+    record {
+      name = name;
+      bytes = asked.1.0;
+      old = old;
+      new = new;
+      rest = join_with_byte 32 (root_word old ∷ root_word new ∷ []);
+      words = record { plain_first = no_space name asked.1.0; joined = asked.2 ∙ ap after_name e };
+      roots = record { numbers = (asked.1.1, asked.1.2); joined = refl };
+    }
+cas_asked text (Link old ChildMergeCap) asked = absurd (asked.1)
+cas_asked text call asked = let e : ◌≡◌ {A = ℕ} 7561571 (key_of call) = asks_by_key (codes "cas" ∷ asked.0) call (asked.1) in absurd (omega (arith, e))
+
+-- the word of a root page has no space
+pub no_space_in_root : (root : Option ℕ) → IsRootNumber root → HasNo 32 (root_word root)
+no_space_in_root None number = search rules
+no_space_in_root (Some root) number = no_space_in_number root number
+
+-- a dash is no number
+pub no_dash : (root : ℕ) → root < 2 ^ 64 → codes "-" ≢ decimal root
+no_dash root number is = by (subst (AllDigits 10) (sym is) (digits_decimal (numerals_by_value (AllDigits 10) tells_digits) root number))
+  where
+    by : AllDigits 10 (codes "-") → ⊥
+    by digits = let small : digit_value 45 < 10 = digits.0 in absurd (omega (arith, small))
+
+-- two root pages are two words
+pub roots_two : (text : Bytes) (old new : Option ℕ) → EncodeRoots text old new → AreTwo (Some text) (root_word old) (root_word new)
+roots_two text old new encode = record { plain_first = no_space_in_root old encode.numbers.0; joined = ap Some encode.joined }
 
 -- ---- names without words
 
 pub flush_asked : (text : Option Bytes) (call : Call) → AsksBehind (codes "flush") text call → text ≡ None
-flush_asked text (Allocate node) asked = let e : ◌≡◌ {A = ℕ} 102 97 = ap first_byte asked.1.2 in absurd (omega arith)
-flush_asked text (Get pid) asked = let e : ◌≡◌ {A = ℕ} 102 103 = ap first_byte asked.1.1 in absurd (omega arith)
-flush_asked text (Link old (Set key value)) asked = let e : ◌≡◌ {A = ℕ} 102 115 = ap first_byte asked.1.3 in absurd (omega arith)
-flush_asked text (Link old (Del key)) asked = let e : ◌≡◌ {A = ℕ} 102 100 = ap first_byte asked.1.2 in absurd (omega arith)
-flush_asked text (Link old (ParentMergeIntention page)) asked = absurd (asked.1)
-flush_asked text (Link old ParentMergeConfirm) asked = absurd (asked.1)
-flush_asked text (Link old ChildMergeCap) asked = absurd (asked.1)
-flush_asked text (Replace old node) asked = let e : ◌≡◌ {A = ℕ} 102 114 = ap first_byte asked.1.3 in absurd (omega arith)
-flush_asked text (Free old) asked = let e : ◌≡◌ {A = ℕ} 108 114 = ap second_byte asked.1.1 in absurd (omega arith)
 flush_asked text Flush asked =
     let e : asked.0 ≡ [] = cc (asked.1) in
     asked.2 ∙ ap after_name e
-flush_asked text SizeOnDisk asked = let e : ◌≡◌ {A = ℕ} 102 115 = ap first_byte asked.1 in absurd (omega arith)
+flush_asked text (Link old ChildMergeCap) asked = absurd (asked.1)
+flush_asked text call asked = let e : ◌≡◌ {A = ℕ} 7695462 (key_of call) = asks_by_key (codes "flush" ∷ asked.0) call (asked.1) in absurd (omega (arith, e))
 
 pub size_asked : (text : Option Bytes) (call : Call) → AsksBehind (codes "size") text call → text ≡ None
-size_asked text (Allocate node) asked = let e : ◌≡◌ {A = ℕ} 115 97 = ap first_byte asked.1.2 in absurd (omega arith)
-size_asked text (Get pid) asked = let e : ◌≡◌ {A = ℕ} 115 103 = ap first_byte asked.1.1 in absurd (omega arith)
-size_asked text (Link old (Set key value)) asked = let e : ◌≡◌ {A = ℕ} 105 101 = ap second_byte asked.1.3 in absurd (omega arith)
-size_asked text (Link old (Del key)) asked = let e : ◌≡◌ {A = ℕ} 115 100 = ap first_byte asked.1.2 in absurd (omega arith)
-size_asked text (Link old (ParentMergeIntention page)) asked = absurd (asked.1)
-size_asked text (Link old ParentMergeConfirm) asked = absurd (asked.1)
-size_asked text (Link old ChildMergeCap) asked = absurd (asked.1)
-size_asked text (Replace old node) asked = let e : ◌≡◌ {A = ℕ} 115 114 = ap first_byte asked.1.3 in absurd (omega arith)
-size_asked text (Free old) asked = let e : ◌≡◌ {A = ℕ} 115 102 = ap first_byte asked.1.1 in absurd (omega arith)
-size_asked text Flush asked = let e : ◌≡◌ {A = ℕ} 115 102 = ap first_byte asked.1 in absurd (omega arith)
 size_asked text SizeOnDisk asked =
     let e : asked.0 ≡ [] = cc (asked.1) in
     asked.2 ∙ ap after_name e
+size_asked text (Link old ChildMergeCap) asked = absurd (asked.1)
+size_asked text call asked = let e : ◌≡◌ {A = ℕ} 8022387 (key_of call) = asks_by_key (codes "size" ∷ asked.0) call (asked.1) in absurd (omega (arith, e))
 
 -- ---- a line by its name
 
--- words that ask for a call begin with one of eight names
+-- words that ask for a call begin with one of ten names
 record IsNamed (words : List Bytes) : Type 0 where
   name : Bytes
   rest : List Bytes
@@ -357,6 +378,9 @@ is_named words (Link old ChildMergeCap) asks = absurd asks
 is_named words (Replace old node) asks =
     record { name = codes "replace"; rest = decimal (pid_of old) ∷ decimal (stamp_of old) ∷ map pair_word asks.1; plain = search rules; joined = asks.3 }
 is_named words (Free old) asks = record { name = codes "free"; rest = decimal (pid_of old) ∷ decimal (stamp_of old) ∷ []; plain = search rules; joined = asks.1 }
+is_named words (MetaPidForName name) asks = record { name = codes "root"; rest = bytes_word name ∷ []; plain = search rules; joined = asks.1 }
+is_named words (CasRoot name old new) asks = record { name = codes "cas"; rest = bytes_word name ∷ root_word old ∷ root_word new ∷ []; plain = search rules; joined = asks.3 }
+is_named words GetMeta asks = absurd asks
 is_named words Flush asks = record { name = codes "flush"; rest = []; plain = search rules; joined = asks }
 is_named words SizeOnDisk asks = record { name = codes "size"; rest = []; plain = search rules; joined = asks }
 
@@ -389,19 +413,19 @@ seven_bytes (x0 ∷ x1 ∷ x2 ∷ x3 ∷ x4 ∷ x5 ∷ []) a b c d e f g n p q r
 seven_bytes (x0 ∷ x1 ∷ x2 ∷ x3 ∷ x4 ∷ x5 ∷ x6 ∷ []) a b c d e f g n p q r s t u v = cc
 seven_bytes (x0 ∷ x1 ∷ x2 ∷ x3 ∷ x4 ∷ x5 ∷ x6 ∷ y ∷ more) a b c d e f g n p q r s t u v = absurd (omega (arith, n))
 
--- there are eight names
-pub no_name : (name : Bytes) (text : Option Bytes) (call : Call) → name ≢ codes "alloc" → name ≢ codes "get" → name ≢ codes "set" → name ≢ codes "del" → name ≢ codes "replace" → name ≢ codes "free" → name ≢ codes "flush" → name ≢ codes "size" → AsksBehind name text call → ⊥
-no_name name text (Allocate node) alloc get set del replace free flush size asked = alloc (cc (asked.1.2))
-no_name name text (Get pid) alloc get set del replace free flush size asked = get (cc (asked.1.1))
-no_name name text (Link old (Set key value)) alloc get set del replace free flush size asked = set (cc (asked.1.3))
-no_name name text (Link old (Del key)) alloc get set del replace free flush size asked = del (cc (asked.1.2))
-no_name name text (Link old (ParentMergeIntention page)) alloc get set del replace free flush size asked = asked.1
-no_name name text (Link old ParentMergeConfirm) alloc get set del replace free flush size asked = asked.1
-no_name name text (Link old ChildMergeCap) alloc get set del replace free flush size asked = asked.1
-no_name name text (Replace old node) alloc get set del replace free flush size asked = replace (cc (asked.1.3))
-no_name name text (Free old) alloc get set del replace free flush size asked = free (cc (asked.1.1))
-no_name name text Flush alloc get set del replace free flush size asked = flush (cc (asked.1))
-no_name name text SizeOnDisk alloc get set del replace free flush size asked = size (cc (asked.1))
+-- there are ten names
+pub no_name : (name : Bytes) (text : Option Bytes) (call : Call) → name ≢ codes "alloc" → name ≢ codes "get" → name ≢ codes "set" → name ≢ codes "del" → name ≢ codes "replace" → name ≢ codes "free" → name ≢ codes "root" → name ≢ codes "cas" → name ≢ codes "flush" → name ≢ codes "size" → AsksBehind name text call → ⊥
+no_name name text (Allocate node) alloc get set del replace free root cas flush size asked = alloc (cc (asked.1.2))
+no_name name text (Get pid) alloc get set del replace free root cas flush size asked = get (cc (asked.1.1))
+no_name name text (Link old (Set key value)) alloc get set del replace free root cas flush size asked = set (cc (asked.1.3))
+no_name name text (Link old (Del key)) alloc get set del replace free root cas flush size asked = del (cc (asked.1.2))
+no_name name text (Replace old node) alloc get set del replace free root cas flush size asked = replace (cc (asked.1.3))
+no_name name text (Free old) alloc get set del replace free root cas flush size asked = free (cc (asked.1.1))
+no_name name text (MetaPidForName asked_name) alloc get set del replace free root cas flush size asked = root (cc (asked.1.1))
+no_name name text (CasRoot asked_name old new) alloc get set del replace free root cas flush size asked = cas (cc (asked.1.3))
+no_name name text Flush alloc get set del replace free root cas flush size asked = flush (cc (asked.1))
+no_name name text SizeOnDisk alloc get set del replace free root cas flush size asked = size (cc (asked.1))
+no_name name text call alloc get set del replace free root cas flush size asked = asked.1
 
 -- what no call is asked for behind the name, no call is encoded for by the line
 pub none_encoded : (line name : Bytes) (text : Option Bytes) (found : Option Call) → BeginsLine line name text → IfNone found ((call : Call) → AsksBehind name text call → ⊥) → IfNone found ((call : Call) → Encodes line call → ⊥)
@@ -411,3 +435,8 @@ none_encoded line name text (Some call) begins none = tt
 pub none_encoded_if_ok : {E : Type 0} (line name : Bytes) (text : Option Bytes) (result : Result (Option Call) E) → BeginsLine line name text → IfOk result (λ found. IfNone found ((call : Call) → AsksBehind name text call → ⊥)) → IfOk result (λ found. IfNone found ((call : Call) → Encodes line call → ⊥))
 none_encoded_if_ok line name text (Ok found) begins none = none_encoded line name text found begins none
 none_encoded_if_ok line name text (Err error) begins none = tt
+
+-- a line asks for no call but one of the script
+pub of_script : (line : Bytes) (call : Call) → Encodes line call → IsOfScript call
+of_script line GetMeta encodes = absurd (encodes.1.1)
+of_script line call encodes = tt

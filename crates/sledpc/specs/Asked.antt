@@ -1,12 +1,12 @@
 -- What a command's name and the text behind it ask for.
-use Rattle.std.specs.Prelude.{◌≡◌, List, [], ◌∷◌, Option, None, Some}
+use Rattle.std.specs.Prelude.{◌≡◌, ℕ, List, [], ◌∷◌, Option, None, Some}
 use Rattle.std.specs.Fmt.{decimal}
 use Rattle.std.specs.List.{join_with_byte}
 use Rattle.sled_base.specs.Order.{Bytes}
 use Rattle.sled_node.specs.Node.{WholeNode}
 use Rattle.sled_pagecache.specs.Token.{Token, pid_of, stamp_of}
 use Rattle.sled_pagecache.specs.declared.pagecache.call.Call.{Call}
-use Rattle.sledpc.specs.Commands.{Asks, IsLeafOf, IsToken}
+use Rattle.sledpc.specs.Commands.{Asks, IsLeafOf, IsRootNumber, IsToken, root_word}
 use Rattle.sledpc.specs.Words.{after_name, HasNoSpace, EncodePairs}
 
 -- the name and the words in the text behind it ask for the call
@@ -31,3 +31,8 @@ pub record BeginsWithToken (text : Option Bytes) (old : Token) (rest : Option By
 -- the words in the text encode the pairs of the leaf
 abbrev pub EncodeLeaf : Option Bytes → WholeNode → Type 0
 EncodeLeaf text node = (pairs : List (Bytes × Bytes)) × IsLeafOf pairs node × EncodePairs text pairs
+
+-- the text is two root pages, each of which may be none, with a single space between them
+pub record EncodeRoots (text : Bytes) (old new : Option ℕ) : Type 0 where
+  pub numbers : IsRootNumber old × IsRootNumber new
+  pub joined : text ≡ join_with_byte 32 (root_word old ∷ root_word new ∷ [])

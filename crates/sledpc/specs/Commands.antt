@@ -1,5 +1,5 @@
 -- Which call a line of the script asks for.
-use Rattle.std.specs.Prelude.{◌≡◌, ◌<◌, ◌≤◌, ◌^◌, List, [], ◌∷◌, length, map, codes}
+use Rattle.std.specs.Prelude.{◌≡◌, ◌<◌, ◌≤◌, ◌^◌, List, [], ◌∷◌, length, map, codes, ℕ, Option, None, Some, ⊤}
 use Rattle.std.specs.Fmt.{decimal}
 use Rattle.std.specs.List.{join_with_byte}
 use Rattle.sled_base.specs.Order.{Bytes}
@@ -8,7 +8,7 @@ use Rattle.sled_node.specs.Pairs.{IsWithinLimit, HasPairs}
 use Rattle.sled_node.specs.declared.node.link.Link.TheVariants.{Set, Del, ParentMergeIntention, ParentMergeConfirm, ChildMergeCap}
 use Rattle.sled_pagecache.specs.Token.{Token, pid_of, stamp_of}
 use Rattle.sled_pagecache.specs.declared.pagecache.call.Call.{Call}
-use Rattle.sled_pagecache.specs.declared.pagecache.call.Call.TheVariants.{Allocate, Get, Link, Replace, Free, Flush, SizeOnDisk}
+use Rattle.sled_pagecache.specs.declared.pagecache.call.Call.TheVariants.{Allocate, Get, Link, Replace, Free, Flush, MetaPidForName, CasRoot, GetMeta, SizeOnDisk}
 use Rattle.sledpc.specs.Words.{bytes_word, pair_word, AreBytes, ArePairs}
 use Rattle.sledpc.specs.Settings.{longest_line}
 
@@ -22,6 +22,15 @@ pub record IsLeafOf (pairs : List (Bytes × Bytes)) (node : WholeNode) : Type 0 
 abbrev pub IsToken : Token → Type 0
 IsToken token = (pid_of token < 2 ^ 64) × (stamp_of token < 2 ^ 64)
 
+-- a root page, or none, which is a dash
+abbrev pub IsRootNumber : Option ℕ → Type 0
+IsRootNumber None = ⊤
+IsRootNumber (Some root) = root < 2 ^ 64
+
+abbrev pub root_word : Option ℕ → Bytes
+root_word None = codes "-"
+root_word (Some root) = decimal root
+
 -- the words ask for this call
 abbrev pub Asks : List Bytes → Call → Type 0
 Asks words (Allocate node) = (pairs : List (Bytes × Bytes)) × IsLeafOf pairs node × (words ≡ codes "alloc" ∷ map pair_word pairs)
@@ -33,9 +42,17 @@ Asks words (Link old ParentMergeConfirm) = ⊥
 Asks words (Link old ChildMergeCap) = ⊥
 Asks words (Replace old node) = IsToken old × (pairs : List (Bytes × Bytes)) × IsLeafOf pairs node × (words ≡ codes "replace" ∷ decimal (pid_of old) ∷ decimal (stamp_of old) ∷ map pair_word pairs)
 Asks words (Free old) = IsToken old × (words ≡ codes "free" ∷ decimal (pid_of old) ∷ decimal (stamp_of old) ∷ [])
+Asks words GetMeta = ⊥
+Asks words (MetaPidForName name) = AreBytes name × (words ≡ codes "root" ∷ bytes_word name ∷ [])
+Asks words (CasRoot name old new) = AreBytes name × IsRootNumber old × IsRootNumber new × (words ≡ codes "cas" ∷ bytes_word name ∷ root_word old ∷ root_word new ∷ [])
 Asks words Flush = words ≡ codes "flush" ∷ []
 Asks words SizeOnDisk = words ≡ codes "size" ∷ []
 
 -- the line has such words, with single spaces between them
 abbrev pub Encodes : Bytes → Call → Type 0
 Encodes line call = (length line ≤ longest_line) × ((words : List Bytes) × Asks words call × (line ≡ join_with_byte 32 words))
+
+-- a call that some line may ask for
+abbrev pub IsOfScript : Call → Type 0
+IsOfScript GetMeta = ⊥
+IsOfScript call = ⊤

@@ -1,11 +1,11 @@
 //! Names with their pages, in std's map.
 
-ghost use Rattle.std.specs.Prelude.{◌≡◌, IfOk, OnOk, OnErr};
+ghost use Rattle.std.specs.Prelude.{◌≡◌, ◌≢◌, None, IfOk, IsOk, OnOk, OnErr};
 ghost use Rattle.sled_node.specs.Pairs.{IsAscending};
 ghost use Rattle.sled_node.specs.Meta.{named_pages, root_of, with_root, without_root};
 
 use sled_base::PageId;
-use std::alloc::{AllocError, Global};
+use std::alloc::AllocError;
 use std::collections::BTreeMap;
 
 // The page of a name, if the name is there.
@@ -15,20 +15,19 @@ pub fn root_of(pages: &BTreeMap<Vec<u8>, PageId>, name: &[u8]) -> Option<PageId>
     pages.get(name).copied()
 }
 
-// Gives a name its page, and answers the page that it had before. The map keeps a copy of the name.
-pub fn set_page(
-    alloc: Global,
+// Gives a name its page, and answers the page that it had before. A name that is there takes no memory.
+pub fn put_page(
     pages: &mut BTreeMap<Vec<u8>, PageId>,
-    name: &[u8],
+    name: Vec<u8>,
     page: PageId,
 ) -> Result<Option<PageId>, AllocError>
     requires ascending { IsAscending (named_pages pages.old) }
-    ensures former { IfOk result (λ former. former ≡ root_of name.now (named_pages pages.old)) }
-    ensures ok { OnOk result (named_pages pages.new ≡ with_root name.now page (named_pages pages.old)) }
+    ensures former { IfOk result (λ former. former ≡ root_of name.items (named_pages pages.old)) }
+    ensures ok { OnOk result (named_pages pages.new ≡ with_root name.items page (named_pages pages.old)) }
     ensures err { OnErr result (named_pages pages.new ≡ named_pages pages.old) }
+    ensures there { root_of name.items (named_pages pages.old) ≢ None → IsOk result }
 {
-    let copy = Vec::from_slice(alloc, name)?;
-    let former = pages.insert(copy, page)?;
+    let former = pages.insert(name, page)?;
     Ok(former)
 }
 

@@ -81,7 +81,7 @@ impl Serialize for Meta {
 }
 
 // How many bytes a name and its page are written as.
-fn root_size(name: &[u8], root: PageId) -> u64
+pub fn root_size(name: &[u8], root: PageId) -> u64
     requires fits { length (written_root (name.now, root)) < 2 ^ 64 }
     ensures { result ≡ length (written_root (name.now, root)) }
 {
@@ -103,7 +103,7 @@ fn write_roots(roots: &BTreeMap<Vec<u8>, PageId>, out: &mut [u8]) -> usize
 }
 
 // Writes a name and its page from a place on, and answers where they end.
-fn write_root(name: &[u8], root: PageId, out: &mut [u8], start: usize) -> usize
+pub fn write_root(name: &[u8], root: PageId, out: &mut [u8], start: usize) -> usize
     requires room { start + length (written_root (name.now, root)) ≤ length out.old }
     ensures size { result ≡ start + length (written_root (name.now, root)) }
     ensures bytes { out.new ≡ (take start out.old ++ written_root (name.now, root)) ++ drop (start + length (written_root (name.now, root))) out.old }

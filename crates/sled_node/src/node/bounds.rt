@@ -42,6 +42,3 @@ impl Node {
         }
     }
 }
-
-#[cfg(test)]
-mod tests;

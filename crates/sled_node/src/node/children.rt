@@ -136,6 +136,3 @@ fn leading_pair(pairs: &[(IVec, PageId)], key: &[u8]) -> (usize, PageId)
     let last = count - 1;
     (last, pairs[last].1)
 }
-
-#[cfg(test)]
-mod tests;

@@ -86,6 +86,3 @@ impl Data {
         }
     }
 }
-
-#[cfg(test)]
-mod tests;

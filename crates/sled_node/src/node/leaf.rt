@@ -177,6 +177,3 @@ fn have_short_values(pairs: &[(IVec, IVec)]) -> bool
     }
     true
 }
-
-#[cfg(test)]
-mod tests;

@@ -37,6 +37,3 @@ impl Clone for Link {
         })
     }
 }
-
-#[cfg(test)]
-mod tests;

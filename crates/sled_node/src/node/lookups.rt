@@ -110,6 +110,3 @@ fn place_under(pairs: &[(IVec, IVec)], prefix: &[u8], key: &[u8]) -> Result<usiz
         None => Err(pairs.len()),
     }
 }
-
-#[cfg(test)]
-mod tests;

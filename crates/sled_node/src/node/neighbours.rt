@@ -100,6 +100,3 @@ impl Node {
         Ok((key, pair.1.clone()?))
     }
 }
-
-#[cfg(test)]
-mod tests;

@@ -114,6 +114,3 @@ fn size_of_pages(pairs: &[(IVec, PageId)]) -> u64
     }
     size
 }
-
-#[cfg(test)]
-mod tests;

@@ -141,6 +141,3 @@ fn split_pairs<V: Drop>(
     store_without(&mut right, prefix, right_skipped)?;
     Ok(right)
 }
-
-#[cfg(test)]
-mod tests;

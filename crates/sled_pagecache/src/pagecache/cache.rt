@@ -29,6 +29,8 @@ ghost use Rattle.sled_pagecache.specs.declared.pagecache.call.Answer.TheVariants
 ghost use Rattle.sled_pagecache.specs.declared.pagecache.call.Call.TheVariants.{Allocate, Flush, SizeOnDisk};
 ghost use Rattle.sled_pagecache.specs.declared.pagecache.call.Call.TheVariants as call;
 
+mod roots;
+
 use super::accesses::Accesses;
 use super::config::{Config, fault_of};
 use super::pages::Pages;

@@ -1,8 +1,8 @@
 //! The calls of the page cache, and their answers.
 
 use super::view::PageView;
-use sled_base::{Error, PageId};
-use sled_node::{Link, Node};
+use sled_base::{Error, IVec, PageId};
+use sled_node::{Link, Meta, Node};
 
 /// A call of the page cache, with its arguments. A swap names its page by its token.
 #[derive(Debug, Drop)]
@@ -12,6 +12,9 @@ pub enum Call {
     Link(PageView, Link),
     Replace(PageView, Node),
     Free(PageView),
+    GetMeta,
+    MetaPidForName(IVec),
+    CasRoot(IVec, Option<PageId>, Option<PageId>),
     Flush,
     SizeOnDisk,
 }
@@ -24,6 +27,9 @@ pub enum Answer {
     Linked(Result<Result<PageView, Option<(PageView, Link)>>, Error>),
     Replaced(Result<Result<PageView, Option<(PageView, Node)>>, Error>),
     Freed(Result<Result<PageView, Option<(PageView, ())>>, Error>),
+    GotMeta(Result<(PageView, Meta), Error>),
+    FoundRoot(Result<PageId, Error>),
+    RootSwapped(Result<Result<(), Option<PageId>>, Error>),
     Flushed(Result<usize, Error>),
     Sized(Result<u64, Error>),
 }

@@ -1,10 +1,10 @@
-//! What the cache hands out: tokens, and nodes that it lends.
+//! What the cache hands out: tokens, and what it lends, nodes and the map of named roots.
 
 ghost use Rattle.std.specs.Prelude.{◌≡◌};
 ghost use Rattle.sled_pagecache.specs.Token.{token, pid_of, stamp_of};
 
 use sled_base::PageId;
-use sled_node::Node;
+use sled_node::{Meta, Node};
 
 /// The token of a page: its id, and a stamp that the page had.
 ///
@@ -56,6 +56,34 @@ impl<'a> NodeView<'a> {
         ensures { result.now ≡ self.now.node.now }
     {
         self.node
+    }
+
+    pub fn token(&self) -> PageView
+        ensures { result ≡ self.now.token }
+    {
+        self.token
+    }
+}
+
+/// The map of named roots that the cache lends, with the token of its page.
+#[derive(Clone, Copy, Debug)]
+pub struct MetaView<'a> {
+    meta: &'a Meta,
+    token: PageView,
+}
+
+impl<'a> MetaView<'a> {
+    pub(super) fn new(meta: &'a Meta, token: PageView) -> MetaView<'a>
+        ensures meta { result.meta.now ≡ meta.now }
+        ensures token { result.token ≡ token }
+    {
+        MetaView { meta, token }
+    }
+
+    pub fn meta(&self) -> &'a Meta
+        ensures { result.now ≡ self.now.meta.now }
+    {
+        self.meta
     }
 
     pub fn token(&self) -> PageView

@@ -188,7 +188,31 @@ fn write<L: Log, T: Serialize>(
     let Ok(payload) = value.serialize(alloc) else {
         return Err(Refusal::OutOfMemory);
     };
-    let (lsn, pointer, log_size) = sticky_log.append(kind, pid, &payload)?;
+    write_payload(sticky_log, kind, pid, &payload, stamp)
+}
+
+// Writes a payload to the log as a message of a page, and answers how it is kept, at that stamp.
+pub(super) fn write_payload<L: Log>(
+    sticky_log: &mut StickyLog<L>,
+    kind: MessageKind,
+    pid: PageId,
+    payload: &[u8],
+    stamp: u64,
+) -> Result<CacheInfo, Refusal>
+    requires ready { sticky_log.old.fault ≡ false }
+    requires usable { (L.state sticky_log.old.log).usable ≡ true }
+    requires can { L.tells → can_append effect_of_entry (now effect_of_entry (L.state sticky_log.old.log)) pid kind ≡ true }
+    ensures went { Went L.tells L.state L.moment L.left_since L.counts sticky_log.old sticky_log.new (begun_by result (Change pid (message kind payload.now) ∷ [])) }
+    ensures cause { IsCaused L.tells L.state L.moment L.left_since L.counts sticky_log.old sticky_log.new (L.is_full sticky_log.old.log (length payload.now)) result }
+    ensures of_log { L.tells → IfErr result IsOfLog }
+    ensures reads { (L.counts sticky_log.new.log).reads ≡ (L.counts sticky_log.old.log).reads }
+    ensures stamp { IfOk result (λ info. info.ts ≡ stamp) }
+    ensures size { IfOk result (λ info. (info.log_size ≡ head_size + length payload.now) × (info.log_size < size_limit)) }
+    ensures chains { L.tells → IfOk result (λ info. now effect_of_entry (L.state sticky_log.new.log) ≡ chains_from effect_of_entry (now effect_of_entry (L.state sticky_log.old.log)) (Change pid (placed (message kind payload.now) (place_of info)))) }
+    ensures same { L.tells → OnErr result (sticky_log.new.fault ≡ false → now effect_of_entry (L.state sticky_log.new.log) ≡ now effect_of_entry (L.state sticky_log.old.log)) }
+    ensures sized { L.tells → OnOk result (AllByRecursion IsSized (now effect_of_entry (L.state sticky_log.new.log))) }
+{
+    let (lsn, pointer, log_size) = sticky_log.append(kind, pid, payload)?;
     Ok(CacheInfo {
         ts: stamp,
         lsn,

@@ -243,8 +243,20 @@ fn replies_to_lines(rt: HostRuntime) -> Result<(), Fail> {
             "page 2 1\nerror line\nerror line\nerror line\nerror line\nerror line\nerror line\nleaf 1\n",
         ),
         (
-            "open 74\nroot 74\nid\npin\nseal\namp\n",
-            "error line\nerror line\nerror line\nerror line\nerror line\nerror line\n",
+            "open 74\nid\npin\nseal\namp\n",
+            "error line\nerror line\nerror line\nerror line\nerror line\n",
+        ),
+        (
+            "root 74\ncas 74 - 3\nroot 74\ncas 74 2 -\ncas 74 3 -\nroot 74\nsize\n",
+            "none\nok\npage 3\nis 3\nok\nnone\nsize 72\n",
+        ),
+        (
+            "cas - - 0\nroot -\ncas - - -\ncas 61 2 3\ncas - 0 18446744073709551615\nroot -\ncas 61 - -\nsize\n",
+            "ok\npage 0\nis 0\nis -\nok\npage 18446744073709551615\nok\nsize 108\n",
+        ),
+        (
+            "root\nroot 7\nroot 74 74\ncas\ncas 74\ncas 74 2\ncas 74 2 3 4\ncas 7 - -\ncas 74 -- 2\ncas 74 02 2\ncas 74 - 18446744073709551616\nsize\n",
+            "error line\nerror line\nerror line\nerror line\nerror line\nerror line\nerror line\nerror line\nerror line\nerror line\nerror line\nsize 35\n",
         ),
         (
             "alloc\nfree 2 1\nget 2\nset 2 2 61 62\nalloc\n",

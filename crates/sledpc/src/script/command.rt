@@ -1,18 +1,18 @@
 //! From a line to the call that it asks for.
 
-ghost use Rattle.std.specs.Prelude.{◌≤◌, ◌≡◌, length, map, codes, Option, IfOk, IfSome, IfNone};
+ghost use Rattle.std.specs.Prelude.{◌≤◌, ◌≡◌, ◌≢◌, ℕ, length, map, codes, Option, IfOk, IfSome, IfNone};
 ghost use Rattle.std.specs.Option.{option_map, SomeIff};
 ghost use Rattle.sled_base.specs.Order.{Bytes};
 ghost use Rattle.sled_node.specs.Node.{Value, WholeNode, leaf_of};
 ghost use Rattle.sled_node.specs.Pairs.{IsWithinLimit, HasPairs};
-ghost use Rattle.sledpc.specs.Asked.{AsksBehind, AreTwo, BeginsWithToken, EncodeLeaf};
-ghost use Rattle.sledpc.specs.Commands.{Encodes};
+ghost use Rattle.sledpc.specs.Asked.{AsksBehind, AreTwo, BeginsWithToken, EncodeLeaf, EncodeRoots};
+ghost use Rattle.sledpc.specs.Commands.{Encodes, IsRootNumber, root_word};
 ghost use Rattle.sledpc.specs.Settings.{longest_line};
 ghost use Rattle.sled_pagecache.specs.Token.{Token};
 ghost use Rattle.sled_pagecache.specs.declared.pagecache.call.Call.{Call};
 
 use super::words::{bytes_of, first_word, number_of, pairs_of};
-use sled_pagecache::{Call, Data, IVec, Leaf, Link, Node, PageView};
+use sled_pagecache::{Call, Data, IVec, Leaf, Link, Node, PageId, PageView};
 use std::alloc::{AllocError, Global};
 
 /// The call that a line asks for, or none where it is no command.
@@ -29,6 +29,8 @@ pub fn call_of(alloc: Global, line: &[u8]) -> Result<Option<Call>, AllocError>
         b"del" => del_of(alloc, arguments),
         b"replace" => replace_of(alloc, arguments),
         b"free" => Ok(free_of(arguments)),
+        b"root" => root_of(alloc, arguments),
+        b"cas" => cas_of(alloc, arguments),
         b"flush" => Ok(flush_of(arguments)),
         b"size" => Ok(size_of(arguments)),
         _ => Ok(None),
@@ -139,6 +141,58 @@ fn free_of(arguments: Option<&[u8]>) -> Option<Call>
         None => Some(Call::Free(old)),
         Some(_) => None,
     }
+}
+
+// `root NAME`
+fn root_of(alloc: Global, arguments: Option<&[u8]>) -> Result<Option<Call>, AllocError>
+    ensures some { IfOk result (λ found. IfSome found (AsksBehind (codes "root") (option_map (λ rest. rest.now) arguments.entry))) }
+    ensures none { IfOk result (λ found. IfNone found ((call : Call) → ¬ AsksBehind (codes "root") (option_map (λ rest. rest.now) arguments.entry) call)) }
+{
+    let Some(word) = arguments else {
+        return Ok(None);
+    };
+    let Some(name) = bytes_of(alloc, word)? else {
+        return Ok(None);
+    };
+    Ok(Some(Call::MetaPidForName(name)))
+}
+
+// `cas NAME OLD NEW`
+fn cas_of(alloc: Global, arguments: Option<&[u8]>) -> Result<Option<Call>, AllocError>
+    ensures some { IfOk result (λ found. IfSome found (AsksBehind (codes "cas") (option_map (λ rest. rest.now) arguments.entry))) }
+    ensures none { IfOk result (λ found. IfNone found ((call : Call) → ¬ AsksBehind (codes "cas") (option_map (λ rest. rest.now) arguments.entry) call)) }
+{
+    let Some((name, roots)) = two_words(arguments) else {
+        return Ok(None);
+    };
+    let Some((old, new)) = two_roots(roots) else {
+        return Ok(None);
+    };
+    let Some(name) = bytes_of(alloc, name)? else {
+        return Ok(None);
+    };
+    Ok(Some(Call::CasRoot(name, old, new)))
+}
+
+// Two root pages, each of which may be none.
+fn two_roots(words: &[u8]) -> Option<(Option<PageId>, Option<PageId>)>
+    ensures some { IfSome result (λ roots. EncodeRoots words.now roots.0 roots.1) }
+    ensures none { IfNone result ((old new : Option ℕ) → ¬ EncodeRoots words.now old new) }
+{
+    let (old, new) = two_words(Some(words))?;
+    Some((root_in(old)?, root_in(new)?))
+}
+
+// The root page that the word encodes, which is none at a dash.
+fn root_in(word: &[u8]) -> Option<Option<PageId>>
+    ensures some { IfSome result (λ root. IsRootNumber root × (word.now ≡ root_word root)) }
+    ensures none { IfNone result ((root : Option ℕ) → IsRootNumber root → word.now ≢ root_word root) }
+{
+    if word == b"-".as_slice() {
+        return Some(None);
+    }
+    let root = number_of(word)?;
+    Some(Some(root))
 }
 
 // `flush`

@@ -24,6 +24,8 @@ pub enum LentAnswer<'a> {
     Linked(&'a Result<Result<PageView, Option<(PageView, Link)>>, Error>),
     Replaced(&'a Result<Result<PageView, Option<(PageView, Node)>>, Error>),
     Freed(&'a Result<Result<PageView, Option<(PageView, ())>>, Error>),
+    FoundRoot(&'a Result<PageId, Error>),
+    RootSwapped(&'a Result<Result<(), Option<PageId>>, Error>),
     Flushed(&'a Result<usize, Error>),
     Sized(&'a Result<u64, Error>),
 }
@@ -47,12 +49,19 @@ pub fn write_line<W: Write>(writer: &mut W, lent: LentAnswer<'_>) -> io::Result<
         LentAnswer::Linked(Ok(Err(None)))
         | LentAnswer::Replaced(Ok(Err(None)))
         | LentAnswer::Freed(Ok(Err(None))) => write_text(writer, b"gone\n"),
+        LentAnswer::FoundRoot(Ok(root)) => write_labelled(writer, b"page ", *root),
+        LentAnswer::FoundRoot(Err(Error::CollectionNotFound(_))) => write_text(writer, b"none\n"),
+        LentAnswer::RootSwapped(Ok(Ok(()))) => write_text(writer, b"ok\n"),
+        LentAnswer::RootSwapped(Ok(Err(None))) => write_text(writer, b"is -\n"),
+        LentAnswer::RootSwapped(Ok(Err(Some(root)))) => write_labelled(writer, b"is ", *root),
         LentAnswer::Flushed(Ok(written)) => write_labelled(writer, b"flushed ", *written as u64),
         LentAnswer::Sized(Ok(bytes)) => write_labelled(writer, b"size ", *bytes),
         LentAnswer::Allocated(Err(error))
         | LentAnswer::Linked(Err(error))
         | LentAnswer::Replaced(Err(error))
         | LentAnswer::Freed(Err(error))
+        | LentAnswer::FoundRoot(Err(error))
+        | LentAnswer::RootSwapped(Err(error))
         | LentAnswer::Flushed(Err(error))
         | LentAnswer::Sized(Err(error)) => write_error(writer, error),
         LentAnswer::Got(Err(refusal)) => write_error(writer, &Error::from(refusal)),

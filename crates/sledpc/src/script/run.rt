@@ -2,7 +2,7 @@
 
 ghost use Rattle.std.specs.Prelude.{◌≡◌, ◌≤◌, ◌++◌, [], ◌∷◌, length, codes, IfOk, IfSome, IfNone, IfErr};
 ghost use Rattle.std.specs.Io.KnownBytes.{Keeps};
-ghost use Rattle.sledpc.specs.Commands.{Encodes};
+ghost use Rattle.sledpc.specs.Commands.{Encodes, IsOfScript};
 ghost use Rattle.sledpc.specs.Output.{Writes};
 ghost use Rattle.sledpc.specs.Runs.{Serves, run_error_of};
 ghost use Rattle.sledpc.specs.Served.{RepliesTo, RepliesLine};
@@ -135,6 +135,7 @@ fn serve_call<L: Log, W: Write>(
     call: Call,
     writer: &mut W,
 ) -> io::Result<()>
+    requires { IsOfScript call }
     ensures { RepliesTo L.Log cache.old call (W.contents writer.old) (W.contents writer.new) result cache.new }
 {
     match call {
@@ -154,6 +155,15 @@ fn serve_call<L: Log, W: Write>(
         Call::Free(old) => {
             let answer = cache.free(old.pid(), old);
             write_line(writer, LentAnswer::Freed(&answer))
+        }
+        Call::GetMeta => unreachable!(),
+        Call::MetaPidForName(name) => {
+            let answer = cache.meta_pid_for_name(name.as_slice());
+            write_line(writer, LentAnswer::FoundRoot(&answer))
+        }
+        Call::CasRoot(name, old, new) => {
+            let answer = cache.cas_root_in_meta(name.as_slice(), old, new);
+            write_line(writer, LentAnswer::RootSwapped(&answer))
         }
         Call::Flush => {
             let answer = cache.flush();

@@ -53,7 +53,7 @@ returns-in-alloc-clause-none c =
     none_encoded_if_ok _ _ _ _ c.first_word.ensures (rw name c.allocate_of.ensures.none)
 
 pub returns-in_default-clause-none : goal.returns-in_default-clause-none
-returns-in_default-clause-none c = λ call encodes. no_name _ _ call (λ e. grind (arith, common_steps)) (λ e. grind (arith, common_steps)) (λ e. grind (arith, common_steps)) (λ e. grind (arith, common_steps)) (λ e. grind (arith, common_steps)) (λ e. grind (arith, common_steps)) (λ e. grind (arith, common_steps)) (λ e. grind (arith, common_steps)) (encoded_behind _ _ _ call c.first_word.ensures encodes)
+returns-in_default-clause-none c = λ call encodes. no_name _ _ call (λ e. grind (arith, common_steps)) (λ e. grind (arith, common_steps)) (λ e. grind (arith, common_steps)) (λ e. grind (arith, common_steps)) (λ e. grind (arith, common_steps)) (λ e. grind (arith, common_steps)) (λ e. grind (arith, common_steps)) (λ e. grind (arith, common_steps)) (λ e. grind (arith, common_steps)) (λ e. grind (arith, common_steps)) (encoded_behind _ _ _ call c.first_word.ensures encodes)
 
 pub returns-in-free-clause-none : goal.returns-in-free-clause-none
 returns-in-free-clause-none c =
@@ -69,3 +69,13 @@ pub returns-in-size-clause-none : goal.returns-in-size-clause-none
 returns-in-size-clause-none c =
     let name : c.first_word.result.0.now ≡ codes "size" = grind (arith, common_steps) in
     none_encoded _ _ _ _ c.first_word.ensures (rw name c.size_of.ensures.none)
+
+pub returns-in-root-clause-none : goal.returns-in-root-clause-none
+returns-in-root-clause-none c =
+    let name : c.first_word.result.0.now ≡ codes "root" = grind (arith, common_steps) in
+    none_encoded_if_ok _ _ _ _ c.first_word.ensures (rw name c.root_of.ensures.none)
+
+pub returns-in-cas-clause-none : goal.returns-in-cas-clause-none
+returns-in-cas-clause-none c =
+    let name : c.first_word.result.0.now ≡ codes "cas" = grind (arith, common_steps) in
+    none_encoded_if_ok _ _ _ _ c.first_word.ensures (rw name c.cas_of.ensures.none)

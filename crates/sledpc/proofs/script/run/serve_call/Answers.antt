@@ -1,5 +1,5 @@
 use Rattle.sled_pagecache.specs.Lending.{lent_answer}
-use Rattle.sled_pagecache.specs.declared.pagecache.call.Answer.TheVariants.{Allocated, Got, Linked, Replaced, Freed, Flushed, Sized}
+use Rattle.sled_pagecache.specs.declared.pagecache.call.Answer.TheVariants.{Allocated, Got, Linked, Replaced, Freed, FoundRoot, RootSwapped, Flushed, Sized}
 use Rattle.sledpc.proofs.Making.{flush_tells, size_tells}
 use Rattle.sledpc.proofs.script.run.serve_call.Goals as goal
 
@@ -58,3 +58,17 @@ returns-in-SizeOnDisk g c =
       made = record { step = rw (c.in-SizeOnDisk.is) sized.step; bytes = size_tells g.L.Log c.args.cache.now c.size_on_disk-answer.result sized.size; faults = tt };
       written = c.write_line-in-SizeOnDisk.ensures;
     }
+
+pub returns-in-MetaPidForName : goal.returns-in-MetaPidForName
+returns-in-MetaPidForName g c = record {
+  answer = FoundRoot c.meta_pid_for_name-answer.result;
+  made = record { step = rw (c.in-MetaPidForName.is, ← c.as_slice.ensures) c.meta_pid_for_name-answer.ensures.step; bytes = tt; faults = tt };
+  written = c.write_line-in-MetaPidForName.ensures;
+}
+
+pub returns-in-CasRoot : goal.returns-in-CasRoot
+returns-in-CasRoot g c = record {
+  answer = RootSwapped c.cas_root_in_meta-answer.result;
+  made = record { step = rw (c.in-CasRoot.is, ← c.as_slice-in-CasRoot.ensures) c.cas_root_in_meta-answer.ensures.step; bytes = tt; faults = c.cas_root_in_meta-answer.ensures.blame };
+  written = c.write_line-in-CasRoot.ensures;
+}

@@ -1,0 +1,72 @@
+//! The named roots of a cache: which page is the root of each named tree.
+
+ghost use Rattle.std.specs.Prelude.{◌≡◌, false, slice_get, IfOk, IfErr, IsOk, OnOk, OnErr, Some};
+ghost use Rattle.sled_pagecache.specs.Answers.{Keeps, root_swapped};
+ghost use Rattle.sled_pagecache.specs.Calls.{Steps, IsBlamed};
+ghost use Rattle.sled_pagecache.specs.Lending.{told_meta};
+ghost use Rattle.sled_pagecache.specs.Limits.{meta_pid};
+ghost use Rattle.sled_pagecache.specs.Memory.{IsBounded, KeepsMemory, AccessesPage, LeavesMemory};
+ghost use Rattle.sled_pagecache.specs.Reads.{ReadsNothing};
+ghost use Rattle.sled_pagecache.specs.declared.pagecache.call.Answer.TheVariants.{GotMeta, FoundRoot, RootSwapped};
+ghost use Rattle.sled_pagecache.specs.declared.pagecache.call.Call.TheVariants.{GetMeta, MetaPidForName, CasRoot};
+
+use super::{PageCache, lost_by, settle};
+use crate::pagecache::META_PID;
+use crate::pagecache::view::MetaView;
+use sled_base::{Error, PageId, Refusal};
+use sled_log::Log;
+
+impl<L: Log> PageCache<L> {
+    /// The map of named roots with the token of its page, lent. It lies in memory, so nothing is read and nothing allocated.
+    pub fn get_meta(&self) -> Result<MetaView<'_>, Refusal>
+        ensures step { Steps L.Log self.now GetMeta (GotMeta (told_meta result)) self.now }
+        ensures keeps { Keeps self.now self.now (told_meta result) (λ _. self.now.stamps) }
+        ensures token { IfOk result (λ view. (view.token.pid ≡ meta_pid) × (slice_get self.now.stamps meta_pid ≡ Some view.token.stamp)) }
+        ensures always { self.now.fault ≡ false → IsOk result }
+    {
+        self.pages.get_meta()
+    }
+
+    /// The root page of a name. `CollectionNotFound`, with the name, comes where it has none.
+    ///
+    /// Only the copy of a name in that error takes memory.
+    pub fn meta_pid_for_name(&self, name: &[u8]) -> Result<PageId, Error>
+        ensures step { Steps L.Log self.now (MetaPidForName name.now) (FoundRoot result) self.now }
+        ensures keeps { Keeps self.now self.now result (λ _. self.now.stamps) }
+    {
+        self.pages.meta_pid_for_name(name)
+    }
+
+    /// Gives a name the new root page, or takes the name out where there is none, if its root is the old one, and raises the
+    /// stamp of the page of the named roots by one, also where the map stays as it was.
+    ///
+    /// Where another root stands there, or one where there should be none, it comes back. Then, where there is a new root,
+    /// `NameTooLong` comes for a name above [`MAX_BYTES`](sled_node::node::MAX_BYTES), `TooManyNames` where
+    /// [`MAX_NAMES`](sled_node::meta::MAX_NAMES) others stand; `StampUsedUp` where the stamp is the greatest, `LogFull` where the
+    /// log has no room. These and `OutOfMemory` leave every page and message unchanged. A write error is sticky: every later call
+    /// answers it, until the log is opened again.
+    ///
+    /// The whole map is written, and kept as one message.
+    pub fn cas_root_in_meta(
+        &mut self,
+        name: &[u8],
+        old: Option<PageId>,
+        new: Option<PageId>,
+    ) -> Result<Result<(), Option<PageId>>, Error>
+        ensures step { Steps L.Log self.old (CasRoot name.now old new) (RootSwapped result) self.new }
+        ensures blame { IsBlamed L.Log self.old self.new result }
+        ensures keeps { Keeps self.old self.new result (root_swapped self.old.stamps) }
+        ensures unread { ReadsNothing L.Log self.old self.new }
+        ensures bounded { IsBounded L.Log self.new }
+        ensures accesses { IfOk result (λ swapped. OnOk swapped (AccessesPage self.old meta_pid self.new)) }
+        ensures same { IfOk result (λ swapped. OnErr swapped (KeepsMemory self.old self.new)) }
+        ensures leaves { IfErr result (LeavesMemory self.old meta_pid self.new L.tells) }
+    {
+        let swapped = self
+            .pages
+            .cas_root_in_meta(&mut self.accesses, name, old, new);
+        let lost = lost_by(&swapped, META_PID);
+        settle(&mut self.pages, &mut self.accesses, lost);
+        swapped
+    }
+}
