@@ -5,8 +5,8 @@
 #
 # Each program runs each script RUNS times (5), and every reply of each run is compared with the plain map's. A program that fails, or
 # replies otherwise, ends all with a message. It needs g++ and awk; a store whose package is missing is left out, and named as that.
-# COUNT is about how many lines most scripts have (300,000), PROGRAM a binary to measure in place of this checkout's, and CHART
-# where the chart goes (docs/benchmarks.svg).
+# COUNT is about how many lines most scripts have (300,000), PROGRAM a binary to measure in place of this checkout's, LONG one whose
+# interval of ids is 1,000 in place of 10 (without it one is built), and CHART where the chart goes (docs/benchmarks.svg).
 set -eu
 export LC_ALL=C
 
@@ -62,12 +62,13 @@ compare_replies() {
 # run_once PROGRAM SCRIPT INPUT: runs a program and compares its replies. $work/report has then the processor time in microseconds,
 # and in kilobytes the peak memory and what files it left.
 run_once() {
-    name=$1 script=$2 input=$3 status=0
-    case $name in
-    sledpc) set -- "$program" mem ;;
+    name=$1 script=$2 input=$3 status=0 interval=$(interval_of "$2")
+    case $name-$interval in
+    sledpc-10) set -- "$program" mem ;;
+    sledpc-*) set -- "$long" mem ;;
     *) set -- "$work/$name" ;;
     esac
-    TMPDIR=$work "$work/timed" "$input" "$work/out" "$work/report" "$@" 2>"$work/faults" || status=$?
+    INTERVAL=$interval TMPDIR=$work "$work/timed" "$input" "$work/out" "$work/report" "$@" 2>"$work/faults" || status=$?
     [ "$status" = 0 ] || die "$name ($*) ended with status $status at the script $script: $(head -n 1 "$work/faults")"
     compare_replies "$name" "$script"
 }
@@ -92,7 +93,7 @@ measure() {
     script_lines "$script" >"$work/lines"
     echo "script $script $setup $(wc -l <"$work/lines")" >>"$work/results"
     cat "$work/lines" >>"$work/input"
-    "$work/plain_map" <"$work/input" | without_sizes >"$work/want"
+    INTERVAL=$(interval_of "$script") "$work/plain_map" <"$work/input" | without_sizes >"$work/want"
     round=0
     while [ "$round" -lt "$runs" ]; do
         round=$((round + 1))
@@ -120,6 +121,8 @@ if [ -z "${PROGRAM:-}" ]; then
     # The first use builds the program.
     "$top/sledpc" mem </dev/null
 fi
+long=${LONG:-$work/long}
+[ -n "${LONG:-}" ] || "$bench/with_interval.sh" 1000 "$long"
 programs="sledpc $(grep -v '^left out ' "$work/built" | tr '\n' ' ')"
 
 check_examples

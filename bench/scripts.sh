@@ -25,6 +25,8 @@ flushes_1000 pages_1000 sets, and a flush after each 1,000
 flushes_10 pages_1000 sets, and a flush after each 10
 flushes_1 pages_1000 sets, and a flush after each
 short_sets pages_1000 1,000,000 sets of one byte to one byte, 1,000 pages
+ids_10 nothing ids, of which each tenth puts a durable counter
+ids_1000 nothing ids, of which each thousandth does
 END
 }
 
@@ -46,7 +48,16 @@ script_lines() {
     replies) repeated "$((count / 200))" 'get 2' ;;
     flushes_*) rounds 1000 "$count" 1 0 "${1#flushes_}" ;;
     short_sets) short_sets 1000 1000000 ;;
+    ids_*) repeated "$count" 'id' ;;
     *) die "there is no script $1" ;;
+    esac
+}
+
+# interval_of SCRIPT: the interval of ids that a script wants
+interval_of() {
+    case $1 in
+    ids_*) echo "${1#ids_}" ;;
+    *) echo 10 ;;
     esac
 }
 

@@ -46,6 +46,8 @@ class PlainMap {
 
     void flush() {}
 
+    void put_counter(std::uint64_t number) { counter = number; }
+
   private:
     bool has(std::uint64_t id) const { return id >= script::first_id && id - script::first_id < pages.size(); }
 
@@ -62,6 +64,7 @@ class PlainMap {
     }
 
     std::vector<Page> pages;
+    std::uint64_t counter = 0;
 };
 
 } // namespace

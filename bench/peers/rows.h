@@ -32,6 +32,7 @@ inline std::uint64_t number_of(std::string_view bytes) {
 
 constexpr char stamp_mark = 0, pair_mark = 1;
 constexpr std::size_t front = 9; // an id and a mark
+constexpr std::uint64_t counter_id = 1;
 
 template <typename Table> class Rows {
   public:
@@ -71,6 +72,12 @@ template <typename Table> class Rows {
     }
 
     void flush() { table.flush(); }
+
+    // It stands where the stamp of a page 1 would, which no script can ask for.
+    void put_counter(std::uint64_t number) {
+        put_stamp(counter_id, number);
+        table.apply();
+    }
 
   private:
     static std::string key_of(std::uint64_t id, char mark, std::string_view key = {}) {

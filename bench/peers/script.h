@@ -7,14 +7,17 @@
 //     Change del(id, stamp, key)             the same: the key is taken out
 //     Change replace(id, stamp, Pairs &&)    the same: the page has these pairs alone
 //     void flush()
+//     void put_counter(number)               keeps the counter of ids, which a flush makes durable
 //
-// and throws what it can't answer, which ends the program with status 1. `size` is no command here.
+// and throws what it can't answer, which ends the program with status 1. `size` is no command here. Ids come in intervals, of a
+// length that the environment gives as INTERVAL (10).
 #pragma once
 
 #include <cerrno>
 #include <charconv>
 #include <cstdint>
 #include <cstdio>
+#include <cstdlib>
 #include <exception>
 #include <limits>
 #include <optional>
@@ -156,6 +159,7 @@ template <typename Store> class Script {
         if (name == "get") return get(words, out);
         if (name == "set" || name == "del" || name == "replace") return change(name, words, out);
         if (name == "alloc") return allocate(words, out);
+        if (name == "id") return draw(words, out);
         if (name != "flush" || !words.are_done()) return false;
         store.flush();
         out += "flushed 0";
@@ -169,6 +173,27 @@ template <typename Store> class Script {
         put_number(out, store.allocate(std::move(*pairs)));
         out += " 1";
         return true;
+    }
+
+    // The first id of an interval is answered only once the start of the interval is the counter, and that is durable.
+    bool draw(Words &words, std::string &out) {
+        if (!words.are_done()) return false;
+        const auto start = next_drawn / interval * interval;
+        if (start > counter) {
+            store.put_counter(start);
+            store.flush();
+            counter = start;
+        }
+        out += "id ";
+        put_number(out, next_drawn++);
+        return true;
+    }
+
+    static std::uint64_t asked_interval() {
+        const char *asked = std::getenv("INTERVAL");
+        const auto interval = number_of(asked ? asked : "10");
+        if (!interval || *interval == 0) throw std::runtime_error("INTERVAL is no interval of ids");
+        return *interval;
     }
 
     bool get(Words &words, std::string &out) {
@@ -221,6 +246,7 @@ template <typename Store> class Script {
     }
 
     Store store;
+    std::uint64_t interval = asked_interval(), counter = 0, next_drawn = 0;
 };
 
 inline void write_out(std::string &out) {

@@ -1,6 +1,6 @@
-// The script over SQLite: a table of pages with their stamps, and a table of pairs by page and key. All that stands between two
-// flushes is one transaction, which `flush` commits to a write-ahead log without fsync. The cache has 256 MB, and statements are
-// prepared once.
+// The script over SQLite: a table of pages with their stamps, a table of pairs by page and key, and one row with the counter of ids.
+// All that stands between two flushes is one transaction, which `flush` commits to a write-ahead log without fsync. The cache has
+// 256 MB, and statements are prepared once.
 #include "folder.h"
 #include "script.h"
 
@@ -15,6 +15,7 @@ constexpr const char *settings = "PRAGMA journal_mode = WAL; PRAGMA synchronous 
                                  "CREATE TABLE page (id INTEGER PRIMARY KEY, stamp INTEGER NOT NULL);"
                                  "CREATE TABLE pair (page INTEGER NOT NULL, key BLOB NOT NULL, value BLOB NOT NULL,"
                                  "                   PRIMARY KEY (page, key)) WITHOUT ROWID;"
+                                 "CREATE TABLE counter (number INTEGER NOT NULL); INSERT INTO counter VALUES (0);"
                                  "BEGIN;";
 
 class Database {
@@ -135,6 +136,8 @@ class Sqlite {
 
     void flush() { database.run("COMMIT; BEGIN;"); }
 
+    void put_counter(std::uint64_t number) { raise_counter.with(number).run(); }
+
   private:
     std::optional<std::uint64_t> stamp_of(std::uint64_t id) {
         std::optional<std::uint64_t> stamp;
@@ -165,6 +168,7 @@ class Sqlite {
     Statement put_pair{database, "INSERT OR REPLACE INTO pair VALUES (?, ?, ?)"};
     Statement delete_pair{database, "DELETE FROM pair WHERE page = ? AND key = ?"};
     Statement delete_pairs{database, "DELETE FROM pair WHERE page = ?"};
+    Statement raise_counter{database, "UPDATE counter SET number = ?"};
     std::uint64_t next_id = script::first_id;
 };
 

@@ -86,15 +86,15 @@ pub use Rattle.sled_pagecache.specs.Stamps.{stamps_to}
 pub use Rattle.sled_pagecache.specs.Starting.{Starts}
 pub use Rattle.sled_pagecache.specs.Starts.{CrashLeaves, HasAdded, IsBlamedOpening, IsFit, IsHindrance, LacksRoomFor, MayBeOpened, Opens, RefusesOpening, WasFull, log_after, only_stable, only_stable_contents}
 pub use Rattle.sled_pagecache.specs.State.{State, contents_of, free_token, greatest_free, later, page, page_at, stamps_of, with_page}
-pub use Rattle.sled_pagecache.specs.Step.{Allocates, Does, Fails, Finds, FindsContent, Flushes, Gets, GetsMeta, IsCorruption, IsGone, IsHindered, IsRefused, Links, LinksContent, LinksNode, Outcome, PutsRoots, Replaces, SetsRoot, Sizes, Swapped, Swaps, SwapsContent, SwapsPage, TellsRoot, UnlessFaulty, UnlessReserved, UnlessStale, is_reserved, outcome, unchanged}
+pub use Rattle.sled_pagecache.specs.Step.{Allocates, Does, Fails, Finds, FindsContent, Flushes, Gets, GetsIdgen, GetsMeta, IsCorruption, IsGone, IsHindered, IsRefused, Links, LinksContent, LinksNode, Outcome, PutsRoots, Replaces, SetsRoot, Sizes, Swapped, Swaps, SwapsContent, SwapsPage, TellsRoot, UnlessFaulty, UnlessReserved, UnlessStale, is_reserved, outcome, unchanged}
 pub use Rattle.sled_pagecache.specs.Swaps.{CanPut, IsLinked, IsRaised, RefusesLink, RefusesSwap, Wrote, content_of, infos_after, linked_length, update_of}
 pub use Rattle.sled_pagecache.specs.Table.{AreOwn, IsBeside, IsConsistent, IsCounter, IsFreeOrNode, IsOwnAt, IsRoots, nodes_in, resident_in, stamps_in}
 pub use Rattle.sled_pagecache.specs.Token.{IsAnswered, Token, pid_of, stamp_of, token}
 pub use Rattle.sled_pagecache.specs.Touching.{AccessesNode, AllStay, FindsNode, IsListedAt, LacksNodes, LosesAtMost, LosesNone, TakesNode, TakesPage}
 pub use Rattle.sled_pagecache.specs.declared.pagecache.accesses.Accesses.{Accesses}
-pub use Rattle.sled_pagecache.specs.declared.pagecache.call.Answer.TheVariants.{Allocated, Flushed, FoundRoot, Freed, Got, GotMeta, Linked, Replaced, RootSwapped, Sized}
+pub use Rattle.sled_pagecache.specs.declared.pagecache.call.Answer.TheVariants.{Allocated, Flushed, FoundRoot, Freed, Generated, Got, GotIdgen, GotMeta, Linked, Replaced, RootSwapped, Sized}
 pub use Rattle.sled_pagecache.specs.declared.pagecache.call.Answer.{Answer}
-pub use Rattle.sled_pagecache.specs.declared.pagecache.call.Call.TheVariants.{Allocate, CasRoot, Flush, Get, GetMeta, MetaPidForName, Replace, SizeOnDisk}
+pub use Rattle.sled_pagecache.specs.declared.pagecache.call.Call.TheVariants.{Allocate, CasRoot, Flush, GenerateId, Get, GetIdgen, GetMeta, MetaPidForName, Replace, SizeOnDisk}
 pub use Rattle.sled_pagecache.specs.declared.pagecache.page.CacheInfo.{CacheInfo}
 pub use Rattle.sled_pagecache.specs.declared.pagecache.call.Call.{Call}
 pub use Rattle.sled_pagecache.specs.declared.pagecache.config.Config.{Config}

@@ -163,7 +163,7 @@ module _ {L : Type 0} (g : Ghosts L) (old mid new : Cache L) (accesses between a
 
   -- nothing was accessed
   module _ (none : between ≡ accesses) where
-    lru-same : after.lru ≡ accesses.lru
+    pub lru-same : after.lru ≡ accesses.lru
     lru-same = settles.lru ∙ ap (λ a. a.lru) none
 
     pub pages-same : new ≡ mid

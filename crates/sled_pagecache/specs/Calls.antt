@@ -32,7 +32,7 @@ module _ {L : Type 0} (g : Ghosts L) where
 
   -- a step of the machine, over the log of the cache
   abbrev pub StepOver : Cache L → State → Call → Answer → Outcome → Type 0
-  StepOver cache s call answer out = Step (chain_length g.state cache) (HasNoRoom cache.log) s call answer out
+  StepOver cache s call answer out = Step (chain_length g.state cache) (HasNoRoom cache.log) cache.config.idgen_persist_interval s call answer out
 
   -- From this state, over a log that holds this, the call is one step. What it writes is added to the log, and a crash at any
   -- moment of it leaves what the log held and a prefix of that which splits no batch. Behind a write error the log isn't called.

@@ -12,9 +12,11 @@ pub mod Calls
 pub mod Answers
 pub mod Opening
 pub mod Starts
+pub mod Ids
 pub mod Rows
 pub mod RowLaws
 pub mod Reopening
+pub mod Openings
 pub mod StickyLog
 pub mod StickyLogLaws
 pub mod ChainReads
@@ -30,6 +32,7 @@ pub mod Starting
 pub mod Judging
 pub mod Swaps
 pub mod RootSwaps
+pub mod Trees
 pub mod Adding
 pub mod PageTables
 pub mod TableLoans
@@ -43,3 +46,5 @@ pub mod PagingOut
 pub mod Touching
 pub mod Relisting
 pub mod Lending
+pub mod CounterPages
+pub mod Counted

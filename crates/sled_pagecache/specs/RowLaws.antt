@@ -22,10 +22,10 @@ use Rattle.sled_pagecache.specs.Rows.{AreSteps, IsRow, StepInRow, IsMade, AreMad
 use Rattle.sled_pagecache.specs.State.{State}
 use Rattle.sled_pagecache.specs.Step.{Outcome, unchanged}
 use Rattle.sled_pagecache.specs.declared.pagecache.call.Answer.{Answer}
-use Rattle.sled_pagecache.specs.declared.pagecache.call.Answer.TheVariants.{Allocated, Got, Linked, Replaced, Freed, GotMeta, FoundRoot, RootSwapped, Flushed, Sized}
+use Rattle.sled_pagecache.specs.declared.pagecache.call.Answer.TheVariants.{Allocated, Got, Linked, Replaced, Freed, GotMeta, GotIdgen, Generated, Flushed, Sized, FoundRoot, RootSwapped}
 use Rattle.sled_pagecache.specs.declared.pagecache.call.Call.{Call}
 use Rattle.sled_pagecache.specs.declared.pagecache.call.Call.TheVariants as call
-use Rattle.sled_pagecache.specs.declared.pagecache.call.Call.TheVariants.{Allocate, Get, Link, Replace, GetMeta, MetaPidForName, CasRoot, Flush, SizeOnDisk}
+use Rattle.sled_pagecache.specs.declared.pagecache.call.Call.TheVariants.{Allocate, Get, Link, Replace, GetMeta, GetIdgen, GenerateId, Flush, SizeOnDisk, MetaPidForName, CasRoot}
 
 -- ---- changes that come behind others
 
@@ -52,7 +52,7 @@ none-came [] b = refl
 none-came (event ∷ came) b = let e = b.1 in absurd cc
 
 -- what a crash leaves of a log between two calls
-left-now : (state : log.LogState Message) (held : Logged) (pages : List Messages) → IsLogged state held → log.IsLeft effect_of state [] pages → IsLeft held [] pages
+pub left-now : (state : log.LogState Message) (held : Logged) (pages : List Messages) → IsLogged state held → log.IsLeft effect_of state [] pages → IsLeft held [] pages
 left-now state held pages logged left =
     let all : state.pending ++ left.came ≡ state.pending = ap (λ (l : List (Event Message)). state.pending ++ l) (none-came left.came left.beginning) ∙ append-nil state.pending in
     let fair : IsFair state.pending left.cut = subst (λ (l : List (Event Message)). IsFair l left.cut) all left.fair in
@@ -91,7 +91,7 @@ taken A B false is h = absurd (false≢true is)
 
 module _ {L : Type 0} (g : Ghosts L) where
   -- with a write fault kept a call changes nothing
-  step-stuck : (cache : Cache L) (s : State) (call : Call) (answer : Answer) (out : Outcome) → StepOver g cache s call answer out → s.fault ≡ true → out ≡ unchanged s
+  pub step-stuck : (cache : Cache L) (s : State) (call : Call) (answer : Answer) (out : Outcome) → StepOver g cache s call answer out → s.fault ≡ true → out ≡ unchanged s
   step-stuck cache s (Allocate node) (Allocated answer) out step kept = (taken _ _ s.fault kept step).1
   step-stuck cache s (Get pid) (Got answer) out step kept = (taken _ _ s.fault kept step).1
   step-stuck cache s (Link old link) (Linked answer) out step kept = (taken _ _ s.fault kept step).1
@@ -100,6 +100,8 @@ module _ {L : Type 0} (g : Ghosts L) where
   step-stuck cache s GetMeta (GotMeta answer) out step kept = (taken _ _ s.fault kept step).1
   step-stuck cache s (MetaPidForName name) (FoundRoot answer) out step kept = (taken _ _ s.fault kept step).1
   step-stuck cache s (CasRoot name old new) (RootSwapped answer) out step kept = (taken _ _ s.fault kept step).1
+  step-stuck cache s GetIdgen (GotIdgen answer) out step kept = (taken _ _ s.fault kept step).1
+  step-stuck cache s GenerateId (Generated answer) out step kept = (taken _ _ s.fault kept step).1
   step-stuck cache s Flush (Flushed answer) out step kept = (taken _ _ s.fault kept step).1
   step-stuck cache s SizeOnDisk (Sized answer) out step kept = (taken _ _ s.fault kept step).1
   step-stuck cache s asked answer out step kept = absurd step

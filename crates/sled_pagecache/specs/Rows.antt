@@ -6,11 +6,12 @@ use Rattle.sled_log.specs.LogState as log
 use Rattle.sled_log.specs.declared.log.Log.{Ghosts}
 use Rattle.sled_pagecache.specs.Cache.{Cache, IsIn}
 use Rattle.sled_pagecache.specs.Calls.{IsSameOpening, StepOver, Steps, IsBlamed}
+use Rattle.sled_pagecache.specs.Ids.{IsCovered}
 use Rattle.sled_pagecache.specs.Logged.{Logged, Adds, IsLeft}
 use Rattle.sled_pagecache.specs.State.{State}
 use Rattle.sled_pagecache.specs.Step.{Outcome}
 use Rattle.sled_pagecache.specs.declared.pagecache.call.Answer.{Answer}
-use Rattle.sled_pagecache.specs.declared.pagecache.call.Answer.TheVariants.{Allocated, Got, Linked, Replaced, Freed, GotMeta, FoundRoot, RootSwapped, Flushed, Sized}
+use Rattle.sled_pagecache.specs.declared.pagecache.call.Answer.TheVariants.{Allocated, Got, Linked, Replaced, Freed, GotMeta, GotIdgen, Generated, Flushed, Sized, FoundRoot, RootSwapped}
 use Rattle.sled_pagecache.specs.declared.pagecache.call.Call.{Call}
 
 module _ {L : Type 0} (g : Ghosts L) where
@@ -53,14 +54,22 @@ module _ {L : Type 0} (g : Ghosts L) where
   ReportsFaults old (GotMeta result) new = ⊤
   ReportsFaults old (FoundRoot result) new = ⊤
   ReportsFaults old (RootSwapped result) new = IsBlamed g old new result
+  ReportsFaults old (GotIdgen result) new = ⊤
+  ReportsFaults old (Generated result) new = IsBlamed g old new result
   ReportsFaults old (Flushed result) new = IsBlamed g old new result
   ReportsFaults old (Sized result) new = ⊤
+
+  -- A generated id that was answered is covered by the counter that is durable.
+  abbrev pub CoversId : Answer → Cache L → Type 0
+  CoversId (Generated (Ok id)) new = IsCovered g new id
+  CoversId answer new = ⊤
 
   -- the call was made of a cache: it is a step, and what its answer reports of the log is so
   pub record IsMade (old : Cache L) (call : Call) (answer : Answer) (new : Cache L) : Type 0 where
     pub step : Steps g old call answer new
     pub bytes : ReportsBytes old answer new
     pub faults : ReportsFaults old answer new
+    pub covered : CoversId answer new
 
   -- the calls were made one after another, each of the cache that the one before it left
   abbrev pub AreMade : Cache L → List (Call × Answer) → Cache L → Type 0

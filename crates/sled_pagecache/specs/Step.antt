@@ -1,10 +1,10 @@
 -- The page cache as a machine: which answer a call may get in a state, which state it leaves, and what it begins to write.
-use Rattle.std.specs.Prelude.{◌≡◌, ◌≢◌, ◌==◌, ◌||◌, ℕ, ◌+◌, ◌-◌, ◌^◌, ◌⊎◌, Bool, true, List, [], ◌∷◌, ◌++◌, length, Option, Some, None, Result, Ok, Err, MatchBool, MatchOption, IsOkAnd}
+use Rattle.std.specs.Prelude.{◌≡◌, ◌==◌, ◌||◌, ℕ, ◌+◌, ◌-◌, ◌*◌, ◌/◌, ◌^◌, ◌⊎◌, nat_lt, Bool, true, List, [], ◌∷◌, ◌++◌, length, Option, Some, None, Result, Ok, Err, MatchBool, MatchOption, IsOkAnd, ◌≢◌}
 use Rattle.sled_base.specs.declared.types.Bug.TheVariants.{LinkRefused}
 use Rattle.sled_base.specs.declared.types.Device.TheVariants.{Read, Write}
 use Rattle.sled_base.specs.declared.types.Error.{Error}
-use Rattle.sled_base.specs.declared.types.Error.TheVariants.{Unsupported, ReportableBug, Io, Corruption, CollectionNotFound, OutOfMemory}
-use Rattle.sled_base.specs.declared.types.Why.TheVariants.{ReservedId, PagesUsedUp, StampUsedUp, BatchOpen, TooManyNames, NameTooLong, LogFull}
+use Rattle.sled_base.specs.declared.types.Error.TheVariants.{Unsupported, ReportableBug, Io, Corruption, OutOfMemory, CollectionNotFound}
+use Rattle.sled_base.specs.declared.types.Why.TheVariants.{ReservedId, PagesUsedUp, IdsUsedUp, StampUsedUp, BatchOpen, LogFull, TooManyNames, NameTooLong}
 use Rattle.sled_base.specs.Order.{Bytes}
 use Rattle.sled_node.specs.Links.{Accepts, applied}
 use Rattle.sled_node.specs.Meta as meta
@@ -14,9 +14,9 @@ use Rattle.sled_node.specs.declared.node.link.Link.{Link as NodeLink}
 use Rattle.sled_pagecache.specs.Changes.{link_update}
 use Rattle.sled_pagecache.specs.Limits.{meta_pid, counter_pid, batch_manifest_pid, most_pages}
 use Rattle.sled_pagecache.specs.declared.pagecache.call.Answer.{Answer}
-use Rattle.sled_pagecache.specs.declared.pagecache.call.Answer.TheVariants.{Allocated, Got, Linked, Replaced, Freed, GotMeta, FoundRoot, RootSwapped, Flushed, Sized}
+use Rattle.sled_pagecache.specs.declared.pagecache.call.Answer.TheVariants.{Allocated, Got, Linked, Replaced, Freed, GotMeta, GotIdgen, Generated, Flushed, Sized, FoundRoot, RootSwapped}
 use Rattle.sled_pagecache.specs.declared.pagecache.call.Call.{Call}
-use Rattle.sled_pagecache.specs.declared.pagecache.call.Call.TheVariants.{Allocate, Get, Link, Replace, GetMeta, MetaPidForName, CasRoot, Flush, SizeOnDisk}
+use Rattle.sled_pagecache.specs.declared.pagecache.call.Call.TheVariants.{Allocate, Get, Link, Replace, GetMeta, GetIdgen, GenerateId, Flush, SizeOnDisk, MetaPidForName, CasRoot}
 use Rattle.sled_pagecache.specs.declared.pagecache.call.Call.TheVariants as call
 use Rattle.sled_log.specs.Contents.{Content, Free, Counter, Roots, Node, Damaged, Update, Put}
 use Rattle.sled_log.specs.Events.{Event, Change}
@@ -114,6 +114,27 @@ FindsRoot s name answer out = UnlessFaulty s answer out (HoldsRoots (page_at s m
 -- what a swap of a root answers: another root that stands there comes back
 abbrev pub RootSwap : Type 0
 RootSwap = Result (Result (Unit {0}) (Option ℕ)) Error
+
+-- ---- the counter of generated ids, which page 1 holds
+
+abbrev pub IsCounterAnd : Content → (ℕ → Type 0) → Type 0
+IsCounterAnd (Counter n) holds = holds n
+IsCounterAnd other holds = ⊥
+
+abbrev pub HoldsCounter : Option StampedPage → (ℕ → ℕ → Type 0) → Type 0
+HoldsCounter None holds = ⊥
+HoldsCounter (Some found) holds = IsCounterAnd found.content (λ n. holds found.stamp n)
+
+abbrev pub GetsIdgen : State → Result (Token × ℕ) Error → Outcome → Type 0
+GetsIdgen s answer out = UnlessFaulty s answer out (HoldsCounter (page_at s counter_pid) (λ stamp n. (answer ≡ Ok (token counter_pid stamp, n)) × (out ≡ unchanged s)))
+
+-- the first number of the interval that a number is in
+abbrev pub interval_start : ℕ → ℕ → ℕ
+interval_start interval n = n / interval * interval
+
+-- the next id is used
+abbrev pub with_next_id : State → State
+with_next_id s = record s { next = s.next + 1 }
 
 -- ---- flush and size: no page changes, and no change is written
 
@@ -232,17 +253,37 @@ module _ (messages : ℕ → ℕ) (no_room : Event Update → Type 0) where
       ((meta.root_of name roots ≢ old) × (answer ≡ Ok (Err (meta.root_of name roots))) × (out ≡ unchanged s))
       ⊎ ((meta.root_of name roots ≡ old) × SetsRoot s stamp name new roots answer out)))
 
-  -- ---- From s, the cache may give this answer to the call, and leave this.
-  abbrev pub Step : State → Call → Answer → Outcome → Type 0
-  Step s (Allocate node) (Allocated answer) out = Allocates s node answer out
-  Step s (Get pid) (Got answer) out = Gets s pid answer out
-  Step s (Link old link) (Linked answer) out = Links s old link answer out
-  Step s (Replace old node) (Replaced answer) out = Replaces s old node answer out
-  Step s (call.Free old) (Freed answer) out = Frees s old answer out
-  Step s GetMeta (GotMeta answer) out = GetsMeta s answer out
-  Step s (MetaPidForName name) (FoundRoot answer) out = FindsRoot s name answer out
-  Step s (CasRoot name old new) (RootSwapped answer) out = SwapsRoot s name old new answer out
-  Step s Flush (Flushed answer) out = Flushes s answer out
-  Step s SizeOnDisk (Sized answer) out = Sizes s answer out
-  -- a call gets no answer of another call
-  Step s asked answer out = ⊥
+  -- ---- generate_id_inner: the next id. One in a later interval than the counter first makes the start of its interval the counter.
+
+  abbrev pub PutsCounter : State → ℕ → ℕ → Result ℕ Error → Outcome → Type 0
+  PutsCounter s stamp start answer out =
+      MatchBool s.batch (IsRefused s answer out (Unsupported BatchOpen))
+      (UnlessLastStamp s stamp answer out
+      (Does s (Change counter_pid (Put (Counter start))) answer out (λ id t. (id ≡ s.next) × (t ≡ with_next_id (with_page s counter_pid (page (stamp + 1) (Counter start)))))))
+
+  abbrev pub Generates : ℕ → State → Result ℕ Error → Outcome → Type 0
+  Generates interval s answer out =
+      UnlessFaulty s answer out
+      (MatchBool (nat_lt (2 ^ 64 - 1) s.next) (IsRefused s answer out (Unsupported IdsUsedUp))
+      (HoldsCounter (page_at s counter_pid) (λ stamp n.
+      MatchBool (nat_lt (interval_start interval n) (interval_start interval s.next))
+      (PutsCounter s stamp (interval_start interval s.next) answer out)
+      ((answer ≡ Ok s.next) × (out ≡ unchanged (with_next_id s))))))
+
+  -- ---- From s, the cache may give this answer to the call, and leave this. Ids are generated in intervals so long.
+  module _ (interval : ℕ) where
+    abbrev pub Step : State → Call → Answer → Outcome → Type 0
+    Step s (Allocate node) (Allocated answer) out = Allocates s node answer out
+    Step s (Get pid) (Got answer) out = Gets s pid answer out
+    Step s (Link old link) (Linked answer) out = Links s old link answer out
+    Step s (Replace old node) (Replaced answer) out = Replaces s old node answer out
+    Step s (call.Free old) (Freed answer) out = Frees s old answer out
+    Step s GetMeta (GotMeta answer) out = GetsMeta s answer out
+    Step s (MetaPidForName name) (FoundRoot answer) out = FindsRoot s name answer out
+    Step s (CasRoot name old new) (RootSwapped answer) out = SwapsRoot s name old new answer out
+    Step s GetIdgen (GotIdgen answer) out = GetsIdgen s answer out
+    Step s GenerateId (Generated answer) out = Generates interval s answer out
+    Step s Flush (Flushed answer) out = Flushes s answer out
+    Step s SizeOnDisk (Sized answer) out = Sizes s answer out
+    -- a call gets no answer of another call
+    Step s asked answer out = ⊥

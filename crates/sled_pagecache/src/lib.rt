@@ -4,16 +4,18 @@
 //!
 //! - `pagecache`: the cache, its settings, its tokens and its calls
 //! - `rows`: what calls of the page cache in a row do
+//! - `openings`: generated ids, over caches that are opened one after another
 //! - `laws`: what holds of the definitions that the contracts of a page cache cite: crashes first of all
 #![tactic(auto)]
 
 pub mod laws;
+pub mod openings;
 pub mod pagecache;
 pub mod rows;
 
 pub use pagecache::{
     Answer, CacheInfo, Call, Config, MetaView, NodeView, Page, PageCache, PageTable, PageView,
-    split_fanout,
+    open_tree, split_fanout,
 };
 pub use sled_base::{
     self, BatchManifest, Bug, ConsumeSequence, Device, DiskPtr, Error, IVec, LogKind, MessageKind,

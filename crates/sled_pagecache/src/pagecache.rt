@@ -3,11 +3,13 @@
 //! In reading order, from what is public down:
 //!
 //! - `cache`: the cache: pages, and their accesses; each call is one step of a machine
+//! - `trees`: opening a tree by its name, which is several calls
 //! - `call`, `view`, `config`: the calls and their answers; tokens, and nodes that are lent; the settings
 //! - `accesses`: the accesses to pages, by which pages leave memory
 //! - `pages`: the pages of a cache, which stay in memory until they are paged out
 //! - `start`, `recovered`, `own`: opening a cache, the pages that its log recovers, and the cache's own pages
 //! - `add`, `judge`, `swap`, `roots`: making a page, what the token of a swap is worth, the swaps, and the swap of a named root
+//! - `ids`: the counter of generated ids
 //! - `pull`, `chain`, `reading`: reading a page that doesn't lie in memory, its chain, and the node of its messages
 //! - `write`: writing a page's messages to the log
 //! - `page`, `pagetable`, `free`: pages as the cache keeps them, the table of them by their ids, and the ids of the free ones
@@ -20,6 +22,7 @@ mod call;
 mod chain;
 mod config;
 mod free;
+mod ids;
 mod judge;
 mod own;
 mod page;
@@ -32,6 +35,7 @@ mod roots;
 mod start;
 mod sticky_log;
 mod swap;
+mod trees;
 mod view;
 mod write;
 
@@ -42,6 +46,7 @@ pub use page::{CacheInfo, Page};
 pub use pagetable::{PageTable, split_fanout};
 pub(crate) use pagetable::{CHUNK_BITS, CHUNK_LENGTH};
 use sled_base::PageId;
+pub use trees::open_tree;
 pub use view::{MetaView, NodeView, PageView};
 
 /// The page of the named roots.

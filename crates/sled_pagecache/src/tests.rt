@@ -5,11 +5,14 @@ mod failing;
 mod free;
 mod full;
 mod generic;
+mod id_law;
+mod ids;
 mod memory;
 mod prefixes;
 mod reads;
 mod recovery;
 mod roots;
+mod trees;
 mod writes;
 
 use self::crashes::reopen;

@@ -1,4 +1,4 @@
--- Which calls a name and the text behind it ask for.
+-- What a name and the text behind it ask for.
 use Rattle.std.proofs.Common.{◌≡◌, ◌≢◌, ℕ, ◌+◌, ◌*◌, ◌<◌, ◌^◌, ◌≤◌, List, [], ◌∷◌, ◌++◌, map, length, get_or, Option, None, Some, IfNone, IfOk, IfSome, Result, Ok, Err, codes, sym, ap, ◌∙◌, subst, arith, rules, refl}
 use Rattle.std.specs.Fmt.{decimal}
 use Rattle.std.specs.List.{join_with_byte}
@@ -14,10 +14,12 @@ use Rattle.sled_node.specs.Node.{Value, WholeNode, leaf_of}
 use Rattle.sled_node.specs.Pairs.{IsWithinLimit, HasPairs}
 use Rattle.sled_pagecache.specs.Token.{Token, token, pid_of, stamp_of}
 use Rattle.sled_pagecache.specs.declared.pagecache.call.Call.{Call}
-use Rattle.sled_pagecache.specs.declared.pagecache.call.Call.TheVariants.{Allocate, Get, Link, Replace, Free, GetMeta, MetaPidForName, CasRoot, Flush, SizeOnDisk}
-use Rattle.sledpc.specs.Asked.{AsksBehind, AreTwo, BeginsWithToken, EncodeLeaf, EncodeRoots, at_the_end}
-use Rattle.sledpc.specs.Commands.{Asks, IsRootNumber, IsToken, Encodes, IsOfScript, root_word}
+use Rattle.sled_pagecache.specs.declared.pagecache.call.Call.TheVariants.{Allocate, Get, Link, Replace, Free, GetMeta, MetaPidForName, CasRoot, GetIdgen, GenerateId, Flush, SizeOnDisk}
+use Rattle.sledpc.specs.Asked.{AsksBehind, AreTwo, BeginsWithToken, EncodeLeaf, EncodeRoots, OpensBehind, at_the_end}
+use Rattle.sledpc.specs.Commands.{Asks, IsRootNumber, IsToken, Encodes, EncodesOpen, IsCommand, IsOfScript, root_word}
 use Rattle.sledpc.specs.Cut.{HasNo}
+use Rattle.sledpc.specs.declared.script.command.Command.{Command}
+use Rattle.sledpc.specs.declared.script.command.Command.TheVariants as command
 use Rattle.sledpc.specs.Settings.{longest_line}
 use Rattle.sledpc.specs.Words.{AreBytes, ArePairs, EncodePairs, bytes_word, pair_word, after_name, HasNoSpace, BeginsLine}
 use Rattle.sledpc.proofs.Cut.{cut_once, no_mark}
@@ -67,6 +69,7 @@ key_of (Replace old node) = 7366002
 key_of (Free old) = 6648422
 key_of (MetaPidForName name) = 7303026
 key_of (CasRoot name old new) = 7561571
+key_of GenerateId = 25705
 key_of Flush = 7695462
 key_of SizeOnDisk = 8022387
 key_of call = 0
@@ -80,6 +83,7 @@ asks_by_key words (Replace old node) asks = ap (λ (w : List Bytes). key_of_name
 asks_by_key words (Free old) asks = ap (λ (w : List Bytes). key_of_name (get_or w 0 [])) asks.1
 asks_by_key words (MetaPidForName name) asks = ap (λ (w : List Bytes). key_of_name (get_or w 0 [])) asks.1
 asks_by_key words (CasRoot name old new) asks = ap (λ (w : List Bytes). key_of_name (get_or w 0 [])) asks.3
+asks_by_key words GenerateId asks = ap (λ (w : List Bytes). key_of_name (get_or w 0 [])) asks
 asks_by_key words Flush asks = ap (λ (w : List Bytes). key_of_name (get_or w 0 [])) asks
 asks_by_key words SizeOnDisk asks = ap (λ (w : List Bytes). key_of_name (get_or w 0 [])) asks
 asks_by_key words call asks = absurd asks
@@ -343,6 +347,13 @@ roots_two text old new encode = record { plain_first = no_space_in_root old enco
 
 -- ---- names without words
 
+pub id_asked : (text : Option Bytes) (call : Call) → AsksBehind (codes "id") text call → text ≡ None
+id_asked text GenerateId asked =
+    let e : asked.0 ≡ [] = cc (asked.1) in
+    asked.2 ∙ ap after_name e
+id_asked text (Link old ChildMergeCap) asked = absurd (asked.1)
+id_asked text call asked = let e : ◌≡◌ {A = ℕ} 25705 (key_of call) = asks_by_key (codes "id" ∷ asked.0) call (asked.1) in absurd (omega (arith, e))
+
 pub flush_asked : (text : Option Bytes) (call : Call) → AsksBehind (codes "flush") text call → text ≡ None
 flush_asked text Flush asked =
     let e : asked.0 ≡ [] = cc (asked.1) in
@@ -359,7 +370,7 @@ size_asked text call asked = let e : ◌≡◌ {A = ℕ} 8022387 (key_of call) =
 
 -- ---- a line by its name
 
--- words that ask for a call begin with one of ten names
+-- words that ask for a call begin with one of eleven names
 record IsNamed (words : List Bytes) : Type 0 where
   name : Bytes
   rest : List Bytes
@@ -381,6 +392,8 @@ is_named words (Free old) asks = record { name = codes "free"; rest = decimal (p
 is_named words (MetaPidForName name) asks = record { name = codes "root"; rest = bytes_word name ∷ []; plain = search rules; joined = asks.1 }
 is_named words (CasRoot name old new) asks = record { name = codes "cas"; rest = bytes_word name ∷ root_word old ∷ root_word new ∷ []; plain = search rules; joined = asks.3 }
 is_named words GetMeta asks = absurd asks
+is_named words GetIdgen asks = absurd asks
+is_named words GenerateId asks = record { name = codes "id"; rest = []; plain = search rules; joined = asks }
 is_named words Flush asks = record { name = codes "flush"; rest = []; plain = search rules; joined = asks }
 is_named words SizeOnDisk asks = record { name = codes "size"; rest = []; plain = search rules; joined = asks }
 
@@ -413,19 +426,20 @@ seven_bytes (x0 ∷ x1 ∷ x2 ∷ x3 ∷ x4 ∷ x5 ∷ []) a b c d e f g n p q r
 seven_bytes (x0 ∷ x1 ∷ x2 ∷ x3 ∷ x4 ∷ x5 ∷ x6 ∷ []) a b c d e f g n p q r s t u v = cc
 seven_bytes (x0 ∷ x1 ∷ x2 ∷ x3 ∷ x4 ∷ x5 ∷ x6 ∷ y ∷ more) a b c d e f g n p q r s t u v = absurd (omega (arith, n))
 
--- there are ten names
-pub no_name : (name : Bytes) (text : Option Bytes) (call : Call) → name ≢ codes "alloc" → name ≢ codes "get" → name ≢ codes "set" → name ≢ codes "del" → name ≢ codes "replace" → name ≢ codes "free" → name ≢ codes "root" → name ≢ codes "cas" → name ≢ codes "flush" → name ≢ codes "size" → AsksBehind name text call → ⊥
-no_name name text (Allocate node) alloc get set del replace free root cas flush size asked = alloc (cc (asked.1.2))
-no_name name text (Get pid) alloc get set del replace free root cas flush size asked = get (cc (asked.1.1))
-no_name name text (Link old (Set key value)) alloc get set del replace free root cas flush size asked = set (cc (asked.1.3))
-no_name name text (Link old (Del key)) alloc get set del replace free root cas flush size asked = del (cc (asked.1.2))
-no_name name text (Replace old node) alloc get set del replace free root cas flush size asked = replace (cc (asked.1.3))
-no_name name text (Free old) alloc get set del replace free root cas flush size asked = free (cc (asked.1.1))
-no_name name text (MetaPidForName asked_name) alloc get set del replace free root cas flush size asked = root (cc (asked.1.1))
-no_name name text (CasRoot asked_name old new) alloc get set del replace free root cas flush size asked = cas (cc (asked.1.3))
-no_name name text Flush alloc get set del replace free root cas flush size asked = flush (cc (asked.1))
-no_name name text SizeOnDisk alloc get set del replace free root cas flush size asked = size (cc (asked.1))
-no_name name text call alloc get set del replace free root cas flush size asked = asked.1
+-- there are eleven names
+pub no_name : (name : Bytes) (text : Option Bytes) (call : Call) → name ≢ codes "alloc" → name ≢ codes "get" → name ≢ codes "set" → name ≢ codes "del" → name ≢ codes "replace" → name ≢ codes "free" → name ≢ codes "root" → name ≢ codes "cas" → name ≢ codes "id" → name ≢ codes "flush" → name ≢ codes "size" → AsksBehind name text call → ⊥
+no_name name text (Allocate node) alloc get set del replace free root cas id flush size asked = alloc (cc (asked.1.2))
+no_name name text (Get pid) alloc get set del replace free root cas id flush size asked = get (cc (asked.1.1))
+no_name name text (Link old (Set key value)) alloc get set del replace free root cas id flush size asked = set (cc (asked.1.3))
+no_name name text (Link old (Del key)) alloc get set del replace free root cas id flush size asked = del (cc (asked.1.2))
+no_name name text (Replace old node) alloc get set del replace free root cas id flush size asked = replace (cc (asked.1.3))
+no_name name text (Free old) alloc get set del replace free root cas id flush size asked = free (cc (asked.1.1))
+no_name name text (MetaPidForName asked_name) alloc get set del replace free root cas id flush size asked = root (cc (asked.1.1))
+no_name name text (CasRoot asked_name old new) alloc get set del replace free root cas id flush size asked = cas (cc (asked.1.3))
+no_name name text GenerateId alloc get set del replace free root cas id flush size asked = id (cc (asked.1))
+no_name name text Flush alloc get set del replace free root cas id flush size asked = flush (cc (asked.1))
+no_name name text SizeOnDisk alloc get set del replace free root cas id flush size asked = size (cc (asked.1))
+no_name name text call alloc get set del replace free root cas id flush size asked = asked.1
 
 -- what no call is asked for behind the name, no call is encoded for by the line
 pub none_encoded : (line name : Bytes) (text : Option Bytes) (found : Option Call) → BeginsLine line name text → IfNone found ((call : Call) → AsksBehind name text call → ⊥) → IfNone found ((call : Call) → Encodes line call → ⊥)
@@ -439,4 +453,40 @@ none_encoded_if_ok line name text (Err error) begins none = tt
 -- a line asks for no call but one of the script
 pub of_script : (line : Bytes) (call : Call) → Encodes line call → IsOfScript call
 of_script line GetMeta encodes = absurd (encodes.1.1)
+of_script line GetIdgen encodes = absurd (encodes.1.1)
 of_script line call encodes = tt
+
+-- ---- a tree to be opened
+
+-- the line of such a command is its name and the name of the tree
+open_behind : (line name : Bytes) (text : Option Bytes) (asked : Bytes) → BeginsLine line name text → EncodesOpen line asked → (name ≡ codes "open") × (text ≡ Some (bytes_word asked))
+open_behind line name text asked begins encodes =
+    let plain : HasNoSpace (codes "open") = search rules in
+    named line name (codes "open") text (bytes_word asked ∷ []) begins plain encodes.2
+
+-- behind the name no call is asked for
+open_asks_none : (text : Option Bytes) (call : Call) → ¬ AsksBehind (codes "open") text call
+open_asks_none text (Link old ChildMergeCap) asked = asked.1
+open_asks_none text call asked = let e : ◌≡◌ {A = ℕ} 6647919 (key_of call) = asks_by_key (codes "open" ∷ asked.0) call (asked.1) in absurd (omega (arith, e))
+
+pub some_open : {E : Type 0} (line name : Bytes) (text : Option Bytes) (result : Result (Option Command) E) → length line ≤ longest_line → BeginsLine line name text → name ≡ codes "open" → IfOk result (λ found. IfSome found (OpensBehind text)) → IfOk result (λ found. IfSome found (IsCommand line))
+some_open line name text (Ok None) short begins is some = tt
+some_open line name text (Ok (Some (command.Call call))) short begins is some = absurd some
+some_open line name text (Ok (Some (command.OpenTree asked))) short begins is some =
+    (short, some.0, joined_line line (codes "open") text (bytes_word asked ∷ []) (subst (λ word. BeginsLine line word text) is begins) some.1)
+some_open line name text (Err error) short begins is some = tt
+
+pub none_open : {E : Type 0} (line name : Bytes) (text : Option Bytes) (result : Result (Option Command) E) → BeginsLine line name text → name ≡ codes "open"
+    → IfOk result (λ found. IfNone found ((asked : Bytes) → AreBytes asked → text ≢ Some (bytes_word asked))) → IfOk result (λ found. IfNone found ((asked : Command) → ¬ IsCommand line asked))
+none_open line name text (Ok None) begins is none = by
+  where
+    by : (asked : Command) → ¬ IsCommand line asked
+    by (command.Call call) encodes = open_asks_none text call (subst (λ word. AsksBehind word text call) is (encoded_behind line name text call begins encodes))
+    by (command.OpenTree asked) encodes = none asked encodes.1 (open_behind line name text asked begins encodes).1
+none_open line name text (Ok (Some asked)) begins is none = tt
+none_open line name text (Err error) begins is none = tt
+
+-- a line of another name that asks for no call
+pub no_command : (line name : Bytes) (text : Option Bytes) → BeginsLine line name text → name ≢ codes "open" → ((call : Call) → ¬ Encodes line call) → (asked : Command) → ¬ IsCommand line asked
+no_command line name text begins other calls (command.Call call) encodes = calls call encodes
+no_command line name text begins other calls (command.OpenTree asked) encodes = other (open_behind line name text asked begins encodes).0

@@ -1,32 +1,30 @@
 -- The entries of a node, written one after another.
 use Rattle.std.proofs.Common.{◌≡◌, ℕ, zero, suc, List, [], ◌∷◌, ◌++◌, take, drop, Option, Some, Result, refl, sym, ap, ◌∙◌, append_assoc, IsErr}
-use Rattle.std.specs.Io.KnownBytes.{Appends}
 use Rattle.std.specs.List.{flat_map, slice_get}
-use Rattle.std.proofs.KnownBytes.{Appends-trans}
 use Rattle.std.proofs.lemmas.List.{append-nil}
 use Rattle.sled_base.specs.Order.{Bytes}
-use Rattle.sledpc.specs.Output.{AppendsPrefix, Writes}
-use Rattle.sledpc.proofs.Written.{writes_more, stops_before}
+use Rattle.sledpc.specs.Output.{AppendsPrefix, Gathered, Gathers}
+use Rattle.sledpc.proofs.Gathered.{gathered_more, gathers_more, gathers_stops}
 
 -- ---- one entry: a space, a key, an equals sign, an item
 
-module _ {T E : Type 0} (a b c d e : Option Bytes) (result : Result T E) (key item : Bytes) where
-  pub stops_at_space : IsErr result → AppendsPrefix a b (32 ∷ []) → Writes a b result (32 ∷ (key ++ 61 ∷ [] ++ item))
-  stops_at_space failed part = stops_before a b result (32 ∷ []) (key ++ 61 ∷ [] ++ item) (32 ∷ (key ++ 61 ∷ [] ++ item)) failed part refl
+module _ {T E : Type 0} (a b c d e : Option Bytes) (p q r s t : Bytes) (result : Result T E) (key item : Bytes) where
+  pub stops_at_space : IsErr result → AppendsPrefix a b (p ++ 32 ∷ []) → Gathers a b p q result (32 ∷ (key ++ 61 ∷ [] ++ item))
+  stops_at_space failed part = gathers_stops a b p q result (32 ∷ []) (key ++ 61 ∷ [] ++ item) (32 ∷ (key ++ 61 ∷ [] ++ item)) failed part refl
 
-  pub stops_at_key : Appends a b (32 ∷ []) → IsErr result → AppendsPrefix b c key → Writes a c result (32 ∷ (key ++ 61 ∷ [] ++ item))
+  pub stops_at_key : Gathered a b p q (32 ∷ []) → IsErr result → AppendsPrefix b c (q ++ key) → Gathers a c p r result (32 ∷ (key ++ 61 ∷ [] ++ item))
   stops_at_key space failed part =
-      writes_more a b c result (32 ∷ []) (key ++ 61 ∷ [] ++ item) (32 ∷ (key ++ 61 ∷ [] ++ item)) space
-      (stops_before b c result key (61 ∷ item) (key ++ 61 ∷ [] ++ item) failed part (append_assoc key (61 ∷ []) item)) refl
+      gathers_more a b c p q r result (32 ∷ []) (key ++ 61 ∷ [] ++ item) (32 ∷ (key ++ 61 ∷ [] ++ item)) space
+      (gathers_stops b c q r result key (61 ∷ item) (key ++ 61 ∷ [] ++ item) failed part (append_assoc key (61 ∷ []) item)) refl
 
-  pub stops_at_sign : Appends a b (32 ∷ []) → Appends b c key → IsErr result → AppendsPrefix c d (61 ∷ []) → Writes a d result (32 ∷ (key ++ 61 ∷ [] ++ item))
+  pub stops_at_sign : Gathered a b p q (32 ∷ []) → Gathered b c q r key → IsErr result → AppendsPrefix c d (r ++ 61 ∷ []) → Gathers a d p s result (32 ∷ (key ++ 61 ∷ [] ++ item))
   stops_at_sign space keyed failed part =
-      writes_more a c d result (32 ∷ key) (61 ∷ item) (32 ∷ (key ++ 61 ∷ [] ++ item)) (Appends-trans a b c (32 ∷ []) key space keyed)
-      (stops_before c d result (61 ∷ []) item (61 ∷ item) failed part refl) (ap (λ (l : Bytes). 32 ∷ l) (append_assoc key (61 ∷ []) item))
+      gathers_more a c d p r s result (32 ∷ key) (61 ∷ item) (32 ∷ (key ++ 61 ∷ [] ++ item)) (gathered_more a b c p q r (32 ∷ []) key space keyed)
+      (gathers_stops c d r s result (61 ∷ []) item (61 ∷ item) failed part refl) (ap (λ (l : Bytes). 32 ∷ l) (append_assoc key (61 ∷ []) item))
 
-  pub ends_with_item : Appends a b (32 ∷ []) → Appends b c key → Appends c d (61 ∷ []) → Writes d e result item → Writes a e result (32 ∷ (key ++ 61 ∷ [] ++ item))
+  pub ends_with_item : Gathered a b p q (32 ∷ []) → Gathered b c q r key → Gathered c d r s (61 ∷ []) → Gathers d e s t result item → Gathers a e p t result (32 ∷ (key ++ 61 ∷ [] ++ item))
   ends_with_item space keyed signed last =
-      writes_more a d e result (32 ∷ (key ++ 61 ∷ [])) item (32 ∷ (key ++ 61 ∷ [] ++ item)) (Appends-trans a c d (32 ∷ key) (61 ∷ []) (Appends-trans a b c (32 ∷ []) key space keyed) signed) last refl
+      gathers_more a d e p s t result (32 ∷ (key ++ 61 ∷ [])) item (32 ∷ (key ++ 61 ∷ [] ++ item)) (gathered_more a c d p r s (32 ∷ key) (61 ∷ []) (gathered_more a b c p q r (32 ∷ []) key space keyed) signed) last refl
 
 -- ---- the entries so far
 

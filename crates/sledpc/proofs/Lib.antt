@@ -2,6 +2,7 @@ pub mod Numbers
 pub mod Cut
 pub mod Words
 pub mod Written
+pub mod Gathered
 pub mod Pieces
 pub mod LinesOf
 pub mod Taken

@@ -1,12 +1,13 @@
 -- A text in plain decimal digits is what its number is written as.
-use Rattle.std.proofs.Common.{◌≡◌, ◌≢◌, ℕ, zero, suc, ◌<◌, ◌^◌, Option, None, Some, IfSome, IfNone, Result, Ok, Err, sym, ap, ◌∙◌, subst, arith, refl, lit<}
+use Rattle.std.proofs.Common.{◌≡◌, ◌≢◌, ℕ, zero, suc, ◌+◌, ◌*◌, ◌<◌, ◌≤◌, ◌^◌, length, take, get_or, sym, ap, ◌∙◌, subst, arith, refl, lit<}
+use Rattle.std.specs.Char.{digit_value}
 use Rattle.std.specs.Fmt.{decimal}
-use Rattle.std.specs.Result.{result_ok}
-use Rattle.std.specs.Str.{IsUtf8}
-use Rattle.std.specs.Str.Parse.{AllDigits, digits_value, ParsesUnsigned}
-use Rattle.std.proofs.lemmas.Str.{IsUtf8-from_ascii}
-use Rattle.std.proofs.lemmas.Str.Parse.{IsNumeralModel, numerals_by_value, tells_digits, parse_plain}
-use Rattle.std.proofs.lemmas.Fmt.{decimal_digit, first_decimal, decimal-digits_value, parse-decimal, IsAscii-decimal}
+use Rattle.std.specs.Str.Parse.{AllDigits, digits_value}
+use Rattle.std.proofs.lemmas.Fmt.{decimal_digit, first_decimal, decimal-digits_value, digits_decimal, digits_value-decimal}
+use Rattle.std.proofs.lemmas.Int.Digits.{digits_value_push}
+use Rattle.std.proofs.lemmas.List.{take_more}
+use Rattle.std.proofs.lemmas.Str.{digit_value_digit}
+use Rattle.std.proofs.lemmas.Str.Parse.{IsNumeralModel, numerals_by_value, tells_digits, digit_at, digits_value-take-le}
 use Rattle.sled_base.specs.Order.{Bytes}
 use Rattle.sledpc.specs.Cut.{HasPlainFront}
 
@@ -21,16 +22,20 @@ plain_front (suc n) small = let above = first_decimal (suc n) (omega arith) smal
 pub encoded_is_plain : (word : Bytes) (n : ℕ) → n < 2 ^ 64 → word ≡ decimal n → HasPlainFront word
 encoded_is_plain word n small e = subst HasPlainFront (sym e) (plain_front n small)
 
-pub encoded_is_text : (word : Bytes) (n : ℕ) → n < 2 ^ 64 → word ≡ decimal n → IsUtf8 word
-encoded_is_text word n small e = subst IsUtf8 (sym e) (IsUtf8-from_ascii (decimal n) (IsAscii-decimal n small))
+-- the number of one more digit
+pub value_more : (word : Bytes) (i before after : ℕ) → i < length word → before ≡ digits_value 10 (take i word) → after ≡ before * 10 + digit_value (get_or word i 0) → after ≡ digits_value 10 (take (i + 1) word)
+value_more word i before after below e more =
+    more ∙ ap (λ n. n * 10 + digit_value (get_or word i 0)) e ∙ sym (digits_value_push 10 (take i word) (get_or word i 0)) ∙ ap (digits_value 10) (sym (take_more word i 0 below))
 
--- what is read from a text with a plain front
-pub read_number : {E : Type 0} (word : Bytes) (r : Result ℕ E) (o : Option ℕ) → HasPlainFront word → ParsesUnsigned 64 10 word r → o ≡ result_ok r
-    → IfSome o (λ n. word ≡ decimal n) × IfNone o ((n : ℕ) → n < 2 ^ 64 → word ≢ decimal n)
-read_number word (Ok x) None plain h e = absurd cc
-read_number {E} word (Ok x) (Some n) plain h e =
-    let read = parse_plain own {E = E} 64 word (Ok x) h plain.0 in
-    let same : n ≡ x = cc in
-    (sym (ap decimal (same ∙ read.1) ∙ decimal-digits_value own word read.0.0 read.0.1 plain.1 read.0.2), tt)
-read_number {E} word (Err e) None plain h o = (tt, λ n small same. let given : Err e ≡ Ok n = parse-decimal {E = E} 64 n word (Err e) small small same h in absurd cc)
-read_number word (Err e) (Some n) plain h o = absurd cc
+-- digits with a plain front are what their number is written as
+pub digits_are_written : (word : Bytes) (n : ℕ) → AllDigits 10 word → n ≡ digits_value 10 word → n < 2 ^ 64 → 0 < length word → HasPlainFront word → word ≡ decimal n
+digits_are_written word n digits e small some plain = sym (ap decimal e ∙ decimal-digits_value own word digits some plain.1 (omega (arith, e)))
+
+-- no number is written with a byte that is no digit, or with a front whose number is too large
+pub stops_at : (word : Bytes) (i before n : ℕ) → i < length word → before ≡ digits_value 10 (take i word) → (digit_value (get_or word i 0) < 10 → 2 ^ 64 ≤ before * 10 + digit_value (get_or word i 0)) → n < 2 ^ 64 → word ≢ decimal n
+stops_at word i before n below e over small same =
+    let digits : AllDigits 10 word = subst (AllDigits 10) (sym same) (digits_decimal own n small) in
+    let range = digit_at word i digits below in
+    let digit : digit_value (get_or word i 0) < 10 = omega (arith, range, digit_value_digit _ range) in
+    let value : digits_value 10 word ≡ n = ap (digits_value 10) same ∙ digits_value-decimal own n small in
+    omega (arith, over digit, value_more word i before _ below e refl, digits_value-take-le 10 word (i + 1) (omega arith), value)

@@ -1,4 +1,4 @@
--- Which call a line of the script asks for.
+-- What a line of the script asks for: a call, or a tree to be opened.
 use Rattle.std.specs.Prelude.{◌≡◌, ◌<◌, ◌≤◌, ◌^◌, List, [], ◌∷◌, length, map, codes, ℕ, Option, None, Some, ⊤}
 use Rattle.std.specs.Fmt.{decimal}
 use Rattle.std.specs.List.{join_with_byte}
@@ -8,8 +8,10 @@ use Rattle.sled_node.specs.Pairs.{IsWithinLimit, HasPairs}
 use Rattle.sled_node.specs.declared.node.link.Link.TheVariants.{Set, Del, ParentMergeIntention, ParentMergeConfirm, ChildMergeCap}
 use Rattle.sled_pagecache.specs.Token.{Token, pid_of, stamp_of}
 use Rattle.sled_pagecache.specs.declared.pagecache.call.Call.{Call}
-use Rattle.sled_pagecache.specs.declared.pagecache.call.Call.TheVariants.{Allocate, Get, Link, Replace, Free, Flush, MetaPidForName, CasRoot, GetMeta, SizeOnDisk}
+use Rattle.sled_pagecache.specs.declared.pagecache.call.Call.TheVariants.{Allocate, Get, Link, Replace, Free, GetMeta, MetaPidForName, CasRoot, GetIdgen, GenerateId, Flush, SizeOnDisk}
 use Rattle.sledpc.specs.Words.{bytes_word, pair_word, AreBytes, ArePairs}
+use Rattle.sledpc.specs.declared.script.command.Command.{Command}
+use Rattle.sledpc.specs.declared.script.command.Command.TheVariants as command
 use Rattle.sledpc.specs.Settings.{longest_line}
 
 -- a leaf of these pairs over all keys: the keys rise strictly, and the limits of a node hold
@@ -45,6 +47,8 @@ Asks words (Free old) = IsToken old × (words ≡ codes "free" ∷ decimal (pid_
 Asks words GetMeta = ⊥
 Asks words (MetaPidForName name) = AreBytes name × (words ≡ codes "root" ∷ bytes_word name ∷ [])
 Asks words (CasRoot name old new) = AreBytes name × IsRootNumber old × IsRootNumber new × (words ≡ codes "cas" ∷ bytes_word name ∷ root_word old ∷ root_word new ∷ [])
+Asks words GetIdgen = ⊥
+Asks words GenerateId = words ≡ codes "id" ∷ []
 Asks words Flush = words ≡ codes "flush" ∷ []
 Asks words SizeOnDisk = words ≡ codes "size" ∷ []
 
@@ -55,4 +59,14 @@ Encodes line call = (length line ≤ longest_line) × ((words : List Bytes) × A
 -- a call that some line may ask for
 abbrev pub IsOfScript : Call → Type 0
 IsOfScript GetMeta = ⊥
+IsOfScript GetIdgen = ⊥
 IsOfScript call = ⊤
+
+-- the line asks for the tree of this name
+abbrev pub EncodesOpen : Bytes → Bytes → Type 0
+EncodesOpen line name = (length line ≤ longest_line) × AreBytes name × (line ≡ join_with_byte 32 (codes "open" ∷ bytes_word name ∷ []))
+
+-- the line is this command
+abbrev pub IsCommand : Bytes → Command → Type 0
+IsCommand line (command.Call call) = Encodes line call
+IsCommand line (command.OpenTree name) = EncodesOpen line name

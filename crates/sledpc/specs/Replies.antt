@@ -1,5 +1,5 @@
 -- The reply to an answer.
-use Rattle.std.specs.Prelude.{ℕ, [], ◌∷◌, ◌++◌, None, Some, Ok, Err, codes, flat_map, if◌then◌else◌}
+use Rattle.std.specs.Prelude.{ℕ, [], ◌∷◌, ◌++◌, None, Some, Result, Ok, Err, codes, flat_map, if◌then◌else◌}
 use Rattle.std.specs.Fmt.{decimal}
 use Rattle.sled_base.specs.Errors.{number_of_why, number_of_bug}
 use Rattle.sled_base.specs.Order.{Bytes}
@@ -9,7 +9,7 @@ use Rattle.sled_base.specs.declared.types.Error.TheVariants.{CollectionNotFound,
 use Rattle.sled_node.specs.Node.{Item, Value, Child, WholeNode}
 use Rattle.sled_pagecache.specs.Token.{stamp_of}
 use Rattle.sled_pagecache.specs.declared.pagecache.call.Answer.{Answer}
-use Rattle.sled_pagecache.specs.declared.pagecache.call.Answer.TheVariants.{Allocated, Got, Linked, Replaced, Freed, GotMeta, FoundRoot, RootSwapped, Flushed, Sized}
+use Rattle.sled_pagecache.specs.declared.pagecache.call.Answer.TheVariants.{Allocated, Got, Linked, Replaced, Freed, GotMeta, FoundRoot, RootSwapped, GotIdgen, Generated, Flushed, Sized}
 use Rattle.sledpc.specs.Words.{bytes_word}
 
 abbrev pub error_text : Error → Bytes
@@ -51,8 +51,9 @@ reply_of (Freed (Ok (Ok made))) = codes "ok " ++ decimal (stamp_of made)
 reply_of (Freed (Ok (Err None))) = codes "gone"
 reply_of (Freed (Ok (Err (Some back)))) = codes "stale " ++ decimal (stamp_of back.0)
 reply_of (Freed (Err e)) = error_text e
--- no line asks for the map of named roots
+-- no line asks for the map of named roots, or for the counter of ids
 reply_of (GotMeta answer) = []
+reply_of (GotIdgen answer) = []
 reply_of (FoundRoot (Ok root)) = codes "page " ++ decimal root
 reply_of (FoundRoot (Err (CollectionNotFound name))) = codes "none"
 reply_of (FoundRoot (Err e)) = error_text e
@@ -60,7 +61,14 @@ reply_of (RootSwapped (Ok (Ok done))) = codes "ok"
 reply_of (RootSwapped (Ok (Err None))) = codes "is -"
 reply_of (RootSwapped (Ok (Err (Some root)))) = codes "is " ++ decimal root
 reply_of (RootSwapped (Err e)) = error_text e
+reply_of (Generated (Ok id)) = codes "id " ++ decimal id
+reply_of (Generated (Err e)) = error_text e
 reply_of (Flushed (Ok written)) = codes "flushed " ++ decimal written
 reply_of (Flushed (Err e)) = error_text e
 reply_of (Sized (Ok bytes)) = codes "size " ++ decimal bytes
 reply_of (Sized (Err e)) = error_text e
+
+-- the reply to the opening of a tree
+abbrev pub reply_of_tree : Result ℕ Error → Bytes
+reply_of_tree (Ok root) = codes "page " ++ decimal root
+reply_of_tree (Err e) = error_text e

@@ -14,9 +14,12 @@ log_settings = (512, 16)
 abbrev pub longest_line : ℕ
 longest_line = 65536
 
--- a text of at most so many bytes is gathered before it is written
+-- a text of at most so many bytes is gathered before it is written, and that of a short entry has at most so many
 abbrev pub piece_room : ℕ
-piece_room = 160
+piece_room = 512
+
+abbrev pub entry_room : ℕ
+entry_room = 160
 
 -- the status where the words are wrong, and where they are right that of what they ask for
 abbrev pub wrong_words : ℕ

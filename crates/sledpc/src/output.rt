@@ -1,15 +1,20 @@
 //! Texts that are written piece by piece.
 
+ghost use Rattle.std.specs.Prelude.{◌≡◌, ◌+◌, ◌≤◌, [], length, OnOk};
 ghost use Rattle.std.specs.Fmt.{decimal};
-ghost use Rattle.sledpc.specs.Output.{Writes};
+ghost use Rattle.sledpc.specs.Output.{Writes, Gathers};
+ghost use Rattle.sledpc.specs.Settings.{piece_room};
 ghost use Rattle.sledpc.specs.Words.{hex, bytes_word};
 
 use crate::piece::{Piece, ROOM};
-use std::io;
 use std::io::{ErrorKind, Write};
 
+/// The writer did not take all of a text.
+#[derive(Clone, Copy, Debug, PartialEq, Eq)]
+pub struct Unwritten;
+
 /// Writes all of the bytes. At an error a prefix of them was written.
-pub fn write_text<W: Write>(writer: &mut W, text: &[u8]) -> io::Result<()>
+pub fn write_text<W: Write>(writer: &mut W, text: &[u8]) -> Result<(), Unwritten>
     ensures { Writes (W.contents writer.old) (W.contents writer.new) result text.now }
 {
     let mut left = text;
@@ -18,47 +23,90 @@ pub fn write_text<W: Write>(writer: &mut W, text: &[u8]) -> io::Result<()>
             return Ok(());
         }
         match writer.write(left) {
-            Ok(0) => return Err(io::Error::from(ErrorKind::WriteZero)),
+            Ok(0) => return Err(Unwritten),
             Ok(count) => left = &left[count..],
             Err(error) => {
                 if error.kind() != ErrorKind::Interrupted {
-                    return Err(error);
+                    return Err(Unwritten);
                 }
             }
         }
     }
-    Err(io::Error::from(ErrorKind::TimedOut))
+    Err(Unwritten)
 }
 
-/// Writes a number in decimal digits.
-pub fn write_number<W: Write>(writer: &mut W, number: u64) -> io::Result<()>
-    ensures { Writes (W.contents writer.old) (W.contents writer.new) result (decimal number) }
+/// Writes the text that was gathered, and lets go of it.
+pub fn write_out<W: Write>(writer: &mut W, piece: &mut Piece) -> Result<(), Unwritten>
+    ensures gathers { Gathers (W.contents writer.old) (W.contents writer.new) piece.old piece.new result [] }
+    ensures empty { OnOk result (piece.new ≡ []) }
 {
-    let mut piece = Piece::new();
-    piece.put_number(number);
-    write_text(writer, piece.as_slice())
+    write_text(writer, piece.as_slice())?;
+    piece.clear();
+    Ok(())
 }
 
-/// Writes a byte string as its word: in hexadecimal, or `-` where there are no bytes.
-pub fn write_bytes_word<W: Write>(writer: &mut W, bytes: &[u8]) -> io::Result<()>
-    ensures { Writes (W.contents writer.old) (W.contents writer.new) result (bytes_word bytes.now) }
+/// Makes room for so many bytes: where the piece lacks it, the text that was gathered is written.
+pub fn make_room<W: Write>(writer: &mut W, piece: &mut Piece, count: usize) -> Result<(), Unwritten>
+    requires { count ≤ piece_room }
+    ensures gathers { Gathers (W.contents writer.old) (W.contents writer.new) piece.old piece.new result [] }
+    ensures room { OnOk result (length piece.new + count ≤ piece_room) }
+{
+    if piece.has_room(count) {
+        return Ok(());
+    }
+    write_out(writer, piece)
+}
+
+/// Puts a short text behind the text that was gathered.
+pub fn gather_text<W: Write>(
+    writer: &mut W,
+    piece: &mut Piece,
+    text: &[u8],
+) -> Result<(), Unwritten>
+    requires { length text.now ≤ piece_room }
+    ensures { Gathers (W.contents writer.old) (W.contents writer.new) piece.old piece.new result text.now }
+{
+    make_room(writer, piece, text.len())?;
+    piece.put_text(text);
+    Ok(())
+}
+
+/// Puts a number in decimal digits behind the text that was gathered.
+pub fn gather_number<W: Write>(
+    writer: &mut W,
+    piece: &mut Piece,
+    number: u64,
+) -> Result<(), Unwritten>
+    ensures { Gathers (W.contents writer.old) (W.contents writer.new) piece.old piece.new result (decimal number) }
+{
+    make_room(writer, piece, 20)?;
+    piece.put_number(number);
+    Ok(())
+}
+
+/// Puts a byte string as its word behind the text that was gathered: in hexadecimal, or `-` where there are no bytes.
+pub fn gather_bytes_word<W: Write>(
+    writer: &mut W,
+    piece: &mut Piece,
+    bytes: &[u8],
+) -> Result<(), Unwritten>
+    ensures { Gathers (W.contents writer.old) (W.contents writer.new) piece.old piece.new result (bytes_word bytes.now) }
 {
     if bytes.is_empty() {
-        return write_text(writer, b"-");
+        return gather_text(writer, piece, b"-");
     }
-    write_hex(writer, bytes)
+    gather_hex(writer, piece, bytes)
 }
 
-/// Writes a byte string in hexadecimal, as much in one piece as has room.
-fn write_hex<W: Write>(writer: &mut W, bytes: &[u8]) -> io::Result<()>
-    ensures { Writes (W.contents writer.old) (W.contents writer.new) result (hex bytes.now) }
+/// Puts a byte string in hexadecimal behind the text that was gathered, as much at once as a piece has room for.
+fn gather_hex<W: Write>(writer: &mut W, piece: &mut Piece, bytes: &[u8]) -> Result<(), Unwritten>
+    ensures { Gathers (W.contents writer.old) (W.contents writer.new) piece.old piece.new result (hex bytes.now) }
 {
     let mut left = bytes;
     while !left.is_empty() {
         let (part, rest) = left.split_at(left.len().min(ROOM / 2));
-        let mut piece = Piece::new();
+        make_room(writer, piece, 2 * part.len())?;
         piece.put_hex(part);
-        write_text(writer, piece.as_slice())?;
         left = rest;
     }
     Ok(())

@@ -1,6 +1,6 @@
 //! A text that is gathered on the stack, and written in one call.
 
-ghost use Rattle.std.specs.Prelude.{◌≡◌, ◌+◌, ◌<◌, ◌≤◌, ◌∷◌, ◌++◌, [], length};
+ghost use Rattle.std.specs.Prelude.{◌≡◌, ◌+◌, ◌<◌, ◌≤◌, ◌∷◌, ◌++◌, [], length, IsTrue};
 ghost use Rattle.std.specs.Fmt.{decimal};
 ghost use Rattle.sledpc.specs.Settings.{piece_room};
 ghost use Rattle.sledpc.specs.Words as words;
@@ -9,7 +9,7 @@ ghost use Rattle.sledpc.specs.Words.{hex, bytes_word};
 use std::marker::Model;
 
 /// How many bytes a piece has room for.
-pub const ROOM: usize = 160;
+pub const ROOM: usize = 512;
 
 /// The text that is gathered, of at most [`ROOM`] bytes.
 ///
@@ -40,6 +40,21 @@ impl Piece {
             bytes: [0; ROOM],
             len: 0,
         }
+    }
+
+    /// Whether so many more bytes have room.
+    pub fn has_room(&self, count: usize) -> bool
+        requires { count ≤ piece_room }
+        ensures { IsTrue result → length self.now + count ≤ piece_room }
+    {
+        self.len <= ROOM - count
+    }
+
+    /// Lets go of the text.
+    pub fn clear(&mut self)
+        ensures { self.new ≡ [] }
+    {
+        self.len = 0;
     }
 
     /// The text.

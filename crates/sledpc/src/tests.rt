@@ -3,7 +3,10 @@
 mod readme;
 
 use crate::lines::{Line, read_line};
-use crate::output::{write_bytes_word, write_number, write_text};
+use crate::output::{
+    Unwritten, gather_bytes_word, gather_number, gather_text, write_out, write_text,
+};
+use crate::piece::Piece;
 use crate::script::reply::{LentAnswer, write_line};
 use crate::script::words::{bytes_of, first_word, number_of, pair_of, pairs_of};
 use sled_pagecache::{Bug, Device, Error, IVec, Why};
@@ -140,23 +143,37 @@ fn takes_of_five(alloc: Global, room: usize, want: &str) -> bool {
 }
 
 // Whether the numbers and byte strings, with a space behind each, are written as this text.
-fn are_written(alloc: Global, numbers: &[u64], strings: &[&[u8]], want: &str) -> io::Result<bool> {
+fn are_written(
+    alloc: Global,
+    numbers: &[u64],
+    strings: &[&[u8]],
+    want: &str,
+) -> Result<bool, Unwritten> {
     let mut writer = slow_writer(alloc, 199);
+    let mut piece = Piece::new();
     for number in numbers {
-        write_number(&mut writer, *number)?;
-        write_text(&mut writer, b" ")?;
+        gather_number(&mut writer, &mut piece, *number)?;
+        gather_text(&mut writer, &mut piece, b" ")?;
     }
     for bytes in strings {
-        write_bytes_word(&mut writer, bytes)?;
-        write_text(&mut writer, b" ")?;
+        gather_bytes_word(&mut writer, &mut piece, bytes)?;
+        gather_text(&mut writer, &mut piece, b" ")?;
     }
+    write_out(&mut writer, &mut piece)?;
     Ok(writer.got.as_slice() == want.as_bytes())
 }
 
 // Whether a call that is refused so is replied to by this line.
-fn replies_to_error(alloc: Global, error: Error, want: &str) -> io::Result<bool> {
+fn replies_to_error(alloc: Global, error: Error, want: &str) -> Result<bool, Unwritten> {
     let mut writer = slow_writer(alloc, 99);
     write_line(&mut writer, LentAnswer::Flushed(&Err(error)))?;
+    Ok(writer.got.as_slice() == want.as_bytes())
+}
+
+// Whether a generated id, or why none is given, is replied to by this line.
+fn replies_to_id(alloc: Global, given: Result<u64, Error>, want: &str) -> Result<bool, Unwritten> {
+    let mut writer = slow_writer(alloc, 99);
+    write_line(&mut writer, LentAnswer::Generated(&given))?;
     Ok(writer.got.as_slice() == want.as_bytes())
 }
 
@@ -317,6 +334,27 @@ fn replies_to_errors(rt: HostRuntime) -> Result<(), Fail> {
         (Error::OutOfMemory, "error memory\n"),
     ] {
         assert!(rt; replies_to_error(rt.alloc(), error, want)?, "at {want}");
+    }
+    Ok(())
+}
+
+#[test]
+fn replies_to_ids(rt: HostRuntime) -> Result<(), Fail> {
+    for (given, want) in [
+        (Ok(0), "id 0\n"),
+        (Ok(u64::MAX), "id 18446744073709551615\n"),
+        (
+            Err(Error::Unsupported(Why::IdsUsedUp)),
+            "error unsupported 6\n",
+        ),
+        (
+            Err(Error::Unsupported(Why::LogFull)),
+            "error unsupported 11\n",
+        ),
+        (Err(Error::Io(Device::Write)), "error write\n"),
+        (Err(Error::OutOfMemory), "error memory\n"),
+    ] {
+        assert!(rt; replies_to_id(rt.alloc(), given, want)?, "at {want}");
     }
     Ok(())
 }

@@ -29,6 +29,7 @@ ghost use Rattle.sled_pagecache.specs.declared.pagecache.call.Answer.TheVariants
 ghost use Rattle.sled_pagecache.specs.declared.pagecache.call.Call.TheVariants.{Allocate, Flush, SizeOnDisk};
 ghost use Rattle.sled_pagecache.specs.declared.pagecache.call.Call.TheVariants as call;
 
+mod ids;
 mod roots;
 
 use super::accesses::Accesses;
@@ -39,6 +40,7 @@ use sled_base::{Error, Lru, PageId, Refusal};
 use sled_log::Log;
 use sled_node::{Link, Node};
 use std::alloc::Global;
+use std::fmt;
 use std::marker::Model;
 
 /// Stamped pages by their ids, over a log. Pages 0 and 1 are the cache's own.
@@ -291,6 +293,18 @@ impl<L: Log> PageCache<L> {
         self.pages.into_log()
     }
 
+    // What the cache allocates by.
+    pub(super) fn alloc(&self) -> Global {
+        self.pages.alloc()
+    }
+
+    // Every cache lists what lies in memory. Nothing is done.
+    pub(super) fn know_listed(&self)
+        ensures { IsBounded L.Log self.now }
+    {
+        self.pages.know_sizes();
+    }
+
     // Refuses what can't be read, reads the page from the log where it doesn't lie in memory, and accesses it.
     fn page_in(&mut self, pid: PageId) -> Result<(), Refusal>
         ensures stuck { self.old.fault ≡ true → IsErrOf result (refusal.Io Write) × (self.new ≡ self.old) }
@@ -313,6 +327,13 @@ impl<L: Log> PageCache<L> {
         ensures node { MatchOption result (HasNoNode self.now pid) (λ _. (size : ℕ) × HasNode self.now pid size) }
     {
         self.pages.node_at(pid)
+    }
+}
+
+/// The id that the next new page will have, and the ids of the free pages, the greatest first. It ends its line, as in the original.
+impl<L: Log> fmt::Debug for PageCache<L> {
+    fn fmt<W: fmt::Write>(&self, f: &mut fmt::Formatter<W>) -> fmt::Result {
+        self.pages.fmt(f)
     }
 }
 

@@ -15,6 +15,8 @@ pub enum Call {
     GetMeta,
     MetaPidForName(IVec),
     CasRoot(IVec, Option<PageId>, Option<PageId>),
+    GetIdgen,
+    GenerateId,
     Flush,
     SizeOnDisk,
 }
@@ -30,6 +32,8 @@ pub enum Answer {
     GotMeta(Result<(PageView, Meta), Error>),
     FoundRoot(Result<PageId, Error>),
     RootSwapped(Result<Result<(), Option<PageId>>, Error>),
+    GotIdgen(Result<(PageView, u64), Error>),
+    Generated(Result<u64, Error>),
     Flushed(Result<usize, Error>),
     Sized(Result<u64, Error>),
 }

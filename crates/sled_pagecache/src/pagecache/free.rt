@@ -8,6 +8,7 @@ ghost use Rattle.std.specs.Ordering.{nat_cmp};
 use sled_base::PageId;
 use std::alloc::{AllocError, Global};
 use std::collections::BTreeSet;
+use std::fmt;
 
 /// The ids of the free pages, in order. Each call takes logarithmic time.
 #[derive(Drop)]
@@ -52,5 +53,12 @@ impl FreeIds {
         ensures { (before : List ℕ) → AllByRecursion (λ id. id ≢ pid) before → self.old.ids.keys ≡ insert_key nat_cmp before pid → self.new.ids.keys ≡ before }
     {
         self.ids.remove(&pid);
+    }
+}
+
+impl fmt::Debug for FreeIds {
+    // From the greatest, which is used again first.
+    fn fmt<W: fmt::Write>(&self, f: &mut fmt::Formatter<W>) -> fmt::Result {
+        f.debug_list().entries(self.ids.iter().rev()).finish()
     }
 }

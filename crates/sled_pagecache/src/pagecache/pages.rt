@@ -28,6 +28,7 @@ ghost use Rattle.sled_pagecache.specs.declared.pagecache.call.Answer.TheVariants
 ghost use Rattle.sled_pagecache.specs.declared.pagecache.call.Call.TheVariants.{Allocate, Flush, SizeOnDisk};
 ghost use Rattle.sled_pagecache.specs.declared.pagecache.call.Call.TheVariants as call;
 
+mod ids;
 mod roots;
 
 use super::accesses::Accesses;
@@ -46,6 +47,7 @@ use sled_base::{Device, Error, PageId, Refusal, Why};
 use sled_log::Log;
 use sled_node::{Link, Node};
 use std::alloc::Global;
+use std::fmt;
 use std::marker::Model;
 
 /// Stamped pages by their ids, over a log. Pages 0 and 1 are the cache's own.
@@ -67,11 +69,12 @@ impl<L: Log> Model for Pages<L> {
 
     ghost Value = { Cache L };
 
-    ghost use Rattle.sled_pagecache.specs.Table.{stamps_in, resident_in, nodes_in, IsConsistent};
+    ghost use Rattle.sled_pagecache.specs.Counted.{IsWhole};
+    ghost use Rattle.sled_pagecache.specs.Table.{stamps_in, resident_in, nodes_in};
 
     ghost view = { λ c. record { stamps = stamps_in c.pages.pages; resident = resident_in c.pages.pages; nodes = nodes_in c.pages.pages; next = c.next; fault = c.sticky_log.fault; config = c.config; recovered = c.recovered; lru = unlisted; log = c.sticky_log.log } };
 
-    ghost invariant = { λ c. IsConsistent L.tells L.state c.sticky_log c.pages.pages c.free.ids.keys };
+    ghost invariant = { λ c. IsWhole L.tells L.state c.config.idgen_persist_interval c.next c.sticky_log c.pages.pages c.free.ids.keys };
 }
 
 impl<L: Log> Pages<L> {
@@ -105,6 +108,10 @@ impl<L: Log> Pages<L> {
             }),
             Err(refusal) => Err((Error::from(refusal), sticky_log.log)),
         }
+    }
+
+    pub(super) fn alloc(&self) -> Global {
+        self.alloc
     }
 
     pub(super) fn was_recovered(&self) -> bool
@@ -346,5 +353,12 @@ impl<L: Log> Pages<L> {
         if pid < self.pages.len() as PageId {
             self.pages.get_mut(pid).page_out();
         }
+    }
+}
+
+impl<L: Log> fmt::Debug for Pages<L> {
+    fn fmt<W: fmt::Write>(&self, f: &mut fmt::Formatter<W>) -> fmt::Result {
+        let (max, free) = (self.pages.len(), &self.free);
+        writeln!(f, "PageCache {{ max: {max} free: {free:?} }}")
     }
 }

@@ -12,9 +12,12 @@ ghost use Rattle.sled_log.specs.Pages.{IsSized};
 ghost use Rattle.sled_log.specs.Reading.{IsUpdate};
 ghost use Rattle.sled_log.specs.Writing.{message_of};
 ghost use Rattle.sled_base.specs.declared.types.Device.TheVariants.{Write};
-ghost use Rattle.sled_base.specs.declared.types.Refusal.TheVariants.{Io};
+ghost use Rattle.sled_base.specs.declared.types.Refusal.TheVariants.{Unsupported, Io};
+ghost use Rattle.sled_base.specs.declared.types.Why.TheVariants.{TooManyNames, NameTooLong};
 ghost use Rattle.sled_base.specs.declared.kinds.MessageKind.TheVariants.{InlineMeta};
-ghost use Rattle.sled_node.specs.Meta.{CanChange, IsRootMap, changed_roots};
+ghost use Rattle.sled_node.specs.Limits.{bytes_limit};
+ghost use Rattle.sled_node.specs.Meta.{CanChange, HasRoom, IsRootMap, changed_roots};
+ghost use Rattle.sled_node.specs.Pairs.{IsWithinLimit};
 ghost use Rattle.sled_pagecache.specs.Accesses.{WasAccessed, IsTouched, capped};
 ghost use Rattle.sled_pagecache.specs.ChainReads.{chain_at, place_of};
 ghost use Rattle.sled_pagecache.specs.Limits.{meta_pid};
@@ -70,16 +73,24 @@ pub(super) fn judge_root(
     if root != old {
         return Ok(Err(root));
     }
-    if new.is_none() {
-        return Ok(Ok(()));
+    if new.is_some() {
+        judge_name(roots, name)?;
     }
+    Ok(Ok(()))
+}
+
+// Tests a name that is to have a root: one that is too long is refused, and then one that finds no room.
+pub(super) fn judge_name(roots: &Meta, name: &[u8]) -> Result<(), Refusal>
+    ensures fits { OnOk result (IsWithinLimit name.now × HasRoom name.now roots.now) }
+    ensures refused { IfErr result (λ refusal. ((bytes_limit < length name.now) × (refusal ≡ Unsupported NameTooLong)) ⊎ (IsWithinLimit name.now × (¬ HasRoom name.now roots.now) × (refusal ≡ Unsupported TooManyNames))) }
+{
     if name.len() > MAX_BYTES {
         return Err(Refusal::Unsupported(Why::NameTooLong));
     }
     if !roots.has_room(name) {
         return Err(Refusal::Unsupported(Why::TooManyNames));
     }
-    Ok(Ok(()))
+    Ok(())
 }
 
 // Gives a name another root page in the map that the page holds, or takes it out where there is none, and writes the map. A

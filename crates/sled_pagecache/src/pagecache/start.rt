@@ -7,6 +7,7 @@ ghost use Rattle.sled_log.specs.Contents.{Content};
 ghost use Rattle.sled_log.specs.Messages.{effect_of_entry, unplaced};
 ghost use Rattle.sled_log.specs.Reading.{Hold};
 ghost use Rattle.sled_log.specs.LogState.{now};
+ghost use Rattle.sled_pagecache.specs.Counted.{IsCounted};
 ghost use Rattle.sled_pagecache.specs.StickyLog.{IsOfLog};
 ghost use Rattle.sled_pagecache.specs.Loading.{AreRecovered, AreRead, IsTable, IsUnread, IsOpenedWith, RefusesPages, next_id, events_at_start, stamps_at_start};
 ghost use Rattle.sled_pagecache.specs.Proceeding.{Proceeds, refusal_in};
@@ -51,6 +52,7 @@ pub(super) fn open<L: Log>(
     ensures refused { L.tells → IfErr result (λ refusal. RefusesOpening config (now effect_of_entry (L.state sticky_log.old.log)) (error_of refusal)) }
     ensures consistent { IfOk result (λ opening. IsConsistent L.tells L.state sticky_log.new opening.pages.pages opening.free.ids.keys) }
     ensures opened { L.tells → IfOk result (λ opening. (held : List Content) → Hold (map unplaced (now effect_of_entry (L.state sticky_log.old.log))) held → IsOpenedWith config held (stamps_in opening.pages.pages) opening.next opening.recovered) }
+    ensures counted { IfOk result (λ opening. IsCounted L.tells L.state config.idgen_persist_interval opening.next sticky_log.new opening.pages.pages) }
     ensures stable { L.tells → OnOk result (length (now effect_of_entry (L.state sticky_log.old.log)) < 2 → (L.state sticky_log.new.log).pending ≡ []) }
     ensures unread { IfOk result (λ opening. (pid : ℕ) → 2 ≤ pid → IfSome (slice_get opening.pages.pages pid) (λ page. IsUnread page.kept)) }
     ensures reads { L.tells → HasRead L.counts sticky_log.old.log sticky_log.new.log (own_among (length (now effect_of_entry (L.state sticky_log.old.log)))) result }
@@ -98,6 +100,7 @@ fn complete<L: Log>(
     ensures of_log { L.tells → IfErr result IsOfLog }
     ensures consistent { IfOk result (λ opening. IsConsistent L.tells L.state sticky_log.new opening.pages.pages opening.free.ids.keys) }
     ensures opened { L.tells → IfOk result (λ opening. (held : List Content) → Hold (map unplaced (now effect_of_entry (L.state sticky_log.old.log))) held → IsOpenedWith config held (stamps_in opening.pages.pages) opening.next opening.recovered) }
+    ensures counted { IfOk result (λ opening. IsCounted L.tells L.state config.idgen_persist_interval opening.next sticky_log.new opening.pages.pages) }
     ensures stable { OnOk result (length pages.pages < 2 → (L.state sticky_log.new.log).pending ≡ []) }
     ensures unread { IfOk result (λ opening. (pid : ℕ) → 2 ≤ pid → IfSome (slice_get opening.pages.pages pid) (λ page. IsUnread page.kept)) }
     ensures reads { (L.counts sticky_log.new.log).reads ≡ (L.counts sticky_log.old.log).reads }
@@ -190,6 +193,7 @@ fn add_missing<L: Log>(
     ensures both { OnOk result (1 < length pages.new.pages) }
     ensures others { OnOk result ((pid : ℕ) → 2 ≤ pid → slice_get pages.new.pages pid ≡ slice_get pages.old.pages pid) }
     ensures stable { OnOk result (length pages.old.pages < 2 → (L.state sticky_log.new.log).pending ≡ []) }
+    ensures there { OnOk result (1 < length pages.old.pages → pages.new ≡ pages.old) }
     ensures unread { (L.counts sticky_log.new.log).reads ≡ (L.counts sticky_log.old.log).reads }
 {
     if pages.len() > 1 {

@@ -1,4 +1,4 @@
-// A log in memory of which one read and one write fail, or that is full.
+// A log in memory of which one read and one write fail, or that is full, for ever or for one message.
 
 ghost use Rattle.std.specs.Prelude.{⊤, ◌≡◌, ◌==◌, ℕ, pos, [], true};
 ghost use Rattle.sled_log.specs.Calls.{one_more};
@@ -9,15 +9,17 @@ use super::*;
 use sled_base::Lsn;
 
 // A log in memory. The read with one number fails, and the write with the other, each counted from 1, and no other. A write that
-// fails writes nothing. It takes no message that would make it larger than it may be.
+// fails writes nothing. It takes no message that would make it larger than it may be, and not the one with a third number.
 #[derive(Drop)]
 pub(super) struct FailingLog {
     log: MemLog,
     fails_to_read: u64,
     fails_to_write: u64,
     room: u64,
+    full_at: u64,
     reads: u64,
     writes: u64,
+    appends: u64,
     failed: u64,
     faults: u64,
 }
@@ -47,8 +49,10 @@ impl FailingLog {
             fails_to_read,
             fails_to_write,
             room: u64::MAX,
+            full_at: 0,
             reads: 0,
             writes: 0,
+            appends: 0,
             failed: 0,
             faults: 0,
         }
@@ -61,6 +65,16 @@ impl FailingLog {
     {
         let mut full = FailingLog::new(log, 0, 0);
         full.room = room;
+        full
+    }
+
+    // A log of which one write fails, and that is full for one message.
+    pub(super) fn full_once(log: MemLog, fails_to_write: u64, full_at: u64) -> FailingLog
+        ensures log { result.log ≡ log }
+        ensures usable { result.faults ≡ 0 }
+    {
+        let mut full = FailingLog::new(log, 0, fails_to_write);
+        full.full_at = full_at;
         full
     }
 
@@ -106,7 +120,8 @@ impl Log for FailingLog {
         payload: &[u8],
     ) -> Result<(Lsn, DiskPtr, u64), LogError> {
         let added = (payload.len() as u64).saturating_add(17);
-        if self.log.size().saturating_add(added) > self.room {
+        let is_refused = is_next(&mut self.appends, self.full_at);
+        if is_refused || self.log.size().saturating_add(added) > self.room {
             return Err(LogError::Full);
         }
         if is_next(&mut self.writes, self.fails_to_write) {

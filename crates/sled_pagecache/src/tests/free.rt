@@ -43,6 +43,8 @@ enum Step {
     Finds(PageId, u64),
     // a get finds no page
     Lacks(PageId),
+    // the cache is shown so
+    Prints(&'static str),
     Flushes,
     // a crash leaves so many of the pending changes, and the cache is opened again
     Crashes(usize),
@@ -60,6 +62,7 @@ fn shows(alloc: Global, cache: Cache, step: Step) -> Result<Option<Cache>, Fail>
         }
         Step::Finds(pid, stamp) => is_empty(&mut cache, pid, stamp),
         Step::Lacks(pid) => is_absent(&mut cache, pid),
+        Step::Prints(text) => format!(in alloc; "{cache:?}")?.as_str() == text,
         Step::Flushes => cache.flush().is_ok(),
         Step::Crashes(n) => return Ok(left_by(alloc, cache, n)),
     };
@@ -94,7 +97,7 @@ fn walks(alloc: Global, steps: &[Step]) -> Result<usize, Fail> {
 }
 
 use Freed::{Done, Gone, Refused, Stale};
-use Step::{Allocates, Crashes, Finds, Flushes, Frees, Lacks, LinksNothing};
+use Step::{Allocates, Crashes, Finds, Flushes, Frees, Lacks, LinksNothing, Prints};
 
 const MANIFEST: PageId = u64::MAX - 666;
 
@@ -122,7 +125,9 @@ const SCRIPTS: [(&str, &[Step]); 8] = [
             Frees(0, 1, Refused(Why::ReservedId)),
             Frees(1, 1, Refused(Why::ReservedId)),
             Frees(MANIFEST, 1, Refused(Why::ReservedId)),
+            Prints("PageCache { max: 2 free: [] }\n"),
             Allocates(2, 1),
+            Prints("PageCache { max: 3 free: [] }\n"),
         ],
     ),
     (
@@ -164,9 +169,11 @@ const SCRIPTS: [(&str, &[Step]); 8] = [
             Frees(3, 1, Done(2)),
             Flushes,
             Crashes(0),
+            Prints("PageCache { max: 4 free: [3, 2] }\n"),
             Lacks(2),
             Lacks(3),
             Allocates(3, 1),
+            Prints("PageCache { max: 4 free: [2] }\n"),
             Frees(3, 0, Stale(1)),
             Frees(3, 1, Done(2)),
             Allocates(3, 3),

@@ -161,3 +161,59 @@ fn refused_allocations_change_nothing(rt: HostRuntime) -> Result<(), Fail> {
     assert!(rt; has_bytes(&cache, 402));
     Ok(())
 }
+
+fn draws_once(cache: &mut Cache, id: u64) -> Done {
+    match cache.generate_id_inner() {
+        Ok(given) => Some(given == id),
+        Err(Error::OutOfMemory) => None,
+        Err(_) => Some(false),
+    }
+}
+
+// Draws an id, and a second time where an allocation failed. Only an id with a new counter allocates.
+fn draws_id(cache: &mut Cache, id: u64) -> bool {
+    match draws_once(cache, id) {
+        Some(done) => done,
+        None => id != 0 && id % 10 == 0 && draws_once(cache, id) == Some(true),
+    }
+}
+
+#[test]
+fn a_refused_allocation_uses_no_id(rt: HostRuntime) -> Result<(), Fail> {
+    let alloc = rt.alloc();
+    let mut cache = opens(alloc, MemLog::new(alloc, 512, 16)).ok_or("a new cache")?;
+    assert!(rt; (0..31).all(|id| draws_id(&mut cache, id)));
+    assert!(rt; has_bytes(&cache, 35 + 3 * 18));
+    let mut cache = opens(alloc, cache.into_log()).ok_or("the cache again")?;
+    assert!(rt; (50..71).all(|id| draws_id(&mut cache, id)));
+    assert!(rt; has_bytes(&cache, 89 + 3 * 18));
+    Ok(())
+}
+
+// What opening a tree answered, and none where an allocation failed.
+fn tree_once(alloc: Global, cache: &mut Cache) -> Option<PageId> {
+    let name = IVec::from_array(alloc, *b"t").ok()?;
+    open_tree(cache, name).ok()
+}
+
+// Whether the tree is opened: behind the pages that stand where an allocation failed.
+fn opens_tree(alloc: Global, cache: &mut Cache) -> bool {
+    if let Some(root) = tree_once(alloc, cache) {
+        return root == 3;
+    }
+    let first = match (is_absent(cache, 2), is_absent(cache, 3)) {
+        (true, _) => 2,
+        (false, true) => 3,
+        (false, false) => 4,
+    };
+    tree_once(alloc, cache) == Some(first + 1)
+}
+
+#[test]
+fn a_refused_allocation_leaves_what_was_made_of_a_tree(rt: HostRuntime) -> Result<(), Fail> {
+    let alloc = rt.alloc();
+    let mut cache = opens(alloc, MemLog::new(alloc, 512, 16)).ok_or("a new cache")?;
+    assert!(rt; opens_tree(alloc, &mut cache));
+    assert!(rt; cache.get_meta().is_ok_and(|view| view.meta().len() == 1));
+    Ok(())
+}

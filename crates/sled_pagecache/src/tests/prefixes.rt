@@ -16,13 +16,16 @@ fn five_changes(alloc: Global) -> Result<Option<MemLog>, Fail> {
 
 // Whether page 3 takes a leaf that has one pair.
 fn replaces(alloc: Global, cache: &mut Cache) -> Result<bool, Fail> {
-    let mut node = Node::default(alloc);
     let link = set(alloc, b"k", b"v")?;
-    if !node.accepts(&link) {
+    let mut node = Node::default(alloc);
+    if !takes_link(&mut node, &link) {
         return Ok(false);
     }
-    node.apply(&link)?;
     Ok(is_answer(cache, 3, 1, node, Ok(Ok(PageView::new(3, 2)))))
+}
+
+fn takes_link(node: &mut Node, link: &Link) -> bool {
+    node.accepts(link) && node.apply(link).is_ok()
 }
 
 // A cache over what a crash leaves that keeps so many of the changes.

@@ -1,4 +1,4 @@
-// Named roots.
+// Named roots. The steps of trees that are opened by their names are here too.
 
 use super::crashes::reopen;
 use super::failing::FailingLog;
@@ -6,7 +6,7 @@ use super::*;
 
 // What a swap of a root answered: it was made, another root is there, or why it was refused.
 #[derive(Clone, Copy, Debug, PartialEq, Eq)]
-enum Outcome {
+pub(super) enum Outcome {
     Done,
     Is(Option<PageId>),
     Refused(Why),
@@ -27,8 +27,49 @@ fn swap<L: Log>(
     }
 }
 
+// What opening a tree answered: its root, why it was refused, or something else.
+#[derive(Clone, Copy, Debug, PartialEq, Eq)]
+pub(super) enum Opened {
+    Root(PageId),
+    RefusedFor(Why),
+    Neither,
+}
+
+pub(super) fn open_named<L: Log>(alloc: Global, cache: &mut PageCache<L>, name: &[u8]) -> Opened {
+    let Ok(name) = IVec::from_slice(alloc, name) else {
+        return Opened::Neither;
+    };
+    match open_tree(cache, name) {
+        Ok(root) => Opened::Root(root),
+        Err(Error::Unsupported(why)) => Opened::RefusedFor(why),
+        Err(_) => Opened::Neither,
+    }
+}
+
+// Whether the page is an index that leads each key to the leaf, at this stamp.
+fn leads_to(cache: &mut Cache, root: PageId, stamp: u64, leaf: PageId) -> bool {
+    match cache.get(root) {
+        Ok(Some(view)) => view.token() == PageView::new(root, stamp)
+            && is_index_over(view.node(), leaf),
+        _ => false,
+    }
+}
+
+fn is_index_over(node: &Node, leaf: PageId) -> bool {
+    if node.len() != 1 || !node.lo().is_empty() || !node.hi().is_empty() {
+        return false;
+    }
+    let (stored, item) = node.pair(0);
+    stored.is_empty() && item == Item::Child(leaf)
+}
+
+// Whether a page at stamp 1 is freed.
+fn is_freed(cache: &mut Cache, pid: PageId) -> bool {
+    matches!(cache.free(pid, PageView::new(pid, 1)), Ok(Ok(_)))
+}
+
 // The root of a name, if it has one.
-fn root_of<L: Log>(cache: &PageCache<L>, name: &[u8]) -> Option<PageId> {
+pub(super) fn root_of<L: Log>(cache: &PageCache<L>, name: &[u8]) -> Option<PageId> {
     cache.meta_pid_for_name(name).ok()
 }
 
@@ -50,8 +91,18 @@ fn names_and_stamp<L: Log>(cache: &PageCache<L>) -> Option<(usize, u64)> {
 
 // A step of a script, and what it shows.
 #[derive(Clone, Copy, Debug)]
-enum Step {
+pub(super) enum Step {
     Swaps(&'static [u8], Option<PageId>, Option<PageId>, Outcome),
+    // the tree of that name has this root
+    Opens(&'static [u8], PageId),
+    // a page is an index that leads each key to the leaf, at this stamp
+    Leads(PageId, u64, PageId),
+    // a page is an empty leaf at this stamp
+    Leaf(PageId, u64),
+    Absent(PageId),
+    // an empty leaf goes to this page
+    Adds(PageId),
+    Frees(PageId),
     // the name has this root
     Finds(&'static [u8], PageId),
     // the name has none, and is reported
@@ -70,6 +121,12 @@ fn shows(alloc: Global, cache: Cache, step: Step) -> Option<Cache> {
     let mut cache = cache;
     let is_so = match step {
         Step::Swaps(name, old, new, answer) => swap(&mut cache, name, old, new) == answer,
+        Step::Opens(name, root) => open_named(alloc, &mut cache, name) == Opened::Root(root),
+        Step::Leads(root, stamp, leaf) => leads_to(&mut cache, root, stamp, leaf),
+        Step::Leaf(pid, stamp) => is_empty(&mut cache, pid, stamp),
+        Step::Absent(pid) => is_absent(&mut cache, pid),
+        Step::Adds(pid) => adds_leaf(alloc, &mut cache, pid),
+        Step::Frees(pid) => is_freed(&mut cache, pid),
         Step::Finds(name, root) => root_of(&cache, name) == Some(root),
         Step::Lacks(name) => is_reported(&cache, name),
         Step::Has(names, stamp) => names_and_stamp(&cache) == Some((names, stamp)),
@@ -81,7 +138,7 @@ fn shows(alloc: Global, cache: Cache, step: Step) -> Option<Cache> {
 }
 
 // How many steps of a script show what they should, before the first that doesn't.
-fn walks(alloc: Global, steps: &[Step]) -> Result<usize, Fail> {
+pub(super) fn walks(alloc: Global, steps: &[Step]) -> Result<usize, Fail> {
     let mut cache = opened(alloc)?;
     for (done, step) in steps.iter().enumerate() {
         let Some(next) = shows(alloc, cache, *step) else {
@@ -93,13 +150,15 @@ fn walks(alloc: Global, steps: &[Step]) -> Result<usize, Fail> {
 }
 
 use Outcome::{Done, Is, Refused};
-use Step::{Crashes, Finds, Flushes, Has, Lacks, Swaps, Takes};
+use Step::{
+    Absent, Adds, Crashes, Finds, Flushes, Frees, Has, Lacks, Leads, Leaf, Opens, Swaps, Takes,
+};
 
-const SHORT: &[u8] = &[b's'; 22];
+pub(super) const SHORT: &[u8] = &[b's'; 22];
 
-const LONG: &[u8] = &[b'l'; 23];
+pub(super) const LONG: &[u8] = &[b'l'; 23];
 
-const LONGER: &[u8] = &[b'm'; 1000];
+pub(super) const LONGER: &[u8] = &[b'm'; 1000];
 
 // The system pages take 17 and 18 bytes of the log, and a root map 17 and, for each name, its length, the bytes of that length, and
 // those of its root.
@@ -205,12 +264,16 @@ fn names_have_roots(rt: HostRuntime) -> Result<(), Fail> {
     Ok(())
 }
 
-// Whether 1,000 names are set in a scattered order and found, and each hundredth is taken out.
+// One of 1,000 names, in a scattered order.
+fn name_of(n: u64) -> [u8; 8] {
+    (n % 1000 * 501 % 1000).to_be_bytes()
+}
+
+// Whether 1,000 names are set and found, and each hundredth is taken out.
 fn sets_many(cache: &mut Cache) -> bool {
-    let name = |n: u64| (n * 501 % 1000).to_be_bytes();
-    (0..1000).all(|n| swap(cache, &name(n), None, Some(n)) == Done)
-        && (0..1000).all(|n| root_of(cache, &name(n)) == Some(n))
-        && (0..10).all(|n| swap(cache, &name(100 * n), Some(100 * n), None) == Done)
+    (0..1000).all(|n| swap(cache, &name_of(n), None, Some(n)) == Done)
+        && (0..1000).all(|n| root_of(cache, &name_of(n)) == Some(n))
+        && (0..1000).all(|n| n % 100 != 0 || swap(cache, &name_of(n), Some(n), None) == Done)
         && names_and_stamp(cache) == Some((990, 1011))
 }
 

@@ -242,9 +242,22 @@ fn replies_to_lines(rt: HostRuntime) -> Result<(), Fail> {
             "alloc\nset 2 1 6 62\nset 2 1 61 6G\nset 2 1 61 6A\nset 2 1 61\nset 2 1 61 62 63\nset  2 1 61 62\nget 2\n",
             "page 2 1\nerror line\nerror line\nerror line\nerror line\nerror line\nerror line\nleaf 1\n",
         ),
+        ("pin\nseal\namp\n", "error line\nerror line\nerror line\n"),
         (
-            "open 74\nid\npin\nseal\namp\n",
-            "error line\nerror line\nerror line\nerror line\nerror line\n",
+            "open 74\nget 3\nroot 74\ncas 74 2 -\ncas 74 3 -\nroot 74\nset 3 1 61 62\n",
+            "page 3\nindex 1 -=2\npage 3\nis 3\nok\nnone\nerror bug 3\n",
+        ),
+        (
+            "open -\nopen 74\nopen -\nroot -\nget 2\nget 5\nopen 74\nsize\n",
+            "page 3\npage 5\npage 3\npage 3\nleaf 1\nindex 1 -=4\npage 5\nsize 180\n",
+        ),
+        (
+            "cas 74 - 9\nopen 74\nalloc\nalloc\nfree 2 1\nfree 3 1\nopen 75\nget 2\nget 3\n",
+            "ok\npage 9\npage 2 1\npage 3 1\nok 2\nok 2\npage 2\nindex 3 -=3\nleaf 3\n",
+        ),
+        (
+            "open\nopen \nopen 7\nopen 7G\nopen 74 75\nopen  74\nOPEN 74\nopened 74\nope 74\nsize\n",
+            "error line\nerror line\nerror line\nerror line\nerror line\nerror line\nerror line\nerror line\nerror line\nsize 35\n",
         ),
         (
             "root 74\ncas 74 - 3\nroot 74\ncas 74 2 -\ncas 74 3 -\nroot 74\nsize\n",
@@ -257,6 +270,15 @@ fn replies_to_lines(rt: HostRuntime) -> Result<(), Fail> {
         (
             "root\nroot 7\nroot 74 74\ncas\ncas 74\ncas 74 2\ncas 74 2 3 4\ncas 7 - -\ncas 74 -- 2\ncas 74 02 2\ncas 74 - 18446744073709551616\nsize\n",
             "error line\nerror line\nerror line\nerror line\nerror line\nerror line\nerror line\nerror line\nerror line\nerror line\nerror line\nsize 35\n",
+        ),
+        (
+            "id\nid 1\nid \nID\nids\nid\nsize\nid",
+            "id 0\nerror line\nerror line\nerror line\nerror line\nid 1\nsize 35\nid 2\n",
+        ),
+        // The eleventh id makes all durable that is pending.
+        (
+            "id\nid\nid\nid\nid\nid\nid\nid\nid\nalloc\nid\nsize\nid\nsize\nflush\n",
+            "id 0\nid 1\nid 2\nid 3\nid 4\nid 5\nid 6\nid 7\nid 8\npage 2 1\nid 9\nsize 60\nid 10\nsize 78\nflushed 0\n",
         ),
         (
             "alloc\nfree 2 1\nget 2\nset 2 2 61 62\nalloc\n",

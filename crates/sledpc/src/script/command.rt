@@ -1,13 +1,15 @@
-//! From a line to the call that it asks for.
+//! From a line to what it asks for.
 
-ghost use Rattle.std.specs.Prelude.{◌≤◌, ◌≡◌, ◌≢◌, ℕ, length, map, codes, Option, IfOk, IfSome, IfNone};
+ghost use Rattle.std.specs.Prelude.{◌≤◌, ◌≡◌, ◌≢◌, ℕ, length, map, codes, Option, Some, IfOk, IfSome, IfNone};
 ghost use Rattle.std.specs.Option.{option_map, SomeIff};
 ghost use Rattle.sled_base.specs.Order.{Bytes};
 ghost use Rattle.sled_node.specs.Node.{Value, WholeNode, leaf_of};
 ghost use Rattle.sled_node.specs.Pairs.{IsWithinLimit, HasPairs};
-ghost use Rattle.sledpc.specs.Asked.{AsksBehind, AreTwo, BeginsWithToken, EncodeLeaf, EncodeRoots};
-ghost use Rattle.sledpc.specs.Commands.{Encodes, IsRootNumber, root_word};
+ghost use Rattle.sledpc.specs.Asked.{AsksBehind, AreTwo, BeginsWithToken, EncodeLeaf, EncodeRoots, OpensBehind};
+ghost use Rattle.sledpc.specs.Commands.{Encodes, IsCommand, IsRootNumber, root_word};
 ghost use Rattle.sledpc.specs.Settings.{longest_line};
+ghost use Rattle.sledpc.specs.Words.{AreBytes, bytes_word};
+ghost use Rattle.sledpc.specs.declared.script.command.Command.{Command};
 ghost use Rattle.sled_pagecache.specs.Token.{Token};
 ghost use Rattle.sled_pagecache.specs.declared.pagecache.call.Call.{Call};
 
@@ -15,8 +17,44 @@ use super::words::{bytes_of, first_word, number_of, pairs_of};
 use sled_pagecache::{Call, Data, IVec, Leaf, Link, Node, PageId, PageView};
 use std::alloc::{AllocError, Global};
 
-/// The call that a line asks for, or none where it is no command.
-pub fn call_of(alloc: Global, line: &[u8]) -> Result<Option<Call>, AllocError>
+/// What a line asks for.
+#[derive(Drop)]
+pub enum Command {
+    /// A call of the cache.
+    Call(Call),
+    /// The tree of this name, which several calls open.
+    OpenTree(IVec),
+}
+
+/// What a line asks for, or none where it is no command.
+pub fn command_of(alloc: Global, line: &[u8]) -> Result<Option<Command>, AllocError>
+    requires { length line.now ≤ longest_line }
+    ensures some { IfOk result (λ found. IfSome found (IsCommand line.now)) }
+    ensures none { IfOk result (λ found. IfNone found ((command : Command) → ¬ IsCommand line.now command)) }
+{
+    let (name, arguments) = first_word(line);
+    if name == b"open".as_slice() {
+        return open_of(alloc, arguments);
+    }
+    let Some(call) = call_of(alloc, line)? else {
+        return Ok(None);
+    };
+    Ok(Some(Command::Call(call)))
+}
+
+// `open NAME`
+fn open_of(alloc: Global, arguments: Option<&[u8]>) -> Result<Option<Command>, AllocError>
+    ensures some { IfOk result (λ found. IfSome found (OpensBehind (option_map (λ rest. rest.now) arguments.entry))) }
+    ensures none { IfOk result (λ found. IfNone found ((name : Bytes) → AreBytes name → option_map (λ rest. rest.now) arguments.entry ≢ Some (bytes_word name))) }
+{
+    let Some(name) = name_behind(alloc, arguments)? else {
+        return Ok(None);
+    };
+    Ok(Some(Command::OpenTree(name)))
+}
+
+// The call that a line asks for, or none where it asks for none.
+fn call_of(alloc: Global, line: &[u8]) -> Result<Option<Call>, AllocError>
     requires { length line.now ≤ longest_line }
     ensures some { IfOk result (λ found. IfSome found (Encodes line.now)) }
     ensures none { IfOk result (λ found. IfNone found ((call : Call) → ¬ Encodes line.now call)) }
@@ -31,6 +69,7 @@ pub fn call_of(alloc: Global, line: &[u8]) -> Result<Option<Call>, AllocError>
         b"free" => Ok(free_of(arguments)),
         b"root" => root_of(alloc, arguments),
         b"cas" => cas_of(alloc, arguments),
+        b"id" => Ok(id_of(arguments)),
         b"flush" => Ok(flush_of(arguments)),
         b"size" => Ok(size_of(arguments)),
         _ => Ok(None),
@@ -148,13 +187,24 @@ fn root_of(alloc: Global, arguments: Option<&[u8]>) -> Result<Option<Call>, Allo
     ensures some { IfOk result (λ found. IfSome found (AsksBehind (codes "root") (option_map (λ rest. rest.now) arguments.entry))) }
     ensures none { IfOk result (λ found. IfNone found ((call : Call) → ¬ AsksBehind (codes "root") (option_map (λ rest. rest.now) arguments.entry) call)) }
 {
+    let Some(name) = name_behind(alloc, arguments)? else {
+        return Ok(None);
+    };
+    Ok(Some(Call::MetaPidForName(name)))
+}
+
+// A name that stands alone.
+fn name_behind(alloc: Global, arguments: Option<&[u8]>) -> Result<Option<IVec>, AllocError>
+    ensures some { IfOk result (λ found. IfSome found (λ name. AreBytes name × (option_map (λ rest. rest.now) arguments.entry ≡ Some (bytes_word name)))) }
+    ensures none { IfOk result (λ found. IfNone found ((name : Bytes) → AreBytes name → option_map (λ rest. rest.now) arguments.entry ≢ Some (bytes_word name))) }
+{
     let Some(word) = arguments else {
         return Ok(None);
     };
     let Some(name) = bytes_of(alloc, word)? else {
         return Ok(None);
     };
-    Ok(Some(Call::MetaPidForName(name)))
+    Ok(Some(name))
 }
 
 // `cas NAME OLD NEW`
@@ -193,6 +243,17 @@ fn root_in(word: &[u8]) -> Option<Option<PageId>>
     }
     let root = number_of(word)?;
     Some(Some(root))
+}
+
+// `id`
+fn id_of(arguments: Option<&[u8]>) -> Option<Call>
+    ensures some { IfSome result (AsksBehind (codes "id") (option_map (λ rest. rest.now) arguments.entry)) }
+    ensures none { IfNone result ((call : Call) → ¬ AsksBehind (codes "id") (option_map (λ rest. rest.now) arguments.entry) call) }
+{
+    match arguments {
+        None => Some(Call::GenerateId),
+        Some(_) => None,
+    }
 }
 
 // `flush`

@@ -4,16 +4,17 @@ ghost use Rattle.std.specs.Prelude.{◌≡◌, ◌+◌, ◌<◌, ◌≤◌, [], 
 ghost use Rattle.std.specs.Fmt.{decimal};
 ghost use Rattle.sled_node.specs.Node.{Value};
 ghost use Rattle.sled_node.specs.Parts.{item_of};
-ghost use Rattle.sledpc.specs.Output.{Writes};
-ghost use Rattle.sledpc.specs.Replies.{entry_text, error_text, item_word, node_text, reply_of};
-ghost use Rattle.sledpc.specs.Settings.{piece_room};
+ghost use Rattle.sledpc.specs.Output.{Writes, Gathers};
+ghost use Rattle.sledpc.specs.Replies.{entry_text, error_text, item_word, node_text, reply_of, reply_of_tree};
+ghost use Rattle.sledpc.specs.Settings.{entry_room, piece_room};
 ghost use Rattle.sledpc.specs.LentAnswers.{answer_of};
 ghost use Rattle.sledpc.specs.Words.{bytes_word};
 
-use crate::output::{write_bytes_word, write_number, write_text};
+use crate::output::{
+    Unwritten, gather_bytes_word, gather_number, gather_text, make_room, write_text,
+};
 use crate::piece::Piece;
 use sled_pagecache::{Device, Error, Item, Link, Node, NodeView, PageId, PageView, Refusal};
-use std::io;
 use std::io::Write;
 
 /// What a call of the cache answered, lent.
@@ -26,12 +27,13 @@ pub enum LentAnswer<'a> {
     Freed(&'a Result<Result<PageView, Option<(PageView, ())>>, Error>),
     FoundRoot(&'a Result<PageId, Error>),
     RootSwapped(&'a Result<Result<(), Option<PageId>>, Error>),
+    Generated(&'a Result<u64, Error>),
     Flushed(&'a Result<usize, Error>),
     Sized(&'a Result<u64, Error>),
 }
 
 /// Writes the reply to an answer as a line.
-pub fn write_line<W: Write>(writer: &mut W, lent: LentAnswer<'_>) -> io::Result<()>
+pub fn write_line<W: Write>(writer: &mut W, lent: LentAnswer<'_>) -> Result<(), Unwritten>
     ensures { Writes (W.contents writer.old) (W.contents writer.new) result (reply_of (answer_of lent.entry) ++ 10 ∷ []) }
 {
     match lent {
@@ -54,6 +56,7 @@ pub fn write_line<W: Write>(writer: &mut W, lent: LentAnswer<'_>) -> io::Result<
         LentAnswer::RootSwapped(Ok(Ok(()))) => write_text(writer, b"ok\n"),
         LentAnswer::RootSwapped(Ok(Err(None))) => write_text(writer, b"is -\n"),
         LentAnswer::RootSwapped(Ok(Err(Some(root)))) => write_labelled(writer, b"is ", *root),
+        LentAnswer::Generated(Ok(id)) => write_labelled(writer, b"id ", *id),
         LentAnswer::Flushed(Ok(written)) => write_labelled(writer, b"flushed ", *written as u64),
         LentAnswer::Sized(Ok(bytes)) => write_labelled(writer, b"size ", *bytes),
         LentAnswer::Allocated(Err(error))
@@ -62,9 +65,20 @@ pub fn write_line<W: Write>(writer: &mut W, lent: LentAnswer<'_>) -> io::Result<
         | LentAnswer::Freed(Err(error))
         | LentAnswer::FoundRoot(Err(error))
         | LentAnswer::RootSwapped(Err(error))
+        | LentAnswer::Generated(Err(error))
         | LentAnswer::Flushed(Err(error))
         | LentAnswer::Sized(Err(error)) => write_error(writer, error),
         LentAnswer::Got(Err(refusal)) => write_error(writer, &Error::from(refusal)),
+    }
+}
+
+/// Writes the reply to the opening of a tree as a line.
+pub fn write_tree<W: Write>(writer: &mut W, root: &Result<PageId, Error>) -> Result<(), Unwritten>
+    ensures { Writes (W.contents writer.old) (W.contents writer.new) result (reply_of_tree root.now ++ 10 ∷ []) }
+{
+    match root {
+        Ok(root) => write_labelled(writer, b"page ", *root),
+        Err(error) => write_error(writer, error),
     }
 }
 
@@ -80,7 +94,7 @@ fn labelled(label: &[u8], number: u64) -> Piece
 }
 
 // Writes a short label and a number as a line.
-fn write_labelled<W: Write>(writer: &mut W, label: &[u8], number: u64) -> io::Result<()>
+fn write_labelled<W: Write>(writer: &mut W, label: &[u8], number: u64) -> Result<(), Unwritten>
     requires { length label.now ≤ 40 }
     ensures { Writes (W.contents writer.old) (W.contents writer.new) result (label.now ++ decimal number ++ 10 ∷ []) }
 {
@@ -89,7 +103,7 @@ fn write_labelled<W: Write>(writer: &mut W, label: &[u8], number: u64) -> io::Re
     write_text(writer, piece.as_slice())
 }
 
-fn write_page<W: Write>(writer: &mut W, pid: PageId, stamp: u64) -> io::Result<()>
+fn write_page<W: Write>(writer: &mut W, pid: PageId, stamp: u64) -> Result<(), Unwritten>
     ensures { Writes (W.contents writer.old) (W.contents writer.new) result (codes "page " ++ decimal pid ++ codes " " ++ decimal stamp ++ 10 ∷ []) }
 {
     let mut piece = labelled(b"page ", pid);
@@ -99,7 +113,7 @@ fn write_page<W: Write>(writer: &mut W, pid: PageId, stamp: u64) -> io::Result<(
     write_text(writer, piece.as_slice())
 }
 
-fn write_error<W: Write>(writer: &mut W, error: &Error) -> io::Result<()>
+fn write_error<W: Write>(writer: &mut W, error: &Error) -> Result<(), Unwritten>
     ensures { Writes (W.contents writer.old) (W.contents writer.new) result (error_text error.now ++ 10 ∷ []) }
 {
     match error {
@@ -117,13 +131,13 @@ fn write_error<W: Write>(writer: &mut W, error: &Error) -> io::Result<()>
     }
 }
 
-fn write_node<W: Write>(writer: &mut W, stamp: u64, node: &Node) -> io::Result<()>
+fn write_node<W: Write>(writer: &mut W, stamp: u64, node: &Node) -> Result<(), Unwritten>
     ensures { Writes (W.contents writer.old) (W.contents writer.new) result (node_text stamp node.now ++ 10 ∷ []) }
 {
-    let head = labelled(label_of(node), stamp);
-    write_text(writer, head.as_slice())?;
-    write_entries(writer, node)?;
-    write_text(writer, b"\n")
+    let mut piece = labelled(label_of(node), stamp);
+    gather_entries(writer, &mut piece, node)?;
+    gather_text(writer, &mut piece, b"\n")?;
+    write_text(writer, piece.as_slice())
 }
 
 // What a reply calls the node.
@@ -133,13 +147,13 @@ fn label_of(node: &Node) -> &'static [u8]
     if node.is_index() { b"index " } else { b"leaf " }
 }
 
-fn write_entries<W: Write>(writer: &mut W, node: &Node) -> io::Result<()>
-    ensures { Writes (W.contents writer.old) (W.contents writer.new) result (flat_map entry_text node.now.pairs) }
+fn gather_entries<W: Write>(writer: &mut W, piece: &mut Piece, node: &Node) -> Result<(), Unwritten>
+    ensures { Gathers (W.contents writer.old) (W.contents writer.new) piece.old piece.new result (flat_map entry_text node.now.pairs) }
 {
     let front = front_of(node);
     for i in 0..node.len() {
         let (rest, item) = node.pair(i);
-        write_entry(writer, front, rest, item)?;
+        gather_entry(writer, piece, front, rest, item)?;
     }
     Ok(())
 }
@@ -151,29 +165,35 @@ fn front_of(node: &Node) -> &[u8]
     &node.lo().as_slice()[..node.prefix_len() as usize]
 }
 
-// The bytes of a key and its value of which the entry has room in a piece, with two digits a byte.
+// An entry is short where its key and its value have at most so many bytes. Its text has two digits for each.
 const SHORT: usize = 78;
 
-// Writes a space, the whole key, of which the front and the rest are given, an equals sign, and the item.
-fn write_entry<W: Write>(
+// The text of a short entry has at most so many bytes.
+const ENTRY_ROOM: usize = 160;
+
+// Puts a space, the whole key, of which the front and the rest are given, an equals sign, and the item behind what was gathered.
+fn gather_entry<W: Write>(
     writer: &mut W,
+    piece: &mut Piece,
     front: &[u8],
     rest: &[u8],
     item: Item<'_>,
-) -> io::Result<()>
-    ensures { Writes (W.contents writer.old) (W.contents writer.new) result (entry_text (front.now ++ rest.now, item_of item.entry)) }
+) -> Result<(), Unwritten>
+    ensures { Gathers (W.contents writer.old) (W.contents writer.new) piece.old piece.new result (entry_text (front.now ++ rest.now, item_of item.entry)) }
 {
     match item {
         Item::Value(value) if is_short(front, rest, value) => {
-            write_short_entry(writer, front, rest, value)
+            make_room(writer, piece, ENTRY_ROOM)?;
+            put_entry(piece, front, rest, value);
+            Ok(())
         }
-        _ => write_entry_in_parts(writer, front, rest, item),
+        _ => gather_entry_in_parts(writer, piece, front, rest, item),
     }
 }
 
-// Whether a piece has room for the entry.
+// Whether an entry is short.
 fn is_short(front: &[u8], rest: &[u8], value: &[u8]) -> bool
-    ensures { IsTrue result → length (entry_text (front.now ++ rest.now, Value value.now)) ≤ piece_room }
+    ensures { IsTrue result → length (entry_text (front.now ++ rest.now, Value value.now)) ≤ entry_room }
 {
     front
         .len()
@@ -182,56 +202,56 @@ fn is_short(front: &[u8], rest: &[u8], value: &[u8]) -> bool
         <= SHORT
 }
 
-fn write_short_entry<W: Write>(
-    writer: &mut W,
-    front: &[u8],
-    rest: &[u8],
-    value: &[u8],
-) -> io::Result<()>
-    requires { length (entry_text (front.now ++ rest.now, Value value.now)) ≤ piece_room }
-    ensures { Writes (W.contents writer.old) (W.contents writer.new) result (entry_text (front.now ++ rest.now, Value value.now)) }
+// Puts an entry into a piece, which has room for it.
+fn put_entry(piece: &mut Piece, front: &[u8], rest: &[u8], value: &[u8])
+    requires { length piece.old + length (entry_text (front.now ++ rest.now, Value value.now)) ≤ piece_room }
+    ensures { piece.new ≡ piece.old ++ entry_text (front.now ++ rest.now, Value value.now) }
 {
-    let mut piece = Piece::new();
     piece.push(b' ');
     piece.put_bytes_word(front, rest);
     piece.push(b'=');
     piece.put_bytes_word(value, &[]);
-    write_text(writer, piece.as_slice())
 }
 
-fn write_entry_in_parts<W: Write>(
+fn gather_entry_in_parts<W: Write>(
     writer: &mut W,
+    piece: &mut Piece,
     front: &[u8],
     rest: &[u8],
     item: Item<'_>,
-) -> io::Result<()>
-    ensures { Writes (W.contents writer.old) (W.contents writer.new) result (entry_text (front.now ++ rest.now, item_of item.entry)) }
+) -> Result<(), Unwritten>
+    ensures { Gathers (W.contents writer.old) (W.contents writer.new) piece.old piece.new result (entry_text (front.now ++ rest.now, item_of item.entry)) }
 {
-    write_text(writer, b" ")?;
-    write_key(writer, front, rest)?;
-    write_text(writer, b"=")?;
-    write_item(writer, item)
+    gather_text(writer, piece, b" ")?;
+    gather_key(writer, piece, front, rest)?;
+    gather_text(writer, piece, b"=")?;
+    gather_item(writer, piece, item)
 }
 
-// Writes a whole key, of which the front and the rest are given.
-fn write_key<W: Write>(writer: &mut W, front: &[u8], rest: &[u8]) -> io::Result<()>
-    ensures { Writes (W.contents writer.old) (W.contents writer.new) result (bytes_word (front.now ++ rest.now)) }
+// Puts a whole key, of which the front and the rest are given, behind what was gathered.
+fn gather_key<W: Write>(
+    writer: &mut W,
+    piece: &mut Piece,
+    front: &[u8],
+    rest: &[u8],
+) -> Result<(), Unwritten>
+    ensures { Gathers (W.contents writer.old) (W.contents writer.new) piece.old piece.new result (bytes_word (front.now ++ rest.now)) }
 {
     if front.is_empty() {
-        return write_bytes_word(writer, rest);
+        return gather_bytes_word(writer, piece, rest);
     }
     if rest.is_empty() {
-        return write_bytes_word(writer, front);
+        return gather_bytes_word(writer, piece, front);
     }
-    write_bytes_word(writer, front)?;
-    write_bytes_word(writer, rest)
+    gather_bytes_word(writer, piece, front)?;
+    gather_bytes_word(writer, piece, rest)
 }
 
-fn write_item<W: Write>(writer: &mut W, item: Item<'_>) -> io::Result<()>
-    ensures { Writes (W.contents writer.old) (W.contents writer.new) result (item_word (item_of item.entry)) }
+fn gather_item<W: Write>(writer: &mut W, piece: &mut Piece, item: Item<'_>) -> Result<(), Unwritten>
+    ensures { Gathers (W.contents writer.old) (W.contents writer.new) piece.old piece.new result (item_word (item_of item.entry)) }
 {
     match item {
-        Item::Value(value) => write_bytes_word(writer, value),
-        Item::Child(page) => write_number(writer, page),
+        Item::Value(value) => gather_bytes_word(writer, piece, value),
+        Item::Child(page) => gather_number(writer, piece, page),
     }
 }

@@ -5,17 +5,17 @@ ghost use Rattle.std.specs.Io.KnownBytes.{Keeps};
 ghost use Rattle.sledpc.specs.Commands.{Encodes, IsOfScript};
 ghost use Rattle.sledpc.specs.Output.{Writes};
 ghost use Rattle.sledpc.specs.Runs.{Serves, run_error_of};
-ghost use Rattle.sledpc.specs.Served.{RepliesTo, RepliesLine};
+ghost use Rattle.sledpc.specs.Served.{RepliesTo, RepliesToOpen, RepliesLine};
 ghost use Rattle.sledpc.specs.Settings.{longest_line};
 ghost use Rattle.sled_pagecache.specs.declared.pagecache.call.Call.{Call};
+ghost use Rattle.sled_pagecache.specs.declared.pagecache.call.Call.TheVariants as calls;
 
-use super::command::call_of;
-use super::reply::{LentAnswer, write_line};
+use super::command::{Command, command_of};
+use super::reply::{LentAnswer, write_line, write_tree};
 use crate::lines::{Line, ReadError, read_line};
-use crate::output::write_text;
-use sled_pagecache::{Call, Log, PageCache};
+use crate::output::{Unwritten, write_text};
+use sled_pagecache::{Call, IVec, Link, Log, Node, PageCache, PageId, PageView, open_tree};
 use std::alloc::{AllocError, Global};
-use std::io;
 use std::io::{BufRead, Write};
 use thiserror::Error;
 
@@ -54,12 +54,12 @@ impl From<AllocError> for RunError {
     }
 }
 
-impl From<io::Error> for RunError {
+impl From<Unwritten> for RunError {
     ghost use Rattle.sledpc.specs.declared.script.run.RunError.TheVariants.{Write};
 
     ghost from_gives = { λ _ r. r ≡ Write };
 
-    fn from(_error: io::Error) -> RunError {
+    fn from(_error: Unwritten) -> RunError {
         RunError::Write
     }
 }
@@ -102,13 +102,16 @@ pub fn run<L: Log, R: BufRead, W: Write>(
 }
 
 // Flushes the replies, unless another line can be read without a wait.
-fn flush_unless<W: Write>(is_followed: bool, writer: &mut W) -> io::Result<()>
+fn flush_unless<W: Write>(is_followed: bool, writer: &mut W) -> Result<(), Unwritten>
     ensures { Keeps (W.contents writer.old) (W.contents writer.new) }
 {
     if is_followed {
         return Ok(());
     }
-    writer.flush()
+    match writer.flush() {
+        Ok(()) => Ok(()),
+        Err(_) => Err(Unwritten),
+    }
 }
 
 // Serves one line: its reply is written as a line.
@@ -121,57 +124,148 @@ fn serve_line<L: Log, W: Write>(
     requires { length line.now ≤ longest_line }
     ensures { RepliesLine L.Log cache.old line.now (W.contents writer.old) (W.contents writer.new) result cache.new }
 {
-    let Some(call) = call_of(alloc, line)? else {
-        write_text(writer, b"error line\n")?;
-        return Ok(());
-    };
-    serve_call(cache, call, writer)?;
+    match command_of(alloc, line)? {
+        None => write_text(writer, b"error line\n")?,
+        Some(Command::Call(call)) => serve_call(cache, call, writer)?,
+        Some(Command::OpenTree(name)) => serve_open(cache, name, writer)?,
+    }
     Ok(())
 }
 
-// Makes a call, and writes the reply to its answer as a line.
+// Opens a tree, and writes the reply to that as a line.
+fn serve_open<L: Log, W: Write>(
+    cache: &mut PageCache<L>,
+    name: IVec,
+    writer: &mut W,
+) -> Result<(), Unwritten>
+    ensures { RepliesToOpen L.Log cache.old name (W.contents writer.old) (W.contents writer.new) result cache.new }
+{
+    let root = open_tree(cache, name);
+    write_tree(writer, &root)
+}
+
+// Makes a call, and writes the reply to its answer as a line. Each call is made in a function of its own: a function clears at
+// its start what all of its branches need.
 fn serve_call<L: Log, W: Write>(
     cache: &mut PageCache<L>,
     call: Call,
     writer: &mut W,
-) -> io::Result<()>
+) -> Result<(), Unwritten>
     requires { IsOfScript call }
     ensures { RepliesTo L.Log cache.old call (W.contents writer.old) (W.contents writer.new) result cache.new }
 {
     match call {
-        Call::Allocate(node) => {
-            let answer = cache.allocate(node);
-            write_line(writer, LentAnswer::Allocated(&answer))
-        }
-        Call::Get(pid) => write_line(writer, LentAnswer::Got(cache.get(pid))),
-        Call::Link(old, link) => {
-            let answer = cache.link(old.pid(), old, link);
-            write_line(writer, LentAnswer::Linked(&answer))
-        }
-        Call::Replace(old, node) => {
-            let answer = cache.replace(old.pid(), old, node);
-            write_line(writer, LentAnswer::Replaced(&answer))
-        }
-        Call::Free(old) => {
-            let answer = cache.free(old.pid(), old);
-            write_line(writer, LentAnswer::Freed(&answer))
-        }
-        Call::GetMeta => unreachable!(),
-        Call::MetaPidForName(name) => {
-            let answer = cache.meta_pid_for_name(name.as_slice());
-            write_line(writer, LentAnswer::FoundRoot(&answer))
-        }
-        Call::CasRoot(name, old, new) => {
-            let answer = cache.cas_root_in_meta(name.as_slice(), old, new);
-            write_line(writer, LentAnswer::RootSwapped(&answer))
-        }
-        Call::Flush => {
-            let answer = cache.flush();
-            write_line(writer, LentAnswer::Flushed(&answer))
-        }
-        Call::SizeOnDisk => {
-            let answer = cache.size_on_disk();
-            write_line(writer, LentAnswer::Sized(&answer))
-        }
+        Call::Allocate(node) => serve_allocate(cache, node, writer),
+        Call::Get(pid) => serve_get(cache, pid, writer),
+        Call::Link(old, link) => serve_link(cache, old, link, writer),
+        Call::Replace(old, node) => serve_replace(cache, old, node, writer),
+        Call::Free(old) => serve_free(cache, old, writer),
+        Call::GetMeta | Call::GetIdgen => unreachable!(),
+        Call::MetaPidForName(name) => serve_root(cache, name, writer),
+        Call::CasRoot(name, old, new) => serve_cas(cache, name, old, new, writer),
+        Call::GenerateId => serve_id(cache, writer),
+        Call::Flush => serve_flush(cache, writer),
+        Call::SizeOnDisk => serve_size(cache, writer),
     }
+}
+
+fn serve_allocate<L: Log, W: Write>(
+    cache: &mut PageCache<L>,
+    node: Node,
+    writer: &mut W,
+) -> Result<(), Unwritten>
+    ensures { RepliesTo L.Log cache.old (calls.Allocate node) (W.contents writer.old) (W.contents writer.new) result cache.new }
+{
+    let answer = cache.allocate(node);
+    write_line(writer, LentAnswer::Allocated(&answer))
+}
+
+fn serve_get<L: Log, W: Write>(
+    cache: &mut PageCache<L>,
+    pid: PageId,
+    writer: &mut W,
+) -> Result<(), Unwritten>
+    ensures { RepliesTo L.Log cache.old (calls.Get pid) (W.contents writer.old) (W.contents writer.new) result cache.new }
+{
+    write_line(writer, LentAnswer::Got(cache.get(pid)))
+}
+
+fn serve_link<L: Log, W: Write>(
+    cache: &mut PageCache<L>,
+    old: PageView,
+    link: Link,
+    writer: &mut W,
+) -> Result<(), Unwritten>
+    ensures { RepliesTo L.Log cache.old (calls.Link old link) (W.contents writer.old) (W.contents writer.new) result cache.new }
+{
+    let answer = cache.link(old.pid(), old, link);
+    write_line(writer, LentAnswer::Linked(&answer))
+}
+
+fn serve_replace<L: Log, W: Write>(
+    cache: &mut PageCache<L>,
+    old: PageView,
+    node: Node,
+    writer: &mut W,
+) -> Result<(), Unwritten>
+    ensures { RepliesTo L.Log cache.old (calls.Replace old node) (W.contents writer.old) (W.contents writer.new) result cache.new }
+{
+    let answer = cache.replace(old.pid(), old, node);
+    write_line(writer, LentAnswer::Replaced(&answer))
+}
+
+fn serve_free<L: Log, W: Write>(
+    cache: &mut PageCache<L>,
+    old: PageView,
+    writer: &mut W,
+) -> Result<(), Unwritten>
+    ensures { RepliesTo L.Log cache.old (calls.Free old) (W.contents writer.old) (W.contents writer.new) result cache.new }
+{
+    let answer = cache.free(old.pid(), old);
+    write_line(writer, LentAnswer::Freed(&answer))
+}
+
+fn serve_root<L: Log, W: Write>(
+    cache: &mut PageCache<L>,
+    name: IVec,
+    writer: &mut W,
+) -> Result<(), Unwritten>
+    ensures { RepliesTo L.Log cache.old (calls.MetaPidForName name) (W.contents writer.old) (W.contents writer.new) result cache.new }
+{
+    let answer = cache.meta_pid_for_name(name.as_slice());
+    write_line(writer, LentAnswer::FoundRoot(&answer))
+}
+
+fn serve_cas<L: Log, W: Write>(
+    cache: &mut PageCache<L>,
+    name: IVec,
+    old: Option<PageId>,
+    new: Option<PageId>,
+    writer: &mut W,
+) -> Result<(), Unwritten>
+    ensures { RepliesTo L.Log cache.old (calls.CasRoot name old new) (W.contents writer.old) (W.contents writer.new) result cache.new }
+{
+    let answer = cache.cas_root_in_meta(name.as_slice(), old, new);
+    write_line(writer, LentAnswer::RootSwapped(&answer))
+}
+
+fn serve_id<L: Log, W: Write>(cache: &mut PageCache<L>, writer: &mut W) -> Result<(), Unwritten>
+    ensures { RepliesTo L.Log cache.old calls.GenerateId (W.contents writer.old) (W.contents writer.new) result cache.new }
+{
+    let answer = cache.generate_id_inner();
+    write_line(writer, LentAnswer::Generated(&answer))
+}
+
+fn serve_flush<L: Log, W: Write>(cache: &mut PageCache<L>, writer: &mut W) -> Result<(), Unwritten>
+    ensures { RepliesTo L.Log cache.old calls.Flush (W.contents writer.old) (W.contents writer.new) result cache.new }
+{
+    let answer = cache.flush();
+    write_line(writer, LentAnswer::Flushed(&answer))
+}
+
+fn serve_size<L: Log, W: Write>(cache: &mut PageCache<L>, writer: &mut W) -> Result<(), Unwritten>
+    ensures { RepliesTo L.Log cache.old calls.SizeOnDisk (W.contents writer.old) (W.contents writer.new) result cache.new }
+{
+    let answer = cache.size_on_disk();
+    write_line(writer, LentAnswer::Sized(&answer))
 }

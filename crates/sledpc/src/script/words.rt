@@ -1,7 +1,8 @@
 //! The words of a line, and what they encode.
 
-ghost use Rattle.std.specs.Prelude.{◌≡◌, ◌≢◌, ◌↔◌, ℕ, ◌*◌, ◌/◌, ◌%◌, ◌<◌, ◌^◌, List, false, length, IsTrue, IfOk, IfSome, IfNone};
+ghost use Rattle.std.specs.Prelude.{◌≡◌, ◌≢◌, ◌↔◌, ℕ, ◌+◌, ◌*◌, ◌/◌, ◌%◌, ◌<◌, ◌≤◌, ◌^◌, List, false, length, IsTrue, IfOk, IfSome, IfNone};
 ghost use Rattle.std.specs.Option.{option_map};
+ghost use Rattle.std.specs.Char.{digit_value};
 ghost use Rattle.std.specs.Fmt.{decimal};
 ghost use Rattle.sled_base.specs.Order.{Bytes};
 ghost use Rattle.sledpc.specs.Cut.{HasPlainFront};
@@ -26,12 +27,24 @@ pub fn number_of(word: &[u8]) -> Option<u64>
     ensures some { IfSome result (λ n. word.now ≡ decimal n) }
     ensures none { IfNone result ((n : ℕ) → n < 2 ^ 64 → word.now ≢ decimal n) }
 {
-    if !has_plain_front(word) {
+    if word.is_empty() || !has_plain_front(word) {
         return None;
     }
-    match std::str::from_utf8(word) {
-        Ok(text) => text.parse().ok(),
-        Err(_) => None,
+    let mut number = 0;
+    for digit in word {
+        number = with_digit(number, *digit)?;
+    }
+    Some(number)
+}
+
+/// The number with one more digit behind its own.
+fn with_digit(number: u64, digit: u8) -> Option<u64>
+    ensures some { IfSome result (λ n. (digit_value digit < 10) × (n ≡ number * 10 + digit_value digit)) }
+    ensures none { IfNone result (digit_value digit < 10 → 2 ^ 64 ≤ number * 10 + digit_value digit) }
+{
+    match digit {
+        b'0'..=b'9' => number.checked_mul(10)?.checked_add(u64::from(digit - b'0')),
+        _ => None,
     }
 }
 

@@ -1,5 +1,5 @@
 // Each command at the corners: leaves of none to 1,000 pairs with short and long keys and values, and pages and stamps by the
-// lengths of their numbers.
+// lengths of their numbers, and ids by how many were drawn.
 
 use super::*;
 
@@ -256,5 +256,45 @@ fn serves_stamps(alloc: Global, last: u64) -> Result<bool, Fail> {
 fn commands_serve_at_each_length_of_their_numbers(rt: HostRuntime) -> Result<(), Fail> {
     assert!(rt; serves_numbers(rt.alloc())?, "pages");
     assert!(rt; serves_stamps(rt.alloc(), 2_290)?, "stamps");
+    Ok(())
+}
+
+// ---- generated ids
+
+const OF_AN_ID: Lines = &[("id", "id #")];
+
+const OF_THE_LOG: Lines = &[("size", "size #")];
+
+// So many ids, and the bytes of the log behind them: it has 35 at first, and each tenth id but 0 puts a counter there, which takes 17
+// and those of its number.
+const IDS: &[(u64, u64)] = &[
+    (0, 35),
+    (1, 35),
+    (10, 35),
+    (11, 53),
+    (20, 53),
+    (21, 71),
+    (241, 467),
+    (250, 467),
+    (251, 486),
+    (2_281, 4_343),
+    (2_291, 4_363),
+    (2_301, 4_383),
+];
+
+fn serves_ids(alloc: Global, count: u64, bytes: u64) -> Result<bool, Fail> {
+    let mut script = new_script(alloc);
+    for id in 0..count {
+        put_numbered(alloc, &mut script, OF_AN_ID, id)?;
+    }
+    put_numbered(alloc, &mut script, OF_THE_LOG, bytes)?;
+    Ok(is_replied(alloc, &script)?)
+}
+
+#[test]
+fn ids_rise_by_one_and_each_tenth_is_logged(rt: HostRuntime) -> Result<(), Fail> {
+    for (count, bytes) in IDS {
+        assert!(rt; serves_ids(rt.alloc(), *count, *bytes)?, "{count} ids");
+    }
     Ok(())
 }

@@ -1,6 +1,6 @@
 //! Lines that ask for calls, and lines that don't.
 
-use super::call_of;
+use super::{Command, command_of};
 use crate::lines::MAX_LINE;
 use sled_pagecache::{Call, Item, Link, Node, PageId, PageView};
 use std::alloc::Global;
@@ -15,8 +15,10 @@ enum Wanted<'a> {
     Del(&'a str),
     Replace(&'a [(&'a str, &'a str)]),
     Free,
+    Id,
     Flush,
     Size,
+    Open(&'a str),
 }
 
 // Whether a leaf over all keys, that is not merging, has these pairs, and no others.
@@ -48,21 +50,31 @@ fn is_wanted(call: &Call, want: Wanted<'_>) -> bool {
         }
         (Call::Replace(old, node), Wanted::Replace(pairs)) => *old == token && is_leaf(node, pairs),
         (Call::Free(old), Wanted::Free) => *old == token,
-        (Call::Flush, Wanted::Flush) | (Call::SizeOnDisk, Wanted::Size) => true,
+        (Call::GenerateId, Wanted::Id)
+        | (Call::Flush, Wanted::Flush)
+        | (Call::SizeOnDisk, Wanted::Size) => true,
         _ => false,
     }
 }
 
-// Whether the line asks for this, or for nothing. A call is let go here, and not in a test, which would be proved for each
+fn is_asked(command: &Command, want: Wanted<'_>) -> bool {
+    match (command, want) {
+        (Command::OpenTree(name), Wanted::Open(asked)) => name.as_slice() == asked.as_bytes(),
+        (Command::OpenTree(_), _) => false,
+        (Command::Call(call), want) => is_wanted(call, want),
+    }
+}
+
+// Whether the line asks for this, or for nothing. A command is let go here, and not in a test, which would be proved for each
 // way in which it may be kept.
 fn asks(alloc: Global, line: &str, want: Option<Wanted<'_>>) -> Result<bool, Fail> {
     // No line that is read is longer.
     if line.len() > MAX_LINE {
         return Err(Fail::from("a long line"));
     }
-    Ok(match (call_of(alloc, line.as_bytes())?, want) {
-        (Some(call), Some(want)) => is_wanted(&call, want),
-        (call, want) => call.is_none() && want.is_none(),
+    Ok(match (command_of(alloc, line.as_bytes())?, want) {
+        (Some(command), Some(want)) => is_asked(&command, want),
+        (command, want) => command.is_none() && want.is_none(),
     })
 }
 
@@ -80,8 +92,11 @@ fn asks_for_calls(rt: HostRuntime) -> Result<(), Fail> {
         ("replace 2 1", Wanted::Replace(&[])),
         ("replace 2 1 61=62", Wanted::Replace(&[("a", "b")])),
         ("free 2 1", Wanted::Free),
+        ("id", Wanted::Id),
         ("flush", Wanted::Flush),
         ("size", Wanted::Size),
+        ("open 74", Wanted::Open("t")),
+        ("open -", Wanted::Open("")),
     ] {
         assert!(rt; asks(rt.alloc(), line, Some(want))?, "at {line}");
     }
@@ -120,10 +135,20 @@ fn asks_for_nothing(rt: HostRuntime) -> Result<(), Fail> {
         "free 2 1 ",
         "free 2 1 61",
         "free 2 01",
+        "id ",
+        "id 0",
+        "ID",
+        "ids",
+        "i",
         "flush ",
         "flush 2",
         "size ",
         "size 2",
+        "open",
+        "open ",
+        "open 7",
+        "open 74 74",
+        "openx",
     ] {
         assert!(rt; asks(rt.alloc(), line, None)?, "at {line}");
     }

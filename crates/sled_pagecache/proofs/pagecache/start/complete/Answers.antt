@@ -1,4 +1,5 @@
-use Rattle.sled_pagecache.proofs.Names.{rules, OutOfMemory, events_at_start}
+use Rattle.sled_pagecache.proofs.Names.{TableView, ap, rules, OutOfMemory, events_at_start}
+use Rattle.sled_pagecache.proofs.Counted.{opened-counted}
 use Rattle.sled_pagecache.proofs.Proceeding.{proceeds-refused}
 use Rattle.sled_pagecache.proofs.Starting.{read-table, all-fresh, read-unread, table-consistent, opened-with}
 use Rattle.sled_pagecache.proofs.pagecache.start.complete.Goals as goal
@@ -23,3 +24,9 @@ returns-clause-opened g c = λ told.
 
 pub returns-clause-unread : goal.returns-clause-unread
 returns-clause-unread g c = λ pid from. rw (c.in_ok-add_missing.ensures.others pid from) (read-unread _ c.args.pages.pages c.args.counter c.requires.read pid from)
+
+pub returns-clause-counted : goal.returns-clause-counted
+returns-clause-counted g c =
+    let added = c.in_ok-add_missing.ensures in
+    rw c.next_id.ensures
+    (opened-counted g.L.Log c.args.config.idgen_persist_interval c.add_missing.new.sticky_log c.args.pages.pages c.add_missing.new.pages.pages c.args.counter c.requires.read.hold (λ both. ap (λ (t : TableView). t.pages) (added.there both)) added.stable)

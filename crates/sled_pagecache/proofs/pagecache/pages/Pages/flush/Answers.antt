@@ -9,7 +9,7 @@ returns-clause-step g c =
     let inside = c.self.inside in
     let done = c.in_ok-make_stable.ensures in
     rw (← c.self.view_is)
-    (flushes g.L.Log inside.next inside.config inside.recovered inside.pages.pages inside.sticky_log c.if-self.false (c.self.invariant.beside c.if-self.false).closed c.make_stable.new.self done.went _ done.cause.fault)
+    (flushes g.L.Log inside.next inside.config inside.recovered inside.pages.pages inside.sticky_log c.if-self.false (c.self.invariant.consistent.beside c.if-self.false).closed c.make_stable.new.self done.went _ done.cause.fault)
 
 pub returns-in_err-make_stable-clause-step : goal.returns-in_err-make_stable-clause-step
 returns-in_err-make_stable-clause-step g c =
@@ -17,7 +17,7 @@ returns-in_err-make_stable-clause-step g c =
     let refused = c.in_err-make_stable.ensures in
     let p = err_from_is_err_and c.from_residual.result c.from_residual.ensures.1 in
     rw (p.1, p.2 ∙ ap error_of refused.only, ← c.self.view_is)
-    (flush_is_refused g.L.Log inside.next inside.config inside.recovered inside.pages.pages inside.sticky_log c.if-self.false (c.self.invariant.beside c.if-self.false).closed c.make_stable.new.self refused.went
+    (flush_is_refused g.L.Log inside.next inside.config inside.recovered inside.pages.pages inside.sticky_log c.if-self.false (c.self.invariant.consistent.beside c.if-self.false).closed c.make_stable.new.self refused.went
     (refused.cause.fault ∙ rw refused.only refl))
 
 pub returns-then-self-clause-step : goal.returns-then-self-clause-step

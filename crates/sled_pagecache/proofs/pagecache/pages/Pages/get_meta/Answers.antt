@@ -6,7 +6,7 @@ use Rattle.sled_pagecache.proofs.RootsPage.{keeps-roots, gets-meta}
 use Rattle.sled_pagecache.proofs.pagecache.pages.Pages.get_meta.Goals as goal
 
 pub own_roots-requires : goal.own_roots-requires
-own_roots-requires g c = keeps-roots c.self.inside.pages.pages c.self.invariant.own c.self.invariant.both
+own_roots-requires g c = keeps-roots c.self.inside.pages.pages c.self.invariant.consistent.own c.self.invariant.consistent.both
 
 pub returns-clause-step : goal.returns-clause-step
 returns-clause-step g c =
@@ -14,7 +14,7 @@ returns-clause-step g c =
     let view = c.in_ok-view.view in
     let found = c.in_ok-view.ensures in
     rw (← c.self.view_is)
-    (gets-meta g.L.Log inside.next inside.config inside.recovered inside.sticky_log inside.pages.pages inside.free.ids.keys c.self.invariant found.0 view.meta.now view.token.stamp found.2 (g.met.L.Log.only_now inside.sticky_log.log) view.token (ap (λ n. token n view.token.stamp) found.1))
+    (gets-meta g.L.Log inside.next inside.config inside.recovered inside.sticky_log inside.pages.pages inside.free.ids.keys c.self.invariant.consistent found.0 view.meta.now view.token.stamp found.2 (g.met.L.Log.only_now inside.sticky_log.log) view.token (ap (λ n. token n view.token.stamp) found.1))
 
 pub returns-in_err-view-clause-step : goal.returns-in_err-view-clause-step
 returns-in_err-view-clause-step g c =

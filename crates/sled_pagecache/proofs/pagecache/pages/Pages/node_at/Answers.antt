@@ -9,19 +9,19 @@ returns-in_err-page-clause-is g c =
     let inside = c.self.inside in
     rw c.from_residual.ensures
     (subst (λ cache. IsNodeAt g.L.Log cache c.args.pid None) c.self.view_is
-    (no-page g.L.Log inside.next inside.config inside.recovered inside.sticky_log inside.pages.pages inside.free.ids.keys c.args.pid c.self.invariant (past-end inside.pages.pages c.args.pid c.in_err-page.ensures)))
+    (no-page g.L.Log inside.next inside.config inside.recovered inside.sticky_log inside.pages.pages inside.free.ids.keys c.args.pid c.self.invariant.consistent (past-end inside.pages.pages c.args.pid c.in_err-page.ensures)))
 
 pub returns-in_default-clause-is : goal.returns-in_default-clause-is
 returns-in_default-clause-is g c =
     let inside = c.self.inside in
     subst (λ cache. IsNodeAt g.L.Log cache c.args.pid None) c.self.view_is
-    (no-node g.L.Log inside.next inside.config inside.recovered inside.sticky_log inside.pages.pages inside.free.ids.keys c.args.pid c.self.invariant c.in_ok-page.page.now c.in_ok-page.ensures c.in_default.not-Node)
+    (no-node g.L.Log inside.next inside.config inside.recovered inside.sticky_log inside.pages.pages inside.free.ids.keys c.args.pid c.self.invariant.consistent c.in_ok-page.page.now c.in_ok-page.ensures c.in_default.not-Node)
 
 pub returns-clause-is : goal.returns-clause-is
 returns-clause-is g c =
     let inside = c.self.inside in
     subst (λ cache. IsNodeAt g.L.Log cache c.args.pid (Some c.new-2.result)) c.self.view_is
-    (a-node g.L.Log inside.next inside.config inside.recovered inside.sticky_log inside.pages.pages inside.free.ids.keys c.args.pid c.self.invariant c.in_ok-page.page.now c.in_ok-page.ensures
+    (a-node g.L.Log inside.next inside.config inside.recovered inside.sticky_log inside.pages.pages inside.free.ids.keys c.args.pid c.self.invariant.consistent c.in_ok-page.page.now c.in_ok-page.ensures
     c.new-2.result c.in-Node.node c.in-Node.is (c.new-2.ensures.token ∙ c.new.ensures) c.new-2.ensures.node)
 
 pub returns-in_err-page-clause-node : goal.returns-in_err-page-clause-node

@@ -1,4 +1,5 @@
 use Rattle.sled_pagecache.proofs.Names.{◌≡◌, sym, subst, arith, HasNoNode}
+use Rattle.sled_pagecache.proofs.Counted.{counted-out}
 use Rattle.sled_pagecache.proofs.InMemory.{past-view}
 use Rattle.sled_pagecache.proofs.PagingOut.{consistent-out, out-page, out-none}
 use Rattle.sled_pagecache.proofs.TableNodes.{view}
@@ -8,7 +9,11 @@ pub invariant_of-self : goal.invariant_of-self
 invariant_of-self g c =
     let inside = c.self.inside in
     let at = c.get_mut.ensures.page in
-    consistent-out g.L.Log inside.sticky_log inside.pages.pages inside.free.ids.keys c.args.pid c.get_mut.result.now c.page_out.new.self c.self.invariant at c.page_out.ensures
+    record {
+      consistent = consistent-out g.L.Log inside.sticky_log inside.pages.pages inside.free.ids.keys c.args.pid c.get_mut.result.now c.page_out.new.self c.self.invariant.consistent at c.page_out.ensures;
+      positive = c.self.invariant.positive;
+      counted = counted-out g.L.Log inside.config.idgen_persist_interval inside.next inside.sticky_log inside.pages.pages c.self.invariant.counted c.args.pid c.get_mut.result.now c.page_out.new.self at c.page_out.ensures;
+    }
 
 pub returns-then-pid-len : goal.returns-then-pid-len
 returns-then-pid-len g c =

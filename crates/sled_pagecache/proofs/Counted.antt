@@ -1,0 +1,237 @@
+-- The counter of generated ids stays durable as far as the next id needs it.
+use Rattle.sled_pagecache.proofs.Names.{AllByRecursion, AllZip-long, AreEvents, AreFound, IsFoundAt, Makes, map, length-map, eqb-false, nat_lt, inl, inr, ◌⊎◌, Bool, Chain, Change, Config, Content, Counter, Err, Event, Ghosts, Hold, Holds, HoldsChain, Io, IsConsistent, IsKept, IsLogged, IsPagedOut, Kept, Link, List, Logged, Message, Messages, None, Ok, Option, Page, Put, Read, Refusal, Result, Some, StickyLog, Update, Went, Why, Write, [], after_link, ap, arith, begun_by, chain_at, cond, contents_after, contents_from, drop, effect_of, effect_of_entry, eqb-true, fault_of, false, get_or-map, holds-made, length, next_id, none-some, paged_out, refl, same_Some, slice_get, slice_get-get_or, slice_get_within, slice_index_or, slice_set, suc, sym, subst, true, unplaced, unplaced_events, unplaced_state, zero, ℕ, ⊎_elim, ◌*◌, ◌++◌, ◌+◌, ◌/◌, ◌<◌, ◌==◌, ◌∙◌, ◌∷◌, ◌≡◌, true≢false, ◌≢◌, ◌≤◌, Free, Seal, Pin, Cancel}
+use Rattle.std.proofs.lemmas.Bool.{cases_lt}
+use Rattle.std.proofs.lemmas.Nat.{le-div}
+use Rattle.std.proofs.Math.Nat.{add-mul-div_right, div-mul-le_self, lt-div-mul-add, mul-le-mul_right, suc-mul}
+use Rattle.sled_base.specs.declared.types.Why.TheVariants.{CapacityTooSmall, IntervalZero, SegmentZero}
+use Rattle.sled_log.specs.LogState as log
+use Rattle.sled_log.specs.Reading.{IsEvent}
+use Rattle.sled_pagecache.proofs.ByIds.{at-id, zip-first}
+use Rattle.sled_pagecache.proofs.Counting.{CountsTo}
+use Rattle.sled_pagecache.proofs.Lookups.{kept-at}
+use Rattle.sled_pagecache.proofs.PagesAt.{holds_now}
+use Rattle.sled_node.specs.declared.node.link.Link.{Link as NodeLink}
+use Rattle.sled_pagecache.proofs.ProperPages.{all-append}
+use Rattle.sled_pagecache.specs.Counted.{IsCounted, IsWhole, SparesCounter}
+use Rattle.sled_pagecache.specs.Ids.{IsBelowCounter}
+use Rattle.sled_pagecache.specs.LinkedPages.{RefusesAppended}
+use Rattle.sled_pagecache.specs.Logged.{now}
+use Rattle.sled_pagecache.specs.Step.{interval_start}
+use Rattle.sled_pagecache.specs.StickyLog.{is_write_fault}
+use Rattle.sled_pagecache.specs.declared.pagecache.page.Kept.TheVariants as kept
+
+-- ---- lists
+
+all-drop : {X : Type 0} (P : X → Type 0) (n : ℕ) (xs : List X) → AllByRecursion P xs → AllByRecursion P (drop n xs)
+all-drop P zero xs all = all
+all-drop P (suc n) [] all = all
+all-drop P (suc n) (x ∷ xs) all = all-drop P n xs all.1
+
+pub other-at : (table : List Page) (pid : ℕ) (page : Page) → pid ≢ 1 → slice_get (slice_set table pid page) 1 ≡ slice_get table 1
+other-at [] pid page other = refl
+other-at (p ∷ []) zero page other = refl
+other-at (p ∷ []) (suc pid) page other = refl
+other-at (p ∷ q ∷ table) zero page other = refl
+other-at (p ∷ q ∷ table) (suc zero) page other = absurd (other refl)
+other-at (p ∷ q ∷ table) (suc (suc pid)) page other = refl
+
+pub added-at : (table : List Page) (page : Page) → 2 ≤ length table → slice_get (table ++ page ∷ []) 1 ≡ slice_get table 1
+added-at [] page both = absurd (omega (arith, both))
+added-at (p ∷ []) page both = absurd (omega (arith, both))
+added-at (p ∷ q ∷ table) page both = refl
+
+-- ---- calls
+
+-- unless a write fault is kept, messages of other pages came
+abbrev pub Spares : {L : Type 0} → Ghosts L → StickyLog L → StickyLog L → Type 0
+Spares g old new = g.tells → new.fault ≡ false → (events : List (Event Message)) × Went g.tells g.state g.moment g.left_since g.counts old new events × AllByRecursion SparesCounter events
+
+module _ {L : Type 0} (g : Ghosts L) {old new : StickyLog L} where
+  -- a refused call adds nothing, or keeps a write fault
+  pub spares-refused : (T : Type 0) (refusal : Refusal) (events : List (Event Message)) → (let told : Result T Refusal = Err refusal in Went g.tells g.state g.moment g.left_since g.counts old new (begun_by told events) × (new.fault ≡ is_write_fault told)) → Spares g old new
+  spares-refused T (Io Write) events refused = λ told clear. absurd (true≢false (sym refused.1 ∙ clear))
+  spares-refused T (Io Read) events refused = λ told clear. ([], refused.0, tt)
+  spares-refused T refusal events refused = λ told clear. ([], refused.0, tt)
+
+  pub spares-link : (T : Type 0) (pid : ℕ) (q : Page) (link : NodeLink) (refusal : Refusal) → (g.tells → RefusesAppended g old pid q link new refusal) → (let told : Result T Refusal = Err refusal in new.fault ≡ is_write_fault told) → Spares g old new
+  spares-link T pid q link refusal refused fault = λ told clear.
+      ⊎_elim (λ none. ([], none.0, tt)) (λ stuck. absurd (true≢false (sym (fault ∙ ap (λ (e : Refusal). let told : Result T Refusal = Err e in is_write_fault told) stuck.0) ∙ clear))) (refused told)
+
+  module _ {k next : ℕ} {table : List Page} {free : List ℕ} (whole : IsWhole g.tells g.state k next old table free) (ready : old.fault ≡ false) where
+    -- the counter's page stays as it was
+    pub whole-then : Spares g old new → {pages : List Page} {free_then : List ℕ} → slice_get pages 1 ≡ slice_get table 1 → IsConsistent g.tells g.state new pages free_then → IsWhole g.tells g.state k next new pages free_then
+    whole-then spares {pages} {free_then} same consistent = record {
+      consistent = consistent;
+      positive = whole.positive;
+      counted = λ some clear told page n at holds few.
+          let before = whole.counted some ready told page n (sym same ∙ at) holds few in
+          let came = spares told clear in
+          let added = came.1.added told clear in
+          subst (AllByRecursion SparesCounter) (sym added.pending) (all-drop SparesCounter added.cut ((unplaced_state (g.state old.log)).pending ++ came.0) (all-append SparesCounter (unplaced_state (g.state old.log)).pending came.0 before came.2));
+    }
+
+pub behind-counter : (pid : ℕ) → 2 ≤ pid → pid ≢ 1
+behind-counter pid from is = omega (arith, from, is)
+
+module _ {L : Type 0} (g : Ghosts L) (k next : ℕ) (sticky_log : StickyLog L) (table : List Page) where
+  -- nothing is pending
+  pub counted-stable : (g.state sticky_log.log).pending ≡ [] → IsCounted g.tells g.state k next sticky_log table
+  counted-stable none some clear told page n at holds few = subst (λ l. AllByRecursion SparesCounter (unplaced_events l)) (sym none) tt
+
+  -- a page left memory
+  pub counted-out : IsCounted g.tells g.state k next sticky_log table → (pid : ℕ) (q out : Page) → slice_get table pid ≡ Some q → IsPagedOut q out → IsCounted g.tells g.state k next sticky_log (slice_set table pid out)
+  counted-out counted pid q out there is some clear told page n at holds few = by table pid there at (λ page at holds. counted some clear told page n at holds few)
+    where
+      same : (k : Kept) → paged_out k ≡ kept.Counter n → k ≡ kept.Counter n
+      same (kept.Counter m) h = h
+      same (kept.Roots roots) h = absurd cc
+      same (kept.Node node) h = absurd cc
+      same kept.Free h = absurd cc
+      same kept.Away h = absurd cc
+
+      by : (table : List Page) (pid : ℕ) → slice_get table pid ≡ Some q → slice_get (slice_set table pid out) 1 ≡ Some page
+          → ((page : Page) → slice_get table 1 ≡ Some page → page.kept ≡ kept.Counter n → AllByRecursion SparesCounter (unplaced_state (g.state sticky_log.log)).pending)
+          → AllByRecursion SparesCounter (unplaced_state (g.state sticky_log.log)).pending
+      by [] pid there at go = absurd (none-some q there)
+      by (p ∷ []) zero there at go = absurd (none-some page at)
+      by (p ∷ []) (suc pid) there at go = absurd (none-some q there)
+      by (p ∷ r ∷ table) zero there at go = go page at holds
+      by (p ∷ r ∷ table) (suc zero) there at go =
+          go q there (same q.kept (sym is.kept ∙ ap (λ (p : Page). p.kept) (same_Some out page at) ∙ holds))
+      by (p ∷ r ∷ table) (suc (suc pid)) there at go = go page at holds
+
+-- ---- numbers
+
+start-up : (k x y : ℕ) → 0 < k → x ≤ y → interval_start k x ≤ interval_start k y
+start-up k x y some le =
+    let low = div-mul-le_self x k in
+    mul-le-mul_right k (le-div (x / k) y k some (omega (arith, low, le)))
+
+-- the id behind the next one needs no less
+pub whole-next : {L : Type 0} (g : Ghosts L) {k next : ℕ} {sticky_log : StickyLog L} {table : List Page} {free : List ℕ} → IsWhole g.tells g.state k next sticky_log table free → IsWhole g.tells g.state k (next + 1) sticky_log table free
+whole-next g {k} {next} whole = record {
+  consistent = whole.consistent;
+  positive = whole.positive;
+  counted = λ some clear told page n at holds few. whole.counted some clear told page n at holds (let up = start-up k next (next + 1) some (omega arith) in omega (arith, up, few));
+}
+
+covers : (k next n : ℕ) → 0 < k → interval_start k next ≤ interval_start k n → next < n + k
+covers k next n some few =
+    let under : next < next / k * k + k = lt-div-mul-add some in
+    let low = div-mul-le_self n k in
+    omega (arith, under, low, few)
+
+-- two intervals above the counter a new one is needed
+needs-new : (k n : ℕ) → 0 < k → interval_start k (n + 2 * k) ≤ interval_start k n → ⊥
+needs-new k n some few =
+    let more : (n + 2 * k) / k ≡ n / k + 2 = add-mul-div_right n 2 some in
+    let is : (n + 2 * k) / k * k ≡ (n / k + 2) * k = ap (λ q. q * k) more in
+    let one = suc-mul (suc (n / k)) k in
+    let two = suc-mul (n / k) k in
+    let same : (n / k + 2) * k ≡ suc (suc (n / k)) * k = ap (λ q. q * k) (let e : n / k + 2 ≡ suc (suc (n / k)) = omega arith in e) in
+    omega (arith, is, one, two, same, few, some)
+
+-- ---- what is durable
+
+held-spares : (contents : List Content) (ms : List (Event Message)) (us : List (Event Update)) → AreEvents contents ms us → AllByRecursion SparesCounter ms → AllByRecursion SparesCounter us
+held-spares contents [] [] are spare = tt
+held-spares contents (m ∷ ms) (u ∷ us) are spare = (one m u are.0 spare.0, held-spares (contents_from contents u) ms us are.2 spare.1)
+  where
+    one : (m : Event Message) (u : Event Update) → IsEvent m u → SparesCounter m → SparesCounter u
+    one (Change id message) (Change other update) is spare = λ e. spare (is.0 ∙ e)
+    one Pin Pin is spare = tt
+    one Seal Seal is spare = tt
+    one Cancel Cancel is spare = tt
+    one m u is spare = absurd is
+held-spares contents [] (u ∷ us) are spare = absurd are
+held-spares contents (m ∷ ms) [] are spare = absurd are
+
+back-put : (contents : List Content) (id : ℕ) (content : Content) (n : ℕ) (added : Bool) → (id == length contents) ≡ added → id ≢ 1
+    → slice_get (cond added (contents ++ content ∷ []) (slice_set contents id content)) 1 ≡ Some (Counter n) → CountsTo contents n
+back-put [] id content n true is other at = absurd (none-some (Counter n) at)
+back-put [] id content n false is other at = absurd (none-some (Counter n) at)
+back-put (x ∷ []) id content n true is other at = absurd (other (eqb-true id 1 is))
+back-put (x ∷ []) zero content n false is other at = absurd (none-some (Counter n) at)
+back-put (x ∷ []) (suc id) content n false is other at = absurd (none-some (Counter n) at)
+back-put (x ∷ y ∷ contents) id content n true is other at = at
+back-put (x ∷ y ∷ contents) zero content n false is other at = at
+back-put (x ∷ y ∷ contents) (suc zero) content n false is other at = absurd (other refl)
+back-put (x ∷ y ∷ contents) (suc (suc id)) content n false is other at = at
+
+back-link : (contents : List Content) (id : ℕ) (content : Content) (n : ℕ) → id ≢ 1 → slice_get (slice_set contents id content) 1 ≡ Some (Counter n) → CountsTo contents n
+back-link [] id content n other at = absurd (none-some (Counter n) at)
+back-link (x ∷ []) zero content n other at = absurd (none-some (Counter n) at)
+back-link (x ∷ []) (suc id) content n other at = absurd (none-some (Counter n) at)
+back-link (x ∷ y ∷ contents) zero content n other at = at
+back-link (x ∷ y ∷ contents) (suc zero) content n other at = absurd (other refl)
+back-link (x ∷ y ∷ contents) (suc (suc id)) content n other at = at
+
+back-one : (contents : List Content) (u : Event Update) (n : ℕ) → SparesCounter u → CountsTo (contents_from contents u) n → CountsTo contents n
+back-one contents (Change id (Put content)) n other at = back-put contents id content n (id == length contents) refl other at
+back-one contents (Change id (Link link)) n other at = back-link contents id (after_link link (slice_index_or contents id Free)) n other at
+back-one contents Pin n other at = at
+back-one contents Seal n other at = at
+back-one contents Cancel n other at = at
+
+back-all : (contents : List Content) (us : List (Event Update)) (n : ℕ) → AllByRecursion SparesCounter us → CountsTo (contents_after contents us) n → CountsTo contents n
+back-all contents [] n spare at = at
+back-all contents (u ∷ us) n spare at = back-one contents u n spare.0 (back-all (contents_from contents u) us n spare.1 at)
+
+module _ {L : Type 0} (g : Ghosts L) (k : ℕ) (sticky_log : StickyLog L) (table : List Page) (free : List ℕ) (c : IsConsistent g.tells g.state sticky_log table free) (clear : sticky_log.fault ≡ false) (told : g.tells)
+    (q : Page) (n : ℕ) (at : slice_get table 1 ≡ Some q) (holds : q.kept ≡ kept.Counter n) (held : Logged) (logged : IsLogged (unplaced_state (g.state sticky_log.log)) held) where
+  abbrev chains : List Chain
+  chains = log.now effect_of_entry (g.state sticky_log.log)
+
+  counts-now : CountsTo (now held) n
+  counts-now =
+      let kept = (c.beside clear).kept told in
+      let long = AllZip-long IsKept chains table kept in
+      let within = slice_get_within table 1 q at in
+      let long_too = length-map chains unplaced in
+      let found = zip-first Holds (map unplaced chains) (now held) 1 _ (holds_now (g.state sticky_log.log) held logged) (slice_get-get_or (map unplaced chains) 1 [] (omega (arith, long, within, long_too))) in
+      let made : Makes (unplaced (slice_index_or chains 1 [])) (Counter n) = subst (HoldsChain (slice_index_or chains 1 [])) holds (kept-at chains table 1 q kept at).holds in
+      found.1 ∙ ap (λ (content : Content). Some content)
+      (holds-made (unplaced (slice_index_or chains 1 [])) found.0 (Counter n) (subst (λ (m : Messages). Holds m found.0) (get_or-map unplaced chains 1 []) found.2) made)
+
+  -- an id that the counter covers
+  pub below-counter : (next : ℕ) → next < n + k → AllByRecursion SparesCounter (unplaced_state (g.state sticky_log.log)).pending → IsBelowCounter k held.stable next
+  below-counter next below spare = (n, back-all held.stable held.pending n (held-spares held.stable (unplaced_state (g.state sticky_log.log)).pending held.pending logged.pending spare) counts-now, below)
+
+-- the next id, where it needs no new counter
+pub covered-next : {L : Type 0} (g : Ghosts L) (k next : ℕ) (sticky_log : StickyLog L) (table : List Page) (free : List ℕ) → IsWhole g.tells g.state k next sticky_log table free → sticky_log.fault ≡ false → g.tells
+    → (q : Page) (n : ℕ) → slice_get table 1 ≡ Some q → q.kept ≡ kept.Counter n → interval_start k next ≤ interval_start k n
+    → (held : Logged) → IsLogged (unplaced_state (g.state sticky_log.log)) held → IsBelowCounter k held.stable next
+covered-next g k next sticky_log table free whole clear told q n at holds few held logged =
+    below-counter g k sticky_log table free whole.consistent clear told q n at holds held logged next (covers k next n whole.positive few) (whole.counted whole.positive clear told q n at holds few)
+
+-- and where one was put, which is durable
+pub covered-put : {L : Type 0} (g : Ghosts L) (k next : ℕ) (sticky_log : StickyLog L) (table : List Page) (free : List ℕ) → IsConsistent g.tells g.state sticky_log table free → 0 < k → sticky_log.fault ≡ false → g.tells
+    → (q : Page) → slice_get table 1 ≡ Some q → q.kept ≡ kept.Counter (interval_start k next) → (g.state sticky_log.log).pending ≡ []
+    → (held : Logged) → IsLogged (unplaced_state (g.state sticky_log.log)) held → IsBelowCounter k held.stable next
+covered-put g k next sticky_log table free c some clear told q at holds none held logged =
+    below-counter g k sticky_log table free c clear told q (interval_start k next) at holds held logged next (lt-div-mul-add some)
+    (subst (λ l. AllByRecursion SparesCounter (unplaced_events l)) (sym none) tt)
+
+-- ---- an opening
+
+positive-if : (small zero_interval zero_segment : Bool) → cond small (Some CapacityTooSmall) (cond zero_interval (Some IntervalZero) (cond zero_segment (Some SegmentZero) None)) ≡ None → zero_interval ≡ false
+positive-if true z s is = absurd cc
+positive-if false true s is = absurd cc
+positive-if false false s is = refl
+
+pub positive : (config : Config) → fault_of config ≡ None → 0 < config.idgen_persist_interval
+positive config sound = let not_zero = eqb-false config.idgen_persist_interval 0 (positive-if (nat_lt config.cache_capacity 256) (config.idgen_persist_interval == 0) (config.segment_size == 0) sound) in omega (arith, not_zero)
+
+same-counter : (m n : ℕ) → kept.Counter m ≡ kept.Counter n → m ≡ n
+same-counter m n is = cc
+
+-- A counter that was found is two intervals below the next id, and else all is durable.
+pub opened-counted : {L : Type 0} (g : Ghosts L) (k : ℕ) (sticky_log : StickyLog L) (table pages : List Page) (counter : Option ℕ) → AreFound table counter
+    → (1 < length table → pages ≡ table) → (length table < 2 → (g.state sticky_log.log).pending ≡ []) → IsCounted g.tells g.state k (next_id k counter) sticky_log pages
+opened-counted g k sticky_log table pages counter found same stable = by (cases_lt 1 (length table))
+  where
+    by : (1 < length table) ⊎ (length table ≤ 1) → IsCounted g.tells g.state k (next_id k counter) sticky_log pages
+    by (inr few) = counted-stable g k (next_id k counter) sticky_log pages (stable (omega (arith, few)))
+    by (inl many) = λ some clear told page n at holds needs.
+        let own = at-id (λ pid (page : Page). IsFoundAt counter pid page.kept) table 1 page found.0 (sym (ap (λ (l : List Page). slice_get l 1) (same many)) ∙ at) in
+        absurd (needs-new k n some (subst (λ c. interval_start k (next_id k c) ≤ interval_start k n) (own.2 ∙ ap (λ m. Some m) (same-counter own.0 n (sym own.1 ∙ holds))) needs))

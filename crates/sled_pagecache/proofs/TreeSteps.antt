@@ -1,0 +1,280 @@
+-- The calls of an opening of a tree, one after another; and that the swap of its root finds no other root.
+use Rattle.sled_pagecache.proofs.Names.{◌≡◌, ◌==◌, ◌⊎◌, inl, inr, ◌≤◌, ◌<◌, ◌+◌, ◌-◌, ◌^◌, ◌||◌, ◌≢◌, ⊤, ℕ, zero, suc, Bool, true, false, cond, List, [], ◌∷◌, ◌++◌, length, Option, Some, None, Result, Ok, Err, slice_get, slice_set, refl, sym, ◌∙◌, ap, subst, arith, MatchBool, MatchOption, none-some, same_Some, IfOk, OnErr, Error, Write, Content, Roots, Ghosts, WholeNode, Cache, chain_length, HasNoRoom, StepOver, page, State, page_at, free_token, later, greatest_free, IsRefused, Outcome, unchanged, Token, token, Allocated, Allocate, GetMeta, GotMeta, CasRoot, RootSwapped, IsBounded, ReadsNothing, SetsRoot, Messages, effect_of, made-row}
+use Rattle.sled_base.specs.Order.{Bytes}
+use Rattle.sled_base.specs.declared.types.Error.TheVariants.{Io}
+use Rattle.sled_log.specs.LogState as log
+use Rattle.sled_node.specs.Meta as meta
+use Rattle.sled_node.specs.Meta.{root_of}
+use Rattle.sled_node.specs.Node.{empty_leaf}
+use Rattle.sled_pagecache.specs.Answers.{Keeps, is_write_fault, root_swapped, stamped}
+use Rattle.sled_pagecache.specs.Rows.{IsMade, AreMade}
+use Rattle.sled_pagecache.specs.State.{StampedPage}
+use Rattle.sled_pagecache.specs.Step.{AddsPage, AreRoots, HoldsRoots, ReusesPage, RootSwap}
+use Rattle.sled_pagecache.specs.Trees.{MadeCalls, EndsSwap, FindsTree, GoesOn, GoesOnOver, GoesOnWith, IsKnown, IsTreeOpened, Looks, MakesTree, NamesRoot, OpensTree, TellsTree, Touches, index_over, stamps_after, stamps_then}
+
+-- ---- what is tested and not refused
+
+goes : (A B : Type 0) (test : Bool) → ¬ A → MatchBool test A B → B
+goes A B true never one = absurd (never one)
+goes A B false never other = other
+
+unrefused : {T : Type 0} (s : State) (value : T) (out : Outcome) (e : Error) → ¬ IsRefused s (Ok value) out e
+unrefused s value out e refused = let is = refused.0 in absurd cc
+
+-- ---- page 0 stays where a node is put on another page
+
+front-stays : (pages more : List StampedPage) (p : StampedPage) → slice_get pages 0 ≡ Some p → slice_get (pages ++ more) 0 ≡ Some p
+front-stays [] more p at = absurd (none-some p at)
+front-stays (q ∷ pages) more p at = at
+
+others-stay : (pages : List StampedPage) (pid : ℕ) (changed p : StampedPage) → 0 < pid → slice_get pages 0 ≡ Some p → slice_get (slice_set pages pid changed) 0 ≡ Some p
+others-stay [] pid changed p above at = absurd (none-some p at)
+others-stay (q ∷ pages) zero changed p above at = absurd (omega arith)
+others-stay (q ∷ pages) (suc pid) changed p above at = at
+
+-- a free page's token has its id
+of-page : (pid : ℕ) (free : Token) (stamp : ℕ) (b : Bool) → cond b (Some (token pid stamp)) None ≡ Some free → free.pid ≡ pid
+of-page pid free stamp true is = ap (λ t. t.pid) (sym (same_Some (token pid stamp) free is))
+of-page pid free stamp false is = absurd (none-some free is)
+
+-- the greatest free id isn't below the first
+not-below : (first : ℕ) (pages : List StampedPage) (free : Token) → greatest_free first pages ≡ Some free → first ≤ free.pid
+not-below first [] free is = absurd (none-some free is)
+not-below first (p ∷ pages) free is = by (greatest_free (first + 1) pages) (λ last found. not-below (first + 1) pages last found) is
+  where
+    by : (rest : Option Token) → ((last : Token) → rest ≡ Some last → first + 1 ≤ last.pid) → later rest (free_token first p) ≡ Some free → first ≤ free.pid
+    by None others is = let same : free.pid ≡ first = of-page first free p.stamp _ is in omega arith
+    by (Some last) others is =
+        let above : first + 1 ≤ last.pid = others last refl in
+        let same : last.pid ≡ free.pid = ap (λ t. t.pid) (same_Some last free is) in
+        omega arith
+
+-- so it isn't that of a page 0 which holds named roots
+above-roots : (pages : List StampedPage) (free : Token) (stamp : ℕ) (roots : meta.Roots) → slice_get pages 0 ≡ Some (page stamp (Roots roots)) → greatest_free 0 pages ≡ Some free → 0 < free.pid
+above-roots [] free stamp roots at is = absurd (none-some (page stamp (Roots roots)) at)
+above-roots (p ∷ pages) free stamp roots at is =
+    by (greatest_free 1 pages) (λ last found. not-below 1 pages last found)
+    (subst (λ (q : StampedPage). later (greatest_free 1 pages) (free_token 0 q) ≡ Some free) (same_Some p (page stamp (Roots roots)) at) is)
+  where
+    by : (rest : Option Token) → ((last : Token) → rest ≡ Some last → 1 ≤ last.pid) → later rest None ≡ Some free → 0 < free.pid
+    by None others is = absurd (none-some free is)
+    by (Some last) others is =
+        let above : 1 ≤ last.pid = others last refl in
+        let same : last.pid ≡ free.pid = ap (λ t. t.pid) (same_Some last free is) in
+        omega arith
+
+module _ {L : Type 0} (g : Ghosts L) where
+  abbrev HasRoots : State → ℕ → meta.Roots → Type 0
+  HasRoots s stamp roots = page_at s 0 ≡ Some (page stamp (Roots roots))
+
+  -- the named roots stay where a node is allocated
+  roots-stay : (cache : Cache L) (s : State) (node : WholeNode) (made : ℕ × Token) (out : Outcome) (stamp : ℕ) (roots : meta.Roots)
+      → StepOver g cache s (Allocate node) (Allocated (Ok made)) out → HasRoots s stamp roots → HasRoots out.state stamp roots
+  roots-stay cache s node made out stamp roots step at = by (greatest_free 0 s.pages) refl (goes _ _ s.fault (unrefused s made out _) step)
+    where
+      by : (free : Option Token) → greatest_free 0 s.pages ≡ free
+          → MatchOption free (AddsPage (chain_length g.state cache) (HasNoRoom g cache.log) s node (Ok made) out) (λ t. ReusesPage (chain_length g.state cache) (HasNoRoom g cache.log) s node t (Ok made) out)
+          → HasRoots out.state stamp roots
+      by None none adds =
+          let done = goes _ _ (length s.pages == 2 ^ 37) (unrefused s made out _) adds in
+          ap (λ t. page_at t 0) done.1.2 ∙ front-stays s.pages _ (page stamp (Roots roots)) at
+      by (Some free) some reuses =
+          let done = goes _ _ (free.stamp == 2 ^ 64 - 1) (unrefused s made out _) reuses in
+          ap (λ t. page_at t 0) done.1.2 ∙ others-stay s.pages free.pid _ (page stamp (Roots roots)) (above-roots s.pages free stamp roots at some) at
+
+  -- the map of named roots that was answered is that of page 0
+  abbrev answered : Token × meta.Roots → Result (Token × meta.Roots) Error
+  answered told = Ok told
+
+  roots-told : (cache : Cache L) (s : State) (told : Token × meta.Roots) (out : Outcome) → StepOver g cache s GetMeta (GotMeta (Ok told)) out
+      → (stamp : ℕ) × HasRoots s stamp told.1 × (out ≡ unchanged s)
+  roots-told cache s told out step = by (page_at s 0) refl (goes _ _ s.fault (unrefused s told out _) step)
+    where
+      in_content : (stamp : ℕ) (held : Content) → page_at s 0 ≡ Some (page stamp held)
+          → AreRoots held (λ roots. (answered told ≡ Ok (token 0 stamp, roots)) × (out ≡ unchanged s)) → (at : ℕ) × HasRoots s at told.1 × (out ≡ unchanged s)
+      in_content stamp (Roots roots) at holds =
+          let same : roots ≡ told.1 = (let is = holds.0 in cc) in
+          (stamp, at ∙ ap (λ r. Some (page stamp (Roots r))) same, holds.1)
+      in_content stamp held at holds = absurd holds
+
+      by : (found : Option StampedPage) → page_at s 0 ≡ found → HoldsRoots found (λ stamp roots. (answered told ≡ Ok (token 0 stamp, roots)) × (out ≡ unchanged s)) → (stamp : ℕ) × HasRoots s stamp told.1 × (out ≡ unchanged s)
+      by None none holds = absurd holds
+      by (Some p) some holds = in_content p.stamp p.content some holds
+
+  -- a name that has no root has none in a swap
+  abbrev another_root : Option ℕ → RootSwap
+  another_root another = Ok (Err another)
+
+  no-other : (cache : Cache L) (s : State) (name : Bytes) (root : ℕ) (another : Option ℕ) (out : Outcome) (stamp : ℕ) (roots : meta.Roots)
+      → HasRoots s stamp roots → root_of name roots ≡ None → StepOver g cache s (CasRoot name None (Some root)) (RootSwapped (Ok (Err another))) out → ⊥
+  no-other cache s name root another out stamp roots at none step = by (page_at s 0) at (goes _ _ s.fault (unrefused s (Err another) out _) step)
+    where
+      in_map : SetsRoot (chain_length g.state cache) (HasNoRoom g cache.log) s stamp name (Some root) roots (another_root another) out → ⊥
+      in_map (inl long) = unrefused s (Err another) out _ long.1
+      in_map (inr (inl lacks)) = unrefused s (Err another) out _ lacks.1
+      in_map (inr (inr puts)) =
+          let done = goes _ _ (stamp == 2 ^ 64 - 1) (unrefused s (Err another) out _) puts.1 in
+          let is = done.1.0 in
+          cc
+
+      in_roots : ((root_of name roots ≢ None) × (another_root another ≡ Ok (Err (root_of name roots))) × (out ≡ unchanged s))
+          ⊎ ((root_of name roots ≡ None) × SetsRoot (chain_length g.state cache) (HasNoRoom g cache.log) s stamp name (Some root) roots (another_root another) out) → ⊥
+      in_roots (inl other) = other.0 none
+      in_roots (inr same) = in_map same.1
+
+      by : (found : Option StampedPage) → found ≡ Some (page stamp (Roots roots))
+          → HoldsRoots found (λ stamp roots.
+          ((root_of name roots ≢ None) × (another_root another ≡ Ok (Err (root_of name roots))) × (out ≡ unchanged s))
+          ⊎ ((root_of name roots ≡ None) × SetsRoot (chain_length g.state cache) (HasNoRoom g cache.log) s stamp name (Some root) roots (another_root another) out))
+          → ⊥
+      by None is holds = absurd (none-some (page stamp (Roots roots)) is)
+      by (Some p) is holds =
+          in_roots (subst (λ (q : StampedPage). HoldsRoots (Some q) (λ stamp roots.
+          ((root_of name roots ≢ None) × (another_root another ≡ Ok (Err (root_of name roots))) × (out ≡ unchanged s))
+          ⊎ ((root_of name roots ≡ None) × SetsRoot (chain_length g.state cache) (HasNoRoom g cache.log) s stamp name (Some root) roots (another_root another) out)))
+          (same_Some p (page stamp (Roots roots)) is) holds)
+
+  -- ---- the calls of an opening
+
+  -- so in whatever state a cache is, the last call of an opening finds no other root
+  pub finds-no-other : (old new : Cache L) (name : Bytes) (told : Token × meta.Roots) (leaf index : WholeNode) (first second : ℕ × Token) (root : ℕ) (another : Option ℕ)
+      → root_of name told.1 ≡ None
+      → AreMade g old ((GetMeta, GotMeta (Ok told)) ∷ (Allocate leaf, Allocated (Ok first)) ∷ (Allocate index, Allocated (Ok second)) ∷ (CasRoot name None (Some root), RootSwapped (Ok (Err another))) ∷ []) new
+      → ¬ IsKnown g old
+  finds-no-other old new name told leaf index first second root another none (one, looked, (two, leafed, (three, indexed, (four, swapped, same)))) (held, s, is) =
+      let look = looked.step.from_each held s is in
+      let roots = roots-told old s told look.out look.step in
+      let at_look : HasRoots look.out.state roots.0 told.1 = ap (λ (o : Outcome). page_at o.state 0) roots.2 ∙ roots.1 in
+      let put = leafed.step.from_each look.held_then look.out.state look.is in
+      let at_leaf = roots-stay one look.out.state leaf first put.out roots.0 told.1 put.step at_look in
+      let over = indexed.step.from_each put.held_then put.out.state put.is in
+      let at_index = roots-stay two put.out.state index second over.out roots.0 told.1 over.step at_leaf in
+      let swap = swapped.step.from_each over.held_then over.out.state over.is in
+      no-other three over.out.state name root another swap.out roots.0 told.1 at_index none swap.step
+
+  -- a node was allocated, and the opening goes on
+  pub goes-on : (old mid new : Cache L) (node : WholeNode) (made : ℕ × Token) (result : Result ℕ Error) (Are All : MadeCalls → Type 0)
+      → IsMade g old (Allocate node) (Allocated (Ok made)) mid → Keeps old mid (Ok made) (λ m. stamped old.stamps m.1) → ReadsNothing g old mid → Touches g old (Allocated (Ok made)) mid
+      → GoesOn g mid Are result new → ((calls : MadeCalls) → Are calls → All ((Allocate node, Allocated (Ok made)) ∷ calls)) → GoesOn g old All result new
+  goes-on old mid new node made result Are All first keeps unread touches rest all = record {
+    calls = (Allocate node, Allocated (Ok made)) ∷ rest.calls;
+    are = all rest.calls rest.are;
+    made = (mid, first, rest.made);
+    fault = rest.fault;
+    stamps = rest.stamps ∙ ap (λ stamps. stamps_then stamps rest.calls) keeps.done;
+    touched = (mid, touches, rest.touched);
+    unread = rest.unread ∙ unread;
+    bounded = rest.bounded;
+  }
+
+  -- or that was refused
+  pub ends-with : (old new : Cache L) (node : WholeNode) (e : Error) (All : MadeCalls → Type 0) → old.fault ≡ false
+      → IsMade g old (Allocate node) (Allocated (Err e)) new → Keeps {T = ℕ × Token} old new (Err e) (λ m. stamped old.stamps m.1) → ReadsNothing g old new → Touches g old (Allocated (Err e)) new → IsBounded g new
+      → All ((Allocate node, Allocated (Err e)) ∷ []) → GoesOn g old All (Err e) new
+  ends-with old new node e All clear first keeps unread touches bounded all = record {
+    calls = (Allocate node, Allocated (Err e)) ∷ [];
+    are = all;
+    made = (new, first, refl);
+    fault = keeps.fault ∙ ap (λ b. b || is_write_fault {T = ℕ} (Err e)) clear;
+    stamps = keeps.refused;
+    touched = (new, touches, refl);
+    unread = unread;
+    bounded = bounded;
+  }
+
+  -- the swap of the root was made
+  pub swaps-root : (old new : Cache L) (name : Bytes) (root : ℕ) (answer : RootSwap) (result : Result ℕ Error) → old.fault ≡ false
+      → IsMade g old (CasRoot name None (Some root)) (RootSwapped answer) new → Keeps old new answer (root_swapped old.stamps) → ReadsNothing g old new → Touches g old (RootSwapped answer) new → IsBounded g new
+      → EndsSwap ⊤ name result root answer → is_write_fault answer ≡ is_write_fault result → GoesOn g old (NamesRoot ⊤ name result root) result new
+  swaps-root old new name root answer result clear swapped keeps unread touches bounded ends fault = record {
+    calls = (CasRoot name None (Some root), RootSwapped answer) ∷ [];
+    are = (answer, refl, ends);
+    made = (new, swapped, refl);
+    fault = keeps.fault ∙ ap (λ b. b || is_write_fault answer) clear ∙ fault;
+    stamps = by answer keeps.done keeps.refused;
+    touched = (new, touches, refl);
+    unread = unread;
+    bounded = bounded;
+  }
+    where
+      by : (swap : RootSwap) → IfOk swap (λ done. new.stamps ≡ root_swapped old.stamps done) → OnErr swap (new.stamps ≡ old.stamps) → new.stamps ≡ stamps_after old.stamps (RootSwapped swap)
+      by (Ok done) swapped left = swapped
+      by (Err e) swapped left = left
+
+-- where the swap found no other root, as it does in each state
+swap-known : (found_another : Type 0) (name : Bytes) (result : Result ℕ Error) (root : ℕ) (answer : RootSwap) → ((another : Option ℕ) → answer ≡ Ok (Err another) → found_another)
+    → EndsSwap ⊤ name result root answer → EndsSwap found_another name result root answer
+swap-known found_another name result root (Ok (Ok done)) known ends = ends
+swap-known found_another name result root (Ok (Err another)) known ends = (known another refl, ends.1)
+swap-known found_another name result root (Err e) known ends = ends
+
+pub tree-known : (found_another : Type 0) (name : Bytes) (result : Result ℕ Error) (calls : MadeCalls)
+    → ((first second : ℕ × Token) (another : Option ℕ)
+    → calls ≡ (Allocate empty_leaf, Allocated (Ok first)) ∷ (Allocate (index_over first.0), Allocated (Ok second)) ∷ (CasRoot name None (Some second.0), RootSwapped (Ok (Err another))) ∷ [] → found_another)
+    → MakesTree ⊤ name result calls → MakesTree found_another name result calls
+tree-known found_another name result calls known (answer, others, is, behind) = (answer, others, is, leafed answer others is behind)
+  where
+    indexed : (first : ℕ × Token) (answer : Result (ℕ × Token) Error) (others : MadeCalls) → calls ≡ (Allocate empty_leaf, Allocated (Ok first)) ∷ (Allocate (index_over first.0), Allocated answer) ∷ others
+        → GoesOnOver ⊤ name result answer others → GoesOnOver found_another name result answer others
+    indexed first (Ok second) others is (swap, are, ends) =
+        (swap, are, swap-known found_another name result second.0 swap (λ another other. known first second another (is ∙ ap (λ (l : MadeCalls). (Allocate empty_leaf, Allocated (Ok first)) ∷ (Allocate (index_over first.0), Allocated (Ok second)) ∷ l) are ∙ ap (λ a. (Allocate empty_leaf, Allocated (Ok first)) ∷ (Allocate (index_over first.0), Allocated (Ok second)) ∷ (CasRoot name None (Some second.0), RootSwapped a) ∷ []) other)) ends)
+    indexed first (Err e) others is behind = behind
+
+    leafed : (answer : Result (ℕ × Token) Error) (others : MadeCalls) → calls ≡ (Allocate empty_leaf, Allocated answer) ∷ others → GoesOnWith ⊤ name result answer others → GoesOnWith found_another name result answer others
+    leafed (Ok first) others is (inl none) = inl none
+    leafed (Ok first) others is (inr (over, rest, are, behind)) =
+        inr (over, rest, are, indexed first over rest (is ∙ ap (λ (l : MadeCalls). (Allocate empty_leaf, Allocated (Ok first)) ∷ l) are) behind)
+    leafed (Err e) others is behind = behind
+
+-- an error is a write fault or not, whatever the call answers else
+pub same-fault : (A B : Type 0) (e : Error) → is_write_fault {T = A} (Err e) ≡ is_write_fault {T = B} (Err e)
+same-fault A B (Io Write) = refl
+same-fault A B e = refl
+
+module _ {L : Type 0} (g : Ghosts L) (cache : Cache L) (name : Bytes) where
+  module _ (only_now : (l : L) (pages : List Messages) → g.tells → (g.state l).usable ≡ true → g.left_since l (g.moment l) pages → log.IsLeft effect_of (log.unplaced_state (g.state l)) [] pages) where
+    -- nothing was made
+    pub opens-none : (found : Result (Option ℕ) Error) (result : Result ℕ Error) → Looks g cache name found → OpensTree (¬ IsKnown g cache) name result found [] → IsTreeOpened g cache name result cache
+    opens-none found result looks are = record {
+      look = looks.look;
+      always = looks.always;
+      found = found;
+      finds = looks.finds;
+      calls = [];
+      are = are;
+      made = (cache, looks.made, refl);
+      row = made-row g cache cache ((GetMeta, GotMeta looks.look) ∷ []) only_now (cache, looks.made, refl);
+      stamps = refl;
+      touched = refl;
+      same = λ _. refl;
+    }
+
+    -- a tree was made, as far as that went
+    pub opens-tree : (result : Result ℕ Error) (new : Cache L) → Looks g cache name (Ok None) → GoesOn g cache (MakesTree ⊤ name result) result new → IsTreeOpened g cache name result new
+    opens-tree result new looks rest = record {
+      look = looks.look;
+      always = looks.always;
+      found = Ok None;
+      finds = looks.finds;
+      calls = rest.calls;
+      are = tree-known (¬ IsKnown g cache) name result rest.calls (λ first second another is. unknown first second another is looks.look looks.made looks.finds) rest.are;
+      made = (cache, looks.made, rest.made);
+      row = made-row g cache new ((GetMeta, GotMeta looks.look) ∷ rest.calls) only_now (cache, looks.made, rest.made);
+      stamps = rest.stamps;
+      touched = rest.touched;
+      same = λ none. absurd (some rest.calls rest.are none);
+    }
+      where
+        some : (calls : MadeCalls) → MakesTree ⊤ name result calls → calls ≡ [] → ⊥
+        some calls (answer, others, is, behind) none = cc
+
+        unknown : (first second : ℕ × Token) (another : Option ℕ)
+            → rest.calls ≡ (Allocate empty_leaf, Allocated (Ok first)) ∷ (Allocate (index_over first.0), Allocated (Ok second)) ∷ (CasRoot name None (Some second.0), RootSwapped (Ok (Err another))) ∷ []
+            → (look : Result (Token × meta.Roots) Error) → IsMade g cache GetMeta (GotMeta look) cache → FindsTree name look (Ok None) → ¬ IsKnown g cache
+        unknown first second another is (Ok told) looked finds =
+            finds-no-other g cache new name told empty_leaf (index_over first.0) first second second.0 another (lacks (root_of name told.1) finds) (cache, looked, subst (λ calls. AreMade g cache calls new) is rest.made)
+          where
+            lacks : (root : Option ℕ) → TellsTree name told.1 root (Ok None) → root ≡ None
+            lacks None tells = refl
+            lacks (Some root) tells = absurd (let at = tells in cc)
+        unknown first second another is (Err e) looked finds = absurd (let at = finds in cc)

@@ -1,0 +1,80 @@
+-- Caches that are opened one after another, each over the log that the one before left, and the generated ids that they answer.
+use Rattle.std.specs.Prelude.{◌≡◌, ◌≢◌, ◌⊎◌, ◌<◌, ◌≤◌, ℕ, true, false, List, [], ◌∷◌, ◌++◌, AllPairs, Result, Ok, ⊤}
+use Rattle.std.specs.Result.{IsErrAnd}
+use Rattle.sled_base.specs.declared.types.Device.TheVariants.{Write}
+use Rattle.sled_base.specs.declared.types.Error.{Error}
+use Rattle.sled_base.specs.declared.types.Error.TheVariants.{Io}
+use Rattle.sled_log.specs.LogState.{unplaced_state}
+use Rattle.sled_log.specs.declared.log.Log.{Ghosts}
+use Rattle.sled_pagecache.specs.Cache.{Cache}
+use Rattle.sled_pagecache.specs.Reopening.{HoldsCrash, Started}
+use Rattle.sled_pagecache.specs.Rows.{IsMade, AreMade}
+use Rattle.sled_pagecache.specs.Starts.{MayBeOpened, log_after, only_stable}
+use Rattle.sled_pagecache.specs.declared.pagecache.call.Answer.{Answer}
+use Rattle.sled_pagecache.specs.declared.pagecache.call.Answer.TheVariants.{Generated}
+use Rattle.sled_pagecache.specs.declared.pagecache.call.Call.{Call}
+use Rattle.sled_pagecache.specs.declared.pagecache.config.Config.{Config}
+
+-- How an opening ends: by a crash between two calls, by a crash inside a call, which would have been answered so, or by handing its
+-- log on.
+pub data Ending : Type 0 where
+  Crashed : Ending
+  CrashedIn : (call : Call) (answer : Answer) → Ending
+  HandedOn : Ending
+
+-- What was done to a log, and the log that was left: no cache was opened over it, or one was, and answered these calls.
+pub data Opening (L : Type 0) : Type 0 where
+  Refused : (config : Config) (result : Result (Cache L) (Error × L)) (left : L) → Opening L
+  Lasted : (config : Config) (first : Cache L) (calls : List (Call × Answer)) (last : Cache L) (ending : Ending) (left : L) → Opening L
+
+module _ {L : Type 0} (g : Ghosts L) where
+  -- nothing was appended to the log
+  abbrev pub IsEmpty : L → Type 0
+  IsEmpty log = unplaced_state (g.state log) ≡ only_stable [] true
+
+  -- `start` answered so, over a log that may be opened
+  abbrev pub Starts : L → Config → Result (Cache L) (Error × L) → Type 0
+  Starts log config result = MayBeOpened g log × Started g log config result
+
+  -- Where no cache was opened, a crash came meanwhile, or behind a write fault; or the log came back.
+  abbrev pub LeavesUnopened : L → Result (Cache L) (Error × L) → L → Type 0
+  LeavesUnopened found result left =
+      HoldsCrash g (log_after result) (g.moment found) left
+      ⊎ IsErrAnd result (λ e. (e.0 ≢ Io Write) × (left ≡ e.1))
+
+  -- What an opening leaves whose cache was that behind the calls that it answered. A crash inside a call is one at any moment since
+  -- the call's start.
+  abbrev pub Leaves : Cache L → Ending → L → Type 0
+  Leaves last Crashed left = HoldsCrash g last.log (g.moment last.log) left
+  Leaves last (CrashedIn call answer) left = (then : Cache L) × IsMade g last call answer then × HoldsCrash g then.log (g.moment last.log) left
+  Leaves last HandedOn left = (last.fault ≡ false) × (left ≡ last.log)
+
+  -- A log was opened so often, each time as the time before left it, and no interval of ids was shorter than one before it.
+  abbrev pub IsRun : L → ℕ → List (Opening L) → Type 0
+  IsRun found least [] = ⊤
+  IsRun found least (Refused config result left ∷ openings) = Starts found config result × LeavesUnopened found result left × IsRun left least openings
+  IsRun found least (Lasted config first calls last ending left ∷ openings) =
+      (least ≤ config.idgen_persist_interval)
+      × Starts found config (Ok first)
+      × AreMade g first calls last
+      × Leaves last ending left
+      × IsRun left config.idgen_persist_interval openings
+
+-- the id that an answer gives, if it gives one
+abbrev pub id_in : Answer → List ℕ
+id_in (Generated (Ok id)) = id ∷ []
+id_in answer = []
+
+-- the ids that calls were answered, in order
+abbrev pub ids_in : List (Call × Answer) → List ℕ
+ids_in [] = []
+ids_in (made ∷ calls) = id_in made.1 ++ ids_in calls
+
+abbrev pub ids_of : {L : Type 0} → List (Opening L) → List ℕ
+ids_of [] = []
+ids_of (Refused config result left ∷ openings) = ids_of openings
+ids_of (Lasted config first calls last ending left ∷ openings) = ids_in calls ++ ids_of openings
+
+-- each is above every one before it
+abbrev pub AreRising : List ℕ → Type 0
+AreRising ids = AllPairs (λ earlier later. earlier < later) ids

@@ -1,0 +1,56 @@
+//! The generated ids of a cache.
+
+ghost use Rattle.std.specs.Prelude.{◌≡◌, false, slice_get, IfOk, IfErr, IsOk, Some, ◌+◌};
+ghost use Rattle.sled_pagecache.specs.Answers.{Keeps};
+ghost use Rattle.sled_pagecache.specs.Calls.{Steps, IsBlamed};
+ghost use Rattle.sled_pagecache.specs.Ids.{GivesId, IsCovered};
+ghost use Rattle.sled_pagecache.specs.Limits.{counter_pid};
+ghost use Rattle.sled_pagecache.specs.Memory.{IsBounded, LeavesMemory};
+ghost use Rattle.sled_pagecache.specs.Reads.{ReadsNothing};
+ghost use Rattle.sled_pagecache.specs.Token.{pid_of, stamp_of};
+ghost use Rattle.sled_pagecache.specs.declared.pagecache.call.Answer.TheVariants.{GotIdgen, Generated};
+ghost use Rattle.sled_pagecache.specs.declared.pagecache.call.Call.TheVariants.{GetIdgen, GenerateId};
+
+use super::{PageCache, lost_by, settle};
+use crate::pagecache::COUNTER_PID;
+use crate::pagecache::view::PageView;
+use sled_base::Error;
+use sled_log::Log;
+
+impl<L: Log> PageCache<L> {
+    /// The counter of generated ids with the token of its page. It lies in memory, so nothing is read and nothing allocated.
+    pub fn get_idgen(&self) -> Result<(PageView, u64), Error>
+        ensures step { Steps L.Log self.now GetIdgen (GotIdgen result) self.now }
+        ensures keeps { Keeps self.now self.now result (λ _. self.now.stamps) }
+        ensures token { IfOk result (λ found. (pid_of found.0 ≡ counter_pid) × (slice_get self.now.stamps counter_pid ≡ Some (stamp_of found.0))) }
+        ensures always { self.now.fault ≡ false → IsOk result }
+    {
+        self.pages.get_idgen()
+    }
+
+    /// The next id. Over every run of openings each is given once: [`ids_are_given_once`](crate::openings::ids_are_given_once).
+    ///
+    /// Ids come in intervals, of the length that the config says. The first id of an interval that the counter is below is answered
+    /// only once the start of its interval is the counter, and that and all that is pending are stable. Every other id takes no
+    /// memory, and changes neither a page nor the log.
+    ///
+    /// `IdsUsedUp` comes where the next id is above the greatest u64. Where a new counter is needed, `StampUsedUp` comes where the
+    /// stamp of its page is the greatest, `LogFull` where the log has no room. These and `OutOfMemory` leave every page and message
+    /// unchanged, and use no id. A write error is sticky: every later call answers it, until the log is opened again.
+    pub fn generate_id_inner(&mut self) -> Result<u64, Error>
+        ensures covered { IfOk result (IsCovered L.Log self.new) }
+        ensures step { Steps L.Log self.old GenerateId (Generated result) self.new }
+        ensures blame { IsBlamed L.Log self.old self.new result }
+        ensures keeps { Keeps self.old self.new result (λ _. self.new.stamps) }
+        ensures id { IfOk result (λ id. (id ≡ self.old.next) × (self.new.next ≡ self.old.next + 1)) }
+        ensures unread { ReadsNothing L.Log self.old self.new }
+        ensures bounded { IsBounded L.Log self.new }
+        ensures gives { IfOk result (λ _. GivesId L.Log self.old self.new) }
+        ensures leaves { IfErr result (LeavesMemory self.old counter_pid self.new L.tells) }
+    {
+        let given = self.pages.generate_id(&mut self.accesses);
+        let lost = lost_by(&given, COUNTER_PID);
+        settle(&mut self.pages, &mut self.accesses, lost);
+        given
+    }
+}

@@ -1,0 +1,118 @@
+//! The counter of generated ids, on its page.
+
+ghost use Rattle.std.specs.Prelude.{◌≡◌, ◌≢◌, ◌⊎◌, ◌+◌, ◌<◌, ◌^◌, [], ◌∷◌, false, true, length, map, slice_set, IfErr, OnOk, OnErr};
+ghost use Rattle.std.specs.List.{AllByRecursion};
+ghost use Rattle.sled_log.specs.Batches.{is_open};
+ghost use Rattle.sled_log.specs.Contents as contents;
+ghost use Rattle.sled_log.specs.Events.{Change};
+ghost use Rattle.sled_log.specs.LogState.{now};
+ghost use Rattle.sled_log.specs.Messages.{effect_of_entry};
+ghost use Rattle.sled_log.specs.Pages.{IsSized};
+ghost use Rattle.sled_log.specs.Reading.{IsUpdate};
+ghost use Rattle.sled_log.specs.Writing.{message_of};
+ghost use Rattle.sled_pagecache.specs.Accesses.{WasAccessed, IsTouched};
+ghost use Rattle.sled_pagecache.specs.ChainReads.{chain_at};
+ghost use Rattle.sled_pagecache.specs.CounterPages.{IsCounterIn, KeepsCounter};
+ghost use Rattle.sled_pagecache.specs.Limits.{counter_pid};
+ghost use Rattle.sled_pagecache.specs.Pages.{IsKept, access_size};
+ghost use Rattle.sled_pagecache.specs.Step.{interval_start};
+ghost use Rattle.sled_pagecache.specs.StickyLog.{Went, IsCaused, IsOfLog, begun_by};
+ghost use Rattle.sled_pagecache.specs.Swaps.{IsRaised, RefusesSwap, Wrote};
+ghost use Rattle.sled_pagecache.specs.declared.pagecache.page.Kept.TheVariants as kept;
+
+use super::COUNTER_PID;
+use super::accesses::{Accesses, size_with};
+use super::page::{CacheInfo, Kept, Page, keep_alone};
+use super::pagetable::PageTable;
+use super::sticky_log::StickyLog;
+use super::view::PageView;
+use super::write::write_kept;
+use sled_base::{Refusal, Serialize, Why};
+use sled_log::Log;
+use std::alloc::Global;
+
+// The counter, with the token of its page.
+pub(super) fn own_counter(pages: &PageTable) -> (PageView, u64)
+    requires { KeepsCounter pages.now.pages }
+    ensures { IsCounterIn pages.now.pages result }
+{
+    let Some(page) = pages.get(COUNTER_PID) else {
+        unreachable!()
+    };
+    let Kept::Counter(n) = &page.kept else {
+        unreachable!()
+    };
+    (PageView::new(COUNTER_PID, page.stamp), *n)
+}
+
+// The first number of the interval that a number is in.
+pub(super) fn interval_start(interval: u64, n: u64) -> u64
+    ensures { result ≡ interval_start interval n }
+{
+    match n.checked_div(interval) {
+        Some(intervals) => intervals * interval,
+        None => 0,
+    }
+}
+
+// Puts another counter on its page, and makes that and all that is pending stable. A refusal leaves the page.
+pub(super) fn put_counter<L: Log>(
+    alloc: Global,
+    sticky_log: &mut StickyLog<L>,
+    accesses: &mut Accesses,
+    page: &mut Page,
+    n: u64,
+) -> Result<(), Refusal>
+    requires ready { sticky_log.old.fault ≡ false }
+    requires usable { (L.state sticky_log.old.log).usable ≡ true }
+    requires closed { is_open (L.state sticky_log.old.log).pending ≡ false }
+    requires there { L.tells → counter_pid < length (now effect_of_entry (L.state sticky_log.old.log)) }
+    ensures stamp { OnOk result (IsRaised page.old.stamp page.new.stamp) }
+    ensures holds { OnOk result (page.new.kept ≡ kept.Counter n) }
+    ensures kept { L.tells → OnOk result (IsKept (chain_at (L.state sticky_log.new.log) counter_pid) page.new) }
+    ensures stamps { OnOk result (map (λ info. info.ts) page.new.infos.items ≡ page.new.stamp ∷ []) }
+    ensures others { L.tells → OnOk result (now effect_of_entry (L.state sticky_log.new.log) ≡ slice_set (now effect_of_entry (L.state sticky_log.old.log)) counter_pid (chain_at (L.state sticky_log.new.log) counter_pid)) }
+    ensures stable { OnOk result ((L.state sticky_log.new.log).pending ≡ []) }
+    ensures left { OnErr result (page.new ≡ page.old) }
+    ensures same { L.tells → OnErr result (sticky_log.new.fault ≡ false → now effect_of_entry (L.state sticky_log.new.log) ≡ now effect_of_entry (L.state sticky_log.old.log)) }
+    ensures refused { L.tells → IfErr result (RefusesSwap page.old.stamp) }
+    ensures is { IsUpdate (message_of (contents.Put (contents.Counter n))) (contents.Put (contents.Counter n)) }
+    ensures went { Went L.tells L.state L.moment L.left_since L.counts sticky_log.old sticky_log.new (begun_by result (Change counter_pid (message_of (contents.Put (contents.Counter n))) ∷ [])) }
+    ensures cause { IsCaused L.tells L.state L.moment L.left_since L.counts sticky_log.old sticky_log.new (L.is_full sticky_log.old.log (length (message_of (contents.Put (contents.Counter n))).payload)) result }
+    ensures reads { (L.counts sticky_log.new.log).reads ≡ (L.counts sticky_log.old.log).reads }
+    ensures sized { L.tells → OnOk result (AllByRecursion IsSized (now effect_of_entry (L.state sticky_log.new.log))) }
+    ensures accessed { OnOk result (WasAccessed accesses.old counter_pid (access_size page.new) accesses.new) }
+    ensures touched { OnErr result (IsTouched accesses.old counter_pid accesses.new) }
+    ensures unasked { L.tells → IfErr result (λ refusal. IsOfLog refusal ⊎ (accesses.new ≡ accesses.old)) }
+{
+    let payload = n.serialized_size();
+    if page.stamp == u64::MAX {
+        return Err(Refusal::Unsupported(Why::StampUsedUp));
+    }
+    let Ok(()) = accesses.access(COUNTER_PID, size_with(0, payload)) else {
+        return Err(Refusal::OutOfMemory);
+    };
+    let info = write_durably(alloc, sticky_log, n, page.stamp + 1)?;
+    page.kept = Kept::Counter(n);
+    keep_alone(page, info);
+    Ok(())
+}
+
+// Writes a counter to the log, and makes that and all that is pending stable. It answers how the message is kept, at that stamp.
+fn write_durably<L: Log>(
+    alloc: Global,
+    sticky_log: &mut StickyLog<L>,
+    n: u64,
+    stamp: u64,
+) -> Result<CacheInfo, Refusal>
+    requires ready { sticky_log.old.fault ≡ false }
+    requires usable { (L.state sticky_log.old.log).usable ≡ true }
+    requires closed { is_open (L.state sticky_log.old.log).pending ≡ false }
+    requires there { L.tells → counter_pid < length (now effect_of_entry (L.state sticky_log.old.log)) }
+    ensures wrote { Wrote L.tells L.state L.moment L.left_since L.counts L.is_full sticky_log.old sticky_log.new counter_pid (contents.Put (contents.Counter n)) stamp result }
+    ensures stable { OnOk result ((L.state sticky_log.new.log).pending ≡ []) }
+{
+    let info = write_kept(alloc, sticky_log, COUNTER_PID, &Kept::Counter(n), stamp)?;
+    sticky_log.make_stable()?;
+    Ok(info)
+}

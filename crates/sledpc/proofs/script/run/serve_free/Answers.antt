@@ -1,0 +1,9 @@
+use Rattle.sled_pagecache.specs.declared.pagecache.call.Answer.TheVariants.{Freed}
+use Rattle.sledpc.proofs.script.run.serve_free.Goals as goal
+
+pub returns : goal.returns
+returns g c = record {
+  answer = Freed c.free-answer.result;
+  made = record { step = c.free-answer.ensures.step; bytes = tt; faults = c.free-answer.ensures.blame; covered = tt };
+  written = c.write_line.ensures;
+}

@@ -1,0 +1,12 @@
+use Rattle.sled_pagecache.specs.declared.pagecache.call.Answer.TheVariants.{Got}
+use Rattle.sled_pagecache.specs.Lending.{lent_answer}
+use Rattle.sledpc.proofs.script.run.serve_get.Goals as goal
+
+pub returns : goal.returns
+returns g c = let got = c.get.follows.holds-at-none in
+    -- what the cache is once the node has come back
+    record {
+      answer = Got (lent_answer c.get.result);
+      made = record { step = got.step; bytes = tt; faults = got.blame; covered = tt };
+      written = c.write_line.ensures;
+    }
