@@ -1,5 +1,5 @@
 -- The counter of generated ids stays durable as far as the next id needs it.
-use Rattle.sled_pagecache.proofs.Names.{AllByRecursion, AllZip-long, AreEvents, AreFound, IsFoundAt, Makes, map, length-map, eqb-false, nat_lt, inl, inr, ◌⊎◌, Bool, Chain, Change, Config, Content, Counter, Err, Event, Ghosts, Hold, Holds, HoldsChain, Io, IsConsistent, IsKept, IsLogged, IsPagedOut, Kept, Link, List, Logged, Message, Messages, None, Ok, Option, Page, Put, Read, Refusal, Result, Some, StickyLog, Update, Went, Why, Write, [], after_link, ap, arith, begun_by, chain_at, cond, contents_after, contents_from, drop, effect_of, effect_of_entry, eqb-true, fault_of, false, get_or-map, holds-made, length, next_id, none-some, paged_out, refl, same_Some, slice_get, slice_get-get_or, slice_get_within, slice_index_or, slice_set, suc, sym, subst, true, unplaced, unplaced_events, unplaced_state, zero, ℕ, ⊎_elim, ◌*◌, ◌++◌, ◌+◌, ◌/◌, ◌<◌, ◌==◌, ◌∙◌, ◌∷◌, ◌≡◌, true≢false, ◌≢◌, ◌≤◌, Free, Seal, Pin, Cancel}
+use Rattle.sled_pagecache.proofs.Names.{AllByRecursion, AllZip-long, AreEvents, AreFound, IsFoundAt, Makes, map, length-map, eqb-false, nat_lt, inl, inr, ◌⊎◌, Bool, Chain, Change, Config, Content, Counter, Err, Event, Ghosts, Holds, HoldsChain, Io, IsConsistent, IsKept, IsLogged, IsPagedOut, Kept, Link, List, Logged, Message, Messages, None, Option, Page, Put, Read, Refusal, Result, Some, StickyLog, Update, Went, Write, [], after_link, ap, arith, begun_by, cond, contents_after, contents_from, drop, effect_of_entry, eqb-true, fault_of, false, get_or-map, holds-made, length, next_id, none-some, paged_out, refl, same_Some, slice_get, slice_get-get_or, slice_get_within, slice_index_or, slice_set, suc, sym, subst, true, unplaced, unplaced_events, unplaced_state, zero, ℕ, ⊎_elim, ◌*◌, ◌++◌, ◌+◌, ◌/◌, ◌<◌, ◌==◌, ◌∙◌, ◌∷◌, ◌≡◌, true≢false, ◌≢◌, ◌≤◌, Free, Seal, Pin, Cancel}
 use Rattle.std.proofs.lemmas.Bool.{cases_lt}
 use Rattle.std.proofs.lemmas.Nat.{le-div}
 use Rattle.std.proofs.Math.Nat.{add-mul-div_right, div-mul-le_self, lt-div-mul-add, mul-le-mul_right, suc-mul}

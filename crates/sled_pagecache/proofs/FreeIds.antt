@@ -3,7 +3,7 @@ use Rattle.sled_pagecache.proofs.Names.{◌≡◌, ◌≢◌, ◌≤◌, ◌<◌
 use Rattle.std.specs.BTreeMap.{is_at}
 use Rattle.std.specs.BTreeSet.{insert_key}
 use Rattle.std.specs.Cmp.{nat_cmp_is}
-use Rattle.std.proofs.Common.{Ordering, Less, Equal, Greater}
+use Rattle.std.proofs.Common.{Less, Equal, Greater}
 use Rattle.std.specs.Ordering.{nat_cmp}
 use Rattle.std.specs.Set.{remove_key}
 

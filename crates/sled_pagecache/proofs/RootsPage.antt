@@ -1,5 +1,5 @@
 -- The page of the named roots, in the table and in the state that the cache is in, and the calls of it as steps of the machine.
-use Rattle.sled_pagecache.proofs.Names.{◌≡◌, ◌≢◌, ◌≤◌, ◌<◌, ◌+◌, ◌-◌, ◌^◌, ◌⊎◌, inl, inr, ℕ, Bool, true, false, arith, List, [], ◌∷◌, length, Option, Some, None, Result, Ok, Err, refl, sym, ◌∙◌, ap, subst, slice_get, slice_set, slice_index_or, eq-eqb, ne_eqb, length-map, map-set, slice_get_within, same_Some, Read, Write, Error, Unsupported, Refusal, LogFull, StampUsedUp, Content, Roots, Put, Event, Update, Change, Chain, unplaced, effect_of_entry, Makes, holds-made, Messages, effect_of, IsUpdate, message_of, Ghosts, Cache, IsIn, Steps, StepOver, HasNoRoom, chain_length, Went, Went-none, IsCaused, IsOfLog, begun_by, Logged, IsConsistent, IsKept, HoldsChain, page, State, page_at, with_page, Outcome, outcome, unchanged, Does, Fails, RefusesSwap, token, Token, Config, StickyLog, stamps_in, Kept, GotMeta, GetMeta, FoundRoot, MetaPidForName, RootSwapped, CasRoot, SetsRoot, PutsRoots, TellsRoot, IsRoots, KeepsRoots, AreKeptRoots, Answer, Call}
+use Rattle.sled_pagecache.proofs.Names.{◌≡◌, ◌≢◌, ◌≤◌, ◌+◌, ◌-◌, ◌^◌, ◌⊎◌, inl, inr, ℕ, Bool, true, false, arith, List, [], ◌∷◌, length, Option, Some, None, Result, Ok, Err, refl, sym, ◌∙◌, ap, subst, slice_get, slice_set, slice_index_or, eq-eqb, ne_eqb, map-set, same_Some, Read, Write, Error, Unsupported, Refusal, LogFull, StampUsedUp, Content, Roots, Put, Event, Update, Change, unplaced, effect_of_entry, Makes, holds-made, Messages, effect_of, IsUpdate, message_of, Ghosts, Cache, IsIn, Steps, StepOver, HasNoRoom, chain_length, Went, Went-none, IsCaused, IsOfLog, begun_by, Logged, IsConsistent, HoldsChain, page, State, page_at, with_page, Outcome, outcome, unchanged, Does, RefusesSwap, token, Token, Config, StickyLog, stamps_in, Kept, GotMeta, GetMeta, FoundRoot, MetaPidForName, RootSwapped, CasRoot, PutsRoots, IsRoots, KeepsRoots, AreKeptRoots, Answer, Call}
 use Rattle.sled_base.specs.Errors.{error_of as error_by}
 use Rattle.sled_base.specs.Order.{Bytes}
 use Rattle.sled_base.specs.declared.types.Error.TheVariants.{Io, CollectionNotFound, OutOfMemory}
@@ -8,7 +8,6 @@ use Rattle.sled_log.specs.LogState as log
 use Rattle.sled_base.specs.declared.types.Why.TheVariants.{NameTooLong, TooManyNames}
 use Rattle.sled_node.specs.Meta as meta
 use Rattle.sled_node.specs.Meta.{IsTooLong, LacksRoom, CanChange, root_of, changed_roots}
-use Rattle.sled_pagecache.proofs.ByIds.{at-id}
 use Rattle.sled_pagecache.proofs.Carrying.{proper-now}
 use Rattle.sled_pagecache.proofs.CacheSteps.{steps-went}
 use Rattle.sled_pagecache.proofs.Changing.{leads-same, leads-begun, leads-set}

@@ -1,5 +1,5 @@
 -- What a swap makes of the chain of its page.
-use Rattle.sled_pagecache.proofs.Names.{◌≡◌, ◌<◌, ℕ, cond, List, [], ◌∷◌, ◌++◌, length, map, refl, sym, ◌∙◌, ap, subst, arith, slice_set, slice_index_or, ne_eqb, get_or-set_same, chains_from, Free, Counter, Roots, Node, Put, Change, Entry, Kept, Chain, unplaced, placed, effect_of_entry, said_of, IsUpdate, Makes, message_of, WholeNode, place_of, CanPut, content_of, HoldsChain, IsKept, CacheInfo, Page, if◌then◌else◌, ◌==◌}
+use Rattle.sled_pagecache.proofs.Names.{◌≡◌, ◌<◌, ℕ, cond, List, [], ◌∷◌, ◌++◌, length, map, refl, sym, ◌∙◌, ap, subst, arith, slice_set, slice_index_or, ne_eqb, get_or-set_same, chains_from, Free, Counter, Roots, Node, Put, Change, Entry, Kept, Chain, placed, effect_of_entry, said_of, IsUpdate, message_of, place_of, CanPut, content_of, HoldsChain, IsKept, CacheInfo, Page, if◌then◌else◌, ◌==◌}
 use Rattle.sled_pagecache.specs.declared.pagecache.page.Kept.TheVariants as kept
 
 -- ---- the chain of a page after a change of it

@@ -1,10 +1,9 @@
 -- What always holds of a cache's table stays so where a page changes, or one is added.
-use Rattle.sled_pagecache.proofs.Names.{◌≡◌, ◌≤◌, ◌<◌, ◌+◌, ◌^◌, ℕ, zero, suc, Bool, true, false, cond, List, [], ◌∷◌, ◌++◌, length, map, Some, Result, Ok, Err, slice_get, slice_set, refl, sym, ◌∙◌, ap, subst, arith, length-append, length-set, none-some, same_Some, AllByRecursion, AllZip, list_all, LogKind, Read, Write, Refusal, Io, is_open, open_after, Counts, is_linking, may_follow, is_chain, Event, Change, Message, Entry, Chain, Messages, unplaced, effect_of, effect_of_entry, IsSized, AreChains, chains-are, now-unplaced, zip-append, zip-set, WholeNode, chain_at, Went, begun_by, now-Went, IsKept, is_free, free_ids, IsCounter, IsFreeOrNode, IsRoots, IsOwnAt, IsConsistent, StickyLog, Page}
+use Rattle.sled_pagecache.proofs.Names.{◌≡◌, ◌≤◌, ◌<◌, ◌+◌, ◌^◌, ℕ, zero, suc, Bool, true, false, cond, List, [], ◌∷◌, ◌++◌, length, map, Some, Result, Ok, Err, slice_get, slice_set, refl, sym, ◌∙◌, ap, subst, arith, length-append, length-set, none-some, same_Some, AllByRecursion, AllZip, list_all, LogKind, Read, Write, Refusal, Io, is_open, open_after, Counts, is_linking, may_follow, is_chain, Event, Change, Message, Entry, Chain, Messages, unplaced, effect_of, effect_of_entry, IsSized, AreChains, chains-are, now-unplaced, zip-append, zip-set, chain_at, Went, begun_by, now-Went, IsKept, is_free, free_ids, IsCounter, IsFreeOrNode, IsRoots, IsOwnAt, IsConsistent, StickyLog, Page}
 use Rattle.sled_base.specs.declared.kinds.LogKind.TheVariants as kinds
 use Rattle.sled_log.specs.LogState as log
 use Rattle.sled_pagecache.proofs.ByIds.{add-by-id, past-two, set-by-id}
 use Rattle.sled_pagecache.proofs.ProperPages.{all-set, all-append}
-use Rattle.sled_pagecache.specs.declared.pagecache.page.Kept.TheVariants as kept
 
 -- ---- chains, with their places and without
 

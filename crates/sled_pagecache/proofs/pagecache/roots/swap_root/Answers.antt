@@ -1,4 +1,4 @@
-use Rattle.sled_pagecache.proofs.Names.{refl, ap, ◌∙◌, slice_set, chain_at}
+use Rattle.sled_pagecache.proofs.Names.{ap, ◌∙◌, chain_at}
 use Rattle.sled_node.specs.Meta.{changed_roots}
 use Rattle.sled_pagecache.proofs.Swaps.{at-page, put-chains, kept-put}
 use Rattle.sled_pagecache.specs.declared.pagecache.page.Kept.TheVariants as kept

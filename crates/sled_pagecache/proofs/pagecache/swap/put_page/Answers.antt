@@ -1,4 +1,4 @@
-use Rattle.sled_pagecache.proofs.Names.{inr, refl, subst, ◌+◌, ◌-◌, ◌^◌, arith, le-leb, effect_of_entry, now, [], ◌∷◌, length, map, sym, ap, ◌∙◌, rules, err_from_is_err_and, Node, Put, message_of, written-update, chain_at, CacheInfo, Went-none, IsCaused-handed_on, min, head_size, WasAccessed, capped, content_of}
+use Rattle.sled_pagecache.proofs.Names.{inr, refl, subst, ◌+◌, ◌-◌, ◌^◌, [], ◌∷◌, length, map, sym, ap, ◌∙◌, rules, err_from_is_err_and, Put, message_of, chain_at, CacheInfo, Went-none, IsCaused-handed_on, min, head_size, WasAccessed, capped, content_of}
 use Rattle.sled_pagecache.proofs.Linked.{went-handed}
 use Rattle.sled_pagecache.proofs.Sizes.{size-alone}
 use Rattle.sled_pagecache.proofs.Swaps.{at-page, other-pages, put-chains, kept-put}

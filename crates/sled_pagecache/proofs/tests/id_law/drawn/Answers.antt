@@ -1,6 +1,6 @@
 -- The cache that was opened, the call that it answered, and what the crash left.
 use Rattle.std.proofs.Common.{arith, rules}
-use Rattle.sled_pagecache.proofs.Names.{◌≡◌, List, map, true, ap, subst, sym, refl, Event, seen, state_of, clock_of, might_have_left, Entry, Messages, message_in, unplaced_state, MemLog, only_stable}
+use Rattle.sled_pagecache.proofs.Names.{◌≡◌, List, map, true, ap, subst, refl, Event, seen, state_of, clock_of, might_have_left, Entry, Messages, message_in, unplaced_state, MemLog, only_stable}
 use Rattle.sled_pagecache.proofs.tests.id_law.drawn.Goals as goal
 
 pub returns : goal.returns

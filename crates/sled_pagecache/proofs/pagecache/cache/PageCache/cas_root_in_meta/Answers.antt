@@ -1,4 +1,4 @@
-use Rattle.sled_pagecache.proofs.Names.{◌≡◌, CasRoot, RootSwapped, meta_pid, root_swapped, relisted, lost_by, Settles}
+use Rattle.sled_pagecache.proofs.Names.{CasRoot, RootSwapped, meta_pid, root_swapped, relisted, lost_by, Settles}
 use Rattle.sled_pagecache.proofs.Settling.{settled-same, makes-swap, steps-moved, blamed-moved, unread-moved, keeps-moved}
 use Rattle.sled_pagecache.proofs.pagecache.cache.PageCache.cas_root_in_meta.Goals as goal
 

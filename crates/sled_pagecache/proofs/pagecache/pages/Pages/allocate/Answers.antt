@@ -1,5 +1,5 @@
 use Rattle.sled_base.specs.declared.types.Error.TheVariants.{Io}
-use Rattle.sled_pagecache.proofs.Names.{◌≡◌, ◌<◌, ◌+◌, ◌-◌, ◌^◌, ℕ, List, [], ◌∷◌, ◌++◌, length, take, Some, None, Result, Err, rules, sym, ap, Write, Allocated, Allocate, subst, ◌∙◌, refl, arith, slice_get_within, slice_get, slice_set, Refusal, Node, Put, Change, message_of, begun_by, is_free, is_resident, IsFreeOrNode, RefusesSwap, IsConsistent, resident_in, stamps_in, token, pid_of, Page}
+use Rattle.sled_pagecache.proofs.Names.{◌≡◌, ◌<◌, ◌+◌, ◌^◌, ℕ, List, [], ◌∷◌, ◌++◌, length, Some, Result, Err, rules, sym, ap, Write, Allocated, Allocate, subst, ◌∙◌, refl, arith, slice_get_within, slice_get, slice_set, Refusal, Node, Put, Change, message_of, begun_by, is_free, is_resident, IsFreeOrNode, RefusesSwap, IsConsistent, resident_in, stamps_in, token, pid_of, Page}
 use Rattle.sled_pagecache.proofs.Allocating.{ends-nowhere, last-at, last-read, last-same, taken-last, free-from, adds-refused, adds-done, reuses-refused, reuses-done}
 use Rattle.sled_pagecache.proofs.Answers.{keeps-err, keeps-ok, stamps-added, stamps-reused}
 use Rattle.sled_pagecache.proofs.CacheSteps.{steps-known, steps-stuck}

@@ -1,5 +1,5 @@
 use Rattle.sled_base.specs.declared.types.Error.TheVariants.{Io}
-use Rattle.sled_pagecache.proofs.Names.{Change, Counter, Err, GenerateId, Generated, Page, Put, Refusal, Result, Some, Write, [], ap, arith, begun_by, inl, is_free, le-ltb, message_of, refl, same_Some, slice_set, stamps_in, sym, ◌+◌, ◌-◌, ◌^◌, ◌∙◌, ◌∷◌, ◌≡◌}
+use Rattle.sled_pagecache.proofs.Names.{Err, GenerateId, Generated, Page, Refusal, Result, Some, Write, ap, arith, inl, is_free, le-ltb, refl, same_Some, slice_set, stamps_in, sym, ◌+◌, ◌-◌, ◌^◌, ◌∙◌, ◌≡◌}
 use Rattle.sled_pagecache.proofs.Answers.{keeps-err}
 use Rattle.sled_pagecache.proofs.CacheSteps.{steps-known, steps-stuck}
 use Rattle.sled_pagecache.proofs.Counted.{counted-stable, covered-next, covered-put, spares-refused, whole-next, whole-then}

@@ -1,5 +1,5 @@
 use Rattle.sled_base.specs.declared.types.Error.TheVariants.{Io}
-use Rattle.sled_pagecache.proofs.Names.{Err, GetIdgen, GotIdgen, Page, Write, ap, refl}
+use Rattle.sled_pagecache.proofs.Names.{Err, GetIdgen, GotIdgen, Page, Write, refl}
 use Rattle.sled_pagecache.proofs.CacheSteps.{steps-stuck}
 use Rattle.sled_pagecache.proofs.CounterPage.{gets-idgen, keeps-counter}
 use Rattle.sled_pagecache.proofs.Lookups.{map-at}

@@ -1,4 +1,4 @@
-use Rattle.sled_pagecache.proofs.Names.{◌≡◌, length, Some, None, slice_get, refl, sym, ◌∙◌, ap, subst, arith, slice_get_read, IsNodeAt, Kept, Page, HasNode, HasNoNode, node_access_size, access_size, size_if}
+use Rattle.sled_pagecache.proofs.Names.{Some, None, ◌∙◌, ap, subst, IsNodeAt, Kept, Page, HasNode, HasNoNode, node_access_size, access_size, size_if}
 use Rattle.sled_pagecache.proofs.InMemory.{past-view, none-at, no-node-in}
 use Rattle.sled_pagecache.proofs.Lookups.{map-at, past-end}
 use Rattle.sled_pagecache.proofs.TableNodes.{no-page, no-node, a-node}

@@ -1,4 +1,4 @@
-use Rattle.sled_pagecache.proofs.Names.{IsOk, AreListed, ◌≡◌, inr, true, is_resident, false, [], Some, Result, Ok, slice_get, refl, sym, ◌∙◌, ap, subst, arith, slice_get_read, Refusal, BringsIn, is_reserved}
+use Rattle.sled_pagecache.proofs.Names.{IsOk, AreListed, ◌≡◌, inr, true, is_resident, false, [], Result, Ok, refl, sym, ◌∙◌, ap, subst, arith, Refusal, BringsIn, is_reserved}
 use Rattle.sled_pagecache.proofs.Counted.{behind-counter, other-at, whole-then}
 use Rattle.sled_pagecache.proofs.InMemory.{stays-same, past-view, listed-at, finds-node, refused-stay}
 use Rattle.sled_pagecache.proofs.Lookups.{behind-own}
