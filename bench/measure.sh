@@ -89,7 +89,7 @@ measure() {
     script=$1 setup=$2
     ! grep -q "^script $script " "$work/results" || return 0
     say "$script"
-    script_lines "$setup" >"$work/input"
+    whole_script "$setup" >"$work/input"
     script_lines "$script" >"$work/lines"
     echo "script $script $setup $(wc -l <"$work/lines")" >>"$work/results"
     cat "$work/lines" >>"$work/input"

@@ -2,7 +2,7 @@
 # them have; those whose single lines are dear have fewer.
 
 # script_list: a line for each, of its name, the name of its setup, and what it does. What a script takes is what all takes without
-# what its setup takes by itself.
+# what its setup takes by itself. A setup that is listed too has one of its own.
 script_list() {
     cat <<'END'
 absent pages_1000 gets of pages that are not there
@@ -27,7 +27,24 @@ flushes_1 pages_1000 sets, and a flush after each
 short_sets pages_1000 1,000,000 sets of one byte to one byte, 1,000 pages
 ids_10 nothing ids, of which each tenth puts a durable counter
 ids_1000 nothing ids, of which each thousandth does
+frees_mixed pages_1000000 1,000,000 frees of empty pages, in a mixed order
+frees_rising pages_1000000 1,000,000 frees of empty pages, in rising order
+reuses frees_rising 1,000,000 allocations of empty pages that use free ids
+roots_10 names_10 swaps of roots, 10 names
+roots_1000 names_1000 swaps of roots, 1,000 names
+roots_10000 names_10000 swaps of roots, 10,000 names
 END
+}
+
+# setup_of NAME: the name of the setup of a script or of a setup
+setup_of() {
+    script_list | awk -v name="$1" '$1 == name { found = $2 } END { print found ? found : "nothing" }'
+}
+
+# whole_script NAME: the lines of a script or of a setup behind those of its own setup
+whole_script() {
+    [ "$1" = nothing ] || whole_script "$(setup_of "$1")"
+    script_lines "$1"
 }
 
 # script_lines NAME: the lines of a script or of a setup
@@ -49,6 +66,13 @@ script_lines() {
     flushes_*) rounds 1000 "$count" 1 0 "${1#flushes_}" ;;
     short_sets) short_sets 1000 1000000 ;;
     ids_*) repeated "$count" 'id' ;;
+    frees_mixed) frees_mixed 1000000 ;;
+    frees_rising) frees_rising 1000000 ;;
+    reuses) repeated 1000000 'alloc' ;;
+    names_*) names "${1#names_}" ;;
+    roots_10) roots 10 "$count" ;;
+    roots_1000) roots 1000 "$((count / 10))" ;;
+    roots_10000) roots 10000 "$((count / 50))" ;;
     *) die "there is no script $1" ;;
     esac
 }
@@ -153,6 +177,45 @@ large() {
         for (i = 0; i < lines; i++) {
             seed = (seed * 16807) % 2147483647
             printf "set 2 %d %04x %04x\n", i + 1, seed % pairs, i % 65536
+        }
+    }'
+}
+
+# frees_mixed PAGES: a free of each of at most 2^20 pages, in the order of a generator that gives each number below 2^20 once
+frees_mixed() {
+    awk -v pages="$1" 'BEGIN {
+        for (i = 0; i < 1048576; i++) {
+            seed = (seed * 82901 + 12345) % 1048576
+            if (seed < pages) printf "free %d 1\n", seed + 2
+        }
+    }'
+}
+
+# frees_rising PAGES: a free of each page, the least id first
+frees_rising() {
+    awk -v pages="$1" 'BEGIN { for (i = 0; i < pages; i++) printf "free %d 1\n", i + 2 }'
+}
+
+# names NAMES: so many names of four bytes, in a mixed order, each with a root of its own
+names() {
+    awk -v names="$1" 'BEGIN {
+        for (i = 0; i < names; i++) {
+            name = i * 7919 % names
+            printf "cas %08x - %d\n", name, 2 + 2 * name
+        }
+    }'
+}
+
+# roots NAMES LINES: swaps of the roots of these names. Each gets one of two roots in turn.
+roots() {
+    awk -v names="$1" -v lines="$2" 'BEGIN {
+        seed = 1
+        for (i = 0; i < lines; i++) {
+            seed = (seed * 16807) % 2147483647
+            name = seed % names
+            root = 2 + 2 * name
+            printf "cas %08x %d %d\n", name, root + swapped[name], root + 1 - swapped[name]
+            swapped[name] = 1 - swapped[name]
         }
     }'
 }

@@ -62,21 +62,25 @@ function print_runs(    i, j, line, script, whose) {
     }
 }
 
-# Bytes for each line, above what the empty script takes.
+# Bytes for each line, above what the setup takes.
 function bytes_each(script, whose) {
-    return (median(memory, script, whose) - median(memory, "nothing", whose)) * 1024 / lines_of[script]
+    return (median(memory, script, whose) - median(memory, setup_of[script], whose)) * 1024 / lines_of[script]
+}
+
+function files_each(script, whose) {
+    return (files[script, whose] - files[setup_of[script], whose]) * 1024 / lines_of[script]
 }
 
 function print_memory(    i, j, line, script, wanted, count) {
     print "\n### Peak memory, bytes a line, and bytes of files a line\n"
     head("script", 1)
-    count = split("short_sets pages_1000000 pairs_1000000", wanted, " ")
+    count = split("short_sets pages_1000000 pairs_1000000 frees_mixed reuses", wanted, " ")
     for (i = 1; i <= count; i++) {
         script = wanted[i]
         line = title_of[script]
         for (j = 1; j <= program_count; j++) {
             line = line " | " sprintf("%.0f", bytes_each(script, program[j]))
-            if (files[script, program[j]] > 0) line = line sprintf(", files %.0f", files[script, program[j]] * 1024 / lines_of[script])
+            if (files[script, program[j]] > 0) line = line sprintf(", files %.0f", files_each(script, program[j]))
         }
         print "| " line " |"
     }

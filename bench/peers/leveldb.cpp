@@ -46,10 +46,10 @@ class LevelDb {
         batch.Clear();
     }
 
-    template <typename Visit> void scan(std::string_view from, Visit visit) {
+    template <typename Visit> void scan(std::string_view from, std::string_view end, Visit visit) {
         const std::unique_ptr<leveldb::Iterator> rows(db->NewIterator(leveldb::ReadOptions()));
-        rows->Seek(given(from));
-        while (rows->Valid() && visit(taken(rows->key()), taken(rows->value()))) rows->Next();
+        for (rows->Seek(given(from)); rows->Valid() && taken(rows->key()) < end; rows->Next())
+            visit(taken(rows->key()), taken(rows->value()));
         check(rows->status());
     }
 

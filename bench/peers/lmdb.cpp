@@ -1,5 +1,6 @@
 // The script over LMDB: the rows of rows.h in one B+ tree, whose file is written through a map of memory. All that stands between
-// two flushes is one transaction, which `flush` commits without fsync. LMDB takes keys of up to 511 bytes, so a page's up to 502.
+// two flushes is one transaction, which `flush` commits without fsync. LMDB takes keys of up to 511 bytes, so a page's keys and
+// names have up to 502.
 #include "folder.h"
 #include "rows.h"
 
@@ -57,11 +58,13 @@ class Lmdb {
 
     void apply() {}
 
-    template <typename Visit> void scan(std::string_view from, Visit visit) {
+    template <typename Visit> void scan(std::string_view from, std::string_view end, Visit visit) {
         MDB_val key = given(from), value;
         int status = mdb_cursor_get(cursor, &key, &value, MDB_SET_RANGE);
-        while (status == MDB_SUCCESS && visit(taken(key), taken(value)))
+        while (status == MDB_SUCCESS && taken(key) < end) {
+            visit(taken(key), taken(value));
             status = mdb_cursor_get(cursor, &key, &value, MDB_NEXT);
+        }
         if (status != MDB_NOTFOUND) check(status);
     }
 

@@ -1,5 +1,6 @@
-// The script over a plain map: a page is a stamp and a std::map of its pairs, and pages lie in a std::vector by their ids. It keeps
-// no log, so a flush does nothing: this is what the script costs where nothing is ever to be durable.
+// The script over a plain map: a page is a stamp and a std::map of its pairs, and pages lie in a std::vector by their ids. A
+// std::map has the roots. It keeps no log, so a flush does nothing: this is what the script costs where nothing is ever to be
+// durable.
 #include "script.h"
 
 #include <map>
@@ -7,18 +8,21 @@
 namespace {
 
 using script::Change;
+using script::Root;
 
+// A free page has stamp 0, which no other has.
 struct Page {
-    std::uint64_t stamp;
+    std::uint64_t stamp = 0;
     std::map<std::string, std::string, std::less<>> pairs;
 };
 
 class PlainMap {
   public:
-    std::uint64_t allocate(script::Pairs &&pairs) {
-        pages.push_back({1, {}});
-        fill(pages.back(), std::move(pairs));
-        return pages.size() + script::first_id - 1;
+    void allocate(std::uint64_t id, std::uint64_t stamp, script::Pairs &&pairs) {
+        const auto place = id - script::first_id;
+        if (place == pages.size()) pages.emplace_back();
+        pages[place].stamp = stamp;
+        fill(pages[place], std::move(pairs));
     }
 
     bool get(std::uint64_t id, script::Leaf &leaf) const {
@@ -44,19 +48,36 @@ class PlainMap {
         });
     }
 
+    Change free(std::uint64_t id, std::uint64_t stamp) {
+        return change(id, stamp, [](Page &page) { page = Page(); });
+    }
+
+    Root root(const std::string &name) const {
+        const auto found = roots.find(name);
+        return found == roots.end() ? Root() : Root(found->second);
+    }
+
+    void put_root(const std::string &name, Root root) {
+        if (root) roots[name] = *root;
+        else roots.erase(name);
+    }
+
     void flush() {}
 
     void put_counter(std::uint64_t number) { counter = number; }
 
   private:
-    bool has(std::uint64_t id) const { return id >= script::first_id && id - script::first_id < pages.size(); }
+    bool has(std::uint64_t id) const {
+        return id >= script::first_id && id - script::first_id < pages.size() && pages[id - script::first_id].stamp != 0;
+    }
 
     template <typename Edit> Change change(std::uint64_t id, std::uint64_t stamp, Edit edit) {
         if (!has(id)) return Change::gone();
         Page &page = pages[id - script::first_id];
         if (page.stamp != stamp) return Change::stale(page.stamp);
+        page.stamp = stamp + 1;
         edit(page);
-        return Change::made(++page.stamp);
+        return Change::made(stamp + 1);
     }
 
     static void fill(Page &page, script::Pairs &&pairs) {
@@ -64,6 +85,7 @@ class PlainMap {
     }
 
     std::vector<Page> pages;
+    std::map<std::string, std::uint64_t> roots;
     std::uint64_t counter = 0;
 };
 

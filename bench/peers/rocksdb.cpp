@@ -46,10 +46,12 @@ class RocksDb {
         batch.Clear();
     }
 
-    template <typename Visit> void scan(std::string_view from, Visit visit) {
-        const std::unique_ptr<rocksdb::Iterator> rows(db->NewIterator(rocksdb::ReadOptions()));
-        rows->Seek(given(from));
-        while (rows->Valid() && visit(taken(rows->key()), taken(rows->value()))) rows->Next();
+    template <typename Visit> void scan(std::string_view from, std::string_view end, Visit visit) {
+        const rocksdb::Slice bound = given(end);
+        rocksdb::ReadOptions options;
+        options.iterate_upper_bound = &bound;
+        const std::unique_ptr<rocksdb::Iterator> rows(db->NewIterator(options));
+        for (rows->Seek(given(from)); rows->Valid(); rows->Next()) visit(taken(rows->key()), taken(rows->value()));
         check(rows->status());
     }
 

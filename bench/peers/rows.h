@@ -4,13 +4,14 @@
 //     id 0         stamp, in eight bytes
 //     id 1 KEY     value
 //
-// A `set` looks up the stamp and writes two rows, however many pairs the page has; a `get` is one walk from the row of the stamp.
-// A table has
+// The root page of a name, in eight bytes, is the value of a key of page 0, and the counter of ids the stamp of page 1: neither is a
+// page of scripts. A `set` looks up the stamp and writes two rows, however many pairs the page has; a `get` is one walk from the row
+// of the stamp. A table has
 //
 //     bool read(key, std::string &value)     whether there is such a row
 //     void put(key, value), void remove(key) what a change is made of; there may be no row to remove
 //     void apply()                           the change is made, as one
-//     void scan(from, visit)                 gives `visit` the rows from there on, in order, until it answers false
+//     void scan(from, end, visit)            gives `visit` the rows from there up to `end`, which isn't among them, in order
 //     void flush()
 #pragma once
 
@@ -19,9 +20,16 @@
 namespace rows {
 
 using script::Change;
+using script::Root;
 
 inline void put_big_endian(std::string &out, std::uint64_t number) {
     for (int shift = 56; shift >= 0; shift -= 8) out.push_back(static_cast<char>(number >> shift));
+}
+
+inline std::string big_endian(std::uint64_t number) {
+    std::string out;
+    put_big_endian(out, number);
+    return out;
 }
 
 inline std::uint64_t number_of(std::string_view bytes) {
@@ -30,28 +38,24 @@ inline std::uint64_t number_of(std::string_view bytes) {
     return number;
 }
 
-constexpr char stamp_mark = 0, pair_mark = 1;
+constexpr char stamp_mark = 0, pair_mark = 1, end_mark = 2;
 constexpr std::size_t front = 9; // an id and a mark
-constexpr std::uint64_t counter_id = 1;
+constexpr std::uint64_t roots_id = 0, counter_id = 1;
 
 template <typename Table> class Rows {
   public:
-    std::uint64_t allocate(script::Pairs &&pairs) {
-        const auto id = next_id++;
-        put_stamp(id, 1);
+    void allocate(std::uint64_t id, std::uint64_t stamp, script::Pairs &&pairs) {
+        put_stamp(id, stamp);
         put_pairs(id, pairs);
         table.apply();
-        return id;
     }
 
     bool get(std::uint64_t id, script::Leaf &leaf) {
         bool is_found = false;
-        const std::string first = key_of(id, stamp_mark);
-        table.scan(first, [&](std::string_view key, std::string_view value) {
-            if (!is_of_page(key, first)) return false;
+        table.scan(key_of(id, stamp_mark), key_of(id, end_mark), [&](std::string_view key, std::string_view value) {
+            is_found = true;
             if (key[front - 1] == stamp_mark) leaf.stamp(number_of(value));
             else leaf.pair(key.substr(front), value);
-            return is_found = true;
         });
         return is_found;
     }
@@ -71,9 +75,28 @@ template <typename Table> class Rows {
         });
     }
 
+    Change free(std::uint64_t id, std::uint64_t stamp) {
+        return judge(id, stamp, [&] {
+            table.remove(key_of(id, stamp_mark));
+            remove_others(id, {});
+        });
+    }
+
+    Root root(const std::string &name) {
+        std::string present;
+        if (!table.read(key_of(roots_id, pair_mark, name), present)) return std::nullopt;
+        return number_of(present);
+    }
+
+    void put_root(const std::string &name, Root root) {
+        const std::string row = key_of(roots_id, pair_mark, name);
+        if (root) table.put(row, big_endian(*root));
+        else table.remove(row);
+        table.apply();
+    }
+
     void flush() { table.flush(); }
 
-    // It stands where the stamp of a page 1 would, which no script can ask for.
     void put_counter(std::uint64_t number) {
         put_stamp(counter_id, number);
         table.apply();
@@ -88,25 +111,24 @@ template <typename Table> class Rows {
         return row.append(key);
     }
 
-    static bool is_of_page(std::string_view key, const std::string &first) {
-        return key.substr(0, front - 1) == std::string_view(first).substr(0, front - 1);
+    template <typename Edit> Change change(std::uint64_t id, std::uint64_t stamp, Edit edit) {
+        return judge(id, stamp, [&] {
+            put_stamp(id, stamp + 1);
+            edit();
+        });
     }
 
-    template <typename Edit> Change change(std::uint64_t id, std::uint64_t stamp, Edit edit) {
+    // Makes an edit where the stamp is the present one.
+    template <typename Edit> Change judge(std::uint64_t id, std::uint64_t stamp, Edit edit) {
         std::string present;
         if (!table.read(key_of(id, stamp_mark), present)) return Change::gone();
         if (number_of(present) != stamp) return Change::stale(number_of(present));
-        put_stamp(id, stamp + 1);
         edit();
         table.apply();
         return Change::made(stamp + 1);
     }
 
-    void put_stamp(std::uint64_t id, std::uint64_t stamp) {
-        std::string value;
-        put_big_endian(value, stamp);
-        table.put(key_of(id, stamp_mark), value);
-    }
+    void put_stamp(std::uint64_t id, std::uint64_t stamp) { table.put(key_of(id, stamp_mark), big_endian(stamp)); }
 
     void put_pairs(std::uint64_t id, const script::Pairs &pairs) {
         for (const auto &[key, value] : pairs) table.put(key_of(id, pair_mark, key), value);
@@ -115,19 +137,15 @@ template <typename Table> class Rows {
     // Removes the pairs of the page whose keys are not among these, which ascend.
     void remove_others(std::uint64_t id, const script::Pairs &kept) {
         std::vector<std::string> others;
-        const std::string first = key_of(id, pair_mark);
         auto next = kept.begin();
-        table.scan(first, [&](std::string_view key, std::string_view) {
-            if (!is_of_page(key, first)) return false;
+        table.scan(key_of(id, pair_mark), key_of(id, end_mark), [&](std::string_view key, std::string_view) {
             while (next != kept.end() && next->key < key.substr(front)) next++;
             if (next == kept.end() || next->key != key.substr(front)) others.emplace_back(key);
-            return true;
         });
         for (const auto &key : others) table.remove(key);
     }
 
     Table table;
-    std::uint64_t next_id = script::first_id;
 };
 
 } // namespace rows

@@ -1,16 +1,19 @@
 // README.md's script over a store in C++: reads lines from standard input, asks the store, and writes the replies. A program has
 // its store alone, and calls `script::run<Store>()`. A store has
 //
-//     std::uint64_t allocate(Pairs &&)       makes a page with stamp 1, and answers its id; the first is 2
+//     void allocate(id, stamp, Pairs &&)     makes a page of an id that has none: a free one, or the next, from 2 on
 //     bool get(id, Leaf &)                   gives the reply the page's stamp and then its pairs; false where there is no page
 //     Change set(id, stamp, key, value)      the pair is put, and the stamp raised by one, where the stamp is the present one
 //     Change del(id, stamp, key)             the same: the key is taken out
 //     Change replace(id, stamp, Pairs &&)    the same: the page has these pairs alone
+//     Change free(id, stamp)                 the same, but there is no page then
+//     Root root(name)                        the root page of the name, if it has one
+//     void put_root(name, Root)              gives the name this root page, or none
 //     void flush()
 //     void put_counter(number)               keeps the counter of ids, which a flush makes durable
 //
-// and throws what it can't answer, which ends the program with status 1. `size` is no command here. Ids come in intervals, of a
-// length that the environment gives as INTERVAL (10).
+// and throws what it can't answer, which ends the program with status 1. `size` and `open` are no commands here. Which ids of pages
+// are free is known here, and in no store. Ids of `id` come in intervals, of a length that the environment gives as INTERVAL (10).
 #pragma once
 
 #include <cerrno>
@@ -19,7 +22,9 @@
 #include <cstdio>
 #include <cstdlib>
 #include <exception>
+#include <iterator>
 #include <limits>
+#include <map>
 #include <optional>
 #include <stdexcept>
 #include <string>
@@ -34,6 +39,7 @@ struct Pair {
     std::string key, value;
 };
 using Pairs = std::vector<Pair>;
+using Root = std::optional<std::uint64_t>;
 
 constexpr std::uint64_t first_id = 2;
 constexpr std::size_t longest_line = 65536;
@@ -73,6 +79,14 @@ inline std::optional<std::string> bytes_of(std::string_view word) {
         bytes[at] = static_cast<char>(high * 16 + low);
     }
     return bytes;
+}
+
+// The id of a root page, or none for `-`.
+inline std::optional<Root> root_of(std::string_view word) {
+    if (word == "-") return Root();
+    const auto id = number_of(word);
+    if (!id) return std::nullopt;
+    return Root(*id);
 }
 
 inline void put_number(std::string &out, std::uint64_t number) {
@@ -157,8 +171,10 @@ template <typename Store> class Script {
     bool reply(Words words, std::string &out) {
         const auto name = words.next();
         if (name == "get") return get(words, out);
-        if (name == "set" || name == "del" || name == "replace") return change(name, words, out);
+        if (name == "set" || name == "del" || name == "replace" || name == "free") return change(name, words, out);
         if (name == "alloc") return allocate(words, out);
+        if (name == "root") return root(words, out);
+        if (name == "cas") return swap(words, out);
         if (name == "id") return draw(words, out);
         if (name != "flush" || !words.are_done()) return false;
         store.flush();
@@ -169,9 +185,46 @@ template <typename Store> class Script {
     bool allocate(Words &words, std::string &out) {
         auto pairs = words.pairs();
         if (!pairs) return false;
+        const auto [id, stamp] = next_page();
+        store.allocate(id, stamp, std::move(*pairs));
         out += "page ";
-        put_number(out, store.allocate(std::move(*pairs)));
-        out += " 1";
+        put_number(out, id);
+        out.push_back(' ');
+        put_number(out, stamp);
+        return true;
+    }
+
+    // The greatest free id at its next stamp, or else a new id at the first.
+    std::pair<std::uint64_t, std::uint64_t> next_page() {
+        if (free_pages.empty()) return {next_id++, 1};
+        const auto [id, stamp] = *free_pages.rbegin();
+        free_pages.erase(std::prev(free_pages.end()));
+        return {id, stamp + 1};
+    }
+
+    bool root(Words &words, std::string &out) {
+        const auto name = bytes_of(words.next());
+        if (!name || !words.are_done()) return false;
+        const Root present = store.root(*name);
+        out += present ? "page " : "none";
+        if (present) put_number(out, *present);
+        return true;
+    }
+
+    bool swap(Words &words, std::string &out) {
+        const auto name = bytes_of(words.next());
+        const auto old = root_of(words.next()), wanted = root_of(words.next());
+        if (!name || !old || !wanted || !words.are_done()) return false;
+        const Root present = store.root(*name);
+        if (present == *old) {
+            store.put_root(*name, *wanted);
+            out += "ok";
+        } else if (present) {
+            out += "is ";
+            put_number(out, *present);
+        } else {
+            out += "is -";
+        }
         return true;
     }
 
@@ -208,34 +261,35 @@ template <typename Store> class Script {
     bool change(std::string_view name, Words &words, std::string &out) {
         const auto id = number_of(words.next()), stamp = number_of(words.next());
         if (!id || !stamp) return false;
+        if (name == "free") return words.are_done() && put_change(out, *id, [&] { return free(*id, *stamp); });
         if (name == "replace") {
             auto pairs = words.pairs();
-            if (!pairs) return false;
-            if (is_own(*id)) return put_own(out);
-            return put_change(out, store.replace(*id, *stamp, std::move(*pairs)));
+            return pairs && put_change(out, *id, [&] { return store.replace(*id, *stamp, std::move(*pairs)); });
         }
         const auto key = bytes_of(words.next());
         if (!key) return false;
-        if (name == "del") {
-            if (!words.are_done()) return false;
-            if (is_own(*id)) return put_own(out);
-            return put_change(out, store.del(*id, *stamp, *key));
-        }
+        if (name == "del") return words.are_done() && put_change(out, *id, [&] { return store.del(*id, *stamp, *key); });
         const auto value = bytes_of(words.next());
         if (!value || !words.are_done()) return false;
-        if (is_own(*id)) return put_own(out);
-        return put_change(out, store.set(*id, *stamp, *key, *value));
+        return put_change(out, *id, [&] { return store.set(*id, *stamp, *key, *value); });
+    }
+
+    Change free(std::uint64_t id, std::uint64_t stamp) {
+        const auto change = store.free(id, stamp);
+        if (change.kind == Change::Kind::made) free_pages.emplace(id, change.stamp);
+        return change;
     }
 
     // The pages of named roots, of the counter of ids, and the mark of a batch.
     static bool is_own(std::uint64_t id) { return id < first_id || id == std::numeric_limits<std::uint64_t>::max() - 666; }
 
-    static bool put_own(std::string &out) {
-        out += "error unsupported 1";
-        return true;
-    }
-
-    static bool put_change(std::string &out, Change change) {
+    // Makes a change of a page that is not an own one, and writes what came of it.
+    template <typename Make> static bool put_change(std::string &out, std::uint64_t id, Make make) {
+        if (is_own(id)) {
+            out += "error unsupported 1";
+            return true;
+        }
+        const Change change = make();
         if (change.kind == Change::Kind::gone) {
             out += "gone";
             return true;
@@ -246,6 +300,8 @@ template <typename Store> class Script {
     }
 
     Store store;
+    std::map<std::uint64_t, std::uint64_t> free_pages; // by their ids, each with its stamp
+    std::uint64_t next_id = first_id;
     std::uint64_t interval = asked_interval(), counter = 0, next_drawn = 0;
 };
 

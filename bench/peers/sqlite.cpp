@@ -1,6 +1,6 @@
-// The script over SQLite: a table of pages with their stamps, a table of pairs by page and key, and one row with the counter of ids.
-// All that stands between two flushes is one transaction, which `flush` commits to a write-ahead log without fsync. The cache has
-// 256 MB, and statements are prepared once.
+// The script over SQLite: tables of pages with their stamps, of pairs by page and key, and of roots by name, and one row with the
+// counter of ids. All that stands between two flushes is one transaction, which `flush` commits to a write-ahead log without fsync.
+// The cache has 256 MB, and statements are prepared once.
 #include "folder.h"
 #include "script.h"
 
@@ -9,12 +9,14 @@
 namespace {
 
 using script::Change;
+using script::Root;
 
 constexpr const char *settings = "PRAGMA journal_mode = WAL; PRAGMA synchronous = OFF; PRAGMA locking_mode = EXCLUSIVE;"
                                  "PRAGMA cache_size = -262144; PRAGMA temp_store = MEMORY;"
                                  "CREATE TABLE page (id INTEGER PRIMARY KEY, stamp INTEGER NOT NULL);"
                                  "CREATE TABLE pair (page INTEGER NOT NULL, key BLOB NOT NULL, value BLOB NOT NULL,"
                                  "                   PRIMARY KEY (page, key)) WITHOUT ROWID;"
+                                 "CREATE TABLE root (name BLOB PRIMARY KEY, page INTEGER NOT NULL) WITHOUT ROWID;"
                                  "CREATE TABLE counter (number INTEGER NOT NULL); INSERT INTO counter VALUES (0);"
                                  "BEGIN;";
 
@@ -102,11 +104,9 @@ class Statement {
 
 class Sqlite {
   public:
-    std::uint64_t allocate(script::Pairs &&pairs) {
-        const auto id = next_id++;
-        insert_page.with(id).run();
+    void allocate(std::uint64_t id, std::uint64_t stamp, script::Pairs &&pairs) {
+        insert_page.with(id).with(stamp).run();
         put_pairs(id, pairs);
-        return id;
     }
 
     bool get(std::uint64_t id, script::Leaf &leaf) {
@@ -120,18 +120,29 @@ class Sqlite {
     }
 
     Change set(std::uint64_t id, std::uint64_t stamp, const std::string &key, const std::string &value) {
-        return change(id, stamp, [&] { put_pair.with(id).with(key).with(value).run(); });
+        return change(raise_stamp, id, stamp, [&] { put_pair.with(id).with(key).with(value).run(); });
     }
 
     Change del(std::uint64_t id, std::uint64_t stamp, const std::string &key) {
-        return change(id, stamp, [&] { delete_pair.with(id).with(key).run(); });
+        return change(raise_stamp, id, stamp, [&] { delete_pair.with(id).with(key).run(); });
     }
 
     Change replace(std::uint64_t id, std::uint64_t stamp, script::Pairs &&pairs) {
-        return change(id, stamp, [&] {
+        return change(raise_stamp, id, stamp, [&] {
             delete_pairs.with(id).run();
             put_pairs(id, pairs);
         });
+    }
+
+    Change free(std::uint64_t id, std::uint64_t stamp) {
+        return change(delete_page, id, stamp, [&] { delete_pairs.with(id).run(); });
+    }
+
+    Root root(const std::string &name) { return number_in(select_root.with(name)); }
+
+    void put_root(const std::string &name, Root root) {
+        if (root) put_named.with(name).with(*root).run();
+        else delete_named.with(name).run();
     }
 
     void flush() { database.run("COMMIT; BEGIN;"); }
@@ -139,15 +150,19 @@ class Sqlite {
     void put_counter(std::uint64_t number) { raise_counter.with(number).run(); }
 
   private:
-    std::optional<std::uint64_t> stamp_of(std::uint64_t id) {
-        std::optional<std::uint64_t> stamp;
-        if (select_stamp.with(id).step()) stamp = select_stamp.number(0);
-        select_stamp.reset();
-        return stamp;
+    // The number that a filled statement selects, if there is one.
+    static std::optional<std::uint64_t> number_in(Statement &statement) {
+        std::optional<std::uint64_t> number;
+        if (statement.step()) number = statement.number(0);
+        statement.reset();
+        return number;
     }
 
-    template <typename Edit> Change change(std::uint64_t id, std::uint64_t stamp, Edit edit) {
-        raise_stamp.with(id).with(stamp).run();
+    std::optional<std::uint64_t> stamp_of(std::uint64_t id) { return number_in(select_stamp.with(id)); }
+
+    // The first statement finds its row where the stamp is the present one.
+    template <typename Edit> Change change(Statement &first, std::uint64_t id, std::uint64_t stamp, Edit edit) {
+        first.with(id).with(stamp).run();
         if (!database.has_changed()) {
             const auto present = stamp_of(id);
             return present ? Change::stale(*present) : Change::gone();
@@ -161,15 +176,18 @@ class Sqlite {
     }
 
     Database database;
-    Statement insert_page{database, "INSERT INTO page VALUES (?, 1)"};
+    Statement insert_page{database, "INSERT INTO page VALUES (?, ?)"};
     Statement select_stamp{database, "SELECT stamp FROM page WHERE id = ?"};
     Statement raise_stamp{database, "UPDATE page SET stamp = stamp + 1 WHERE id = ? AND stamp = ?"};
+    Statement delete_page{database, "DELETE FROM page WHERE id = ? AND stamp = ?"};
     Statement select_pairs{database, "SELECT key, value FROM pair WHERE page = ? ORDER BY key"};
     Statement put_pair{database, "INSERT OR REPLACE INTO pair VALUES (?, ?, ?)"};
     Statement delete_pair{database, "DELETE FROM pair WHERE page = ? AND key = ?"};
     Statement delete_pairs{database, "DELETE FROM pair WHERE page = ?"};
+    Statement select_root{database, "SELECT page FROM root WHERE name = ?"};
+    Statement put_named{database, "INSERT OR REPLACE INTO root VALUES (?, ?)"};
+    Statement delete_named{database, "DELETE FROM root WHERE name = ?"};
     Statement raise_counter{database, "UPDATE counter SET number = ?"};
-    std::uint64_t next_id = script::first_id;
 };
 
 } // namespace

@@ -7,6 +7,7 @@ mod full;
 mod generic;
 mod id_law;
 mod ids;
+mod many_names;
 mod memory;
 mod prefixes;
 mod reads;

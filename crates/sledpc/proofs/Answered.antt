@@ -1,9 +1,7 @@
 -- The lines that were answered so far.
-use Rattle.std.proofs.Common.{Bool, length-append, true, ◌≡◌, ◌≤◌, inl, inr, List, [], ◌∷◌, ◌++◌, length, Option, None, Some, Result, Ok, Err, refl, sym, ap, subst, ◌∙◌, arith, append_assoc, append-nil}
+use Rattle.std.proofs.Common.{Bool, length-append, true, ◌≡◌, ◌≢◌, ◌≤◌, inl, inr, List, [], ◌∷◌, ◌++◌, length, Option, None, Some, Result, Ok, Err, refl, sym, ap, subst, ◌∙◌, arith, append_assoc, append-nil}
 use Rattle.std.specs.Prelude.{codes, flat_map, ℕ, ⊤}
-use Rattle.std.specs.Io.KnownBytes.{Appends, Keeps}
 use Rattle.std.specs.List.{AllZip}
-use Rattle.std.proofs.KnownBytes.{Appends-nil, Appends-trans, Appends-kept}
 use Rattle.sled_base.specs.Order.{Bytes}
 use Rattle.sled_base.specs.declared.types.Error.{Error}
 use Rattle.sled_log.specs.Messages.{Messages, effect_of}
@@ -21,15 +19,16 @@ use Rattle.sledpc.specs.Commands.{IsCommand}
 use Rattle.sledpc.specs.declared.script.command.Command.{Command}
 use Rattle.sledpc.specs.declared.script.command.Command.TheVariants as command
 use Rattle.sledpc.specs.Lines.{lines_of, ReadsLine, IsUnreadLine}
-use Rattle.sledpc.specs.Output.{AppendsPrefix}
+use Rattle.sledpc.specs.Output.{AppendsPrefix, Gathered}
 use Rattle.sledpc.specs.Runs.{Served, Nothing, Made, Opened, AsksFor, reply_to, text_of, calls_by, calls_of, Answers, Serves, run_error_of}
-use Rattle.sledpc.specs.Served.{Goes, RepliesLine}
+use Rattle.sledpc.specs.Served.{Goes, AreGathered, RepliesLine, ServesLines}
 use Rattle.sledpc.specs.declared.lines.Line.TheVariants as read
 use Rattle.sledpc.specs.declared.lines.ReadError.{ReadError}
 use Rattle.sledpc.specs.declared.lines.ReadError.TheVariants as unread
 use Rattle.sledpc.specs.Settings.{longest_line}
 use Rattle.sledpc.specs.declared.script.run.RunError.{RunError}
 use Rattle.sledpc.specs.declared.script.run.RunError.TheVariants.{Read, Write, Memory}
+use Rattle.sledpc.proofs.Gathered.{gathered_none, gathered_more, prefix_more}
 use Rattle.sledpc.proofs.LinesOf.{has_line, no_length, not_empty}
 
 -- a line that is too long is no command
@@ -134,9 +133,26 @@ asks_map P Q line Nothing f asks = asks
 asks_map P Q line (Made call answer) f asks = asks
 asks_map P Q line (Opened calls root) f (name, encodes, (look, found, others, are, finds, opens)) = (name, encodes, (look, found, others, are, finds, tree_map P Q name root found others f opens))
 
--- what was written and not flushed stands
-stands : (mid new last : Option Bytes) (text : Bytes) → Appends mid new text → Keeps new last → AppendsPrefix mid last text
-stands mid new last text wrote kept = (text, [], sym (append-nil text), Appends-kept mid new last text wrote kept)
+-- ---- what waits to be written
+
+-- a reply that was gathered stands where the writing of all that waits fails behind it
+stands : (mid last new : Option Bytes) (before then text : Bytes) → Gathered mid last before then text → AppendsPrefix last new (then ++ []) → AppendsPrefix mid new (before ++ text)
+stands mid last new before then text wrote stopped = subst (λ l. AppendsPrefix mid new (before ++ l)) (append-nil text) (prefix_more mid last new before then text [] wrote stopped)
+
+-- nothing is behind nothing
+end_of_none : (front rest : Bytes) → front ++ rest ≡ [] → rest ≡ []
+end_of_none [] rest e = e
+end_of_none (byte ∷ front) rest e = absurd cc
+
+-- where something was served, a line was answered
+some_answered : (P : Type 0) (lines : List Bytes) (served : List Served) → AllZip (AsksFor P) lines served → (served ≡ [] → ⊥) → lines ≢ []
+some_answered P [] [] all more = absurd (more refl)
+some_answered P [] (s ∷ served) all more = absurd all
+some_answered P (line ∷ lines) served all more = λ none. absurd cc
+
+-- what waited is not written whole
+rest_stops : (old mid new : Option Bytes) (waits text : Bytes) → Gathered old mid [] waits text → AppendsPrefix mid new waits → AppendsPrefix old new text
+rest_stops old mid new waits text gathered stopped = subst (AppendsPrefix old new) (append-nil text) (prefix_more old mid new [] waits text [] gathered (subst (AppendsPrefix mid new) (sym (append-nil waits)) stopped))
 
 module _ {L : Type 0} (g : Ghosts L) where
   -- calls that were made behind others
@@ -148,16 +164,16 @@ module _ {L : Type 0} (g : Ghosts L) where
   known_then : (old new : Cache L) (calls : List (Call × Answer)) → StepInRow g old calls new → ¬ IsKnown g new → ¬ IsKnown g old
   known_then old new calls row unknown (held, s, is) = let next = row.from_each held s is in unknown (next.held_then, next.t, next.is)
 
-  -- these lines were answered, by calls that are steps in a row, and just the replies were written
-  pub record SoFar (cache : Cache L) (input rest old new : Option Bytes) (after : Cache L) : Type 0 where
+  -- these lines were answered, by calls that are steps in a row, and just the replies were gathered
+  pub record SoFar (cache : Cache L) (input rest old new : Option Bytes) (waits : Bytes) (after : Cache L) : Type 0 where
     pub served : List Served
     pub behind : IsBehind (¬ IsKnown g cache) input rest served
     pub made : AreMade g cache (calls_of served) after
     pub row : StepInRow g cache (calls_of served) after
-    pub written : Appends old new (text_of served)
+    pub written : Gathered old new [] waits (text_of served)
 
-  pub none_yet : (cache : Cache L) (input old : Option Bytes) → ((l : L) (pages : List Messages) → g.tells → (g.state l).usable ≡ true → g.left_since l (g.moment l) pages → IsLeft effect_of (unplaced_state (g.state l)) [] pages) → SoFar cache input input old old cache
-  none_yet cache input old only_now = record { served = []; behind = here input; made = refl; row = row-none g cache only_now; written = Appends-nil old }
+  pub none_yet : (cache : Cache L) (input old : Option Bytes) → ((l : L) (pages : List Messages) → g.tells → (g.state l).usable ≡ true → g.left_since l (g.moment l) pages → IsLeft effect_of (unplaced_state (g.state l)) [] pages) → SoFar cache input input old old [] cache
+  none_yet cache input old only_now = record { served = []; behind = here input; made = refl; row = row-none g cache only_now; written = gathered_none old [] }
     where
       here : (input : Option Bytes) → IsBehind (¬ IsKnown g cache) input input []
       here None = tt
@@ -182,13 +198,13 @@ module _ {L : Type 0} (g : Ghosts L) where
       subst (λ calls. StepInRow g cache calls after) (sym (calls_more served (Opened calls root))) (row-then g cache mid after (calls_of served) calls row goes.1)
 
   -- the input is not read any more
-  pub gives_up : (cache after : Cache L) (input rest old new : Option Bytes) → SoFar cache input rest old new after → Serves g cache input old new (Err Read) after
-  gives_up cache after input rest old new so = record { served = so.served; answers = read_ends (¬ IsKnown g cache) input rest so.served so.behind; made = so.made; row = so.row; written = so.written }
+  pub gives_up : (cache after : Cache L) (input rest old new : Option Bytes) (waits : Bytes) → SoFar cache input rest old new waits after → ServesLines g cache input old new waits (Err Read) after
+  gives_up cache after input rest old new waits so = record { served = so.served; answers = read_ends (¬ IsKnown g cache) input rest so.served so.behind; made = so.made; row = so.row; written = so.written }
 
   -- the next line is not read
-  pub line_unread : (cache after : Cache L) (input rest next old new : Option Bytes) (kept : Bytes) (e : ReadError) → SoFar cache input rest old new after → IsUnreadLine e rest next kept → Serves g cache input old new (Err (run_error_of e)) after
-  line_unread cache after input rest next old new kept unread.Read so why = gives_up cache after input rest old new so
-  line_unread cache after input rest next old new kept unread.Memory so why =
+  pub line_unread : (cache after : Cache L) (input rest next old new : Option Bytes) (waits kept : Bytes) (e : ReadError) → SoFar cache input rest old new waits after → IsUnreadLine e rest next kept → ServesLines g cache input old new waits (Err (run_error_of e)) after
+  line_unread cache after input rest next old new waits kept unread.Read so why = gives_up cache after input rest old new waits so
+  line_unread cache after input rest next old new waits kept unread.Memory so why =
       record { served = so.served; answers = ends input rest next so.behind why; made = so.made; row = so.row; written = so.written }
     where
       ends : (input rest next : Option Bytes) → IsBehind (¬ IsKnown g cache) input rest so.served → IsUnreadLine unread.Memory rest next kept → Answers (¬ IsKnown g cache) input (Err Memory) so.served
@@ -199,8 +215,8 @@ module _ {L : Type 0} (g : Ghosts L) where
           (answered, lines_of rest, lines, asked, has_line rest (λ none. why.1 (none ∙ sym (no_length kept (omega (arith, ap length (sym why.0 ∙ none), length-append kept next))))))
 
   -- the input is at its end
-  pub ends_here : (E : Type 0) (cache after : Cache L) (input rest next old new : Option Bytes) (kept : Bytes) → SoFar cache input rest old new after → ReadsLine {E = E} rest next (Ok read.End) kept → Serves g cache input old new (Ok tt) after
-  ends_here E cache after input rest next old new kept so at = record { served = so.served; answers = all input rest next so.behind at; made = so.made; row = so.row; written = so.written }
+  pub ends_here : (E : Type 0) (cache after : Cache L) (input rest next old new : Option Bytes) (waits kept : Bytes) → SoFar cache input rest old new waits after → ReadsLine {E = E} rest next (Ok read.End) kept → ServesLines g cache input old new waits (Ok tt) after
+  ends_here E cache after input rest next old new waits kept so at = record { served = so.served; answers = all input rest next so.behind at; made = so.made; row = so.row; written = so.written }
     where
       all : (input rest next : Option Bytes) → IsBehind (¬ IsKnown g cache) input rest so.served → ReadsLine {E = E} rest next (Ok read.End) kept → Answers (¬ IsKnown g cache) input (Ok tt) so.served
       all None rest next behind at = tt
@@ -209,41 +225,36 @@ module _ {L : Type 0} (g : Ghosts L) where
       all (Some input) (Some rest) (Some next) (answered, lines, asked) at =
           subst (λ (l : List Bytes). AllZip (AsksFor (¬ IsKnown g cache)) l so.served) (sym (lines ∙ ap (λ left. answered ++ lines_of left) at.0 ∙ append-nil answered)) asked
 
-  module _ (cache mid after : Cache L) (input rest next old between new : Option Bytes) (so : SoFar cache input rest old between mid) where
+  module _ (cache mid after : Cache L) (input rest next old between new : Option Bytes) (before waits : Bytes) (so : SoFar cache input rest old between before mid) where
     -- what the next line asks for, of the cache that the lines so far have left
     asks_here : (line : Bytes) (one : Served) → AsksFor (¬ IsKnown g mid) line one → AsksFor (¬ IsKnown g cache) line one
     asks_here line one = asks_map (¬ IsKnown g mid) (¬ IsKnown g cache) line one (known_then cache mid (calls_of so.served) so.row)
 
     -- the next line is answered
-    goes_on : (one : Served) → IsNext (¬ IsKnown g cache) rest next one → Goes g mid one after → Appends between new (reply_to one ++ 10 ∷ []) → SoFar cache input next old new after
+    goes_on : (one : Served) → IsNext (¬ IsKnown g cache) rest next one → Goes g mid one after → Gathered between new before waits (reply_to one ++ 10 ∷ []) → SoFar cache input next old new waits after
     goes_on one at goes wrote = record {
       served = so.served ++ one ∷ [];
       behind = behind_more (¬ IsKnown g cache) input rest next so.served one so.behind at;
       made = made_on cache mid after so.served one so.made goes;
       row = row_on cache mid after so.served one so.row goes;
-      written = subst (Appends old new) (sym (text_more so.served one)) (Appends-trans old between new (text_of so.served) (reply_to one ++ 10 ∷ []) so.written wrote);
+      written = subst (Gathered old new [] waits) (sym (text_more so.served one)) (gathered_more old between new [] before waits (text_of so.served) (reply_to one ++ 10 ∷ []) so.written wrote);
     }
 
     -- a beginning of its reply is written
-    breaks_off : (one : Served) → IsNext (¬ IsKnown g cache) rest next one → Goes g mid one after → AppendsPrefix between new (reply_to one ++ 10 ∷ []) → Serves g cache input old new (Err Write) after
+    breaks_off : (one : Served) → IsNext (¬ IsKnown g cache) rest next one → Goes g mid one after → AppendsPrefix between new (before ++ (reply_to one ++ 10 ∷ [])) → ServesLines g cache input old new waits (Err Write) after
     breaks_off one at goes wrote = record {
       served = so.served ++ one ∷ [];
       answers = write_ends (¬ IsKnown g cache) input rest next so.served one so.behind at;
       made = made_on cache mid after so.served one so.made goes;
       row = row_on cache mid after so.served one so.row goes;
-      written = (
-        text_of so.served ++ wrote.0,
-        wrote.1,
-        text_more so.served one ∙ ap (λ text. text_of so.served ++ text) wrote.2 ∙ sym (append_assoc (text_of so.served) wrote.0 wrote.1),
-        Appends-trans old between new (text_of so.served) wrote.0 so.written wrote.3,
-      );
+      written = subst (AppendsPrefix old new) (sym (text_more so.served one)) (prefix_more old between new [] before (text_of so.served) (reply_to one ++ 10 ∷ []) so.written wrote);
     }
 
     -- a line that was kept is answered
-    pub line_done : (E : Type 0) (f : Bool) (kept : Bytes) → ReadsLine {E = E} rest next (Ok (read.Whole f)) kept → RepliesLine g mid kept between new (Ok tt) after → SoFar cache input next old new after
+    pub line_done : (E : Type 0) (f : Bool) (kept : Bytes) → ReadsLine {E = E} rest next (Ok (read.Whole f)) kept → RepliesLine g mid kept between new before waits (Ok tt) after → SoFar cache input next old new waits after
     line_done E f kept at (one, asks, goes, wrote) = goes_on one (kept_next (¬ IsKnown g cache) E f rest next kept one at (asks_here kept one asks)) goes wrote
 
-    pub line_stops : (E : Type 0) (f : Bool) (kept : Bytes) (e : RunError) → ReadsLine {E = E} rest next (Ok (read.Whole f)) kept → RepliesLine g mid kept between new (Err e) after → Serves g cache input old new (Err e) after
+    pub line_stops : (E : Type 0) (f : Bool) (kept : Bytes) (e : RunError) → ReadsLine {E = E} rest next (Ok (read.Whole f)) kept → RepliesLine g mid kept between new before waits (Err e) after → ServesLines g cache input old new waits (Err e) after
     line_stops E f kept Read at told = absurd told
     line_stops E f kept Write at (one, asks, goes, wrote) = breaks_off one (kept_next (¬ IsKnown g cache) E f rest next kept one at (asks_here kept one asks)) goes wrote
     line_stops E f kept Memory at (same, none) = record {
@@ -251,31 +262,55 @@ module _ {L : Type 0} (g : Ghosts L) where
       answers = memory_ends (¬ IsKnown g cache) input rest next so.served kept so.behind E f at;
       made = subst (AreMade g cache (calls_of so.served)) (sym same) so.made;
       row = subst (StepInRow g cache (calls_of so.served)) (sym same) so.row;
-      written = subst (Appends old new) (append-nil (text_of so.served)) (Appends-trans old between new (text_of so.served) [] so.written none);
+      written = subst (Gathered old new [] waits) (append-nil (text_of so.served)) (gathered_more old between new [] before waits (text_of so.served) [] so.written none);
     }
 
-    -- the reply is not flushed
-    pub unflushed : (E : Type 0) (f : Bool) (kept : Bytes) (last : Option Bytes) → ReadsLine {E = E} rest next (Ok (read.Whole f)) kept → RepliesLine g mid kept between last (Ok tt) after → Keeps last new → Serves g cache input old new (Err Write) after
-    unflushed E f kept last at (one, asks, goes, wrote) keeps = breaks_off one (kept_next (¬ IsKnown g cache) E f rest next kept one at (asks_here kept one asks)) goes (stands between last new (reply_to one ++ 10 ∷ []) wrote keeps)
+    -- the reply is not written and flushed
+    pub unflushed : (E : Type 0) (f : Bool) (kept : Bytes) (last : Option Bytes) (then : Bytes) → ReadsLine {E = E} rest next (Ok (read.Whole f)) kept → RepliesLine g mid kept between last before then (Ok tt) after → AppendsPrefix last new (then ++ []) → ServesLines g cache input old new waits (Err Write) after
+    unflushed E f kept last then at (one, asks, goes, wrote) stopped = breaks_off one (kept_next (¬ IsKnown g cache) E f rest next kept one at (asks_here kept one asks)) goes (stands between last new before then (reply_to one ++ 10 ∷ []) wrote stopped)
 
   -- ---- a line that is too long
 
-  module _ (cache mid : Cache L) (input rest next old between new : Option Bytes) (so : SoFar cache input rest old between mid) (E : Type 0) (kept : Bytes) (at : ReadsLine {E = E} rest next (Ok read.TooLong) kept) where
-    pub long_done : Appends between new (codes "error line" ++ 10 ∷ []) → SoFar cache input next old new mid
-    long_done wrote = goes_on cache mid mid input rest next old between new so Nothing (long_next (¬ IsKnown g cache) E rest next kept at) refl wrote
+  module _ (cache mid : Cache L) (input rest next old between new : Option Bytes) (before waits : Bytes) (so : SoFar cache input rest old between before mid) (E : Type 0) (kept : Bytes) (at : ReadsLine {E = E} rest next (Ok read.TooLong) kept) where
+    pub long_done : Gathered between new before waits (codes "error line" ++ 10 ∷ []) → SoFar cache input next old new waits mid
+    long_done wrote = goes_on cache mid mid input rest next old between new before waits so Nothing (long_next (¬ IsKnown g cache) E rest next kept at) refl wrote
 
-    pub long_stops : AppendsPrefix between new (codes "error line" ++ 10 ∷ []) → Serves g cache input old new (Err Write) mid
-    long_stops wrote = breaks_off cache mid mid input rest next old between new so Nothing (long_next (¬ IsKnown g cache) E rest next kept at) refl wrote
+    pub long_stops : AppendsPrefix between new (before ++ (codes "error line" ++ 10 ∷ [])) → ServesLines g cache input old new waits (Err Write) mid
+    long_stops wrote = breaks_off cache mid mid input rest next old between new before waits so Nothing (long_next (¬ IsKnown g cache) E rest next kept at) refl wrote
 
-    pub long_unflushed : (last : Option Bytes) → Appends between last (codes "error line" ++ 10 ∷ []) → Keeps last new → Serves g cache input old new (Err Write) mid
-    long_unflushed last wrote keeps = long_stops (stands between last new (codes "error line" ++ 10 ∷ []) wrote keeps)
+    pub long_unflushed : (last : Option Bytes) (then : Bytes) → Gathered between last before then (codes "error line" ++ 10 ∷ []) → AppendsPrefix last new (then ++ []) → ServesLines g cache input old new waits (Err Write) mid
+    long_unflushed last then wrote stopped = long_stops (stands between last new before then (codes "error line" ++ 10 ∷ []) wrote stopped)
 
-  -- what is flushed stays
-  pub flushed : (cache after : Cache L) (input rest old mid new : Option Bytes) → SoFar cache input rest old mid after → Keeps mid new → SoFar cache input rest old new after
-  flushed cache after input rest old mid new so kept = record {
+  -- what waits may be written
+  pub flushed : (cache after : Cache L) (input rest old mid new : Option Bytes) (before waits : Bytes) → SoFar cache input rest old mid before after → Gathered mid new before waits [] → SoFar cache input rest old new waits after
+  flushed cache after input rest old mid new before waits so wrote = record {
     served = so.served;
     behind = so.behind;
     made = so.made;
     row = so.row;
-    written = Appends-kept old mid new (text_of so.served) so.written kept;
+    written = subst (Gathered old new [] waits) (append-nil (text_of so.served)) (gathered_more old mid new [] before waits (text_of so.served) [] so.written wrote);
   }
+
+  -- ---- the end of a run
+
+  -- the last replies are not written whole
+  pub not_all_written : (cache after : Cache L) (input old mid new : Option Bytes) (waits : Bytes) (result : Result Unit RunError) → result ≢ Err Write → ServesLines g cache input old mid waits result after → AppendsPrefix mid new waits → waits ≢ [] → Serves g cache input old new (Err Write) after
+  not_all_written cache after input old mid new waits result other lines stopped some =
+      record { served = lines.served; answers = ends input result (λ none. some (nothing_waits result other lines.written (ap text_of none))) lines.answers; made = lines.made; row = lines.row; written = is result other lines.written }
+    where
+      is : (result : Result Unit RunError) → result ≢ Err Write → AreGathered result old mid waits (text_of lines.served) → AppendsPrefix old new (text_of lines.served)
+      is (Ok done) other gathered = rest_stops old mid new waits (text_of lines.served) gathered stopped
+      is (Err Read) other gathered = rest_stops old mid new waits (text_of lines.served) gathered stopped
+      is (Err Memory) other gathered = rest_stops old mid new waits (text_of lines.served) gathered stopped
+      is (Err Write) other gathered = absurd (other refl)
+
+      nothing_waits : (result : Result Unit RunError) → result ≢ Err Write → AreGathered result old mid waits (text_of lines.served) → text_of lines.served ≡ [] → waits ≡ []
+      nothing_waits (Ok done) other (done_text, went, e) none = end_of_none done_text waits (e ∙ none)
+      nothing_waits (Err Read) other (done_text, went, e) none = end_of_none done_text waits (e ∙ none)
+      nothing_waits (Err Memory) other (done_text, went, e) none = end_of_none done_text waits (e ∙ none)
+      nothing_waits (Err Write) other gathered none = absurd (other refl)
+
+      ends : (input : Option Bytes) (result : Result Unit RunError) → (lines.served ≡ [] → ⊥) → Answers (¬ IsKnown g cache) input result lines.served → Answers (¬ IsKnown g cache) input (Err Write) lines.served
+      ends None result more answers = tt
+      ends (Some input) (Ok done) more all = (lines_of input, [], sym (append-nil (lines_of input)), all, some_answered (¬ IsKnown g cache) (lines_of input) lines.served all more)
+      ends (Some input) (Err e) more (answered, others, split, all, why) = (answered, others, split, all, some_answered (¬ IsKnown g cache) answered lines.served all more)

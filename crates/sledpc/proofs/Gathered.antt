@@ -1,17 +1,12 @@
 -- Texts that are gathered one behind another, and written where room lacks.
 use Rattle.std.proofs.Common.{◌≡◌, [], ◌++◌, Option, Result, Ok, Err, IsErr, sym, ap, ◌∙◌, subst, append_assoc, append-nil}
-use Rattle.std.specs.Io.KnownBytes.{Appends}
 use Rattle.std.proofs.KnownBytes.{Appends-nil, Appends-trans}
 use Rattle.sled_base.specs.Order.{Bytes}
-use Rattle.sledpc.specs.Output.{AppendsPrefix, Writes, Gathered, Gathers}
+use Rattle.sledpc.specs.Output.{AppendsPrefix, Gathered, Gathers}
 
 -- nothing was put
 pub gathered_none : (a : Option Bytes) (p : Bytes) → Gathered a a p p []
 gathered_none a p = ([], Appends-nil a, sym (append-nil p))
-
--- all that waited was written
-pub gathered_out : (a b : Option Bytes) (p q : Bytes) → Appends a b p → q ≡ [] → Gathered a b p q []
-gathered_out a b p q wrote none = (p, wrote, ap (λ l. p ++ l) none)
 
 -- more was put into the piece
 pub gathered_put : (a b : Option Bytes) (p q r text more : Bytes) → Gathered a b p q text → r ≡ q ++ more → Gathered a b p r (text ++ more)
@@ -43,18 +38,6 @@ gathers_stops a b p q (Ok x) text rest whole failed now e = absurd cc
 gathers_stops a b p q (Err x) text rest whole failed now e =
     subst (λ l. AppendsPrefix a b (p ++ l)) (sym e) (subst (AppendsPrefix a b) (append_assoc p text rest) (prefix_on a b (p ++ text) rest now))
 
--- what waited is not written
-pub gathers_no_more : {T E : Type 0} (a b : Option Bytes) (p q : Bytes) (result : Result T E) → IsErr result → AppendsPrefix a b p → Gathers a b p q result []
-gathers_no_more a b p q (Ok x) failed now = absurd cc
-gathers_no_more a b p q (Err x) failed now = subst (AppendsPrefix a b) (sym (append-nil p)) now
-
--- ---- what was gathered is written
-
-pub writes_out : {T E : Type 0} (a b c : Option Bytes) (p q : Bytes) (result : Result T E) (text whole : Bytes) → Gathered a b p q text → Writes b c result q → whole ≡ p ++ text → Writes a c result whole
-writes_out a b c p q (Ok x) text whole (done, wrote, e) now f = subst (Appends a c) (e ∙ sym f) (Appends-trans a b c done q wrote now)
-writes_out a b c p q (Err x) text whole (done, wrote, e) (later, left, g, went) f =
-    (done ++ later, left, f ∙ sym e ∙ ap (λ l. done ++ l) g ∙ sym (append_assoc done later left), Appends-trans a b c done later wrote went)
-
-pub writes_stop : {T E : Type 0} (a b : Option Bytes) (result : Result T E) (text rest whole : Bytes) → IsErr result → AppendsPrefix a b text → whole ≡ text ++ rest → Writes a b result whole
-writes_stop a b (Ok x) text rest whole failed now e = absurd cc
-writes_stop a b (Err x) text rest whole failed now e = subst (AppendsPrefix a b) (sym e) (prefix_on a b text rest now)
+-- a text behind one that was put
+pub put_on : (p x q y r : Bytes) → q ≡ p ++ x → r ≡ q ++ y → r ≡ p ++ (x ++ y)
+put_on p x q y r e f = f ∙ ap (λ l. l ++ y) e ∙ append_assoc p x y

@@ -12,9 +12,6 @@ use Rattle.sledpc.proofs.Written.{hex_append, hex_next, hex_word}
 pub length-number : (n : ℕ) → n < 2 ^ 64 → length (decimal n) ≤ 20
 length-number n small = length-decimal-le 20 n (omega arith) (omega arith) small
 
-pub length-labelled : (text label : Bytes) (n : ℕ) → text ≡ label ++ decimal n → n < 2 ^ 64 → length text ≤ length label + 20
-length-labelled text label n e small = omega (arith, ap length e, length-append label (decimal n), length-number n small)
-
 -- there is room for the last digit, behind the others or alone
 pub tens_room : (items before : Bytes) (n room : ℕ) → 10 ≤ n → n < 2 ^ 64 → items ≡ before ++ decimal (n / 10) → length before + length (decimal n) ≤ room → length items < room
 tens_room items before n room large small e fits =

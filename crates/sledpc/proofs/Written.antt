@@ -1,10 +1,7 @@
 -- Texts that are written one after another.
-use Rattle.std.proofs.Common.{◌≡◌, ℕ, ◌+◌, ◌-◌, ◌/◌, ◌%◌, ◌<◌, [], ◌∷◌, ◌++◌, length, take, drop, get_or, Option, Result, Ok, Err, IsErr, sym, ap, ◌∙◌, subst, arith, refl, append_assoc, take-append-drop}
-use Rattle.std.specs.Io.KnownBytes.{Appends}
-use Rattle.std.proofs.KnownBytes.{Appends-trans}
+use Rattle.std.proofs.Common.{◌≡◌, ℕ, ◌+◌, ◌-◌, ◌/◌, ◌%◌, ◌<◌, [], ◌∷◌, ◌++◌, length, take, drop, get_or, sym, ap, ◌∙◌, arith, refl, append_assoc, take-append-drop}
 use Rattle.std.proofs.lemmas.List.{take_rest, take_more}
 use Rattle.sled_base.specs.Order.{Bytes}
-use Rattle.sledpc.specs.Output.{AppendsPrefix, Writes}
 use Rattle.sledpc.specs.Words.{hex_digit, hex, bytes_word}
 use Rattle.sledpc.proofs.Words.{hex_more}
 
@@ -12,18 +9,6 @@ use Rattle.sledpc.proofs.Words.{hex_more}
 pub moved : (all done rest left : Bytes) (n : ℕ) → all ≡ done ++ rest → left ≡ take (length rest - n) (drop n rest) → all ≡ (done ++ take n rest) ++ left
 moved all done rest left n e f =
     e ∙ ap (λ l. done ++ l) (sym (take-append-drop n rest)) ∙ sym (append_assoc done (take n rest) (drop n rest)) ∙ ap (λ l. (done ++ take n rest) ++ l) (sym (f ∙ take_rest rest n))
-
--- a text behind one that was written whole
-pub writes_more : {T E : Type 0} (a b c : Option Bytes) (result : Result T E) (done text whole : Bytes) → Appends a b done → Writes b c result text → whole ≡ done ++ text → Writes a c result whole
-writes_more a b c (Ok x) done text whole before now e = subst (Appends a c) (sym e) (Appends-trans a b c done text before now)
-writes_more a b c (Err x) done text whole before now e =
-    (done ++ now.0, now.1, e ∙ ap (λ l. done ++ l) now.2 ∙ sym (append_assoc done now.0 now.1), Appends-trans a b c done now.0 before now.3)
-
--- an error before the rest is written
-pub stops_before : {T E : Type 0} (a b : Option Bytes) (result : Result T E) (text rest whole : Bytes) → IsErr result → AppendsPrefix a b text → whole ≡ text ++ rest → Writes a b result whole
-stops_before a b (Ok x) text rest whole failed now e = absurd cc
-stops_before a b (Err x) text rest whole failed now e =
-    (now.0, now.1 ++ rest, e ∙ ap (λ l. l ++ rest) now.2 ∙ append_assoc now.0 now.1 rest, now.3)
 
 -- ---- byte strings
 

@@ -16,7 +16,7 @@ longest_line = 65536
 
 -- a text of at most so many bytes is gathered before it is written, and that of a short entry has at most so many
 abbrev pub piece_room : ℕ
-piece_room = 512
+piece_room = 8192
 
 abbrev pub entry_room : ℕ
 entry_room = 160

@@ -1,7 +1,8 @@
 //! Texts that are written piece by piece.
 
-ghost use Rattle.std.specs.Prelude.{◌≡◌, ◌+◌, ◌≤◌, [], length, OnOk};
+ghost use Rattle.std.specs.Prelude.{◌≡◌, ◌≢◌, ◌+◌, ◌≤◌, [], length, OnOk, OnErr};
 ghost use Rattle.std.specs.Fmt.{decimal};
+ghost use Rattle.std.specs.Io.KnownBytes.{Keeps};
 ghost use Rattle.sledpc.specs.Output.{Writes, Gathers};
 ghost use Rattle.sledpc.specs.Settings.{piece_room};
 ghost use Rattle.sledpc.specs.Words.{hex, bytes_word};
@@ -43,6 +44,28 @@ pub fn write_out<W: Write>(writer: &mut W, piece: &mut Piece) -> Result<(), Unwr
     write_text(writer, piece.as_slice())?;
     piece.clear();
     Ok(())
+}
+
+/// Writes and flushes what is left of the text that was gathered, if something is.
+pub fn write_rest<W: Write>(writer: &mut W, piece: &Piece) -> Result<(), Unwritten>
+    ensures writes { Writes (W.contents writer.old) (W.contents writer.new) result piece.now }
+    ensures some { OnErr result (piece.now ≢ []) }
+{
+    if piece.is_empty() {
+        return Ok(());
+    }
+    write_text(writer, piece.as_slice())?;
+    flush(writer)
+}
+
+/// Flushes what was written.
+pub fn flush<W: Write>(writer: &mut W) -> Result<(), Unwritten>
+    ensures { Keeps (W.contents writer.old) (W.contents writer.new) }
+{
+    match writer.flush() {
+        Ok(()) => Ok(()),
+        Err(_) => Err(Unwritten),
+    }
 }
 
 /// Makes room for so many bytes: where the piece lacks it, the text that was gathered is written.

@@ -1,6 +1,6 @@
-//! A text that is gathered on the stack, and written in one call.
+//! A text that is gathered, and written in one call.
 
-ghost use Rattle.std.specs.Prelude.{◌≡◌, ◌+◌, ◌<◌, ◌≤◌, ◌∷◌, ◌++◌, [], length, IsTrue};
+ghost use Rattle.std.specs.Prelude.{◌≡◌, ◌↔◌, ◌+◌, ◌<◌, ◌≤◌, ◌∷◌, ◌++◌, [], length, IsTrue};
 ghost use Rattle.std.specs.Fmt.{decimal};
 ghost use Rattle.sledpc.specs.Settings.{piece_room};
 ghost use Rattle.sledpc.specs.Words as words;
@@ -9,7 +9,7 @@ ghost use Rattle.sledpc.specs.Words.{hex, bytes_word};
 use std::marker::Model;
 
 /// How many bytes a piece has room for.
-pub const ROOM: usize = 512;
+pub const ROOM: usize = 8192;
 
 /// The text that is gathered, of at most [`ROOM`] bytes.
 ///
@@ -40,6 +40,13 @@ impl Piece {
             bytes: [0; ROOM],
             len: 0,
         }
+    }
+
+    /// Whether there is no text.
+    pub fn is_empty(&self) -> bool
+        ensures { IsTrue result ↔ (self.now ≡ []) }
+    {
+        self.len == 0
     }
 
     /// Whether so many more bytes have room.

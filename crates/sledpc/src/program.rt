@@ -10,7 +10,7 @@ ghost use Rattle.sledpc.specs.Settings.{settings, log_settings, status_of, wrong
 use crate::script::run::{RunError, run};
 use sled_pagecache::{Config, Error, MemLog, PageCache};
 use std::alloc::Global;
-use std::io::{BufReader, BufWriter, Read, Write};
+use std::io::{BufReader, Read, Write};
 
 /// The script ended with its input.
 const DONE: u8 = 0;
@@ -125,10 +125,7 @@ fn serve_memory<R: Read, W: Write>(
     let Ok(mut input) = BufReader::new(alloc, reader) else {
         return Err(Fault::Run(RunError::Memory));
     };
-    let Ok(mut output) = BufWriter::new(alloc, writer) else {
-        return Err(Fault::Run(RunError::Memory));
-    };
-    run(alloc, &mut cache, &mut input, &mut output).map_err(Fault::Run)
+    run(alloc, &mut cache, &mut input, writer).map_err(Fault::Run)
 }
 
 #[cfg(test)]

@@ -7,7 +7,7 @@ use crate::output::{
     Unwritten, gather_bytes_word, gather_number, gather_text, write_out, write_text,
 };
 use crate::piece::Piece;
-use crate::script::reply::{LentAnswer, write_line};
+use crate::script::reply::{LentAnswer, gather_line};
 use crate::script::words::{bytes_of, first_word, number_of, pair_of, pairs_of};
 use sled_pagecache::{Bug, Device, Error, IVec, Why};
 use std::alloc::{AllocError, Global};
@@ -166,14 +166,18 @@ fn are_written(
 // Whether a call that is refused so is replied to by this line.
 fn replies_to_error(alloc: Global, error: Error, want: &str) -> Result<bool, Unwritten> {
     let mut writer = slow_writer(alloc, 99);
-    write_line(&mut writer, LentAnswer::Flushed(&Err(error)))?;
+    let mut piece = Piece::new();
+    gather_line(&mut writer, &mut piece, LentAnswer::Flushed(&Err(error)))?;
+    write_out(&mut writer, &mut piece)?;
     Ok(writer.got.as_slice() == want.as_bytes())
 }
 
 // Whether a generated id, or why none is given, is replied to by this line.
 fn replies_to_id(alloc: Global, given: Result<u64, Error>, want: &str) -> Result<bool, Unwritten> {
     let mut writer = slow_writer(alloc, 99);
-    write_line(&mut writer, LentAnswer::Generated(&given))?;
+    let mut piece = Piece::new();
+    gather_line(&mut writer, &mut piece, LentAnswer::Generated(&given))?;
+    write_out(&mut writer, &mut piece)?;
     Ok(writer.got.as_slice() == want.as_bytes())
 }
 

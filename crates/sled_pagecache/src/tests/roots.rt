@@ -139,14 +139,19 @@ fn shows(alloc: Global, cache: Cache, step: Step) -> Option<Cache> {
 
 // How many steps of a script show what they should, before the first that doesn't.
 pub(super) fn walks(alloc: Global, steps: &[Step]) -> Result<usize, Fail> {
-    let mut cache = opened(alloc)?;
+    let cache = opened(alloc)?;
+    Ok(walks_over(alloc, cache, steps))
+}
+
+// The same over a cache.
+pub(super) fn walks_over(alloc: Global, mut cache: Cache, steps: &[Step]) -> usize {
     for (done, step) in steps.iter().enumerate() {
         let Some(next) = shows(alloc, cache, *step) else {
-            return Ok(done);
+            return done;
         };
         cache = next;
     }
-    Ok(steps.len())
+    steps.len()
 }
 
 use Outcome::{Done, Is, Refused};

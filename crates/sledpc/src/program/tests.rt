@@ -1,4 +1,5 @@
 mod corners;
+mod streams;
 
 use super::*;
 use std::alloc::AllocError;
@@ -8,23 +9,13 @@ use std::test::Fail;
 
 const TOLD_USAGE: &[u8] = b"usage: sledpc mem | file PATH | crew N M\n";
 
-/// What a [`Broken`] stream gives before it fails.
-const ASKED: &[u8] = b"alloc\nget";
-
-/// A stream that gives a line and the beginning of another so many times, and else fails at each use.
+/// A stream that fails at each use.
 #[derive(Drop)]
-struct Broken {
-    reads: u8,
-}
+struct Broken;
 
 impl Read for Broken {
-    fn read(&mut self, buf: &mut [u8]) -> io::Result<usize> {
-        if self.reads == 0 || buf.len() < ASKED.len() {
-            return Err(io::Error::from(ErrorKind::BrokenPipe));
-        }
-        self.reads -= 1;
-        buf[..ASKED.len()].copy_from_slice(ASKED);
-        Ok(ASKED.len())
+    fn read(&mut self, _buf: &mut [u8]) -> io::Result<usize> {
+        Err(io::Error::from(ErrorKind::BrokenPipe))
     }
 }
 
@@ -35,45 +26,6 @@ impl Write for Broken {
 
     fn flush(&mut self) -> io::Result<()> {
         Err(io::Error::from(ErrorKind::BrokenPipe))
-    }
-}
-
-/// A stream that gives a piece at each read, as a pipe does.
-#[derive(Drop)]
-struct Pieces<'a> {
-    left: &'a [&'a str],
-}
-
-impl Read for Pieces<'_> {
-    fn read(&mut self, buf: &mut [u8]) -> io::Result<usize> {
-        let [piece, rest @ ..] = self.left else {
-            return Ok(0);
-        };
-        let bytes = piece.as_bytes();
-        if buf.len() < bytes.len() {
-            return Err(io::Error::from(ErrorKind::BrokenPipe));
-        }
-        buf[..bytes.len()].copy_from_slice(bytes);
-        self.left = rest;
-        Ok(bytes.len())
-    }
-}
-
-/// A stream that keeps what is written, with a bar wherever it is flushed.
-#[derive(Drop)]
-struct Barred {
-    got: Vec<u8>,
-}
-
-impl Write for Barred {
-    fn write(&mut self, buf: &[u8]) -> io::Result<usize> {
-        self.got.extend_from_slice(buf)?;
-        Ok(buf.len())
-    }
-
-    fn flush(&mut self) -> io::Result<()> {
-        self.got.push(b'|')?;
-        Ok(())
     }
 }
 
@@ -107,15 +59,6 @@ fn replies(alloc: Global, mut script: &[u8], want: &str) -> Result<bool, AllocEr
     let mut output = Vec::new(alloc);
     let is_done = ends_so(alloc, &mut script, &mut output, 0, "")?;
     Ok(is_done && output.as_slice() == want.as_bytes())
-}
-
-// Whether a script that is given in these pieces is replied to so, and flushed where bars stand.
-fn flushes_so(alloc: Global, pieces: &[&str], want: &str) -> Result<bool, AllocError> {
-    let mut output = Barred {
-        got: Vec::new(alloc),
-    };
-    let is_done = ends_so(alloc, &mut Pieces { left: pieces }, &mut output, 0, "")?;
-    Ok(is_done && output.got.as_slice() == want.as_bytes())
 }
 
 // Whether a script whose first line has so many digits of a value is answered so.
@@ -167,37 +110,17 @@ fn are_wrong(alloc: Global, words: Option<&[&str]>) -> Result<bool, AllocError> 
     let status = drive(
         alloc,
         words.as_ref().map(|words| words.as_slice()),
-        &mut Broken { reads: 1 },
-        &mut Broken { reads: 0 },
+        &mut Broken,
+        &mut Broken,
         &mut faults,
     );
     Ok(status == 2 && faults.as_slice() == TOLD_USAGE)
 }
 
-// Whether a reader that fails in its second line ends the program so, with the reply to the first.
-fn reports_reader(alloc: Global) -> Result<bool, AllocError> {
-    let mut input = Broken { reads: 1 };
-    let mut output = Vec::new(alloc);
-    let is_read_so = ends_so(alloc, &mut input, &mut output, 1, "sledpc: error read\n")?;
-    Ok(is_read_so && output.as_slice() == "page 2 1\n".as_bytes())
-}
-
-fn reports_writer(alloc: Global) -> Result<bool, AllocError> {
-    let mut input = b"get 2\n".as_slice();
-    let mut output = Broken { reads: 0 };
-    ends_so(alloc, &mut input, &mut output, 1, "sledpc: error write\n")
-}
-
 fn answers_unreported(alloc: Global) -> bool {
     let mut input = b"".as_slice();
     let mut output = Vec::new(alloc);
-    drive(
-        alloc,
-        None,
-        &mut input,
-        &mut output,
-        &mut Broken { reads: 0 },
-    ) == 2
+    drive(alloc, None, &mut input, &mut output, &mut Broken) == 2
 }
 
 #[test]
@@ -352,28 +275,6 @@ fn pairs_of_any_size_are_replied_as_they_were_encoded(rt: HostRuntime) -> Result
 }
 
 #[test]
-fn replies_go_out_before_a_read_that_may_wait(rt: HostRuntime) -> Result<(), Fail> {
-    let together: &[&str] = &["alloc\nget 2\nget 3\n"];
-    for (pieces, want) in [
-        (together, "page 2 1\nleaf 1\nnone\n|"),
-        (
-            &["alloc\n", "get 2\n", "get 3\n"],
-            "page 2 1\n|leaf 1\n|none\n|",
-        ),
-        (
-            &["alloc\nge", "t 2\nget", " 3\n"],
-            "page 2 1\n|leaf 1\n|none\n|",
-        ),
-        (&["alloc\nget 2\nget", " 3"], "page 2 1\nleaf 1\n|none\n|"),
-        (&["x"], "error line\n|"),
-        (&["\n\n", "\n"], "error line\nerror line\n|error line\n|"),
-    ] {
-        assert!(rt; flushes_so(rt.alloc(), pieces, want)?, "at {want}");
-    }
-    Ok(())
-}
-
-#[test]
 fn a_line_of_65536_bytes_is_read_and_a_longer_one_is_not(rt: HostRuntime) -> Result<(), Fail> {
     for (digits, want) in [(65_524, "gone\nnone\n"), (65_526, "error line\nnone\n")] {
         assert!(rt;
@@ -387,6 +288,7 @@ fn a_line_of_65536_bytes_is_read_and_a_longer_one_is_not(rt: HostRuntime) -> Res
 #[test]
 fn wrong_words_are_reported_and_touch_no_stream(rt: HostRuntime) -> Result<(), Fail> {
     assert!(rt; are_wrong(rt.alloc(), None)?);
+    assert!(rt; answers_unreported(rt.alloc()));
     let wrong: [&[&str]; 5] = [
         &[],
         &["memory"],
@@ -397,13 +299,5 @@ fn wrong_words_are_reported_and_touch_no_stream(rt: HostRuntime) -> Result<(), F
     for words in wrong {
         assert!(rt; are_wrong(rt.alloc(), Some(words))?);
     }
-    Ok(())
-}
-
-#[test]
-fn refused_streams_are_reported(rt: HostRuntime) -> Result<(), Fail> {
-    assert!(rt; reports_reader(rt.alloc())?);
-    assert!(rt; reports_writer(rt.alloc())?);
-    assert!(rt; answers_unreported(rt.alloc()));
     Ok(())
 }

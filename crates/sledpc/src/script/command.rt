@@ -36,10 +36,12 @@ pub fn command_of(alloc: Global, line: &[u8]) -> Result<Option<Command>, AllocEr
     if name == b"open".as_slice() {
         return open_of(alloc, arguments);
     }
-    let Some(call) = call_of(alloc, line)? else {
-        return Ok(None);
-    };
-    Ok(Some(Command::Call(call)))
+    // By cases, since a `?` would copy a call that is large.
+    match call_of(alloc, line) {
+        Ok(Some(call)) => Ok(Some(Command::Call(call))),
+        Ok(None) => Ok(None),
+        Err(error) => Err(error),
+    }
 }
 
 // `open NAME`

@@ -4,7 +4,7 @@ ghost use Rattle.std.specs.Prelude.{◌≡◌, ◌+◌, ◌<◌, ◌≤◌, [], 
 ghost use Rattle.std.specs.Fmt.{decimal};
 ghost use Rattle.sled_node.specs.Node.{Value};
 ghost use Rattle.sled_node.specs.Parts.{item_of};
-ghost use Rattle.sledpc.specs.Output.{Writes, Gathers};
+ghost use Rattle.sledpc.specs.Output.{Gathers};
 ghost use Rattle.sledpc.specs.Replies.{entry_text, error_text, item_word, node_text, reply_of, reply_of_tree};
 ghost use Rattle.sledpc.specs.Settings.{entry_room, piece_room};
 ghost use Rattle.sledpc.specs.LentAnswers.{answer_of};
@@ -32,33 +32,51 @@ pub enum LentAnswer<'a> {
     Sized(&'a Result<u64, Error>),
 }
 
-/// Writes the reply to an answer as a line.
-pub fn write_line<W: Write>(writer: &mut W, lent: LentAnswer<'_>) -> Result<(), Unwritten>
-    ensures { Writes (W.contents writer.old) (W.contents writer.new) result (reply_of (answer_of lent.entry) ++ 10 ∷ []) }
+/// Puts the reply to an answer as a line behind what was gathered.
+pub fn gather_line<W: Write>(
+    writer: &mut W,
+    piece: &mut Piece,
+    lent: LentAnswer<'_>,
+) -> Result<(), Unwritten>
+    ensures { Gathers (W.contents writer.old) (W.contents writer.new) piece.old piece.new result (reply_of (answer_of lent.entry) ++ 10 ∷ []) }
 {
     match lent {
-        LentAnswer::Allocated(Ok((pid, token))) => write_page(writer, *pid, token.ts()),
-        LentAnswer::Got(Ok(Some(view))) => write_node(writer, view.token().ts(), view.node()),
-        LentAnswer::Got(Ok(None)) => write_text(writer, b"none\n"),
+        LentAnswer::Allocated(Ok((pid, token))) => gather_page(writer, piece, *pid, token.ts()),
+        LentAnswer::Got(Ok(Some(view))) => gather_node(
+            writer,
+            piece,
+            view.token().ts(),
+            view.node(),
+        ),
+        LentAnswer::Got(Ok(None)) => gather_text(writer, piece, b"none\n"),
         LentAnswer::Linked(Ok(Ok(token)))
         | LentAnswer::Replaced(Ok(Ok(token)))
-        | LentAnswer::Freed(Ok(Ok(token))) => { write_labelled(writer, b"ok ", token.ts()) }
+        | LentAnswer::Freed(Ok(Ok(token))) => { gather_labelled(writer, piece, b"ok ", token.ts()) }
         LentAnswer::Linked(Ok(Err(Some((token, _)))))
         | LentAnswer::Replaced(Ok(Err(Some((token, _)))))
         | LentAnswer::Freed(Ok(Err(Some((token, ()))))) => {
-            write_labelled(writer, b"stale ", token.ts())
+            gather_labelled(writer, piece, b"stale ", token.ts())
         }
         LentAnswer::Linked(Ok(Err(None)))
         | LentAnswer::Replaced(Ok(Err(None)))
-        | LentAnswer::Freed(Ok(Err(None))) => write_text(writer, b"gone\n"),
-        LentAnswer::FoundRoot(Ok(root)) => write_labelled(writer, b"page ", *root),
-        LentAnswer::FoundRoot(Err(Error::CollectionNotFound(_))) => write_text(writer, b"none\n"),
-        LentAnswer::RootSwapped(Ok(Ok(()))) => write_text(writer, b"ok\n"),
-        LentAnswer::RootSwapped(Ok(Err(None))) => write_text(writer, b"is -\n"),
-        LentAnswer::RootSwapped(Ok(Err(Some(root)))) => write_labelled(writer, b"is ", *root),
-        LentAnswer::Generated(Ok(id)) => write_labelled(writer, b"id ", *id),
-        LentAnswer::Flushed(Ok(written)) => write_labelled(writer, b"flushed ", *written as u64),
-        LentAnswer::Sized(Ok(bytes)) => write_labelled(writer, b"size ", *bytes),
+        | LentAnswer::Freed(Ok(Err(None))) => gather_text(writer, piece, b"gone\n"),
+        LentAnswer::FoundRoot(Ok(root)) => gather_labelled(writer, piece, b"page ", *root),
+        LentAnswer::FoundRoot(Err(Error::CollectionNotFound(_))) => gather_text(
+            writer, piece, b"none\n",
+        ),
+        LentAnswer::RootSwapped(Ok(Ok(()))) => gather_text(writer, piece, b"ok\n"),
+        LentAnswer::RootSwapped(Ok(Err(None))) => gather_text(writer, piece, b"is -\n"),
+        LentAnswer::RootSwapped(Ok(Err(Some(root)))) => gather_labelled(
+            writer, piece, b"is ", *root,
+        ),
+        LentAnswer::Generated(Ok(id)) => gather_labelled(writer, piece, b"id ", *id),
+        LentAnswer::Flushed(Ok(written)) => gather_labelled(
+            writer,
+            piece,
+            b"flushed ",
+            *written as u64,
+        ),
+        LentAnswer::Sized(Ok(bytes)) => gather_labelled(writer, piece, b"size ", *bytes),
         LentAnswer::Allocated(Err(error))
         | LentAnswer::Linked(Err(error))
         | LentAnswer::Replaced(Err(error))
@@ -67,77 +85,101 @@ pub fn write_line<W: Write>(writer: &mut W, lent: LentAnswer<'_>) -> Result<(), 
         | LentAnswer::RootSwapped(Err(error))
         | LentAnswer::Generated(Err(error))
         | LentAnswer::Flushed(Err(error))
-        | LentAnswer::Sized(Err(error)) => write_error(writer, error),
-        LentAnswer::Got(Err(refusal)) => write_error(writer, &Error::from(refusal)),
+        | LentAnswer::Sized(Err(error)) => gather_error(writer, piece, error),
+        LentAnswer::Got(Err(refusal)) => gather_error(writer, piece, &Error::from(refusal)),
     }
 }
 
-/// Writes the reply to the opening of a tree as a line.
-pub fn write_tree<W: Write>(writer: &mut W, root: &Result<PageId, Error>) -> Result<(), Unwritten>
-    ensures { Writes (W.contents writer.old) (W.contents writer.new) result (reply_of_tree root.now ++ 10 ∷ []) }
+/// Puts the reply to the opening of a tree as a line behind what was gathered.
+pub fn gather_tree<W: Write>(
+    writer: &mut W,
+    piece: &mut Piece,
+    root: &Result<PageId, Error>,
+) -> Result<(), Unwritten>
+    ensures { Gathers (W.contents writer.old) (W.contents writer.new) piece.old piece.new result (reply_of_tree root.now ++ 10 ∷ []) }
 {
     match root {
-        Ok(root) => write_labelled(writer, b"page ", *root),
-        Err(error) => write_error(writer, error),
+        Ok(root) => gather_labelled(writer, piece, b"page ", *root),
+        Err(error) => gather_error(writer, piece, error),
     }
 }
 
-// A short label and a number.
-fn labelled(label: &[u8], number: u64) -> Piece
-    requires { length label.now ≤ 40 }
-    ensures { result ≡ label.now ++ decimal number }
+// Puts a label and a number into a piece, which has room for them.
+fn put_labelled(piece: &mut Piece, label: &[u8], number: u64)
+    requires { length piece.old + length label.now + 20 ≤ piece_room }
+    ensures { piece.new ≡ piece.old ++ (label.now ++ decimal number) }
 {
-    let mut piece = Piece::new();
     piece.put_text(label);
     piece.put_number(number);
-    piece
 }
 
-// Writes a short label and a number as a line.
-fn write_labelled<W: Write>(writer: &mut W, label: &[u8], number: u64) -> Result<(), Unwritten>
+// Puts a short label and a number as a line behind what was gathered.
+fn gather_labelled<W: Write>(
+    writer: &mut W,
+    piece: &mut Piece,
+    label: &[u8],
+    number: u64,
+) -> Result<(), Unwritten>
     requires { length label.now ≤ 40 }
-    ensures { Writes (W.contents writer.old) (W.contents writer.new) result (label.now ++ decimal number ++ 10 ∷ []) }
+    ensures { Gathers (W.contents writer.old) (W.contents writer.new) piece.old piece.new result (label.now ++ decimal number ++ 10 ∷ []) }
 {
-    let mut piece = labelled(label, number);
+    make_room(writer, piece, 61)?;
+    put_labelled(piece, label, number);
     piece.push(b'\n');
-    write_text(writer, piece.as_slice())
+    Ok(())
 }
 
-fn write_page<W: Write>(writer: &mut W, pid: PageId, stamp: u64) -> Result<(), Unwritten>
-    ensures { Writes (W.contents writer.old) (W.contents writer.new) result (codes "page " ++ decimal pid ++ codes " " ++ decimal stamp ++ 10 ∷ []) }
+fn gather_page<W: Write>(
+    writer: &mut W,
+    piece: &mut Piece,
+    pid: PageId,
+    stamp: u64,
+) -> Result<(), Unwritten>
+    ensures { Gathers (W.contents writer.old) (W.contents writer.new) piece.old piece.new result (codes "page " ++ decimal pid ++ codes " " ++ decimal stamp ++ 10 ∷ []) }
 {
-    let mut piece = labelled(b"page ", pid);
+    make_room(writer, piece, 47)?;
+    put_labelled(piece, b"page ", pid);
     piece.push(b' ');
     piece.put_number(stamp);
     piece.push(b'\n');
-    write_text(writer, piece.as_slice())
+    Ok(())
 }
 
-fn write_error<W: Write>(writer: &mut W, error: &Error) -> Result<(), Unwritten>
-    ensures { Writes (W.contents writer.old) (W.contents writer.new) result (error_text error.now ++ 10 ∷ []) }
+fn gather_error<W: Write>(writer: &mut W, piece: &mut Piece, error: &Error) -> Result<(), Unwritten>
+    ensures { Gathers (W.contents writer.old) (W.contents writer.new) piece.old piece.new result (error_text error.now ++ 10 ∷ []) }
 {
     match error {
-        Error::CollectionNotFound(_) => write_text(writer, b"error collection\n"),
+        Error::CollectionNotFound(_) => gather_text(writer, piece, b"error collection\n"),
         Error::Unsupported(why) => {
-            write_labelled(writer, b"error unsupported ", u64::from(why.number()))
+            gather_labelled(
+                writer,
+                piece,
+                b"error unsupported ",
+                u64::from(why.number()),
+            )
         }
         Error::ReportableBug(bug) => {
-            write_labelled(writer, b"error bug ", u64::from(bug.number()))
+            gather_labelled(writer, piece, b"error bug ", u64::from(bug.number()))
         }
-        Error::Io(Device::Read) => write_text(writer, b"error read\n"),
-        Error::Io(Device::Write) => write_text(writer, b"error write\n"),
-        Error::Corruption(_) => write_text(writer, b"error corruption\n"),
-        Error::OutOfMemory => write_text(writer, b"error memory\n"),
+        Error::Io(Device::Read) => gather_text(writer, piece, b"error read\n"),
+        Error::Io(Device::Write) => gather_text(writer, piece, b"error write\n"),
+        Error::Corruption(_) => gather_text(writer, piece, b"error corruption\n"),
+        Error::OutOfMemory => gather_text(writer, piece, b"error memory\n"),
     }
 }
 
-fn write_node<W: Write>(writer: &mut W, stamp: u64, node: &Node) -> Result<(), Unwritten>
-    ensures { Writes (W.contents writer.old) (W.contents writer.new) result (node_text stamp node.now ++ 10 ∷ []) }
+fn gather_node<W: Write>(
+    writer: &mut W,
+    piece: &mut Piece,
+    stamp: u64,
+    node: &Node,
+) -> Result<(), Unwritten>
+    ensures { Gathers (W.contents writer.old) (W.contents writer.new) piece.old piece.new result (node_text stamp node.now ++ 10 ∷ []) }
 {
-    let mut piece = labelled(label_of(node), stamp);
-    gather_entries(writer, &mut piece, node)?;
-    gather_text(writer, &mut piece, b"\n")?;
-    write_text(writer, piece.as_slice())
+    make_room(writer, piece, 30)?;
+    put_labelled(piece, label_of(node), stamp);
+    gather_entries(writer, piece, node)?;
+    gather_text(writer, piece, b"\n")
 }
 
 // What a reply calls the node.

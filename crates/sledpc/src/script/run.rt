@@ -1,21 +1,21 @@
 //! The engine: it reads lines, and writes the replies to them.
 
 ghost use Rattle.std.specs.Prelude.{◌≡◌, ◌≤◌, ◌++◌, [], ◌∷◌, length, codes, IfOk, IfSome, IfNone, IfErr};
-ghost use Rattle.std.specs.Io.KnownBytes.{Keeps};
 ghost use Rattle.sledpc.specs.Commands.{Encodes, IsOfScript};
-ghost use Rattle.sledpc.specs.Output.{Writes};
+ghost use Rattle.sledpc.specs.Output.{Gathers};
 ghost use Rattle.sledpc.specs.Runs.{Serves, run_error_of};
-ghost use Rattle.sledpc.specs.Served.{RepliesTo, RepliesToOpen, RepliesLine};
+ghost use Rattle.sledpc.specs.Served.{RepliesTo, RepliesToOpen, RepliesLine, ServesLines};
 ghost use Rattle.sledpc.specs.Settings.{longest_line};
 ghost use Rattle.sled_pagecache.specs.declared.pagecache.call.Call.{Call};
 ghost use Rattle.sled_pagecache.specs.declared.pagecache.call.Call.TheVariants as calls;
 
 use super::command::{Command, command_of};
-use super::reply::{LentAnswer, write_line, write_tree};
+use super::reply::{LentAnswer, gather_line, gather_tree};
 use crate::lines::{Line, ReadError, read_line};
-use crate::output::{Unwritten, write_text};
+use crate::output::{Unwritten, flush, gather_text, write_out, write_rest};
+use crate::piece::Piece;
 use sled_pagecache::{Call, IVec, Link, Log, Node, PageCache, PageId, PageView, open_tree};
-use std::alloc::{AllocError, Global};
+use std::alloc::Global;
 use std::io::{BufRead, Write};
 use thiserror::Error;
 
@@ -41,16 +41,6 @@ impl From<ReadError> for RunError {
             ReadError::Read => RunError::Read,
             ReadError::Memory => RunError::Memory,
         }
-    }
-}
-
-impl From<AllocError> for RunError {
-    ghost use Rattle.sledpc.specs.declared.script.run.RunError.TheVariants.{Memory};
-
-    ghost from_gives = { λ _ r. r ≡ Memory };
-
-    fn from(_error: AllocError) -> RunError {
-        RunError::Memory
     }
 }
 
@@ -83,89 +73,125 @@ pub fn run<L: Log, R: BufRead, W: Write>(
 ) -> Result<(), RunError>
     ensures { Serves L.Log cache.old (R.remaining reader.old) (W.contents writer.old) (W.contents writer.new) result cache.new }
 {
+    let mut piece = Piece::new();
+    match serve_lines(alloc, cache, reader, writer, &mut piece) {
+        Ok(()) => {
+            write_rest(writer, &piece)?;
+            Ok(())
+        }
+        Err(RunError::Read) => {
+            write_rest(writer, &piece)?;
+            Err(RunError::Read)
+        }
+        Err(RunError::Memory) => {
+            write_rest(writer, &piece)?;
+            Err(RunError::Memory)
+        }
+        Err(RunError::Write) => Err(RunError::Write),
+    }
+}
+
+// Serves all lines. The last replies may be left in the piece.
+fn serve_lines<L: Log, R: BufRead, W: Write>(
+    alloc: Global,
+    cache: &mut PageCache<L>,
+    reader: &mut R,
+    writer: &mut W,
+    piece: &mut Piece,
+) -> Result<(), RunError>
+    requires { piece.old ≡ [] }
+    ensures { ServesLines L.Log cache.old (R.remaining reader.old) (W.contents writer.old) (W.contents writer.new) piece.new result cache.new }
+{
     let mut line = Vec::new(alloc);
     for _ in 0..u64::MAX {
         let is_followed = match read_line(reader, &mut line)? {
             Line::End => return Ok(()),
             Line::Whole { is_followed } => {
-                serve_line(alloc, cache, &line, writer)?;
+                serve_line(alloc, cache, &line, writer, piece)?;
                 is_followed
             }
             Line::TooLong => {
-                write_text(writer, b"error line\n")?;
+                gather_text(writer, piece, b"error line\n")?;
                 false
             }
         };
-        flush_unless(is_followed, writer)?;
+        flush_unless(is_followed, writer, piece)?;
     }
     Err(RunError::Read)
 }
 
-// Flushes the replies, unless another line can be read without a wait.
-fn flush_unless<W: Write>(is_followed: bool, writer: &mut W) -> Result<(), Unwritten>
-    ensures { Keeps (W.contents writer.old) (W.contents writer.new) }
+// Writes and flushes the replies, unless another line can be read without a wait.
+fn flush_unless<W: Write>(
+    is_followed: bool,
+    writer: &mut W,
+    piece: &mut Piece,
+) -> Result<(), Unwritten>
+    ensures { Gathers (W.contents writer.old) (W.contents writer.new) piece.old piece.new result [] }
 {
     if is_followed {
         return Ok(());
     }
-    match writer.flush() {
-        Ok(()) => Ok(()),
-        Err(_) => Err(Unwritten),
-    }
+    write_out(writer, piece)?;
+    flush(writer)
 }
 
-// Serves one line: its reply is written as a line.
+// Serves one line: its reply is put as a line behind those that were gathered.
 fn serve_line<L: Log, W: Write>(
     alloc: Global,
     cache: &mut PageCache<L>,
     line: &[u8],
     writer: &mut W,
+    piece: &mut Piece,
 ) -> Result<(), RunError>
     requires { length line.now ≤ longest_line }
-    ensures { RepliesLine L.Log cache.old line.now (W.contents writer.old) (W.contents writer.new) result cache.new }
+    ensures { RepliesLine L.Log cache.old line.now (W.contents writer.old) (W.contents writer.new) piece.old piece.new result cache.new }
 {
-    match command_of(alloc, line)? {
-        None => write_text(writer, b"error line\n")?,
-        Some(Command::Call(call)) => serve_call(cache, call, writer)?,
-        Some(Command::OpenTree(name)) => serve_open(cache, name, writer)?,
+    // By cases, since a `?` would copy a call that is large.
+    match command_of(alloc, line) {
+        Ok(Some(Command::Call(call))) => serve_call(cache, call, writer, piece)?,
+        Ok(Some(Command::OpenTree(name))) => serve_open(cache, name, writer, piece)?,
+        Ok(None) => gather_text(writer, piece, b"error line\n")?,
+        Err(_) => return Err(RunError::Memory),
     }
     Ok(())
 }
 
-// Opens a tree, and writes the reply to that as a line.
+// Opens a tree, and puts the reply to that as a line behind those that were gathered.
 fn serve_open<L: Log, W: Write>(
     cache: &mut PageCache<L>,
     name: IVec,
     writer: &mut W,
+    piece: &mut Piece,
 ) -> Result<(), Unwritten>
-    ensures { RepliesToOpen L.Log cache.old name (W.contents writer.old) (W.contents writer.new) result cache.new }
+    ensures { RepliesToOpen L.Log cache.old name (W.contents writer.old) (W.contents writer.new) piece.old piece.new result cache.new }
 {
     let root = open_tree(cache, name);
-    write_tree(writer, &root)
+    gather_tree(writer, piece, &root)
 }
 
-// Makes a call, and writes the reply to its answer as a line. Each call is made in a function of its own: a function clears at
-// its start what all of its branches need.
+// Makes a call, and puts the reply to its answer as a line behind those that were gathered. Each call is made in a function of
+// its own: a function clears at its start what all of its branches need.
 fn serve_call<L: Log, W: Write>(
     cache: &mut PageCache<L>,
     call: Call,
     writer: &mut W,
+    piece: &mut Piece,
 ) -> Result<(), Unwritten>
     requires { IsOfScript call }
-    ensures { RepliesTo L.Log cache.old call (W.contents writer.old) (W.contents writer.new) result cache.new }
+    ensures { RepliesTo L.Log cache.old call (W.contents writer.old) (W.contents writer.new) piece.old piece.new result cache.new }
 {
     match call {
-        Call::Allocate(node) => serve_allocate(cache, node, writer),
-        Call::Get(pid) => serve_get(cache, pid, writer),
-        Call::Link(old, link) => serve_link(cache, old, link, writer),
-        Call::Replace(old, node) => serve_replace(cache, old, node, writer),
-        Call::Free(old) => serve_free(cache, old, writer),
+        Call::Allocate(node) => serve_allocate(cache, node, writer, piece),
+        Call::Get(pid) => serve_get(cache, pid, writer, piece),
+        Call::Link(old, link) => serve_link(cache, old, link, writer, piece),
+        Call::Replace(old, node) => serve_replace(cache, old, node, writer, piece),
+        Call::Free(old) => serve_free(cache, old, writer, piece),
         Call::GetMeta | Call::GetIdgen => unreachable!(),
-        Call::MetaPidForName(name) => serve_root(cache, name, writer),
-        Call::CasRoot(name, old, new) => serve_cas(cache, name, old, new, writer),
-        Call::GenerateId => serve_id(cache, writer),
-        Call::Flush => serve_flush(cache, writer),
-        Call::SizeOnDisk => serve_size(cache, writer),
+        Call::MetaPidForName(name) => serve_root(cache, name, writer, piece),
+        Call::CasRoot(name, old, new) => serve_cas(cache, name, old, new, writer, piece),
+        Call::GenerateId => serve_id(cache, writer, piece),
+        Call::Flush => serve_flush(cache, writer, piece),
+        Call::SizeOnDisk => serve_size(cache, writer, piece),
     }
 }
 
@@ -173,21 +199,23 @@ fn serve_allocate<L: Log, W: Write>(
     cache: &mut PageCache<L>,
     node: Node,
     writer: &mut W,
+    piece: &mut Piece,
 ) -> Result<(), Unwritten>
-    ensures { RepliesTo L.Log cache.old (calls.Allocate node) (W.contents writer.old) (W.contents writer.new) result cache.new }
+    ensures { RepliesTo L.Log cache.old (calls.Allocate node) (W.contents writer.old) (W.contents writer.new) piece.old piece.new result cache.new }
 {
     let answer = cache.allocate(node);
-    write_line(writer, LentAnswer::Allocated(&answer))
+    gather_line(writer, piece, LentAnswer::Allocated(&answer))
 }
 
 fn serve_get<L: Log, W: Write>(
     cache: &mut PageCache<L>,
     pid: PageId,
     writer: &mut W,
+    piece: &mut Piece,
 ) -> Result<(), Unwritten>
-    ensures { RepliesTo L.Log cache.old (calls.Get pid) (W.contents writer.old) (W.contents writer.new) result cache.new }
+    ensures { RepliesTo L.Log cache.old (calls.Get pid) (W.contents writer.old) (W.contents writer.new) piece.old piece.new result cache.new }
 {
-    write_line(writer, LentAnswer::Got(cache.get(pid)))
+    gather_line(writer, piece, LentAnswer::Got(cache.get(pid)))
 }
 
 fn serve_link<L: Log, W: Write>(
@@ -195,11 +223,12 @@ fn serve_link<L: Log, W: Write>(
     old: PageView,
     link: Link,
     writer: &mut W,
+    piece: &mut Piece,
 ) -> Result<(), Unwritten>
-    ensures { RepliesTo L.Log cache.old (calls.Link old link) (W.contents writer.old) (W.contents writer.new) result cache.new }
+    ensures { RepliesTo L.Log cache.old (calls.Link old link) (W.contents writer.old) (W.contents writer.new) piece.old piece.new result cache.new }
 {
     let answer = cache.link(old.pid(), old, link);
-    write_line(writer, LentAnswer::Linked(&answer))
+    gather_line(writer, piece, LentAnswer::Linked(&answer))
 }
 
 fn serve_replace<L: Log, W: Write>(
@@ -207,33 +236,36 @@ fn serve_replace<L: Log, W: Write>(
     old: PageView,
     node: Node,
     writer: &mut W,
+    piece: &mut Piece,
 ) -> Result<(), Unwritten>
-    ensures { RepliesTo L.Log cache.old (calls.Replace old node) (W.contents writer.old) (W.contents writer.new) result cache.new }
+    ensures { RepliesTo L.Log cache.old (calls.Replace old node) (W.contents writer.old) (W.contents writer.new) piece.old piece.new result cache.new }
 {
     let answer = cache.replace(old.pid(), old, node);
-    write_line(writer, LentAnswer::Replaced(&answer))
+    gather_line(writer, piece, LentAnswer::Replaced(&answer))
 }
 
 fn serve_free<L: Log, W: Write>(
     cache: &mut PageCache<L>,
     old: PageView,
     writer: &mut W,
+    piece: &mut Piece,
 ) -> Result<(), Unwritten>
-    ensures { RepliesTo L.Log cache.old (calls.Free old) (W.contents writer.old) (W.contents writer.new) result cache.new }
+    ensures { RepliesTo L.Log cache.old (calls.Free old) (W.contents writer.old) (W.contents writer.new) piece.old piece.new result cache.new }
 {
     let answer = cache.free(old.pid(), old);
-    write_line(writer, LentAnswer::Freed(&answer))
+    gather_line(writer, piece, LentAnswer::Freed(&answer))
 }
 
 fn serve_root<L: Log, W: Write>(
     cache: &mut PageCache<L>,
     name: IVec,
     writer: &mut W,
+    piece: &mut Piece,
 ) -> Result<(), Unwritten>
-    ensures { RepliesTo L.Log cache.old (calls.MetaPidForName name) (W.contents writer.old) (W.contents writer.new) result cache.new }
+    ensures { RepliesTo L.Log cache.old (calls.MetaPidForName name) (W.contents writer.old) (W.contents writer.new) piece.old piece.new result cache.new }
 {
     let answer = cache.meta_pid_for_name(name.as_slice());
-    write_line(writer, LentAnswer::FoundRoot(&answer))
+    gather_line(writer, piece, LentAnswer::FoundRoot(&answer))
 }
 
 fn serve_cas<L: Log, W: Write>(
@@ -242,30 +274,43 @@ fn serve_cas<L: Log, W: Write>(
     old: Option<PageId>,
     new: Option<PageId>,
     writer: &mut W,
+    piece: &mut Piece,
 ) -> Result<(), Unwritten>
-    ensures { RepliesTo L.Log cache.old (calls.CasRoot name old new) (W.contents writer.old) (W.contents writer.new) result cache.new }
+    ensures { RepliesTo L.Log cache.old (calls.CasRoot name old new) (W.contents writer.old) (W.contents writer.new) piece.old piece.new result cache.new }
 {
     let answer = cache.cas_root_in_meta(name.as_slice(), old, new);
-    write_line(writer, LentAnswer::RootSwapped(&answer))
+    gather_line(writer, piece, LentAnswer::RootSwapped(&answer))
 }
 
-fn serve_id<L: Log, W: Write>(cache: &mut PageCache<L>, writer: &mut W) -> Result<(), Unwritten>
-    ensures { RepliesTo L.Log cache.old calls.GenerateId (W.contents writer.old) (W.contents writer.new) result cache.new }
+fn serve_id<L: Log, W: Write>(
+    cache: &mut PageCache<L>,
+    writer: &mut W,
+    piece: &mut Piece,
+) -> Result<(), Unwritten>
+    ensures { RepliesTo L.Log cache.old calls.GenerateId (W.contents writer.old) (W.contents writer.new) piece.old piece.new result cache.new }
 {
     let answer = cache.generate_id_inner();
-    write_line(writer, LentAnswer::Generated(&answer))
+    gather_line(writer, piece, LentAnswer::Generated(&answer))
 }
 
-fn serve_flush<L: Log, W: Write>(cache: &mut PageCache<L>, writer: &mut W) -> Result<(), Unwritten>
-    ensures { RepliesTo L.Log cache.old calls.Flush (W.contents writer.old) (W.contents writer.new) result cache.new }
+fn serve_flush<L: Log, W: Write>(
+    cache: &mut PageCache<L>,
+    writer: &mut W,
+    piece: &mut Piece,
+) -> Result<(), Unwritten>
+    ensures { RepliesTo L.Log cache.old calls.Flush (W.contents writer.old) (W.contents writer.new) piece.old piece.new result cache.new }
 {
     let answer = cache.flush();
-    write_line(writer, LentAnswer::Flushed(&answer))
+    gather_line(writer, piece, LentAnswer::Flushed(&answer))
 }
 
-fn serve_size<L: Log, W: Write>(cache: &mut PageCache<L>, writer: &mut W) -> Result<(), Unwritten>
-    ensures { RepliesTo L.Log cache.old calls.SizeOnDisk (W.contents writer.old) (W.contents writer.new) result cache.new }
+fn serve_size<L: Log, W: Write>(
+    cache: &mut PageCache<L>,
+    writer: &mut W,
+    piece: &mut Piece,
+) -> Result<(), Unwritten>
+    ensures { RepliesTo L.Log cache.old calls.SizeOnDisk (W.contents writer.old) (W.contents writer.new) piece.old piece.new result cache.new }
 {
     let answer = cache.size_on_disk();
-    write_line(writer, LentAnswer::Sized(&answer))
+    gather_line(writer, piece, LentAnswer::Sized(&answer))
 }

@@ -1,87 +1,25 @@
-use Rattle.std.proofs.Common.{ap, Ok, Err, subst}
+-- The last replies are written, or where that fails a beginning of them.
 use Rattle.std.proofs.lemmas.Result.{err_from_is_err_and}
-use Rattle.sledpc.specs.declared.lines.ReadError.{ReadError}
-use Rattle.sledpc.specs.declared.script.run.RunError.TheVariants.{Write}
-use Rattle.sledpc.specs.Runs.{Serves}
-use Rattle.sledpc.specs.Served.{RepliesLine}
-use Rattle.sledpc.proofs.Answered.{SoFar, none_yet, gives_up, line_unread, ends_here, line_done, line_stops, unflushed, long_done, long_stops, long_unflushed, flushed}
+use Rattle.sledpc.proofs.Answered.{not_all_written}
 use Rattle.sledpc.proofs.script.run.run.Goals as goal
-use Rattle.sledpc.proofs.script.run.run.Goals.{in-Whole+in_ok-serve_line-in-Whole, in-TooLong+in_ok-write_text-in-TooLong}
 
-pub loop-init : goal.loop-init
-loop-init g c = none_yet g.L.Log c.args.cache.now (g.R.Read.remaining c.args.reader.now) (g.W.Write.contents c.args.writer.now) g.met.L.Log.only_now
-
--- the input was not read
-pub returns-in_err-read_line : goal.returns-in_err-read_line
-returns-in_err-read_line g c =
+pub returns-in_err-write_rest-in-Ok : goal.returns-in_err-write_rest-in-Ok
+returns-in_err-write_rest-in-Ok g c =
+    let contents = g.W.Write.contents in
     let told = err_from_is_err_and c.from_residual.result c.from_residual.ensures.1 in
-    rw (told.1, told.2) (line_unread g.L.Log c.args.cache.now c.loop.cache (g.R.Read.remaining c.args.reader.now) (g.R.Read.remaining c.loop.reader) (g.R.Read.remaining c.read_line.new.reader) (g.W.Write.contents c.args.writer.now) (g.W.Write.contents c.loop.writer) c.read_line.new.kept.items c.in_err-read_line.field-0.0 c.loop.invariant c.in_err-read_line.ensures.unread)
+    rw (told.1, told.2) (not_all_written g.L.Log c.args.cache.now c.serve_lines.new.cache (g.R.Read.remaining c.args.reader.now) (contents c.args.writer.now) (contents c.serve_lines.new.writer) (contents c.write_rest.new.writer) c.serve_lines.new.piece c.serve_lines.result
+    (λ e. let is = c.in-Ok.is in absurd cc) c.serve_lines.ensures c.in_err-write_rest-in-Ok.ensures.writes c.in_err-write_rest-in-Ok.ensures.some)
 
--- the input is at its end
-pub returns-in-End : goal.returns-in-End
-returns-in-End g c =
-    let read = g.R.Read.remaining in
+pub returns-in_err-write_rest-in-Err-Read : goal.returns-in_err-write_rest-in-Err-Read
+returns-in_err-write_rest-in-Err-Read g c =
     let contents = g.W.Write.contents in
-    let at = rw (c.in-End.is) at c.in_ok-read_line.ensures.reads in
-    ends_here g.L.Log ReadError c.args.cache.now c.loop.cache (read c.args.reader.now) (read c.loop.reader) (read c.read_line.new.reader) (contents c.args.writer.now) (contents c.loop.writer) c.read_line.new.kept.items c.loop.invariant at
+    let told = err_from_is_err_and c.from_residual-in_err-write_rest-in-Err-Read.result c.from_residual-in_err-write_rest-in-Err-Read.ensures.1 in
+    rw (told.1, told.2) (not_all_written g.L.Log c.args.cache.now c.serve_lines.new.cache (g.R.Read.remaining c.args.reader.now) (contents c.args.writer.now) (contents c.serve_lines.new.writer) (contents c.write_rest-in-Err-Read.new.writer) c.serve_lines.new.piece c.serve_lines.result
+    (λ e. let is = c.in-Err-Read.is in let kind = c.in-Err-Read.field-0-is in absurd cc) c.serve_lines.ensures c.in_err-write_rest-in-Err-Read.ensures.writes c.in_err-write_rest-in-Err-Read.ensures.some)
 
-pub serve_line-requires : goal.serve_line-requires
-serve_line-requires g c = rw c.deref.ensures.value (c.in_ok-read_line.ensures.whole c.in-Whole.is_followed (ap Ok c.in-Whole.is))
-
-pub returns-in_err-serve_line-in-Whole : goal.returns-in_err-serve_line-in-Whole
-returns-in_err-serve_line-in-Whole g c =
-    let read = g.R.Read.remaining in
+pub returns-in_err-write_rest-in-Err-Memory : goal.returns-in_err-write_rest-in-Err-Memory
+returns-in_err-write_rest-in-Err-Memory g c =
     let contents = g.W.Write.contents in
-    let at = rw (c.in-Whole.is) at c.in_ok-read_line.ensures.reads in
-    let replied = subst (λ line. RepliesLine g.L.Log c.loop.cache line (contents c.loop.writer) (contents c.serve_line.new.writer) (Err c.in_err-serve_line-in-Whole.field-0.0) c.serve_line.new.cache) c.deref.ensures.value c.in_err-serve_line-in-Whole.ensures in
-    let told = err_from_is_err_and c.from_residual-in_err-serve_line-in-Whole.result c.from_residual-in_err-serve_line-in-Whole.ensures.1 in
-    rw (told.1, told.2) (line_stops g.L.Log c.args.cache.now c.loop.cache c.serve_line.new.cache (read c.args.reader.now) (read c.loop.reader) (read c.read_line.new.reader) (contents c.args.writer.now) (contents c.loop.writer) (contents c.serve_line.new.writer) c.loop.invariant ReadError c.in-Whole.is_followed c.read_line.new.kept.items c.in_err-serve_line-in-Whole.field-0.0 at replied)
-
-pub returns-in_err-write_text-in-TooLong : goal.returns-in_err-write_text-in-TooLong
-returns-in_err-write_text-in-TooLong g c =
-    let read = g.R.Read.remaining in
-    let contents = g.W.Write.contents in
-    let at = rw (c.in-TooLong.is) at c.in_ok-read_line.ensures.reads in
-    let told = err_from_is_err_and c.from_residual-in_err-write_text-in-TooLong.result c.from_residual-in_err-write_text-in-TooLong.ensures.1 in
-    rw (told.1, told.2) (long_stops g.L.Log c.args.cache.now c.loop.cache (read c.args.reader.now) (read c.loop.reader) (read c.read_line.new.reader) (contents c.args.writer.now) (contents c.loop.writer) (contents c.write_text.new.writer) c.loop.invariant ReadError c.read_line.new.kept.items at c.in_err-write_text-in-TooLong.ensures)
-
--- the reply is written, whichever line it was, and not flushed
-pub returns-in_err-flush_unless : goal.returns-in_err-flush_unless
-returns-in_err-flush_unless g c =
-    let read = g.R.Read.remaining in
-    let contents = g.W.Write.contents in
-    let stopped : Serves g.L.Log c.args.cache.now (read c.args.reader.now) (contents c.args.writer.now) (contents c.flush_unless.new.writer) (Err Write) c.match-branch-2.cache =
-    elim c.match-branch-2.branch [
-      | in-Whole+in_ok-serve_line-in-Whole w ↦
-          let at = rw (w.in-Whole.is) at c.in_ok-read_line.ensures.reads in
-          let replied = rw (w.deref.ensures.value) at w.in_ok-serve_line-in-Whole.ensures in
-          let kept = rw (w.writer-is) at c.flush_unless.ensures in
-          rw (w.cache-is) (unflushed g.L.Log c.args.cache.now c.loop.cache w.serve_line.new.cache (read c.args.reader.now) (read c.loop.reader) (read c.read_line.new.reader) (contents c.args.writer.now) (contents c.loop.writer) (contents c.flush_unless.new.writer) c.loop.invariant ReadError w.in-Whole.is_followed c.read_line.new.kept.items (contents w.serve_line.new.writer) at replied kept)
-      | in-TooLong+in_ok-write_text-in-TooLong w ↦
-          let at = rw (w.in-TooLong.is) at c.in_ok-read_line.ensures.reads in
-          let kept = rw (w.writer-is) at c.flush_unless.ensures in
-          rw (w.cache-is) (long_unflushed g.L.Log c.args.cache.now c.loop.cache (read c.args.reader.now) (read c.loop.reader) (read c.read_line.new.reader) (contents c.args.writer.now) (contents c.loop.writer) (contents c.flush_unless.new.writer) c.loop.invariant ReadError c.read_line.new.kept.items at (contents w.write_text.new.writer) w.in_ok-write_text-in-TooLong.ensures kept)
-    ] in
-    let told = err_from_is_err_and c.from_residual-in_err-flush_unless.result c.from_residual-in_err-flush_unless.ensures.1 in
-    rw (told.1, told.2) stopped
-
-pub loop-preserved : goal.loop-preserved
-loop-preserved g c =
-    let read = g.R.Read.remaining in
-    let contents = g.W.Write.contents in
-    let so : SoFar g.L.Log c.args.cache.now (read c.args.reader.now) (read c.read_line.new.reader) (contents c.args.writer.now) (contents c.match-branch-2.writer) c.match-branch-2.cache =
-    elim c.match-branch-2.branch [
-      | in-Whole+in_ok-serve_line-in-Whole w ↦
-          let at = rw (w.in-Whole.is) at c.in_ok-read_line.ensures.reads in
-          let replied = rw (w.deref.ensures.value) at w.in_ok-serve_line-in-Whole.ensures in
-          rw (w.writer-is, w.cache-is) (line_done g.L.Log c.args.cache.now c.loop.cache w.serve_line.new.cache (read c.args.reader.now) (read c.loop.reader) (read c.read_line.new.reader) (contents c.args.writer.now) (contents c.loop.writer) (contents w.serve_line.new.writer) c.loop.invariant ReadError w.in-Whole.is_followed c.read_line.new.kept.items at replied)
-      | in-TooLong+in_ok-write_text-in-TooLong w ↦
-          let at = rw (w.in-TooLong.is) at c.in_ok-read_line.ensures.reads in
-          rw (w.writer-is, w.cache-is) (long_done g.L.Log c.args.cache.now c.loop.cache (read c.args.reader.now) (read c.loop.reader) (read c.read_line.new.reader) (contents c.args.writer.now) (contents c.loop.writer) (contents w.write_text.new.writer) c.loop.invariant ReadError c.read_line.new.kept.items at w.in_ok-write_text-in-TooLong.ensures)
-    ] in
-    flushed g.L.Log c.args.cache.now c.match-branch-2.cache (read c.args.reader.now) (read c.read_line.new.reader) (contents c.args.writer.now) (contents c.match-branch-2.writer) (contents c.flush_unless.new.writer) so c.flush_unless.ensures
-
--- the loop gives up
-pub returns : goal.returns
-returns g c =
-    gives_up g.L.Log c.args.cache.now c.loop.cache (g.R.Read.remaining c.args.reader.now) (g.R.Read.remaining c.loop.reader) (g.W.Write.contents c.args.writer.now) (g.W.Write.contents c.loop.writer) c.loop.invariant
+    let told = err_from_is_err_and c.from_residual-in_err-write_rest-in-Err-Memory.result c.from_residual-in_err-write_rest-in-Err-Memory.ensures.1 in
+    rw (told.1, told.2) (not_all_written g.L.Log c.args.cache.now c.serve_lines.new.cache (g.R.Read.remaining c.args.reader.now) (contents c.args.writer.now) (contents c.serve_lines.new.writer) (contents c.write_rest-in-Err-Memory.new.writer) c.serve_lines.new.piece c.serve_lines.result
+    (λ e. let is = c.in-Err-Memory.is in let kind = c.in-Err-Memory.field-0-is in absurd cc) c.serve_lines.ensures c.in_err-write_rest-in-Err-Memory.ensures.writes c.in_err-write_rest-in-Err-Memory.ensures.some)

@@ -5,5 +5,5 @@ pub returns : goal.returns
 returns g c = record {
   answer = Freed c.free-answer.result;
   made = record { step = c.free-answer.ensures.step; bytes = tt; faults = c.free-answer.ensures.blame; covered = tt };
-  written = c.write_line.ensures;
+  written = c.gather_line.ensures;
 }

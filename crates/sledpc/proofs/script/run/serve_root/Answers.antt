@@ -5,5 +5,5 @@ pub returns : goal.returns
 returns g c = record {
   answer = FoundRoot c.meta_pid_for_name-answer.result;
   made = record { step = rw (← c.as_slice.ensures) c.meta_pid_for_name-answer.ensures.step; bytes = tt; faults = tt; covered = tt };
-  written = c.write_line.ensures;
+  written = c.gather_line.ensures;
 }

@@ -7,5 +7,5 @@ returns g c = let sized = c.size_on_disk-answer.ensures in
     record {
       answer = Sized c.size_on_disk-answer.result;
       made = record { step = sized.step; bytes = size_tells g.L.Log c.args.cache.now c.size_on_disk-answer.result sized.size; faults = tt; covered = tt };
-      written = c.write_line.ensures;
+      written = c.gather_line.ensures;
     }

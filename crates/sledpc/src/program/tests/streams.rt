@@ -1,0 +1,218 @@
+// Readers that give a piece at a time, and writers that refuse: when replies are flushed, and how many are written.
+
+use super::*;
+
+/// A stream that gives a piece at each read, as a pipe does, and fails behind the last where it is broken.
+#[derive(Drop)]
+struct Pieces<'a> {
+    left: &'a [&'a str],
+    is_broken: bool,
+}
+
+impl Read for Pieces<'_> {
+    fn read(&mut self, buf: &mut [u8]) -> io::Result<usize> {
+        let [piece, rest @ ..] = self.left else {
+            if self.is_broken {
+                return Err(io::Error::from(ErrorKind::BrokenPipe));
+            }
+            return Ok(0);
+        };
+        let bytes = piece.as_bytes();
+        if buf.len() < bytes.len() {
+            return Err(io::Error::from(ErrorKind::BrokenPipe));
+        }
+        buf[..bytes.len()].copy_from_slice(bytes);
+        self.left = rest;
+        Ok(bytes.len())
+    }
+}
+
+/// A stream that keeps what is written, with a bar wherever it is flushed, and refuses more than it has room for.
+#[derive(Drop)]
+struct Barred {
+    got: Vec<u8>,
+    room: usize,
+}
+
+impl Write for Barred {
+    fn write(&mut self, buf: &[u8]) -> io::Result<usize> {
+        if self.got.len() >= self.room {
+            return Err(io::Error::from(ErrorKind::BrokenPipe));
+        }
+        let count = buf.len().min(self.room - self.got.len());
+        self.got.extend_from_slice(&buf[..count])?;
+        Ok(count)
+    }
+
+    fn flush(&mut self) -> io::Result<()> {
+        if self.got.len() >= self.room {
+            return Err(io::Error::from(ErrorKind::BrokenPipe));
+        }
+        self.got.push(b'|')?;
+        Ok(())
+    }
+}
+
+// Whether a script is replied to so, and flushed where bars stand, by a writer with so much room. Where it has too little it
+// takes just what it has room for, and that is reported.
+fn is_taken<R: Read>(
+    alloc: Global,
+    input: &mut R,
+    room: usize,
+    want: &[u8],
+) -> Result<bool, AllocError> {
+    let mut output = Barred {
+        got: Vec::new(alloc),
+        room,
+    };
+    let is_short = room < want.len();
+    let (status, fault) = if is_short {
+        (1, "sledpc: error write\n")
+    } else {
+        (0, "")
+    };
+    let ends = ends_so(alloc, input, &mut output, status, fault)?;
+    Ok(ends && output.got.as_slice() == &want[..room.min(want.len())])
+}
+
+// Whether a script that is given in these pieces is replied to so, and flushed where bars stand.
+fn flushes_so(alloc: Global, pieces: &[&str], want: &str) -> Result<bool, AllocError> {
+    let mut input = Pieces {
+        left: pieces,
+        is_broken: false,
+    };
+    is_taken(alloc, &mut input, 999, want.as_bytes())
+}
+
+// Whether a script that is given in these pieces, and can't be read behind them, is replied to so, and flushed where bars
+// stand.
+fn flushes_so_before_failing(
+    alloc: Global,
+    pieces: &[&str],
+    want: &str,
+) -> Result<bool, AllocError> {
+    let mut input = Pieces {
+        left: pieces,
+        is_broken: true,
+    };
+    let mut output = Barred {
+        got: Vec::new(alloc),
+        room: 999,
+    };
+    let ends = ends_so(alloc, &mut input, &mut output, 1, "sledpc: error read\n")?;
+    Ok(ends && output.got.as_slice() == want.as_bytes())
+}
+
+// Whether a line of so many digits and more, and those around it, are replied to so, and flushed where bars stand.
+fn flushes_around(alloc: Global, digits: usize, want: &str) -> Result<bool, AllocError> {
+    let mut script = Vec::from_slice(alloc, b"get 9\nset 9 10 61 ")?;
+    for _ in 0..digits {
+        script.push(b'0')?;
+    }
+    script.extend_from_slice(b"\nget 9\n")?;
+    is_taken(alloc, &mut script.as_slice(), 999, want.as_bytes())
+}
+
+/// What a large leaf is replied to, of which a writer may have room for a part.
+const PAIRS: u16 = 1_000;
+
+// Puts a pair for each number below 1,000 behind the text.
+fn put_pairs(text: &mut Vec<u8>) -> Result<(), AllocError> {
+    let digits = b"0123456789abcdef";
+    for number in 0..PAIRS {
+        text.extend_from_slice(b" 0")?;
+        text.push(digits[(number / 256) as usize])?;
+        text.push(digits[(number / 16 % 16) as usize])?;
+        text.push(digits[(number % 16) as usize])?;
+        text.extend_from_slice(b"=76")?;
+    }
+    Ok(())
+}
+
+// Whether a leaf of 1,000 pairs is replied to twice and then flushed, by a writer with so much room.
+fn takes_large(alloc: Global, room: usize) -> Result<bool, AllocError> {
+    let mut script = Vec::from_slice(alloc, b"alloc")?;
+    put_pairs(&mut script)?;
+    script.extend_from_slice(b"\nget 2\nget 2\n")?;
+    let mut want = Vec::from_slice(alloc, b"page 2 1\nleaf 1")?;
+    put_pairs(&mut want)?;
+    want.extend_from_slice(b"\nleaf 1")?;
+    put_pairs(&mut want)?;
+    want.extend_from_slice(b"\n|")?;
+    is_taken(alloc, &mut script.as_slice(), room, &want)
+}
+
+#[test]
+fn replies_go_out_before_a_read_that_may_wait(rt: HostRuntime) -> Result<(), Fail> {
+    let together: &[&str] = &["alloc\nget 2\n"];
+    for (pieces, want) in [
+        (together, "page 2 1\nleaf 1\n|"),
+        (
+            &["alloc\n", "get 2\n", "get 3\n"],
+            "page 2 1\n|leaf 1\n|none\n|",
+        ),
+        (
+            &["alloc\nge", "t 2\nget", " 3\n"],
+            "page 2 1\n|leaf 1\n|none\n|",
+        ),
+        (&["alloc\nget 2\nget", " 3"], "page 2 1\nleaf 1\n|none\n|"),
+        (&["a", "l", "l", "o", "c", "\n"], "page 2 1\n|"),
+        (&["x"], "error line\n|"),
+        (&["\n\n", "\n"], "error line\nerror line\n|error line\n|"),
+        (&[], ""),
+    ] {
+        assert!(rt; flushes_so(rt.alloc(), pieces, want)?, "at {want}");
+    }
+    // A line within what is buffered at once, one beyond it, one of 65,536 bytes, and one that is too long.
+    for (digits, want) in [
+        (8_000, "none\ngone\nnone\n|"),
+        (9_000, "none\n|gone\nnone\n|"),
+        (65_524, "none\n|gone\nnone\n|"),
+        (65_526, "none\n|error line\n|none\n|"),
+    ] {
+        assert!(rt;
+            flushes_around(rt.alloc(), digits, want)?,
+            "with {digits} digits"
+        );
+    }
+    Ok(())
+}
+
+#[test]
+fn replies_go_out_before_a_reader_that_fails(rt: HostRuntime) -> Result<(), Fail> {
+    let nothing: &[&str] = &[];
+    for (pieces, want) in [
+        (nothing, ""),
+        (&["get"], ""),
+        (&["alloc\n"], "page 2 1\n|"),
+        (&["alloc\nget 2\nget"], "page 2 1\nleaf 1\n|"),
+    ] {
+        assert!(rt;
+            flushes_so_before_failing(rt.alloc(), pieces, want)?,
+            "at {want}"
+        );
+    }
+    Ok(())
+}
+
+#[test]
+fn a_writer_may_refuse_at_each_place(rt: HostRuntime) -> Result<(), Fail> {
+    let want = "page 2 1\n|leaf 1\nerror line\n|none\n|";
+    for room in 0..40 {
+        let mut input = Pieces {
+            left: &["alloc\n", "get 2\n\nget", " 3"],
+            is_broken: false,
+        };
+        assert!(rt;
+            is_taken(rt.alloc(), &mut input, room, want.as_bytes())?,
+            "with room for {room} bytes"
+        );
+    }
+    for room in [0, 4_095, 4_096, 4_097, 8_191, 8_192, 8_193, 16_023, 16_024] {
+        assert!(rt;
+            takes_large(rt.alloc(), room)?,
+            "with room for {room} bytes"
+        );
+    }
+    Ok(())
+}
