@@ -6,18 +6,33 @@ use super::*;
 const COUNTS: &[u32] = &[0, 1, 2, 3, 16, 17, 1_000];
 
 // What stands at the end of each key, and as each value: nothing, or more than is kept in place.
-const TAILS: &[&[u8]] = &[b"", b"xxxxxxxxxxxxxxxxxxxxxxxxxxxxxx"];
+const NOTHING: &[u8] = b"";
 
-// Above so many bytes a payload is a blob: all payloads but those of no byte, or none.
-const BLOB_LIMITS: &[usize] = &[0, usize::MAX];
+const LONG: &[u8] = b"xxxxxxxxxxxxxxxxxxxxxxxxxxxxxx";
 
-// Ranges of keys, each with the length of the prefix.
-const RANGES: &[(u8, &[u8], &[u8])] = &[(0, b"", b""), (1, b"ba", b"bz")];
+// A range of keys, with the length of the prefix.
+type Range = (u8, &'static [u8], &'static [u8]);
+
+const WHOLE: Range = (0, b"", b"");
+
+const PREFIXED: Range = (1, b"ba", b"bz");
+
+// Each range with each tail, and with a limit above which a payload is a blob: all payloads but those of no byte, or none.
+const KINDS: &[(Range, &[u8], usize)] = &[
+    (WHOLE, NOTHING, 0),
+    (WHOLE, NOTHING, usize::MAX),
+    (WHOLE, LONG, 0),
+    (WHOLE, LONG, usize::MAX),
+    (PREFIXED, NOTHING, 0),
+    (PREFIXED, NOTHING, usize::MAX),
+    (PREFIXED, LONG, 0),
+    (PREFIXED, LONG, usize::MAX),
+];
 
 #[derive(Clone, Copy)]
 struct Shape {
     is_index: bool,
-    range: (u8, &'static [u8], &'static [u8]),
+    range: Range,
     tail: &'static [u8],
     blob_limit: usize,
     count: u32,
@@ -279,20 +294,16 @@ fn is_held(alloc: Global, shape: &Shape) -> Result<bool, Fail> {
 }
 
 fn are_held(alloc: Global, is_index: bool, count: u32) -> Result<bool, Fail> {
-    for range in RANGES {
-        for tail in TAILS {
-            for blob_limit in BLOB_LIMITS {
-                let shape = Shape {
-                    is_index,
-                    range: *range,
-                    tail: *tail,
-                    blob_limit: *blob_limit,
-                    count,
-                };
-                if !is_held(alloc, &shape)? {
-                    return Ok(false);
-                }
-            }
+    for (range, tail, blob_limit) in KINDS {
+        let shape = Shape {
+            is_index,
+            range: *range,
+            tail: *tail,
+            blob_limit: *blob_limit,
+            count,
+        };
+        if !is_held(alloc, &shape)? {
+            return Ok(false);
         }
     }
     Ok(true)
