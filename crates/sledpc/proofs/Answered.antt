@@ -1,6 +1,6 @@
 -- The lines that were answered so far.
 use Rattle.std.proofs.Common.{Bool, length-append, true, ◌≡◌, ◌≢◌, ◌≤◌, inl, inr, List, [], ◌∷◌, ◌++◌, length, Option, None, Some, Result, Ok, Err, refl, sym, ap, subst, ◌∙◌, arith, append_assoc, append-nil}
-use Rattle.std.specs.Prelude.{codes, flat_map, ℕ, ⊤}
+use Rattle.std.specs.Prelude.{codes, ℕ, ⊤}
 use Rattle.std.specs.List.{AllZip}
 use Rattle.sled_base.specs.Order.{Bytes}
 use Rattle.sled_base.specs.declared.types.Error.{Error}

@@ -36,12 +36,10 @@ pub fn command_of(alloc: Global, line: &[u8]) -> Result<Option<Command>, AllocEr
     if name == b"open".as_slice() {
         return open_of(alloc, arguments);
     }
-    // By cases, since a `?` would copy a call that is large.
-    match call_of(alloc, line) {
-        Ok(Some(call)) => Ok(Some(Command::Call(call))),
-        Ok(None) => Ok(None),
-        Err(error) => Err(error),
-    }
+    let Some(call) = call_of(alloc, line)? else {
+        return Ok(None);
+    };
+    Ok(Some(Command::Call(call)))
 }
 
 // `open NAME`
@@ -55,8 +53,8 @@ fn open_of(alloc: Global, arguments: Option<&[u8]>) -> Result<Option<Command>, A
     Ok(Some(Command::OpenTree(name)))
 }
 
-// The call that a line asks for, or none where it asks for none.
-fn call_of(alloc: Global, line: &[u8]) -> Result<Option<Call>, AllocError>
+/// The call that a line asks for, or none where it asks for none.
+pub fn call_of(alloc: Global, line: &[u8]) -> Result<Option<Call>, AllocError>
     requires { length line.now ≤ longest_line }
     ensures some { IfOk result (λ found. IfSome found (Encodes line.now)) }
     ensures none { IfOk result (λ found. IfNone found ((call : Call) → ¬ Encodes line.now call)) }

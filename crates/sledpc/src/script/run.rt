@@ -9,13 +9,13 @@ ghost use Rattle.sledpc.specs.Settings.{longest_line};
 ghost use Rattle.sled_pagecache.specs.declared.pagecache.call.Call.{Call};
 ghost use Rattle.sled_pagecache.specs.declared.pagecache.call.Call.TheVariants as calls;
 
-use super::command::{Command, command_of};
+use super::command::{Command, call_of, command_of};
 use super::reply::{LentAnswer, gather_line, gather_tree};
 use crate::lines::{Line, ReadError, read_line};
 use crate::output::{Unwritten, flush, gather_text, write_out, write_rest};
 use crate::piece::Piece;
 use sled_pagecache::{Call, IVec, Link, Log, Node, PageCache, PageId, PageView, open_tree};
-use std::alloc::Global;
+use std::alloc::{AllocError, Global};
 use std::io::{BufRead, Write};
 use thiserror::Error;
 
@@ -41,6 +41,16 @@ impl From<ReadError> for RunError {
             ReadError::Read => RunError::Read,
             ReadError::Memory => RunError::Memory,
         }
+    }
+}
+
+impl From<AllocError> for RunError {
+    ghost use Rattle.sledpc.specs.declared.script.run.RunError.TheVariants.{Memory};
+
+    ghost from_gives = { λ _ r. r ≡ Memory };
+
+    fn from(_error: AllocError) -> RunError {
+        RunError::Memory
     }
 }
 
@@ -135,7 +145,8 @@ fn flush_unless<W: Write>(
     flush(writer)
 }
 
-// Serves one line: its reply is put as a line behind those that were gathered.
+// Serves one line: its reply is put as a line behind those that were gathered. A call is served as it was read, since a command that
+// holds it would be one more copy of all that it holds.
 fn serve_line<L: Log, W: Write>(
     alloc: Global,
     cache: &mut PageCache<L>,
@@ -146,12 +157,31 @@ fn serve_line<L: Log, W: Write>(
     requires { length line.now ≤ longest_line }
     ensures { RepliesLine L.Log cache.old line.now (W.contents writer.old) (W.contents writer.new) piece.old piece.new result cache.new }
 {
-    // By cases, since a `?` would copy a call that is large.
-    match command_of(alloc, line) {
-        Ok(Some(Command::Call(call))) => serve_call(cache, call, writer, piece)?,
-        Ok(Some(Command::OpenTree(name))) => serve_open(cache, name, writer, piece)?,
-        Ok(None) => gather_text(writer, piece, b"error line\n")?,
-        Err(_) => return Err(RunError::Memory),
+    match call_of(alloc, line) {
+        Ok(Some(call)) => {
+            serve_call(cache, call, writer, piece)?;
+            Ok(())
+        }
+        Ok(None) => serve_command(alloc, cache, line, writer, piece),
+        Err(_) => Err(RunError::Memory),
+    }
+}
+
+// Serves one line, whatever command it is, or none.
+fn serve_command<L: Log, W: Write>(
+    alloc: Global,
+    cache: &mut PageCache<L>,
+    line: &[u8],
+    writer: &mut W,
+    piece: &mut Piece,
+) -> Result<(), RunError>
+    requires { length line.now ≤ longest_line }
+    ensures { RepliesLine L.Log cache.old line.now (W.contents writer.old) (W.contents writer.new) piece.old piece.new result cache.new }
+{
+    match command_of(alloc, line)? {
+        None => gather_text(writer, piece, b"error line\n")?,
+        Some(Command::Call(call)) => serve_call(cache, call, writer, piece)?,
+        Some(Command::OpenTree(name)) => serve_open(cache, name, writer, piece)?,
     }
     Ok(())
 }

@@ -1,5 +1,5 @@
 -- Each turn gathers the digits of some bytes.
-use Rattle.std.proofs.Common.{◌≡◌, [], ◌++◌, take, take-append-drop, sym, ap, subst, ◌∙◌, append_assoc, refl, length, length-take-le, arith}
+use Rattle.std.proofs.Common.{◌≡◌, [], ◌++◌, take, take-append-drop, sym, ap, subst, ◌∙◌, append_assoc, refl, arith}
 use Rattle.sledpc.specs.Output.{Gathered}
 use Rattle.sledpc.specs.Words.{hex}
 use Rattle.sledpc.proofs.Gathered.{gathered_put, gathered_more, gathers_more, gathers_stops}

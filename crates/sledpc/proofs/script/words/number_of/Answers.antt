@@ -1,5 +1,5 @@
 -- Each turn reads a digit, and no number is written otherwise.
-use Rattle.std.proofs.Common.{◌≡◌, true, ◌<◌, length, take, subst, sym, ap, ◌∙◌, take_all, arith}
+use Rattle.std.proofs.Common.{◌≡◌, true, ◌<◌, length, take, subst, ap, ◌∙◌, take_all, arith}
 use Rattle.std.proofs.lemmas.Bool.Decides.{nat_tests}
 use Rattle.std.proofs.lemmas.Fmt.{decimal_nonempty}
 use Rattle.std.proofs.lemmas.Int.Digits.{digits_more}
