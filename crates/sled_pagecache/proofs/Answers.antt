@@ -5,7 +5,7 @@ use Rattle.sled_pagecache.proofs.Lookups.{map-at, set-at}
 use Rattle.sled_pagecache.specs.Answers.{is_write_fault}
 use Rattle.sled_pagecache.specs.StickyLog.{is_write_fault as met_fault}
 
-fault-same : (T U : Type 0) (refusal : Refusal) → (let err : Result T Refusal = Err refusal in met_fault err) ≡ (let answer : Result U Error = Err (error_of refusal) in is_write_fault answer)
+pub fault-same : (T U : Type 0) (refusal : Refusal) → (let err : Result T Refusal = Err refusal in met_fault err) ≡ (let answer : Result U Error = Err (error_of refusal) in is_write_fault answer)
 fault-same T U (Io Read) = refl
 fault-same T U (Io Write) = refl
 fault-same T U refusal = refl
@@ -13,12 +13,13 @@ fault-same T U refusal = refl
 module _ {L T : Type 0} (old new : Cache L) (stamps : T → List ℕ) where
   -- with a write fault kept
   pub keeps-stuck : old.fault ≡ true → new ≡ old → Keeps old new (Err (errors.Io Write)) stamps
-  keeps-stuck kept same = rw same (record { fault = rw kept refl; stuck = λ _. (refl, refl); done = tt; refused = refl })
+  keeps-stuck kept same = rw same (record { batch = refl; fault = rw kept refl; stuck = λ _. (refl, refl); done = tt; refused = refl })
 
   -- refused by what a log, or the cache, answers
-  pub keeps-err : (U : Type 0) (refusal : Refusal) → old.fault ≡ false → (let err : Result U Refusal = Err refusal in new.fault ≡ met_fault err) → new.stamps ≡ old.stamps
+  pub keeps-err : (U : Type 0) (refusal : Refusal) → old.fault ≡ false → (let err : Result U Refusal = Err refusal in new.fault ≡ met_fault err) → new.stamps ≡ old.stamps → new.batch ≡ old.batch
       → Keeps old new (Err (error_of refusal)) stamps
-  keeps-err U refusal ready fault same = record {
+  keeps-err U refusal ready fault same batch = record {
+    batch = batch;
     fault = rw ready (fault ∙ fault-same U T refusal);
     stuck = λ kept. absurd (false≢true (sym ready ∙ kept));
     done = tt;
@@ -26,8 +27,9 @@ module _ {L T : Type 0} (old new : Cache L) (stamps : T → List ℕ) where
   }
 
   -- done
-  pub keeps-ok : (answer : T) → old.fault ≡ false → new.fault ≡ false → new.stamps ≡ stamps answer → Keeps old new (Ok answer) stamps
-  keeps-ok answer ready fault same = record {
+  pub keeps-ok : (answer : T) → old.fault ≡ false → new.fault ≡ false → new.stamps ≡ stamps answer → new.batch ≡ old.batch → Keeps old new (Ok answer) stamps
+  keeps-ok answer ready fault same batch = record {
+    batch = batch;
     fault = rw ready fault;
     stuck = λ kept. absurd (false≢true (sym ready ∙ kept));
     done = same;

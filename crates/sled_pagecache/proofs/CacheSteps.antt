@@ -33,6 +33,19 @@ module _ {L : Type 0} (g : Ghosts L) where
   }
 
   -- What a call leads to, where it told its log these messages: they are its changes.
+  pub record Leads (old new : Cache L) (held : Logged) (s : State) (call : Call) (answer : Answer) (messages : List (Event Message)) : Type 0 where
+    pub out : Outcome
+    pub step : StepOver g old s call answer out
+    pub told : AreEvents (now held) messages out.changes
+    pub stays : StayProper (log.now effect_of (log.unplaced_state (g.state old.log))) (now held) messages out.changes
+    pub stamps : stamps_of out.state ≡ new.stamps
+    pub next : out.state.next ≡ new.next
+    pub fault : out.state.fault ≡ new.fault
+    pub batch : out.state.batch ≡ new.batch
+    pub marks : new.fault ≡ false → open_after s.batch out.changes ≡ out.state.batch
+    pub contents : new.fault ≡ false → contents_of out.state ≡ contents_after (now held) out.changes
+
+  -- the same of a call that leaves a batch open or closed, as it was
   pub record LeadsTo (old new : Cache L) (held : Logged) (s : State) (call : Call) (answer : Answer) (messages : List (Event Message)) : Type 0 where
     pub out : Outcome
     pub step : StepOver g old s call answer out
@@ -45,6 +58,21 @@ module _ {L : Type 0} (g : Ghosts L) where
     pub marks : open_after s.batch out.changes ≡ s.batch
     pub contents : new.fault ≡ false → contents_of out.state ≡ contents_after (now held) out.changes
 
+  leads : (old new : Cache L) (held : Logged) (s : State) (call : Call) (answer : Answer) (messages : List (Event Message)) → s.batch ≡ new.batch
+      → LeadsTo old new held s call answer messages → Leads old new held s call answer messages
+  leads old new held s call answer messages same way = record {
+    out = way.out;
+    step = way.step;
+    told = way.told;
+    stays = way.stays;
+    stamps = way.stamps;
+    next = way.next;
+    fault = way.fault;
+    batch = way.batch ∙ same;
+    marks = λ _. way.marks ∙ sym way.batch;
+    contents = way.contents;
+  }
+
   -- no message stays proper where the cache is in a state
   pub stays-none : (cache : Cache L) (held : Logged) (s : State) → IsIn g cache held s → s.fault ≡ false → StayProper (log.now effect_of (log.unplaced_state (g.state cache.log))) (now held) [] []
   stays-none cache held s is clear = stay-none (log.now effect_of (log.unplaced_state (g.state cache.log))) (now held) (proper-now (log.unplaced_state (g.state cache.log)) held (is.known clear).logged)
@@ -52,7 +80,7 @@ module _ {L : Type 0} (g : Ghosts L) where
   module _ (old new : Cache L) (before after : StickyLog L) (call : Call) (answer : Answer) (messages : List (Event Message))
       (old_log : old.log ≡ before.log) (new_log : new.log ≡ after.log) (new_fault : new.fault ≡ after.fault) (ready : old.fault ≡ false)
       (went : Went g.tells g.state g.moment g.left_since g.counts before after messages)
-      (held : Logged) (s : State) (is : IsIn g old held s) (way : LeadsTo old new held s call answer messages) where
+      (held : Logged) (s : State) (is : IsIn g old held s) (way : Leads old new held s call answer messages) where
     logged : IsLogged (log.unplaced_state (g.state before.log)) held
     logged = subst (λ l. IsLogged (log.unplaced_state (g.state l)) held) old_log (is.known (is.fault ∙ ready)).logged
 
@@ -68,14 +96,12 @@ module _ {L : Type 0} (g : Ghosts L) where
     -- what the log holds then; behind a write error nothing is known of it
     record Ends : Type 0 where
       held_then : Logged
-      batch : way.out.state.batch ≡ is_open held_then.pending
       known : way.out.state.fault ≡ false → KnowsLog g new held_then way.out.state
       added : way.out.state.fault ≡ false → Adds held way.out.changes held_then
 
     by : (fault : Bool) → new.fault ≡ fault → Ends
     by true kept = record {
       held_then = held;
-      batch = way.batch ∙ is.batch;
       known = λ no. absurd (false≢true (sym no ∙ way.fault ∙ kept));
       added = λ no. absurd (false≢true (sym no ∙ way.fault ∙ kept));
     }
@@ -83,11 +109,11 @@ module _ {L : Type 0} (g : Ghosts L) where
         let carried = carries g.tells g.state g.moment g.left_since g.counts before after held messages way.out.changes logged way.told stays went is.tells (sym new_fault ∙ free) in
         record {
           held_then = carried.held_then;
-          batch = way.batch ∙ sym way.marks ∙ ap (λ b. open_after b way.out.changes) is.batch ∙ sym (open-added held carried.held_then way.out.changes carried.added);
           known = λ _. record {
             usable = subst (λ l. (g.state l).usable ≡ true) (sym new_log) (went.usable (sym new_fault ∙ free));
             logged = subst (λ l. IsLogged (log.unplaced_state (g.state l)) carried.held_then) (sym new_log) carried.logged;
             contents = way.contents free ∙ sym carried.now_is;
+            opened = sym (way.marks free) ∙ ap (λ b. open_after b way.out.changes) (is.known (is.fault ∙ ready)).opened ∙ sym (open-added held carried.held_then way.out.changes carried.added);
           };
           added = λ _. carried.added;
         }
@@ -99,19 +125,29 @@ module _ {L : Type 0} (g : Ghosts L) where
           out = way.out;
           step = way.step;
           held_then = ends.held_then;
-          is = record { tells = is.tells; stamps = way.stamps; next = way.next; fault = way.fault; batch = ends.batch; known = ends.known };
+          is = record { tells = is.tells; stamps = way.stamps; next = way.next; fault = way.fault; batch = way.batch; known = ends.known };
           added = ends.added;
           stop = λ _. stop;
           stuck = λ kept. absurd (false≢true (sym (is.fault ∙ ready) ∙ kept));
         }
 
-  -- without a write fault before it, a call is a step
-  pub steps-went : (old new : Cache L) (before after : StickyLog L) (call : Call) (answer : Answer) (messages : List (Event Message))
+  -- without a write fault before it, a call is a step, also one that opens a batch or closes it
+  pub steps-marked : (old new : Cache L) (before after : StickyLog L) (call : Call) (answer : Answer) (messages : List (Event Message))
       → IsSameOpening old new → old.log ≡ before.log → new.log ≡ after.log → new.fault ≡ after.fault → old.fault ≡ false
       → Went g.tells g.state g.moment g.left_since g.counts before after messages
-      → ((held : Logged) (s : State) → IsIn g old held s → s.fault ≡ false → LeadsTo old new held s call answer messages)
+      → ((held : Logged) (s : State) → IsIn g old held s → s.fault ≡ false → Leads old new held s call answer messages)
       → Steps g old call answer new
-  steps-went old new before after call answer messages same old_log new_log new_fault ready went leads = record {
+  steps-marked old new before after call answer messages same old_log new_log new_fault ready went leads = record {
     opening = same;
     from_each = λ held s is. from old new before after call answer messages old_log new_log new_fault ready went held s is (leads held s is (is.fault ∙ ready));
   }
+
+  -- one that leaves a batch open or closed, as it was
+  pub steps-went : (old new : Cache L) (before after : StickyLog L) (call : Call) (answer : Answer) (messages : List (Event Message))
+      → IsSameOpening old new → ◌≡◌ {A = L × Bool} (old.log, old.batch) (before.log, before.batch) → new.log ≡ after.log → ◌≡◌ {A = Bool × Bool} (new.fault, new.batch) (after.fault, after.batch) → old.fault ≡ false
+      → Went g.tells g.state g.moment g.left_since g.counts before after messages
+      → ((held : Logged) (s : State) → IsIn g old held s → s.fault ≡ false → LeadsTo old new held s call answer messages)
+      → Steps g old call answer new
+  steps-went old new before after call answer messages same old_is new_log new_is ready went way =
+      steps-marked old new before after call answer messages same (ap (λ p. p.0) old_is) new_log (ap (λ p. p.0) new_is) ready went
+      (λ held s is clear. leads old new held s call answer messages (is.batch ∙ ap (λ p. p.1) old_is ∙ sym went.batch ∙ sym (ap (λ p. p.1) new_is)) (way held s is clear))

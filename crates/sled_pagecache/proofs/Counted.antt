@@ -1,5 +1,5 @@
 -- The counter of generated ids stays durable as far as the next id needs it.
-use Rattle.sled_pagecache.proofs.Names.{AllByRecursion, AllZip-long, AreEvents, AreFound, IsFoundAt, Makes, map, length-map, eqb-false, nat_lt, inl, inr, ◌⊎◌, Bool, Chain, Change, Config, Content, Counter, Err, Event, Ghosts, Holds, HoldsChain, Io, IsConsistent, IsKept, IsLogged, IsPagedOut, Kept, Link, List, Logged, Message, Messages, None, Option, Page, Put, Read, Refusal, Result, Some, StickyLog, Update, Went, Write, [], after_link, ap, arith, begun_by, cond, contents_after, contents_from, drop, effect_of_entry, eqb-true, fault_of, false, get_or-map, holds-made, length, next_id, none-some, paged_out, refl, same_Some, slice_get, slice_get-get_or, slice_get_within, slice_index_or, slice_set, suc, sym, subst, true, unplaced, unplaced_events, unplaced_state, zero, ℕ, ⊎_elim, ◌*◌, ◌++◌, ◌+◌, ◌/◌, ◌<◌, ◌==◌, ◌∙◌, ◌∷◌, ◌≡◌, true≢false, ◌≢◌, ◌≤◌, Free, Seal, Pin, Cancel}
+use Rattle.sled_pagecache.proofs.Names.{AllByRecursion, AllZip-long, AreEvents, AreFound, IsFoundAt, Makes, map, length-map, eqb-false, nat_lt, inl, inr, ◌⊎◌, Bool, Chain, Change, Config, Content, Counter, Err, Event, Ghosts, Holds, HoldsChain, Io, IsConsistent, IsKept, IsLogged, IsPagedOut, Kept, Link, List, Logged, Message, Messages, None, Option, Page, Put, Read, Refusal, Result, Some, StickyLog, Update, Went, Write, [], after_link, ap, arith, begun_by, cond, contents_after, contents_from, drop, effect_of, effect_of_entry, eqb-true, fault_of, false, get_or-map, holds-made, length, next_id, none-some, paged_out, refl, same_Some, slice_get, slice_get-get_or, slice_get_within, slice_index_or, slice_set, suc, sym, subst, true, unplaced, unplaced_events, unplaced_state, zero, ℕ, ⊎_elim, ◌*◌, ◌++◌, ◌+◌, ◌/◌, ◌<◌, ◌==◌, ◌∙◌, ◌∷◌, ◌≡◌, true≢false, ◌≢◌, ◌≤◌, Free, Seal, Pin, Cancel}
 use Rattle.std.proofs.lemmas.Bool.{cases_lt}
 use Rattle.std.proofs.lemmas.Nat.{le-div}
 use Rattle.std.proofs.Math.Nat.{add-mul-div_right, div-mul-le_self, lt-div-mul-add, mul-le-mul_right, suc-mul}
@@ -59,16 +59,20 @@ module _ {L : Type 0} (g : Ghosts L) {old new : StickyLog L} where
 
   module _ {k next : ℕ} {table : List Page} {free : List ℕ} (whole : IsWhole g.tells g.state k next old table free) (ready : old.fault ≡ false) where
     -- the counter's page stays as it was
-    pub whole-then : Spares g old new → {pages : List Page} {free_then : List ℕ} → slice_get pages 1 ≡ slice_get table 1 → IsConsistent g.tells g.state new pages free_then → IsWhole g.tells g.state k next new pages free_then
-    whole-then spares {pages} {free_then} same consistent = record {
+    pub whole-added : (g.tells → new.fault ≡ false → (events : List (Event Message)) × log.Adds effect_of (unplaced_state (g.state old.log)) events (unplaced_state (g.state new.log)) × AllByRecursion SparesCounter events)
+        → {pages : List Page} {free_then : List ℕ} → slice_get pages 1 ≡ slice_get table 1 → IsConsistent g.tells g.state new pages free_then → IsWhole g.tells g.state k next new pages free_then
+    whole-added spares {pages} {free_then} same consistent = record {
       consistent = consistent;
       positive = whole.positive;
       counted = λ some clear told page n at holds few.
           let before = whole.counted some ready told page n (sym same ∙ at) holds few in
           let came = spares told clear in
-          let added = came.1.added told clear in
+          let added = came.1 in
           subst (AllByRecursion SparesCounter) (sym added.pending) (all-drop SparesCounter added.cut ((unplaced_state (g.state old.log)).pending ++ came.0) (all-append SparesCounter (unplaced_state (g.state old.log)).pending came.0 before came.2));
     }
+
+    pub whole-then : Spares g old new → {pages : List Page} {free_then : List ℕ} → slice_get pages 1 ≡ slice_get table 1 → IsConsistent g.tells g.state new pages free_then → IsWhole g.tells g.state k next new pages free_then
+    whole-then spares = whole-added (λ told clear. let came = spares told clear in (came.0, came.1.added told clear, came.2))
 
 pub behind-counter : (pid : ℕ) → 2 ≤ pid → pid ≢ 1
 behind-counter pid from is = omega (arith, from, is)

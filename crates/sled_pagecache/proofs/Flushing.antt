@@ -1,6 +1,7 @@
 -- A flush, and the size of the log, as steps of the machine.
-use Rattle.sled_pagecache.proofs.Names.{◌≡◌, ℕ, Bool, true, false, List, [], Ok, Err, refl, sym, ◌∙◌, Write, is_open, Messages, effect_of, reads-open, is_open-unplaced, Ghosts, Cache, IsIn, Steps, Went, Went-none, Logged, State, Flushes, Sizes, outcome, unchanged, Flushed, Sized, Flush, SizeOnDisk, Config, StickyLog, Page}
-use Rattle.sled_base.specs.declared.types.Error.TheVariants.{Io}
+use Rattle.sled_pagecache.proofs.Names.{◌≡◌, ℕ, Bool, true, false, List, [], Ok, Err, refl, ◌∙◌, Write, Messages, effect_of, Ghosts, Cache, IsIn, Steps, Went, Went-none, Logged, State, Flushes, Sizes, outcome, unchanged, Flushed, Sized, Flush, SizeOnDisk, Config, StickyLog, Page}
+use Rattle.sled_base.specs.declared.types.Error.TheVariants.{Unsupported, Io}
+use Rattle.sled_base.specs.declared.types.Why.TheVariants.{BatchOpen}
 use Rattle.sled_log.specs.LogState as log
 use Rattle.sled_pagecache.proofs.CacheSteps.{steps-went}
 use Rattle.sled_pagecache.proofs.Changing.{leads-same, leads-fault}
@@ -12,6 +13,9 @@ size_step s n clear = rw clear refl
 
 flush_step : (s : State) (n : ℕ) → s.fault ≡ false → s.batch ≡ false → Flushes s (Ok n) (unchanged s)
 flush_step s n clear closed = rw (clear, closed) refl
+
+flush_early : (s : State) → s.fault ≡ false → s.batch ≡ true → Flushes s (Err (Unsupported BatchOpen)) (unchanged s)
+flush_early s clear opened = rw (clear, opened) (refl, refl)
 
 flush_fails : (s : State) → s.fault ≡ false → s.batch ≡ false → Flushes s (Err (Io Write)) (outcome (record s { fault = true }) [])
 flush_fails s clear closed = rw (clear, closed) (refl, refl)
@@ -29,11 +33,18 @@ module _ {L : Type 0} (g : Ghosts L) (next : ℕ) (config : Config) (recovered :
       (Went-none g.tells g.state g.moment g.left_since g.counts before usable only)
       (λ held s is clear. leads-same g (cache before) (cache before) held s is clear SizeOnDisk (Sized (Ok n)) refl (size_step s n clear) refl ready)
 
-  module _ (none : is_open (g.state before.log).pending ≡ false) (after : StickyLog L) (went : Went g.tells g.state g.moment g.left_since g.counts before after []) where
-    -- where the log has no open batch, there is none
+  -- inside a batch nothing is flushed
+  pub flush_is_too_early : before.batch ≡ true → (g.state before.log).usable ≡ true
+      → ((l : List Messages) → g.tells → (g.state before.log).usable ≡ true → g.left_since before.log (g.moment before.log) l → log.IsLeft effect_of (log.unplaced_state (g.state before.log)) [] l)
+      → Steps g (cache before) Flush (Flushed (Err (Unsupported BatchOpen))) (cache before)
+  flush_is_too_early opened usable only =
+      steps-went g (cache before) (cache before) before before Flush (Flushed (Err (Unsupported BatchOpen))) [] (record { config = refl; recovered = refl }) refl refl refl ready
+      (Went-none g.tells g.state g.moment g.left_since g.counts before usable only)
+      (λ held s is clear. leads-same g (cache before) (cache before) held s is clear Flush (Flushed (Err (Unsupported BatchOpen))) refl (flush_early s clear (is.batch ∙ opened)) refl ready)
+
+  module _ (none : before.batch ≡ false) (after : StickyLog L) (went : Went g.tells g.state g.moment g.left_since g.counts before after []) where
     closed : (held : Logged) (s : State) → IsIn g (cache before) held s → s.fault ≡ false → s.batch ≡ false
-    closed held s is clear =
-        is.batch ∙ sym (reads-open held.stable false (log.unplaced_state (g.state before.log)).pending held.pending (is.known clear).logged.pending) ∙ is_open-unplaced (g.state before.log).pending ∙ none
+    closed held s is clear = is.batch ∙ none
 
     pub flushes : (n : ℕ) → after.fault ≡ false → Steps g (cache before) Flush (Flushed (Ok n)) (cache after)
     flushes n free =

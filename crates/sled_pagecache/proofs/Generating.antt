@@ -1,10 +1,10 @@
 -- An id, as a step of the machine, told of the table that the cache keeps.
-use Rattle.sled_pagecache.proofs.Names.{AllByRecursion, AllZip-long, Bool, Cache, Change, Chain, Config, Content, Counter, Does, Err, Error, Event, GenerateId, Generated, Ghosts, HasNoRoom, Hold, Holds, IsBeside, IsCaused, IsConsistent, IsCounter, IsIn, IsKept, IsOfLog, IsProper, IsSized, IsUpdate, List, LogFull, Logged, MatchBool, MayChange, Message, Messages, Ok, Option, Outcome, Put, Read, Refusal, RefusesSwap, Result, Some, StampUsedUp, State, StepOver, Steps, StickyLog, Unsupported, Update, Went, Went-none, Write, [], ap, arith, begun_by, chain_at, chain_length, chains_from, contents_from, effect_of, effect_of_entry, eq-eqb, false, holds-after, inl, inr, is_free, is_open-unplaced, le-ltb, length, length-map, length-set, lt-ltb, map-set, message_of, ne_eqb, outcome, page, page_at, reads-open, refl, slice_get, slice_get_within, slice_set, stamps_in, subst, sym, true, unchanged, with_page, zip-set, ℕ, ◌+◌, ◌-◌, ◌<◌, ◌==◌, ◌^◌, ◌∙◌, ◌∷◌, ◌≡◌, ◌≢◌, ◌≤◌, AllZip}
+use Rattle.sled_pagecache.proofs.Names.{AllByRecursion, AllZip-long, Bool, Cache, Change, Chain, Config, Content, Counter, Does, Err, Error, Event, GenerateId, Generated, Ghosts, HasNoRoom, Hold, Holds, IsBeside, IsCaused, IsConsistent, IsCounter, IsIn, IsKept, IsOfLog, IsProper, IsSized, IsUpdate, List, LogFull, Logged, MatchBool, MayChange, Message, Messages, Ok, Option, Outcome, Put, Read, Refusal, RefusesSwap, Result, Some, StampUsedUp, State, StepOver, Steps, StickyLog, Unsupported, Update, Went, Went-none, Write, [], ap, arith, begun_by, chain_at, chain_length, chains_from, contents_from, effect_of, effect_of_entry, eq-eqb, false, holds-after, inl, inr, is_free, le-ltb, length, length-map, length-set, lt-ltb, map-set, message_of, ne_eqb, outcome, page, page_at, refl, slice_get, slice_get_within, slice_set, stamps_in, subst, sym, true, unchanged, with_page, zip-set, ℕ, ◌+◌, ◌-◌, ◌<◌, ◌==◌, ◌^◌, ◌∙◌, ◌∷◌, ◌≡◌, ◌≢◌, ◌≤◌, AllZip}
 use Rattle.std.specs.Prelude.{nat_lt}
 use Rattle.sled_base.specs.Errors.{error_of as error_by}
 use Rattle.sled_base.specs.declared.types.Error.TheVariants as error
 use Rattle.sled_base.specs.declared.types.Refusal.TheVariants as refusals
-use Rattle.sled_base.specs.declared.types.Why.TheVariants.{IdsUsedUp}
+use Rattle.sled_base.specs.declared.types.Why.TheVariants.{BatchOpen, IdsUsedUp}
 use Rattle.sled_log.specs.LogState as log
 use Rattle.sled_pagecache.proofs.ByIds.{set-by-id}
 use Rattle.sled_pagecache.proofs.CacheSteps.{stays-none, steps-went}
@@ -15,7 +15,7 @@ use Rattle.sled_pagecache.proofs.ProperPages.{all-set}
 use Rattle.sled_pagecache.proofs.Putting.{unless-clear}
 use Rattle.sled_pagecache.proofs.Staying.{stay-one}
 use Rattle.sled_pagecache.proofs.TableNodes.{view}
-use Rattle.sled_pagecache.proofs.Tables.{free-same, went-chains, went-closed}
+use Rattle.sled_pagecache.proofs.Tables.{free-same, went-chains, went-opened}
 use Rattle.sled_pagecache.specs.Logged.{now}
 use Rattle.sled_pagecache.specs.Proper.{IsOwnAt}
 use Rattle.sled_pagecache.specs.State.{StampedPage}
@@ -38,6 +38,9 @@ module _ (messages : ℕ → ℕ) (no_room : Event Update → Type 0) (interval 
   module _ (below : nat_lt (2 ^ 64 - 1) s.next ≡ false) (stamp n : ℕ) (at : page_at s 1 ≡ Some (page stamp (Counter n))) where
     covered : nat_lt (interval_start interval n) (interval_start interval s.next) ≡ false → Generates messages no_room interval s (Ok s.next) (unchanged (with_next_id s))
     covered few = rw (clear, below, at, few) (refl, refl)
+
+    early : nat_lt (interval_start interval n) (interval_start interval s.next) ≡ true → s.batch ≡ true → Generates messages no_room interval s (Err (Unsupported BatchOpen)) (unchanged s)
+    early more opened = rw (clear, below, at, more, opened) (refl, refl)
 
     module _ (more : nat_lt (interval_start interval n) (interval_start interval s.next) ≡ true) (closed : s.batch ≡ false) where
       last-stamp : stamp ≡ 2 ^ 64 - 1 → Generates messages no_room interval s (Err (Unsupported StampUsedUp)) (unchanged s)
@@ -82,10 +85,6 @@ module _ {L : Type 0} (g : Ghosts L) (next : ℕ) (config : Config) (recovered :
   there : (held : Logged) (s : State) → IsIn g (cache next before table) held s → s.fault ≡ false → page_at s 1 ≡ Some (page q.stamp (Counter n))
   there held s is clear = counter-at g next config recovered before table free c ready q n at holds held s is clear
 
-  closed : (held : Logged) (s : State) → IsIn g (cache next before table) held s → s.fault ≡ false → s.batch ≡ false
-  closed held s is clear =
-      is.batch ∙ sym (reads-open held.stable false (log.unplaced_state (g.state before.log)).pending held.pending (is.known clear).logged.pending) ∙ is_open-unplaced (g.state before.log).pending ∙ beside.closed
-
   abbrev only : Type 0
   only = (l : List Messages) → g.tells → (g.state before.log).usable ≡ true → g.left_since before.log (g.moment before.log) l → log.IsLeft effect_of (log.unplaced_state (g.state before.log)) [] l
 
@@ -116,9 +115,21 @@ module _ {L : Type 0} (g : Ghosts L) (next : ℕ) (config : Config) (recovered :
         contents = λ _. (is.known clear).contents;
       })
 
+  -- inside a batch no new counter is made
+  pub id-too-early : only → nat_lt (2 ^ 64 - 1) next ≡ false → nat_lt (interval_start k n) (interval_start k next) ≡ true → before.batch ≡ true
+      → Steps g (cache next before table) GenerateId (Generated (Err (Unsupported BatchOpen))) (cache next before table)
+  id-too-early only_now below more opened =
+      steps-went g (cache next before table) (cache next before table) before before GenerateId (Generated (Err (Unsupported BatchOpen))) [] (record { config = refl; recovered = refl }) refl refl refl ready
+      (Went-none g.tells g.state g.moment g.left_since g.counts before beside.usable only_now)
+      (λ held s is clear. leads-same g (cache next before table) (cache next before table) held s is clear GenerateId (Generated (Err (Unsupported BatchOpen))) refl
+      (early lengths no_room k s clear (ap (nat_lt (2 ^ 64 - 1)) is.next ∙ below) q.stamp n (there held s is clear) (ap (λ i. nat_lt (interval_start k n) (interval_start k i)) is.next ∙ more) (is.batch ∙ opened)) refl ready)
+
   -- a new counter is put on its page
   module _ (below : nat_lt (2 ^ 64 - 1) next ≡ false) (more : nat_lt (interval_start k n) (interval_start k next) ≡ true) (after : StickyLog L)
-      (reads : IsUpdate (message_of (Put (Counter (interval_start k next)))) (Put (Counter (interval_start k next)))) where
+      (reads : IsUpdate (message_of (Put (Counter (interval_start k next)))) (Put (Counter (interval_start k next)))) (none : before.batch ≡ false) where
+    closed : (held : Logged) (s : State) → IsIn g (cache next before table) held s → s.fault ≡ false → s.batch ≡ false
+    closed held s is clear = is.batch ∙ none
+
     abbrev start : ℕ
     start = interval_start k next
 
@@ -227,11 +238,11 @@ module _ {L : Type 0} (g : Ghosts L) (old new : StickyLog L) (pages : List KeptP
       → (g.tells → log.now effect_of_entry (g.state new.log) ≡ slice_set (log.now effect_of_entry (g.state old.log)) 1 (chain_at (g.state new.log) 1))
       → IsConsistent g.tells g.state new (slice_set pages 1 page) free
   consistent-counter m went q page at full n holds short is_kept sized others = record {
+    opened = λ clear. went-opened g.tells g.state g.moment g.left_since g.counts old new (Change 1 m ∷ []) went (λ was. refl) clear (c.opened ready);
     beside = λ clear.
         let beside = c.beside ready in
         record {
           usable = went.usable clear;
-          closed = went-closed g.tells g.state g.moment g.left_since g.counts old new (Change 1 m ∷ []) went (λ was. refl) clear beside.closed;
           kept = λ known.
               subst (λ (l : List Chain). AllZip IsKept l (slice_set pages 1 page)) (sym (others known))
               (zip-set IsKept 1 (log.now effect_of_entry (g.state old.log)) pages (chain_at (g.state new.log) 1) page (beside.kept known) (is_kept known));

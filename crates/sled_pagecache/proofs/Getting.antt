@@ -134,10 +134,10 @@ module _ {L : Type 0} (g : Ghosts L) (old new : Cache L) (pid : ℕ) where
 
       by : (found : Option NodeView) → old.fault ≡ false → IsNodeAt g new pid found
           → IsBlamed g old new (answered (Ok found)) × Keeps old new (answered (Ok found)) (λ _. old.stamps) × IfSome found (λ view. IsResident new pid) × IfSome found (λ view. view.token.pid ≡ pid)
-      by None ready at = (record { read = λ h. cc; write = λ h. cc }, keeps-ok old new (λ _. old.stamps) None ready (brings ready).cause.fault (brings ready).left.stamps, tt, tt)
+      by None ready at = (record { read = λ h. cc; write = λ h. cc }, keeps-ok old new (λ _. old.stamps) None ready (brings ready).cause.fault (brings ready).left.stamps (brings ready).left.went.batch, tt, tt)
       by (Some view) ready at = (
         record { read = λ h. cc; write = λ h. cc },
-        keeps-ok old new (λ _. old.stamps) (Some (view.token, view.node.now)) ready (brings ready).cause.fault (brings ready).left.stamps,
+        keeps-ok old new (λ _. old.stamps) (Some (view.token, view.node.now)) ready (brings ready).cause.fault (brings ready).left.stamps (brings ready).left.went.batch,
         at.2,
         ap (λ (t : Token). t.pid) at.0,
       )
@@ -180,7 +180,7 @@ module _ {L : Type 0} (g : Ghosts L) (old new : Cache L) (pid : ℕ) where
           record {
             step = steps-known g old new (Get pid) (Got (Err (error_of refusal))) done.left.opening (λ known. get-refused g old new pid ready known refusal done);
             blame = blamed g old new ⊥ refusal done.cause;
-            keeps = keeps-err old new (λ _. old.stamps) (Unit {0}) refusal ready done.cause.fault done.left.stamps;
+            keeps = keeps-err old new (λ _. old.stamps) (Unit {0}) refusal ready done.cause.fault done.left.stamps done.left.went.batch;
             reads = reads;
             once = tt;
             token = tt;

@@ -3,6 +3,7 @@ use Rattle.sled_pagecache.proofs.Names.{CasRoot, FoundRoot, MetaPidForName, Root
 use Rattle.std.specs.Prelude.{nat_lt}
 use Rattle.sled_base.specs.declared.types.Error.TheVariants as error
 use Rattle.sled_log.specs.Contents as content
+use Rattle.sled_log.specs.Events.{Pin, Seal, Cancel}
 use Rattle.sled_base.specs.Order.{Bytes}
 use Rattle.sled_node.specs.Meta as meta
 use Rattle.sled_node.specs.declared.node.link.Link.{Link as NodeLink}
@@ -11,7 +12,8 @@ use Rattle.sled_pagecache.proofs.Lookups.{map-at}
 use Rattle.sled_pagecache.specs.Counted.{SparesCounter}
 use Rattle.sled_pagecache.specs.Openings.{id_in}
 use Rattle.sled_pagecache.specs.State.{StampedPage, is_free, page, with_page}
-use Rattle.sled_pagecache.specs.Step.{AddsPage, AreRoots, FindsRoot, RootSwap, SwapsRoot, Frees, Generates, HoldsCounter, HoldsRoots, IsCounterAnd, PutsCounter, Reads, ReusesPage, interval_start, with_next_id}
+use Rattle.sled_pagecache.specs.Step.{AddsPage, AreRoots, Closes, FindsRoot, RootSwap, SwapsRoot, Frees, Generates, HoldsCounter, HoldsRoots, IsCounterAnd, Pins, PutsCounter, Reads, ReusesPage, interval_start, with_next_id}
+use Rattle.sled_pagecache.specs.declared.pagecache.call.Answer.TheVariants.{Pinned, Sealed, Cancelled}
 use Rattle.sled_pagecache.specs.declared.pagecache.call.Call.TheVariants as call
 
 split : {A B X : Type 0} (test : Bool) → MatchBool test A B → (test ≡ true → A → X) → (test ≡ false → B → X) → X
@@ -185,15 +187,15 @@ quiet s n out counts is = record {
 }
 
 module _ (messages : ℕ → ℕ) (no_room : Event Update → Type 0) where
-  fails : (s : State) (id : ℕ) (update : Update) (e : Error) (out : Outcome) → id ≢ 1 → Fails messages no_room s (Change id update) e out → IsQuiet s out
-  fails s id update (error.Unsupported LogFull) out other h = as-it-was s out h.1
-  fails s id update (error.Io Write) out other h = subst (IsQuiet s) (sym h) (record { next = refl; spares = (other, tt) })
-  fails s id update e out other h = hindered s e out h
+  fails : (s : State) (event : Event Update) (e : Error) (out : Outcome) → SparesCounter event → Fails messages no_room s event e out → IsQuiet s out
+  fails s event (error.Unsupported LogFull) out other h = as-it-was s out h.1
+  fails s event (error.Io Write) out other h = subst (IsQuiet s) (sym h) (record { next = refl; spares = (other, tt) })
+  fails s event e out other h = hindered s e out h
 
-  does : {T : Type 0} (s : State) (id : ℕ) (update : Update) (answer : Result T Error) (out : Outcome) (work : T → State → Type 0)
-      → Does messages no_room s (Change id update) answer out work → id ≢ 1 → ((value : T) (t : State) → work value t → t.next ≡ s.next) → IsQuiet s out
-  does s id update (Ok value) out work h other keeps = record { next = keeps value out.state h.1; spares = subst (AllByRecursion SparesCounter) (sym h.0) (other, tt) }
-  does s id update (Err e) out work h other keeps = fails s id update e out other h
+  does : {T : Type 0} (s : State) (event : Event Update) (answer : Result T Error) (out : Outcome) (work : T → State → Type 0)
+      → Does messages no_room s event answer out work → SparesCounter event → ((value : T) (t : State) → work value t → t.next ≡ s.next) → IsQuiet s out
+  does s event (Ok value) out work h other keeps = record { next = keeps value out.state h.1; spares = subst (AllByRecursion SparesCounter) (sym h.0) (other, tt) }
+  does s event (Err e) out work h other keeps = fails s event e out other h
 
   allocates : (s : State) (n : ℕ) (node : WholeNode) (answer : Result (ℕ × Token) Error) (out : Outcome) → CountsTo (contents_of s) n → Allocates messages no_room s node answer out → IsQuiet s out
   allocates s n node answer out counts step = split s.fault step (λ _ h. as-it-was s out h.1) (λ _ h. by (greatest_free 0 s.pages) refl h)
@@ -201,15 +203,15 @@ module _ (messages : ℕ → ℕ) (no_room : Event Update → Type 0) where
       by : (free : Option Token) → greatest_free 0 s.pages ≡ free → MatchOption free (AddsPage messages no_room s node answer out) (λ free. ReusesPage messages no_room s node free answer out) → IsQuiet s out
       by None none h =
           split (length s.pages == 2 ^ 37) h (λ _ h. as-it-was s out h.1) (λ _ h.
-          does s (length s.pages) (Put (Node node)) answer out _ h (not-past s n counts) (λ made t work. ap (λ (u : State). u.next) work.2))
+          does s (Change (length s.pages) (Put (Node node))) answer out _ h (not-past s n counts) (λ made t work. ap (λ (u : State). u.next) work.2))
       by (Some free) some h =
           split (free.stamp == 2 ^ 64 - 1) h (λ _ h. as-it-was s out h.1) (λ _ h.
-          does s free.pid (Put (Node node)) answer out _ h (not-free s n free counts some) (λ made t work. ap (λ (u : State). u.next) work.2))
+          does s (Change free.pid (Put (Node node))) answer out _ h (not-free s n free counts some) (λ made t work. ap (λ (u : State). u.next) work.2))
 
   swaps-content : {R : Type 0} (s : State) (old : Token) (update : Update) (content : Content) (answer : Swapped R) (out : Outcome)
       → SwapsContent messages no_room s old update content answer out → old.pid ≢ 1 → IsQuiet s out
   swaps-content s old update content answer out step other =
-      split (old.stamp == 2 ^ 64 - 1) step (λ _ h. as-it-was s out h.1) (λ _ h. does s old.pid update answer out _ h other (λ swapped t work. ap (λ (u : State). u.next) work.1))
+      split (old.stamp == 2 ^ 64 - 1) step (λ _ h. as-it-was s out h.1) (λ _ h. does s (Change old.pid update) answer out _ h other (λ swapped t work. ap (λ (u : State). u.next) work.1))
 
   links : (s : State) (old : Token) (link : NodeLink) (answer : Swapped NodeLink) (out : Outcome) → Links messages no_room s old link answer out → IsQuiet s out
   links s old link answer out step = swaps s old link answer out (LinksContent messages no_room s old link answer out) step by
@@ -237,7 +239,7 @@ module _ (messages : ℕ → ℕ) (no_room : Event Update → Type 0) where
           ⊎_elim (λ h. as-it-was s out h.1.1)
           (λ h. ⊎_elim (λ h. as-it-was s out h.1.1)
           (λ h. split (stamp == 2 ^ 64 - 1) h.1 (λ _ h. as-it-was s out h.1)
-          (λ _ h. does s 0 (Put (Roots (meta.changed_roots name new roots))) answer out _ h (λ e. absurd cc) (λ swapped t work. ap (λ (u : State). u.next) work.1))) h) h
+          (λ _ h. does s (Change 0 (Put (Roots (meta.changed_roots name new roots)))) answer out _ h (λ e. absurd cc) (λ swapped t work. ap (λ (u : State). u.next) work.1))) h) h
 
       by : (stamp : ℕ) (content : Content)
           → AreRoots content (λ roots. ((meta.root_of name roots ≢ old) × (answer ≡ Ok (Err (meta.root_of name roots))) × (out ≡ unchanged s)) ⊎ ((meta.root_of name roots ≡ old) × SetsRoot messages no_room s stamp name new roots answer out)) → IsQuiet s out
@@ -248,6 +250,18 @@ module _ (messages : ℕ → ℕ) (no_room : Event Update → Type 0) where
           → HoldsRoots found (λ stamp roots. ((meta.root_of name roots ≢ old) × (answer ≡ Ok (Err (meta.root_of name roots))) × (out ≡ unchanged s)) ⊎ ((meta.root_of name roots ≡ old) × SetsRoot messages no_room s stamp name new roots answer out)) → IsQuiet s out
       finds None h = absurd h
       finds (Some found) h = by found.stamp found.content h
+
+  -- the marks of batches
+  pins : (s : State) (answer : Result (Unit {0}) Error) (out : Outcome) → Pins messages no_room s answer out → IsQuiet s out
+  pins s answer out step =
+      split s.fault step (λ _ h. as-it-was s out h.1) (λ _ h.
+      split s.batch h (λ _ h. as-it-was s out h.1) (λ _ h. does s Pin answer out _ h tt (λ done t is. ap (λ (u : State). u.next) is)))
+
+  closes : (mark : Event Update) (s : State) (answer : Result (Unit {0}) Error) (out : Outcome) → SparesCounter mark → Closes mark s answer out → IsQuiet s out
+  closes mark s (Ok done) out spares step =
+      split s.fault step.1 (λ _ h. subst (IsQuiet s) (sym h.1) (record { next = refl; spares = tt })) (λ _ h. subst (IsQuiet s) (sym h) (record { next = refl; spares = (spares, tt) }))
+  closes mark s (Err e) out spares step =
+      split s.fault step.1 (λ _ h. subst (IsQuiet s) (sym h.1) (record { next = refl; spares = tt })) (λ _ h. subst (IsQuiet s) (sym h.1) (record { next = refl; spares = (spares, tt) }))
 
   -- an id
   puts-counter : (s : State) (stamp old new : ℕ) (answer : Result ℕ Error) (out : Outcome)
@@ -329,6 +343,9 @@ module _ {L : Type 0} (g : Ghosts L) (cache : Cache L) (s : State) (n : ℕ) (cl
   call-passes GenerateId (Generated answer) out step = generates lengths no_room cache.config.idgen_persist_interval s n answer out clear counts step
   call-passes Flush (Flushed answer) out step = quiet s n out counts (flushes s answer out step)
   call-passes SizeOnDisk (Sized answer) out step = quiet s n out counts (sizes s answer out step)
+  call-passes call.Pin (Pinned answer) out step = quiet s n out counts (pins lengths no_room s answer out step)
+  call-passes call.Seal (Sealed answer) out step = quiet s n out counts (closes lengths no_room Seal s answer out tt step)
+  call-passes call.Cancel (Cancelled answer) out step = quiet s n out counts (closes lengths no_room Cancel s answer out tt step)
   call-passes asked answer out step = absurd step
 
 -- with a write fault kept no id is given

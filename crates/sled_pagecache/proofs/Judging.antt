@@ -124,8 +124,8 @@ module _ {L : Type 0} (next : ℕ) (config : Config) (recovered : Bool) (sticky_
   fresh-answered same R given made is = (ap (slice_get (stamps_in table)) same ∙ map-at (λ (p : Page). p.stamp) table pid q fresh.at ∙ ap (λ n. Some n) fresh.stamp, is)
 
   -- and has risen
-  pub keeps-fresh : (R : Type 0) (after : StickyLog L) (page : Page) → after.fault ≡ false → page.stamp ≡ q.stamp + 1 → (made : Token) → made ≡ token pid (old.stamp + 1)
+  pub keeps-fresh : (R : Type 0) (after : StickyLog L) (page : Page) → after.fault ≡ false → after.batch ≡ sticky_log.batch → page.stamp ≡ q.stamp + 1 → (made : Token) → made ≡ token pid (old.stamp + 1)
       → (let answer : Swapped R = Ok (Ok made) in Keeps (view next config recovered sticky_log table) (view next config recovered after (slice_set table pid page)) answer (swapped (stamps_in table)))
-  keeps-fresh R after page free raised made is =
+  keeps-fresh R after page free batch raised made is =
       keeps-ok (view next config recovered sticky_log table) (view next config recovered after (slice_set table pid page)) (swapped {R = R} (stamps_in table)) (Ok made) fresh.clear free
-      (rw is (map-set (λ (p : Page). p.stamp) table pid page ∙ ap (λ n. slice_set (stamps_in table) pid n) (raised ∙ ap (λ n. n + 1) fresh.stamp)))
+      (rw is (map-set (λ (p : Page). p.stamp) table pid page ∙ ap (λ n. slice_set (stamps_in table) pid n) (raised ∙ ap (λ n. n + 1) fresh.stamp))) batch

@@ -29,9 +29,9 @@ module _ {L : Type 0} (g : Ghosts L) (before after : StickyLog L) (pages : List 
       let beside = c.beside ready in
       consistent-set g.tells g.state before after pages free free c ready pid page (behind-own pid behind) (subst IsFreeOrNode (sym takes.holds) tt)
       (subst (λ (n : ℕ). n ≤ 10) (sym takes.len) (linked-short (length q.infos.items) (page-short-at g before after pages free pid q page c ready behind at)))
+      (λ clear. went.opened clear ∙ c.opened ready ∙ sym went.batch)
       (λ clear. record {
         usable = went.usable clear;
-        closed = went.opened clear ∙ beside.closed;
         kept = takes.kept;
         others = takes.others;
         chains = λ known. went-chains g.tells g.state g.moment g.left_since g.counts before after (Change pid (message_of (update_by q link takes.tells.node)) ∷ []) went known clear (beside.chains known);

@@ -106,7 +106,7 @@ hindrance config chains held refusal sound hold proper r = tt
 
 lacks-for : {L : Type 0} (g : Ghosts L) (l : L) (changes : List (Event Update)) → LacksRoom g l (map tell changes) → LacksRoomFor g l changes
 lacks-for g l (Change id update ∷ changes) lacks = lacks
-lacks-for g l changes lacks = lacks
+lacks-for g l changes lacks = absurd lacks
 
 contents-kept : (held : List Content) → map (λ (p : StampedPage). p.content) (map (page 0) held ++ []) ≡ held
 contents-kept [] = refl
@@ -219,11 +219,11 @@ module _ {L : Type 0} (g : Ghosts L) (known : g.tells) (config : Config) (old : 
 
   -- a cache was opened
   pub opens-done : (new : StickyLog L) (stamps : List ℕ) (resident : List Bool) (nodes : List (Option ℕ)) (next : ℕ) (recovered : Bool)
-      → Proceeds g old new (events_at_start chains) None → is_open (g.state new.log).pending ≡ false
+      → Proceeds g old new (events_at_start chains) None → is_open (g.state new.log).pending ≡ false → new.batch ≡ false
       → IsOpenedWith config (now held) stamps next recovered
       → (length chains < 2 → (g.state new.log).pending ≡ [])
-      → Opens g old.log config held (Ok (record { stamps = stamps; resident = resident; nodes = nodes; next = next; fault = new.fault; config = config; recovered = recovered; lru = unlisted; log = new.log }))
-  opens-done new stamps resident nodes next recovered done closed with_it stable =
+      → Opens g old.log config held (Ok (record { stamps = stamps; resident = resident; nodes = nodes; next = next; batch = new.batch; fault = new.fault; config = config; recovered = recovered; lru = unlisted; log = new.log }))
+  opens-done new stamps resident nodes next recovered done closed unopened with_it stable =
       let went = subst (Comes g old new) events-now done.reaches in
       let unplaced = events-start (now held) in
       let carried = carries g.tells g.state g.moment g.left_since g.counts old new held (events_at_start (now held)) (changes_of_start (now held)) logged unplaced stays went known done.fault in
@@ -235,8 +235,8 @@ module _ {L : Type 0} (g : Ghosts L) (known : g.tells) (config : Config) (old : 
           stamps = sym with_it.stamps_are;
           next = sym with_it.next_is;
           fault = sym done.fault;
-          batch = sym (sym (reads-open carried.held_then.stable false (unplaced_state (g.state new.log)).pending carried.held_then.pending carried.logged.pending) ∙ is_open-unplaced (g.state new.log).pending ∙ closed);
-          known = λ _. record { usable = done.reaches.usable done.fault; logged = carried.logged; contents = contents-start config (now held) ∙ sym carried.now_is };
+          batch = sym unopened;
+          known = λ _. record { usable = done.reaches.usable done.fault; logged = carried.logged; contents = contents-start config (now held) ∙ sym carried.now_is; opened = sym (sym (reads-open carried.held_then.stable false (unplaced_state (g.state new.log)).pending carried.held_then.pending carried.logged.pending) ∙ is_open-unplaced (g.state new.log).pending ∙ closed) };
         };
         added = carried.added;
         stable = λ some.

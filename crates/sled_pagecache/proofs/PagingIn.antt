@@ -45,7 +45,6 @@ module _ {L : Type 0} (g : Ghosts L) (before after : StickyLog L) (pages : List 
       let beside = c.beside ready in
       record {
         usable = went.usable clear;
-        closed = went.opened clear ∙ marks ∙ beside.closed;
         kept = λ known. subst (λ (l : List Chain). IsKept (slice_index_or l pid []) page) (sym (same known)) (is known);
         others = λ known. sym (set-get_or (log.now effect_of_entry (g.state after.log)) pid []) ∙ ap (λ (l : List Chain). slice_set l pid (chain_at (g.state after.log) pid)) (same known);
         chains = λ known. subst (λ (l : List Chain). AllByRecursion (λ chain. is_chain effect_of_entry chain ≡ true) l) (sym (same known)) (beside.chains known);
@@ -60,6 +59,7 @@ module _ {L : Type 0} (g : Ghosts L) (before after : StickyLog L) (pages : List 
   same-consistent events went marks same is infos freed own =
       consistent-set g.tells g.state before after pages free free c ready pid page (behind-own pid behind) own
       (subst (λ n. n ≤ 10) (sym (ap length infos)) page-short-at)
+      (λ clear. went.opened clear ∙ marks ∙ c.opened ready ∙ sym went.batch)
       (λ clear. same-set events went marks clear (λ known. same known clear) (λ known. is known clear))
       (c.free ∙ sym (free-same 0 pages pid page q at freed))
 

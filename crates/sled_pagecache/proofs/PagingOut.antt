@@ -85,11 +85,11 @@ owns-out pages pid q page own at out =
 pub consistent-out : {L : Type 0} (g : Ghosts L) (sticky_log : StickyLog L) (pages : List Page) (free : List ℕ) (pid : ℕ) (q page : Page)
     → IsConsistent g.tells g.state sticky_log pages free → slice_get pages pid ≡ Some q → IsPagedOut q page → IsConsistent g.tells g.state sticky_log (slice_set pages pid page) free
 consistent-out g sticky_log pages free pid q page is at out = record {
+  opened = is.opened;
   beside = λ clear.
       let beside = is.beside clear in
       record {
         usable = beside.usable;
-        closed = beside.closed;
         kept = λ known. zip-out (log.now effect_of_entry (g.state sticky_log.log)) pages pid q page (beside.kept known) at out;
         chains = beside.chains;
         sized = beside.sized;

@@ -1,34 +1,48 @@
 -- A cache that is opened over a crash state is what is opened of the pages after a prefix of the changes.
-use Rattle.sled_pagecache.proofs.Names.{◌≡◌, ◌≤◌, ℕ, Bool, true, List, ◌++◌, take, refl, sym, subst, Option, Some, None, Result, Ok, Err, IfOk, Error, Update, contents_after, Event, Message, Messages, unplaced_state, Ghosts, Why, fault_of, Cache, Logged, IsLogged, Started, Reopens, CrashReopens, only_stable, only_stable_contents, Config}
+use Rattle.sled_pagecache.proofs.Names.{◌≡◌, ◌≤◌, ℕ, Bool, true, List, ◌++◌, take, refl, sym, subst, Option, Some, None, Result, Ok, Err, IfOk, Error, Update, contents_after, Event, Message, Messages, unplaced_state, Ghosts, Why, fault_of, Cache, Logged, IsLogged, Started, Content, AreKept, CrashReopens, only_stable, only_stable_contents, Config}
 use Rattle.sled_log.specs.LogState.{LogState}
 use Rattle.sled_pagecache.proofs.Staying.{stay-none}
 use Rattle.sled_pagecache.specs.Logged.{IsLeft}
+use Rattle.sled_pagecache.specs.Reopening.{AreAfterPrefix, CrashReopensTo, ReopensTo}
+
+-- pages of these messages are kept, and hold contents that are so
+abbrev pub IsKeptAs : List Messages → (List Content → Type 0) → Type 0
+IsKeptAs pages Are = (contents : List Content) × AreKept pages contents × Are contents
+
+kept-logged : (pages : List Messages) (contents : List Content) → AreKept pages contents → (usable : Bool) → IsLogged (only_stable pages usable) (only_stable_contents contents)
+kept-logged pages contents kept usable = record {
+  stable = kept.holds;
+  pending = tt;
+  proper = stay-none pages contents kept.proper;
+}
 
 -- what a crash leaves is a log again that a cache can be opened over
 pub crashed-logged : (held : Logged) (changes : List (Event Update)) (pages : List Messages) (left : IsLeft held changes pages) (usable : Bool) → IsLogged (only_stable pages usable) (only_stable_contents (contents_after held.stable (take left.cut (held.pending ++ left.came))))
-crashed-logged held changes pages left usable = record {
-  stable = left.is.holds;
-  pending = tt;
-  proper = stay-none pages (contents_after held.stable (take left.cut (held.pending ++ left.came))) left.is.proper;
-}
+crashed-logged held changes pages left usable = kept-logged pages (contents_after held.stable (take left.cut (held.pending ++ left.came))) left.is usable
 
 module _ {L : Type 0} (g : Ghosts L) (since_earlier : (log : L) (t u : ℕ) (pages : List Messages) → t ≤ u → g.left_since log u pages → g.left_since log t pages) where
-  reopens : (held : Logged) (begun : List (Event Update)) (log : L) (pages : List Messages) → unplaced_state (g.state log) ≡ only_stable pages true → IsLeft held begun pages → (config : Config) (result : Result (Cache L) (Error × L)) → Started g log config result → IfOk result (Reopens g held begun config)
-  reopens held begun log pages holds left config (Err refused) started = tt
-  reopens held begun log pages holds left config (Ok cache) started = by (fault_of config) refl
+  reopens : (Are : List Content → Type 0) (log : L) (pages : List Messages) → unplaced_state (g.state log) ≡ only_stable pages true → IsKeptAs pages Are → (config : Config) (result : Result (Cache L) (Error × L)) → Started g log config result → IfOk result (ReopensTo g Are config)
+  reopens Are log pages holds left config (Err refused) started = tt
+  reopens Are log pages holds (contents, kept, are) config (Ok cache) started = by (fault_of config) refl
     where
-      by : (fault : Option Why) → fault_of config ≡ fault → Reopens g held begun config cache
+      by : (fault : Option Why) → fault_of config ≡ fault → ReopensTo g Are config cache
       by (Some why) wrong = (let e = started.settings why wrong in absurd cc)
       by None sound =
-          let contents = contents_after held.stable (take left.cut (held.pending ++ left.came)) in
-          let opened = started.opens sound (only_stable_contents contents) (subst (λ (s : LogState Message). IsLogged s (only_stable_contents contents)) (sym holds) (crashed-logged held begun pages left true)) in
+          let opened = started.opens sound (only_stable_contents contents) (subst (λ (s : LogState Message). IsLogged s (only_stable_contents contents)) (sym holds) (kept-logged pages contents kept true)) in
           record {
             contents = contents;
-            prefix = record { came = left.came; beginning = left.beginning; cut = left.cut; fair = left.fair; is = refl };
+            are = are;
             held_then = opened.held_then;
             is = opened.is;
           }
 
+  pub crash-reopens-to : (crashed : L) (since : ℕ) (Are : List Content → Type 0) → ((pages : List Messages) → g.left_since crashed since pages → IsKeptAs pages Are) → CrashReopensTo g crashed since Are
+  crash-reopens-to crashed since Are each log crash config result started =
+      reopens Are log crash.pages crash.holds (each crash.pages (since_earlier crashed since crash.at crash.pages crash.later crash.left)) config result started
+
   pub crash-reopens : (crashed : L) (since : ℕ) (held : Logged) (begun : List (Event Update)) → ((pages : List Messages) → g.left_since crashed since pages → IsLeft held begun pages) → CrashReopens g crashed since held begun
-  crash-reopens crashed since held begun each log crash config result started =
-      reopens held begun log crash.pages crash.holds (each crash.pages (since_earlier crashed since crash.at crash.pages crash.later crash.left)) config result started
+  crash-reopens crashed since held begun each =
+      crash-reopens-to crashed since (AreAfterPrefix held begun)
+      (λ pages since_then.
+      let left = each pages since_then in
+      (contents_after held.stable (take left.cut (held.pending ++ left.came)), left.is, record { came = left.came; beginning = left.beginning; cut = left.cut; fair = left.fair; is = refl }))

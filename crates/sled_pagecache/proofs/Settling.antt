@@ -4,6 +4,9 @@ use Rattle.sled_base.specs.declared.types.Error.TheVariants.{Io}
 use Rattle.sled_base.specs.declared.types.Refusal.TheVariants as refusal
 use Rattle.sled_node.specs.declared.node.link.Link.{Link as NodeLink}
 use Rattle.sled_pagecache.proofs.InMemory.{stays-then, stays-has, stay-is}
+use Rattle.sled_pagecache.specs.Batches.{OpensBatch, ClosesBatch}
+use Rattle.sled_pagecache.specs.declared.pagecache.call.Answer.TheVariants.{Pinned}
+use Rattle.sled_pagecache.specs.declared.pagecache.call.Call.TheVariants as call
 
 -- the two differ in nothing but what lies in memory and what is listed
 pub record IsSameBut {L : Type 0} (old new : Cache L) : Type 0 where
@@ -51,7 +54,7 @@ module _ {L : Type 0} (g : Ghosts L) (old new : Cache L) (lru : Recency) where
     next = is.next;
     fault = is.fault;
     batch = is.batch;
-    known = λ clear. let known = is.known clear in record { usable = known.usable; logged = known.logged; contents = known.contents };
+    known = λ clear. let known = is.known clear in record { usable = known.usable; logged = known.logged; contents = known.contents; opened = known.opened };
   }
 
   module _ (resident : List Bool) (nodes : List (Option ℕ)) (lru_then : Recency) where
@@ -65,7 +68,7 @@ module _ {L : Type 0} (g : Ghosts L) (old new : Cache L) (lru : Recency) where
       next = is.next;
       fault = is.fault;
       batch = is.batch;
-      known = λ clear. let known = is.known clear in record { usable = known.usable; logged = known.logged; contents = known.contents };
+      known = λ clear. let known = is.known clear in record { usable = known.usable; logged = known.logged; contents = known.contents; opened = known.opened };
     }
 
     steps-record : (call : Call) (answer : Answer) → Steps g old call answer new → Steps g (relisted old lru) call answer moved
@@ -122,6 +125,7 @@ module _ {L : Type 0} (g : Ghosts L) (old new : Cache L) (lru : Recency) where
 
     pub keeps-moved : {T : Type 0} (result : Result T Error) (stamps : T → List ℕ) → Keeps old new result stamps → OnErr result (old.fault ≡ true → new ≡ old → upper ≡ relisted old lru) → Keeps (relisted old lru) upper result stamps
     keeps-moved result stamps keeps stuck = record {
+      batch = ap (λ cache. cache.batch) same.is ∙ keeps.batch;
       fault = ap (λ cache. cache.fault) same.is ∙ keeps.fault;
       stuck = λ kept. ((keeps.stuck kept).0, by result (keeps.stuck kept).0 stuck kept (keeps.stuck kept).1);
       done = carried (λ cache. IfOk result (λ answer. cache.stamps ≡ stamps answer)) keeps.done;
@@ -456,6 +460,34 @@ module _ {L : Type 0} (g : Ghosts L) (old new : Cache L) where
 
   pub flushed-same : (lru : Recency) → AllStay old new → KeepsMemory (relisted old lru) (relisted new lru)
   flushed-same lru stay = record { stay = λ pid. record { resident = (stay pid).resident; node = (stay pid).node }; lru = refl }
+
+-- a batch was opened or closed, and nothing leaves memory
+module _ {L : Type 0} (g : Ghosts L) (old new : Cache L) (lru : Recency) (result : Result (Unit {0}) Error) where
+  pub opens-relisted : OpensBatch g old result new → OpensBatch g (relisted old lru) result (relisted new lru)
+  opens-relisted done = record {
+    step = steps-moved g old new lru (relisted new lru) (same-relisted new lru) call.Pin (Pinned result) done.step;
+    blame = record { read = done.blame.read; write = done.blame.write };
+    done = done.done;
+    refused = done.refused;
+    stamps = done.stamps;
+    fault = done.fault;
+    stuck = λ kept. ((done.stuck kept).0, ap (λ cache. relisted cache lru) (done.stuck kept).1);
+    unread = done.unread;
+    same = flushed-same g old new lru done.same.stay;
+  }
+
+  pub closes-relisted : (called : Call) (said : Result (Unit {0}) Error → Answer) → ClosesBatch g called said old result new → ClosesBatch g called said (relisted old lru) result (relisted new lru)
+  closes-relisted called said done = record {
+    step = steps-moved g old new lru (relisted new lru) (same-relisted new lru) called (said result) done.step;
+    blame = record { read = done.blame.read; write = done.blame.write };
+    closed = done.closed;
+    only = done.only;
+    stamps = done.stamps;
+    fault = done.fault;
+    stuck = λ kept. ((done.stuck kept).0, ap (λ cache. relisted cache lru) (done.stuck kept).1);
+    unread = done.unread;
+    same = flushed-same g old new lru done.same.stay;
+  }
 
 pub node-relisted : {L : Type 0} (g : Ghosts L) (cache : Cache L) (lru : Recency) (pid : ℕ) (found : Option NodeView) → IsNodeAt g cache pid found → IsNodeAt g (relisted cache lru) pid found
 node-relisted g cache lru pid (Some view) is = is

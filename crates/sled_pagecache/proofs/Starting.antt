@@ -317,11 +317,12 @@ module _ {L : Type 0} (g : Ghosts L) where
 
   -- what always holds of a cache
   pub table-consistent : {X : Type 0} (old new : StickyLog L) (before : List X) (pages : List Page) (free : List ℕ)
-      → Proceeds g old new (events_at_start before) None → is_open (g.state old.log).pending ≡ false
+      → Proceeds g old new (events_at_start before) None → is_open (g.state old.log).pending ≡ false → old.batch ≡ false
       → IsTable g.tells (now effect_of_entry (g.state new.log)) pages → 1 < length pages → free ≡ free_ids 0 pages
       → IsConsistent g.tells g.state new pages free
-  table-consistent old new before pages free done closed table both frees = record {
-    beside = λ clear. record { usable = done.reaches.usable clear; closed = stays-closed old new (events_at_start before) done closed (events-closed before); kept = table.kept; chains = table.chains_are; sized = table.sized };
+  table-consistent old new before pages free done closed unopened table both frees = record {
+    opened = λ clear. stays-closed old new (events_at_start before) done closed (events-closed before) ∙ sym (done.reaches.batch ∙ unopened);
+    beside = λ clear. record { usable = done.reaches.usable clear; kept = table.kept; chains = table.chains_are; sized = table.sized };
     own = table.hold.0;
     both = omega (arith, both);
     short = table.hold.1;

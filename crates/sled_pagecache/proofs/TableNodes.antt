@@ -9,7 +9,7 @@ use Rattle.sled_pagecache.specs.declared.pagecache.page.Kept.TheVariants as kept
 -- a cache over a log and a table, of which all else is the same
 abbrev pub view : {L : Type 0} → ℕ → Config → Bool → StickyLog L → List Page → Cache L
 view next config recovered sticky_log pages =
-    record { stamps = stamps_in pages; resident = resident_in pages; nodes = nodes_in pages; next = next; fault = sticky_log.fault; config = config; recovered = recovered; lru = unlisted; log = sticky_log.log }
+    record { stamps = stamps_in pages; resident = resident_in pages; nodes = nodes_in pages; next = next; batch = sticky_log.batch; fault = sticky_log.fault; config = config; recovered = recovered; lru = unlisted; log = sticky_log.log }
 
 module _ {L : Type 0} (g : Ghosts L) (next : ℕ) (config : Config) (recovered : Bool) (sticky_log : StickyLog L) (pages : List Page) (free : List ℕ) (pid : ℕ)
     (is : IsConsistent g.tells g.state sticky_log pages free) where

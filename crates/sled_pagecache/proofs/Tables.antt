@@ -39,11 +39,11 @@ module _ {L : Type 0} (tells : Type 0) (state : L → log.LogState Entry) (momen
       (chains-are effect_of (log.now effect_of (log.unplaced_state (state old.log))) events
       (subst (AreChains effect_of) (now-unplaced (state old.log)) (unplaced-chains (log.now effect_of_entry (state old.log)) h))))
 
-  -- where the messages leave a batch open or closed, no batch is open
-  pub went-closed : (old new : StickyLog L) (events : List (Event Message)) → Went tells state moment left_since counts old new events → ((was : Bool) → open_after was events ≡ was) → new.fault ≡ false
-      → is_open (state old.log).pending ≡ false → is_open (state new.log).pending ≡ false
-  went-closed old new events went marks clear closed =
-      went.opened clear ∙ marks (is_open (state old.log).pending) ∙ closed
+  -- where the messages leave a batch open or closed, the cache's own mark says so as before
+  pub went-opened : (old new : StickyLog L) (events : List (Event Message)) → Went tells state moment left_since counts old new events → ((was : Bool) → open_after was events ≡ was) → new.fault ≡ false
+      → is_open (state old.log).pending ≡ old.batch → is_open (state new.log).pending ≡ new.batch
+  went-opened old new events went marks clear opened =
+      went.opened clear ∙ marks (is_open (state old.log).pending) ∙ opened ∙ sym went.batch
 
 -- a change leaves a batch open or closed, told or not
 pub marks-begun : {T : Type 0} (result : Result T Refusal) (pid : ℕ) (m : Message) (was : Bool) → open_after was (begun_by result (Change pid m ∷ [])) ≡ was
@@ -57,7 +57,6 @@ marks-begun (Err refusal) pid m was = refl
 -- the log holds the chain of a page in place of the one that it held
 pub record IsSet (tells : Type 0) (old new : log.LogState Entry) (pid : ℕ) (page : Page) : Type 0 where
   pub usable : new.usable ≡ true
-  pub closed : is_open new.pending ≡ false
   pub kept : tells → IsKept (chain_at new pid) page
   pub others : tells → log.now effect_of_entry new ≡ slice_set (log.now effect_of_entry old) pid (chain_at new pid)
   pub chains : tells → AreChains effect_of_entry (log.now effect_of_entry new)
@@ -65,16 +64,17 @@ pub record IsSet (tells : Type 0) (old new : log.LogState Entry) (pid : ℕ) (pa
 
 module _ {L : Type 0} (tells : Type 0) (state : L → log.LogState Entry) (old new : StickyLog L) (pages : List Page) (free free_then : List ℕ) (c : IsConsistent tells state old pages free) (ready : old.fault ≡ false) where
   pub consistent-set-own : (pid : ℕ) (page : Page) → IsOwnAt pid page.kept → length page.infos.items ≤ 10
+      → (new.fault ≡ false → is_open (state new.log).pending ≡ new.batch)
       → (new.fault ≡ false → IsSet tells (state old.log) (state new.log) pid page)
       → free_then ≡ free_ids 0 (slice_set pages pid page)
       → IsConsistent tells state new (slice_set pages pid page) free_then
-  consistent-set-own pid page own short set frees = record {
+  consistent-set-own pid page own short opened set frees = record {
+    opened = opened;
     beside = λ clear.
         let done = set clear in
         let beside = c.beside ready in
         record {
           usable = done.usable;
-          closed = done.closed;
           kept = λ known.
               subst (λ (l : List Chain). AllZip IsKept l (slice_set pages pid page)) (sym (done.others known))
               (zip-set IsKept pid (log.now effect_of_entry (state old.log)) pages (chain_at (state new.log) pid) page (beside.kept known) (done.kept known));
@@ -89,22 +89,22 @@ module _ {L : Type 0} (tells : Type 0) (state : L → log.LogState Entry) (old n
   }
 
   pub consistent-set : (pid : ℕ) (page : Page) → 2 ≤ pid → IsFreeOrNode page.kept → length page.infos.items ≤ 10
+      → (new.fault ≡ false → is_open (state new.log).pending ≡ new.batch)
       → (new.fault ≡ false → IsSet tells (state old.log) (state new.log) pid page)
       → free_then ≡ free_ids 0 (slice_set pages pid page)
       → IsConsistent tells state new (slice_set pages pid page) free_then
-  consistent-set pid page from node short set frees = consistent-set-own pid page ((past-two IsRoots IsCounter IsFreeOrNode pid page.kept from).0 node) short set frees
+  consistent-set pid page from node short opened set frees = consistent-set-own pid page ((past-two IsRoots IsCounter IsFreeOrNode pid page.kept from).0 node) short opened set frees
 
-  -- nothing comes to the log, but where a write fault is kept
-  pub consistent-same : (moment : L → ℕ) (left_since : L → ℕ → List Messages → Type 0) (counts : L → Counts) (events : List (Event Message))
-      → Went tells state moment left_since counts old new events → ((was : Bool) → open_after was events ≡ was)
+  -- the log keeps what it holds of pages, but where a write fault is kept
+  pub consistent-kept : (new.fault ≡ false → (state new.log).usable ≡ true) → (new.fault ≡ false → is_open (state new.log).pending ≡ new.batch)
       → (tells → new.fault ≡ false → log.now effect_of_entry (state new.log) ≡ log.now effect_of_entry (state old.log))
       → IsConsistent tells state new pages free
-  consistent-same moment left_since counts events went marks same = record {
+  consistent-kept usable opened same = record {
+    opened = opened;
     beside = λ clear.
         let beside = c.beside ready in
         record {
-          usable = went.usable clear;
-          closed = went-closed tells state moment left_since counts old new events went marks clear beside.closed;
+          usable = usable clear;
           kept = λ known. subst (λ (l : List Chain). AllZip IsKept l pages) (sym (same known clear)) (beside.kept known);
           chains = λ known. subst (AreChains effect_of_entry) (sym (same known clear)) (beside.chains known);
           sized = λ known. subst (AllByRecursion IsSized) (sym (same known clear)) (beside.sized known);
@@ -116,11 +116,19 @@ module _ {L : Type 0} (tells : Type 0) (state : L → log.LogState Entry) (old n
     free = c.free;
   }
 
+  -- nothing comes to the log, but where a write fault is kept
+  pub consistent-same : (moment : L → ℕ) (left_since : L → ℕ → List Messages → Type 0) (counts : L → Counts) (events : List (Event Message))
+      → Went tells state moment left_since counts old new events → ((was : Bool) → open_after was events ≡ was)
+      → (tells → new.fault ≡ false → log.now effect_of_entry (state new.log) ≡ log.now effect_of_entry (state old.log))
+      → IsConsistent tells state new pages free
+  consistent-same moment left_since counts events went marks same =
+      consistent-kept went.usable (λ clear. went-opened tells state moment left_since counts old new events went marks clear (c.opened ready)) same
+
   module _ (moment : L → ℕ) (left_since : L → ℕ → List Messages → Type 0) (counts : L → Counts) (pid : ℕ) (m : Message) (went : Went tells state moment left_since counts old new (Change pid m ∷ []))
       (page : Page) (short : length page.infos.items ≤ 10) (is_kept : tells → IsKept (chain_at (state new.log) pid) page)
       (sized : tells → AllByRecursion IsSized (log.now effect_of_entry (state new.log))) where
-    still-closed : new.fault ≡ false → is_open (state new.log).pending ≡ false
-    still-closed clear = went-closed tells state moment left_since counts old new (Change pid m ∷ []) went (λ was. refl) clear (c.beside ready).closed
+    still-opened : new.fault ≡ false → is_open (state new.log).pending ≡ new.batch
+    still-opened clear = went-opened tells state moment left_since counts old new (Change pid m ∷ []) went (λ was. refl) clear (c.opened ready)
 
     still-chains : new.fault ≡ false → tells → AreChains effect_of_entry (log.now effect_of_entry (state new.log))
     still-chains clear known = went-chains tells state moment left_since counts old new (Change pid m ∷ []) went known clear ((c.beside ready).chains known)
@@ -129,8 +137,8 @@ module _ {L : Type 0} (tells : Type 0) (state : L → log.LogState Entry) (old n
     pub consistent-put-own : IsOwnAt pid page.kept → (tells → log.now effect_of_entry (state new.log) ≡ slice_set (log.now effect_of_entry (state old.log)) pid (chain_at (state new.log) pid))
         → free_then ≡ free_ids 0 (slice_set pages pid page) → IsConsistent tells state new (slice_set pages pid page) free_then
     consistent-put-own own others frees =
-        consistent-set-own pid page own short
-        (λ clear. record { usable = went.usable clear; closed = still-closed clear; kept = is_kept; others = others; chains = still-chains clear; sized = sized }) frees
+        consistent-set-own pid page own short still-opened
+        (λ clear. record { usable = went.usable clear; kept = is_kept; others = others; chains = still-chains clear; sized = sized }) frees
 
   module _ (moment : L → ℕ) (left_since : L → ℕ → List Messages → Type 0) (counts : L → Counts) (pid : ℕ) (m : Message) (went : Went tells state moment left_since counts old new (Change pid m ∷ []))
       (page : Page) (own : IsFreeOrNode page.kept) (short : length page.infos.items ≤ 10) (is_kept : tells → IsKept (chain_at (state new.log) pid) page)
@@ -143,9 +151,9 @@ module _ {L : Type 0} (tells : Type 0) (state : L → log.LogState Entry) (old n
     pub consistent-new : length pages < 2 ^ 37 → (tells → log.now effect_of_entry (state new.log) ≡ log.now effect_of_entry (state old.log) ++ chain_at (state new.log) pid ∷ [])
         → free_then ≡ free_ids 0 (pages ++ page ∷ []) → IsConsistent tells state new (pages ++ page ∷ []) free_then
     consistent-new room others frees = record {
+      opened = still-opened moment left_since counts pid m went page short is_kept sized;
       beside = λ clear. record {
         usable = went.usable clear;
-        closed = still-closed moment left_since counts pid m went page short is_kept sized clear;
         kept = λ known.
             subst (λ (l : List Chain). AllZip IsKept l (pages ++ page ∷ [])) (sym (others known))
             (zip-append IsKept (log.now effect_of_entry (state old.log)) pages (chain_at (state new.log) pid ∷ []) (page ∷ []) ((c.beside ready).kept known) (is_kept known, tt));

@@ -160,6 +160,7 @@ module _ {L : Type 0} (g : Ghosts L) where
     calls = (Allocate node, Allocated (Ok made)) ∷ rest.calls;
     are = all rest.calls rest.are;
     made = (mid, first, rest.made);
+    batch = rest.batch ∙ keeps.batch;
     fault = rest.fault;
     stamps = rest.stamps ∙ ap (λ stamps. stamps_then stamps rest.calls) keeps.done;
     touched = (mid, touches, rest.touched);
@@ -175,6 +176,7 @@ module _ {L : Type 0} (g : Ghosts L) where
     calls = (Allocate node, Allocated (Err e)) ∷ [];
     are = all;
     made = (new, first, refl);
+    batch = keeps.batch;
     fault = keeps.fault ∙ ap (λ b. b || is_write_fault {T = ℕ} (Err e)) clear;
     stamps = keeps.refused;
     touched = (new, touches, refl);
@@ -190,6 +192,7 @@ module _ {L : Type 0} (g : Ghosts L) where
     calls = (CasRoot name None (Some root), RootSwapped answer) ∷ [];
     are = (answer, refl, ends);
     made = (new, swapped, refl);
+    batch = keeps.batch;
     fault = keeps.fault ∙ ap (λ b. b || is_write_fault answer) clear ∙ fault;
     stamps = by answer keeps.done keeps.refused;
     touched = (new, touches, refl);

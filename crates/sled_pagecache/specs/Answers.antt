@@ -13,9 +13,10 @@ is_write_fault (Ok answer) = false
 is_write_fault (Err (Io Write)) = true
 is_write_fault (Err other) = false
 
--- A write fault is sticky, and with one kept it is the answer, and nothing changes. Where the call is done the stamps are these,
--- and an error leaves them unchanged.
+-- A batch stays open or closed. A write fault is sticky, and with one kept it is the answer, and nothing changes. Where the call is
+-- done the stamps are these, and an error leaves them unchanged.
 pub record Keeps {L T : Type 0} (old new : Cache L) (result : Result T Error) (stamps : T → List ℕ) : Type 0 where
+  pub batch : new.batch ≡ old.batch
   pub fault : new.fault ≡ (old.fault || is_write_fault result)
   pub stuck : old.fault ≡ true → IsErrOf result (Io Write) × (new ≡ old)
   pub done : IfOk result (λ answer. new.stamps ≡ stamps answer)

@@ -11,13 +11,14 @@ use Rattle.sled_pagecache.specs.State.{State, contents_of, stamps_of}
 use Rattle.sled_pagecache.specs.declared.pagecache.config.Config.{Config}
 
 -- The stamps of the pages, which of them lie in memory, how much of the log the messages of each page take whose node does, the
--- next generated id, whether a write fault is kept, the settings, whether both system pages were found in the log, the pages by
--- their recent use, and the log.
+-- next generated id, whether a batch is open, whether a write fault is kept, the settings, whether both system pages were found in
+-- the log, the pages by their recent use, and the log.
 pub record Cache (L : Type 0) : Type 0 where
   pub stamps : List ℕ
   pub resident : List Bool
   pub nodes : List (Option ℕ)
   pub next : ℕ
+  pub batch : Bool
   pub fault : Bool
   pub config : Config
   pub recovered : Bool
@@ -50,6 +51,7 @@ module _ {L : Type 0} (g : Ghosts L) where
     pub usable : (g.state cache.log).usable ≡ true
     pub logged : IsLogged (log.unplaced_state (g.state cache.log)) held
     pub contents : contents_of s ≡ now held
+    pub opened : s.batch ≡ is_open held.pending
 
   -- The cache is in this state, and its log, which tells its bytes, holds that. After a write error nothing is known of the log.
   pub record IsIn (cache : Cache L) (held : Logged) (s : State) : Type 0 where
@@ -57,5 +59,5 @@ module _ {L : Type 0} (g : Ghosts L) where
     pub stamps : stamps_of s ≡ cache.stamps
     pub next : s.next ≡ cache.next
     pub fault : s.fault ≡ cache.fault
-    pub batch : s.batch ≡ is_open held.pending
+    pub batch : s.batch ≡ cache.batch
     pub known : s.fault ≡ false → KnowsLog cache held s

@@ -26,7 +26,7 @@ module _ {L : Type 0} (g : Ghosts L) where
   -- the log had no room for the message of the change
   abbrev pub HasNoRoom : L → Event Update → Type 0
   HasNoRoom log (Change pid update) = g.is_full log (length (message_of update).payload)
-  HasNoRoom log Pin = ⊥
+  HasNoRoom log Pin = g.is_full_for_batch log
   HasNoRoom log Seal = ⊥
   HasNoRoom log Cancel = ⊥
 

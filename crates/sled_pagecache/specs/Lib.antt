@@ -16,6 +16,7 @@ pub mod Ids
 pub mod Rows
 pub mod RowLaws
 pub mod Reopening
+pub mod Atomic
 pub mod Openings
 pub mod StickyLog
 pub mod StickyLogLaws
@@ -33,6 +34,7 @@ pub mod Judging
 pub mod Swaps
 pub mod RootSwaps
 pub mod Trees
+pub mod Batches
 pub mod Adding
 pub mod PageTables
 pub mod TableLoans
@@ -46,5 +48,6 @@ pub mod PagingOut
 pub mod Touching
 pub mod Relisting
 pub mod Lending
+pub mod Guard
 pub mod CounterPages
 pub mod Counted

@@ -23,7 +23,7 @@ use Rattle.sled_pagecache.specs.declared.pagecache.view.NodeView.{NodeView}
 
 -- the log of a cache, and the write fault that is kept of it
 abbrev pub sticky_log_of : {L : Type 0} → Cache L → StickyLog L
-sticky_log_of cache = record { log = cache.log; fault = cache.fault }
+sticky_log_of cache = record { log = cache.log; fault = cache.fault; batch = cache.batch }
 
 -- Why a page isn't read: it is the cache's own, or it isn't free, and its log doesn't give its node.
 abbrev pub RefusesReading : Chain → ℕ → Refusal → Type 0

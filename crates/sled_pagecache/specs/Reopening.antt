@@ -33,16 +33,22 @@ module _ {L : Type 0} (g : Ghosts L) where
     pub settings : (why : Why) → fault_of config ≡ Some why → result ≡ Err (Unsupported why, log)
     pub opens : fault_of config ≡ None → (held : Logged) → IsLogged (unplaced_state (g.state log)) held → Opens g log config held result
 
-  -- The cache is what is opened of the pages after a prefix of the changes.
-  pub record Reopens (held : Logged) (begun : List (Event Update)) (config : Config) (cache : Cache L) : Type 0 where
+  -- the cache is what is opened of pages that are so
+  pub record ReopensTo (Are : List Content → Type 0) (config : Config) (cache : Cache L) : Type 0 where
     pub contents : List Content
-    pub prefix : AreAfterPrefix held begun contents
+    pub are : Are contents
     pub held_then : Logged
     pub is : IsIn g cache held_then (opened config contents)
 
-  -- A log held this, and then these changes began to come. Whatever crash state of it since that moment a cache is started over, at
-  -- Ok the cache is what is opened of the pages after a prefix of the changes.
-  abbrev pub CrashReopens : L → ℕ → Logged → List (Event Update) → Type 0
-  CrashReopens crashed since held begun =
+  -- Whatever crash state of the log since that moment a cache is started over, at Ok the cache is what is opened of pages that are so.
+  abbrev pub CrashReopensTo : L → ℕ → (List Content → Type 0) → Type 0
+  CrashReopensTo crashed since Are =
       (log : L) → HoldsCrash crashed since log
-      → (config : Config) (result : Result (Cache L) (Error × L)) → Started log config result → IfOk result (Reopens held begun config)
+      → (config : Config) (result : Result (Cache L) (Error × L)) → Started log config result → IfOk result (ReopensTo Are config)
+
+  -- A log held this, and then these changes began to come: the pages are those after a prefix of the changes.
+  abbrev pub Reopens : Logged → List (Event Update) → Config → Cache L → Type 0
+  Reopens held begun = ReopensTo (AreAfterPrefix held begun)
+
+  abbrev pub CrashReopens : L → ℕ → Logged → List (Event Update) → Type 0
+  CrashReopens crashed since held begun = CrashReopensTo crashed since (AreAfterPrefix held begun)

@@ -1,12 +1,12 @@
 -- What follows for calls of the page cache in a row: no call and one call are rows, and a row behind another makes a longer one.
 use Rattle.std.proofs.Common.{◌≡◌, inl, inr, ⊎_elim, ℕ, Bool, true, false, List, [], ◌∷◌, ◌++◌, take, refl, sym, ◌∙◌, ap, subst, arith}
-use Rattle.std.specs.Prelude.{MatchBool}
+use Rattle.std.specs.Prelude.{MatchBool, Result}
 use Rattle.std.proofs.lemmas.Bool.{false≢true}
 use Rattle.std.proofs.lemmas.List.{append_assoc, append-nil}
 use Rattle.sled_log.specs.Batches.{IsFair}
 use Rattle.sled_log.specs.Chains.{chains_after}
 use Rattle.sled_log.specs.Contents.{Update, contents_after}
-use Rattle.sled_log.specs.Events.{Event}
+use Rattle.sled_log.specs.Events.{Event, Seal, Cancel}
 use Rattle.sled_log.specs.HoldingLaws.{holds-after}
 use Rattle.sled_log.specs.Laws.{AddsEvents-none, AddsEvents-then, CrashKeeps-behind, CrashKeeps-more, CrashesSinceLeave-none}
 use Rattle.sled_log.specs.Messages.{Message, Messages, effect_of}
@@ -15,14 +15,15 @@ use Rattle.sled_log.specs.RunLaws.{CrashesSinceLeave-weaker}
 use Rattle.sled_log.specs.LogState as log
 use Rattle.sled_log.specs.LogState.{IsPrefix, CrashesSinceLeave}
 use Rattle.sled_log.specs.declared.log.Log.{Ghosts}
+use Rattle.sled_base.specs.declared.types.Error.{Error}
 use Rattle.sled_pagecache.specs.Cache.{Cache}
 use Rattle.sled_pagecache.specs.Calls.{StepOver, Steps}
 use Rattle.sled_pagecache.specs.Logged.{Logged, IsLogged, AreKept, Adds, IsLeft}
 use Rattle.sled_pagecache.specs.Rows.{AreSteps, IsRow, StepInRow, IsMade, AreMade}
 use Rattle.sled_pagecache.specs.State.{State}
-use Rattle.sled_pagecache.specs.Step.{Outcome, unchanged}
+use Rattle.sled_pagecache.specs.Step.{Outcome, Closes, unchanged}
 use Rattle.sled_pagecache.specs.declared.pagecache.call.Answer.{Answer}
-use Rattle.sled_pagecache.specs.declared.pagecache.call.Answer.TheVariants.{Allocated, Got, Linked, Replaced, Freed, GotMeta, GotIdgen, Generated, Flushed, Sized, FoundRoot, RootSwapped}
+use Rattle.sled_pagecache.specs.declared.pagecache.call.Answer.TheVariants.{Allocated, Got, Linked, Replaced, Freed, GotMeta, GotIdgen, Generated, Flushed, Sized, FoundRoot, RootSwapped, Pinned, Sealed, Cancelled}
 use Rattle.sled_pagecache.specs.declared.pagecache.call.Call.{Call}
 use Rattle.sled_pagecache.specs.declared.pagecache.call.Call.TheVariants as call
 use Rattle.sled_pagecache.specs.declared.pagecache.call.Call.TheVariants.{Allocate, Get, Link, Replace, GetMeta, GetIdgen, GenerateId, Flush, SizeOnDisk, MetaPidForName, CasRoot}
@@ -89,28 +90,40 @@ taken : (A B : Type 0) (test : Bool) → test ≡ true → MatchBool test A B �
 taken A B true is h = h
 taken A B false is h = absurd (false≢true is)
 
+-- with a write fault kept nothing changes, but that a batch may be closed
+abbrev pub IsStuck : State → Outcome → Type 0
+IsStuck s out = out ≡ unchanged (record s { batch = out.state.batch })
+
+same-stuck : (s : State) (out : Outcome) → out ≡ unchanged s → IsStuck s out
+same-stuck s out is = subst (IsStuck s) (sym is) refl
+
+closes-stuck : (mark : Event Update) (s : State) (answer : Result (Unit {0}) Error) (out : Outcome) → Closes mark s answer out → s.fault ≡ true → IsStuck s out
+closes-stuck mark s answer out step kept = subst (IsStuck s) (sym (taken _ _ s.fault kept step.1).1) refl
+
 module _ {L : Type 0} (g : Ghosts L) where
-  -- with a write fault kept a call changes nothing
-  pub step-stuck : (cache : Cache L) (s : State) (call : Call) (answer : Answer) (out : Outcome) → StepOver g cache s call answer out → s.fault ≡ true → out ≡ unchanged s
-  step-stuck cache s (Allocate node) (Allocated answer) out step kept = (taken _ _ s.fault kept step).1
-  step-stuck cache s (Get pid) (Got answer) out step kept = (taken _ _ s.fault kept step).1
-  step-stuck cache s (Link old link) (Linked answer) out step kept = (taken _ _ s.fault kept step).1
-  step-stuck cache s (Replace old node) (Replaced answer) out step kept = (taken _ _ s.fault kept step).1
-  step-stuck cache s (call.Free old) (Freed answer) out step kept = (taken _ _ s.fault kept step).1
-  step-stuck cache s GetMeta (GotMeta answer) out step kept = (taken _ _ s.fault kept step).1
-  step-stuck cache s (MetaPidForName name) (FoundRoot answer) out step kept = (taken _ _ s.fault kept step).1
-  step-stuck cache s (CasRoot name old new) (RootSwapped answer) out step kept = (taken _ _ s.fault kept step).1
-  step-stuck cache s GetIdgen (GotIdgen answer) out step kept = (taken _ _ s.fault kept step).1
-  step-stuck cache s GenerateId (Generated answer) out step kept = (taken _ _ s.fault kept step).1
-  step-stuck cache s Flush (Flushed answer) out step kept = (taken _ _ s.fault kept step).1
-  step-stuck cache s SizeOnDisk (Sized answer) out step kept = (taken _ _ s.fault kept step).1
+  -- with a write fault kept a call changes nothing, but that one may close the batch
+  pub step-stuck : (cache : Cache L) (s : State) (call : Call) (answer : Answer) (out : Outcome) → StepOver g cache s call answer out → s.fault ≡ true → IsStuck s out
+  step-stuck cache s (Allocate node) (Allocated answer) out step kept = same-stuck s out (taken _ _ s.fault kept step).1
+  step-stuck cache s (Get pid) (Got answer) out step kept = same-stuck s out (taken _ _ s.fault kept step).1
+  step-stuck cache s (Link old link) (Linked answer) out step kept = same-stuck s out (taken _ _ s.fault kept step).1
+  step-stuck cache s (Replace old node) (Replaced answer) out step kept = same-stuck s out (taken _ _ s.fault kept step).1
+  step-stuck cache s (call.Free old) (Freed answer) out step kept = same-stuck s out (taken _ _ s.fault kept step).1
+  step-stuck cache s GetMeta (GotMeta answer) out step kept = same-stuck s out (taken _ _ s.fault kept step).1
+  step-stuck cache s (MetaPidForName name) (FoundRoot answer) out step kept = same-stuck s out (taken _ _ s.fault kept step).1
+  step-stuck cache s (CasRoot name old new) (RootSwapped answer) out step kept = same-stuck s out (taken _ _ s.fault kept step).1
+  step-stuck cache s GetIdgen (GotIdgen answer) out step kept = same-stuck s out (taken _ _ s.fault kept step).1
+  step-stuck cache s GenerateId (Generated answer) out step kept = same-stuck s out (taken _ _ s.fault kept step).1
+  step-stuck cache s Flush (Flushed answer) out step kept = same-stuck s out (taken _ _ s.fault kept step).1
+  step-stuck cache s SizeOnDisk (Sized answer) out step kept = same-stuck s out (taken _ _ s.fault kept step).1
+  step-stuck cache s call.Pin (Pinned answer) out step kept = same-stuck s out (taken _ _ s.fault kept step).1
+  step-stuck cache s call.Seal (Sealed answer) out step kept = closes-stuck Seal s answer out step kept
+  step-stuck cache s call.Cancel (Cancelled answer) out step kept = closes-stuck Cancel s answer out step kept
   step-stuck cache s asked answer out step kept = absurd step
 
-  steps-stuck : (s t : State) (calls : List (Call × Answer)) (changes : List (Event Update)) → AreSteps g s calls changes t → s.fault ≡ true → t ≡ s
-  steps-stuck s t [] changes steps kept = steps.1
+  steps-stuck : (s t : State) (calls : List (Call × Answer)) (changes : List (Event Update)) → AreSteps g s calls changes t → s.fault ≡ true → t.fault ≡ true
+  steps-stuck s t [] changes steps kept = ap (λ u. u.fault) steps.1 ∙ kept
   steps-stuck s t (made ∷ calls) changes (cache, out, others, step, are, steps) kept =
-      let same = ap (λ (o : Outcome). o.state) (step-stuck cache s made.0 made.1 out step kept) in
-      steps-stuck out.state t calls others steps (ap (λ u. u.fault) same ∙ kept) ∙ same
+      steps-stuck out.state t calls others steps (ap (λ (o : Outcome). o.state.fault) (step-stuck cache s made.0 made.1 out step kept) ∙ kept)
 
   -- steps behind others
   steps-then : (s mid t : State) (calls others : List (Call × Answer)) (changes more : List (Event Update))
@@ -135,7 +148,7 @@ module _ {L : Type 0} (g : Ghosts L) where
       where
         by : (fault : Bool) → row.t.fault ≡ fault → row.t.fault ≡ false
         by false clear = clear
-        by true kept = ap (λ u. u.fault) (sym (steps-stuck row.t next.t others next.changes next.steps kept)) ∙ free
+        by true kept = absurd (false≢true (sym free ∙ steps-stuck row.t next.t others next.changes next.steps kept))
 
     stop : s.fault ≡ false → CrashesSinceLeave g.moment g.left_since old.log new.log (IsLeft held (row.changes ++ next.changes))
     stop free = by row.t.fault refl
@@ -161,7 +174,7 @@ module _ {L : Type 0} (g : Ghosts L) where
       steps = steps-then s row.t next.t calls others row.changes next.changes row.steps next.steps;
       added = λ free. adds-then held row.held_then next.held_then row.changes next.changes (row.added (clear_before free)) (next.added free);
       stop = stop;
-      stuck = λ kept. next.stuck (ap (λ u. u.fault) (steps-stuck s row.t calls row.changes row.steps kept) ∙ kept) ∙ row.stuck kept;
+      stuck = λ kept. next.stuck (steps-stuck s row.t calls row.changes row.steps kept) ∙ row.stuck kept;
     }
 
   -- no call
@@ -196,6 +209,21 @@ module _ {L : Type 0} (g : Ghosts L) where
           stop = next.stop;
           stuck = next.stuck;
         };
+  }
+
+  -- a call behind others, with the changes and the state that it leaves
+  pub record IsLonger (old new : Cache L) (calls : List (Call × Answer)) (held : Logged) (s : State) (changes : List (Event Update)) (t : State) : Type 0 where
+    pub row : IsRow g old calls new held s
+    pub writes : row.changes ≡ changes
+    pub leaves : row.t ≡ t
+
+  pub one-longer : (old mid new : Cache L) (calls : List (Call × Answer)) (call : Call) (answer : Answer) (held : Logged) (s : State) (row : IsRow g old calls mid held s) (steps : Steps g mid call answer new)
+      → (let out = (steps.from_each row.held_then row.t row.is).out in IsLonger old new (calls ++ (call, answer) ∷ []) held s (row.changes ++ out.changes) out.state)
+  unfolding longer row-one
+  one-longer old mid new calls call answer held s row steps = record {
+    row = longer old mid new calls ((call, answer) ∷ []) held s row ((row-one mid new call answer steps).from_each row.held_then row.t row.is);
+    writes = refl;
+    leaves = refl;
   }
 
   -- calls behind others

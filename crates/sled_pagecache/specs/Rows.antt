@@ -11,7 +11,7 @@ use Rattle.sled_pagecache.specs.Logged.{Logged, Adds, IsLeft}
 use Rattle.sled_pagecache.specs.State.{State}
 use Rattle.sled_pagecache.specs.Step.{Outcome}
 use Rattle.sled_pagecache.specs.declared.pagecache.call.Answer.{Answer}
-use Rattle.sled_pagecache.specs.declared.pagecache.call.Answer.TheVariants.{Allocated, Got, Linked, Replaced, Freed, GotMeta, GotIdgen, Generated, Flushed, Sized, FoundRoot, RootSwapped}
+use Rattle.sled_pagecache.specs.declared.pagecache.call.Answer.TheVariants.{Allocated, Got, Linked, Replaced, Freed, GotMeta, GotIdgen, Generated, Flushed, Sized, FoundRoot, RootSwapped, Pinned, Sealed, Cancelled}
 use Rattle.sled_pagecache.specs.declared.pagecache.call.Call.{Call}
 
 module _ {L : Type 0} (g : Ghosts L) where
@@ -58,6 +58,9 @@ module _ {L : Type 0} (g : Ghosts L) where
   ReportsFaults old (Generated result) new = IsBlamed g old new result
   ReportsFaults old (Flushed result) new = IsBlamed g old new result
   ReportsFaults old (Sized result) new = ⊤
+  ReportsFaults old (Pinned result) new = IsBlamed g old new result
+  ReportsFaults old (Sealed result) new = IsBlamed g old new result
+  ReportsFaults old (Cancelled result) new = IsBlamed g old new result
 
   -- A generated id that was answered is covered by the counter that is durable.
   abbrev pub CoversId : Answer → Cache L → Type 0

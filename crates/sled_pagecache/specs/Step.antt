@@ -1,5 +1,5 @@
 -- The page cache as a machine: which answer a call may get in a state, which state it leaves, and what it begins to write.
-use Rattle.std.specs.Prelude.{◌≡◌, ◌==◌, ◌||◌, ℕ, ◌+◌, ◌-◌, ◌*◌, ◌/◌, ◌^◌, ◌⊎◌, nat_lt, Bool, true, List, [], ◌∷◌, ◌++◌, length, Option, Some, None, Result, Ok, Err, MatchBool, MatchOption, IsOkAnd, ◌≢◌}
+use Rattle.std.specs.Prelude.{◌≡◌, ◌==◌, ◌||◌, ℕ, ◌+◌, ◌-◌, ◌*◌, ◌/◌, ◌^◌, ◌⊎◌, nat_lt, Bool, false, true, List, [], ◌∷◌, ◌++◌, length, Option, Some, None, Result, Ok, Err, MatchBool, MatchOption, IsOkAnd, ◌≢◌}
 use Rattle.sled_base.specs.declared.types.Bug.TheVariants.{LinkRefused}
 use Rattle.sled_base.specs.declared.types.Device.TheVariants.{Read, Write}
 use Rattle.sled_base.specs.declared.types.Error.{Error}
@@ -14,12 +14,12 @@ use Rattle.sled_node.specs.declared.node.link.Link.{Link as NodeLink}
 use Rattle.sled_pagecache.specs.Changes.{link_update}
 use Rattle.sled_pagecache.specs.Limits.{meta_pid, counter_pid, batch_manifest_pid, most_pages}
 use Rattle.sled_pagecache.specs.declared.pagecache.call.Answer.{Answer}
-use Rattle.sled_pagecache.specs.declared.pagecache.call.Answer.TheVariants.{Allocated, Got, Linked, Replaced, Freed, GotMeta, GotIdgen, Generated, Flushed, Sized, FoundRoot, RootSwapped}
+use Rattle.sled_pagecache.specs.declared.pagecache.call.Answer.TheVariants.{Allocated, Got, Linked, Replaced, Freed, GotMeta, GotIdgen, Generated, Flushed, Sized, FoundRoot, RootSwapped, Pinned, Sealed, Cancelled}
 use Rattle.sled_pagecache.specs.declared.pagecache.call.Call.{Call}
 use Rattle.sled_pagecache.specs.declared.pagecache.call.Call.TheVariants.{Allocate, Get, Link, Replace, GetMeta, GetIdgen, GenerateId, Flush, SizeOnDisk, MetaPidForName, CasRoot}
 use Rattle.sled_pagecache.specs.declared.pagecache.call.Call.TheVariants as call
 use Rattle.sled_log.specs.Contents.{Content, Free, Counter, Roots, Node, Damaged, Update, Put}
-use Rattle.sled_log.specs.Events.{Event, Change}
+use Rattle.sled_log.specs.Events.{Event, Change, Pin, Seal, Cancel}
 use Rattle.sled_pagecache.specs.State.{StampedPage, page, State, page_at, with_page, is_free, greatest_free}
 use Rattle.sled_pagecache.specs.Token.{Token, token}
 
@@ -148,6 +148,19 @@ Flushes s answer out = UnlessFaulty s answer out (MatchBool s.batch (IsRefused s
 abbrev pub Sizes : State → Result ℕ Error → Outcome → Type 0
 Sizes s answer out = UnlessFaulty s answer out (IsOkAnd answer (λ size. out ≡ unchanged s))
 
+-- ---- seal and cancel: the batch that is open is closed, whatever comes
+
+abbrev pub closed : State → State
+closed s = record s { batch = false }
+
+-- With a write fault kept nothing is written. Else the mark is; where that fails, it may have been.
+abbrev pub Closes : Event Update → State → Result (Unit {0}) Error → Outcome → Type 0
+Closes mark s answer out = (s.batch ≡ true) × MatchBool s.fault ((answer ≡ Err (Io Write)) × (out ≡ unchanged (closed s))) (WritesMark answer)
+  where
+    WritesMark : Result (Unit {0}) Error → Type 0
+    WritesMark (Ok done) = out ≡ outcome (closed s) (mark ∷ [])
+    WritesMark (Err e) = (e ≡ Io Write) × (out ≡ outcome (record (closed s) { fault = true }) (mark ∷ []))
+
 -- ---- a swap: a page that is there, and at the stamp of the token, is changed
 
 abbrev pub Swapped : Type 0 → Type 0
@@ -270,6 +283,14 @@ module _ (messages : ℕ → ℕ) (no_room : Event Update → Type 0) where
       (PutsCounter s stamp (interval_start interval s.next) answer out)
       ((answer ≡ Ok s.next) × (out ≡ unchanged (with_next_id s))))))
 
+  -- ---- pin: a batch is opened, unless one is open
+
+  abbrev pub Pins : State → Result (Unit {0}) Error → Outcome → Type 0
+  Pins s answer out =
+      UnlessFaulty s answer out
+      (MatchBool s.batch (IsRefused s answer out (Unsupported BatchOpen))
+      (Does s Pin answer out (λ done t. t ≡ record s { batch = true })))
+
   -- ---- From s, the cache may give this answer to the call, and leave this. Ids are generated in intervals so long.
   module _ (interval : ℕ) where
     abbrev pub Step : State → Call → Answer → Outcome → Type 0
@@ -285,5 +306,8 @@ module _ (messages : ℕ → ℕ) (no_room : Event Update → Type 0) where
     Step s GenerateId (Generated answer) out = Generates interval s answer out
     Step s Flush (Flushed answer) out = Flushes s answer out
     Step s SizeOnDisk (Sized answer) out = Sizes s answer out
+    Step s call.Pin (Pinned answer) out = Pins s answer out
+    Step s call.Seal (Sealed answer) out = Closes Seal s answer out
+    Step s call.Cancel (Cancelled answer) out = Closes Cancel s answer out
     -- a call gets no answer of another call
     Step s asked answer out = ⊥

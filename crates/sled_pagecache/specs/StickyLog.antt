@@ -46,10 +46,11 @@ IsOfLog (Unsupported LogFull) = ⊤
 IsOfLog other = ⊥
 
 module _ {L : Type 0} (tells : Type 0) (state : L → LogState Entry) (moment : L → ℕ) (left_since : L → ℕ → List Messages → Type 0) (counts : L → Counts) where
-  -- If no write fault is kept, the log may be called and a batch is open as these events say; no count falls. Where the device
-  -- tells its bytes, the events were added, and a crash at any moment since `old` leaves what was durable, and a
-  -- prefix of what was pending then and of the events, which splits no batch.
+  -- The cache's own mark of a batch stays. If no write fault is kept, the log may be called and a batch is open as these events say;
+  -- no count falls. Where the device tells its bytes, the events were added, and a crash at any moment since `old` leaves what was
+  -- durable, and a prefix of what was pending then and of the events, which splits no batch.
   pub record Went (old new : StickyLog L) (events : List (Event Message)) : Type 0 where
+    pub batch : new.batch ≡ old.batch
     pub usable : new.fault ≡ false → (state new.log).usable ≡ true
     pub opened : new.fault ≡ false → is_open (state new.log).pending ≡ open_after (is_open (state old.log).pending) events
     pub failed_reads : (counts old.log).failed_reads ≤ (counts new.log).failed_reads

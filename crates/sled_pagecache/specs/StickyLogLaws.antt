@@ -22,6 +22,7 @@ module _ {L : Type 0} (tells : Type 0) (state : L → LogState Entry) (moment : 
       → ((pages : List Messages) → tells → (state sticky_log.log).usable ≡ true → left_since sticky_log.log (moment sticky_log.log) pages → IsLeft effect_of (unplaced_state (state sticky_log.log)) [] pages)
       → Went tells state moment left_since counts sticky_log sticky_log []
   Went-none sticky_log usable only = record {
+    batch = refl;
     usable = λ _. usable;
     opened = λ _. refl;
     failed_reads = omega arith;
@@ -40,6 +41,7 @@ module _ {L : Type 0} (tells : Type 0) (state : L → LogState Entry) (moment : 
       let before = unplaced_state (state old.log) in
       let between = unplaced_state (state mid.log) in
       record {
+        batch = two.batch ∙ one.batch;
         usable = two.usable;
         opened = λ kept. two.opened kept ∙ ap (λ b. open_after b second) (one.opened clear) ∙ sym (open_after-append (is_open (state old.log).pending) first second);
         failed_reads = let a = one.failed_reads in let b = two.failed_reads in omega arith;

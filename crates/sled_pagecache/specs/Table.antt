@@ -48,7 +48,6 @@ module _ {L : Type 0} (tells : Type 0) (state : L → log.LogState Entry) where
   -- What the log is beside the table. Where its device tells its bytes, the pages are kept as their chains say.
   pub record IsBeside (l : L) (pages : List Page) : Type 0 where
     pub usable : (state l).usable ≡ true
-    pub closed : is_open (state l).pending ≡ false
     pub kept : tells → AllZip IsKept (log.now effect_of_entry (state l)) pages
     pub chains : tells → AllByRecursion (λ chain. is_chain effect_of_entry chain ≡ true) (log.now effect_of_entry (state l))
     pub sized : tells → AllByRecursion IsSized (log.now effect_of_entry (state l))
@@ -56,6 +55,7 @@ module _ {L : Type 0} (tells : Type 0) (state : L → log.LogState Entry) where
   -- With a write fault kept nothing is known of the log.
   pub record IsConsistent (sticky_log : StickyLog L) (pages : List Page) (free_pids : List ℕ) : Type 0 where
     pub beside : sticky_log.fault ≡ false → IsBeside sticky_log.log pages
+    pub opened : sticky_log.fault ≡ false → is_open (state sticky_log.log).pending ≡ sticky_log.batch
     pub own : AreOwn pages
     pub both : 2 ≤ length pages
     pub short : AllByRecursion (λ page. length page.infos.items ≤ most_messages) pages

@@ -129,6 +129,7 @@ module _ {L : Type 0} (g : Ghosts L) where
     pub calls : MadeCalls
     pub are : Are calls
     pub made : AreMade g old calls new
+    pub batch : new.batch ≡ old.batch
     pub fault : new.fault ≡ is_write_fault result
     pub stamps : new.stamps ≡ stamps_then old.stamps calls
     pub touched : AreTouched old calls new
@@ -154,7 +155,8 @@ module _ {L : Type 0} (g : Ghosts L) where
     pub touched : AreTouched old calls new
     pub same : calls ≡ [] → new ≡ old
 
--- A write fault is sticky, and with one kept it is the answer, and nothing changes.
+-- A batch stays open or closed. A write fault is sticky, and with one kept it is the answer, and nothing changes.
 pub record KeepsFault {L T : Type 0} (old new : Cache L) (result : Result T Error) : Type 0 where
+  pub batch : new.batch ≡ old.batch
   pub fault : new.fault ≡ (old.fault || is_write_fault result)
   pub stuck : old.fault ≡ true → IsErrOf result (Io Write) × (new ≡ old)

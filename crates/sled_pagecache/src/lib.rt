@@ -4,10 +4,12 @@
 //!
 //! - `pagecache`: the cache, its settings, its tokens and its calls
 //! - `rows`: what calls of the page cache in a row do
+//! - `batches`: what a crash leaves of a batch
 //! - `openings`: generated ids, over caches that are opened one after another
 //! - `laws`: what holds of the definitions that the contracts of a page cache cite: crashes first of all
 #![tactic(auto)]
 
+pub mod batches;
 pub mod laws;
 pub mod openings;
 pub mod pagecache;
@@ -15,7 +17,7 @@ pub mod rows;
 
 pub use pagecache::{
     Answer, CacheInfo, Call, Config, MetaView, NodeView, Page, PageCache, PageTable, PageView,
-    open_tree, split_fanout,
+    RecoveryGuard, open_tree, split_fanout,
 };
 pub use sled_base::{
     self, BatchManifest, Bug, ConsumeSequence, Device, DiskPtr, Error, IVec, LogKind, MessageKind,

@@ -3,6 +3,7 @@
 //! In reading order, from what is public down:
 //!
 //! - `cache`: the cache: pages, and their accesses; each call is one step of a machine
+//! - `guard`: batches, and the guard of one
 //! - `trees`: opening a tree by its name, which is several calls
 //! - `call`, `view`, `config`: the calls and their answers; tokens, and nodes that are lent; the settings
 //! - `accesses`: the accesses to pages, by which pages leave memory
@@ -22,6 +23,7 @@ mod call;
 mod chain;
 mod config;
 mod free;
+mod guard;
 mod ids;
 mod judge;
 mod own;
@@ -42,6 +44,7 @@ mod write;
 pub use cache::PageCache;
 pub use call::{Answer, Call};
 pub use config::Config;
+pub use guard::RecoveryGuard;
 pub use page::{CacheInfo, Page};
 pub use pagetable::{PageTable, split_fanout};
 pub(crate) use pagetable::{CHUNK_BITS, CHUNK_LENGTH};

@@ -1,3 +1,4 @@
+mod batches;
 mod corners;
 mod crashes;
 mod eviction;
@@ -51,10 +52,26 @@ fn set(alloc: Global, key: &[u8], value: &[u8]) -> Result<Link, AllocError> {
     ))
 }
 
+// The log of a cache, if no batch is open.
+fn log_of<L: Log>(cache: PageCache<L>) -> Option<L> {
+    if cache.batch_open() {
+        return None;
+    }
+    Some(cache.into_log())
+}
+
+// The same, where the cache shows all that it should.
+fn log_if<L: Log>(cache: PageCache<L>, is_so: bool) -> Option<L> {
+    if is_so {
+        return log_of(cache);
+    }
+    None
+}
+
 // Whether a config has this fault, or none. A log that was refused, or that was in use, serves again.
 fn has_fault(alloc: Global, config: Config, fault: Option<Why>) -> bool {
     match open(alloc, config) {
-        Ok(cache) => fault.is_none() && serves(alloc, cache.into_log()),
+        Ok(cache) => fault.is_none() && serves_again(alloc, cache),
         Err((error, log)) => is_fault(error, fault) && serves(alloc, log),
     }
 }
@@ -68,6 +85,10 @@ fn is_fault(error: Error, fault: Option<Why>) -> bool {
 
 fn serves(alloc: Global, log: MemLog) -> bool {
     reopened(alloc, log).is_some()
+}
+
+fn serves_again(alloc: Global, cache: Cache) -> bool {
+    log_of(cache).is_some_and(|log| serves(alloc, log))
 }
 
 // A cache over what a crash leaves of a log that keeps so many of the pending events, if it may.

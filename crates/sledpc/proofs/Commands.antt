@@ -14,7 +14,7 @@ use Rattle.sled_node.specs.Node.{Value, WholeNode, leaf_of}
 use Rattle.sled_node.specs.Pairs.{IsWithinLimit, HasPairs}
 use Rattle.sled_pagecache.specs.Token.{Token, token, pid_of, stamp_of}
 use Rattle.sled_pagecache.specs.declared.pagecache.call.Call.{Call}
-use Rattle.sled_pagecache.specs.declared.pagecache.call.Call.TheVariants.{Allocate, Get, Link, Replace, Free, GetMeta, MetaPidForName, CasRoot, GetIdgen, GenerateId, Flush, SizeOnDisk}
+use Rattle.sled_pagecache.specs.declared.pagecache.call.Call.TheVariants.{Allocate, Get, Link, Replace, Free, GetMeta, MetaPidForName, CasRoot, GetIdgen, GenerateId, Flush, SizeOnDisk, Pin, Seal, Cancel}
 use Rattle.sledpc.specs.Asked.{AsksBehind, AreTwo, BeginsWithToken, EncodeLeaf, EncodeRoots, OpensBehind, at_the_end}
 use Rattle.sledpc.specs.Commands.{Asks, IsRootNumber, IsToken, Encodes, EncodesOpen, IsCommand, IsOfScript, root_word}
 use Rattle.sledpc.specs.Cut.{HasNo}
@@ -393,6 +393,9 @@ is_named words (MetaPidForName name) asks = record { name = codes "root"; rest =
 is_named words (CasRoot name old new) asks = record { name = codes "cas"; rest = bytes_word name ∷ root_word old ∷ root_word new ∷ []; plain = search rules; joined = asks.3 }
 is_named words GetMeta asks = absurd asks
 is_named words GetIdgen asks = absurd asks
+is_named words Pin asks = absurd asks
+is_named words Seal asks = absurd asks
+is_named words Cancel asks = absurd asks
 is_named words GenerateId asks = record { name = codes "id"; rest = []; plain = search rules; joined = asks }
 is_named words Flush asks = record { name = codes "flush"; rest = []; plain = search rules; joined = asks }
 is_named words SizeOnDisk asks = record { name = codes "size"; rest = []; plain = search rules; joined = asks }
@@ -454,6 +457,9 @@ none_encoded_if_ok line name text (Err error) begins none = tt
 pub of_script : (line : Bytes) (call : Call) → Encodes line call → IsOfScript call
 of_script line GetMeta encodes = absurd (encodes.1.1)
 of_script line GetIdgen encodes = absurd (encodes.1.1)
+of_script line Pin encodes = absurd (encodes.1.1)
+of_script line Seal encodes = absurd (encodes.1.1)
+of_script line Cancel encodes = absurd (encodes.1.1)
 of_script line call encodes = tt
 
 -- ---- a tree to be opened

@@ -8,7 +8,7 @@ use Rattle.sled_node.specs.Pairs.{IsWithinLimit, HasPairs}
 use Rattle.sled_node.specs.declared.node.link.Link.TheVariants.{Set, Del, ParentMergeIntention, ParentMergeConfirm, ChildMergeCap}
 use Rattle.sled_pagecache.specs.Token.{Token, pid_of, stamp_of}
 use Rattle.sled_pagecache.specs.declared.pagecache.call.Call.{Call}
-use Rattle.sled_pagecache.specs.declared.pagecache.call.Call.TheVariants.{Allocate, Get, Link, Replace, Free, GetMeta, MetaPidForName, CasRoot, GetIdgen, GenerateId, Flush, SizeOnDisk}
+use Rattle.sled_pagecache.specs.declared.pagecache.call.Call.TheVariants.{Allocate, Get, Link, Replace, Free, GetMeta, MetaPidForName, CasRoot, GetIdgen, GenerateId, Flush, SizeOnDisk, Pin, Seal, Cancel}
 use Rattle.sledpc.specs.Words.{bytes_word, pair_word, AreBytes, ArePairs}
 use Rattle.sledpc.specs.declared.script.command.Command.{Command}
 use Rattle.sledpc.specs.declared.script.command.Command.TheVariants as command
@@ -48,6 +48,9 @@ Asks words GetMeta = ⊥
 Asks words (MetaPidForName name) = AreBytes name × (words ≡ codes "root" ∷ bytes_word name ∷ [])
 Asks words (CasRoot name old new) = AreBytes name × IsRootNumber old × IsRootNumber new × (words ≡ codes "cas" ∷ bytes_word name ∷ root_word old ∷ root_word new ∷ [])
 Asks words GetIdgen = ⊥
+Asks words Pin = ⊥
+Asks words Seal = ⊥
+Asks words Cancel = ⊥
 Asks words GenerateId = words ≡ codes "id" ∷ []
 Asks words Flush = words ≡ codes "flush" ∷ []
 Asks words SizeOnDisk = words ≡ codes "size" ∷ []
@@ -60,6 +63,9 @@ Encodes line call = (length line ≤ longest_line) × ((words : List Bytes) × A
 abbrev pub IsOfScript : Call → Type 0
 IsOfScript GetMeta = ⊥
 IsOfScript GetIdgen = ⊥
+IsOfScript Pin = ⊥
+IsOfScript Seal = ⊥
+IsOfScript Cancel = ⊥
 IsOfScript call = ⊤
 
 -- the line asks for the tree of this name

@@ -9,7 +9,7 @@ use Rattle.sled_base.specs.declared.types.Error.TheVariants.{CollectionNotFound,
 use Rattle.sled_node.specs.Node.{Item, Value, Child, WholeNode}
 use Rattle.sled_pagecache.specs.Token.{stamp_of}
 use Rattle.sled_pagecache.specs.declared.pagecache.call.Answer.{Answer}
-use Rattle.sled_pagecache.specs.declared.pagecache.call.Answer.TheVariants.{Allocated, Got, Linked, Replaced, Freed, GotMeta, FoundRoot, RootSwapped, GotIdgen, Generated, Flushed, Sized}
+use Rattle.sled_pagecache.specs.declared.pagecache.call.Answer.TheVariants.{Allocated, Got, Linked, Replaced, Freed, GotMeta, FoundRoot, RootSwapped, GotIdgen, Generated, Flushed, Sized, Pinned, Sealed, Cancelled}
 use Rattle.sledpc.specs.Words.{bytes_word}
 
 abbrev pub error_text : Error → Bytes
@@ -51,9 +51,12 @@ reply_of (Freed (Ok (Ok made))) = codes "ok " ++ decimal (stamp_of made)
 reply_of (Freed (Ok (Err None))) = codes "gone"
 reply_of (Freed (Ok (Err (Some back)))) = codes "stale " ++ decimal (stamp_of back.0)
 reply_of (Freed (Err e)) = error_text e
--- no line asks for the map of named roots, or for the counter of ids
+-- no line asks for the map of named roots, for the counter of ids, or for a batch
 reply_of (GotMeta answer) = []
 reply_of (GotIdgen answer) = []
+reply_of (Pinned answer) = []
+reply_of (Sealed answer) = []
+reply_of (Cancelled answer) = []
 reply_of (FoundRoot (Ok root)) = codes "page " ++ decimal root
 reply_of (FoundRoot (Err (CollectionNotFound name))) = codes "none"
 reply_of (FoundRoot (Err e)) = error_text e

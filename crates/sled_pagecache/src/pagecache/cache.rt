@@ -29,6 +29,7 @@ ghost use Rattle.sled_pagecache.specs.declared.pagecache.call.Answer.TheVariants
 ghost use Rattle.sled_pagecache.specs.declared.pagecache.call.Call.TheVariants.{Allocate, Flush, SizeOnDisk};
 ghost use Rattle.sled_pagecache.specs.declared.pagecache.call.Call.TheVariants as call;
 
+mod batches;
 mod ids;
 mod roots;
 
@@ -50,8 +51,8 @@ use std::marker::Model;
 /// Where they take more, the nodes that were accessed longest ago leave memory. The page that was accessed last stays.
 ///
 /// Contracts see the stamps, which pages lie in memory, how much the messages of each node there take, the next generated id,
-/// whether a write fault is kept, the config, whether the system pages were found in the log, the pages by their recent use, and
-/// the log.
+/// whether a batch is open, whether a write fault is kept, the config, whether the system pages were found in the log, the pages by
+/// their recent use, and the log.
 #[derive(Drop)]
 pub struct PageCache<L: Log> {
     pages: Pages<L>,
@@ -97,6 +98,7 @@ impl<L: Log> PageCache<L> {
         ensures reads { L.tells → HasRead L.counts log (log_after result) (own_among (length (now effect_of_entry (L.state log)))) result }
         ensures bounded { IfOk result (IsBounded L.Log) }
         ensures listed { IfOk result ListsResident }
+        ensures closed { IfOk result (λ cache. cache.batch ≡ false) }
     {
         if let Some(why) = fault_of(config) {
             return Err((Error::Unsupported(why), log));
@@ -258,7 +260,8 @@ impl<L: Log> PageCache<L> {
 
     /// Makes all that is pending in the log stable, and answers how many bytes that wrote.
     ///
-    /// It allocates nothing. A write error is sticky: every later call answers it, until the log is opened again.
+    /// It allocates nothing. Inside a batch `BatchOpen` comes. A write error is sticky: every later call answers it, until the log is
+    /// opened again.
     pub fn flush(&mut self) -> Result<usize, Error>
         ensures step { Steps L.Log self.old Flush (Flushed result) self.new }
         ensures blame { IsBlamed L.Log self.old self.new result }
@@ -283,10 +286,11 @@ impl<L: Log> PageCache<L> {
         self.pages.size_on_disk()
     }
 
-    /// Ends the cache and hands its log back. Nothing is flushed.
+    /// Ends the cache, of which no batch is open, and hands its log back. Nothing is flushed.
     ///
     /// Unless a write fault was kept, a cache can be opened over the log again.
     pub fn into_log(self) -> L
+        requires closed { self.batch ≡ false }
         ensures log { result ≡ self.log }
         ensures again { self.fault ≡ false → MayBeOpened L.Log result }
     {

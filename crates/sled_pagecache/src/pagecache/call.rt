@@ -19,6 +19,9 @@ pub enum Call {
     GenerateId,
     Flush,
     SizeOnDisk,
+    Pin,
+    Seal,
+    Cancel,
 }
 
 /// What a call answered.
@@ -36,4 +39,7 @@ pub enum Answer {
     Generated(Result<u64, Error>),
     Flushed(Result<usize, Error>),
     Sized(Result<u64, Error>),
+    Pinned(Result<(), Error>),
+    Sealed(Result<(), Error>),
+    Cancelled(Result<(), Error>),
 }

@@ -28,6 +28,7 @@ ghost use Rattle.sled_pagecache.specs.declared.pagecache.call.Answer.TheVariants
 ghost use Rattle.sled_pagecache.specs.declared.pagecache.call.Call.TheVariants.{Allocate, Flush, SizeOnDisk};
 ghost use Rattle.sled_pagecache.specs.declared.pagecache.call.Call.TheVariants as call;
 
+mod batches;
 mod ids;
 mod roots;
 
@@ -72,7 +73,7 @@ impl<L: Log> Model for Pages<L> {
     ghost use Rattle.sled_pagecache.specs.Counted.{IsWhole};
     ghost use Rattle.sled_pagecache.specs.Table.{stamps_in, resident_in, nodes_in};
 
-    ghost view = { λ c. record { stamps = stamps_in c.pages.pages; resident = resident_in c.pages.pages; nodes = nodes_in c.pages.pages; next = c.next; fault = c.sticky_log.fault; config = c.config; recovered = c.recovered; lru = unlisted; log = c.sticky_log.log } };
+    ghost view = { λ c. record { stamps = stamps_in c.pages.pages; resident = resident_in c.pages.pages; nodes = nodes_in c.pages.pages; next = c.next; batch = c.sticky_log.batch; fault = c.sticky_log.fault; config = c.config; recovered = c.recovered; lru = unlisted; log = c.sticky_log.log } };
 
     ghost invariant = { λ c. IsWhole L.tells L.state c.config.idgen_persist_interval c.next c.sticky_log c.pages.pages c.free.ids.keys };
 }
@@ -91,11 +92,16 @@ impl<L: Log> Pages<L> {
         ensures reads { L.tells → HasRead L.counts log (log_after result) (own_among (length (now effect_of_entry (L.state log)))) result }
         ensures config { IfOk result (λ pages. pages.config ≡ config) }
         ensures none { IfOk result LacksNodes }
+        ensures closed { IfOk result (λ pages. pages.batch ≡ false) }
     {
         if let Some(why) = fault_of(config) {
             return Err((Error::Unsupported(why), log));
         }
-        let mut sticky_log = StickyLog { log, fault: false };
+        let mut sticky_log = StickyLog {
+            log,
+            fault: false,
+            batch: false,
+        };
         match open(alloc, config, &mut sticky_log) {
             Ok(opening) => Ok(Pages {
                 alloc,
@@ -271,6 +277,9 @@ impl<L: Log> Pages<L> {
         if self.sticky_log.fault {
             return Err(Error::Io(Device::Write));
         }
+        if self.sticky_log.batch {
+            return Err(Error::Unsupported(Why::BatchOpen));
+        }
         Ok(self.sticky_log.make_stable()?)
     }
 
@@ -286,6 +295,7 @@ impl<L: Log> Pages<L> {
     }
 
     pub(super) fn into_log(self) -> L
+        requires closed { self.batch ≡ false }
         ensures log { result ≡ self.log }
         ensures again { self.fault ≡ false → MayBeOpened L.Log result }
     {

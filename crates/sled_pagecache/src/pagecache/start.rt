@@ -48,6 +48,7 @@ pub(super) fn open<L: Log>(
     requires ready { sticky_log.old.fault ≡ false }
     requires usable { (L.state sticky_log.old.log).usable ≡ true }
     requires closed { is_open (L.state sticky_log.old.log).pending ≡ false }
+    requires unopened { sticky_log.old.batch ≡ false }
     ensures proceeds { Starts L.Log sticky_log.old sticky_log.new (refusal_in result) }
     ensures refused { L.tells → IfErr result (λ refusal. RefusesOpening config (now effect_of_entry (L.state sticky_log.old.log)) (error_of refusal)) }
     ensures consistent { IfOk result (λ opening. IsConsistent L.tells L.state sticky_log.new opening.pages.pages opening.free.ids.keys) }
@@ -94,6 +95,7 @@ fn complete<L: Log>(
     requires ready { sticky_log.old.fault ≡ false }
     requires usable { (L.state sticky_log.old.log).usable ≡ true }
     requires closed { is_open (L.state sticky_log.old.log).pending ≡ false }
+    requires unopened { sticky_log.old.batch ≡ false }
     requires read { AreRead L.tells (now effect_of_entry (L.state sticky_log.old.log)) pages.pages counter }
     requires fit { AllFit pages.pages }
     ensures proceeds { Proceeds L.Log sticky_log.old sticky_log.new (events_at_start pages.pages) (refusal_in result) }

@@ -8,7 +8,7 @@ ghost use Rattle.sled_log.specs.Batches.{is_open};
 ghost use Rattle.sled_log.specs.Calls.{can_append, one_more};
 ghost use Rattle.sled_log.specs.Calls.{is_write_fault as log_met_fault};
 ghost use Rattle.sled_log.specs.Chains.{chains_from, is_chain};
-ghost use Rattle.sled_log.specs.Events.{Change};
+ghost use Rattle.sled_log.specs.Events.{Change, Pin, Seal, Cancel};
 ghost use Rattle.sled_log.specs.Limits.{head_size, size_limit};
 ghost use Rattle.sled_log.specs.Messages.{effect_of_entry, message, placed};
 ghost use Rattle.sled_log.specs.Pages.{IsAt, IsPageState, IsRead, IsSized};
@@ -18,11 +18,12 @@ ghost use Rattle.sled_pagecache.specs.StickyLog.{Went, IsCaused, IsOfLog, begun_
 use sled_base::{Device, DiskPtr, Lsn, MessageKind, PageId, PageState, Refusal, Why};
 use sled_log::{Log, LogError};
 
-/// The log of a cache, and whether a write fault was met: then it is not called any more.
+/// The log of a cache, whether a batch is open, and whether a write fault was met: then the log is not called any more.
 #[derive(Drop)]
 pub(super) struct StickyLog<L> {
     pub(super) log: L,
     pub(super) fault: bool,
+    pub(super) batch: bool,
 }
 
 impl<L: Log> StickyLog<L> {
@@ -87,6 +88,51 @@ impl<L: Log> StickyLog<L> {
         ensures same { L.tells → self.new.fault ≡ false → now effect_of_entry (L.state self.new.log) ≡ now effect_of_entry (L.state self.old.log) }
     {
         let outcome = self.log.make_stable();
+        keep_fault(&mut self.fault, outcome)
+    }
+
+    // Opens a batch in the log.
+    pub(super) fn pin(&mut self) -> Result<(), Refusal>
+        requires ready { self.old.fault ≡ false }
+        requires usable { (L.state self.old.log).usable ≡ true }
+        requires closed { is_open (L.state self.old.log).pending ≡ false }
+        ensures went { Went L.tells L.state L.moment L.left_since L.counts self.old self.new (begun_by result (Pin ∷ [])) }
+        ensures cause { IsCaused L.tells L.state L.moment L.left_since L.counts self.old self.new (L.is_full_for_batch self.old.log) result }
+        ensures sound { L.tells → IfErr result IsOfLog }
+        ensures reads { (L.counts self.new.log).reads ≡ (L.counts self.old.log).reads }
+        ensures same { L.tells → self.new.fault ≡ false → now effect_of_entry (L.state self.new.log) ≡ now effect_of_entry (L.state self.old.log) }
+    {
+        let outcome = self.log.pin();
+        keep_fault(&mut self.fault, outcome)
+    }
+
+    // Closes the batch in the log: a crash leaves all of it or nothing. It is refused only for a write fault.
+    pub(super) fn seal(&mut self) -> Result<(), Refusal>
+        requires ready { self.old.fault ≡ false }
+        requires usable { (L.state self.old.log).usable ≡ true }
+        requires opened { is_open (L.state self.old.log).pending ≡ true }
+        ensures went { Went L.tells L.state L.moment L.left_since L.counts self.old self.new (begun_by result (Seal ∷ [])) }
+        ensures cause { IsCaused L.tells L.state L.moment L.left_since L.counts self.old self.new ⊥ result }
+        ensures only { IfErr result (λ refusal. refusal ≡ Io Write) }
+        ensures reads { (L.counts self.new.log).reads ≡ (L.counts self.old.log).reads }
+        ensures same { L.tells → self.new.fault ≡ false → now effect_of_entry (L.state self.new.log) ≡ now effect_of_entry (L.state self.old.log) }
+    {
+        let outcome = self.log.seal();
+        keep_fault(&mut self.fault, outcome)
+    }
+
+    // Closes the batch in the log: a crash may leave a part of it. It is refused only for a write fault.
+    pub(super) fn cancel(&mut self) -> Result<(), Refusal>
+        requires ready { self.old.fault ≡ false }
+        requires usable { (L.state self.old.log).usable ≡ true }
+        requires opened { is_open (L.state self.old.log).pending ≡ true }
+        ensures went { Went L.tells L.state L.moment L.left_since L.counts self.old self.new (begun_by result (Cancel ∷ [])) }
+        ensures cause { IsCaused L.tells L.state L.moment L.left_since L.counts self.old self.new ⊥ result }
+        ensures only { IfErr result (λ refusal. refusal ≡ Io Write) }
+        ensures reads { (L.counts self.new.log).reads ≡ (L.counts self.old.log).reads }
+        ensures same { L.tells → self.new.fault ≡ false → now effect_of_entry (L.state self.new.log) ≡ now effect_of_entry (L.state self.old.log) }
+    {
+        let outcome = self.log.cancel();
         keep_fault(&mut self.fault, outcome)
     }
 

@@ -31,7 +31,11 @@ fn written(
     links: [&[u8]; 3],
 ) -> Result<(MemLog, [DiskPtr; 4]), Refusal> {
     let log = MemLog::new(alloc, 512, 0);
-    let mut sticky_log = StickyLog { log, fault: false };
+    let mut sticky_log = StickyLog {
+        log,
+        fault: false,
+        batch: false,
+    };
     let _roots = sticky_log.append(MessageKind::InlineMeta, 0, &[])?;
     let _counter = sticky_log.append(MessageKind::Counter, 1, &COUNTER)?;
     let node = sticky_log.append(MessageKind::InlineNode, 2, base)?;
@@ -45,7 +49,11 @@ fn written(
 // The same, where page 2 is a counter.
 fn of_wrong_kind(alloc: Global) -> Result<(MemLog, DiskPtr), Refusal> {
     let log = MemLog::new(alloc, 512, 0);
-    let mut sticky_log = StickyLog { log, fault: false };
+    let mut sticky_log = StickyLog {
+        log,
+        fault: false,
+        batch: false,
+    };
     let _roots = sticky_log.append(MessageKind::InlineMeta, 0, &[])?;
     let _counter = sticky_log.append(MessageKind::Counter, 1, &COUNTER)?;
     let node = sticky_log.append(MessageKind::Counter, 2, &COUNTER)?;

@@ -212,7 +212,7 @@ fn written(alloc: Global, shape: &Shape, same: &mut Node) -> Result<Option<MemLo
         && has_size(&cache, size)
         && is_kept(&mut cache, 2, 1, same)
         && is_linked(alloc, &mut cache, same, shape.tail)?;
-    Ok(is_so.then(|| cache.into_log()))
+    Ok(log_if(cache, is_so))
 }
 
 // Whether all behind the system pages is made stable, and nothing a second time.
@@ -239,7 +239,7 @@ fn replaced(
         Ok(Ok(PageView::new(2, 1))),
     ) && is_kept(&mut cache, 2, 1, same)
         && is_flushed(&mut cache);
-    Ok(is_so.then(|| cache.into_log()))
+    Ok(log_if(cache, is_so))
 }
 
 fn frees(cache: &mut Cache, pid: PageId, stamp: u32) -> bool {
@@ -368,7 +368,7 @@ fn pages_serve_at_each_id(rt: HostRuntime) -> Result<(), Fail> {
         assert!(rt; adds_leaf(alloc, &mut cache, pid), "page {pid}");
     }
     assert!(rt; serve(alloc, &mut cache, 1)?);
-    let mut cache = reopened(alloc, cache.into_log()).ok_or("the cache again")?;
+    let mut cache = reopened(alloc, log_of(cache).ok_or("a log")?).ok_or("the cache again")?;
     assert!(rt; serve(alloc, &mut cache, 0)?);
     Ok(())
 }

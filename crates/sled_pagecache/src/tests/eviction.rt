@@ -31,7 +31,7 @@ fn reads_for(alloc: Global, shard: u32, pids: &[PageId]) -> Result<Option<u64>, 
             return Ok(None);
         }
     }
-    Ok(Some(cache.into_log().reads()))
+    Ok(log_of(cache).map(|log| log.reads()))
 }
 
 #[test]
@@ -69,7 +69,7 @@ fn reads_of_link(alloc: Global, stamp: u64) -> Result<Option<u64>, Fail> {
     } else {
         is_stale(&mut cache, stamp, link, PageView::new(2, 1), same)
     };
-    Ok(answered.then(|| cache.into_log().reads()))
+    Ok(log_if(cache, answered).map(|log| log.reads()))
 }
 
 #[test]
@@ -89,7 +89,8 @@ fn reads_after_link(alloc: Global, shard: u32) -> Result<Option<u64>, Fail> {
     let link = set(alloc, b"b", &[7; 100])?;
     let linked = answers(&mut cache, 258, 1, link, Ok(Ok(PageView::new(258, 2))));
     let stays = linked && has_one(&mut cache, 258) && has_one(&mut cache, 258);
-    Ok((stays && is_empty(&mut cache, 2, 1)).then(|| cache.into_log().reads()))
+    let found = stays && is_empty(&mut cache, 2, 1);
+    Ok(log_if(cache, found).map(|log| log.reads()))
 }
 
 // Whether the page has a node of one pair.

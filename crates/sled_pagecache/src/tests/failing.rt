@@ -153,14 +153,26 @@ impl Log for FailingLog {
     }
 
     fn pin(&mut self) -> Result<(), LogError> {
+        if is_next(&mut self.writes, self.fails_to_write) {
+            self.faults = one_more(self.faults);
+            return Err(LogError::WriteFault);
+        }
         self.log.pin()
     }
 
     fn seal(&mut self) -> Result<(), LogError> {
+        if is_next(&mut self.writes, self.fails_to_write) {
+            self.faults = one_more(self.faults);
+            return Err(LogError::WriteFault);
+        }
         self.log.seal()
     }
 
     fn cancel(&mut self) -> Result<(), LogError> {
+        if is_next(&mut self.writes, self.fails_to_write) {
+            self.faults = one_more(self.faults);
+            return Err(LogError::WriteFault);
+        }
         self.log.cancel()
     }
 

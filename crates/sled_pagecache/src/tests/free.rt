@@ -77,7 +77,7 @@ fn allocates(alloc: Global, cache: &mut Cache, pid: PageId, stamp: u64) -> bool 
 }
 
 fn left_by(alloc: Global, cache: Cache, n: usize) -> Option<Cache> {
-    let log = cache.into_log();
+    let log = log_of(cache)?;
     if !log.is_fair(n) {
         return None;
     }

@@ -71,7 +71,7 @@ fn left(alloc: Global, room: u64) -> Result<Option<(usize, Option<(u64, usize)>,
         Ok(mut cache) => {
             let done = calls_done(alloc, &mut cache)?;
             let found = found(&mut cache)?;
-            Ok(Some((done, found, cache.into_log().reads())))
+            Ok(log_of(cache).map(|log| (done, found, log.reads())))
         }
         Err((Error::Unsupported(Why::LogFull), _)) => Ok(None),
         Err(_) => Err("another error".into()),

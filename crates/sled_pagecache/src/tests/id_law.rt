@@ -26,6 +26,9 @@ fn drawn(alloc: Global, config: Config, log: MemLog, keeps: usize) -> Option<(u6
     let Ok(id) = cache.generate_id_inner() else {
         return None;
     };
+    if cache.batch_open() {
+        return None;
+    }
     let log = cache.into_log();
     if !log.is_fair(keeps) {
         return None;

@@ -143,7 +143,7 @@ fn left_by(alloc: Global, log: MemLog, opening: &Opening) -> Option<MemLog> {
             return None;
         }
     }
-    ended(cache.into_log().into_log(), ending)
+    ended(log_of(cache)?.into_log(), ending)
 }
 
 // How many openings show what they should, before the first that doesn't.
@@ -178,6 +178,10 @@ fn draws(alloc: Global, cache: &mut Faulty, count: u32, ids: &mut Vec<u64>) -> R
     Ok(())
 }
 
+fn crashed(cache: Faulty, keeps: usize) -> Option<MemLog> {
+    ended(log_of(cache)?.into_log(), Ending::Crash(keeps))
+}
+
 // Where an opening ends: at the write with this number, or behind all, by a crash that keeps so many of the pending events.
 type End = (u64, usize);
 
@@ -195,7 +199,7 @@ fn ids_of(
             return Ok(None);
         };
         draws(alloc, &mut cache, count, &mut ids)?;
-        let Some(left) = ended(cache.into_log().into_log(), Ending::Crash(*keeps)) else {
+        let Some(left) = crashed(cache, *keeps) else {
             return Ok(None);
         };
         log = left;

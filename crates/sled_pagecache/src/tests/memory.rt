@@ -1,6 +1,8 @@
 // A list of calls, each made a second time where an allocation failed. Run with one allocation refused, whichever it is, it gives
 // the same answers and as many bytes: what was refused had changed nothing.
 
+ghost use Rattle.std.specs.Prelude.{◌≡◌};
+
 use super::*;
 
 // Whether a call did what it should, and none where an allocation failed.
@@ -89,7 +91,9 @@ fn leaf(alloc: Global) -> Option<Node> {
     }
 }
 
-fn replaces_once(alloc: Global, cache: &mut Cache) -> Done {
+fn replaces_once(alloc: Global, cache: &mut Cache) -> Done
+    ensures { cache.new.batch ≡ cache.old.batch }
+{
     let Some(node) = leaf(alloc) else {
         return Some(false);
     };
@@ -99,10 +103,30 @@ fn replaces_once(alloc: Global, cache: &mut Cache) -> Done {
     done
 }
 
-fn replaces_page(alloc: Global, cache: &mut Cache) -> bool {
+fn replaces_page(alloc: Global, cache: &mut Cache) -> bool
+    ensures { cache.new.batch ≡ cache.old.batch }
+{
     match replaces_once(alloc, cache) {
         Some(done) => done,
         None => replaces_once(alloc, cache) == Some(true),
+    }
+}
+
+// Replaces page 3 in a batch. Inside it an allocation that failed is made again; sealing makes none.
+fn batch_once(alloc: Global, cache: &mut Cache) -> Done {
+    let mut guard = match cache.pin_log() {
+        Ok(guard) => guard,
+        Err(Error::OutOfMemory) => return None,
+        Err(_) => return Some(false),
+    };
+    let is_replaced = replaces_page(alloc, guard.cache());
+    Some(guard.seal_batch().is_ok() && is_replaced)
+}
+
+fn replaces_in_a_batch(alloc: Global, cache: &mut Cache) -> bool {
+    match batch_once(alloc, cache) {
+        Some(done) => done,
+        None => batch_once(alloc, cache) == Some(true),
     }
 }
 
@@ -152,13 +176,26 @@ fn refused_allocations_change_nothing(rt: HostRuntime) -> Result<(), Fail> {
     assert!(rt; replaces_page(alloc, &mut cache));
     assert!(rt; has_bytes(&cache, 363));
     assert_eq!(rt; cache.flush()?, 328);
-    let mut cache = opens(alloc, cache.into_log()).ok_or("the cache again")?;
+    let mut cache = opens(alloc, log_of(cache).ok_or("a log")?).ok_or("the cache again")?;
     assert!(rt; holds_pair(&mut cache, 2, b"b", b"v"));
     assert!(rt; holds_pair(&mut cache, 3, b"k", b"v"));
     assert!(rt; links_page(alloc, &mut cache, 0));
     assert!(rt; has_bytes(&cache, 385));
     assert!(rt; frees_page(&mut cache));
     assert!(rt; has_bytes(&cache, 402));
+    Ok(())
+}
+
+#[test]
+fn a_refused_allocation_leaves_a_batch_whole(rt: HostRuntime) -> Result<(), Fail> {
+    let alloc = rt.alloc();
+    let mut cache = opens(alloc, MemLog::new(alloc, 512, 16)).ok_or("a new cache")?;
+    assert!(rt; adds_page(alloc, &mut cache, 2) && adds_page(alloc, &mut cache, 3));
+    assert!(rt; has_bytes(&cache, 85));
+    assert!(rt; replaces_in_a_batch(alloc, &mut cache));
+    assert!(rt; has_bytes(&cache, 85 + 29));
+    let mut cache = opens(alloc, log_of(cache).ok_or("a log")?).ok_or("the cache again")?;
+    assert!(rt; holds_pair(&mut cache, 3, b"k", b"v"));
     Ok(())
 }
 
@@ -184,7 +221,7 @@ fn a_refused_allocation_uses_no_id(rt: HostRuntime) -> Result<(), Fail> {
     let mut cache = opens(alloc, MemLog::new(alloc, 512, 16)).ok_or("a new cache")?;
     assert!(rt; (0..31).all(|id| draws_id(&mut cache, id)));
     assert!(rt; has_bytes(&cache, 35 + 3 * 18));
-    let mut cache = opens(alloc, cache.into_log()).ok_or("the cache again")?;
+    let mut cache = opens(alloc, log_of(cache).ok_or("a log")?).ok_or("the cache again")?;
     assert!(rt; (50..71).all(|id| draws_id(&mut cache, id)));
     assert!(rt; has_bytes(&cache, 89 + 3 * 18));
     Ok(())

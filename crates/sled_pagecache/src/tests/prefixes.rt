@@ -11,7 +11,7 @@ fn five_changes(alloc: Global) -> Result<Option<MemLog>, Fail> {
         && takes(&mut cache, first)
         && answers(&mut cache, 2, 2, second, Ok(Ok(PageView::new(2, 3))))
         && replaces(alloc, &mut cache)?;
-    Ok(written.then(|| cache.into_log()))
+    Ok(log_if(cache, written))
 }
 
 // Whether page 3 takes a leaf that has one pair.

@@ -10,7 +10,7 @@ fn two_pages(alloc: Global) -> Result<Option<MemLog>, Fail> {
         && adds_leaf(alloc, &mut cache, 3)
         && recovery::takes_links(alloc, &mut cache, 3)?;
     let _ = cache.flush()?;
-    Ok(written.then(|| cache.into_log()))
+    Ok(log_if(cache, written))
 }
 
 // What a call answered: that a read failed, this stamp and so many pairs, or something else.

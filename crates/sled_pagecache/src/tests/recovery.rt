@@ -7,7 +7,7 @@ fn page_and_link(alloc: Global) -> Result<Option<MemLog>, Fail> {
     let mut cache = opened(alloc)?;
     let link = set(alloc, b"b", b"v")?;
     let written = adds_leaf(alloc, &mut cache, 2) && takes(&mut cache, link);
-    Ok(written.then(|| cache.into_log()))
+    Ok(log_if(cache, written))
 }
 
 // A cache over what a crash leaves of it that keeps so many of the changes, if it may.
@@ -59,7 +59,7 @@ fn flushed(alloc: Global, links: u32) -> Result<Option<MemLog>, Fail> {
     let mut cache = opened(alloc)?;
     let written = adds_leaf(alloc, &mut cache, 2) && takes_links(alloc, &mut cache, links)?;
     let _ = cache.flush()?;
-    Ok(written.then(|| cache.into_log()))
+    Ok(log_if(cache, written))
 }
 
 // How often the log of a page with three links was read, once it was opened again and page 2 was asked for so often.
@@ -75,7 +75,7 @@ fn reads_after(alloc: Global, gets: usize) -> Result<Option<u64>, Fail> {
             return Ok(None);
         }
     }
-    Ok(Some(cache.into_log().reads()))
+    Ok(log_of(cache).map(|log| log.reads()))
 }
 
 #[test]
@@ -140,7 +140,7 @@ fn long_payloads_are_blobs(rt: HostRuntime) -> Result<(), Fail> {
         return Err("a cache".into());
     };
     assert!(rt; adds_leaf(alloc, &mut cache, 2));
-    let mut log = cache.into_log();
+    let mut log = log_of(cache).ok_or("a log")?;
     let pages = log.recover()?;
     assert_eq!(rt; base_of(&pages, 1), Some((17, DiskPtr::Inline(17), 18)));
     assert_eq!(rt; base_of(&pages, 2), Some((35, DiskPtr::Blob(35, 35), 25)));

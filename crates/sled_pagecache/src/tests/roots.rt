@@ -132,7 +132,7 @@ fn shows(alloc: Global, cache: Cache, step: Step) -> Option<Cache> {
         Step::Has(names, stamp) => names_and_stamp(&cache) == Some((names, stamp)),
         Step::Takes(bytes) => matches!(cache.size_on_disk(), Ok(size) if size == bytes),
         Step::Flushes => cache.flush().is_ok(),
-        Step::Crashes(n) => return left_by(alloc, cache.into_log(), n),
+        Step::Crashes(n) => return left_by(alloc, log_of(cache)?, n),
     };
     is_so.then(|| cache)
 }

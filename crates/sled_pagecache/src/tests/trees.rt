@@ -168,7 +168,9 @@ fn opens_tree_until(alloc: Global, fails_at: u64) -> Result<(bool, bool, Option<
     {
         return Err("no write failed".into());
     }
-    let mut cache = reopened(alloc, cache.into_log().into_log()).ok_or("the cache again")?;
+    let mut cache = reopened(alloc, log_of(cache).ok_or("a log")?.into_log()).ok_or(
+        "the cache again",
+    )?;
     Ok((
         !is_absent(&mut cache, 2),
         !is_absent(&mut cache, 3),

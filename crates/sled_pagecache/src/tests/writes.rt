@@ -57,6 +57,11 @@ fn six_calls(alloc: Global, cache: &mut PageCache<FailingLog>, link: Link) -> [O
     ]
 }
 
+// A cache over what a crash leaves then that keeps nothing of what was pending.
+fn left_of(alloc: Global, cache: PageCache<FailingLog>) -> Option<Cache> {
+    left_by(alloc, log_of(cache)?.into_log(), 0)
+}
+
 // The outcomes where the write with this number fails, if the cache was opened, and a cache over what a crash leaves then that
 // keeps nothing of what was pending.
 fn outcomes(alloc: Global, fails_at: u64) -> Result<(Option<[Outcome; 6]>, Option<Cache>), Fail> {
@@ -68,7 +73,7 @@ fn outcomes(alloc: Global, fails_at: u64) -> Result<(Option<[Outcome; 6]>, Optio
     match PageCache::start(alloc, CONFIG, log) {
         Ok(mut cache) => {
             let found = six_calls(alloc, &mut cache, link);
-            Ok((Some(found), left_by(alloc, cache.into_log().into_log(), 0)))
+            Ok((Some(found), left_of(alloc, cache)))
         }
         Err((Error::Io(Device::Write), log)) => Ok((None, left_by(alloc, log.into_log(), 0))),
         Err((error, _)) => Err(error.into()),

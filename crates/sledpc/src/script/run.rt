@@ -216,7 +216,7 @@ fn serve_call<L: Log, W: Write>(
         Call::Link(old, link) => serve_link(cache, old, link, writer, piece),
         Call::Replace(old, node) => serve_replace(cache, old, node, writer, piece),
         Call::Free(old) => serve_free(cache, old, writer, piece),
-        Call::GetMeta | Call::GetIdgen => unreachable!(),
+        Call::GetMeta | Call::GetIdgen | Call::Pin | Call::Seal | Call::Cancel => unreachable!(),
         Call::MetaPidForName(name) => serve_root(cache, name, writer, piece),
         Call::CasRoot(name, old, new) => serve_cas(cache, name, old, new, writer, piece),
         Call::GenerateId => serve_id(cache, writer, piece),

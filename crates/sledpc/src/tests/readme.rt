@@ -1,4 +1,5 @@
 //! The examples of the README. Each file begins with one, word for word, and runs it.
 
+mod add_tree;
 mod survives_a_crash;
 mod written_and_read;

@@ -58,6 +58,9 @@ impl<L: Log> Pages<L> {
             self.next += 1;
             return Ok(id);
         }
+        if self.sticky_log.batch {
+            return Err(Error::Unsupported(Why::BatchOpen));
+        }
         let page = self.pages.get_mut(COUNTER_PID);
         put_counter(self.alloc, &mut self.sticky_log, accesses, page, start)?;
         self.next += 1;

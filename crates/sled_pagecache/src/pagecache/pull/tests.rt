@@ -25,6 +25,7 @@ fn paged_out(alloc: Global, blob_limit: usize) -> Result<(StickyLog<MemLog>, Pag
     let mut sticky_log = StickyLog {
         log: MemLog::new(alloc, blob_limit, 0),
         fault: false,
+        batch: false,
     };
     let (lsn, pointer, log_size) = sticky_log.append(MessageKind::InlineNode, 0, &LEAF)?;
     let leaf = CacheInfo {

@@ -15,7 +15,7 @@ returns-in_default-clause-proceeds g c = proceeds-refused g.L.Log c.args.sticky_
 
 pub returns-clause-consistent : goal.returns-clause-consistent
 returns-clause-consistent g c =
-    table-consistent g.L.Log c.args.sticky_log.now c.add_missing.new.sticky_log c.args.pages.pages c.add_missing.new.pages.pages c.in-Ok.free.ids.keys c.in_ok-add_missing.ensures.proceeds c.requires.closed
+    table-consistent g.L.Log c.args.sticky_log.now c.add_missing.new.sticky_log c.args.pages.pages c.add_missing.new.pages.pages c.in-Ok.free.ids.keys c.in_ok-add_missing.ensures.proceeds c.requires.closed c.requires.unopened
     c.in_ok-add_missing.ensures.table c.in_ok-add_missing.ensures.both (search rules)
 
 pub returns-clause-opened : goal.returns-clause-opened

@@ -8,6 +8,9 @@ use Rattle.sled_pagecache.proofs.pagecache.start.open.Goals as goal
 pub complete-requires-clause-closed : goal.complete-requires-clause-closed
 complete-requires-clause-closed g c = stays-closed g.L.Log c.args.sticky_log.now c.load.new.sticky_log [] c.in_ok-pages.ensures.proceeds c.requires.closed refl
 
+pub complete-requires-clause-unopened : goal.complete-requires-clause-unopened
+complete-requires-clause-unopened g c = c.in_ok-pages.ensures.proceeds.reaches.batch ∙ c.requires.unopened
+
 pub returns-in_err-pages-clause-proceeds : goal.returns-in_err-pages-clause-proceeds
 returns-in_err-pages-clause-proceeds g c =
     let chains = now effect_of_entry (g.L.Log.state c.args.sticky_log.now.log) in

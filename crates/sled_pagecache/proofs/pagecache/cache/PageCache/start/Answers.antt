@@ -7,7 +7,7 @@ use Rattle.sled_pagecache.proofs.pagecache.cache.PageCache.start.Goals as goal
 
 pub returns-in_default-new-clause-opens : goal.returns-in_default-new-clause-opens
 returns-in_default-new-clause-opens g c =
-    let before : StickyLog g.row.L.Denot = record { log = c.args.log; fault = false } in
+    let before : StickyLog g.row.L.Denot = record { log = c.args.log; fault = false; batch = false } in
     let chains = log_now effect_of_entry (g.L.Log.state c.args.log) in
     λ sound told held logged.
     opens-refused g.L.Log told c.args.config before held logged before OutOfMemory errors.OutOfMemory refl sound

@@ -57,7 +57,7 @@ returns-in_err-pid g c =
           none refused.left refusal (refused.refused told) refused.went refused.cause);
       blame = blamed g.L.Log _ _ _ refusal refused.cause;
       unread = refused.reads;
-      keeps = keeps-err _ _ _ ℕ refusal c.if-stuck.false refused.cause.fault (ap stamps_in refused.left);
+      keeps = keeps-err _ _ _ ℕ refusal c.if-stuck.false refused.cause.fault (ap stamps_in refused.left) refused.went.batch;
       token = tt;
       resident = tt;
       takes = tt;
@@ -82,7 +82,7 @@ returns-in_default g c =
           none done.room done.went done.cause.fault added.page added.stamp added.is c.in_ok-pid.pid done.pid c.new.result c.new.ensures);
       blame = search rules;
       unread = done.reads;
-      keeps = keeps-ok _ _ _ _ c.if-stuck.false done.cause.fault stamps.0;
+      keeps = keeps-ok _ _ _ _ c.if-stuck.false done.cause.fault stamps.0 done.went.batch;
       token = (ap pid_of c.new.ensures, ap (slice_get (stamps_in c.add_page.new.pages.pages)) done.pid ∙ stamps.1);
       resident = ap (λ (l : List Page). slice_get (resident_in l) c.in_ok-pid.pid) added.is ∙ ap (λ n. slice_get (resident_in (table ++ added.page ∷ [])) n) done.pid ∙ resident-add table added.page c.args.node added.holds;
       takes = adds-node inside.next inside.config inside.recovered inside.sticky_log c.add_page.new.sticky_log table c.add_page.new.pages.pages added.page c.args.node added.holds added.is c.args.accesses.now c.add_page.new.accesses c.in_ok-pid.pid done.pid done.accessed;
@@ -137,7 +137,7 @@ returns-in_err-put_page g c =
           _ pid last back refusal (subst (λ (page : Page). RefusesSwap page.stamp refusal) (sym (last-same _ _ pid last q c.get_mut-page.ensures.page)) (refused.refused told)) refused.went refused.cause);
       blame = blamed g.L.Log _ _ _ refusal refused.cause;
       unread = refused.reads;
-      keeps = keeps-err _ _ _ (Unit {0}) refusal c.if-stuck.false refused.cause.fault (ap stamps_in back);
+      keeps = keeps-err _ _ _ (Unit {0}) refusal c.if-stuck.false refused.cause.fault (ap stamps_in back) refused.went.batch;
       token = tt;
       resident = tt;
       takes = tt;
@@ -179,7 +179,7 @@ returns g c =
           _ pid last (λ greatest. let below = done.stamp.0 in omega (arith, below, greatest, stamp)) done.went done.cause.fault after (done.stamp.1 ∙ ap (λ n. n + 1) stamp) refl c.new-2.result c.new-2.ensures);
       blame = search rules;
       unread = done.reads;
-      keeps = keeps-ok _ _ _ _ c.if-stuck.false done.cause.fault stamps.0;
+      keeps = keeps-ok _ _ _ _ c.if-stuck.false done.cause.fault stamps.0 done.went.batch;
       token = (ap pid_of c.new-2.ensures, stamps.1);
       resident = resident-set _ pid after (slice_get_within table pid last.page found) (ap is_resident done.holds);
       takes = takes-node inside.next inside.config inside.recovered inside.sticky_log c.put_page.new.sticky_log table pid last.page after found c.args.accesses.now c.put_page.new.accesses c.args.node done.holds done.accessed;

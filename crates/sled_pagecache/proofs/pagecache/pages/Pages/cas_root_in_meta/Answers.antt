@@ -92,7 +92,7 @@ returns-in_err-swap_root-clause-keeps g c =
     let after = c.swap_root.new.page in
     let back : slice_set table 0 after ≡ table = put-back table 0 after (c.get_mut-page.ensures.page ∙ ap (λ page. Some page) (sym refused.left)) in
     rw (refused-is c.from_residual-in_err-swap_root.result _ c.from_residual-in_err-swap_root.ensures.1, ← c.self.view_is)
-    (keeps-err _ _ _ (Unit {0}) c.in_err-swap_root.field-0.0 c.in_ok-view.ensures.0 refused.cause.fault (ap stamps_in back))
+    (keeps-err _ _ _ (Unit {0}) c.in_err-swap_root.field-0.0 c.in_ok-view.ensures.0 refused.cause.fault (ap stamps_in back) refused.went.batch)
 
 pub returns-in_err-swap_root-clause-refused : goal.returns-in_err-swap_root-clause-refused
 returns-in_err-swap_root-clause-refused g c =
@@ -126,7 +126,7 @@ returns-clause-keeps g c =
     let stamp = get_or_from_slice_get (stamps_in table) 0 q.stamp 0 (map-at (λ (p : Page). p.stamp) table 0 q c.get_mut-page.ensures.page) in
     rw (← c.self.view_is)
     (keeps-ok _ _ (root_swapped (stamps_in table)) (Ok tt) c.in_ok-view.ensures.0 done.cause.fault
-    (map-set (λ (p : Page). p.stamp) table 0 c.swap_root.new.page ∙ ap (λ n. slice_set (stamps_in table) 0 n) (done.stamp.1 ∙ ap (λ n. n + 1) (sym stamp))))
+    (map-set (λ (p : Page). p.stamp) table 0 c.swap_root.new.page ∙ ap (λ n. slice_set (stamps_in table) 0 n) (done.stamp.1 ∙ ap (λ n. n + 1) (sym stamp))) done.went.batch)
 
 pub returns-clause-resident : goal.returns-clause-resident
 returns-clause-resident g c =

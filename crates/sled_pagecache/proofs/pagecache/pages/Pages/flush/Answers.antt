@@ -1,7 +1,7 @@
 use Rattle.sled_base.specs.declared.types.Error.TheVariants.{Io}
 use Rattle.sled_pagecache.proofs.Names.{◌∙◌, Err, refl, ap, err_from_is_err_and, error_of, Write, Flushed, Flush}
 use Rattle.sled_pagecache.proofs.CacheSteps.{steps-stuck}
-use Rattle.sled_pagecache.proofs.Flushing.{flushes, flush_is_refused}
+use Rattle.sled_pagecache.proofs.Flushing.{flushes, flush_is_refused, flush_is_too_early}
 use Rattle.sled_pagecache.proofs.pagecache.pages.Pages.flush.Goals as goal
 
 pub returns-clause-step : goal.returns-clause-step
@@ -9,7 +9,7 @@ returns-clause-step g c =
     let inside = c.self.inside in
     let done = c.in_ok-make_stable.ensures in
     rw (← c.self.view_is)
-    (flushes g.L.Log inside.next inside.config inside.recovered inside.pages.pages inside.sticky_log c.if-self.false (c.self.invariant.consistent.beside c.if-self.false).closed c.make_stable.new.self done.went _ done.cause.fault)
+    (flushes g.L.Log inside.next inside.config inside.recovered inside.pages.pages inside.sticky_log c.if-self.false c.if-self-2.false c.make_stable.new.self done.went _ done.cause.fault)
 
 pub returns-in_err-make_stable-clause-step : goal.returns-in_err-make_stable-clause-step
 returns-in_err-make_stable-clause-step g c =
@@ -17,8 +17,17 @@ returns-in_err-make_stable-clause-step g c =
     let refused = c.in_err-make_stable.ensures in
     let p = err_from_is_err_and c.from_residual.result c.from_residual.ensures.1 in
     rw (p.1, p.2 ∙ ap error_of refused.only, ← c.self.view_is)
-    (flush_is_refused g.L.Log inside.next inside.config inside.recovered inside.pages.pages inside.sticky_log c.if-self.false (c.self.invariant.consistent.beside c.if-self.false).closed c.make_stable.new.self refused.went
+    (flush_is_refused g.L.Log inside.next inside.config inside.recovered inside.pages.pages inside.sticky_log c.if-self.false c.if-self-2.false c.make_stable.new.self refused.went
     (refused.cause.fault ∙ rw refused.only refl))
 
 pub returns-then-self-clause-step : goal.returns-then-self-clause-step
 returns-then-self-clause-step g c = rw (← c.self.view_is) (steps-stuck g.L.Log _ Flush (Flushed (Err (Io Write))) c.if-self.true (λ s kept. rw kept (refl, refl)))
+
+pub returns-then-self-2-clause-step : goal.returns-then-self-2-clause-step
+returns-then-self-2-clause-step g c =
+    let inside = c.self.inside in
+    rw (← c.self.view_is)
+    (flush_is_too_early g.L.Log inside.next inside.config inside.recovered inside.pages.pages inside.sticky_log c.if-self.false c.if-self-2.true (c.self.invariant.consistent.beside c.if-self.false).usable (g.met.L.Log.only_now inside.sticky_log.log))
+
+pub make_stable-requires-clause-closed : goal.make_stable-requires-clause-closed
+make_stable-requires-clause-closed g c = c.self.invariant.consistent.opened c.if-self.false ∙ c.if-self-2.false

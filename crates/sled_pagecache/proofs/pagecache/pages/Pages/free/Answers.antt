@@ -102,7 +102,7 @@ returns-in_err-free_page g c =
           c.args.old c.args.pid tt Free tt (call.Free c.args.old) Freed (free-swap g.L.Log _ c.args.old) c.requires (slice_set table c.args.pid after) back c.free_page.new.sticky_log fresh.behind q fresh.at fresh.full fresh.stamp
           (written-update (Put Free) tt) refusal (refused.refused told) refused.went refused.cause);
       blame = blamed g.L.Log _ _ _ refusal refused.cause;
-      keeps = keeps-err _ _ _ (Unit {0}) refusal fresh.clear refused.cause.fault (ap stamps_in back);
+      keeps = keeps-err _ _ _ (Unit {0}) refusal fresh.clear refused.cause.fault (ap stamps_in back) refused.went.batch;
       token = tt;
       unread = refused.reads;
       length = λ told. tt;
@@ -127,7 +127,7 @@ returns g c =
           c.args.old c.args.pid tt Free tt (call.Free c.args.old) Freed (free-swap g.L.Log _ c.args.old) c.requires table refl c.free_page.new.sticky_log fresh.behind q fresh.at fresh.full fresh.stamp
           (written-update (Put Free) tt) (λ last. let below = done.stamp.0 in omega (arith, below, last)) done.went done.cause.fault after done.stamp.1 c.new.result made;
       blame = search rules;
-      keeps = keeps-fresh inside.next inside.config inside.recovered inside.sticky_log table c.args.pid c.args.old q fresh _ c.free_page.new.sticky_log after done.cause.fault done.stamp.1 c.new.result made;
+      keeps = keeps-fresh inside.next inside.config inside.recovered inside.sticky_log table c.args.pid c.args.old q fresh _ c.free_page.new.sticky_log after done.cause.fault done.went.batch done.stamp.1 c.new.result made;
       token = fresh-answered inside.next inside.config inside.recovered inside.sticky_log table c.args.pid c.args.old q fresh c.requires (Unit {0}) tt c.new.result (made ∙ ap (λ n. token n (c.args.old.stamp + 1)) (sym c.requires));
       unread = done.reads;
       length = λ told. one-long _ after (done.kept told) done.stamps;

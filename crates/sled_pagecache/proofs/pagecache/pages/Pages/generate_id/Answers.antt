@@ -4,7 +4,7 @@ use Rattle.sled_pagecache.proofs.Answers.{keeps-err}
 use Rattle.sled_pagecache.proofs.CacheSteps.{steps-known, steps-stuck}
 use Rattle.sled_pagecache.proofs.Counted.{counted-stable, covered-next, covered-put, spares-refused, whole-next, whole-then}
 use Rattle.sled_pagecache.proofs.CounterPage.{keeps-counter}
-use Rattle.sled_pagecache.proofs.Generating.{consistent-counter, few, id-covered, id-put, id-refused, id-used-up, more}
+use Rattle.sled_pagecache.proofs.Generating.{consistent-counter, few, id-covered, id-put, id-refused, id-too-early, id-used-up, more}
 use Rattle.sled_pagecache.proofs.InMemory.{loses-none, stay-view, takes-page}
 use Rattle.sled_pagecache.proofs.Lookups.{put-back, set-at}
 use Rattle.sled_pagecache.proofs.Refused.{refused-is}
@@ -107,13 +107,13 @@ returns-in_err-put_counter-clause-step g c =
     id-refused g.L.Log inside.next inside.config inside.recovered inside.sticky_log table inside.free.ids.keys c.self.invariant.consistent c.if-self.false found.page c.own_counter-counter.result.1 found.at found.counter
     (le-ltb (2 ^ 64 - 1) inside.next (omega (arith, c.if-self-2.false)))
     (more c.interval_start-start.result c.interval_start.result inside.config.idgen_persist_interval inside.next c.own_counter-counter.result.1 c.interval_start-start.ensures c.interval_start.ensures c.if-start-interval_start.false)
-    c.put_counter.new.sticky_log (rw (← start) refused.is) (slice_set table 1 after) back refusal (rw (← same) (refused.refused told)) (rw (← start) refused.went) (rw (← start) refused.cause)))
+    c.put_counter.new.sticky_log (rw (← start) refused.is) c.if-self-3.false (slice_set table 1 after) back refusal (rw (← same) (refused.refused told)) (rw (← start) refused.went) (rw (← start) refused.cause)))
 
 pub returns-in_err-put_counter-clause-keeps : goal.returns-in_err-put_counter-clause-keeps
 returns-in_err-put_counter-clause-keeps g c =
     let refused = c.in_err-put_counter.ensures in
     let back = put-back c.self.inside.pages.pages 1 c.put_counter.new.page (c.get_mut-page.ensures.page ∙ ap (λ page. Some page) (sym refused.left)) in
-    rw (refused-is c.from_residual.result _ c.from_residual.ensures.1, ← c.self.view_is) (keeps-err _ _ _ (Unit {0}) c.in_err-put_counter.field-0.0 c.if-self.false refused.cause.fault (ap stamps_in back))
+    rw (refused-is c.from_residual.result _ c.from_residual.ensures.1, ← c.self.view_is) (keeps-err _ _ _ (Unit {0}) c.in_err-put_counter.field-0.0 c.if-self.false refused.cause.fault (ap stamps_in back) refused.went.batch)
 
 pub returns-in_err-put_counter-clause-refused : goal.returns-in_err-put_counter-clause-refused
 returns-in_err-put_counter-clause-refused g c =
@@ -139,7 +139,7 @@ returns-clause-step g c =
     (id-put g.L.Log inside.next inside.config inside.recovered inside.sticky_log table inside.free.ids.keys c.self.invariant.consistent c.if-self.false found.page c.own_counter-counter.result.1 found.at found.counter
     (le-ltb (2 ^ 64 - 1) inside.next (omega (arith, c.if-self-2.false)))
     (more c.interval_start-start.result c.interval_start.result inside.config.idgen_persist_interval inside.next c.own_counter-counter.result.1 c.interval_start-start.ensures c.interval_start.ensures c.if-start-interval_start.false)
-    c.put_counter.new.sticky_log (rw (← start) done.is) (λ last. let below = done.stamp.0 in let e = ap (λ (p : Page). p.stamp) same in omega (arith, below, last, e)) (rw (← start) done.went) done.cause.fault after stamp)
+    c.put_counter.new.sticky_log (rw (← start) done.is) c.if-self-3.false (λ last. let below = done.stamp.0 in let e = ap (λ (p : Page). p.stamp) same in omega (arith, below, last, e)) (rw (← start) done.went) done.cause.fault after stamp)
 
 pub returns-clause-takes : goal.returns-clause-takes
 returns-clause-takes g c =
@@ -150,3 +150,15 @@ returns-clause-takes g c =
     let after = c.put_counter.new.page in
     let takes = takes-page inside.next inside.config inside.recovered inside.sticky_log c.put_counter.new.sticky_log table 1 found.page after found.at c.args.accesses.now c.put_counter.new.accesses done.accessed in
     rw (← c.self.view_is) (inl (record { size = takes.size; only = takes.only; accessed = takes.accessed; others = λ other apart. let stays = takes.others other apart in record { resident = stays.resident; node = stays.node } }, done.stable))
+
+pub put_counter-requires-clause-closed : goal.put_counter-requires-clause-closed
+put_counter-requires-clause-closed g c = c.self.invariant.consistent.opened c.if-self.false ∙ c.if-self-3.false
+
+pub returns-then-self-3-clause-step : goal.returns-then-self-3-clause-step
+returns-then-self-3-clause-step g c =
+    let inside = c.self.inside in
+    let found = c.own_counter-counter.ensures in
+    rw (← c.self.view_is)
+    (id-too-early g.L.Log inside.next inside.config inside.recovered inside.sticky_log inside.pages.pages inside.free.ids.keys c.self.invariant.consistent c.if-self.false found.page c.own_counter-counter.result.1 found.at found.counter
+    (g.met.L.Log.only_now inside.sticky_log.log) (le-ltb (2 ^ 64 - 1) inside.next (omega (arith, c.if-self-2.false)))
+    (more c.interval_start-start.result c.interval_start.result inside.config.idgen_persist_interval inside.next c.own_counter-counter.result.1 c.interval_start-start.ensures c.interval_start.ensures c.if-start-interval_start.false) c.if-self-3.true)

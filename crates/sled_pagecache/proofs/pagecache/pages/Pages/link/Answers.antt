@@ -122,7 +122,7 @@ returns-in_err-pull_and_link g c =
       step = steps-known g.L.Log _ _ _ _ (record { config = refl; recovered = refl }) (λ told. link-refused g.L.Log inside.next inside.config inside.recovered inside.sticky_log inside.pages.pages inside.free.ids.keys c.args.pid c.self.invariant.consistent fresh.clear c.args.old c.requires c.args.link fresh.behind q fresh.at fresh.full
           c.pull_and_link.new.sticky_log c.pull_and_link.new.page fresh.stamp refusal (done.refused told) done.cause done.left.0);
       blame = search rules;
-      keeps = keeps-err _ _ _ (Unit {0}) refusal fresh.clear done.cause.fault stamps;
+      keeps = keeps-err _ _ _ (Unit {0}) refusal fresh.clear done.cause.fault stamps done.begun.went.batch;
       token = tt;
       damaged = λ meets stamp. refused-damage g.L.Log inside.next inside.config inside.recovered inside.sticky_log inside.pages.pages inside.free.ids.keys c.args.pid c.self.invariant.consistent c.args.old q fresh c.args.link meets c.pull_and_link.new.sticky_log c.pull_and_link.new.page refusal (done.refused meets.tells) done.left.0 done.same;
       reads = reads-pulled g.L.Log inside.next inside.config inside.recovered inside.sticky_log c.pull_and_link.new.sticky_log inside.pages.pages inside.free.ids.keys c.args.pid q c.pull_and_link.new.page c.self.invariant.consistent fresh.clear fresh.behind fresh.at result done.unread done.reads (λ away. (done.kept_out away, done.at_most.0, done.at_most.1, done.at_most.2));
@@ -149,7 +149,7 @@ returns g c =
           (link-taken g.L.Log inside.next inside.config inside.recovered inside.sticky_log inside.pages.pages inside.free.ids.keys c.args.pid c.self.invariant.consistent fresh.clear c.args.old c.requires c.args.link fresh.behind q fresh.at fresh.full
           c.pull_and_link.new.sticky_log c.pull_and_link.new.page fresh.stamp done.taken done.cause.fault);
       blame = search rules;
-      keeps = keeps-fresh inside.next inside.config inside.recovered inside.sticky_log inside.pages.pages c.args.pid c.args.old q fresh _ c.pull_and_link.new.sticky_log c.pull_and_link.new.page done.cause.fault done.taken.raised.1 c.new-linked.result made;
+      keeps = keeps-fresh inside.next inside.config inside.recovered inside.sticky_log inside.pages.pages c.args.pid c.args.old q fresh _ c.pull_and_link.new.sticky_log c.pull_and_link.new.page done.cause.fault done.taken.tells.went.batch done.taken.raised.1 c.new-linked.result made;
       token = fresh-answered inside.next inside.config inside.recovered inside.sticky_log inside.pages.pages c.args.pid c.args.old q fresh c.requires _ c.args.link c.new-linked.result (made ∙ ap (λ n. token n (c.args.old.stamp + 1)) (sym c.requires));
       damaged = λ meets stamp. absurd (taken-damage g.L.Log inside.next inside.config inside.recovered inside.sticky_log inside.pages.pages inside.free.ids.keys c.args.pid c.self.invariant.consistent c.args.old q fresh c.args.link meets c.pull_and_link.new.sticky_log c.pull_and_link.new.page done.taken);
       reads = reads-pulled g.L.Log inside.next inside.config inside.recovered inside.sticky_log c.pull_and_link.new.sticky_log inside.pages.pages inside.free.ids.keys c.args.pid q c.pull_and_link.new.page c.self.invariant.consistent fresh.clear fresh.behind fresh.at result done.unread done.reads (λ away. tt);

@@ -1,0 +1,280 @@
+-- Opening and closing a batch, as steps of the machine.
+use Rattle.sled_pagecache.proofs.Names.{◌≡◌, ℕ, AllByRecursion, effect_of_entry, is_open, is_write_fault, Bool, true, false, List, [], ◌∷◌, Result, Ok, Err, refl, sym, ◌∙◌, subst, false≢true, Read, Write, Error, Refusal, LogFull, chains_from, Content, Update, contents_from, Event, Pin, Seal, Cancel, Message, Messages, effect_of, open_after, Ghosts, Cache, IsIn, Steps, StepOver, Went, Went-none, IsCaused, IsOfLog, begun_by, Logged, State, Outcome, outcome, unchanged, Answer, Call, Config, StickyLog, Page, KeepsMemory, HasGrown}
+use Rattle.sled_base.specs.Errors.{error_of}
+use Rattle.sled_base.specs.declared.types.Error.TheVariants.{Unsupported, Io, OutOfMemory}
+use Rattle.sled_base.specs.declared.types.Refusal.TheVariants as refusals
+use Rattle.sled_base.specs.declared.types.Why.TheVariants.{BatchOpen}
+use Rattle.sled_log.specs.LogState as log
+use Rattle.sled_log.specs.Reading.{IsEvent, MayCome}
+use Rattle.sled_pagecache.proofs.Answers.{fault-same}
+use Rattle.sled_pagecache.proofs.CacheSteps.{Leads, steps-known, steps-marked, steps-stuck, steps-went}
+use Rattle.sled_pagecache.proofs.Carrying.{proper-now}
+use Rattle.sled_pagecache.proofs.Changing.{leads-same}
+use Rattle.sled_pagecache.proofs.Counted.{spares-refused, whole-added, whole-then}
+use Rattle.sled_pagecache.proofs.Putting.{blamed}
+use Rattle.sled_pagecache.proofs.Staying.{stay-one}
+use Rattle.sled_pagecache.proofs.TableNodes.{view}
+use Rattle.sled_pagecache.proofs.Tables.{consistent-kept}
+use Rattle.sled_pagecache.specs.Batches.{OpensBatch, ClosesBatch}
+use Rattle.sled_pagecache.specs.Counted.{IsWhole, SparesCounter}
+use Rattle.sled_pagecache.specs.Logged.{now}
+use Rattle.sled_pagecache.specs.Step.{Closes, closed}
+use Rattle.sled_pagecache.specs.declared.pagecache.call.Answer.TheVariants.{Pinned, Sealed, Cancelled}
+use Rattle.sled_pagecache.specs.declared.pagecache.call.Call.TheVariants as call
+
+-- an event that is a mark changes no page, and may always come
+pub record IsMark (message : Event Message) (event : Event Update) : Type 0 where
+  pub is : IsEvent message event
+  pub may : (contents : List Content) → MayCome contents event
+  pub chains : (chains : List Messages) → chains_from effect_of chains message ≡ chains
+  pub contents : (contents : List Content) → contents_from contents event ≡ contents
+
+pub pin-mark : IsMark Pin Pin
+pin-mark = record { is = tt; may = λ _. tt; chains = λ _. refl; contents = λ _. refl }
+
+pub seal-mark : IsMark Seal Seal
+seal-mark = record { is = tt; may = λ _. tt; chains = λ _. refl; contents = λ _. refl }
+
+pub cancel-mark : IsMark Cancel Cancel
+cancel-mark = record { is = tt; may = λ _. tt; chains = λ _. refl; contents = λ _. refl }
+
+module _ {L : Type 0} (g : Ghosts L) (next : ℕ) (config : Config) (recovered : Bool) (pages : List Page) where
+  abbrev cache : StickyLog L → Cache L
+  cache sticky_log = view next config recovered sticky_log pages
+
+  keeps : (before after : StickyLog L) → KeepsMemory (cache before) (cache after)
+  keeps before after = record { stay = λ pid. record { resident = refl; node = refl }; lru = refl }
+
+  abbrev reaches : StickyLog L → StickyLog L → List (Event Message) → Type 0
+  reaches before after events = Went g.tells g.state g.moment g.left_since g.counts before after events
+
+  abbrev only_now : StickyLog L → Type 0
+  only_now before = (l : List Messages) → g.tells → (g.state before.log).usable ≡ true → g.left_since before.log (g.moment before.log) l → log.IsLeft effect_of (log.unplaced_state (g.state before.log)) [] l
+
+  -- a mark was told, and the batch is open or closed as it says
+  leads-mark : (before after : StickyLog L) (held : Logged) (s : State) (called : Call) (answer : Answer) (message : Event Message) (event : Event Update) → IsMark message event → IsIn g (cache before) held s → s.fault ≡ false
+      → (batch fault : Bool) → StepOver g (cache before) s called answer (outcome (record s { batch = batch; fault = fault }) (event ∷ [])) → batch ≡ after.batch → fault ≡ after.fault → (after.fault ≡ false → open_after s.batch (event ∷ []) ≡ batch)
+      → Leads g (cache before) (cache after) held s called answer (message ∷ [])
+  leads-mark before after held s called answer message event mark is clear batch fault step same_batch same_fault marks =
+      let pages_now = log.now effect_of (log.unplaced_state (g.state before.log)) in
+      let proper = proper-now (log.unplaced_state (g.state before.log)) held (is.known clear).logged in
+      record {
+        out = outcome (record s { batch = batch; fault = fault }) (event ∷ []);
+        step = step;
+        told = (mark.is, mark.may (now held), tt);
+        stays = stay-one pages_now (now held) message event proper (rw (mark.chains pages_now, mark.contents (now held)) proper);
+        stamps = is.stamps;
+        next = is.next;
+        fault = same_fault;
+        batch = same_batch;
+        marks = marks;
+        contents = λ _. (is.known clear).contents ∙ sym (mark.contents (now held));
+      }
+
+  -- ---- pin
+
+  -- with a write fault kept
+  pub opens-stuck : (before : StickyLog L) → before.fault ≡ true → OpensBatch g (cache before) (Err (Io Write)) (cache before)
+  opens-stuck before kept = record {
+    step = steps-stuck g (cache before) call.Pin (Pinned (Err (Io Write))) kept (λ s stuck. rw stuck (refl, refl));
+    blame = record { read = λ is. absurd cc; write = λ is clear. absurd (false≢true (sym clear ∙ kept)) };
+    done = tt;
+    refused = refl;
+    stamps = refl;
+    fault = rw kept refl;
+    stuck = λ _. (refl, refl);
+    unread = refl;
+    same = keeps before before;
+  }
+
+  module _ (before : StickyLog L) (ready : before.fault ≡ false) where
+    -- a batch is open
+    pub opens-twice : before.batch ≡ true → (g.state before.log).usable ≡ true → only_now before → OpensBatch g (cache before) (Err (Unsupported BatchOpen)) (cache before)
+    opens-twice opened usable only = record {
+      step =
+          steps-went g (cache before) (cache before) before before call.Pin (Pinned (Err (Unsupported BatchOpen))) [] (record { config = refl; recovered = refl }) refl refl refl ready
+          (Went-none g.tells g.state g.moment g.left_since g.counts before usable only)
+          (λ held s is clear. leads-same g (cache before) (cache before) held s is clear call.Pin (Pinned (Err (Unsupported BatchOpen))) refl (rw (clear, is.batch ∙ opened) (refl, refl)) refl ready);
+      blame = record { read = λ is. absurd cc; write = λ is. absurd cc };
+      done = tt;
+      refused = refl;
+      stamps = refl;
+      fault = rw ready refl;
+      stuck = λ kept. absurd (false≢true (sym ready ∙ kept));
+      unread = refl;
+      same = keeps before before;
+    }
+
+    module _ (none : before.batch ≡ false) (after : StickyLog L) (unread : (g.counts after.log).reads ≡ (g.counts before.log).reads) where
+      -- a batch was opened
+      pub opens : reaches before after (Pin ∷ []) → after.fault ≡ false → OpensBatch g (cache before) (Ok tt) (cache (record after { batch = true }))
+      opens went free = record {
+        step =
+            steps-marked g (cache before) (cache (record after { batch = true })) before after call.Pin (Pinned (Ok tt)) (Pin ∷ []) (record { config = refl; recovered = refl }) refl refl refl ready went
+            (λ held s is clear. leads-mark before (record after { batch = true }) held s call.Pin (Pinned (Ok tt)) Pin Pin pin-mark is clear true s.fault (rw (clear, is.batch ∙ none) (refl, refl)) refl (clear ∙ sym free) (λ _. refl));
+        blame = record { read = λ is. absurd cc; write = λ is. absurd cc };
+        done = (none, refl);
+        refused = tt;
+        stamps = refl;
+        fault = rw ready free;
+        stuck = λ kept. absurd (false≢true (sym ready ∙ kept));
+        unread = unread;
+        same = keeps before (record after { batch = true });
+      }
+
+      -- the log refused it
+      refused-step : (refusal : Refusal) → g.tells → IsOfLog refusal
+          → (let told : Result (Unit {0}) Refusal = Err refusal in reaches before after (begun_by told (Pin ∷ [])) × IsCaused g.tells g.state g.moment g.left_since g.counts before after (g.is_full_for_batch before.log) told)
+          → Steps g (cache before) call.Pin (Pinned (Err (error_of refusal))) (cache after)
+      refused-step refusal told of refused = by refusal of refused.0 refused.1
+        where
+          quiet : (e : Error) → reaches before after [] → after.fault ≡ false → ((s : State) → s.fault ≡ false → s.batch ≡ false → StepOver g (cache before) s call.Pin (Pinned (Err e)) (unchanged s)) → Steps g (cache before) call.Pin (Pinned (Err e)) (cache after)
+          quiet e went free step =
+              steps-went g (cache before) (cache after) before after call.Pin (Pinned (Err e)) [] (record { config = refl; recovered = refl }) refl refl refl ready went
+              (λ held s is clear. leads-same g (cache before) (cache after) held s is clear call.Pin (Pinned (Err e)) refl (step s clear (is.batch ∙ none)) refl free)
+
+          by : (refusal : Refusal) → IsOfLog refusal → (let told : Result (Unit {0}) Refusal = Err refusal in reaches before after (begun_by told (Pin ∷ []))) → (let told : Result (Unit {0}) Refusal = Err refusal in IsCaused g.tells g.state g.moment g.left_since g.counts before after (g.is_full_for_batch before.log) told)
+              → Steps g (cache before) call.Pin (Pinned (Err (error_of refusal))) (cache after)
+          by (refusals.Io Write) of went cause =
+              steps-marked g (cache before) (cache after) before after call.Pin (Pinned (Err (Io Write))) (Pin ∷ []) (record { config = refl; recovered = refl }) refl refl refl ready went
+              (λ held s is clear. leads-mark before after held s call.Pin (Pinned (Err (Io Write))) Pin Pin pin-mark is clear s.batch true (rw (clear, is.batch ∙ none) refl) (is.batch ∙ sym went.batch) (sym cause.fault) (λ free. absurd (false≢true (sym free ∙ cause.fault))))
+          by (refusals.Io Read) of went cause = quiet (Io Read) went cause.fault (λ s clear closed. rw (clear, closed) refl)
+          by refusals.OutOfMemory of went cause = quiet OutOfMemory went cause.fault (λ s clear closed. rw (clear, closed) refl)
+          by (refusals.Unsupported LogFull) of went cause = quiet (Unsupported LogFull) went cause.fault (λ s clear closed. rw (clear, closed) (cause.full refl, refl))
+          by refusal of went cause = absurd of
+
+      pub opens-refused : (refusal : Refusal) → (g.tells → IsOfLog refusal)
+          → (let told : Result (Unit {0}) Refusal = Err refusal in reaches before after (begun_by told (Pin ∷ [])) × IsCaused g.tells g.state g.moment g.left_since g.counts before after (g.is_full_for_batch before.log) told)
+          → OpensBatch g (cache before) (Err (error_of refusal)) (cache after)
+      opens-refused refusal of refused = record {
+        step = steps-known g (cache before) (cache after) call.Pin (Pinned (Err (error_of refusal))) (record { config = refl; recovered = refl }) (λ told. refused-step refusal told (of told) refused);
+        blame = blamed g (cache before) (cache after) (g.is_full_for_batch before.log) refusal refused.1;
+        done = tt;
+        refused = refused.0.batch;
+        stamps = refl;
+        fault = rw ready (refused.1.fault ∙ fault-same (Unit {0}) (Unit {0}) refusal);
+        stuck = λ kept. absurd (false≢true (sym ready ∙ kept));
+        unread = unread;
+        same = keeps before after;
+      }
+
+  -- ---- seal and cancel
+
+  -- how a call closes the batch
+  pub record IsClosing (called : Call) (said : Result (Unit {0}) Error → Answer) (message : Event Message) (event : Event Update) : Type 0 where
+    pub mark : IsMark message event
+    pub ends : (was : Bool) → open_after was (event ∷ []) ≡ false
+    pub step : (before : StickyLog L) (s : State) (answer : Result (Unit {0}) Error) (out : Outcome) → Closes event s answer out → StepOver g (cache before) s called (said answer) out
+
+  pub seals : IsClosing call.Seal Sealed Seal Seal
+  seals = record { mark = seal-mark; ends = λ was. refl; step = λ before s answer out h. h }
+
+  pub cancels : IsClosing call.Cancel Cancelled Cancel Cancel
+  cancels = record { mark = cancel-mark; ends = λ was. refl; step = λ before s answer out h. h }
+
+  module _ (called : Call) (said : Result (Unit {0}) Error → Answer) (message : Event Message) (event : Event Update) (closing : IsClosing called said message event) (before : StickyLog L) (opened : before.batch ≡ true) where
+    -- with a write fault kept
+    pub closes-stuck : before.fault ≡ true → ClosesBatch g called said (cache before) (Err (Io Write)) (cache (record before { batch = false }))
+    closes-stuck kept = record {
+      step = record {
+        opening = record { config = refl; recovered = refl };
+        from_each = λ held s is. record {
+          out = unchanged (closed s);
+          step = closing.step before s (Err (Io Write)) (unchanged (closed s)) (is.batch ∙ opened, rw (is.fault ∙ kept) (refl, refl));
+          held_then = held;
+          is = record { tells = is.tells; stamps = is.stamps; next = is.next; fault = is.fault; batch = refl; known = λ clear. absurd (false≢true (sym clear ∙ is.fault ∙ kept)) };
+          added = λ clear. absurd (false≢true (sym clear ∙ is.fault ∙ kept));
+          stop = λ clear. absurd (false≢true (sym clear ∙ is.fault ∙ kept));
+          stuck = λ _. refl;
+        };
+      };
+      blame = record { read = λ is. absurd cc; write = λ is clear. absurd (false≢true (sym clear ∙ kept)) };
+      closed = refl;
+      only = refl;
+      stamps = refl;
+      fault = rw kept refl;
+      stuck = λ _. (refl, refl);
+      unread = refl;
+      same = keeps before (record before { batch = false });
+    }
+
+    module _ (ready : before.fault ≡ false) (after : StickyLog L) (went : reaches (record before { batch = false }) after (message ∷ [])) (unread : (g.counts after.log).reads ≡ (g.counts before.log).reads) where
+      pub closes : after.fault ≡ false → ClosesBatch g called said (cache before) (Ok tt) (cache after)
+      closes free = record {
+        step =
+            steps-marked g (cache before) (cache after) (record before { batch = false }) after called (said (Ok tt)) (message ∷ []) (record { config = refl; recovered = refl }) refl refl refl ready went
+            (λ held s is clear. leads-mark before after held s called (said (Ok tt)) message event closing.mark is clear false s.fault
+            (closing.step before s (Ok tt) (outcome (closed s) (event ∷ [])) (is.batch ∙ opened, rw clear refl)) (sym went.batch) (clear ∙ sym free) (λ _. closing.ends s.batch));
+        blame = record { read = λ is. absurd cc; write = λ is. absurd cc };
+        closed = went.batch;
+        only = tt;
+        stamps = refl;
+        fault = rw ready free;
+        stuck = λ kept. absurd (false≢true (sym ready ∙ kept));
+        unread = unread;
+        same = keeps before after;
+      }
+
+      pub closes-refused : after.fault ≡ true → HasGrown (g.counts before.log).write_faults (g.counts after.log).write_faults → ClosesBatch g called said (cache before) (Err (Io Write)) (cache after)
+      closes-refused kept grew = record {
+        step =
+            steps-marked g (cache before) (cache after) (record before { batch = false }) after called (said (Err (Io Write))) (message ∷ []) (record { config = refl; recovered = refl }) refl refl refl ready went
+            (λ held s is clear. leads-mark before after held s called (said (Err (Io Write))) message event closing.mark is clear false true
+            (closing.step before s (Err (Io Write)) (outcome (record (closed s) { fault = true }) (event ∷ [])) (is.batch ∙ opened, rw clear (refl, refl))) (sym went.batch) (sym kept) (λ free. absurd (false≢true (sym free ∙ kept))));
+        blame = record { read = λ is. absurd cc; write = λ is clear. grew };
+        closed = went.batch;
+        only = refl;
+        stamps = refl;
+        fault = rw ready kept;
+        stuck = λ stuck. absurd (false≢true (sym ready ∙ stuck));
+        unread = unread;
+        same = keeps before after;
+      }
+
+-- ---- the table
+
+module _ {L : Type 0} (g : Ghosts L) {k next : ℕ} {before : StickyLog L} {table : List Page} {free : List ℕ} (whole : IsWhole g.tells g.state k next before table free) (ready : before.fault ≡ false) (after : StickyLog L)
+    (same : g.tells → after.fault ≡ false → log.now effect_of_entry (g.state after.log) ≡ log.now effect_of_entry (g.state before.log)) where
+  -- a mark came, which opened the batch or closed it
+  pub whole-marked : (batch : Bool) (mid : StickyLog L) → mid.log ≡ before.log → (message : Event Message) → ((was : Bool) → open_after was (message ∷ []) ≡ batch) → AllByRecursion SparesCounter (message ∷ [])
+      → Went g.tells g.state g.moment g.left_since g.counts mid after (message ∷ []) → IsWhole g.tells g.state k next (record after { batch = batch }) table free
+  whole-marked batch mid of message marks spares went =
+      whole-added g whole ready (λ told clear. (message ∷ [], subst (λ l. log.Adds effect_of (log.unplaced_state (g.state l)) (message ∷ []) (log.unplaced_state (g.state after.log))) of (went.added told clear), spares)) refl
+      (consistent-kept g.tells g.state before (record after { batch = batch }) table free free whole.consistent ready went.usable (λ clear. went.opened clear ∙ marks (is_open (g.state mid.log).pending)) same)
+
+  -- no batch was opened
+  pub whole-refused : (refusal : Refusal) → (let told : Result (Unit {0}) Refusal = Err refusal in Went g.tells g.state g.moment g.left_since g.counts before after (begun_by told (Pin ∷ [])) × (after.fault ≡ is_write_fault told))
+      → IsWhole g.tells g.state k next after table free
+  whole-refused refusal refused =
+      whole-then g whole ready (spares-refused g (Unit {0}) refusal (Pin ∷ []) refused) refl
+      (consistent-kept g.tells g.state before after table free free whole.consistent ready refused.0.usable (λ clear. opened refusal refused clear) same)
+    where
+      opened : (refusal : Refusal) → (let told : Result (Unit {0}) Refusal = Err refusal in Went g.tells g.state g.moment g.left_since g.counts before after (begun_by told (Pin ∷ [])) × (after.fault ≡ is_write_fault told)) → after.fault ≡ false
+          → is_open (g.state after.log).pending ≡ after.batch
+      opened (refusals.Io Write) (went, fault) clear = absurd (false≢true (sym clear ∙ fault))
+      opened (refusals.Io Read) (went, fault) clear = went.opened clear ∙ whole.consistent.opened ready ∙ sym went.batch
+      opened refusal (went, fault) clear = went.opened clear ∙ whole.consistent.opened ready ∙ sym went.batch
+
+  -- the batch was closed
+  pub whole-closed : (message : Event Message) → ((was : Bool) → open_after was (message ∷ []) ≡ false) → AllByRecursion SparesCounter (message ∷ [])
+      → Went g.tells g.state g.moment g.left_since g.counts (record before { batch = false }) after (message ∷ []) → IsWhole g.tells g.state k next after table free
+  whole-closed message marks spares went =
+      subst (λ b. IsWhole g.tells g.state k next (record after { batch = b }) table free) (sym went.batch)
+      (whole-marked false (record before { batch = false }) refl message marks spares went)
+
+-- with a write fault kept it may be closed
+pub whole-stuck : {L : Type 0} (g : Ghosts L) {k next : ℕ} {before : StickyLog L} {table : List Page} {free : List ℕ} → IsWhole g.tells g.state k next before table free → before.fault ≡ true
+    → IsWhole g.tells g.state k next (record before { batch = false }) table free
+whole-stuck g whole kept = record {
+  consistent = record {
+    beside = λ clear. absurd (false≢true (sym clear ∙ kept));
+    opened = λ clear. absurd (false≢true (sym clear ∙ kept));
+    own = whole.consistent.own;
+    both = whole.consistent.both;
+    short = whole.consistent.short;
+    few = whole.consistent.few;
+    free = whole.consistent.free;
+  };
+  positive = whole.positive;
+  counted = λ some clear. absurd (false≢true (sym clear ∙ kept));
+}

@@ -1,0 +1,14 @@
+use Rattle.sled_pagecache.proofs.Names.{[], ◌∷◌, refl, Cancel}
+use Rattle.sled_log.specs.Calls.{is_write_fault as log_met_fault}
+use Rattle.sled_pagecache.proofs.StickyLogs.{met, Went-called, stays-marked}
+use Rattle.sled_pagecache.proofs.pagecache.sticky_log.StickyLog.cancel.Goals as goal
+
+pub returns-clause-went : goal.returns-clause-went
+returns-clause-went g c =
+    rw c.keep_fault.ensures.answer (Went-called g.L.Log.tells g.L.Log.state g.L.Log.moment g.L.Log.left_since g.L.Log.counts c.args.self.now _ _ _ (Cancel ∷ []) c.cancel-outcome.result
+    (λ said. refl) c.cancel-outcome.ensures.called (met c.args.self.now.fault c.keep_fault.new.fault (log_met_fault c.cancel-outcome.result) c.requires.ready c.keep_fault.ensures.kept) refl)
+
+pub returns-clause-same : goal.returns-clause-same
+returns-clause-same g c =
+    stays-marked g.L.Log.tells g.L.Log.state g.L.Log.moment g.L.Log.left_since g.L.Log.counts c.args.self.now.log _ _ _ _ (Cancel ∷ []) c.cancel-outcome.result (λ said chains. refl) c.cancel-outcome.ensures.called
+    (met c.args.self.now.fault c.keep_fault.new.fault (log_met_fault c.cancel-outcome.result) c.requires.ready c.keep_fault.ensures.kept)
