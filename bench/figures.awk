@@ -58,9 +58,10 @@ function own_time(script, whose) {
     return least(time, script, whose) - least(time, setup_of[script], whose)
 }
 
-# What is left of a script without its setup says nothing below a twentieth of that, and little below a fifth or five milliseconds.
+# What is left of a script without its setup says nothing below a twentieth of that, and little below a fifth or five milliseconds. Nor
+# does a script say anything of a program that didn't run it.
 function is_nothing(script, whose) {
-    return own_time(script, whose) <= least(time, setup_of[script], whose) / 20
+    return !run_count[script, whose] || own_time(script, whose) <= least(time, setup_of[script], whose) / 20
 }
 
 function is_rough(script, whose) {

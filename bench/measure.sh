@@ -98,6 +98,7 @@ measure() {
     while [ "$round" -lt "$runs" ]; do
         round=$((round + 1))
         for each in $programs; do
+            can_run "$each" "$script" || continue
             run_once "$each" "$script" "$work/input"
             echo "run $script $each $(cat "$work/report") $(awk '/^files / { kb = $2 } END { print kb + 0 }' "$work/faults")" >>"$work/results"
         done

@@ -24,6 +24,8 @@ replies leaf_1000 gets of a page of 1,000 pairs
 flushes_1000 pages_1000 sets, and a flush after each 1,000
 flushes_10 pages_1000 sets, and a flush after each 10
 flushes_1 pages_1000 sets, and a flush after each
+batches_1000 pages_1000 batches of 1,000 sets
+batches_10 pages_1000 batches of 10 sets
 short_sets pages_1000 1,000,000 sets of one byte to one byte, 1,000 pages
 ids_10 nothing ids, of which each tenth puts a durable counter
 ids_1000 nothing ids, of which each thousandth does
@@ -64,6 +66,7 @@ script_lines() {
     large_8000) large 8000 "$((count / 40))" ;;
     replies) repeated "$((count / 200))" 'get 2' ;;
     flushes_*) rounds 1000 "$count" 1 0 "${1#flushes_}" ;;
+    batches_*) batches 1000 "$count" "${1#batches_}" ;;
     short_sets) short_sets 1000 1000000 ;;
     ids_*) repeated "$count" 'id' ;;
     frees_mixed) frees_mixed 1000000 ;;
@@ -82,6 +85,14 @@ interval_of() {
     case $1 in
     ids_*) echo "${1#ids_}" ;;
     *) echo 10 ;;
+    esac
+}
+
+# can_run PROGRAM SCRIPT: whether the program has what the script is about. In LevelDB's and RocksDB's batches what was changed can't be
+# read before they are written, so these two have none here.
+can_run() {
+    case $1-$2 in
+    leveldb-batches_* | rocksdb-batches_*) return 1 ;;
     esac
 }
 
@@ -118,6 +129,24 @@ rounds() {
                 if (every && done % every == 0) { print "flush"; written++ }
             }
             for (k = 0; k < gets; k++) { printf "get %d\n", page + 2; written++ }
+        }
+    }'
+}
+
+# batches PAGES LINES SETS: batches of so many sets of so many pages
+batches() {
+    awk -v pages="$1" -v lines="$2" -v sets="$3" 'BEGIN {
+        for (i = 0; i < pages; i++) stamp[i] = 1
+        seed = 1
+        for (written = 0; written < lines; written += sets + 2) {
+            print "pin"
+            for (k = 0; k < sets; k++) {
+                seed = (seed * 16807) % 2147483647
+                page = seed % pages
+                printf "set %d %d 61%02x %04x\n", page + 2, stamp[page], stamp[page] % 4, done++ % 65536
+                stamp[page]++
+            }
+            print "seal"
         }
     }'
 }

@@ -56,7 +56,7 @@ function print_runs(    i, j, line, script, whose) {
         line = title_of[script]
         for (j = 1; j <= program_count; j++) {
             whose = program[j]
-            line = line " | " seconds(median(time, script, whose)) " (" seconds(least(time, script, whose)) " to " seconds(greatest(time, script, whose)) ")"
+            line = line " | " (run_count[script, whose] ? seconds(median(time, script, whose)) " (" seconds(least(time, script, whose)) " to " seconds(greatest(time, script, whose)) ")" : "-")
         }
         print "| " line " |"
     }

@@ -1,5 +1,5 @@
 // The script over LMDB: the rows of rows.h in one B+ tree, whose file is written through a map of memory. All that stands between
-// two flushes is one transaction, which `flush` commits without fsync. LMDB takes keys of up to 511 bytes, so a page's keys and
+// two flushes is one transaction, which `flush` and the end of a batch commit without fsync. LMDB takes keys of up to 511 bytes, so a page's keys and
 // names have up to 502.
 #include "folder.h"
 #include "rows.h"

@@ -9,11 +9,12 @@
 //     Change free(id, stamp)                 the same, but there is no page then
 //     Root root(name)                        the root page of the name, if it has one
 //     void put_root(name, Root)              gives the name this root page, or none
-//     void flush()
+//     void flush()                           ends a transaction, in a store that has them
 //     void put_counter(number)               keeps the counter of ids, which a flush makes durable
 //
 // and throws what it can't answer, which ends the program with status 1. `size` and `open` are no commands here. Which ids of pages
-// are free is known here, and in no store. Ids of `id` come in intervals, of a length that the environment gives as INTERVAL (10).
+// are free is known here, and in no store, and so is whether a batch is open, which ends with a flush. Ids of `id` come in intervals, of a
+// length that the environment gives as INTERVAL (10).
 #pragma once
 
 #include <cerrno>
@@ -43,6 +44,7 @@ using Root = std::optional<std::uint64_t>;
 
 constexpr std::uint64_t first_id = 2;
 constexpr std::size_t longest_line = 65536;
+constexpr std::string_view reserved_id = "1", batch_open = "8"; // reasons of `error unsupported`
 
 // What came of a change: the new stamp, or the present one where the given one is stale, or neither where there is no page.
 struct Change {
@@ -176,9 +178,39 @@ template <typename Store> class Script {
         if (name == "root") return root(words, out);
         if (name == "cas") return swap(words, out);
         if (name == "id") return draw(words, out);
-        if (name != "flush" || !words.are_done()) return false;
+        if (name == "flush") return flush(words, out);
+        if (name == "pin") return open_batch(words, out);
+        return (name == "seal" || name == "cancel") && close_batch(words, out);
+    }
+
+    bool flush(Words &words, std::string &out) {
+        if (!words.are_done()) return false;
+        if (is_batch_open) return refuse(out, batch_open);
         store.flush();
         out += "flushed 0";
+        return true;
+    }
+
+    bool open_batch(Words &words, std::string &out) {
+        if (!words.are_done()) return false;
+        if (is_batch_open) return refuse(out, batch_open);
+        is_batch_open = true;
+        out += "ok";
+        return true;
+    }
+
+    // No change is taken back where a batch is cancelled.
+    bool close_batch(Words &words, std::string &out) {
+        if (!words.are_done() || !is_batch_open) return false;
+        is_batch_open = false;
+        store.flush();
+        out += "ok";
+        return true;
+    }
+
+    static bool refuse(std::string &out, std::string_view reason) {
+        out += "error unsupported ";
+        out += reason;
         return true;
     }
 
@@ -233,6 +265,7 @@ template <typename Store> class Script {
         if (!words.are_done()) return false;
         const auto start = next_drawn / interval * interval;
         if (start > counter) {
+            if (is_batch_open) return refuse(out, batch_open);
             store.put_counter(start);
             store.flush();
             counter = start;
@@ -253,8 +286,8 @@ template <typename Store> class Script {
         const auto id = number_of(words.next());
         if (!id || !words.are_done()) return false;
         Leaf leaf(out);
-        if (is_own(*id)) out += "error unsupported 1";
-        else if (!store.get(*id, leaf)) out += "none";
+        if (is_own(*id)) return refuse(out, reserved_id);
+        if (!store.get(*id, leaf)) out += "none";
         return true;
     }
 
@@ -285,10 +318,7 @@ template <typename Store> class Script {
 
     // Makes a change of a page that is not an own one, and writes what came of it.
     template <typename Make> static bool put_change(std::string &out, std::uint64_t id, Make make) {
-        if (is_own(id)) {
-            out += "error unsupported 1";
-            return true;
-        }
+        if (is_own(id)) return refuse(out, reserved_id);
         const Change change = make();
         if (change.kind == Change::Kind::gone) {
             out += "gone";
@@ -301,6 +331,7 @@ template <typename Store> class Script {
 
     Store store;
     std::map<std::uint64_t, std::uint64_t> free_pages; // by their ids, each with its stamp
+    bool is_batch_open = false;
     std::uint64_t next_id = first_id;
     std::uint64_t interval = asked_interval(), counter = 0, next_drawn = 0;
 };

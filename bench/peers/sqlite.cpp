@@ -1,5 +1,6 @@
 // The script over SQLite: tables of pages with their stamps, of pairs by page and key, and of roots by name, and one row with the
-// counter of ids. All that stands between two flushes is one transaction, which `flush` commits to a write-ahead log without fsync.
+// counter of ids. All that stands between two flushes is one transaction, which `flush` and the end of a batch commit to a write-ahead log without
+// fsync.
 // The cache has 256 MB, and statements are prepared once.
 #include "folder.h"
 #include "script.h"

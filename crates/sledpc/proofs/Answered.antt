@@ -1,7 +1,7 @@
--- The lines that were answered so far.
-use Rattle.std.proofs.Common.{Bool, length-append, true, ◌≡◌, ◌≢◌, ◌≤◌, inl, inr, List, [], ◌∷◌, ◌++◌, length, Option, None, Some, Result, Ok, Err, refl, sym, ap, subst, ◌∙◌, arith, append_assoc, append-nil}
-use Rattle.std.specs.Prelude.{codes, ℕ, ⊤}
-use Rattle.std.specs.List.{AllZip}
+-- What was served of an input, and more behind it.
+use Rattle.std.proofs.Common.{Bool, true, false, ◌≡◌, inl, inr, List, [], ◌∷◌, ◌++◌, Option, None, Some, Result, Ok, Err, refl, sym, ap, subst, ◌∙◌, append_assoc, append-nil}
+use Rattle.std.proofs.lemmas.Grind.{flat_map-append}
+use Rattle.std.specs.Prelude.{ℕ, ⊤}
 use Rattle.sled_base.specs.Order.{Bytes}
 use Rattle.sled_base.specs.declared.types.Error.{Error}
 use Rattle.sled_log.specs.Messages.{Messages, effect_of}
@@ -15,96 +15,27 @@ use Rattle.sled_pagecache.specs.Token.{Token}
 use Rattle.sled_pagecache.specs.Trees.{EndsSwap, GoesOnOver, GoesOnWith, IsKnown, OpensTree}
 use Rattle.sled_pagecache.specs.declared.pagecache.call.Answer.{Answer}
 use Rattle.sled_pagecache.specs.declared.pagecache.call.Call.{Call}
-use Rattle.sledpc.specs.Commands.{IsCommand}
-use Rattle.sledpc.specs.declared.script.command.Command.{Command}
-use Rattle.sledpc.specs.declared.script.command.Command.TheVariants as command
-use Rattle.sledpc.specs.Lines.{lines_of, ReadsLine, IsUnreadLine}
+use Rattle.sledpc.specs.Lines.{lines_of}
 use Rattle.sledpc.specs.Output.{AppendsPrefix, Gathered}
-use Rattle.sledpc.specs.Runs.{Served, Nothing, Made, Opened, AsksFor, reply_to, text_of, calls_by, calls_of, Answers, Serves, run_error_of}
-use Rattle.sledpc.specs.Served.{Goes, AreGathered, RepliesLine, ServesLines}
-use Rattle.sledpc.specs.declared.lines.Line.TheVariants as read
-use Rattle.sledpc.specs.declared.lines.ReadError.{ReadError}
-use Rattle.sledpc.specs.declared.lines.ReadError.TheVariants as unread
-use Rattle.sledpc.specs.Settings.{longest_line}
+use Rattle.sledpc.specs.Runs.{Served, Nothing, Made, Opened, Marked, AsksFor, AskFor, Answers, Ends, reply_to, text_of, calls_by, calls_of, is_open_after, is_open_behind}
+use Rattle.sledpc.specs.Served.{AreGathered, Goes, HasServed, IsBehind, ServesAll, ServesBatch, ServesLines, ServesUntil}
 use Rattle.sledpc.specs.declared.script.run.RunError.{RunError}
 use Rattle.sledpc.specs.declared.script.run.RunError.TheVariants.{Read, Write, Memory}
+use Rattle.sledpc.specs.declared.script.run.Stop.{Stop}
+use Rattle.sledpc.specs.declared.script.run.Stop.TheVariants as stop
 use Rattle.sledpc.proofs.Gathered.{gathered_none, gathered_more, prefix_more}
-use Rattle.sledpc.proofs.LinesOf.{has_line, no_length, not_empty}
 
--- a line that is too long is no command
-short_command : (line : Bytes) (asked : Command) → IsCommand line asked → length line ≤ longest_line
-short_command line (command.Call call) encodes = encodes.0
-short_command line (command.OpenTree name) encodes = encodes.0
+-- ---- lists of what was served
 
--- ---- one more line
+text_then : (served more : List Served) → text_of (served ++ more) ≡ text_of served ++ text_of more
+text_then served more = flat_map-append (λ one. reply_to one ++ 10 ∷ []) served more
 
-module _ (P : Type 0) where
-  asks_more : (lines : List Bytes) (served : List Served) (line : Bytes) (one : Served) → AllZip (AsksFor P) lines served → AsksFor P line one → AllZip (AsksFor P) (lines ++ line ∷ []) (served ++ one ∷ [])
-  asks_more [] [] line one all asks = (asks, tt)
-  asks_more (l ∷ lines) (s ∷ served) line one all asks = (all.0, asks_more lines served line one all.1 asks)
-  asks_more [] (s ∷ served) line one all asks = absurd all
-  asks_more (l ∷ lines) [] line one all asks = absurd all
+calls_then : (served more : List Served) → calls_of (served ++ more) ≡ calls_of served ++ calls_of more
+calls_then served more = flat_map-append calls_by served more
 
-text_more : (served : List Served) (one : Served) → text_of (served ++ one ∷ []) ≡ text_of served ++ (reply_to one ++ 10 ∷ [])
-text_more [] one = append-nil (reply_to one ++ 10 ∷ [])
-text_more (s ∷ served) one = ap (λ rest. (reply_to s ++ 10 ∷ []) ++ rest) (text_more served one) ∙ sym (append_assoc (reply_to s ++ 10 ∷ []) (text_of served) (reply_to one ++ 10 ∷ []))
-
-calls_more : (served : List Served) (one : Served) → calls_of (served ++ one ∷ []) ≡ calls_of served ++ calls_by one
-calls_more [] one = append-nil (calls_by one)
-calls_more (s ∷ served) one = ap (λ rest. calls_by s ++ rest) (calls_more served one) ∙ sym (append_assoc (calls_by s) (calls_of served) (calls_by one))
-
--- ---- what has been done so far
-
--- some first lines of a known input were answered, and the rest is left
-abbrev pub IsBehind : Type 0 → Option Bytes → Option Bytes → List Served → Type 0
-IsBehind P None rest served = ⊤
-IsBehind P (Some input) None served = ⊥
-IsBehind P (Some input) (Some rest) served = (answered : List Bytes) × (lines_of input ≡ answered ++ lines_of rest) × AllZip (AsksFor P) answered served
-
--- the next line, where the input is known, is of this kind
-abbrev IsNext : Type 0 → Option Bytes → Option Bytes → Served → Type 0
-IsNext P None next one = ⊤
-IsNext P (Some rest) None one = ⊥
-IsNext P (Some rest) (Some next) one = (line : Bytes) × (lines_of rest ≡ line ∷ lines_of next) × AsksFor P line one
-
-module _ (P : Type 0) where
-  behind_more : (input rest next : Option Bytes) (served : List Served) (one : Served) → IsBehind P input rest served → IsNext P rest next one → IsBehind P input next (served ++ one ∷ [])
-  behind_more None rest next served one behind at = tt
-  behind_more (Some input) None next served one behind at = absurd behind
-  behind_more (Some input) (Some rest) None served one behind at = absurd at
-  behind_more (Some input) (Some rest) (Some next) served one (answered, lines, asked) (line, first, asks) =
-      (answered ++ line ∷ [], lines ∙ ap (λ left. answered ++ left) first ∙ sym (append_assoc answered (line ∷ []) (lines_of next)), asks_more P answered served line one asked asks)
-
-  -- what a stop behind some lines says of the input
-  read_ends : (input rest : Option Bytes) (served : List Served) → IsBehind P input rest served → Answers P input (Err Read) served
-  read_ends None rest served behind = tt
-  read_ends (Some input) None served behind = absurd behind
-  read_ends (Some input) (Some rest) served (answered, lines, asked) = (answered, lines_of rest, lines, asked, tt)
-
-  memory_ends : (input rest next : Option Bytes) (served : List Served) (line : Bytes) → IsBehind P input rest served → (E : Type 0) (f : Bool) → ReadsLine {E = E} rest next (Ok (read.Whole f)) line → Answers P input (Err Memory) served
-  memory_ends None rest next served line behind E f at = tt
-  memory_ends (Some input) None next served line behind E f at = absurd behind
-  memory_ends (Some input) (Some rest) None served line behind E f at = absurd at
-  memory_ends (Some input) (Some rest) (Some next) served line (answered, lines, asked) E f at =
-      (answered, lines_of rest, lines, asked, λ none. let first = at.1 in absurd cc)
-
-  write_ends : (input rest next : Option Bytes) (served : List Served) (one : Served) → IsBehind P input rest served → IsNext P rest next one → Answers P input (Err Write) (served ++ one ∷ [])
-  write_ends None rest next served one behind at = tt
-  write_ends (Some input) None next served one behind at = absurd behind
-  write_ends (Some input) (Some rest) None served one behind at = absurd at
-  write_ends (Some input) (Some rest) (Some next) served one (answered, lines, asked) (line, first, asks) =
-      (answered ++ line ∷ [], lines_of next, lines ∙ ap (λ left. answered ++ left) first ∙ sym (append_assoc answered (line ∷ []) (lines_of next)), asks_more P answered served line one asked asks, not_empty answered line [])
-
-  -- a line that was kept is the next, and so is one that is too long
-  kept_next : (E : Type 0) (f : Bool) (rest next : Option Bytes) (line : Bytes) (one : Served) → ReadsLine {E = E} rest next (Ok (read.Whole f)) line → AsksFor P line one → IsNext P rest next one
-  kept_next E f None next line one at asks = tt
-  kept_next E f (Some rest) None line one at asks = absurd at
-  kept_next E f (Some rest) (Some next) line one at asks = (line, at.1, asks)
-
-  long_next : (E : Type 0) (rest next : Option Bytes) (kept : Bytes) → ReadsLine {E = E} rest next (Ok read.TooLong) kept → IsNext P rest next Nothing
-  long_next E None next kept at = tt
-  long_next E (Some rest) None kept at = absurd at
-  long_next E (Some rest) (Some next) kept at = (at.0, at.2, λ asked is. let long = at.1 in let short : length at.0 ≤ longest_line = short_command at.0 asked is in absurd (omega arith))
+open_then : (is_open : Bool) (served more : List Served) → is_open_behind is_open (served ++ more) ≡ is_open_behind (is_open_behind is_open served) more
+open_then is_open [] more = refl
+open_then is_open (one ∷ served) more = open_then (is_open_after is_open one) served more
 
 -- ---- the calls of an opening
 
@@ -128,35 +59,57 @@ tree_map P Q name result (Ok (Some root)) calls f opens = opens
 tree_map P Q name result (Ok None) calls f (answer, others, are, goes) = (answer, others, are, with_map P Q name result answer others f goes)
 tree_map P Q name result (Err e) calls f opens = opens
 
-asks_map : (P Q : Type 0) (line : Bytes) (one : Served) → (P → Q) → AsksFor P line one → AsksFor Q line one
-asks_map P Q line Nothing f asks = asks
-asks_map P Q line (Made call answer) f asks = asks
-asks_map P Q line (Opened calls root) f (name, encodes, (look, found, others, are, finds, opens)) = (name, encodes, (look, found, others, are, finds, tree_map P Q name root found others f opens))
+asks_map : (P Q : Type 0) (is_open : Bool) (line : Bytes) (one : Served) → (P → Q) → AsksFor P is_open line one → AsksFor Q is_open line one
+asks_map P Q is_open line Nothing f asks = asks
+asks_map P Q is_open line (Made call answer) f asks = asks
+asks_map P Q is_open line (Opened calls root) f (name, encodes, (look, found, others, are, finds, opens)) = (name, encodes, (look, found, others, are, finds, tree_map P Q name root found others f opens))
+asks_map P Q is_open line (Marked mark result) f asks = asks
 
--- ---- what waits to be written
+-- ---- lines that ask for more
 
--- a reply that was gathered stands where the writing of all that waits fails behind it
-stands : (mid last new : Option Bytes) (before then text : Bytes) → Gathered mid last before then text → AppendsPrefix last new (then ++ []) → AppendsPrefix mid new (before ++ text)
-stands mid last new before then text wrote stopped = subst (λ l. AppendsPrefix mid new (before ++ l)) (append-nil text) (prefix_more mid last new before then text [] wrote stopped)
+module _ (P Q : Type 0) (f : Q → P) where
+  ask_map : (is_open : Bool) (lines : List Bytes) (served : List Served) → AskFor Q is_open lines served → AskFor P is_open lines served
+  ask_map is_open [] [] all = all
+  ask_map is_open (line ∷ lines) (one ∷ served) all = (asks_map Q P is_open line one f all.0, ask_map (is_open_after is_open one) lines served all.1)
+  ask_map is_open [] (one ∷ served) all = absurd all
+  ask_map is_open (line ∷ lines) [] all = absurd all
 
--- nothing is behind nothing
-end_of_none : (front rest : Bytes) → front ++ rest ≡ [] → rest ≡ []
-end_of_none [] rest e = e
-end_of_none (byte ∷ front) rest e = absurd cc
+  ask_then : (is_open : Bool) (lines others : List Bytes) (served more : List Served) → AskFor P is_open lines served → AskFor Q (is_open_behind is_open served) others more → AskFor P is_open (lines ++ others) (served ++ more)
+  ask_then is_open [] others [] more all rest = ask_map is_open others more rest
+  ask_then is_open (line ∷ lines) others (one ∷ served) more all rest = (all.0, ask_then (is_open_after is_open one) lines others served more all.1 rest)
+  ask_then is_open [] others (one ∷ served) more all rest = absurd all
+  ask_then is_open (line ∷ lines) others [] more all rest = absurd all
 
--- where something was served, a line was answered
-some_answered : (P : Type 0) (lines : List Bytes) (served : List Served) → AllZip (AsksFor P) lines served → (served ≡ [] → ⊥) → lines ≢ []
-some_answered P [] [] all more = absurd (more refl)
-some_answered P [] (s ∷ served) all more = absurd all
-some_answered P (line ∷ lines) served all more = λ none. absurd cc
+  behind_then : (is_open still : Bool) (input middle rest : Option Bytes) (served more : List Served) → still ≡ is_open_behind is_open served → IsBehind P is_open input middle served → IsBehind Q still middle rest more → IsBehind P is_open input rest (served ++ more)
+  behind_then is_open still None middle rest served more same first second = tt
+  behind_then is_open still (Some input) None rest served more same first second = absurd first
+  behind_then is_open still (Some input) (Some middle) None served more same first second = absurd second
+  behind_then is_open still (Some input) (Some middle) (Some rest) served more same (answered, lines, asked) (others, left, asked_then) =
+      (answered ++ others, lines ∙ ap (λ (l : List Bytes). answered ++ l) left ∙ sym (append_assoc answered others (lines_of rest)), ask_then is_open answered others served more asked (subst (λ now. AskFor Q now others more) same asked_then))
 
--- what waited is not written whole
-rest_stops : (old mid new : Option Bytes) (waits text : Bytes) → Gathered old mid [] waits text → AppendsPrefix mid new waits → AppendsPrefix old new text
-rest_stops old mid new waits text gathered stopped = subst (AppendsPrefix old new) (append-nil text) (prefix_more old mid new [] waits text [] gathered (subst (AppendsPrefix mid new) (sym (append-nil waits)) stopped))
+  ends_then : (e : RunError) (answered others left : List Bytes) → Ends e others left → Ends e (answered ++ others) left
+  ends_then Read answered others left why = tt
+  ends_then Memory answered others left why = why
+  ends_then Write [] others left why = why
+  ends_then Write (line ∷ answered) others left why = λ none. absurd cc
+
+  answers_then : (is_open still : Bool) (input middle : Option Bytes) (result : Result Unit RunError) (served more : List Served) → still ≡ is_open_behind is_open served → IsBehind P is_open input middle served → Answers Q still middle result more → Answers P is_open input result (served ++ more)
+  answers_then is_open still None middle result served more same first second = tt
+  answers_then is_open still (Some input) None result served more same first second = absurd first
+  answers_then is_open still (Some input) (Some middle) (Ok done) served more same (answered, lines, asked) all =
+      subst (λ (l : List Bytes). AskFor P is_open l (served ++ more)) (sym lines) (ask_then is_open answered (lines_of middle) served more asked (subst (λ now. AskFor Q now (lines_of middle) more) same all))
+  answers_then is_open still (Some input) (Some middle) (Err e) served more same (answered, lines, asked) (others, left, split, asked_then, why) =
+      (answered ++ others, left, lines ∙ ap (λ (l : List Bytes). answered ++ l) split ∙ sym (append_assoc answered others left), ask_then is_open answered others served more asked (subst (λ now. AskFor Q now others more) same asked_then), ends_then e answered others left why)
+
+gathered_then : (result : Result Unit RunError) (old mid new : Option Bytes) (before between waits text more : Bytes) → Gathered old mid before between text → AreGathered result mid new between waits more → AreGathered result old new before waits (text ++ more)
+gathered_then (Ok done) old mid new before between waits text more first second = gathered_more old mid new before between waits text more first second
+gathered_then (Err Read) old mid new before between waits text more first second = gathered_more old mid new before between waits text more first second
+gathered_then (Err Memory) old mid new before between waits text more first second = gathered_more old mid new before between waits text more first second
+gathered_then (Err Write) old mid new before between waits text more first second = prefix_more old mid new before between text more first second
 
 module _ {L : Type 0} (g : Ghosts L) where
   -- calls that were made behind others
-  made_then : (old mid new : Cache L) (calls others : List (Call × Answer)) → AreMade g old calls mid → AreMade g mid others new → AreMade g old (calls ++ others) new
+  pub made_then : (old mid new : Cache L) (calls others : List (Call × Answer)) → AreMade g old calls mid → AreMade g mid others new → AreMade g old (calls ++ others) new
   made_then old mid new [] others same made = subst (λ from. AreMade g from others new) same made
   made_then old mid new (call ∷ calls) others (next, first, rest) made = (next, first, made_then next mid new calls others rest made)
 
@@ -164,153 +117,121 @@ module _ {L : Type 0} (g : Ghosts L) where
   known_then : (old new : Cache L) (calls : List (Call × Answer)) → StepInRow g old calls new → ¬ IsKnown g new → ¬ IsKnown g old
   known_then old new calls row unknown (held, s, is) = let next = row.from_each held s is in unknown (next.held_then, next.t, next.is)
 
-  -- these lines were answered, by calls that are steps in a row, and just the replies were gathered
-  pub record SoFar (cache : Cache L) (input rest old new : Option Bytes) (waits : Bytes) (after : Cache L) : Type 0 where
-    pub served : List Served
-    pub behind : IsBehind (¬ IsKnown g cache) input rest served
-    pub made : AreMade g cache (calls_of served) after
-    pub row : StepInRow g cache (calls_of served) after
-    pub written : Gathered old new [] waits (text_of served)
+  -- what a crash leaves between two calls, as every log says
+  abbrev pub OnlyNow : Type 0
+  OnlyNow = (l : L) (pages : List Messages) → g.tells → (g.state l).usable ≡ true → g.left_since l (g.moment l) pages → IsLeft effect_of (unplaced_state (g.state l)) [] pages
 
-  pub none_yet : (cache : Cache L) (input old : Option Bytes) → ((l : L) (pages : List Messages) → g.tells → (g.state l).usable ≡ true → g.left_since l (g.moment l) pages → IsLeft effect_of (unplaced_state (g.state l)) [] pages) → SoFar cache input input old old [] cache
-  none_yet cache input old only_now = record { served = []; behind = here input; made = refl; row = row-none g cache only_now; written = gathered_none old [] }
+  pub none_yet : OnlyNow → (cache : Cache L) (input old : Option Bytes) (before : Bytes) → HasServed g cache input input old old before before cache
+  none_yet only_now cache input old before = record { served = []; behind = here input; made = refl; row = row-none g cache only_now; batch = refl; written = gathered_none old before }
     where
-      here : (input : Option Bytes) → IsBehind (¬ IsKnown g cache) input input []
+      here : (input : Option Bytes) → IsBehind (¬ IsKnown g cache) cache.batch input input []
       here None = tt
       here (Some input) = ([], refl, tt)
 
-  -- the calls with what was done for one more line
-  made_on : (cache mid after : Cache L) (served : List Served) (one : Served) → AreMade g cache (calls_of served) mid → Goes g mid one after → AreMade g cache (calls_of (served ++ one ∷ [])) after
-  made_on cache mid after served Nothing made same =
-      subst (λ calls. AreMade g cache calls after) (sym (calls_more served Nothing ∙ append-nil (calls_of served))) (subst (AreMade g cache (calls_of served)) (sym same) made)
-  made_on cache mid after served (Made call answer) made goes =
-      subst (λ calls. AreMade g cache calls after) (sym (calls_more served (Made call answer))) (made_then cache mid after (calls_of served) ((call, answer) ∷ []) made (after, goes, refl))
-  made_on cache mid after served (Opened calls root) made goes =
-      subst (λ calls. AreMade g cache calls after) (sym (calls_more served (Opened calls root))) (made_then cache mid after (calls_of served) calls made goes.0)
+  -- ---- what was done for one line
 
-  row_on : (cache mid after : Cache L) (served : List Served) (one : Served) → StepInRow g cache (calls_of served) mid → Goes g mid one after → StepInRow g cache (calls_of (served ++ one ∷ [])) after
-  row_on cache mid after served Nothing row same =
-      subst (λ calls. StepInRow g cache calls after) (sym (calls_more served Nothing ∙ append-nil (calls_of served))) (subst (StepInRow g cache (calls_of served)) (sym same) row)
-  row_on cache mid after served (Made call answer) row goes =
-      subst (λ calls. StepInRow g cache calls after) (sym (calls_more served (Made call answer)))
-      (row-then g cache mid after (calls_of served) ((call, answer) ∷ []) row (row-one g mid after call answer goes.step))
-  row_on cache mid after served (Opened calls root) row goes =
-      subst (λ calls. StepInRow g cache calls after) (sym (calls_more served (Opened calls root))) (row-then g cache mid after (calls_of served) calls row goes.1)
+  -- the next line, where the input is known, asks for this
+  abbrev pub IsNextFor : Cache L → Option Bytes → Option Bytes → Served → Type 0
+  IsNextFor cache None rest one = ⊤
+  IsNextFor cache (Some input) None one = ⊥
+  IsNextFor cache (Some input) (Some rest) one = (line : Bytes) × (lines_of input ≡ line ∷ lines_of rest) × AsksFor (¬ IsKnown g cache) cache.batch line one
 
-  -- the input is not read any more
-  pub gives_up : (cache after : Cache L) (input rest old new : Option Bytes) (waits : Bytes) → SoFar cache input rest old new waits after → ServesLines g cache input old new waits (Err Read) after
-  gives_up cache after input rest old new waits so = record { served = so.served; answers = read_ends (¬ IsKnown g cache) input rest so.served so.behind; made = so.made; row = so.row; written = so.written }
+  made_one : (cache after : Cache L) (one : Served) → Goes g cache one after → AreMade g cache (calls_of (one ∷ [])) after
+  made_one cache after Nothing same = same
+  made_one cache after (Made call answer) made = (after, made, refl)
+  made_one cache after (Opened calls root) goes = subst (λ made. AreMade g cache made after) (sym (append-nil calls)) goes.0
+  made_one cache after (Marked mark result) made = (after, made, refl)
 
-  -- the next line is not read
-  pub line_unread : (cache after : Cache L) (input rest next old new : Option Bytes) (waits kept : Bytes) (e : ReadError) → SoFar cache input rest old new waits after → IsUnreadLine e rest next kept → ServesLines g cache input old new waits (Err (run_error_of e)) after
-  line_unread cache after input rest next old new waits kept unread.Read so why = gives_up cache after input rest old new waits so
-  line_unread cache after input rest next old new waits kept unread.Memory so why =
-      record { served = so.served; answers = ends input rest next so.behind why; made = so.made; row = so.row; written = so.written }
-    where
-      ends : (input rest next : Option Bytes) → IsBehind (¬ IsKnown g cache) input rest so.served → IsUnreadLine unread.Memory rest next kept → Answers (¬ IsKnown g cache) input (Err Memory) so.served
-      ends None rest next behind why = tt
-      ends (Some input) None next behind why = absurd behind
-      ends (Some input) (Some rest) None behind why = absurd why.0
-      ends (Some input) (Some rest) (Some next) (answered, lines, asked) why =
-          (answered, lines_of rest, lines, asked, has_line rest (λ none. why.1 (none ∙ sym (no_length kept (omega (arith, ap length (sym why.0 ∙ none), length-append kept next))))))
+  row_one : OnlyNow → (cache after : Cache L) (one : Served) → Goes g cache one after → StepInRow g cache (calls_of (one ∷ [])) after
+  row_one only_now cache after Nothing same = subst (StepInRow g cache []) (sym same) (row-none g cache only_now)
+  row_one only_now cache after (Made call answer) made = row-one g cache after call answer made.step
+  row_one only_now cache after (Opened calls root) goes = subst (λ made. StepInRow g cache made after) (sym (append-nil calls)) goes.1
+  row_one only_now cache after (Marked mark result) made = row-one g cache after _ _ made.step
 
-  -- the input is at its end
-  pub ends_here : (E : Type 0) (cache after : Cache L) (input rest next old new : Option Bytes) (waits kept : Bytes) → SoFar cache input rest old new waits after → ReadsLine {E = E} rest next (Ok read.End) kept → ServesLines g cache input old new waits (Ok tt) after
-  ends_here E cache after input rest next old new waits kept so at = record { served = so.served; answers = all input rest next so.behind at; made = so.made; row = so.row; written = so.written }
-    where
-      all : (input rest next : Option Bytes) → IsBehind (¬ IsKnown g cache) input rest so.served → ReadsLine {E = E} rest next (Ok read.End) kept → Answers (¬ IsKnown g cache) input (Ok tt) so.served
-      all None rest next behind at = tt
-      all (Some input) None next behind at = absurd behind
-      all (Some input) (Some rest) None behind at = absurd at
-      all (Some input) (Some rest) (Some next) (answered, lines, asked) at =
-          subst (λ (l : List Bytes). AllZip (AsksFor (¬ IsKnown g cache)) l so.served) (sym (lines ∙ ap (λ left. answered ++ lines_of left) at.0 ∙ append-nil answered)) asked
-
-  module _ (cache mid after : Cache L) (input rest next old between new : Option Bytes) (before waits : Bytes) (so : SoFar cache input rest old between before mid) where
-    -- what the next line asks for, of the cache that the lines so far have left
-    asks_here : (line : Bytes) (one : Served) → AsksFor (¬ IsKnown g mid) line one → AsksFor (¬ IsKnown g cache) line one
-    asks_here line one = asks_map (¬ IsKnown g mid) (¬ IsKnown g cache) line one (known_then cache mid (calls_of so.served) so.row)
-
-    -- the next line is answered
-    goes_on : (one : Served) → IsNext (¬ IsKnown g cache) rest next one → Goes g mid one after → Gathered between new before waits (reply_to one ++ 10 ∷ []) → SoFar cache input next old new waits after
-    goes_on one at goes wrote = record {
-      served = so.served ++ one ∷ [];
-      behind = behind_more (¬ IsKnown g cache) input rest next so.served one so.behind at;
-      made = made_on cache mid after so.served one so.made goes;
-      row = row_on cache mid after so.served one so.row goes;
-      written = subst (Gathered old new [] waits) (sym (text_more so.served one)) (gathered_more old between new [] before waits (text_of so.served) (reply_to one ++ 10 ∷ []) so.written wrote);
+  module _ (only_now : OnlyNow) (cache after : Cache L) (one : Served) (input rest old new : Option Bytes) (before waits : Bytes) (at : IsNextFor cache input rest one) (goes : Goes g cache one after) (batch : after.batch ≡ is_open_after cache.batch one) where
+    pub served_one : Gathered old new before waits (reply_to one ++ 10 ∷ []) → HasServed g cache input rest old new before waits after
+    served_one wrote = record {
+      served = one ∷ [];
+      behind = behind input rest at;
+      made = made_one cache after one goes;
+      row = row_one only_now cache after one goes;
+      batch = batch;
+      written = subst (Gathered old new before waits) (sym (append-nil (reply_to one ++ 10 ∷ []))) wrote;
     }
+      where
+        behind : (input rest : Option Bytes) → IsNextFor cache input rest one → IsBehind (¬ IsKnown g cache) cache.batch input rest (one ∷ [])
+        behind None rest at = tt
+        behind (Some input) None at = absurd at
+        behind (Some input) (Some rest) (line, first, asks) = (line ∷ [], first, (asks, tt))
 
     -- a beginning of its reply is written
-    breaks_off : (one : Served) → IsNext (¬ IsKnown g cache) rest next one → Goes g mid one after → AppendsPrefix between new (before ++ (reply_to one ++ 10 ∷ [])) → ServesLines g cache input old new waits (Err Write) after
-    breaks_off one at goes wrote = record {
-      served = so.served ++ one ∷ [];
-      answers = write_ends (¬ IsKnown g cache) input rest next so.served one so.behind at;
-      made = made_on cache mid after so.served one so.made goes;
-      row = row_on cache mid after so.served one so.row goes;
-      written = subst (AppendsPrefix old new) (sym (text_more so.served one)) (prefix_more old between new [] before (text_of so.served) (reply_to one ++ 10 ∷ []) so.written wrote);
+    pub broken_one : AppendsPrefix old new (before ++ (reply_to one ++ 10 ∷ [])) → ServesLines g cache input old new before waits (Err Write) after
+    broken_one wrote = record {
+      served = one ∷ [];
+      answers = answers input rest at;
+      made = made_one cache after one goes;
+      row = row_one only_now cache after one goes;
+      batch = batch;
+      written = subst (λ text. AppendsPrefix old new (before ++ text)) (sym (append-nil (reply_to one ++ 10 ∷ []))) wrote;
+    }
+      where
+        answers : (input rest : Option Bytes) → IsNextFor cache input rest one → Answers (¬ IsKnown g cache) cache.batch input (Err Write) (one ∷ [])
+        answers None rest at = tt
+        answers (Some input) None at = absurd at
+        answers (Some input) (Some rest) (line, first, asks) = (line ∷ [], lines_of rest, first, (asks, tt), λ none. absurd cc)
+
+  -- ---- more behind what was served
+
+  module _ {cache here : Cache L} {input middle old mid : Option Bytes} {before between : Bytes} (so : HasServed g cache input middle old mid before between here) where
+    pub served_then : (rest new : Option Bytes) (waits : Bytes) (after : Cache L) → HasServed g here middle rest mid new between waits after → HasServed g cache input rest old new before waits after
+    served_then rest new waits after more = record {
+      served = so.served ++ more.served;
+      behind = behind_then (¬ IsKnown g cache) (¬ IsKnown g here) (known_then cache here (calls_of so.served) so.row) cache.batch here.batch input middle rest so.served more.served so.batch so.behind more.behind;
+      made = subst (λ calls. AreMade g cache calls after) (sym (calls_then so.served more.served)) (made_then cache here after (calls_of so.served) (calls_of more.served) so.made more.made);
+      row = subst (λ calls. StepInRow g cache calls after) (sym (calls_then so.served more.served)) (row-then g cache here after (calls_of so.served) (calls_of more.served) so.row more.row);
+      batch = more.batch ∙ ap (λ now. is_open_behind now more.served) so.batch ∙ sym (open_then cache.batch so.served more.served);
+      written = subst (Gathered old new before waits) (sym (text_then so.served more.served)) (gathered_more old mid new before between waits (text_of so.served) (text_of more.served) so.written more.written);
     }
 
-    -- a line that was kept is answered
-    pub line_done : (E : Type 0) (f : Bool) (kept : Bytes) → ReadsLine {E = E} rest next (Ok (read.Whole f)) kept → RepliesLine g mid kept between new before waits (Ok tt) after → SoFar cache input next old new waits after
-    line_done E f kept at (one, asks, goes, wrote) = goes_on one (kept_next (¬ IsKnown g cache) E f rest next kept one at (asks_here kept one asks)) goes wrote
+    pub lines_then : (new : Option Bytes) (waits : Bytes) (result : Result Unit RunError) (after : Cache L) → ServesLines g here middle mid new between waits result after → ServesLines g cache input old new before waits result after
+    lines_then new waits result after more = record {
+      served = so.served ++ more.served;
+      answers = answers_then (¬ IsKnown g cache) (¬ IsKnown g here) (known_then cache here (calls_of so.served) so.row) cache.batch here.batch input middle result so.served more.served so.batch so.behind more.answers;
+      made = subst (λ calls. AreMade g cache calls after) (sym (calls_then so.served more.served)) (made_then cache here after (calls_of so.served) (calls_of more.served) so.made more.made);
+      row = subst (λ calls. StepInRow g cache calls after) (sym (calls_then so.served more.served)) (row-then g cache here after (calls_of so.served) (calls_of more.served) so.row more.row);
+      batch = more.batch ∙ ap (λ now. is_open_behind now more.served) so.batch ∙ sym (open_then cache.batch so.served more.served);
+      written = subst (AreGathered result old new before waits) (sym (text_then so.served more.served)) (gathered_then result old mid new before between waits (text_of so.served) (text_of more.served) so.written more.written);
+    }
 
-    pub line_stops : (E : Type 0) (f : Bool) (kept : Bytes) (e : RunError) → ReadsLine {E = E} rest next (Ok (read.Whole f)) kept → RepliesLine g mid kept between new before waits (Err e) after → ServesLines g cache input old new waits (Err e) after
-    line_stops E f kept Read at told = absurd told
-    line_stops E f kept Write at (one, asks, goes, wrote) = breaks_off one (kept_next (¬ IsKnown g cache) E f rest next kept one at (asks_here kept one asks)) goes wrote
-    line_stops E f kept Memory at (same, none) = record {
+    pub until_then : (rest new : Option Bytes) (waits : Bytes) (result : Result Stop RunError) (after : Cache L) → ServesUntil g here middle rest mid new between waits result after → ServesUntil g cache input rest old new before waits result after
+    until_then rest new waits (Ok stop.End) after more = lines_then new waits (Ok tt) after more
+    until_then rest new waits (Ok (stop.At mark is_followed)) after (front, more, at, turns) = (front, served_then front new waits after more, at, turns)
+    until_then rest new waits (Err e) after more = lines_then new waits (Err e) after more
+
+    pub all_then : (new : Option Bytes) (waits : Bytes) (result : Result Unit RunError) (after : Cache L) → ServesAll g here middle mid new between waits result after → ServesAll g cache input old new before waits result after
+    all_then new waits result after more = record { left = more.left; lines = lines_then new waits result more.left more.lines; closed = more.closed }
+
+    pub batch_then : (rest new : Option Bytes) (waits : Bytes) (result : Result Bool RunError) (after : Cache L) → ServesBatch g here middle rest mid new between waits result after → ServesBatch g cache input rest old new before waits result after
+    batch_then rest new waits (Ok true) after more = (served_then rest new waits after more.0, more.1)
+    batch_then rest new waits (Ok false) after more = all_then new waits (Ok tt) after more
+    batch_then rest new waits (Err e) after more = all_then new waits (Err e) after more
+
+    -- what waits may be written
+    pub flushed : (new : Option Bytes) (waits : Bytes) → Gathered mid new between waits [] → HasServed g cache input middle old new before waits here
+    flushed new waits wrote = record {
       served = so.served;
-      answers = memory_ends (¬ IsKnown g cache) input rest next so.served kept so.behind E f at;
-      made = subst (AreMade g cache (calls_of so.served)) (sym same) so.made;
-      row = subst (StepInRow g cache (calls_of so.served)) (sym same) so.row;
-      written = subst (Gathered old new [] waits) (append-nil (text_of so.served)) (gathered_more old between new [] before waits (text_of so.served) [] so.written none);
+      behind = so.behind;
+      made = so.made;
+      row = so.row;
+      batch = so.batch;
+      written = subst (Gathered old new before waits) (append-nil (text_of so.served)) (gathered_more old mid new before between waits (text_of so.served) [] so.written wrote);
     }
 
-    -- the reply is not written and flushed
-    pub unflushed : (E : Type 0) (f : Bool) (kept : Bytes) (last : Option Bytes) (then : Bytes) → ReadsLine {E = E} rest next (Ok (read.Whole f)) kept → RepliesLine g mid kept between last before then (Ok tt) after → AppendsPrefix last new (then ++ []) → ServesLines g cache input old new waits (Err Write) after
-    unflushed E f kept last then at (one, asks, goes, wrote) stopped = breaks_off one (kept_next (¬ IsKnown g cache) E f rest next kept one at (asks_here kept one asks)) goes (stands between last new before then (reply_to one ++ 10 ∷ []) wrote stopped)
-
-  -- ---- a line that is too long
-
-  module _ (cache mid : Cache L) (input rest next old between new : Option Bytes) (before waits : Bytes) (so : SoFar cache input rest old between before mid) (E : Type 0) (kept : Bytes) (at : ReadsLine {E = E} rest next (Ok read.TooLong) kept) where
-    pub long_done : Gathered between new before waits (codes "error line" ++ 10 ∷ []) → SoFar cache input next old new waits mid
-    long_done wrote = goes_on cache mid mid input rest next old between new before waits so Nothing (long_next (¬ IsKnown g cache) E rest next kept at) refl wrote
-
-    pub long_stops : AppendsPrefix between new (before ++ (codes "error line" ++ 10 ∷ [])) → ServesLines g cache input old new waits (Err Write) mid
-    long_stops wrote = breaks_off cache mid mid input rest next old between new before waits so Nothing (long_next (¬ IsKnown g cache) E rest next kept at) refl wrote
-
-    pub long_unflushed : (last : Option Bytes) (then : Bytes) → Gathered between last before then (codes "error line" ++ 10 ∷ []) → AppendsPrefix last new (then ++ []) → ServesLines g cache input old new waits (Err Write) mid
-    long_unflushed last then wrote stopped = long_stops (stands between last new before then (codes "error line" ++ 10 ∷ []) wrote stopped)
-
-  -- what waits may be written
-  pub flushed : (cache after : Cache L) (input rest old mid new : Option Bytes) (before waits : Bytes) → SoFar cache input rest old mid before after → Gathered mid new before waits [] → SoFar cache input rest old new waits after
-  flushed cache after input rest old mid new before waits so wrote = record {
-    served = so.served;
-    behind = so.behind;
-    made = so.made;
-    row = so.row;
-    written = subst (Gathered old new [] waits) (append-nil (text_of so.served)) (gathered_more old mid new [] before waits (text_of so.served) [] so.written wrote);
-  }
-
-  -- ---- the end of a run
-
-  -- the last replies are not written whole
-  pub not_all_written : (cache after : Cache L) (input old mid new : Option Bytes) (waits : Bytes) (result : Result Unit RunError) → result ≢ Err Write → ServesLines g cache input old mid waits result after → AppendsPrefix mid new waits → waits ≢ [] → Serves g cache input old new (Err Write) after
-  not_all_written cache after input old mid new waits result other lines stopped some =
-      record { served = lines.served; answers = ends input result (λ none. some (nothing_waits result other lines.written (ap text_of none))) lines.answers; made = lines.made; row = lines.row; written = is result other lines.written }
-    where
-      is : (result : Result Unit RunError) → result ≢ Err Write → AreGathered result old mid waits (text_of lines.served) → AppendsPrefix old new (text_of lines.served)
-      is (Ok done) other gathered = rest_stops old mid new waits (text_of lines.served) gathered stopped
-      is (Err Read) other gathered = rest_stops old mid new waits (text_of lines.served) gathered stopped
-      is (Err Memory) other gathered = rest_stops old mid new waits (text_of lines.served) gathered stopped
-      is (Err Write) other gathered = absurd (other refl)
-
-      nothing_waits : (result : Result Unit RunError) → result ≢ Err Write → AreGathered result old mid waits (text_of lines.served) → text_of lines.served ≡ [] → waits ≡ []
-      nothing_waits (Ok done) other (done_text, went, e) none = end_of_none done_text waits (e ∙ none)
-      nothing_waits (Err Read) other (done_text, went, e) none = end_of_none done_text waits (e ∙ none)
-      nothing_waits (Err Memory) other (done_text, went, e) none = end_of_none done_text waits (e ∙ none)
-      nothing_waits (Err Write) other gathered none = absurd (other refl)
-
-      ends : (input : Option Bytes) (result : Result Unit RunError) → (lines.served ≡ [] → ⊥) → Answers (¬ IsKnown g cache) input result lines.served → Answers (¬ IsKnown g cache) input (Err Write) lines.served
-      ends None result more answers = tt
-      ends (Some input) (Ok done) more all = (lines_of input, [], sym (append-nil (lines_of input)), all, some_answered (¬ IsKnown g cache) (lines_of input) lines.served all more)
-      ends (Some input) (Err e) more (answered, others, split, all, why) = (answered, others, split, all, some_answered (¬ IsKnown g cache) answered lines.served all more)
+    -- the input is not read any more
+    pub gives_up : ServesLines g cache input old mid before between (Err Read) here
+    gives_up = record { served = so.served; answers = ends input middle so.behind; made = so.made; row = so.row; batch = so.batch; written = so.written }
+      where
+        ends : (input middle : Option Bytes) → IsBehind (¬ IsKnown g cache) cache.batch input middle so.served → Answers (¬ IsKnown g cache) cache.batch input (Err Read) so.served
+        ends None middle behind = tt
+        ends (Some input) None behind = absurd behind
+        ends (Some input) (Some middle) (answered, lines, asked) = (answered, lines_of middle, lines, asked, tt)

@@ -16,10 +16,11 @@ use Rattle.sled_pagecache.specs.Token.{Token, token, pid_of, stamp_of}
 use Rattle.sled_pagecache.specs.declared.pagecache.call.Call.{Call}
 use Rattle.sled_pagecache.specs.declared.pagecache.call.Call.TheVariants.{Allocate, Get, Link, Replace, Free, GetMeta, MetaPidForName, CasRoot, GetIdgen, GenerateId, Flush, SizeOnDisk, Pin, Seal, Cancel}
 use Rattle.sledpc.specs.Asked.{AsksBehind, AreTwo, BeginsWithToken, EncodeLeaf, EncodeRoots, OpensBehind, at_the_end}
-use Rattle.sledpc.specs.Commands.{Asks, IsRootNumber, IsToken, Encodes, EncodesOpen, IsCommand, IsOfScript, root_word}
+use Rattle.sledpc.specs.Commands.{Asks, IsRootNumber, IsToken, Encodes, EncodesOpen, IsCommand, IsOfScript, mark_word, root_word}
 use Rattle.sledpc.specs.Cut.{HasNo}
 use Rattle.sledpc.specs.declared.script.command.Command.{Command}
 use Rattle.sledpc.specs.declared.script.command.Command.TheVariants as command
+use Rattle.sledpc.specs.declared.script.command.Mark.{Mark}
 use Rattle.sledpc.specs.Settings.{longest_line}
 use Rattle.sledpc.specs.Words.{AreBytes, ArePairs, EncodePairs, bytes_word, pair_word, after_name, HasNoSpace, BeginsLine}
 use Rattle.sledpc.proofs.Cut.{cut_once, no_mark}
@@ -60,7 +61,7 @@ begins_itself word (next ∷ words) plain = (plain, refl)
 abbrev key_of_name : Bytes → ℕ
 key_of_name name = get_or name 0 0 + 256 * get_or name 1 0 + 65536 * get_or name 2 0
 
-abbrev key_of : Call → ℕ
+abbrev pub key_of : Call → ℕ
 key_of (Allocate node) = 7105633
 key_of (Get pid) = 7628135
 key_of (Link old (Set key value)) = 7628147
@@ -74,7 +75,7 @@ key_of Flush = 7695462
 key_of SizeOnDisk = 8022387
 key_of call = 0
 
-asks_by_key : (words : List Bytes) (call : Call) → Asks words call → key_of_name (get_or words 0 []) ≡ key_of call
+pub asks_by_key : (words : List Bytes) (call : Call) → Asks words call → key_of_name (get_or words 0 []) ≡ key_of call
 asks_by_key words (Allocate node) asks = ap (λ (w : List Bytes). key_of_name (get_or w 0 [])) asks.2
 asks_by_key words (Get pid) asks = ap (λ (w : List Bytes). key_of_name (get_or w 0 [])) asks.1
 asks_by_key words (Link old (Set key value)) asks = ap (λ (w : List Bytes). key_of_name (get_or w 0 [])) asks.3
@@ -465,7 +466,7 @@ of_script line call encodes = tt
 -- ---- a tree to be opened
 
 -- the line of such a command is its name and the name of the tree
-open_behind : (line name : Bytes) (text : Option Bytes) (asked : Bytes) → BeginsLine line name text → EncodesOpen line asked → (name ≡ codes "open") × (text ≡ Some (bytes_word asked))
+pub open_behind : (line name : Bytes) (text : Option Bytes) (asked : Bytes) → BeginsLine line name text → EncodesOpen line asked → (name ≡ codes "open") × (text ≡ Some (bytes_word asked))
 open_behind line name text asked begins encodes =
     let plain : HasNoSpace (codes "open") = search rules in
     named line name (codes "open") text (bytes_word asked ∷ []) begins plain encodes.2
@@ -478,21 +479,24 @@ open_asks_none text call asked = let e : ◌≡◌ {A = ℕ} 6647919 (key_of cal
 pub some_open : {E : Type 0} (line name : Bytes) (text : Option Bytes) (result : Result (Option Command) E) → length line ≤ longest_line → BeginsLine line name text → name ≡ codes "open" → IfOk result (λ found. IfSome found (OpensBehind text)) → IfOk result (λ found. IfSome found (IsCommand line))
 some_open line name text (Ok None) short begins is some = tt
 some_open line name text (Ok (Some (command.Call call))) short begins is some = absurd some
+some_open line name text (Ok (Some (command.Mark asked))) short begins is some = absurd some
 some_open line name text (Ok (Some (command.OpenTree asked))) short begins is some =
     (short, some.0, joined_line line (codes "open") text (bytes_word asked ∷ []) (subst (λ word. BeginsLine line word text) is begins) some.1)
 some_open line name text (Err error) short begins is some = tt
 
-pub none_open : {E : Type 0} (line name : Bytes) (text : Option Bytes) (result : Result (Option Command) E) → BeginsLine line name text → name ≡ codes "open"
+pub none_open : {E : Type 0} (line name : Bytes) (text : Option Bytes) (result : Result (Option Command) E) → BeginsLine line name text → name ≡ codes "open" → ((asked : Mark) → line ≢ mark_word asked)
     → IfOk result (λ found. IfNone found ((asked : Bytes) → AreBytes asked → text ≢ Some (bytes_word asked))) → IfOk result (λ found. IfNone found ((asked : Command) → ¬ IsCommand line asked))
-none_open line name text (Ok None) begins is none = by
+none_open line name text (Ok None) begins is marks none = by
   where
     by : (asked : Command) → ¬ IsCommand line asked
     by (command.Call call) encodes = open_asks_none text call (subst (λ word. AsksBehind word text call) is (encoded_behind line name text call begins encodes))
     by (command.OpenTree asked) encodes = none asked encodes.1 (open_behind line name text asked begins encodes).1
-none_open line name text (Ok (Some asked)) begins is none = tt
-none_open line name text (Err error) begins is none = tt
+    by (command.Mark asked) encodes = marks asked encodes
+none_open line name text (Ok (Some asked)) begins is marks none = tt
+none_open line name text (Err error) begins is marks none = tt
 
--- a line of another name that asks for no call
-pub no_command : (line name : Bytes) (text : Option Bytes) → BeginsLine line name text → name ≢ codes "open" → ((call : Call) → ¬ Encodes line call) → (asked : Command) → ¬ IsCommand line asked
-no_command line name text begins other calls (command.Call call) encodes = calls call encodes
-no_command line name text begins other calls (command.OpenTree asked) encodes = other (open_behind line name text asked begins encodes).0
+-- a line of another name that asks for no call, and is that of no mark
+pub no_command : (line name : Bytes) (text : Option Bytes) → BeginsLine line name text → name ≢ codes "open" → ((asked : Mark) → line ≢ mark_word asked) → ((call : Call) → ¬ Encodes line call) → (asked : Command) → ¬ IsCommand line asked
+no_command line name text begins other marks calls (command.Call call) encodes = calls call encodes
+no_command line name text begins other marks calls (command.OpenTree asked) encodes = other (open_behind line name text asked begins encodes).0
+no_command line name text begins other marks calls (command.Mark asked) encodes = marks asked encodes

@@ -8,8 +8,11 @@ pub mod LinesOf
 pub mod Taken
 pub mod Entries
 pub mod Answered
+pub mod Serving
+pub mod Batches
 pub mod Making
 pub mod Encoded
 pub mod Commands
+pub mod Marks
 pub mod Leaves
 pub mod Job

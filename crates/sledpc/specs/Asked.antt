@@ -42,4 +42,5 @@ pub record EncodeRoots (text : Bytes) (old new : Option ℕ) : Type 0 where
 -- the text is the name of the tree that the command opens
 abbrev pub OpensBehind : Option Bytes → Command → Type 0
 OpensBehind text (command.Call call) = ⊥
+OpensBehind text (command.Mark mark) = ⊥
 OpensBehind text (command.OpenTree name) = AreBytes name × (text ≡ Some (bytes_word name))

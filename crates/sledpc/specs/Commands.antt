@@ -1,5 +1,5 @@
--- What a line of the script asks for: a call, or a tree to be opened.
-use Rattle.std.specs.Prelude.{◌≡◌, ◌<◌, ◌≤◌, ◌^◌, List, [], ◌∷◌, length, map, codes, ℕ, Option, None, Some, ⊤}
+-- What a line of the script asks for: a call, a tree to be opened, or a mark of a batch.
+use Rattle.std.specs.Prelude.{◌≡◌, ◌<◌, ◌≤◌, ◌^◌, Bool, true, List, [], ◌∷◌, length, map, codes, ℕ, Option, None, Some, ⊤}
 use Rattle.std.specs.Fmt.{decimal}
 use Rattle.std.specs.List.{join_with_byte}
 use Rattle.sled_base.specs.Order.{Bytes}
@@ -12,6 +12,8 @@ use Rattle.sled_pagecache.specs.declared.pagecache.call.Call.TheVariants.{Alloca
 use Rattle.sledpc.specs.Words.{bytes_word, pair_word, AreBytes, ArePairs}
 use Rattle.sledpc.specs.declared.script.command.Command.{Command}
 use Rattle.sledpc.specs.declared.script.command.Command.TheVariants as command
+use Rattle.sledpc.specs.declared.script.command.Mark.{Mark}
+use Rattle.sledpc.specs.declared.script.command.Mark.TheVariants as mark
 use Rattle.sledpc.specs.Settings.{longest_line}
 
 -- a leaf of these pairs over all keys: the keys rise strictly, and the limits of a node hold
@@ -72,7 +74,25 @@ IsOfScript call = ⊤
 abbrev pub EncodesOpen : Bytes → Bytes → Type 0
 EncodesOpen line name = (length line ≤ longest_line) × AreBytes name × (line ≡ join_with_byte 32 (codes "open" ∷ bytes_word name ∷ []))
 
+-- the line that opens or closes a batch
+abbrev pub mark_word : Mark → Bytes
+mark_word mark.Pin = codes "pin"
+mark_word mark.Seal = codes "seal"
+mark_word mark.Cancel = codes "cancel"
+
 -- the line is this command
 abbrev pub IsCommand : Bytes → Command → Type 0
 IsCommand line (command.Call call) = Encodes line call
 IsCommand line (command.OpenTree name) = EncodesOpen line name
+IsCommand line (command.Mark mark) = line ≡ mark_word mark
+
+-- A batch that isn't open can't be closed.
+abbrev pub MayMark : Bool → Mark → Type 0
+MayMark is_open mark.Pin = ⊤
+MayMark is_open mark.Seal = is_open ≡ true
+MayMark is_open mark.Cancel = is_open ≡ true
+
+-- the command may be asked for, where a batch is open or isn't
+abbrev pub MayAsk : Bool → Command → Type 0
+MayAsk is_open (command.Mark mark) = MayMark is_open mark
+MayAsk is_open asked = ⊤

@@ -1,5 +1,5 @@
 -- What the words of the program ask for, and the cache that it opens.
-use Rattle.std.specs.Prelude.{◌≡◌, List, [], ◌∷◌, Option, None, Some, codes}
+use Rattle.std.specs.Prelude.{◌≡◌, false, List, [], ◌∷◌, Option, None, Some, codes}
 use Rattle.sled_base.specs.Order.{Bytes}
 use Rattle.sled_log.specs.contracts.memory.calls.MemLogLog.TheImpl as mem
 use Rattle.sled_log.specs.declared.memory.MemLog.{MemLog}
@@ -13,9 +13,10 @@ abbrev pub AskForMemory : Option (List Bytes) → Type 0
 AskForMemory None = ⊥
 AskForMemory (Some words) = words ≡ codes "mem" ∷ []
 
--- The cache is new, with these settings: its pages are those that every cache has, and they are stable.
+-- The cache is new, with these settings: its pages are those that every cache has, they are stable, and no batch is open.
 pub record IsNew (config : Config) (cache : Cache MemLog) : Type 0 where
   pub settings : cache.config ≡ config
   pub held : Logged
   pub is : IsIn mem.ghosts cache held (opened config [])
   pub stable : held.pending ≡ []
+  pub closed : cache.batch ≡ false

@@ -33,6 +33,11 @@ entry_text pair = 32 ∷ bytes_word pair.0 ++ codes "=" ++ item_word pair.1
 abbrev pub node_text : ℕ → WholeNode → Bytes
 node_text stamp node = (if node.is_index then codes "index " else codes "leaf ") ++ decimal stamp ++ flat_map entry_text node.pairs
 
+-- a batch was opened or closed
+abbrev pub reply_of_mark : Result (Unit {0}) Error → Bytes
+reply_of_mark (Ok done) = codes "ok"
+reply_of_mark (Err e) = error_text e
+
 abbrev pub reply_of : Answer → Bytes
 reply_of (Allocated (Ok made)) = codes "page " ++ decimal made.0 ++ codes " " ++ decimal (stamp_of made.1)
 reply_of (Allocated (Err e)) = error_text e
@@ -51,12 +56,12 @@ reply_of (Freed (Ok (Ok made))) = codes "ok " ++ decimal (stamp_of made)
 reply_of (Freed (Ok (Err None))) = codes "gone"
 reply_of (Freed (Ok (Err (Some back)))) = codes "stale " ++ decimal (stamp_of back.0)
 reply_of (Freed (Err e)) = error_text e
--- no line asks for the map of named roots, for the counter of ids, or for a batch
+-- no line asks for the map of named roots, or for the counter of ids
 reply_of (GotMeta answer) = []
 reply_of (GotIdgen answer) = []
-reply_of (Pinned answer) = []
-reply_of (Sealed answer) = []
-reply_of (Cancelled answer) = []
+reply_of (Pinned answer) = reply_of_mark answer
+reply_of (Sealed answer) = reply_of_mark answer
+reply_of (Cancelled answer) = reply_of_mark answer
 reply_of (FoundRoot (Ok root)) = codes "page " ++ decimal root
 reply_of (FoundRoot (Err (CollectionNotFound name))) = codes "none"
 reply_of (FoundRoot (Err e)) = error_text e

@@ -121,7 +121,10 @@ fn serve_memory<R: Read, W: Write>(
     reader: &mut R,
     writer: &mut W,
 ) -> Result<(), Fault> {
-    let mut cache = open_memory(alloc).map_err(Fault::Opening)?;
+    let mut cache = match open_memory(alloc) {
+        Ok(cache) => cache,
+        Err(error) => return Err(Fault::Opening(error)),
+    };
     let Ok(mut input) = BufReader::new(alloc, reader) else {
         return Err(Fault::Run(RunError::Memory));
     };

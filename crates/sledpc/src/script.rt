@@ -1,5 +1,6 @@
 //! The script: lines that ask for calls, and the replies to them.
 
+pub mod batch;
 pub mod command;
 pub mod reply;
 pub mod run;

@@ -165,7 +165,36 @@ fn replies_to_lines(rt: HostRuntime) -> Result<(), Fail> {
             "alloc\nset 2 1 6 62\nset 2 1 61 6G\nset 2 1 61 6A\nset 2 1 61\nset 2 1 61 62 63\nset  2 1 61 62\nget 2\n",
             "page 2 1\nerror line\nerror line\nerror line\nerror line\nerror line\nerror line\nleaf 1\n",
         ),
-        ("pin\nseal\namp\n", "error line\nerror line\nerror line\n"),
+        ("gc\namp\n", "error line\nerror line\n"),
+        (
+            "pin\nalloc 61=62\nflush\npin\nseal\nseal\nget 0\n",
+            "ok\npage 2 1\nerror unsupported 8\nerror unsupported 8\nok\nerror line\nerror unsupported 1\n",
+        ),
+        (
+            "seal\ncancel\npin\ncancel\ncancel\npin\nseal\nseal\npin\npin\nseal\nflush\nsize\n",
+            "error line\nerror line\nok\nok\nerror line\nok\nok\nerror line\nok\nerror unsupported 8\nok\nflushed 0\nsize 35\n",
+        ),
+        (
+            "pin \npin 1\nPIN\npins\npi\nseal \nseal 1\nsealed\ncancel \ncancels\npin\nseal \nseal\n",
+            "error line\nerror line\nerror line\nerror line\nerror line\nerror line\nerror line\nerror line\nerror line\nerror line\nok\nerror line\nok\n",
+        ),
+        // Each command inside a batch.
+        (
+            "pin\nalloc 61=62\nset 2 1 63 64\ndel 2 2 61\nget 2\nreplace 2 3\nget 2\nfree 2 4\nopen 74\nroot 74\ncas 74 3 -\nid\nsize\nx\ncancel\nget 3\nflush\n",
+            "ok\npage 2 1\nok 2\nok 3\nleaf 3 63=64\nok 4\nleaf 4\nok 5\npage 3\npage 3\nok\nid 0\nsize 237\nerror line\nok\nindex 1 -=2\nflushed 202\n",
+        ),
+        // The eleventh id needs a new counter.
+        (
+            "id\nid\nid\nid\nid\nid\nid\nid\nid\npin\nid\nid\nid\nseal\nid\n",
+            "id 0\nid 1\nid 2\nid 3\nid 4\nid 5\nid 6\nid 7\nid 8\nok\nid 9\nerror unsupported 8\nerror unsupported 8\nok\nid 10\n",
+        ),
+        // The input ends inside a batch, behind a line of it and behind the one that opens it.
+        ("pin\nalloc\nget 2", "ok\npage 2 1\nleaf 1\n"),
+        ("pin", "ok\n"),
+        (
+            "pin\nseal\npin\nalloc\ncancel\npin\nflush",
+            "ok\nok\nok\npage 2 1\nok\nok\nerror unsupported 8\n",
+        ),
         (
             "open 74\nget 3\nroot 74\ncas 74 2 -\ncas 74 3 -\nroot 74\nset 3 1 61 62\n",
             "page 3\nindex 1 -=2\npage 3\nis 3\nok\nnone\nerror bug 3\n",

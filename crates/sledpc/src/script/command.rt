@@ -6,16 +6,25 @@ ghost use Rattle.sled_base.specs.Order.{Bytes};
 ghost use Rattle.sled_node.specs.Node.{Value, WholeNode, leaf_of};
 ghost use Rattle.sled_node.specs.Pairs.{IsWithinLimit, HasPairs};
 ghost use Rattle.sledpc.specs.Asked.{AsksBehind, AreTwo, BeginsWithToken, EncodeLeaf, EncodeRoots, OpensBehind};
-ghost use Rattle.sledpc.specs.Commands.{Encodes, IsCommand, IsRootNumber, root_word};
+ghost use Rattle.sledpc.specs.Commands.{Encodes, IsCommand, IsRootNumber, mark_word, root_word};
 ghost use Rattle.sledpc.specs.Settings.{longest_line};
 ghost use Rattle.sledpc.specs.Words.{AreBytes, bytes_word};
 ghost use Rattle.sledpc.specs.declared.script.command.Command.{Command};
+ghost use Rattle.sledpc.specs.declared.script.command.Mark.{Mark};
 ghost use Rattle.sled_pagecache.specs.Token.{Token};
 ghost use Rattle.sled_pagecache.specs.declared.pagecache.call.Call.{Call};
 
 use super::words::{bytes_of, first_word, number_of, pairs_of};
 use sled_pagecache::{Call, Data, IVec, Leaf, Link, Node, PageId, PageView};
 use std::alloc::{AllocError, Global};
+
+/// The mark that opens or closes a batch.
+#[derive(Clone, Copy, Debug, PartialEq, Eq)]
+pub enum Mark {
+    Pin,
+    Seal,
+    Cancel,
+}
 
 /// What a line asks for.
 #[derive(Drop)]
@@ -24,6 +33,8 @@ pub enum Command {
     Call(Call),
     /// The tree of this name, which several calls open.
     OpenTree(IVec),
+    /// A mark of a batch.
+    Mark(Mark),
 }
 
 /// What a line asks for, or none where it is no command.
@@ -32,6 +43,9 @@ pub fn command_of(alloc: Global, line: &[u8]) -> Result<Option<Command>, AllocEr
     ensures some { IfOk result (λ found. IfSome found (IsCommand line.now)) }
     ensures none { IfOk result (λ found. IfNone found ((command : Command) → ¬ IsCommand line.now command)) }
 {
+    if let Some(mark) = mark_of(line) {
+        return Ok(Some(Command::Mark(mark)));
+    }
     let (name, arguments) = first_word(line);
     if name == b"open".as_slice() {
         return open_of(alloc, arguments);
@@ -40,6 +54,23 @@ pub fn command_of(alloc: Global, line: &[u8]) -> Result<Option<Command>, AllocEr
         return Ok(None);
     };
     Ok(Some(Command::Call(call)))
+}
+
+// `pin`, `seal` or `cancel`
+fn mark_of(line: &[u8]) -> Option<Mark>
+    ensures some { IfSome result (λ mark. line.now ≡ mark_word mark) }
+    ensures none { IfNone result ((mark : Mark) → line.now ≢ mark_word mark) }
+{
+    if line == b"pin".as_slice() {
+        return Some(Mark::Pin);
+    }
+    if line == b"seal".as_slice() {
+        return Some(Mark::Seal);
+    }
+    if line == b"cancel".as_slice() {
+        return Some(Mark::Cancel);
+    }
+    None
 }
 
 // `open NAME`

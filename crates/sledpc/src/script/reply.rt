@@ -5,7 +5,7 @@ ghost use Rattle.std.specs.Fmt.{decimal};
 ghost use Rattle.sled_node.specs.Node.{Value};
 ghost use Rattle.sled_node.specs.Parts.{item_of};
 ghost use Rattle.sledpc.specs.Output.{Gathers};
-ghost use Rattle.sledpc.specs.Replies.{entry_text, error_text, item_word, node_text, reply_of, reply_of_tree};
+ghost use Rattle.sledpc.specs.Replies.{entry_text, error_text, item_word, node_text, reply_of, reply_of_mark, reply_of_tree};
 ghost use Rattle.sledpc.specs.Settings.{entry_room, piece_room};
 ghost use Rattle.sledpc.specs.LentAnswers.{answer_of};
 ghost use Rattle.sledpc.specs.Words.{bytes_word};
@@ -100,6 +100,20 @@ pub fn gather_tree<W: Write>(
 {
     match root {
         Ok(root) => gather_labelled(writer, piece, b"page ", *root),
+        Err(error) => gather_error(writer, piece, error),
+    }
+}
+
+/// Puts the reply to the opening or the closing of a batch as a line behind what was gathered.
+pub fn gather_mark<W: Write>(
+    writer: &mut W,
+    piece: &mut Piece,
+    answer: &Result<(), Error>,
+) -> Result<(), Unwritten>
+    ensures { Gathers (W.contents writer.old) (W.contents writer.new) piece.old piece.new result (reply_of_mark answer.now ++ 10 ∷ []) }
+{
+    match answer {
+        Ok(()) => gather_text(writer, piece, b"ok\n"),
         Err(error) => gather_error(writer, piece, error),
     }
 }

@@ -1,16 +1,17 @@
 //! The engine: it reads lines, and writes the replies to them.
 
-ghost use Rattle.std.specs.Prelude.{◌≡◌, ◌≤◌, ◌++◌, [], ◌∷◌, length, codes, IfOk, IfSome, IfNone, IfErr};
-ghost use Rattle.sledpc.specs.Commands.{Encodes, IsOfScript};
+ghost use Rattle.std.specs.Prelude.{◌≡◌, false, true, ◌≤◌, ◌++◌, [], ◌∷◌, length, codes, IfOk, IfSome, IfNone, IfErr};
+ghost use Rattle.sledpc.specs.Commands.{Encodes, IsOfScript, mark_word};
 ghost use Rattle.sledpc.specs.Output.{Gathers};
 ghost use Rattle.sledpc.specs.Runs.{Serves, run_error_of};
-ghost use Rattle.sledpc.specs.Served.{RepliesTo, RepliesToOpen, RepliesLine, ServesLines};
+ghost use Rattle.sledpc.specs.Served.{RepliesTo, RepliesToOpen, RepliesLine, ServesAll, ServesUntil};
 ghost use Rattle.sledpc.specs.Settings.{longest_line};
 ghost use Rattle.sled_pagecache.specs.declared.pagecache.call.Call.{Call};
 ghost use Rattle.sled_pagecache.specs.declared.pagecache.call.Call.TheVariants as calls;
 
-use super::command::{Command, call_of, command_of};
-use super::reply::{LentAnswer, gather_line, gather_tree};
+use super::batch::{pin_again, serve_batch};
+use super::command::{Command, Mark, call_of, command_of};
+use super::reply::{LentAnswer, gather_line, gather_mark, gather_tree};
 use crate::lines::{Line, ReadError, read_line};
 use crate::output::{Unwritten, flush, gather_text, write_out, write_rest};
 use crate::piece::Piece;
@@ -64,9 +65,19 @@ impl From<Unwritten> for RunError {
     }
 }
 
+/// Where lines were served up to.
+#[derive(Clone, Copy)]
+pub enum Stop {
+    /// The end of the input.
+    End,
+    /// A line that opens or closes a batch, which was read and not answered.
+    At { mark: Mark, is_followed: bool },
+}
+
 /// Makes the calls that the lines of the input ask for, and writes one reply line for each line.
 ///
-/// A line that is no command, or is longer than 65,536 bytes, is answered by `error line` and changes nothing. The calls are
+/// A line that is no command, or is longer than 65,536 bytes, is answered by `error line` and changes nothing, and so is one that
+/// closes a batch where none is open. A batch that is open at the end, an error too, is cancelled, without a reply. The calls are
 /// steps in a row: what they write is added to the log in order, and a crash at any moment leaves what the log held and a
 /// prefix of that which splits no batch. Apart from the pages and the log, at most one line is held in memory.
 ///
@@ -81,6 +92,7 @@ pub fn run<L: Log, R: BufRead, W: Write>(
     reader: &mut R,
     writer: &mut W,
 ) -> Result<(), RunError>
+    requires { cache.old.batch ≡ false }
     ensures { Serves L.Log cache.old (R.remaining reader.old) (W.contents writer.old) (W.contents writer.new) result cache.new }
 {
     let mut piece = Piece::new();
@@ -101,7 +113,7 @@ pub fn run<L: Log, R: BufRead, W: Write>(
     }
 }
 
-// Serves all lines. The last replies may be left in the piece.
+// Serves all lines: those outside batches, and batches. The last replies may be left in the piece.
 fn serve_lines<L: Log, R: BufRead, W: Write>(
     alloc: Global,
     cache: &mut PageCache<L>,
@@ -109,15 +121,40 @@ fn serve_lines<L: Log, R: BufRead, W: Write>(
     writer: &mut W,
     piece: &mut Piece,
 ) -> Result<(), RunError>
-    requires { piece.old ≡ [] }
-    ensures { ServesLines L.Log cache.old (R.remaining reader.old) (W.contents writer.old) (W.contents writer.new) piece.new result cache.new }
+    requires { cache.old.batch ≡ false }
+    ensures { ServesAll L.Log cache.old (R.remaining reader.old) (W.contents writer.old) (W.contents writer.new) piece.old piece.new result cache.new }
+{
+    for _ in 0..u64::MAX {
+        let is_followed = match serve_until(alloc, cache, reader, writer, piece)? {
+            Stop::End => return Ok(()),
+            Stop::At { is_followed, .. } => is_followed,
+        };
+        if !serve_batch(alloc, cache, is_followed, reader, writer, piece)? {
+            return Ok(());
+        }
+    }
+    Err(RunError::Read)
+}
+
+/// Serves lines, up to one that opens a batch where none is open, or closes the one that is. The last replies may be left in the piece.
+pub fn serve_until<L: Log, R: BufRead, W: Write>(
+    alloc: Global,
+    cache: &mut PageCache<L>,
+    reader: &mut R,
+    writer: &mut W,
+    piece: &mut Piece,
+) -> Result<Stop, RunError>
+    ensures serves { ServesUntil L.Log cache.old (R.remaining reader.old) (R.remaining reader.new) (W.contents writer.old) (W.contents writer.new) piece.old piece.new result cache.new }
+    ensures batch { cache.new.batch ≡ cache.old.batch }
 {
     let mut line = Vec::new(alloc);
     for _ in 0..u64::MAX {
         let is_followed = match read_line(reader, &mut line)? {
-            Line::End => return Ok(()),
+            Line::End => return Ok(Stop::End),
             Line::Whole { is_followed } => {
-                serve_line(alloc, cache, &line, writer, piece)?;
+                if let Some(mark) = serve_line(alloc, cache, &line, writer, piece)? {
+                    return Ok(Stop::At { mark, is_followed });
+                }
                 is_followed
             }
             Line::TooLong => {
@@ -130,8 +167,8 @@ fn serve_lines<L: Log, R: BufRead, W: Write>(
     Err(RunError::Read)
 }
 
-// Writes and flushes the replies, unless another line can be read without a wait.
-fn flush_unless<W: Write>(
+/// Writes and flushes the replies, unless another line can be read without a wait.
+pub fn flush_unless<W: Write>(
     is_followed: bool,
     writer: &mut W,
     piece: &mut Piece,
@@ -145,22 +182,24 @@ fn flush_unless<W: Write>(
     flush(writer)
 }
 
-// Serves one line: its reply is put as a line behind those that were gathered. A call is served as it was read, since a command that
-// holds it would be one more copy of all that it holds.
+// Serves one line: its reply is put as a line behind those that were gathered. One that opens a batch where none is open, or closes the
+// one that is, is left, and its mark is answered. A call is served as it was read, since a command that holds it would be one more copy of
+// all that it holds.
 fn serve_line<L: Log, W: Write>(
     alloc: Global,
     cache: &mut PageCache<L>,
     line: &[u8],
     writer: &mut W,
     piece: &mut Piece,
-) -> Result<(), RunError>
+) -> Result<Option<Mark>, RunError>
     requires { length line.now ≤ longest_line }
-    ensures { RepliesLine L.Log cache.old line.now (W.contents writer.old) (W.contents writer.new) piece.old piece.new result cache.new }
+    ensures replies { RepliesLine L.Log cache.old line.now (W.contents writer.old) (W.contents writer.new) piece.old piece.new result cache.new }
+    ensures batch { cache.new.batch ≡ cache.old.batch }
 {
     match call_of(alloc, line) {
         Ok(Some(call)) => {
             serve_call(cache, call, writer, piece)?;
-            Ok(())
+            Ok(None)
         }
         Ok(None) => serve_command(alloc, cache, line, writer, piece),
         Err(_) => Err(RunError::Memory),
@@ -174,16 +213,42 @@ fn serve_command<L: Log, W: Write>(
     line: &[u8],
     writer: &mut W,
     piece: &mut Piece,
-) -> Result<(), RunError>
+) -> Result<Option<Mark>, RunError>
     requires { length line.now ≤ longest_line }
-    ensures { RepliesLine L.Log cache.old line.now (W.contents writer.old) (W.contents writer.new) piece.old piece.new result cache.new }
+    ensures replies { RepliesLine L.Log cache.old line.now (W.contents writer.old) (W.contents writer.new) piece.old piece.new result cache.new }
+    ensures batch { cache.new.batch ≡ cache.old.batch }
 {
     match command_of(alloc, line)? {
         None => gather_text(writer, piece, b"error line\n")?,
         Some(Command::Call(call)) => serve_call(cache, call, writer, piece)?,
         Some(Command::OpenTree(name)) => serve_open(cache, name, writer, piece)?,
+        Some(Command::Mark(mark)) => return serve_mark(cache, mark, writer, piece),
     }
-    Ok(())
+    Ok(None)
+}
+
+// Serves the line of a mark.
+fn serve_mark<L: Log, W: Write>(
+    cache: &mut PageCache<L>,
+    mark: Mark,
+    writer: &mut W,
+    piece: &mut Piece,
+) -> Result<Option<Mark>, RunError>
+    ensures replies { RepliesLine L.Log cache.old (mark_word mark) (W.contents writer.old) (W.contents writer.new) piece.old piece.new result cache.new }
+    ensures batch { cache.new.batch ≡ cache.old.batch }
+{
+    match (mark, cache.batch_open()) {
+        (Mark::Pin, false) | (Mark::Seal | Mark::Cancel, true) => Ok(Some(mark)),
+        (Mark::Pin, true) => {
+            let refused = pin_again(cache);
+            gather_mark(writer, piece, &refused)?;
+            Ok(None)
+        }
+        (Mark::Seal | Mark::Cancel, false) => {
+            gather_text(writer, piece, b"error line\n")?;
+            Ok(None)
+        }
+    }
 }
 
 // Opens a tree, and puts the reply to that as a line behind those that were gathered.

@@ -10,4 +10,4 @@ pub returns-in-Ok : goal.returns-in-Ok
 returns-in-Ok c =
     let logged = subst (λ (state : log.LogState Entry). IsLogged (log.unplaced_state state) nothing) (sym c.new_log.ensures.state) empty_logged in
     let opened = c.in-Ok.ensures.opens refl tt nothing logged in
-    record { settings = opened.config_is; held = opened.held_then; is = opened.is; stable = opened.stable some_missing }
+    record { settings = opened.config_is; held = opened.held_then; is = opened.is; stable = opened.stable some_missing; closed = c.in-Ok.ensures.closed }

@@ -159,6 +159,15 @@ fn replies_go_out_before_a_read_that_may_wait(rt: HostRuntime) -> Result<(), Fai
         (&["a", "l", "l", "o", "c", "\n"], "page 2 1\n|"),
         (&["x"], "error line\n|"),
         (&["\n\n", "\n"], "error line\nerror line\n|error line\n|"),
+        (&["pin\nseal\n"], "ok\nok\n|"),
+        (
+            &["pin\n", "alloc\n", "pin\n", "seal\n", "seal"],
+            "ok\n|page 2 1\n|error unsupported 8\n|ok\n|error line\n|",
+        ),
+        (
+            &["pin\nget 2\n", "cancel\nget 2"],
+            "ok\nnone\n|ok\n|none\n|",
+        ),
         (&[], ""),
     ] {
         assert!(rt; flushes_so(rt.alloc(), pieces, want)?, "at {want}");
@@ -186,6 +195,8 @@ fn replies_go_out_before_a_reader_that_fails(rt: HostRuntime) -> Result<(), Fail
         (&["get"], ""),
         (&["alloc\n"], "page 2 1\n|"),
         (&["alloc\nget 2\nget"], "page 2 1\nleaf 1\n|"),
+        (&["pin\nalloc\nse"], "ok\npage 2 1\n|"),
+        (&["pin\n"], "ok\n|"),
     ] {
         assert!(rt;
             flushes_so_before_failing(rt.alloc(), pieces, want)?,
@@ -201,6 +212,17 @@ fn a_writer_may_refuse_at_each_place(rt: HostRuntime) -> Result<(), Fail> {
     for room in 0..40 {
         let mut input = Pieces {
             left: &["alloc\n", "get 2\n\nget", " 3"],
+            is_broken: false,
+        };
+        assert!(rt;
+            is_taken(rt.alloc(), &mut input, room, want.as_bytes())?,
+            "with room for {room} bytes"
+        );
+    }
+    let want = "ok\n|page 2 1\nerror unsupported 8\n|ok\n|ok\nok\n|ok\n|";
+    for room in 0..50 {
+        let mut input = Pieces {
+            left: &["pin\n", "alloc\npin\nsea", "l\n", "pin\ncancel\npin"],
             is_broken: false,
         };
         assert!(rt;

@@ -1,6 +1,6 @@
 //! Lines that ask for calls, and lines that don't.
 
-use super::{Command, command_of};
+use super::{Command, Mark, command_of};
 use crate::lines::MAX_LINE;
 use sled_pagecache::{Call, Item, Link, Node, PageId, PageView};
 use std::alloc::Global;
@@ -19,6 +19,7 @@ enum Wanted<'a> {
     Flush,
     Size,
     Open(&'a str),
+    Mark(Mark),
 }
 
 // Whether a leaf over all keys, that is not merging, has these pairs, and no others.
@@ -60,7 +61,8 @@ fn is_wanted(call: &Call, want: Wanted<'_>) -> bool {
 fn is_asked(command: &Command, want: Wanted<'_>) -> bool {
     match (command, want) {
         (Command::OpenTree(name), Wanted::Open(asked)) => name.as_slice() == asked.as_bytes(),
-        (Command::OpenTree(_), _) => false,
+        (Command::Mark(mark), Wanted::Mark(asked)) => *mark == asked,
+        (Command::OpenTree(_) | Command::Mark(_), _) => false,
         (Command::Call(call), want) => is_wanted(call, want),
     }
 }
@@ -97,6 +99,9 @@ fn asks_for_calls(rt: HostRuntime) -> Result<(), Fail> {
         ("size", Wanted::Size),
         ("open 74", Wanted::Open("t")),
         ("open -", Wanted::Open("")),
+        ("pin", Wanted::Mark(Mark::Pin)),
+        ("seal", Wanted::Mark(Mark::Seal)),
+        ("cancel", Wanted::Mark(Mark::Cancel)),
     ] {
         assert!(rt; asks(rt.alloc(), line, Some(want))?, "at {line}");
     }
@@ -149,6 +154,16 @@ fn asks_for_nothing(rt: HostRuntime) -> Result<(), Fail> {
         "open 7",
         "open 74 74",
         "openx",
+        "pin ",
+        "pin 1",
+        "pi",
+        "pins",
+        "seal ",
+        "sealed",
+        "SEAL",
+        "cancel ",
+        "cancel 1",
+        "cance",
     ] {
         assert!(rt; asks(rt.alloc(), line, None)?, "at {line}");
     }

@@ -5,5 +5,6 @@ pub returns : goal.returns
 returns g c = record {
   answer = Allocated c.allocate-answer.result;
   made = record { step = c.allocate-answer.ensures.step; bytes = tt; faults = c.allocate-answer.ensures.blame; covered = tt };
+  batch = c.allocate-answer.ensures.keeps.batch;
   written = c.gather_line.ensures;
 }

@@ -5,5 +5,6 @@ pub returns : goal.returns
 returns g c = record {
   answer = Freed c.free-answer.result;
   made = record { step = c.free-answer.ensures.step; bytes = tt; faults = c.free-answer.ensures.blame; covered = tt };
+  batch = c.free-answer.ensures.keeps.batch;
   written = c.gather_line.ensures;
 }

@@ -8,5 +8,6 @@ returns g c = let got = c.get.follows.holds-at-none in
     record {
       answer = Got (lent_answer c.get.result);
       made = record { step = got.step; bytes = tt; faults = got.blame; covered = tt };
+      batch = got.keeps.batch;
       written = c.gather_line.ensures;
     }

@@ -1,6 +1,11 @@
-use Rattle.sledpc.proofs.Answered.{SoFar}
+use Rattle.std.proofs.Common.{◌≡◌, false}
+use Rattle.sledpc.specs.Served.{HasServed}
 use Rattle.sledpc.proofs.script.run.serve_lines.Given as goal
 
--- some lines of the input were answered, and just the replies were gathered
+-- some lines of the input were answered, just the replies were gathered, and no batch is open
 abbrev pub invariant-loop : goal.invariant-loop
-invariant-loop g l = SoFar g.L.Log l.initial.cache (g.R.Read.remaining l.initial.reader) (g.R.Read.remaining l.reader) (g.W.Write.contents l.initial.writer) (g.W.Write.contents l.writer) l.piece l.cache
+invariant-loop g l =
+    record {
+      served : HasServed g.L.Log l.initial.cache (g.R.Read.remaining l.initial.reader) (g.R.Read.remaining l.reader) (g.W.Write.contents l.initial.writer) (g.W.Write.contents l.writer) l.initial.piece l.piece l.cache;
+      batch : l.cache.batch ≡ false;
+    }

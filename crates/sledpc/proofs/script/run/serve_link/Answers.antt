@@ -5,5 +5,6 @@ pub returns : goal.returns
 returns g c = record {
   answer = Linked c.link-answer.result;
   made = record { step = c.link-answer.ensures.step; bytes = tt; faults = c.link-answer.ensures.blame; covered = tt };
+  batch = c.link-answer.ensures.keeps.batch;
   written = c.gather_line.ensures;
 }

@@ -5,5 +5,6 @@ pub returns : goal.returns
 returns g c = record {
   answer = Replaced c.replace-answer.result;
   made = record { step = c.replace-answer.ensures.step; bytes = tt; faults = c.replace-answer.ensures.blame; covered = tt };
+  batch = c.replace-answer.ensures.keeps.batch;
   written = c.gather_line.ensures;
 }
