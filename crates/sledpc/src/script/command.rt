@@ -13,6 +13,7 @@ ghost use Rattle.sledpc.specs.declared.script.command.Command.{Command};
 ghost use Rattle.sledpc.specs.declared.script.command.Mark.{Mark};
 ghost use Rattle.sled_pagecache.specs.Token.{Token};
 ghost use Rattle.sled_pagecache.specs.declared.pagecache.call.Call.{Call};
+ghost use Rattle.sled_pagecache.specs.declared.pagecache.call.Call.TheVariants.{Get};
 
 use super::words::{bytes_of, first_word, number_of, pairs_of};
 use sled_pagecache::{Call, Data, IVec, Leaf, Link, Node, PageId, PageView};
@@ -82,6 +83,17 @@ fn open_of(alloc: Global, arguments: Option<&[u8]>) -> Result<Option<Command>, A
         return Ok(None);
     };
     Ok(Some(Command::OpenTree(name)))
+}
+
+/// The page that a line `get ID` asks for, or none where it is no such line.
+pub fn page_to_get(line: &[u8]) -> Option<PageId>
+    requires { length line.now ≤ longest_line }
+    ensures { IfSome result (λ pid. Encodes line.now (Get pid)) }
+{
+    let [b'g', b'e', b't', b' ', number @ ..] = line else {
+        return None;
+    };
+    number_of(number)
 }
 
 /// The call that a line asks for, or none where it asks for none.
