@@ -49,10 +49,10 @@ pub const MAX_PAIRS: usize = 1 << 24;
 /// bytes of `lo`, which `lo` and `hi` have in common. Contracts see whole keys, and every node is well-formed.
 #[derive(Debug, Drop)]
 pub struct Node {
-    prefix_len: u8,
     next: Option<NonZeroU64>,
     merging_child: Option<NonZeroU64>,
     merging: bool,
+    prefix_len: u8,
     lo: IVec,
     hi: IVec,
     contents: Data,

@@ -158,6 +158,28 @@ fn takes(cache: &mut Cache, link: Link) -> bool {
     answers(cache, 2, 1, link, Ok(Ok(PageView::new(2, 2))))
 }
 
+fn takes_pair(
+    alloc: Global,
+    cache: &mut Cache,
+    key: &[u8],
+    value: &[u8],
+) -> Result<bool, AllocError> {
+    Ok(takes(cache, set(alloc, key, value)?))
+}
+
+// Whether a link that sets a pair on page 2, by the token with this stamp, comes back with the present token.
+fn is_stale_pair(
+    alloc: Global,
+    cache: &mut Cache,
+    stamp: u64,
+    present: PageView,
+    key: &[u8],
+    value: &[u8],
+) -> Result<bool, AllocError> {
+    let (link, same) = (set(alloc, key, value)?, set(alloc, key, value)?);
+    Ok(is_stale(cache, stamp, link, present, same))
+}
+
 // Whether the page is not lent, since it is the cache's own.
 fn is_kept_back(cache: &mut Cache, pid: PageId) -> bool {
     matches!(cache.get(pid), Err(Refusal::Unsupported(Why::ReservedId)))
@@ -246,12 +268,11 @@ fn a_link_wants_the_present_token(rt: HostRuntime) -> Result<(), Fail> {
     let mut cache = opened(alloc)?;
     assert!(rt; adds_leaf(alloc, &mut cache, 2));
     let second = PageView::new(2, 2);
-    assert!(rt; takes(&mut cache, set(alloc, b"b", b"v")?));
+    assert!(rt; takes_pair(alloc, &mut cache, b"b", b"v")?);
     assert!(rt; has_pair(&mut cache, 2, 2, b"b", b"v"));
     for stamp in [0, 1, 3, u64::MAX] {
-        let (link, same) = (set(alloc, b"c", b"w")?, set(alloc, b"c", b"w")?);
         assert!(rt;
-            is_stale(&mut cache, stamp, link, second, same),
+            is_stale_pair(alloc, &mut cache, stamp, second, b"c", b"w")?,
             "stamp {stamp}"
         );
         assert!(rt; has_pair(&mut cache, 2, 2, b"b", b"v"), "stamp {stamp}");
@@ -307,7 +328,7 @@ fn a_page_keeps_stored_keys_without_the_prefix(rt: HostRuntime) -> Result<(), Fa
             2
         )
     );
-    assert!(rt; takes(&mut cache, set(alloc, b"b", b"v")?));
+    assert!(rt; takes_pair(alloc, &mut cache, b"b", b"v")?);
     assert!(rt; has_pair(&mut cache, 2, 2, b"b", b"v"));
     let view = cache.get(2)?.ok_or("a page")?;
     assert_eq!(rt; view.node().prefix_len(), 1);
@@ -355,7 +376,7 @@ fn a_replacement_wants_the_present_token(rt: HostRuntime) -> Result<(), Fail> {
     let alloc = rt.alloc();
     let mut cache = opened(alloc)?;
     assert!(rt; adds_leaf(alloc, &mut cache, 2));
-    assert!(rt; takes(&mut cache, set(alloc, b"b", b"v")?));
+    assert!(rt; takes_pair(alloc, &mut cache, b"b", b"v")?);
     let present = PageView::new(2, 2);
     for stamp in [1, 3] {
         let (node, same) = (Node::default(alloc), Node::default(alloc));

@@ -18,11 +18,16 @@ enum End {
 // A leaf of one pair.
 fn leaf(alloc: Global) -> Result<Node, Error> {
     let mut node = Node::default(alloc);
+    put(alloc, &mut node)?;
+    Ok(node)
+}
+
+fn put(alloc: Global, node: &mut Node) -> Result<(), AllocError> {
     let link = set(alloc, b"k", b"v")?;
     if node.accepts(&link) {
-        node.apply(&link)?;
+        return node.apply(&link);
     }
-    Ok(node)
+    Ok(())
 }
 
 // Replaces a page that is at stamp 1.

@@ -13,12 +13,23 @@ pub(super) fn put_link_replace<L: Log>(
 ) -> Result<bool, Error> {
     let (pid, token) = cache.allocate(node)?;
     let linked = cache.link(pid, token, link)?;
-    let token = match linked {
-        Ok(token) | Err(Some((token, _))) => token,
-        Err(None) => return Ok(false),
+    let Some(token) = token_of(linked) else {
+        return Ok(false);
     };
-    let swapped = cache.replace(pid, token, other)?;
-    Ok(swapped.is_ok())
+    let swapped = cache.replace(token.pid(), token, other)?;
+    Ok(is_made(swapped))
+}
+
+// The token that a link answers, made or stale.
+fn token_of(linked: Result<PageView, Option<(PageView, Link)>>) -> Option<PageView> {
+    match linked {
+        Ok(token) | Err(Some((token, _))) => Some(token),
+        Err(None) => None,
+    }
+}
+
+fn is_made<T: Drop>(swapped: Result<PageView, T>) -> bool {
+    swapped.is_ok()
 }
 
 // Puts a node on a page, and links it by the token that was answered, which is never stale.

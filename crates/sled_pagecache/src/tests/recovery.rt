@@ -5,8 +5,7 @@ use super::*;
 // A log of a new cache with page 2, of which a link sets "b" to "v". Neither is flushed.
 fn page_and_link(alloc: Global) -> Result<Option<MemLog>, Fail> {
     let mut cache = opened(alloc)?;
-    let link = set(alloc, b"b", b"v")?;
-    let written = adds_leaf(alloc, &mut cache, 2) && takes(&mut cache, link);
+    let written = adds_leaf(alloc, &mut cache, 2) && takes_pair(alloc, &mut cache, b"b", b"v")?;
     Ok(log_if(cache, written))
 }
 
@@ -37,8 +36,8 @@ fn a_crash_leaves_the_first_changes(rt: HostRuntime) -> Result<(), Fail> {
 fn stamps_begin_again_at_0(rt: HostRuntime) -> Result<(), Fail> {
     let alloc = rt.alloc();
     let mut cache = first_changes(alloc, 2)?.ok_or("the page and the link")?;
-    let (link, same) = (set(alloc, b"c", b"w")?, set(alloc, b"c", b"w")?);
-    assert!(rt; is_stale(&mut cache, 1, link, PageView::new(2, 0), same));
+    let present = PageView::new(2, 0);
+    assert!(rt; is_stale_pair(alloc, &mut cache, 1, present, b"c", b"w")?);
     Ok(())
 }
 
@@ -147,17 +146,29 @@ fn long_payloads_are_blobs(rt: HostRuntime) -> Result<(), Fail> {
     Ok(())
 }
 
+// The size of the log, what two flushes report, and the size behind them.
+fn sizes_and_flushes(cache: &mut Cache) -> Result<(u64, usize, usize, u64), Error> {
+    let before = cache.size_on_disk()?;
+    let first = cache.flush()?;
+    let second = cache.flush()?;
+    Ok((before, first, second, cache.size_on_disk()?))
+}
+
 #[test]
 fn a_flush_reports_what_was_pending(rt: HostRuntime) -> Result<(), Fail> {
     let alloc = rt.alloc();
     let mut cache = opened(alloc)?;
     assert!(rt; adds_leaf(alloc, &mut cache, 2));
-    assert!(rt; takes(&mut cache, set(alloc, b"b", b"v")?));
-    assert_eq!(rt; cache.size_on_disk()?, 82);
-    assert_eq!(rt; cache.flush()?, 47);
-    assert_eq!(rt; cache.flush()?, 0);
-    assert_eq!(rt; cache.size_on_disk()?, 82);
+    assert!(rt; takes_pair(alloc, &mut cache, b"b", b"v")?);
+    assert_eq!(rt; sizes_and_flushes(&mut cache)?, (82, 47, 0, 82));
     Ok(())
+}
+
+// Whether a link of the pair "c" and "w" to page 2, at stamp 2, is stale by the token before, and the log has the same size behind it.
+fn stale_leaves_size(alloc: Global, cache: &mut Cache) -> Result<bool, Fail> {
+    let before = cache.size_on_disk()?;
+    let is_stale = is_stale_pair(alloc, cache, 1, PageView::new(2, 2), b"c", b"w")?;
+    Ok(is_stale && cache.size_on_disk()? == before)
 }
 
 #[test]
@@ -165,10 +176,7 @@ fn a_stale_link_writes_nothing(rt: HostRuntime) -> Result<(), Fail> {
     let alloc = rt.alloc();
     let mut cache = opened(alloc)?;
     assert!(rt; adds_leaf(alloc, &mut cache, 2));
-    assert!(rt; takes(&mut cache, set(alloc, b"b", b"v")?));
-    let before = cache.size_on_disk()?;
-    let (link, same) = (set(alloc, b"c", b"w")?, set(alloc, b"c", b"w")?);
-    assert!(rt; is_stale(&mut cache, 1, link, PageView::new(2, 2), same));
-    assert_eq!(rt; cache.size_on_disk()?, before);
+    assert!(rt; takes_pair(alloc, &mut cache, b"b", b"v")?);
+    assert!(rt; stale_leaves_size(alloc, &mut cache)?);
     Ok(())
 }
