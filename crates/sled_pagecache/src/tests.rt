@@ -158,6 +158,7 @@ fn takes(cache: &mut Cache, link: Link) -> bool {
     answers(cache, 2, 1, link, Ok(Ok(PageView::new(2, 2))))
 }
 
+// Whether page 2, at stamp 1, takes a link that sets a pair.
 fn takes_pair(
     alloc: Global,
     cache: &mut Cache,

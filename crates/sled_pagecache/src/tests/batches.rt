@@ -22,6 +22,7 @@ fn leaf(alloc: Global) -> Result<Node, Error> {
     Ok(node)
 }
 
+// Sets the pair of a leaf.
 fn put(alloc: Global, node: &mut Node) -> Result<(), AllocError> {
     let link = set(alloc, b"k", b"v")?;
     if node.accepts(&link) {
