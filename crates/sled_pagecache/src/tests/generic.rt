@@ -1,6 +1,7 @@
 // What a caller knows of a cache over any log, of which nothing else is known.
 
-ghost use Rattle.std.specs.Prelude.{◌≡◌, None, IfOk, IfErr};
+ghost use Rattle.std.specs.Prelude.{◌≡◌, None, IfOk, IfErr, IfSome};
+ghost use Rattle.sled_pagecache.specs.Token.{pid_of};
 
 use super::*;
 
@@ -12,24 +13,38 @@ pub(super) fn put_link_replace<L: Log>(
     other: Node,
 ) -> Result<bool, Error> {
     let (pid, token) = cache.allocate(node)?;
-    let linked = cache.link(pid, token, link)?;
-    let Some(token) = token_of(linked) else {
-        return Ok(false);
-    };
-    let swapped = cache.replace(token.pid(), token, other)?;
-    Ok(is_made(swapped))
-}
-
-// The token that a link answers, made or stale.
-fn token_of(linked: Result<PageView, Option<(PageView, Link)>>) -> Option<PageView> {
-    match linked {
-        Ok(token) | Err(Some((token, _))) => Some(token),
-        Err(None) => None,
+    match link_answered(cache, pid, token, link)? {
+        Some(token) => is_replaced(cache, pid, token, other),
+        None => Ok(false),
     }
 }
 
-fn is_made<T: Drop>(swapped: Result<PageView, T>) -> bool {
-    swapped.is_ok()
+// Links a page, and the token that was answered, if any.
+fn link_answered<L: Log>(
+    cache: &mut PageCache<L>,
+    pid: PageId,
+    token: PageView,
+    link: Link,
+) -> Result<Option<PageView>, Error>
+    requires { pid_of token ≡ pid }
+    ensures { IfOk result (λ answered. IfSome answered (λ present. pid_of present ≡ pid)) }
+{
+    match cache.link(pid, token, link)? {
+        Ok(token) | Err(Some((token, _))) => Ok(Some(token)),
+        Err(None) => Ok(None),
+    }
+}
+
+fn is_replaced<L: Log>(
+    cache: &mut PageCache<L>,
+    pid: PageId,
+    token: PageView,
+    other: Node,
+) -> Result<bool, Error>
+    requires { pid_of token ≡ pid }
+{
+    let swapped = cache.replace(pid, token, other)?;
+    Ok(swapped.is_ok())
 }
 
 // Puts a node on a page, and links it by the token that was answered, which is never stale.
