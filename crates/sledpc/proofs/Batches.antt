@@ -92,8 +92,9 @@ module _ {L : Type 0} (g : Ghosts L) where
   pub refused_made : (cache after : Cache L) (answer : Result (Unit {0}) Error) → OpensBatch g cache answer after → IsMade g cache Pin (Pinned answer) after
   refused_made cache after answer opens = record { step = opens.step; bytes = tt; faults = opens.blame; covered = tt }
 
-  pub is_pinned : (cache after : Cache L) → OpensBatch g cache (Ok tt) after → IsPinned g cache after
-  is_pinned cache after opens = record { made = refused_made cache after (Ok tt) opens; batch = opens.done.1 }
+  -- the cache that a guard lends is the one that was opened
+  pub is_pinned : (cache held lent : Cache L) → lent ≡ held → OpensBatch g cache (Ok tt) held → IsPinned g cache lent
+  is_pinned cache held lent same opens = subst (IsPinned g cache) (sym same) (record { made = refused_made cache held (Ok tt) opens; batch = opens.done.1 })
 
   pub cancel_made : (cache after : Cache L) (answer : Result (Unit {0}) Error) → CancelsBatch g cache answer after → IsMade g cache Cancel (Cancelled answer) after
   cancel_made cache after answer closes = record { step = closes.step; bytes = tt; faults = closes.blame; covered = tt }

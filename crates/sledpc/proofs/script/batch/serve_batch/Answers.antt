@@ -1,8 +1,8 @@
 -- A batch is refused, or it is closed by a line, or by the end of the input or an error.
-use Rattle.std.proofs.Common.{rules, true, Ok, Err, sym, subst, ◌∙◌, None}
+use Rattle.std.proofs.Common.{rules, true, Ok, Err, ◌∙◌, None}
 use Rattle.std.proofs.lemmas.Result.{err_from_is_err_and}
 use Rattle.sled_pagecache.specs.Batches.{OpensBatch}
-use Rattle.sledpc.specs.Served.{IsPinned, ServesAll, ServesBatch}
+use Rattle.sledpc.specs.Served.{ServesAll, ServesBatch}
 use Rattle.sledpc.specs.declared.script.command.Mark.TheVariants as mark
 use Rattle.sledpc.specs.declared.script.run.RunError.TheVariants.{Write}
 use Rattle.sledpc.proofs.Batches.{also_of, batch_closed, batch_untold, cancel_made, cancelled_all, closed_all, is_pinned, mark_done, mark_stops, opened_batch, refused_made}
@@ -36,7 +36,7 @@ returns-in-Err g c =
 -- a line closes it
 pub close-closed-requires-clause-closing : goal.close-closed-requires-clause-closing
 close-closed-requires-clause-closing g c =
-    let pinned : IsPinned g.L.Log c.args.cache.now c.cache.result.now = subst (IsPinned g.L.Log c.args.cache.now) (sym c.cache.ensures.value) (is_pinned g.L.Log c.args.cache.now c.in-Ok.guard.cache.now c.in-Ok.ensures.pinned) in
+    let pinned = is_pinned g.L.Log c.args.cache.now c.in-Ok.guard.cache.now c.cache.result.now c.cache.ensures.value c.in-Ok.ensures.pinned in
     (rw c.in-Ok-At.field-0-is at c.in-Ok-At.ensures.serves c.args.cache.now None pinned tt).3
 
 pub returns-in_err-reply_mark-in-Ok-At : goal.returns-in_err-reply_mark-in-Ok-At
@@ -44,7 +44,7 @@ returns-in_err-reply_mark-in-Ok-At g c =
     let read = g.R.Read.remaining in
     let contents = g.W.Write.contents in
     let last = c.close-closed.new.guard.0 in
-    let pinned : IsPinned g.L.Log c.args.cache.now c.cache.result.now = subst (IsPinned g.L.Log c.args.cache.now) (sym c.cache.ensures.value) (is_pinned g.L.Log c.args.cache.now c.in-Ok.guard.cache.now c.in-Ok.ensures.pinned) in
+    let pinned = is_pinned g.L.Log c.args.cache.now c.in-Ok.guard.cache.now c.cache.result.now c.cache.ensures.value c.in-Ok.ensures.pinned in
     let told = err_from_is_err_and c.from_residual-in_err-reply_mark-in-Ok-At.result c.from_residual-in_err-reply_mark-in-Ok-At.ensures.1 in
     λ input at. rw (told.1, told.2)
     (also_of (λ now. ServesAll g.L.Log c.args.cache.now input (contents c.args.writer.now) (contents c.reply_mark-in-Ok-At.new.writer) c.args.piece.now c.reply_mark-in-Ok-At.new.piece (Err Write) now) last
@@ -57,7 +57,7 @@ returns-in_ok-reply_mark-in-Ok-At g c =
     let read = g.R.Read.remaining in
     let contents = g.W.Write.contents in
     let last = c.close-closed.new.guard.0 in
-    let pinned : IsPinned g.L.Log c.args.cache.now c.cache.result.now = subst (IsPinned g.L.Log c.args.cache.now) (sym c.cache.ensures.value) (is_pinned g.L.Log c.args.cache.now c.in-Ok.guard.cache.now c.in-Ok.ensures.pinned) in
+    let pinned = is_pinned g.L.Log c.args.cache.now c.in-Ok.guard.cache.now c.cache.result.now c.cache.ensures.value c.in-Ok.ensures.pinned in
     λ input at.
     also_of (λ now. ServesBatch g.L.Log c.args.cache.now input (read c.serve_inside.new.reader) (contents c.args.writer.now) (contents c.reply_mark-in-Ok-At.new.writer) c.args.piece.now c.reply_mark-in-Ok-At.new.piece (Ok true) now) last (
       batch_closed g.L.Log g.met.L.Log.only_now c.args.cache.now c.serve_inside.new.cache last input (read c.serve_inside.new.reader) (contents c.args.writer.now) (contents c.serve_inside.new.writer) (contents c.reply_mark-in-Ok-At.new.writer) c.args.piece.now c.serve_inside.new.piece c.reply_mark-in-Ok-At.new.piece
@@ -71,7 +71,7 @@ pub returns-in-Ok-End : goal.returns-in-Ok-End
 returns-in-Ok-End g c =
     let contents = g.W.Write.contents in
     let last = c.cancel.new.self.0 in
-    let pinned : IsPinned g.L.Log c.args.cache.now c.cache.result.now = subst (IsPinned g.L.Log c.args.cache.now) (sym c.cache.ensures.value) (is_pinned g.L.Log c.args.cache.now c.in-Ok.guard.cache.now c.in-Ok.ensures.pinned) in
+    let pinned = is_pinned g.L.Log c.args.cache.now c.in-Ok.guard.cache.now c.cache.result.now c.cache.ensures.value c.in-Ok.ensures.pinned in
     λ input at.
     also_of (λ now. ServesAll g.L.Log c.args.cache.now input (contents c.args.writer.now) (contents c.serve_inside.new.writer) c.args.piece.now c.serve_inside.new.piece (Ok tt) now) last
     (cancelled_all g.L.Log c.args.cache.now c.serve_inside.new.cache last input (contents c.args.writer.now) (contents c.serve_inside.new.writer) c.args.piece.now c.serve_inside.new.piece (Ok tt) c.cancel.result (c.in-Ok-End.ensures.batch ∙ pinned.batch)
@@ -82,7 +82,7 @@ pub returns-in-Err-serve_inside : goal.returns-in-Err-serve_inside
 returns-in-Err-serve_inside g c =
     let contents = g.W.Write.contents in
     let last = c.cancel-in-Err-serve_inside.new.self.0 in
-    let pinned : IsPinned g.L.Log c.args.cache.now c.cache.result.now = subst (IsPinned g.L.Log c.args.cache.now) (sym c.cache.ensures.value) (is_pinned g.L.Log c.args.cache.now c.in-Ok.guard.cache.now c.in-Ok.ensures.pinned) in
+    let pinned = is_pinned g.L.Log c.args.cache.now c.in-Ok.guard.cache.now c.cache.result.now c.cache.ensures.value c.in-Ok.ensures.pinned in
     λ input at.
     also_of (λ now. ServesAll g.L.Log c.args.cache.now input (contents c.args.writer.now) (contents c.serve_inside.new.writer) c.args.piece.now c.serve_inside.new.piece (Err c.in-Err-serve_inside.error) now) last
     (cancelled_all g.L.Log c.args.cache.now c.serve_inside.new.cache last input (contents c.args.writer.now) (contents c.serve_inside.new.writer) c.args.piece.now c.serve_inside.new.piece (Err c.in-Err-serve_inside.error) c.cancel-in-Err-serve_inside.result (c.in-Err-serve_inside.ensures.batch ∙ pinned.batch)
