@@ -25,6 +25,3 @@ pub use sled_base::{
 };
 pub use sled_log::{self, Log, LogError, MemLog};
 pub use sled_node::{self, Data, Index, Item, Leaf, Link, Meta, Node};
-
-#[cfg(test)]
-mod tests;

@@ -1,0 +1,30 @@
+-- Three openings are a run, so the law orders their ids.
+use Rattle.std.proofs.Common.{[], ◌∷◌, ◌<◌, ℕ, List, Ok, ap, arith}
+use Rattle.sled_log.specs.LogState.{unplaced_state}
+use Rattle.sled_log.specs.contracts.memory.calls.MemLogLog.TheImpl as mem
+use Rattle.sled_log.specs.declared.memory.MemLog.{MemLog}
+use Rattle.sled_pagecache.specs.Openings.{Opening, Lasted, Crashed, IsRun, AreRising}
+use Rattle.sled_pagecache.specs.declared.pagecache.call.Answer.TheVariants.{Generated}
+use Rattle.sled_pagecache.specs.declared.pagecache.call.Call.TheVariants.{GenerateId}
+use Rattle.sled_pagecache_tests.proofs.tests.id_law.draw_three.Goals as goal
+
+-- the ids of three, by their places
+in-order : (a b c : ℕ) → AreRising (a ∷ b ∷ c ∷ []) → (a < b) × (b < c)
+in-order a b c rising = (rising 0 1 0 (omega arith) (omega arith), rising 1 2 0 (omega arith) (omega arith))
+
+pub returns : goal.returns
+returns c =
+    let config = c.args.config in
+    let one = c.in_ok-first.ensures in
+    let two = c.in_ok-second.ensures in
+    let three = c.in_ok-third.ensures in
+    let first = c.in_ok-first.first in
+    let second = c.in_ok-second.second in
+    let third = c.in_ok-third.third in
+    let openings : List (Opening MemLog) =
+    Lasted config one.0 ((GenerateId, Generated (Ok first)) ∷ []) one.1 Crashed c.in_ok-first.log
+    ∷ Lasted config two.0 ((GenerateId, Generated (Ok second)) ∷ []) two.1 Crashed c.in_ok-second.log
+    ∷ Lasted config three.0 ((GenerateId, Generated (Ok third)) ∷ []) three.1 Crashed c.in_ok-third._log
+    ∷ [] in
+    let run : IsRun mem.ghosts c.new.result 0 openings = (omega arith, one.2, one.3, one.4, (omega arith, two.2, two.3, two.4, (omega arith, three.2, three.3, three.4, tt))) in
+    in-order first second third (c.ids_are_given_once.ensures tt c.new.result openings (ap unplaced_state c.new.ensures.state) run)

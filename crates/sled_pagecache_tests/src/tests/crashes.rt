@@ -1,0 +1,33 @@
+// A caller of the law on crashes.
+
+ghost use Rattle.std.specs.Prelude.{◌≡◌, false, IfOk};
+ghost use Rattle.sled_log.specs.Batches.{IsFair};
+ghost use Rattle.sled_log.specs.Memory.{state_of};
+ghost use Rattle.sled_log.specs.contracts.memory.calls.MemLogLog.TheImpl as mem;
+ghost use Rattle.sled_log.specs.declared.memory.MemLog.{MemLog};
+ghost use Rattle.sled_pagecache.specs.Cache.{Cache as CacheModel, IsIn};
+ghost use Rattle.sled_pagecache.specs.Calls.{StepOver, Steps};
+ghost use Rattle.sled_pagecache.specs.Logged.{Logged};
+ghost use Rattle.sled_pagecache.specs.Reopening.{Reopens};
+ghost use Rattle.sled_pagecache.specs.State.{State};
+ghost use Rattle.sled_pagecache.specs.Step.{Outcome};
+ghost use Rattle.sled_pagecache.specs.declared.pagecache.call.Answer.{Answer};
+ghost use Rattle.sled_pagecache.specs.declared.pagecache.call.Call.{Call};
+
+use super::*;
+use sled_pagecache::laws::a_crash_reopens_to_a_prefix;
+
+// The cache that is opened over what a crash leaves of the log of another, where so many of the pending events came: whatever call
+// it made last, the pages after a prefix of the changes.
+pub(super) fn reopen(
+    alloc: Global,
+    config: Config,
+    log: MemLog,
+    n: usize,
+) -> Result<PageCache<MemLog>, (Error, MemLog)>
+    requires { IsFair (state_of log).pending n }
+    ensures { (old new : CacheModel MemLog) (call : Call) (answer : Answer) (held : Logged) (s : State) → new.log ≡ log → Steps mem.ghosts old call answer new → IsIn mem.ghosts old held s → s.fault ≡ false → (out : Outcome) × StepOver mem.ghosts old s call answer out × IfOk result (Reopens mem.ghosts held out.changes config) }
+{
+    a_crash_reopens_to_a_prefix::<MemLog>();
+    PageCache::start(alloc, config, log.stop(n))
+}

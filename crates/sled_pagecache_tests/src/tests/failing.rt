@@ -1,0 +1,205 @@
+// A log in memory of which one read and one write fail, or that is full, for ever or for one message.
+
+ghost use Rattle.std.specs.Prelude.{⊤, ◌≡◌, ◌==◌, ℕ, pos, [], true};
+ghost use Rattle.sled_log.specs.Calls.{one_more};
+ghost use Rattle.sled_log.specs.Items.{left_now, left_earlier, stable_left};
+ghost use Rattle.sled_log.specs.Memory.{kept_in, state_of, clock_of, might_have_left, size_of, stable_size_of, pending_size_of};
+
+use super::*;
+
+// A log in memory. The read with one number fails, and the write with the other, each counted from 1, and no other. A write that
+// fails writes nothing. It takes no message that would make it larger than it may be, and not the one with a third number.
+#[derive(Drop)]
+pub(super) struct FailingLog {
+    log: MemLog,
+    fails_to_read: u64,
+    fails_to_write: u64,
+    room: u64,
+    full_at: u64,
+    reads: u64,
+    writes: u64,
+    appends: u64,
+    failed: u64,
+    faults: u64,
+}
+
+// One more, unless the count is the greatest.
+fn one_more(count: u64) -> u64
+    ensures { result ≡ one_more count }
+{
+    if count == u64::MAX { count } else { count + 1 }
+}
+
+// Counts one more, and says whether it has this number.
+fn is_next(count: &mut u64, number: u64) -> bool
+    ensures { count.new ≡ one_more count.old }
+{
+    *count = one_more(*count);
+    *count == number
+}
+
+impl FailingLog {
+    pub(super) fn new(log: MemLog, fails_to_read: u64, fails_to_write: u64) -> FailingLog
+        ensures log { result.log ≡ log }
+        ensures usable { result.faults ≡ 0 }
+    {
+        FailingLog {
+            log,
+            fails_to_read,
+            fails_to_write,
+            room: u64::MAX,
+            full_at: 0,
+            reads: 0,
+            writes: 0,
+            appends: 0,
+            failed: 0,
+            faults: 0,
+        }
+    }
+
+    // A log of which no call fails, with room for so many bytes.
+    pub(super) fn with_room(log: MemLog, room: u64) -> FailingLog
+        ensures log { result.log ≡ log }
+        ensures usable { result.faults ≡ 0 }
+    {
+        let mut full = FailingLog::new(log, 0, 0);
+        full.room = room;
+        full
+    }
+
+    // A log of which one write fails, and that is full for one message.
+    pub(super) fn full_once(log: MemLog, fails_to_write: u64, full_at: u64) -> FailingLog
+        ensures log { result.log ≡ log }
+        ensures usable { result.faults ≡ 0 }
+    {
+        let mut full = FailingLog::new(log, 0, fails_to_write);
+        full.full_at = full_at;
+        full
+    }
+
+    // What is left of it.
+    pub(super) fn into_log(self) -> MemLog
+        ensures { result ≡ self.log }
+    {
+        self.log
+    }
+}
+
+impl Log for FailingLog {
+    ghost tells = { ⊤ };
+
+    ghost state = { λ log. record { stable = (state_of log.log).stable; pending = (state_of log.log).pending; usable = log.faults == 0 } };
+
+    ghost moment = { λ log. clock_of log.log };
+
+    ghost left_since = { λ log t pages. might_have_left log.log t pages };
+
+    ghost counts = { λ log. record { reads = log.reads; failed_reads = log.failed; write_faults = log.faults } };
+
+    ghost bytes = { λ log. size_of log.log };
+
+    ghost stable_bytes = { λ log. pos (stable_size_of log.log) };
+
+    ghost to_write = { λ log. pending_size_of log.log };
+
+    ghost is_full = { λ _ _. ⊤ };
+
+    ghost is_full_for_batch = { λ _. ⊥ };
+
+    ghost keeps_stable = { λ log told usable. stable_left log.log.clock (kept_in log.log) };
+
+    ghost only_now = { λ log pages told usable left. (let l = left_now log.log.clock (kept_in log.log) pages left in record { came = l.came; beginning = l.beginning; cut = l.cut; fair = l.fair; is = l.is }) };
+
+    ghost since_earlier = { λ log t u pages told le left. left_earlier log.log.clock (kept_in log.log) t u pages le left };
+
+    fn append(
+        &mut self,
+        kind: MessageKind,
+        pid: PageId,
+        payload: &[u8],
+    ) -> Result<(Lsn, DiskPtr, u64), LogError> {
+        let added = (payload.len() as u64).saturating_add(17);
+        let is_refused = is_next(&mut self.appends, self.full_at);
+        if is_refused || self.log.size().saturating_add(added) > self.room {
+            return Err(LogError::Full);
+        }
+        if is_next(&mut self.writes, self.fails_to_write) {
+            self.faults = one_more(self.faults);
+            return Err(LogError::WriteFault);
+        }
+        self.log.append(kind, pid, payload)
+    }
+
+    fn read(
+        &mut self,
+        pid: PageId,
+        lsn: Lsn,
+        pointer: DiskPtr,
+    ) -> Result<(MessageKind, Vec<u8>), LogError> {
+        if is_next(&mut self.reads, self.fails_to_read) {
+            self.failed = one_more(self.failed);
+            return Err(LogError::ReadFault);
+        }
+        self.log.read(pid, lsn, pointer)
+    }
+
+    fn make_stable(&mut self) -> Result<usize, LogError> {
+        if is_next(&mut self.writes, self.fails_to_write) {
+            self.faults = one_more(self.faults);
+            return Err(LogError::WriteFault);
+        }
+        self.log.make_stable()
+    }
+
+    fn pin(&mut self) -> Result<(), LogError> {
+        if is_next(&mut self.writes, self.fails_to_write) {
+            self.faults = one_more(self.faults);
+            return Err(LogError::WriteFault);
+        }
+        self.log.pin()
+    }
+
+    fn seal(&mut self) -> Result<(), LogError> {
+        if is_next(&mut self.writes, self.fails_to_write) {
+            self.faults = one_more(self.faults);
+            return Err(LogError::WriteFault);
+        }
+        self.log.seal()
+    }
+
+    fn cancel(&mut self) -> Result<(), LogError> {
+        if is_next(&mut self.writes, self.fails_to_write) {
+            self.faults = one_more(self.faults);
+            return Err(LogError::WriteFault);
+        }
+        self.log.cancel()
+    }
+
+    fn recover(&mut self) -> Result<Vec<PageState>, LogError> {
+        self.log.recover()
+    }
+
+    fn batch_open(&self) -> bool {
+        self.log.batch_open()
+    }
+
+    fn stable_offset(&self) -> Lsn {
+        self.log.stable_offset()
+    }
+
+    fn size(&self) -> u64 {
+        self.log.size()
+    }
+
+    fn reads(&self) -> u64 {
+        self.reads
+    }
+
+    fn failed_reads(&self) -> u64 {
+        self.failed
+    }
+
+    fn write_faults(&self) -> u64 {
+        self.faults
+    }
+}
