@@ -208,16 +208,21 @@ fn counting(alloc: Global) -> Result<Cache, Fail> {
     Ok(open(alloc, config).map_err(|(error, _)| error)?)
 }
 
-#[test]
-fn nothing_is_made_durable_inside_a_batch(rt: HostRuntime) -> Result<(), Fail> {
-    let alloc = rt.alloc();
-    let mut cache = counting(alloc)?;
+// Whether a batch serves what writes nothing durable, refuses the rest, and ends.
+fn stays_pending(alloc: Global, cache: &mut Cache) -> Result<bool, Error> {
     let mut guard = cache.pin_log()?;
     let is_open = guard.cache().batch_open();
     let serves = serves(alloc, guard.cache());
     let refuses = refuses_to_be_durable(guard.cache()) && refuses_a_second(guard.cache());
     guard.seal_batch()?;
-    assert!(rt; is_open && serves? && refuses);
+    Ok(is_open && serves? && refuses)
+}
+
+#[test]
+fn nothing_is_made_durable_inside_a_batch(rt: HostRuntime) -> Result<(), Fail> {
+    let alloc = rt.alloc();
+    let mut cache = counting(alloc)?;
+    assert!(rt; stays_pending(alloc, &mut cache)?);
     assert!(rt; !cache.batch_open());
     assert_eq!(rt; cache.generate_id_inner()?, 1);
     Ok(())

@@ -270,27 +270,35 @@ fn ends(alloc: Global, cache: Cache, shape: &Shape, same: &Node) -> Result<bool,
     )
 }
 
+// The cache that is opened again over what was written, if page 2 has the node there that all links made.
+fn linked(alloc: Global, shape: &Shape) -> Result<Option<Cache>, Fail> {
+    let mut same = node(alloc, shape)?;
+    let Some(log) = written(alloc, shape, &mut same)? else {
+        return Ok(None);
+    };
+    let Some(mut cache) = reopened(alloc, log) else {
+        return Ok(None);
+    };
+    if is_kept(&mut cache, 2, 0, &same) {
+        return Ok(Some(cache));
+    }
+    Ok(None)
+}
+
 // Whether page 2 holds the node through all calls: it is added, linked, opened again, replaced, flushed, left by a crash, freed
 // and added again.
 fn is_held(alloc: Global, shape: &Shape) -> Result<bool, Fail> {
-    let mut same = node(alloc, shape)?;
-    let Some(log) = written(alloc, shape, &mut same)? else {
+    let Some(cache) = linked(alloc, shape)? else {
         return Ok(false);
     };
-    let mut cache = reopened(alloc, log).ok_or("the cache again")?;
-    if !is_kept(&mut cache, 2, 0, &same) {
-        return Ok(false);
-    }
     let fresh = node(alloc, shape)?;
     let Some(log) = replaced(alloc, cache, shape, &fresh)? else {
         return Ok(false);
     };
-    ends(
-        alloc,
-        left_by(alloc, log, 0).ok_or("what is left")?,
-        shape,
-        &fresh,
-    )
+    match left_by(alloc, log, 0) {
+        Some(cache) => ends(alloc, cache, shape, &fresh),
+        None => Ok(false),
+    }
 }
 
 fn are_held(alloc: Global, is_index: bool, count: u32) -> Result<bool, Fail> {

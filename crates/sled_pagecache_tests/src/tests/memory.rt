@@ -164,25 +164,36 @@ fn has_bytes(cache: &Cache, bytes: u64) -> bool {
     matches!(cache.size_on_disk(), Ok(size) if size == bytes)
 }
 
+// Whether two pages are added, and one is linked and the other replaced, each by so many bytes.
+fn is_filled(alloc: Global, cache: &mut Cache) -> bool {
+    // nine links, the node of one pair that the tenth makes, and a link
+    has_bytes(cache, 35)
+        && adds_page(alloc, cache, 2)
+        && adds_page(alloc, cache, 3)
+        && has_bytes(cache, 85)
+        && takes_eleven_links(alloc, cache, 85 + 9 * 22 + 29 + 22)
+        && replaces_page(alloc, cache)
+        && has_bytes(cache, 363)
+}
+
+// Whether both stand again, and one is linked and the other freed.
+fn is_found_again(alloc: Global, cache: &mut Cache) -> bool {
+    holds_pair(cache, 2, b"b", b"v")
+        && holds_pair(cache, 3, b"k", b"v")
+        && links_page(alloc, cache, 0)
+        && has_bytes(cache, 385)
+        && frees_page(cache)
+        && has_bytes(cache, 402)
+}
+
 #[test]
 fn refused_allocations_change_nothing(rt: HostRuntime) -> Result<(), Fail> {
     let alloc = rt.alloc();
     let mut cache = opens(alloc, MemLog::new(alloc, 512, 16)).ok_or("a new cache")?;
-    assert!(rt; has_bytes(&cache, 35));
-    assert!(rt; adds_page(alloc, &mut cache, 2) && adds_page(alloc, &mut cache, 3));
-    assert!(rt; has_bytes(&cache, 85));
-    // nine links, the node of one pair that the tenth makes, and a link
-    assert!(rt; takes_eleven_links(alloc, &mut cache, 85 + 9 * 22 + 29 + 22));
-    assert!(rt; replaces_page(alloc, &mut cache));
-    assert!(rt; has_bytes(&cache, 363));
+    assert!(rt; is_filled(alloc, &mut cache));
     assert_eq!(rt; cache.flush()?, 328);
     let mut cache = opens(alloc, log_of(cache).ok_or("a log")?).ok_or("the cache again")?;
-    assert!(rt; holds_pair(&mut cache, 2, b"b", b"v"));
-    assert!(rt; holds_pair(&mut cache, 3, b"k", b"v"));
-    assert!(rt; links_page(alloc, &mut cache, 0));
-    assert!(rt; has_bytes(&cache, 385));
-    assert!(rt; frees_page(&mut cache));
-    assert!(rt; has_bytes(&cache, 402));
+    assert!(rt; is_found_again(alloc, &mut cache));
     Ok(())
 }
 

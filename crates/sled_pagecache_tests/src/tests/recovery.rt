@@ -17,17 +17,29 @@ fn first_changes(alloc: Global, n: usize) -> Result<Option<Cache>, Fail> {
     Ok(left_by(alloc, log, n))
 }
 
+// Whether page 2 is what so many of the changes make of it: none, which can be allocated, an empty leaf, or a leaf of the pair.
+fn is_page_after(alloc: Global, cache: &mut Cache, n: usize) -> bool {
+    match n {
+        0 => is_absent(cache, 2) && adds_leaf(alloc, cache, 2),
+        1 => is_empty(cache, 2, 0),
+        _ => has_pair(cache, 2, 0, b"b", b"v"),
+    }
+}
+
+// Whether a crash that keeps so many of the changes leaves them.
+fn leaves(alloc: Global, n: usize) -> Result<bool, Fail> {
+    match first_changes(alloc, n)? {
+        Some(mut cache) => Ok(cache.was_recovered() && is_page_after(alloc, &mut cache, n)),
+        None => Ok(false),
+    }
+}
+
 #[test]
 fn a_crash_leaves_the_first_changes(rt: HostRuntime) -> Result<(), Fail> {
     let alloc = rt.alloc();
-    let mut neither = first_changes(alloc, 0)?.ok_or("none of the changes")?;
-    assert!(rt; neither.was_recovered());
-    assert!(rt; is_absent(&mut neither, 2));
-    assert!(rt; adds_leaf(alloc, &mut neither, 2));
-    let mut page = first_changes(alloc, 1)?.ok_or("the page")?;
-    assert!(rt; is_empty(&mut page, 2, 0));
-    let mut both = first_changes(alloc, 2)?.ok_or("the page and the link")?;
-    assert!(rt; has_pair(&mut both, 2, 0, b"b", b"v"));
+    for n in [0, 1, 2] {
+        assert!(rt; leaves(alloc, n)?, "{n}");
+    }
     assert!(rt; first_changes(alloc, 3)?.is_none());
     Ok(())
 }
