@@ -143,14 +143,14 @@ impl DoublyLinkedList {
     }
 
     /// The slot of the last item, or None where the list is empty.
-    pub(crate) fn last(&self) -> Option<Slot>
+    pub fn last(&self) -> Option<Slot>
         ensures { result ≡ last_slot self.now }
     {
         self.links.last()
     }
 
     /// The slot of the item before that of the slot, on the side of the head, or None where that is the first.
-    pub(crate) fn before(&self, slot: Slot) -> Option<Slot>
+    pub fn before(&self, slot: Slot) -> Option<Slot>
         requires { Contains (slots self.now) slot }
         ensures { (front back : List Listed) (item : ℕ) → self.now ≡ front ++ listed slot item ∷ back → result ≡ last_slot front }
     {
@@ -166,13 +166,10 @@ impl DoublyLinkedList {
     }
 
     /// The item of the slot.
-    pub(crate) fn item(&self, slot: Slot) -> PageId
+    pub fn item(&self, slot: Slot) -> PageId
         requires { Contains (slots self.now) slot }
         ensures { (front back : List Listed) (item : ℕ) → self.now ≡ front ++ listed slot item ∷ back → result ≡ item }
     {
         self.links.link(slot).item
     }
 }
-
-#[cfg(test)]
-mod tests;

@@ -95,6 +95,3 @@ impl From<MessageKind> for LogKind {
         }
     }
 }
-
-#[cfg(test)]
-mod tests;

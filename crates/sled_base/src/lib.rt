@@ -34,6 +34,3 @@ pub use types::{
     BatchManifest, BlobPointer, Bug, Device, DiskPtr, Error, LogOffset, Lsn, PageId, PageState,
     Refusal, Why,
 };
-
-#[cfg(test)]
-mod tests;

@@ -78,8 +78,8 @@ impl Lru {
     }
 }
 
-// The size rounded up to a power of two.
-fn rounded_up(size: u64) -> u64
+/// The size as a list of recent use counts it: rounded up to a power of two. It is at most 2^63.
+pub fn rounded_up(size: u64) -> u64
     requires { size ≤ 2 ^ 63 }
     ensures value { result ≡ rounded size }
     ensures bound { result ≤ 2 ^ 63 }
@@ -97,6 +97,3 @@ fn number_pages(places: &mut [u64], shard: u64)
         *place = *place * SHARDS + shard;
     }
 }
-
-#[cfg(test)]
-mod tests;

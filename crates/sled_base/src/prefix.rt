@@ -88,6 +88,3 @@ pub fn binary_search_lub(key: &[u8], s: &[IVec]) -> Option<usize>
 {
     last_at_most(key, s)
 }
-
-#[cfg(test)]
-mod tests;

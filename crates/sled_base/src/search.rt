@@ -80,6 +80,3 @@ pub fn last_equal<T: Keyed>(key: &[u8], items: &[T]) -> Result<usize, usize>
         _ => Err(count),
     }
 }
-
-#[cfg(test)]
-mod tests;

@@ -83,6 +83,3 @@ pub trait Serialize: Drop {
     /// Where it is said that a reading takes a byte of an input that isn't empty, it does.
     ghost takes: { takes_a_byte ≡ true → TakesAByte reads };
 }
-
-#[cfg(test)]
-mod tests;

@@ -1,7 +1,12 @@
 ghost use Rattle.std.specs.Prelude.{◌≤◌, ◌^◌};
 
-use super::*;
+use sled_base::lru::rounded_up;
+use sled_base::{Error, Lru, PageId, Why};
+use std::alloc::{AllocError, Global};
 use std::process::Abort;
+
+// A page is of the shard that its id leaves when it is divided by this.
+const SHARDS: u64 = 256;
 
 #[test]
 fn a_capacity_below_256_is_too_small(rt: HostRuntime) {

@@ -1,4 +1,5 @@
-use super::*;
+use sled_base::{DoublyLinkedList, PageId, Slot};
+use std::alloc::{AllocError, Global};
 use std::process::Abort;
 use std::test::Fail;
 

@@ -1,6 +1,6 @@
 // Values and their encodings.
 
-use crate::types::Lsn;
+use sled_base::Lsn;
 
 #[derive(Clone, Copy)]
 pub(super) enum Value {

@@ -1,4 +1,4 @@
-use super::*;
+use sled_base::{BatchManifest, LogKind, MessageKind};
 
 // Whether the byte is read as the kind, which has this effect, and is written as the other byte.
 fn is_kind(byte: u8, kind: MessageKind, effect: LogKind, written: u8) -> bool {

@@ -1,8 +1,9 @@
 ghost use Rattle.std.specs.Prelude.{◌≡◌, ◌<◌, ◌∷◌, [], length, IfOk, map};
 ghost use Rattle.sled_base.specs.Searches.{IsSorted};
 
-use super::*;
-use crate::prefix::{binary_search, binary_search_lub};
+use sled_base::IVec;
+use sled_base::prefix::{binary_search, binary_search_lub, empty};
+use sled_base::search::{count_at_most, is_sorted, last_at_most, last_equal};
 use std::alloc::{AllocError, Global};
 use std::test::Fail;
 

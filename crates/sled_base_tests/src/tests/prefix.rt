@@ -1,6 +1,9 @@
 ghost use Rattle.std.specs.Prelude.{◌≡◌, ◌∷◌, [], IfOk};
 
-use super::*;
+use sled_base::IVec;
+use sled_base::prefix::{binary_search, binary_search_lub, decode, empty, fastcmp, reencode};
+use std::alloc::{AllocError, Global};
+use std::cmp::Ordering;
 use std::test::Fail;
 
 // ---- keys with and without their prefix

@@ -1,7 +1,13 @@
+mod dll;
+mod kinds;
+mod lru;
 mod plain;
+mod prefix;
+mod search;
+mod serialization;
 mod writes;
 
-use super::*;
+use sled_base::{BatchManifest, Bug, Device, DiskPtr, Error, IVec, Lsn, PageState, Refusal, Why};
 use std::alloc::{AllocError, Global};
 use std::cmp::Ordering;
 use std::hash::{FoldHasher, Hash, Hasher};

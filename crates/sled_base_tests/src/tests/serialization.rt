@@ -2,10 +2,9 @@ ghost use Rattle.std.specs.Prelude.{◌<◌, ◌^◌, length};
 
 mod rows;
 
-use super::*;
-use crate::ivec::IVec;
-use crate::types::BatchManifest;
 use rows::{FIXED, LONGER, OPTIONAL, PARTS, TEXTS, UNSIGNED, Value};
+use sled_base::{BatchManifest, ConsumeSequence, Error, IVec, Serialize};
+use std::alloc::{AllocError, Global};
 use std::num::NonZeroU64;
 use std::test::Fail;
 
