@@ -6,8 +6,9 @@ use std::alloc::AllocError;
 
 /// Makes room for so many items more.
 ///
-/// Where there is none, the vector grows by an eighth at least. So items that are pushed in a row take constant time each, on
-/// average, and little more than an eighth of the memory is unused. An error means out of memory, and leaves the items unchanged.
+/// Where there is none, the vector grows by an eighth and eight items at least. So items that are pushed in a row take constant time
+/// each, on average, and of a long vector little more than an eighth of the memory is unused. An error means out of memory, and
+/// leaves the items unchanged.
 pub fn reserve<T>(items: &mut Vec<T>, additional: usize) -> Result<(), AllocError>
     ensures items { items.new.items ≡ items.old.items }
     ensures len { vec_len items.new ≡ vec_len items.old }
@@ -18,5 +19,5 @@ pub fn reserve<T>(items: &mut Vec<T>, additional: usize) -> Result<(), AllocErro
     if additional <= items.capacity() - items.len() {
         return Ok(());
     }
-    items.reserve_exact(additional.max(items.len() / 8 + 1))
+    items.reserve_exact(additional.max(items.len() / 8 + 8))
 }

@@ -1,5 +1,5 @@
 -- What a name and the text behind it ask for.
-use Rattle.std.proofs.Common.{◌≡◌, ◌≢◌, ℕ, ◌+◌, ◌*◌, ◌<◌, ◌^◌, ◌≤◌, List, [], ◌∷◌, ◌++◌, map, length, get_or, Option, None, Some, IfNone, IfOk, IfSome, Result, Ok, Err, codes, sym, ap, ◌∙◌, subst, arith, rules, refl}
+use Rattle.std.proofs.Common.{◌≡◌, ◌≢◌, ℕ, ◌+◌, ◌*◌, ◌<◌, ◌^◌, ◌≤◌, List, [], ◌∷◌, ◌++◌, ◌-◌, map, drop, take, length, get_or, Option, None, Some, IfNone, IfOk, IfSome, Result, Ok, Err, codes, sym, ap, ◌∙◌, subst, arith, rules, refl}
 use Rattle.std.specs.Fmt.{decimal}
 use Rattle.std.specs.List.{join_with_byte}
 use Rattle.std.specs.Option.{SomeIff}
@@ -7,6 +7,7 @@ use Rattle.std.specs.Str.Parse.{AllDigits}
 use Rattle.std.specs.Char.{digit_value}
 use Rattle.std.proofs.lemmas.Bool.Decides.{nat_tests}
 use Rattle.std.proofs.lemmas.Fmt.{digits_decimal}
+use Rattle.std.proofs.lemmas.List.{take_all}
 use Rattle.std.proofs.lemmas.Str.Parse.{numerals_by_value, tells_digits}
 use Rattle.sled_base.specs.Order.{Bytes}
 use Rattle.sled_node.specs.declared.node.link.Link.TheVariants.{Set, Del, ParentMergeIntention, ParentMergeConfirm, ChildMergeCap}
@@ -413,10 +414,38 @@ joined_line : (line name : Bytes) (text : Option Bytes) (words : List Bytes) →
 joined_line line name text [] begins e = (subst (BeginsLine line name) e begins).1
 joined_line line name text (word ∷ words) begins e = (subst (BeginsLine line name) e begins).1
 
+-- so is one that encodes what a call is made of
+pub made_encoded : {A E : Type 0} (call_of : A → Call) (line name : Bytes) (text : Option Bytes) (result : Result (Option A) E) → length line ≤ longest_line → BeginsLine line name text → IfOk result (λ found. IfSome found (λ made. AsksBehind name text (call_of made)))
+    → IfOk result (λ found. IfSome found (λ made. Encodes line (call_of made)))
+made_encoded call_of line name text (Ok None) short begins some = tt
+made_encoded call_of line name text (Ok (Some made)) short begins some = (short, (name ∷ some.0, some.1, joined_line line name text some.0 begins some.2))
+made_encoded call_of line name text (Err error) short begins some = tt
+
+-- the leaf that a text encodes is asked for behind `alloc`
+pub leaf_asked : {E : Type 0} (text : Option Bytes) (result : Result (Option WholeNode) E) → IfOk result (λ found. IfSome found (EncodeLeaf text)) → IfOk result (λ found. IfSome found (λ node. AsksBehind (codes "alloc") text (Allocate node)))
+leaf_asked text (Ok None) some = tt
+leaf_asked text (Ok (Some node)) some = (map pair_word some.0, (some.0, some.1, refl), some.2)
+leaf_asked text (Err error) some = tt
+
 pub some_encoded_if_ok : {E : Type 0} (line name : Bytes) (text : Option Bytes) (result : Result (Option Call) E) → length line ≤ longest_line → BeginsLine line name text → IfOk result (λ found. IfSome found (AsksBehind name text)) → IfOk result (λ found. IfSome found (Encodes line))
-some_encoded_if_ok line name text (Ok None) short begins some = tt
-some_encoded_if_ok line name text (Ok (Some call)) short begins some = (short, (name ∷ some.0, some.1, joined_line line name text some.0 begins some.2))
-some_encoded_if_ok line name text (Err error) short begins some = tt
+some_encoded_if_ok line name text result short begins some = made_encoded (λ call. call) line name text result short begins some
+
+-- a line that begins with four bytes, or with six, and the text behind them
+pub four_bytes : (line : Bytes) (a b c d : ℕ) → 4 ≤ length line → get_or line 0 0 ≡ a → get_or line 1 0 ≡ b → get_or line 2 0 ≡ c → get_or line 3 0 ≡ d → line ≡ a ∷ b ∷ c ∷ d ∷ take (length line - 4) (drop 4 line)
+four_bytes [] a b c d n p q r s = absurd (omega (arith, n))
+four_bytes (x0 ∷ []) a b c d n p q r s = absurd (omega (arith, n))
+four_bytes (x0 ∷ x1 ∷ []) a b c d n p q r s = absurd (omega (arith, n))
+four_bytes (x0 ∷ x1 ∷ x2 ∷ []) a b c d n p q r s = absurd (omega (arith, n))
+four_bytes (x0 ∷ x1 ∷ x2 ∷ x3 ∷ rest) a b c d n p q r s = let whole = take_all (length (x0 ∷ x1 ∷ x2 ∷ x3 ∷ rest) - 4) rest (omega arith) in cc
+
+pub six_bytes : (line : Bytes) (a b c d e f : ℕ) → 6 ≤ length line → get_or line 0 0 ≡ a → get_or line 1 0 ≡ b → get_or line 2 0 ≡ c → get_or line 3 0 ≡ d → get_or line 4 0 ≡ e → get_or line 5 0 ≡ f → line ≡ a ∷ b ∷ c ∷ d ∷ e ∷ f ∷ take (length line - 6) (drop 6 line)
+six_bytes [] a b c d e f n p q r s t u = absurd (omega (arith, n))
+six_bytes (x0 ∷ []) a b c d e f n p q r s t u = absurd (omega (arith, n))
+six_bytes (x0 ∷ x1 ∷ []) a b c d e f n p q r s t u = absurd (omega (arith, n))
+six_bytes (x0 ∷ x1 ∷ x2 ∷ []) a b c d e f n p q r s t u = absurd (omega (arith, n))
+six_bytes (x0 ∷ x1 ∷ x2 ∷ x3 ∷ []) a b c d e f n p q r s t u = absurd (omega (arith, n))
+six_bytes (x0 ∷ x1 ∷ x2 ∷ x3 ∷ x4 ∷ []) a b c d e f n p q r s t u = absurd (omega (arith, n))
+six_bytes (x0 ∷ x1 ∷ x2 ∷ x3 ∷ x4 ∷ x5 ∷ rest) a b c d e f n p q r s t u = let whole = take_all (length (x0 ∷ x1 ∷ x2 ∷ x3 ∷ x4 ∷ x5 ∷ rest) - 6) rest (omega arith) in cc
 
 -- a word of seven bytes, byte by byte
 pub seven_bytes : (word : Bytes) (a b c d e f g : ℕ) → length word ≡ 7 → get_or word 0 0 ≡ a → get_or word 1 0 ≡ b → get_or word 2 0 ≡ c → get_or word 3 0 ≡ d → get_or word 4 0 ≡ e → get_or word 5 0 ≡ f → get_or word 6 0 ≡ g → word ≡ a ∷ b ∷ c ∷ d ∷ e ∷ f ∷ g ∷ []

@@ -25,6 +25,9 @@ use sled_log::Log;
 use sled_node::{Link, Meta, Node};
 use std::alloc::Global;
 
+// A payload of at most so many bytes is made without an allocation.
+const SHORT_PAYLOAD: usize = 256;
+
 // Writes a node to the log as the content of a page, and answers how it is kept, at that stamp.
 pub(super) fn write_node<L: Log>(
     alloc: Global,
@@ -185,10 +188,27 @@ fn write<L: Log, T: Serialize>(
     ensures same { L.tells → OnErr result (sticky_log.new.fault ≡ false → now effect_of_entry (L.state sticky_log.new.log) ≡ now effect_of_entry (L.state sticky_log.old.log)) }
     ensures sized { L.tells → OnOk result (AllByRecursion IsSized (now effect_of_entry (L.state sticky_log.new.log))) }
 {
-    let Ok(payload) = value.serialize(alloc) else {
+    let size = value.serialized_size() as usize;
+    if size <= SHORT_PAYLOAD {
+        let mut room = [0; SHORT_PAYLOAD];
+        let payload = &mut room[..size];
+        fill(value, payload);
+        return write_payload(sticky_log, kind, pid, payload, stamp);
+    }
+    let Ok(mut payload) = vec![in alloc; 0; size] else {
         return Err(Refusal::OutOfMemory);
     };
+    fill(value, &mut payload);
     write_payload(sticky_log, kind, pid, &payload, stamp)
+}
+
+// Writes a value over all of these bytes.
+fn fill<T: Serialize>(value: &T, bytes: &mut [u8])
+    requires can_write { T.can_write value.now }
+    requires exact { length bytes.old ≡ length (T.written value.now) }
+    ensures { bytes.new ≡ T.written value.now }
+{
+    value.serialize_into(bytes);
 }
 
 // Writes a payload to the log as a message of a page, and answers how it is kept, at that stamp.

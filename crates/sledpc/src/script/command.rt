@@ -13,7 +13,7 @@ ghost use Rattle.sledpc.specs.declared.script.command.Command.{Command};
 ghost use Rattle.sledpc.specs.declared.script.command.Mark.{Mark};
 ghost use Rattle.sled_pagecache.specs.Token.{Token};
 ghost use Rattle.sled_pagecache.specs.declared.pagecache.call.Call.{Call};
-ghost use Rattle.sled_pagecache.specs.declared.pagecache.call.Call.TheVariants.{Get};
+ghost use Rattle.sled_pagecache.specs.declared.pagecache.call.Call.TheVariants as calls;
 
 use super::words::{bytes_of, first_word, number_of, pairs_of};
 use sled_pagecache::{Call, Data, IVec, Leaf, Link, Node, PageId, PageView};
@@ -88,12 +88,36 @@ fn open_of(alloc: Global, arguments: Option<&[u8]>) -> Result<Option<Command>, A
 /// The page that a line `get ID` asks for, or none where it is no such line.
 pub fn page_to_get(line: &[u8]) -> Option<PageId>
     requires { length line.now ≤ longest_line }
-    ensures { IfSome result (λ pid. Encodes line.now (Get pid)) }
+    ensures { IfSome result (λ pid. Encodes line.now (calls.Get pid)) }
 {
     let [b'g', b'e', b't', b' ', number @ ..] = line else {
         return None;
     };
     number_of(number)
+}
+
+/// The leaf that a line `alloc PAIRS` asks a page for, or none where it is no such line.
+pub fn leaf_to_add(alloc: Global, line: &[u8]) -> Result<Option<Node>, AllocError>
+    requires { length line.now ≤ longest_line }
+    ensures { IfOk result (λ found. IfSome found (λ node. Encodes line.now (calls.Allocate node))) }
+{
+    match line {
+        b"alloc" => leaf_behind(alloc, None),
+        [b'a', b'l', b'l', b'o', b'c', b' ', pairs @ ..] => leaf_behind(alloc, Some(pairs)),
+        _ => Ok(None),
+    }
+}
+
+/// The link that a line `set ID STAMP KEY VALUE` or `del ID STAMP KEY` asks for, behind its token, or none where it is no such line.
+pub fn link_to_make(alloc: Global, line: &[u8]) -> Result<Option<(PageView, Link)>, AllocError>
+    requires { length line.now ≤ longest_line }
+    ensures { IfOk result (λ found. IfSome found (λ made. Encodes line.now (calls.Link made.0 made.1))) }
+{
+    match line {
+        [b's', b'e', b't', b' ', arguments @ ..] => set_behind(alloc, Some(arguments)),
+        [b'd', b'e', b'l', b' ', arguments @ ..] => del_behind(alloc, Some(arguments)),
+        _ => Ok(None),
+    }
 }
 
 /// The call that a line asks for, or none where it asks for none.
@@ -167,6 +191,20 @@ fn set_of(alloc: Global, arguments: Option<&[u8]>) -> Result<Option<Call>, Alloc
     ensures some { IfOk result (λ found. IfSome found (AsksBehind (codes "set") (option_map (λ rest. rest.now) arguments.entry))) }
     ensures none { IfOk result (λ found. IfNone found ((call : Call) → ¬ AsksBehind (codes "set") (option_map (λ rest. rest.now) arguments.entry) call)) }
 {
+    let Some((old, link)) = set_behind(alloc, arguments)? else {
+        return Ok(None);
+    };
+    Ok(Some(Call::Link(old, link)))
+}
+
+// The token and the link of `ID STAMP KEY VALUE`.
+fn set_behind(
+    alloc: Global,
+    arguments: Option<&[u8]>,
+) -> Result<Option<(PageView, Link)>, AllocError>
+    ensures some { IfOk result (λ found. IfSome found (λ made. AsksBehind (codes "set") (option_map (λ rest. rest.now) arguments.entry) (calls.Link made.0 made.1))) }
+    ensures none { IfOk result (λ found. IfNone found ((call : Call) → ¬ AsksBehind (codes "set") (option_map (λ rest. rest.now) arguments.entry) call)) }
+{
     let Some((old, rest)) = token_of(arguments) else {
         return Ok(None);
     };
@@ -179,12 +217,26 @@ fn set_of(alloc: Global, arguments: Option<&[u8]>) -> Result<Option<Call>, Alloc
     let Some(value) = bytes_of(alloc, value)? else {
         return Ok(None);
     };
-    Ok(Some(Call::Link(old, Link::Set(key, value))))
+    Ok(Some((old, Link::Set(key, value))))
 }
 
 // `del ID STAMP KEY`
 fn del_of(alloc: Global, arguments: Option<&[u8]>) -> Result<Option<Call>, AllocError>
     ensures some { IfOk result (λ found. IfSome found (AsksBehind (codes "del") (option_map (λ rest. rest.now) arguments.entry))) }
+    ensures none { IfOk result (λ found. IfNone found ((call : Call) → ¬ AsksBehind (codes "del") (option_map (λ rest. rest.now) arguments.entry) call)) }
+{
+    let Some((old, link)) = del_behind(alloc, arguments)? else {
+        return Ok(None);
+    };
+    Ok(Some(Call::Link(old, link)))
+}
+
+// The token and the link of `ID STAMP KEY`.
+fn del_behind(
+    alloc: Global,
+    arguments: Option<&[u8]>,
+) -> Result<Option<(PageView, Link)>, AllocError>
+    ensures some { IfOk result (λ found. IfSome found (λ made. AsksBehind (codes "del") (option_map (λ rest. rest.now) arguments.entry) (calls.Link made.0 made.1))) }
     ensures none { IfOk result (λ found. IfNone found ((call : Call) → ¬ AsksBehind (codes "del") (option_map (λ rest. rest.now) arguments.entry) call)) }
 {
     let Some((old, rest)) = token_of(arguments) else {
@@ -196,7 +248,7 @@ fn del_of(alloc: Global, arguments: Option<&[u8]>) -> Result<Option<Call>, Alloc
     let Some(key) = bytes_of(alloc, word)? else {
         return Ok(None);
     };
-    Ok(Some(Call::Link(old, Link::Del(key))))
+    Ok(Some((old, Link::Del(key))))
 }
 
 // `replace ID STAMP PAIRS`: the leaf of these pairs.

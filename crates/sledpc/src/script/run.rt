@@ -10,7 +10,7 @@ ghost use Rattle.sled_pagecache.specs.declared.pagecache.call.Call.{Call};
 ghost use Rattle.sled_pagecache.specs.declared.pagecache.call.Call.TheVariants as calls;
 
 use super::batch::{pin_again, serve_batch};
-use super::command::{Command, Mark, call_of, command_of, page_to_get};
+use super::command::{Command, Mark, call_of, command_of, leaf_to_add, link_to_make, page_to_get};
 use super::reply::{LentAnswer, gather_line, gather_mark, gather_tree};
 use crate::lines::{Line, ReadError, read_line};
 use crate::output::{Unwritten, flush, gather_text, write_out, write_rest};
@@ -183,7 +183,8 @@ pub fn flush_unless<W: Write>(
 }
 
 // Serves one line: its reply is put as a line behind those that were gathered. One that opens a batch where none is open, or closes the
-// one that is, is left, and its mark is answered. A page is asked for without a call, which would be room to clear and to copy.
+// one that is, is left, and its mark is answered. The lines that most scripts have most of are read without a call around what they
+// ask for, which would be room to clear and to copy.
 fn serve_line<L: Log, W: Write>(
     alloc: Global,
     cache: &mut PageCache<L>,
@@ -199,10 +200,18 @@ fn serve_line<L: Log, W: Write>(
         serve_get(cache, pid, writer, piece)?;
         return Ok(None);
     }
+    if let Some((old, link)) = link_to_make(alloc, line)? {
+        serve_link(cache, old, link, writer, piece)?;
+        return Ok(None);
+    }
+    if let Some(node) = leaf_to_add(alloc, line)? {
+        serve_allocate(cache, node, writer, piece)?;
+        return Ok(None);
+    }
     serve_other(alloc, cache, line, writer, piece)
 }
 
-// Serves one line that asks for no page. A call is served as it was read, since a command that holds it would be one more copy of all
+// Serves one line that asks for another call, or for none. A call is served as it was read, since a command that holds it would be one more copy of all
 // that it holds.
 fn serve_other<L: Log, W: Write>(
     alloc: Global,

@@ -5,7 +5,7 @@ use Rattle.sled_pagecache.specs.Token.{pid_of, stamp_of}
 use Rattle.sledpc.specs.Asked.{AreTwo}
 use Rattle.sledpc.specs.Words.{bytes_word}
 use Rattle.sledpc.proofs.Commands.{set_asked, two_once, are_words, token_rest, token_joined}
-use Rattle.sledpc.proofs.script.command.set_of.Goals as goal
+use Rattle.sledpc.proofs.script.command.set_behind.Goals as goal
 
 pub returns-in_default-clause-none : goal.returns-in_default-clause-none
 returns-in_default-clause-none c = λ call asked.

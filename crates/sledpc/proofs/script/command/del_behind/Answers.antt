@@ -5,7 +5,7 @@ use Rattle.std.specs.Option.{option_map}
 use Rattle.sled_pagecache.specs.Token.{pid_of, stamp_of}
 use Rattle.sledpc.specs.Words.{bytes_word}
 use Rattle.sledpc.proofs.Commands.{del_asked, token_rest, token_joined}
-use Rattle.sledpc.proofs.script.command.del_of.Goals as goal
+use Rattle.sledpc.proofs.script.command.del_behind.Goals as goal
 
 pub returns-in_default-clause-none : goal.returns-in_default-clause-none
 returns-in_default-clause-none c = λ call asked.
