@@ -69,6 +69,3 @@ pub const MAX_PID_BITS: u32 = 37;
 
 // the greatest number of pages
 const MAX_PAGES: usize = 1 << MAX_PID_BITS;
-
-#[cfg(test)]
-mod tests;

@@ -10,10 +10,12 @@ mod id_law;
 mod ids;
 mod many_names;
 mod memory;
+mod pages;
 mod prefixes;
 mod reads;
 mod recovery;
 mod roots;
+mod told;
 mod trees;
 mod writes;
 
@@ -48,6 +50,13 @@ fn open(alloc: Global, config: Config) -> Result<Cache, (Error, MemLog)> {
 
 fn opened(alloc: Global) -> Result<Cache, Fail> {
     Ok(open(alloc, CONFIG).map_err(|(error, _)| error)?)
+}
+
+// A cache over a new log, where payloads above so many bytes are blobs.
+fn started(alloc: Global, blob_limit: usize) -> Result<Cache, Fail> {
+    let log = MemLog::new(alloc, blob_limit, 16);
+    let cache = PageCache::start(alloc, CONFIG, log).map_err(|(error, _)| error);
+    Ok(cache?)
 }
 
 fn set(alloc: Global, key: &[u8], value: &[u8]) -> Result<Link, AllocError> {

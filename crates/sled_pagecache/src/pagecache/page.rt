@@ -24,8 +24,6 @@ pub struct CacheInfo {
 
 /// A page of the cache: its stamp, where the log keeps the messages that make it, and what it holds, where that lies in
 /// memory.
-///
-/// The cache alone makes one.
 #[derive(Debug, Drop)]
 pub struct Page {
     pub(super) stamp: u64,
@@ -203,6 +201,3 @@ fn place(info: CacheInfo) -> (Lsn, DiskPtr, u64)
 {
     (info.lsn, info.pointer, info.log_size)
 }
-
-#[cfg(test)]
-mod tests;

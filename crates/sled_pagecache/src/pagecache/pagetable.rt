@@ -56,8 +56,8 @@ impl PageTable {
         }
     }
 
-    // How many pages there are, which is as many as there may be or fewer.
-    pub(super) fn len(&self) -> usize
+    /// How many pages there are, which is as many as there may be or fewer.
+    pub fn len(&self) -> usize
         ensures number { result ≡ length self.now.pages }
         ensures few { result ≤ most_pages }
     {
@@ -67,8 +67,19 @@ impl PageTable {
         }
     }
 
-    // Makes room for one more page, which can then be put in without memory.
-    pub(super) fn reserve(&mut self) -> Result<(), AllocError>
+    /// For how many pages there is room without more memory.
+    pub fn capacity(&self) -> usize
+        ensures { length self.now.pages ≤ result }
+    {
+        let spare = match self.chunks.last() {
+            Some(last) => last.capacity() - last.len(),
+            None => 0,
+        };
+        self.len().saturating_add(spare)
+    }
+
+    /// Makes room for one more page, which can then be put in without memory. The only error is out of memory.
+    pub fn reserve(&mut self) -> Result<(), AllocError>
         ensures same { self.new.pages ≡ self.old.pages }
         ensures room { OnOk result (self.new.room ≡ true) }
         ensures always { self.old.room ≡ true → IsOk result }
@@ -113,8 +124,8 @@ impl PageTable {
         chunks.get(left)?.get(right)
     }
 
-    // The page at an id, to be changed in its place.
-    pub(super) fn get_mut(&mut self, pid: PageId) -> &mut Page
+    /// The page at an id, to be changed in its place.
+    pub fn get_mut(&mut self, pid: PageId) -> &mut Page
         requires { pid < length self.old.pages }
         ensures* lends { sem 𝓛 (LendsPage self.entry pid result) }
         ensures page { slice_get self.old.pages pid ≡ Some result.now }
@@ -180,6 +191,3 @@ fn is_last_open(chunks: &[Vec<Page>]) -> bool
         None => false,
     }
 }
-
-#[cfg(test)]
-mod tests;

@@ -156,6 +156,3 @@ pub(super) fn pull_and_link<L: Log>(
     }
     outcome
 }
-
-#[cfg(test)]
-mod tests;

@@ -91,6 +91,3 @@ pub(super) fn whole<T: Serialize>(found: &Found, alloc: Global) -> Result<T, Ref
         _ => Err(Refusal::Corruption(Some(found.pointer))),
     }
 }
-
-#[cfg(test)]
-mod tests;

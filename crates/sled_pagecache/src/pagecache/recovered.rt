@@ -28,7 +28,7 @@ pub(super) fn recovered_pages(alloc: Global, states: &[PageState]) -> Result<Pag
 {
     let mut pages = PageTable::default(alloc);
     for (pid, state) in states.iter().enumerate() {
-        let page = recovered_page(alloc, state)?;
+        let page = Page::from_state(alloc, state)?;
         pages
             .insert(pid as PageId, page)
             .map_err(|refused| refused.1)?;
@@ -36,25 +36,27 @@ pub(super) fn recovered_pages(alloc: Global, states: &[PageState]) -> Result<Pag
     Ok(pages)
 }
 
-// A page of which the content doesn't lie in memory, at stamp 0.
-pub(super) fn recovered_page(alloc: Global, state: &PageState) -> Result<Page, AllocError>
-    ensures { IfOk result (IsRecovered state.now) }
-{
-    match state {
-        PageState::Free(lsn, pointer) => {
-            let mut infos = Vec::with_capacity(alloc, 1)?;
-            infos.push_reserved(info_at((*lsn, *pointer, MAX_MSG_HEADER_LEN)));
-            Ok(Page {
+impl Page {
+    /// The page that a log says, of which the content doesn't lie in memory, at stamp 0. The only error is out of memory.
+    pub fn from_state(alloc: Global, state: &PageState) -> Result<Page, AllocError>
+        ensures { IfOk result (IsRecovered state.now) }
+    {
+        match state {
+            PageState::Free(lsn, pointer) => {
+                let mut infos = Vec::with_capacity(alloc, 1)?;
+                infos.push_reserved(info_at((*lsn, *pointer, MAX_MSG_HEADER_LEN)));
+                Ok(Page {
+                    stamp: 0,
+                    infos,
+                    kept: Kept::Free,
+                })
+            }
+            PageState::Present { base, frags } => Ok(Page {
                 stamp: 0,
-                infos,
-                kept: Kept::Free,
-            })
+                infos: infos_of(alloc, *base, frags)?,
+                kept: Kept::Away,
+            }),
         }
-        PageState::Present { base, frags } => Ok(Page {
-            stamp: 0,
-            infos: infos_of(alloc, *base, frags)?,
-            kept: Kept::Away,
-        }),
     }
 }
 
@@ -124,6 +126,3 @@ pub(super) fn free_of(alloc: Global, pages: &PageTable) -> Result<FreeIds, Alloc
     }
     Ok(free)
 }
-
-#[cfg(test)]
-mod tests;

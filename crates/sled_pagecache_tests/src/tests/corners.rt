@@ -188,12 +188,6 @@ fn is_linked(
 
 // ---- a page from its beginning to its end
 
-fn started(alloc: Global, blob_limit: usize) -> Result<Cache, Fail> {
-    let log = MemLog::new(alloc, blob_limit, 16);
-    let cache = PageCache::start(alloc, CONFIG, log).map_err(|(error, _)| error);
-    Ok(cache?)
-}
-
 // How many bytes the log has that holds two system pages and the node.
 fn size_with(alloc: Global, node: &Node) -> Result<u64, AllocError> {
     let payload = node.serialize(alloc)?;

@@ -67,15 +67,20 @@ pub(super) fn takes_links(alloc: Global, cache: &mut Cache, links: u32) -> Resul
 
 // The log of a new cache with page 2 and so many links on it, all flushed.
 fn flushed(alloc: Global, links: u32) -> Result<Option<MemLog>, Fail> {
-    let mut cache = opened(alloc)?;
+    flushed_at(alloc, 512, links)
+}
+
+// The same, where payloads above so many bytes are blobs.
+fn flushed_at(alloc: Global, blob_limit: usize, links: u32) -> Result<Option<MemLog>, Fail> {
+    let mut cache = started(alloc, blob_limit)?;
     let written = adds_leaf(alloc, &mut cache, 2) && takes_links(alloc, &mut cache, links)?;
     let _ = cache.flush()?;
     Ok(log_if(cache, written))
 }
 
 // How often the log of a page with three links was read, once it was opened again and page 2 was asked for so often.
-fn reads_after(alloc: Global, gets: usize) -> Result<Option<u64>, Fail> {
-    let Some(log) = flushed(alloc, 3)? else {
+fn reads_after(alloc: Global, blob_limit: usize, gets: usize) -> Result<Option<u64>, Fail> {
+    let Some(log) = flushed_at(alloc, blob_limit, 3)? else {
         return Ok(None);
     };
     let Some(mut cache) = reopened(alloc, log) else {
@@ -92,10 +97,16 @@ fn reads_after(alloc: Global, gets: usize) -> Result<Option<u64>, Fail> {
 #[test]
 fn a_page_is_read_once(rt: HostRuntime) -> Result<(), Fail> {
     let alloc = rt.alloc();
-    // the two system pages
-    assert_eq!(rt; reads_after(alloc, 0)?, Some(2));
-    assert_eq!(rt; reads_after(alloc, 1)?, Some(6));
-    assert_eq!(rt; reads_after(alloc, 2)?, Some(6));
+    for blob_limit in [512, 4] {
+        // two of the reads are of the system pages
+        for (gets, reads) in [(0, 2), (1, 6), (2, 6)] {
+            assert_eq!(rt;
+                reads_after(alloc, blob_limit, gets)?,
+                Some(reads),
+                "{gets} gets over {blob_limit} bytes"
+            );
+        }
+    }
     Ok(())
 }
 

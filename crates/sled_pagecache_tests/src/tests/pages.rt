@@ -1,29 +1,76 @@
-ghost use Rattle.std.specs.Prelude.{◌≡◌, ◌+◌, ◌<◌, ◌≤◌, length, slice_get, IfOk};
-ghost use Rattle.std.specs.Option.{option_map};
+// Pages as a log says them, and the table that keeps pages by their ids.
+
+ghost use Rattle.std.specs.Prelude.{◌≡◌, ◌+◌, ◌<◌, ◌≤◌, length, IfOk};
 ghost use Rattle.sled_pagecache.specs.Limits.{most_pages};
 
-use super::super::page::{CacheInfo, Kept};
 use super::*;
-use sled_base::DiskPtr;
-use std::test::Fail;
+use sled_pagecache::{CacheInfo, Page, PageTable, split_fanout};
 
-// A page at a stamp.
-fn page(alloc: Global, stamp: u64) -> Result<Page, AllocError>
-    ensures { IfOk result (λ page. page.stamp ≡ stamp) }
-{
-    Ok(Page {
-        stamp,
-        infos: Vec::from_array(
-            alloc,
-            [CacheInfo {
-                ts: stamp,
-                lsn: 0,
-                pointer: DiskPtr::Inline(0),
-                log_size: 25,
-            }],
-        )?,
-        kept: Kept::Free,
+// ---- a page of two messages, and a free one
+
+const FIRST: CacheInfo = CacheInfo {
+    ts: 0,
+    lsn: 0,
+    pointer: DiskPtr::Inline(0),
+    log_size: 25,
+};
+
+const SECOND: CacheInfo = CacheInfo {
+    ts: 0,
+    lsn: 25,
+    pointer: DiskPtr::Blob(25, 25),
+    log_size: 22,
+};
+
+fn two_messages(alloc: Global) -> Result<PageState, AllocError> {
+    Ok(PageState::Present {
+        base: (0, DiskPtr::Inline(0), 25),
+        frags: Vec::from_array(alloc, [(25, DiskPtr::Blob(25, 25), 22)])?,
     })
+}
+
+// Whether the page has this chain, of so many bytes, and ends at this lsn.
+fn has_chain(page: &Page, chain: &[CacheInfo], bytes: u64, last: Lsn, is_free: bool) -> bool {
+    page.cache_infos() == chain
+        && page.log_size() == bytes
+        && page.last_lsn() == last
+        && page.is_free() == is_free
+}
+
+// Whether a copy of the page that is said so is said so again.
+fn is_said_again(alloc: Global, state: &PageState) -> Result<bool, AllocError> {
+    let copy = Page::from_state(alloc, state)?.clone()?;
+    Ok(copy.to_page_state(alloc)? == *state)
+}
+
+#[test]
+fn a_page_reports_its_chain(rt: HostRuntime) -> Result<(), Fail> {
+    let alloc = rt.alloc();
+    let page = Page::from_state(alloc, &two_messages(alloc)?)?;
+    assert!(rt; has_chain(&page, &[FIRST, SECOND], 47, 25, false));
+    let free = Page::from_state(alloc, &PageState::Free(9, DiskPtr::Inline(9)))?;
+    let freed = CacheInfo {
+        ts: 0,
+        lsn: 9,
+        pointer: DiskPtr::Inline(9),
+        log_size: 17,
+    };
+    assert!(rt; has_chain(&free, &[freed], 17, 9, true));
+    Ok(())
+}
+
+#[test]
+fn a_page_is_said_by_its_chain(rt: HostRuntime) -> Result<(), Fail> {
+    let alloc = rt.alloc();
+    assert!(rt; is_said_again(alloc, &two_messages(alloc)?)?);
+    assert!(rt; is_said_again(alloc, &PageState::Free(0, DiskPtr::Inline(0)))?);
+    Ok(())
+}
+
+// ---- a table of free pages, each with the lsn of its id
+
+fn page(alloc: Global, lsn: Lsn) -> Result<Page, AllocError> {
+    Page::from_state(alloc, &PageState::Free(lsn, DiskPtr::Inline(0)))
 }
 
 // Puts a page in at an id, a second time where memory was wanting the first time.
@@ -38,23 +85,21 @@ fn put_in(table: &mut PageTable, pid: PageId, page: Page) -> Result<(), AllocErr
     table.insert(pid, page).map_err(|refused| refused.1)
 }
 
-// A table of so many pages, each at the stamp of its id.
+// A table of so many pages.
 fn table_of(alloc: Global, count: u64) -> Result<PageTable, AllocError>
     requires { count ≤ most_pages }
     ensures { IfOk result (λ table. length table.pages ≡ count) }
 {
     let mut table = PageTable::default(alloc);
     for pid in 0..count {
-        put_in(&mut table, pid, page(alloc, pid)?)?;
+        put_in(&mut table, pid, page(alloc, pid as Lsn)?)?;
     }
     Ok(table)
 }
 
-// The stamp of the page at an id, if there is one.
-fn stamp_at(table: &PageTable, pid: PageId) -> Option<u64>
-    ensures { result ≡ option_map (λ page. page.stamp) (slice_get table.now.pages pid) }
-{
-    table.get(pid).map(|page| page.stamp)
+// The lsn of the page at an id, if there is one.
+fn lsn_at(table: &PageTable, pid: PageId) -> Option<Lsn> {
+    table.get(pid).map(|page| page.last_lsn())
 }
 
 // Puts a page in the place of another, where there is one.
@@ -84,11 +129,11 @@ const IDS: [PageId; 14] = [
     u64::MAX,
 ];
 
-// The first of the ids at which a table of so many pages keeps anything but the page of that stamp, or none behind its end.
+// The first of the ids at which a table of so many pages keeps anything but the page of that lsn, or none behind its end.
 fn misplaced(table: &PageTable, count: u64) -> Option<PageId> {
     for pid in IDS {
-        let wanted = if pid < count { Some(pid) } else { None };
-        if stamp_at(table, pid) != wanted {
+        let wanted = if pid < count { Some(pid as Lsn) } else { None };
+        if lsn_at(table, pid) != wanted {
             return Some(pid);
         }
     }
@@ -124,8 +169,8 @@ fn a_page_is_changed_in_its_place(rt: HostRuntime) -> Result<(), Fail> {
     let mut table = table_of(alloc, (1 << 18) + 1)?;
     for pid in [0, 1, (1 << 18) - 1, 1 << 18] {
         put(&mut table, pid, page(alloc, 7)?);
-        assert_eq!(rt; stamp_at(&table, pid), Some(7), "stamp of page {pid}");
-        put(&mut table, pid, page(alloc, pid)?);
+        assert_eq!(rt; lsn_at(&table, pid), Some(7), "lsn of page {pid}");
+        put(&mut table, pid, page(alloc, pid as Lsn)?);
         assert_eq!(rt;
             misplaced(&table, (1 << 18) + 1),
             None,
@@ -141,7 +186,7 @@ fn a_page_goes_in_where_room_was_made(rt: HostRuntime) -> Result<(), Fail> {
     let mut table = PageTable::default(alloc);
     table.reserve()?;
     assert!(rt; table.insert(0, page(alloc, 5)?).is_ok());
-    assert_eq!(rt; stamp_at(&table, 0), Some(5));
+    assert_eq!(rt; lsn_at(&table, 0), Some(5));
     Ok(())
 }
 
@@ -150,11 +195,7 @@ fn a_page_goes_in_where_room_was_made(rt: HostRuntime) -> Result<(), Fail> {
 fn few_pages_take_little_room(rt: HostRuntime) -> Result<(), Fail> {
     for (count, most) in [(1, 16), (17, 64), (1000, 2048)] {
         let table = table_of(rt.alloc(), count)?;
-        let room = table.chunks.iter().map(|chunk| chunk.capacity()).max();
-        assert!(rt;
-            room.is_some_and(|room| room <= most),
-            "room of {count} pages"
-        );
+        assert!(rt; table.capacity() <= most, "room of {count} pages");
     }
     Ok(())
 }

@@ -1,6 +1,6 @@
 use Rattle.sled_pagecache.proofs.Names.{◌∷◌, length, map, sym, ◌∙◌, ap, stamps_to, CacheInfo}
 use Rattle.sled_pagecache.proofs.Stamping.{stamps-none}
-use Rattle.sled_pagecache.proofs.pagecache.recovered.recovered_page.Goals as goal
+use Rattle.sled_pagecache.proofs.pagecache.page.Page.from_state.Goals as goal
 
 pub invariant_of-result-in-Present-clause-stamped : goal.invariant_of-result-in-Present-clause-stamped
 invariant_of-result-in-Present-clause-stamped c =
