@@ -69,13 +69,9 @@ size-link infos page info payload after is = ap capped (by (nat_lt (length infos
     by true = let last = sum_by_push (λ (info : CacheInfo). info.log_size) infos info in omega (arith, last, is)
     by false = let one = sum_by-cons (λ (info : CacheInfo). info.log_size) info [] in omega (arith, one, is)
 
--- the same, where so many messages make the page
-pub linked-size : (lent infos : List CacheInfo) (messages : ℕ) (link : NodeLink) (node : WholeNode) (page : Page) (info : CacheInfo) → lent ≡ infos → messages ≡ length infos
-    → page.infos.items ≡ infos_after infos info → info.log_size ≡ head_size + length (message_of (link_update messages link node)).payload
-    → capped (size_linked lent (length (message_of (link_update (length lent) link node)).payload)) ≡ access_size page
-linked-size lent infos messages link node page info same count after is =
-    ap (λ (l : List CacheInfo). capped (size_linked l (length (message_of (link_update (length l) link node)).payload))) same
-    ∙ size-link infos page info (length (message_of (link_update (length infos) link node)).payload) after (is ∙ ap (λ n. head_size + length (message_of (link_update n link node)).payload) count)
+-- the same, of what is lent
+pub linked-size : (lent infos : List CacheInfo) (payload : ℕ) (page : Page) (info : CacheInfo) → lent ≡ infos → page.infos.items ≡ infos_after infos info → info.log_size ≡ head_size + payload → capped (size_linked lent payload) ≡ access_size page
+linked-size lent infos payload page info same after is = ap (λ (l : List CacheInfo). capped (size_linked l payload)) same ∙ size-link infos page info payload after is
 
 pub capped-total : (size total : ℕ) → total ≡ min size (2 ^ 64 - 1) → capped total ≡ capped size
 capped-total size total is = omega (arith, is)

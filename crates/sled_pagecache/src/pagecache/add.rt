@@ -66,10 +66,11 @@ pub(super) fn add_page<L: Log>(
     let Ok(mut infos) = Vec::with_capacity(alloc, 1) else {
         return Err(Refusal::OutOfMemory);
     };
-    let Ok(()) = accesses.access(pid, size_with(0, node.serialized_size())) else {
+    let size = node.serialized_size();
+    let Ok(()) = accesses.access(pid, size_with(0, size)) else {
         return Err(Refusal::OutOfMemory);
     };
-    let info = write_node(alloc, sticky_log, pid, &node, 1)?;
+    let info = write_node(alloc, sticky_log, pid, &node, size, 1)?;
     infos.push_reserved(info);
     pages.push_reserved(Page {
         stamp: 1,

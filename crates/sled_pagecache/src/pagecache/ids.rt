@@ -92,19 +92,21 @@ pub(super) fn put_counter<L: Log>(
     let Ok(()) = accesses.access(COUNTER_PID, size_with(0, payload)) else {
         return Err(Refusal::OutOfMemory);
     };
-    let info = write_durably(alloc, sticky_log, n, page.stamp + 1)?;
+    let info = write_durably(alloc, sticky_log, n, payload, page.stamp + 1)?;
     page.kept = Kept::Counter(n);
     keep_alone(page, info);
     Ok(())
 }
 
-// Writes a counter to the log, and makes that and all that is pending stable. It answers how the message is kept, at that stamp.
+// Writes a counter to the log, in so many bytes, and makes that and all that is pending stable. It answers how the message is kept, at that stamp.
 fn write_durably<L: Log>(
     alloc: Global,
     sticky_log: &mut StickyLog<L>,
     n: u64,
+    size: u64,
     stamp: u64,
 ) -> Result<CacheInfo, Refusal>
+    requires sized { size ≡ length (message_of (contents.Put (contents.Counter n))).payload }
     requires ready { sticky_log.old.fault ≡ false }
     requires usable { (L.state sticky_log.old.log).usable ≡ true }
     requires closed { is_open (L.state sticky_log.old.log).pending ≡ false }
@@ -112,7 +114,8 @@ fn write_durably<L: Log>(
     ensures wrote { Wrote L.tells L.state L.moment L.left_since L.counts L.is_full sticky_log.old sticky_log.new counter_pid (contents.Put (contents.Counter n)) stamp result }
     ensures stable { OnOk result ((L.state sticky_log.new.log).pending ≡ []) }
 {
-    let info = write_kept(alloc, sticky_log, COUNTER_PID, &Kept::Counter(n), stamp)?;
+    let counter = Kept::Counter(n);
+    let info = write_kept(alloc, sticky_log, COUNTER_PID, &counter, size, stamp)?;
     sticky_log.make_stable()?;
     Ok(info)
 }

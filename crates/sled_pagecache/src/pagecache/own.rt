@@ -23,7 +23,7 @@ use super::recovered::is_misfit;
 use super::sticky_log::StickyLog;
 use super::write::{write_counter, write_roots};
 use super::{COUNTER_PID, META_PID};
-use sled_base::{Bug, MessageKind, PageId, Refusal};
+use sled_base::{Bug, MessageKind, PageId, Refusal, Serialize};
 use sled_log::Log;
 use sled_node::Meta;
 use std::alloc::Global;
@@ -141,7 +141,8 @@ pub(super) fn add_roots<L: Log>(
         return Err(Refusal::OutOfMemory);
     };
     let roots = Meta::default(alloc);
-    let info = write_roots(alloc, sticky_log, META_PID, &roots, 1)?;
+    let size = roots.serialized_size();
+    let info = write_roots(alloc, sticky_log, META_PID, &roots, size, 1)?;
     infos.push_reserved(info);
     pages.push_reserved(Page {
         stamp: 1,

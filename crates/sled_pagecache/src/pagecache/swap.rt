@@ -74,7 +74,7 @@ pub(super) fn put_page<L: Log>(
     let Ok(()) = accesses.access(pid, size_with(0, payload)) else {
         return Err(Refusal::OutOfMemory);
     };
-    let info = write_kept(alloc, sticky_log, pid, &kept, page.stamp + 1)?;
+    let info = write_kept(alloc, sticky_log, pid, &kept, payload, page.stamp + 1)?;
     page.kept = kept;
     keep_alone(page, info);
     Ok(())
@@ -193,12 +193,14 @@ pub(super) fn link_page<L: Log>(
     let Ok(()) = prepare(&mut page.infos, node, link) else {
         return Err(Refusal::OutOfMemory);
     };
-    let Ok(()) = access_linked(accesses, pid, &page.infos, node, link) else {
+    let messages = page.infos.len();
+    let size = linked_size(messages, node, link);
+    let Ok(()) = access_linked(accesses, pid, &page.infos, size) else {
         page.kept = Kept::Away;
         return Err(Refusal::OutOfMemory);
     };
-    let messages = page.infos.len();
-    match write_linked(alloc, sticky_log, pid, messages, node, link, page.stamp + 1) {
+    let stamp = page.stamp + 1;
+    match write_linked(alloc, sticky_log, pid, messages, node, link, size, stamp) {
         Ok(info) => {
             keep_linked(page, info);
             Ok(())
@@ -256,25 +258,34 @@ fn make_room(infos: &mut Vec<CacheInfo>) -> Result<(), AllocError>
     infos.reserve_exact(more)
 }
 
-// Accesses a page with what its messages will take: the link beside them, or the node that it made where they are as many as may be.
+// In how many bytes a link is written, or the node that it made where so many messages make the page as may be.
+fn linked_size(messages: usize, node: &Node, link: &Link) -> u64
+    requires { CanWriteLink link.now }
+    ensures { result ≡ length (message_of (link_update messages link.now node.now)).payload }
+{
+    if messages < PAGE_CONSOLIDATION_THRESHOLD {
+        return link.serialized_size();
+    }
+    node.serialized_size()
+}
+
+// Accesses a page with what its messages will take: such a payload beside them, or alone where they are as many as may be.
 fn access_linked(
     accesses: &mut Accesses,
     pid: PageId,
     infos: &[CacheInfo],
-    node: &Node,
-    link: &Link,
+    payload: u64,
 ) -> Result<(), Refusal>
-    requires { CanWriteLink link.now }
-    ensures accessed { OnOk result (WasAccessed accesses.old pid (capped (size_linked infos.now (length (message_of (link_update (length infos.now) link.now node.now)).payload))) accesses.new) }
+    ensures accessed { OnOk result (WasAccessed accesses.old pid (capped (size_linked infos.now payload)) accesses.new) }
     ensures err { OnErr result (accesses.new ≡ accesses.old) }
 {
     if infos.len() < PAGE_CONSOLIDATION_THRESHOLD {
-        return accesses.access(pid, size_with(total_size(infos), link.serialized_size()));
+        return accesses.access(pid, size_with(total_size(infos), payload));
     }
-    accesses.access(pid, size_with(0, node.serialized_size()))
+    accesses.access(pid, size_with(0, payload))
 }
 
-// Writes a link to the log, or the node that it made where so many messages make the page as may be.
+// Writes a link to the log, or the node that it made where so many messages make the page as may be, in so many bytes.
 fn write_linked<L: Log>(
     alloc: Global,
     sticky_log: &mut StickyLog<L>,
@@ -282,9 +293,11 @@ fn write_linked<L: Log>(
     messages: usize,
     node: &Node,
     link: &Link,
+    size: u64,
     stamp: u64,
 ) -> Result<CacheInfo, Refusal>
     requires can_write { CanWriteLink link.now }
+    requires sized { size ≡ length (message_of (link_update messages link.now node.now)).payload }
     requires ready { sticky_log.old.fault ≡ false }
     requires usable { (L.state sticky_log.old.log).usable ≡ true }
     requires there { L.tells → pid < length (now effect_of_entry (L.state sticky_log.old.log)) }
@@ -292,7 +305,7 @@ fn write_linked<L: Log>(
     ensures { Wrote L.tells L.state L.moment L.left_since L.counts L.is_full sticky_log.old sticky_log.new pid (link_update messages link.now node.now) stamp result }
 {
     if messages < PAGE_CONSOLIDATION_THRESHOLD {
-        return write_link(alloc, sticky_log, pid, link, stamp);
+        return write_link(alloc, sticky_log, pid, link, size, stamp);
     }
-    write_node(alloc, sticky_log, pid, node, stamp)
+    write_node(alloc, sticky_log, pid, node, size, stamp)
 }

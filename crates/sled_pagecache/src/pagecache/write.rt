@@ -28,14 +28,16 @@ use std::alloc::Global;
 // A payload of at most so many bytes is made without an allocation.
 const SHORT_PAYLOAD: usize = 256;
 
-// Writes a node to the log as the content of a page, and answers how it is kept, at that stamp.
+// Writes a node to the log as the content of a page, in so many bytes, and answers how it is kept, at that stamp.
 pub(super) fn write_node<L: Log>(
     alloc: Global,
     sticky_log: &mut StickyLog<L>,
     pid: PageId,
     node: &Node,
+    size: u64,
     stamp: u64,
 ) -> Result<CacheInfo, Refusal>
+    requires sized { size ≡ length (message_of (contents.Put (contents.Node node.now))).payload }
     requires ready { sticky_log.old.fault ≡ false }
     requires usable { (L.state sticky_log.old.log).usable ≡ true }
     requires can { L.tells → can_append effect_of_entry (now effect_of_entry (L.state sticky_log.old.log)) pid (message_of (contents.Put (contents.Node node.now))).kind ≡ true }
@@ -50,21 +52,30 @@ pub(super) fn write_node<L: Log>(
     ensures same { L.tells → OnErr result (sticky_log.new.fault ≡ false → now effect_of_entry (L.state sticky_log.new.log) ≡ now effect_of_entry (L.state sticky_log.old.log)) }
     ensures sized { L.tells → OnOk result (AllByRecursion IsSized (now effect_of_entry (L.state sticky_log.new.log))) }
 {
-    // Every node is well-formed, and its size has 64 bits.
+    // Every node is well-formed.
     let _ = node.data();
-    let _ = node.serialized_size();
-    write(alloc, sticky_log, MessageKind::InlineNode, pid, node, stamp)
+    write(
+        alloc,
+        sticky_log,
+        MessageKind::InlineNode,
+        pid,
+        node,
+        size,
+        stamp,
+    )
 }
 
-// Writes a link to the log, and answers how it is kept, at that stamp.
+// Writes a link to the log, in so many bytes, and answers how it is kept, at that stamp.
 pub(super) fn write_link<L: Log>(
     alloc: Global,
     sticky_log: &mut StickyLog<L>,
     pid: PageId,
     link: &Link,
+    size: u64,
     stamp: u64,
 ) -> Result<CacheInfo, Refusal>
     requires short { CanWriteLink link.now }
+    requires sized { size ≡ length (message_of (contents.Link link.now)).payload }
     requires ready { sticky_log.old.fault ≡ false }
     requires usable { (L.state sticky_log.old.log).usable ≡ true }
     requires can { L.tells → can_append effect_of_entry (now effect_of_entry (L.state sticky_log.old.log)) pid (message_of (contents.Link link.now)).kind ≡ true }
@@ -79,31 +90,40 @@ pub(super) fn write_link<L: Log>(
     ensures same { L.tells → OnErr result (sticky_log.new.fault ≡ false → now effect_of_entry (L.state sticky_log.new.log) ≡ now effect_of_entry (L.state sticky_log.old.log)) }
     ensures sized { L.tells → OnOk result (AllByRecursion IsSized (now effect_of_entry (L.state sticky_log.new.log))) }
 {
-    write(alloc, sticky_log, MessageKind::InlineLink, pid, link, stamp)
+    write(
+        alloc,
+        sticky_log,
+        MessageKind::InlineLink,
+        pid,
+        link,
+        size,
+        stamp,
+    )
 }
 
-// Writes a root map to the log as the content of a page, and answers how it is kept, at that stamp.
+// Writes a root map to the log as the content of a page, in so many bytes, and answers how it is kept, at that stamp.
 pub(super) fn write_roots<L: Log>(
     alloc: Global,
     sticky_log: &mut StickyLog<L>,
     pid: PageId,
     roots: &Meta,
+    size: u64,
     stamp: u64,
 ) -> Result<CacheInfo, Refusal>
     requires can_write { IsRootMap roots.now }
+    requires sized { size ≡ length (message_of (contents.Put (contents.Roots roots.now))).payload }
     requires ready { sticky_log.old.fault ≡ false }
     requires usable { (L.state sticky_log.old.log).usable ≡ true }
     requires there { L.tells → pid ≤ length (now effect_of_entry (L.state sticky_log.old.log)) }
     ensures { Wrote L.tells L.state L.moment L.left_since L.counts L.is_full sticky_log.old sticky_log.new pid (contents.Put (contents.Roots roots.now)) stamp result }
 {
-    // Its size has 64 bits.
-    let _ = roots.serialized_size();
     write(
         alloc,
         sticky_log,
         MessageKind::InlineMeta,
         pid,
         roots,
+        size,
         stamp,
     )
 }
@@ -121,9 +141,15 @@ pub(super) fn write_counter<L: Log>(
     requires there { L.tells → pid ≤ length (now effect_of_entry (L.state sticky_log.old.log)) }
     ensures { Wrote L.tells L.state L.moment L.left_since L.counts L.is_full sticky_log.old sticky_log.new pid (contents.Put (contents.Counter n)) stamp result }
 {
-    // Its size has 64 bits.
-    let _ = n.serialized_size();
-    write(alloc, sticky_log, MessageKind::Counter, pid, &n, stamp)
+    write(
+        alloc,
+        sticky_log,
+        MessageKind::Counter,
+        pid,
+        &n,
+        n.serialized_size(),
+        stamp,
+    )
 }
 
 // Writes to the log that a page is free, and answers how that is kept, at that stamp.
@@ -138,43 +164,46 @@ fn write_free<L: Log>(
     requires there { L.tells → pid < length (now effect_of_entry (L.state sticky_log.old.log)) }
     ensures { Wrote L.tells L.state L.moment L.left_since L.counts L.is_full sticky_log.old sticky_log.new pid (contents.Put contents.Free) stamp result }
 {
-    write(alloc, sticky_log, MessageKind::Free, pid, &(), stamp)
+    write(alloc, sticky_log, MessageKind::Free, pid, &(), 0, stamp)
 }
 
-// Writes what is put on a page, and answers how it is kept, at that stamp.
+// Writes what is put on a page, in so many bytes, and answers how it is kept, at that stamp.
 pub(super) fn write_kept<L: Log>(
     alloc: Global,
     sticky_log: &mut StickyLog<L>,
     pid: PageId,
     kept: &Kept,
+    size: u64,
     stamp: u64,
 ) -> Result<CacheInfo, Refusal>
     requires can_write { CanPut kept.now }
+    requires sized { size ≡ length (message_of (contents.Put (content_of kept.now))).payload }
     requires ready { sticky_log.old.fault ≡ false }
     requires usable { (L.state sticky_log.old.log).usable ≡ true }
     requires there { L.tells → pid < length (now effect_of_entry (L.state sticky_log.old.log)) }
     ensures { Wrote L.tells L.state L.moment L.left_since L.counts L.is_full sticky_log.old sticky_log.new pid (contents.Put (content_of kept.now)) stamp result }
 {
     match kept {
-        Kept::Node(node) => write_node(alloc, sticky_log, pid, node, stamp),
-        Kept::Roots(roots) => write_roots(alloc, sticky_log, pid, roots, stamp),
+        Kept::Node(node) => write_node(alloc, sticky_log, pid, node, size, stamp),
+        Kept::Roots(roots) => write_roots(alloc, sticky_log, pid, roots, size, stamp),
         Kept::Counter(n) => write_counter(alloc, sticky_log, pid, *n, stamp),
         Kept::Free => write_free(alloc, sticky_log, pid, stamp),
         Kept::Away => unreachable!(),
     }
 }
 
-// Writes a value to the log as a message of a page, and answers how it is kept, at that stamp.
+// Writes a value to the log as a message of a page, in so many bytes, and answers how it is kept, at that stamp.
 fn write<L: Log, T: Serialize>(
     alloc: Global,
     sticky_log: &mut StickyLog<L>,
     kind: MessageKind,
     pid: PageId,
     value: &T,
+    size: u64,
     stamp: u64,
 ) -> Result<CacheInfo, Refusal>
     requires can_write { T.can_write value.now }
-    requires fits { length (T.written value.now) < 2 ^ 64 }
+    requires sized { size ≡ length (T.written value.now) }
     requires ready { sticky_log.old.fault ≡ false }
     requires usable { (L.state sticky_log.old.log).usable ≡ true }
     requires can { L.tells → can_append effect_of_entry (now effect_of_entry (L.state sticky_log.old.log)) pid kind ≡ true }
@@ -188,7 +217,7 @@ fn write<L: Log, T: Serialize>(
     ensures same { L.tells → OnErr result (sticky_log.new.fault ≡ false → now effect_of_entry (L.state sticky_log.new.log) ≡ now effect_of_entry (L.state sticky_log.old.log)) }
     ensures sized { L.tells → OnOk result (AllByRecursion IsSized (now effect_of_entry (L.state sticky_log.new.log))) }
 {
-    let size = value.serialized_size() as usize;
+    let size = size as usize;
     if size <= SHORT_PAYLOAD {
         let mut room = [0; SHORT_PAYLOAD];
         let payload = &mut room[..size];

@@ -98,5 +98,5 @@ returns-clause-accessed g c =
     let alone : c.push_reserved.new.self.items ≡ done.info ∷ [] = only-one c.push_reserved.new.self.items c.in-Ok-with_capacity.infos.items done.info c.push_reserved.ensures.items c.in-Ok-with_capacity.ensures.items in
     accessed-added c.args.accesses.now c.access.new.self c.args.pages.now.pages c.reserve.new.self.pages c.push_reserved-2.new.self.pages _ c.len-pid.result at c.reserve.ensures.same c.push_reserved-2.ensures
     (subst (λ n. WasAccessed c.args.accesses.now c.len-pid.result n c.access.new.self)
-    (ap capped (c.size_with.ensures ∙ ap (λ n. min (0 + head_size + n) (2 ^ 64 - 1)) c.serialized_size.ensures) ∙ size-alone c.push_reserved.new.self.items done.info (length (message_of (Put (Node c.args.node))).payload) alone done.ensures.size.0)
+    (ap capped (c.size_with.ensures ∙ ap (λ n. min (0 + head_size + n) (2 ^ 64 - 1)) c.serialized_size-size.ensures) ∙ size-alone c.push_reserved.new.self.items done.info (length (message_of (Put (Node c.args.node))).payload) alone done.ensures.size.0)
     c.in-Ok-access.ensures.accessed)

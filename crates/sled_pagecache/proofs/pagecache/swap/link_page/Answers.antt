@@ -1,4 +1,4 @@
-use Rattle.sled_pagecache.proofs.Names.{[], ◌∷◌, length, ap, subst, ◌∙◌, inr, refl, rules, Update, Change, effect_of_entry, now, message_of, Went, Went-none, CacheInfo, infos_after, WasAccessed}
+use Rattle.sled_pagecache.proofs.Names.{[], ◌∷◌, ◌+◌, length, ap, subst, sym, ◌∙◌, inr, refl, rules, Update, Change, effect_of_entry, now, message_of, Went, Went-none, CacheInfo, infos_after, head_size, WasAccessed}
 use Rattle.sled_pagecache.specs.declared.pagecache.page.Kept.TheVariants as kept
 use Rattle.sled_pagecache.proofs.Sizes.{linked-size}
 use Rattle.sled_pagecache.proofs.Linked.{refuses-node, kept-away, kept-still, page-full, page-kept, page-others, update-is, infos-length, went-handed, cause-handed}
@@ -78,5 +78,5 @@ pub returns-in-Ok-write_linked-clause-accessed : goal.returns-in-Ok-write_linked
 returns-in-Ok-write_linked-clause-accessed g c =
     let done = c.in-Ok-write_linked in
     subst (λ n. WasAccessed c.args.accesses.now c.args.pid n c.access_linked.new.accesses)
-    (linked-size c.deref.result.now c.prepare.new.infos.items c.len-messages.result c.args.link.now c.prepare.new.node c.keep_linked.new.page done.info c.deref.ensures.value (search rules) c.keep_linked.ensures.infos done.ensures.size.0)
+    (linked-size c.deref.result.now c.prepare.new.infos.items c.linked_size-size.result c.keep_linked.new.page done.info c.deref.ensures.value c.keep_linked.ensures.infos (done.ensures.size.0 ∙ ap (λ n. head_size + n) (sym c.linked_size-size.ensures)))
     c.in-Ok-access_linked.ensures.accessed

@@ -4,8 +4,5 @@ use Rattle.sled_pagecache.proofs.pagecache.write.write_node.Goals as goal
 pub write-requires-clause-can_write : goal.write-requires-clause-can_write
 write-requires-clause-can_write g c = c.data.ensures.well_formed
 
-pub write-requires-clause-fits : goal.write-requires-clause-fits
-write-requires-clause-fits g c = subst (λ n. n < 2 ^ 64) c.serialized_size.ensures (search rules)
-
 pub returns-clause-is : goal.returns-clause-is
 returns-clause-is g c = written-update (Put (Node c.args.node.now)) c.data.ensures.well_formed
