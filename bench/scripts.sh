@@ -18,6 +18,8 @@ pages_1000000 nothing 1,000,000 allocations of empty pages
 pairs_10000 nothing 10,000 allocations with a pair
 pairs_100000 nothing 100,000 allocations with a pair
 pairs_1000000 nothing 1,000,000 allocations with a pair
+leaves_1000 nothing allocations of pages of 1,000 pairs
+leaves_8000 nothing allocations of pages of 8,000 pairs
 large_1000 leaf_1000 sets on a page of 1,000 pairs
 large_8000 leaf_8000 sets on a page of 8,000 pairs
 replies leaf_1000 gets of a page of 1,000 pairs
@@ -62,6 +64,8 @@ script_lines() {
     pages_*) repeated "${1#pages_}" 'alloc' ;;
     pairs_*) repeated "${1#pairs_}" 'alloc 61=62' ;;
     leaf_*) leaf "${1#leaf_}" ;;
+    leaves_1000) leaves 1000 "$((count / 1000))" ;;
+    leaves_8000) leaves 8000 "$((count / 8000))" ;;
     large_1000) large 1000 "$((count / 10))" ;;
     large_8000) large 8000 "$((count / 40))" ;;
     replies) repeated "$((count / 200))" 'get 2' ;;
@@ -197,6 +201,11 @@ replacements() {
 # leaf PAIRS: the allocation of a page of so many pairs, in one line
 leaf() {
     awk -v pairs="$1" 'BEGIN { printf "alloc"; for (i = 0; i < pairs; i++) printf " %04x=%02x", i, i % 256; printf "\n" }'
+}
+
+# leaves PAIRS LINES: the allocation of so many pages of so many pairs, in a line each
+leaves() {
+    leaf "$1" | awk -v n="$2" '{ for (i = 0; i < n; i++) print }'
 }
 
 # large PAIRS LINES: sets of the keys of page 2, which has so many pairs
