@@ -1,7 +1,8 @@
 // Caches over a log whose device tells nothing of its bytes: it gives the pages and the messages that it was told to give.
 
-ghost use Rattle.std.specs.Prelude.{⊤, ◌≡◌, ℕ, [], pos, true};
+ghost use Rattle.std.specs.Prelude.{⊤, ◌≡◌, ℕ, [], pos, false, true};
 ghost use Rattle.sled_log.specs.Calls.{one_more};
+ghost use Rattle.sled_log.specs.Marks.{marks};
 
 use super::*;
 
@@ -22,16 +23,20 @@ struct ToldLog {
     roots: Said,
     counter: Said,
     page: Option<Said>,
+    batch: bool,
     reads: u64,
 }
 
 impl ToldLog {
-    fn new(alloc: Global, roots: Said, counter: Said, page: Option<Said>) -> ToldLog {
+    fn new(alloc: Global, roots: Said, counter: Said, page: Option<Said>) -> ToldLog
+        ensures { result.batch ≡ false }
+    {
         ToldLog {
             alloc,
             roots,
             counter,
             page,
+            batch: false,
             reads: 0,
         }
     }
@@ -89,7 +94,7 @@ fn state_of(alloc: Global, pid: u64, said: Said) -> Result<PageState, AllocError
 impl Log for ToldLog {
     ghost tells = { ⊥ };
 
-    ghost state = { λ log. record { stable = []; pending = []; usable = true } };
+    ghost state = { λ log. record { stable = []; pending = marks log.batch; usable = true } };
 
     ghost moment = { λ log. 0 };
 
@@ -105,7 +110,7 @@ impl Log for ToldLog {
 
     ghost is_full = { λ _ _. ⊤ };
 
-    ghost is_full_for_batch = { λ _. ⊤ };
+    ghost is_full_for_batch = { λ _. ⊥ };
 
     ghost keeps_stable = { λ log told. absurd told };
 
@@ -140,14 +145,17 @@ impl Log for ToldLog {
     }
 
     fn pin(&mut self) -> Result<(), LogError> {
-        Err(LogError::Full)
+        self.batch = true;
+        Ok(())
     }
 
     fn seal(&mut self) -> Result<(), LogError> {
+        self.batch = false;
         Ok(())
     }
 
     fn cancel(&mut self) -> Result<(), LogError> {
+        self.batch = false;
         Ok(())
     }
 
@@ -162,7 +170,7 @@ impl Log for ToldLog {
     }
 
     fn batch_open(&self) -> bool {
-        false
+        self.batch
     }
 
     fn stable_offset(&self) -> Lsn {
