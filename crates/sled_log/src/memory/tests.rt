@@ -60,11 +60,11 @@ fn tells(log: &MemLog, bytes: &[u8], pointers: &[DiskPtr], kept: usize) -> Resul
     Ok(true)
 }
 
-// Whether no more than an eighth of the memory is spare, and room for eight.
+// Whether no more than an eighth of the memory is spare, and room for seven.
 fn spare_is_small(log: &MemLog) -> bool {
     let items = log.items.capacity() - log.items.len();
     let bytes = log.bytes.capacity() - log.bytes.len();
-    items <= log.items.len() / 8 + 8 && bytes <= log.bytes.len() / 8 + 8
+    items <= log.items.len() / 8 + 7 && bytes <= log.bytes.len() / 8 + 7
 }
 
 // Whether a log of so many messages tells each, and after a crash the first half.
