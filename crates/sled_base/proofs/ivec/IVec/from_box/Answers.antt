@@ -1,0 +1,6 @@
+use Rattle.std.proofs.Common.{rules}
+use Rattle.sled_base.proofs.ivec.IVec.from_box.Goals as goal
+
+-- A wrong body is refused at this answer, so that no offers are printed.
+pub returns-clause-ok : goal.returns-clause-ok
+returns-clause-ok c = search rules
