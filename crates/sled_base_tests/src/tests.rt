@@ -1,5 +1,4 @@
 mod dll;
-mod kinds;
 mod lru;
 mod plain;
 mod prefix;
@@ -44,6 +43,13 @@ const LONG: &[(&str, &[u8])] = &[
 
 // ---- where byte strings come from
 
+// The bytes of both, one behind the other.
+fn joined(alloc: Global, front: &[u8], back: &[u8]) -> Result<Vec<u8>, AllocError> {
+    let mut bytes = Vec::from_slice(alloc, front)?;
+    bytes.extend_from_slice(back)?;
+    Ok(bytes)
+}
+
 fn is_of(string: &IVec, bytes: &[u8]) -> bool {
     string.as_slice() == bytes
         && string.len() == bytes.len()
@@ -63,65 +69,73 @@ fn is_used(alloc: Global, string: IVec, bytes: &[u8]) -> Result<bool, AllocError
     Ok(string.into_arc(alloc)?.as_slice() == bytes && is_so)
 }
 
-fn comes_from_each(alloc: Global, bytes: &[u8]) -> Result<bool, Fail> {
-    let text = str::from_utf8(bytes).ok().ok_or("no text")?;
-    let boxed = Vec::from_slice(alloc, bytes)?.into_boxed_slice();
-    let from_box = is_used(alloc, IVec::from_box(alloc, boxed)?, bytes)?;
-    let shared = Arc::new(alloc, Vec::from_slice(alloc, bytes)?)?;
-    let from_arc = is_used(alloc, IVec::from_arc(alloc, shared)?, bytes)?;
-    let list = Vec::from_slice(alloc, bytes)?;
-    let from_vec = is_used(alloc, IVec::from_vec(alloc, list)?, bytes)?;
-    let from_iter = IVec::from_iter(alloc, bytes.iter().copied())?;
-    Ok(
-        is_used(alloc, from_iter, bytes)?
-            && is_used(alloc, IVec::from_slice(alloc, bytes)?, bytes)?
-            && is_used(alloc, IVec::from_str(alloc, text)?, bytes)?
-            && from_box
-            && from_arc
-            && from_vec,
-    )
+// What a byte string is made of.
+enum Source {
+    Box,
+    Arc,
+    Vec,
+    Iter,
+    Slice,
+    Str,
 }
 
-#[test]
-fn strings_come_from_all_that_has_bytes(rt: HostRuntime) -> Result<(), Fail> {
-    for rows in [SHORT, LONG] {
-        for (row, bytes) in rows {
-            assert!(rt; comes_from_each(rt.alloc(), bytes)?, "{row}");
+fn made(alloc: Global, source: &Source, bytes: &[u8]) -> Result<IVec, Fail> {
+    Ok(match source {
+        Source::Box => IVec::from_box(alloc, Vec::from_slice(alloc, bytes)?.into_boxed_slice())?,
+        Source::Arc => IVec::from_arc(alloc, Arc::new(alloc, Vec::from_slice(alloc, bytes)?)?)?,
+        Source::Vec => IVec::from_vec(alloc, Vec::from_slice(alloc, bytes)?)?,
+        Source::Iter => IVec::from_iter(alloc, bytes.iter().copied())?,
+        Source::Slice => IVec::from_slice(alloc, bytes)?,
+        Source::Str => IVec::from_str(alloc, str::from_utf8(bytes).ok().ok_or("no text")?)?,
+    })
+}
+
+const SOURCES: &[Source] = &[
+    Source::Box,
+    Source::Arc,
+    Source::Vec,
+    Source::Iter,
+    Source::Slice,
+    Source::Str,
+];
+
+fn comes_from_each(alloc: Global, bytes: &[u8]) -> Result<bool, Fail> {
+    for source in SOURCES {
+        if !is_used(alloc, made(alloc, source, bytes)?, bytes)? {
+            return Ok(false);
         }
     }
-    Ok(())
+    Ok(true)
 }
 
 fn comes_from_array<const N: usize>(alloc: Global, bytes: [u8; N]) -> Result<bool, AllocError> {
     is_used(alloc, IVec::from_array(alloc, bytes)?, &bytes)
 }
 
-#[test]
-fn strings_come_from_arrays(rt: HostRuntime) -> Result<(), Fail> {
-    let alloc = rt.alloc();
-    for (row, is_so) in [
-        ("no byte", comes_from_array(alloc, [])?),
-        ("2 bytes", comes_from_array(alloc, [1, 2])?),
-        ("22 bytes", comes_from_array(alloc, [7; 22])?),
-        ("23 bytes", comes_from_array(alloc, [7; 23])?),
-        ("24 bytes", comes_from_array(alloc, [7; 24])?),
-        ("128 bytes", comes_from_array(alloc, [4; 128])?),
-        ("1,000 bytes", comes_from_array(alloc, [4; 1000])?),
-    ] {
-        assert!(rt; is_so, "{row}");
+fn comes_from_array_of(alloc: Global, len: usize) -> Result<bool, AllocError> {
+    match len {
+        0 => comes_from_array(alloc, []),
+        2 => comes_from_array(alloc, [1, 2]),
+        22 => comes_from_array(alloc, [7; 22]),
+        23 => comes_from_array(alloc, [7; 23]),
+        24 => comes_from_array(alloc, [7; 24]),
+        128 => comes_from_array(alloc, [4; 128]),
+        1000 => comes_from_array(alloc, [4; 1000]),
+        _ => Ok(false),
     }
-    Ok(())
+}
+
+// Whether the string of these bytes and the default one are copied.
+fn is_short(alloc: Global, bytes: &[u8]) -> Result<bool, AllocError> {
+    let default = is_copied(&IVec::default(), &[])?;
+    Ok(is_copied(&IVec::from_slice(alloc, bytes)?, bytes)? && default)
 }
 
 // It passes with each allocation failing.
 #[test]
 fn short_strings_take_no_memory(rt: HostRuntime) -> Result<(), Fail> {
-    assert!(rt; is_copied(&IVec::default(), &[])?);
     for (row, bytes) in SHORT {
-        assert!(rt;
-            is_copied(&IVec::from_slice(rt.alloc(), bytes)?, bytes)?,
-            "{row}"
-        );
+        assert!(rt; is_short(rt.alloc(), bytes)?, "{row}");
     }
     Ok(())
 }
@@ -143,45 +157,8 @@ fn is_part(
     let copy = string.clone()?;
     let cut = string.subslice(offset, len)?;
     drop(string);
-    let is_so = is_of(&copy, whole) && is_of(&cut, part);
-    Ok(cut.into_arc(alloc)?.as_slice() == part && is_so)
-}
-
-#[test]
-fn a_part_is_so_many_bytes_from_its_place_on(rt: HostRuntime) -> Result<(), Fail> {
-    for (row, whole, offset, len, part) in [
-        ("all of no byte", [].as_slice(), 0, 0, [].as_slice()),
-        ("no byte at the end", &[1, 2, 3], 3, 0, &[]),
-        ("the last byte", &[1, 2, 3], 2, 1, &[3]),
-        ("all but the first byte", &[1, 2, 3], 1, 2, &[2, 3]),
-        ("all of 3 bytes", &[1, 2, 3], 0, 3, &[1, 2, 3]),
-        ("all of 22 bytes", &[5; 22], 0, 22, &[5; 22]),
-        ("all of 23 bytes", &[6; 23], 0, 23, &[6; 23]),
-        ("all of 128 bytes", &[4; 128], 0, 128, &[4; 128]),
-        ("all of 1,000 bytes", &[4; 1000], 0, 1000, &[4; 1000]),
-        ("21 of 26 bytes", LETTERS, 5, 21, b"fghijklmnopqrstuvwxyz"),
-        ("22 of 26 bytes", LETTERS, 3, 22, b"defghijklmnopqrstuvwxy"),
-        ("23 of 26 bytes", LETTERS, 2, 23, b"cdefghijklmnopqrstuvwxy"),
-        (
-            "25 of 26 bytes",
-            LETTERS,
-            1,
-            25,
-            b"bcdefghijklmnopqrstuvwxyz",
-        ),
-        (
-            "24 of 26 bytes",
-            LETTERS,
-            1,
-            24,
-            b"bcdefghijklmnopqrstuvwxy",
-        ),
-        ("no byte at the end of 26", LETTERS, 26, 0, b""),
-        ("999 of 1,000 bytes", &[4; 1000], 1, 999, &[4; 999]),
-    ] {
-        assert!(rt; is_part(rt.alloc(), whole, offset, len, part)?, "{row}");
-    }
-    Ok(())
+    let is_so = is_of(&copy, whole);
+    Ok(is_used(alloc, cut, part)? && is_so)
 }
 
 // How many hold a list that a string is made of, which then gives its bytes out: at first, and without the other holder.
@@ -193,20 +170,6 @@ fn holders_of(alloc: Global, bytes: &[u8]) -> Result<[usize; 2], AllocError> {
     let both = Arc::strong_count(&given);
     drop(other);
     Ok([both, Arc::strong_count(&given)])
-}
-
-#[test]
-fn what_is_shared_whole_is_given_out_itself(rt: HostRuntime) -> Result<(), Fail> {
-    for (row, bytes, holders) in [
-        ("3 bytes are copied", [1, 2, 3].as_slice(), [1, 1]),
-        ("22 bytes are copied", &[5; 22], [1, 1]),
-        ("23 bytes are shared", &[6; 23], [2, 1]),
-        ("26 bytes are shared", LETTERS, [2, 1]),
-        ("1,000 bytes are shared", &[4; 1000], [2, 1]),
-    ] {
-        assert!(rt; holders_of(rt.alloc(), bytes)? == holders, "{row}");
-    }
-    Ok(())
 }
 
 // ---- order and text
@@ -273,20 +236,141 @@ fn prints(alloc: Global, bytes: &[u8], text: &str) -> Result<bool, Fail> {
     Ok(format!(in alloc; "{string:?}")?.as_str() == text)
 }
 
-#[test]
-fn strings_are_printed_as_lists(rt: HostRuntime) -> Result<(), Fail> {
-    for (row, bytes, text) in [
-        ("no byte", [].as_slice(), "[]"),
-        ("1 byte", &[7], "[7]"),
-        ("3 bytes", &[1, 2, 3], "[1, 2, 3]"),
-        ("the greatest bytes", &[255, 255], "[255, 255]"),
-        (
-            "23 bytes",
+// ---- rows
+
+type Bytes = &'static [u8];
+
+enum Case {
+    // An array of so many bytes.
+    Array(usize),
+    // A whole, where a part begins in it and how long it is, and the part.
+    Part(Bytes, usize, usize, Bytes),
+    // How many hold the list that is given out.
+    Holders(Bytes, [usize; 2]),
+    Printed(Bytes, &'static str),
+    // Which other strings hold the bytes, and whether they are written in place.
+    Written(Bytes, &'static [usize], bool),
+}
+
+type Rows = &'static [(&'static str, Case)];
+
+const ARRAYS: Rows = &[
+    ("an array of no byte", Case::Array(0)),
+    ("an array of 2 bytes", Case::Array(2)),
+    ("an array of 22 bytes", Case::Array(22)),
+    ("an array of 23 bytes", Case::Array(23)),
+    ("an array of 24 bytes", Case::Array(24)),
+    ("an array of 128 bytes", Case::Array(128)),
+    ("an array of 1,000 bytes", Case::Array(1000)),
+];
+
+// A part is so many bytes from its place on.
+const PARTS: Rows = &[
+    ("all of no byte", Case::Part(&[], 0, 0, &[])),
+    ("no byte at the end", Case::Part(&[1, 2, 3], 3, 0, &[])),
+    ("the last byte", Case::Part(&[1, 2, 3], 2, 1, &[3])),
+    (
+        "all but the first byte",
+        Case::Part(&[1, 2, 3], 1, 2, &[2, 3]),
+    ),
+    ("all of 3 bytes", Case::Part(&[1, 2, 3], 0, 3, &[1, 2, 3])),
+    ("all of 22 bytes", Case::Part(&[5; 22], 0, 22, &[5; 22])),
+    ("all of 23 bytes", Case::Part(&[6; 23], 0, 23, &[6; 23])),
+    ("all of 128 bytes", Case::Part(&[4; 128], 0, 128, &[4; 128])),
+    (
+        "all of 1,000 bytes",
+        Case::Part(&[4; 1000], 0, 1000, &[4; 1000]),
+    ),
+    (
+        "21 of 26 bytes",
+        Case::Part(LETTERS, 5, 21, b"fghijklmnopqrstuvwxyz"),
+    ),
+    (
+        "22 of 26 bytes",
+        Case::Part(LETTERS, 3, 22, b"defghijklmnopqrstuvwxy"),
+    ),
+    (
+        "23 of 26 bytes",
+        Case::Part(LETTERS, 2, 23, b"cdefghijklmnopqrstuvwxy"),
+    ),
+    (
+        "25 of 26 bytes",
+        Case::Part(LETTERS, 1, 25, b"bcdefghijklmnopqrstuvwxyz"),
+    ),
+    (
+        "24 of 26 bytes",
+        Case::Part(LETTERS, 1, 24, b"bcdefghijklmnopqrstuvwxy"),
+    ),
+    ("no byte at the end of 26", Case::Part(LETTERS, 26, 0, b"")),
+    (
+        "999 of 1,000 bytes",
+        Case::Part(&[4; 1000], 1, 999, &[4; 999]),
+    ),
+];
+
+// What is shared whole is given out itself.
+const HOLDERS: Rows = &[
+    ("3 bytes are copied", Case::Holders(&[1, 2, 3], [1, 1])),
+    ("22 bytes are copied", Case::Holders(&[5; 22], [1, 1])),
+    ("23 bytes are shared", Case::Holders(&[6; 23], [2, 1])),
+    ("26 bytes are shared", Case::Holders(LETTERS, [2, 1])),
+    ("1,000 bytes are shared", Case::Holders(&[4; 1000], [2, 1])),
+];
+
+// Strings are printed as lists.
+const PRINTED: Rows = &[
+    ("no byte is printed", Case::Printed(&[], "[]")),
+    ("1 byte is printed", Case::Printed(&[7], "[7]")),
+    (
+        "3 bytes are printed",
+        Case::Printed(&[1, 2, 3], "[1, 2, 3]"),
+    ),
+    (
+        "the greatest bytes are printed",
+        Case::Printed(&[255, 255], "[255, 255]"),
+    ),
+    (
+        "23 bytes are printed",
+        Case::Printed(
             &[6; 23],
             "[6, 6, 6, 6, 6, 6, 6, 6, 6, 6, 6, 6, 6, 6, 6, 6, 6, 6, 6, 6, 6, 6, 6]",
         ),
-    ] {
-        assert!(rt; prints(rt.alloc(), bytes, text)?, "{row}");
+    ),
+];
+
+fn holds(alloc: Global, case: &Case) -> Result<bool, Fail> {
+    Ok(match case {
+        Case::Array(len) => comes_from_array_of(alloc, *len)?,
+        Case::Part(whole, offset, len, part) => is_part(alloc, whole, *offset, *len, part)?,
+        Case::Holders(bytes, holders) => holders_of(alloc, bytes)? == *holders,
+        Case::Printed(bytes, text) => prints(alloc, bytes, text)?,
+        Case::Written(bytes, lens, in_place) => {
+            writes::is_written(alloc, bytes, lens, *in_place)?
+        }
+    })
+}
+
+#[test]
+fn strings_are_cut_shared_written_and_printed(rt: HostRuntime) -> Result<(), Fail> {
+    for rows in [ARRAYS, PARTS, HOLDERS, PRINTED, writes::WRITTEN] {
+        for (row, case) in rows {
+            assert!(rt; holds(rt.alloc(), case)?, "{row}");
+        }
+    }
+    Ok(())
+}
+
+// One to three hold what is shared, when it is written.
+#[test]
+fn strings_come_from_all_that_has_bytes(rt: HostRuntime) -> Result<(), Fail> {
+    for rows in [SHORT, LONG] {
+        for (row, bytes) in rows {
+            let is_so = comes_from_each(rt.alloc(), bytes)?;
+            assert!(rt;
+                is_so && writes::is_held_by_some(rt.alloc(), bytes)?,
+                "{row}"
+            );
+        }
     }
     Ok(())
 }

@@ -1,237 +1,343 @@
 use sled_base::{DoublyLinkedList, PageId, Slot};
 use std::alloc::{AllocError, Global};
-use std::process::Abort;
 use std::test::Fail;
 
-const LENGTHS: &[PageId] = &[0, 1, 2, 3, 16, 17, 1_000];
-
-// The items, each pushed to the head or to the tail.
-fn pushed(alloc: Global, items: &[(PageId, bool)]) -> Result<DoublyLinkedList, AllocError> {
-    let mut list = DoublyLinkedList::default(alloc);
-    for (item, at_head) in items {
-        let _ = if *at_head {
-            list.push_head(*item)?
-        } else {
-            list.push_tail(*item)?
-        };
-    }
-    Ok(list)
+// What is done with a list, and the answer. A slot is named by its place among those of the items that were pushed.
+#[derive(Drop)]
+enum Step {
+    Head(PageId),
+    Tail(PageId),
+    // Pushes the item to the tail, where it gets this slot.
+    TailAt(PageId, usize),
+    Promote(usize),
+    PopHead(Option<PageId>),
+    PopTail(Option<PageId>),
+    // Puts the item of the head, if there is one, at the tail.
+    Turn,
+    Live(usize, bool),
+    Len(usize),
 }
 
-// The items 0, 1 and so on from the head, and their slots in this order.
-fn counted(alloc: Global, len: PageId) -> Result<(DoublyLinkedList, Vec<Slot>), AllocError> {
-    let mut list = DoublyLinkedList::default(alloc);
+fn is_promoted(list: &mut DoublyLinkedList, slot: Option<&Slot>) -> bool {
+    match slot {
+        Some(slot) if list.is_live(*slot) => list.promote(*slot) == *slot,
+        _ => false,
+    }
+}
+
+fn is_done(
+    list: &mut DoublyLinkedList,
+    slots: &mut Vec<Slot>,
+    step: &Step,
+) -> Result<bool, AllocError> {
+    match step {
+        Step::Head(item) => slots.push(list.push_head(*item)?)?,
+        Step::Tail(item) => slots.push(list.push_tail(*item)?)?,
+        Step::TailAt(item, place) => {
+            let slot = list.push_tail(*item)?;
+            return Ok(slots.get(*place) == Some(&slot));
+        }
+        Step::Promote(place) => return Ok(is_promoted(list, slots.get(*place))),
+        Step::PopHead(item) => return Ok(list.pop_head() == *item),
+        Step::PopTail(item) => return Ok(list.pop_tail() == *item),
+        Step::Turn => {
+            if let Some(item) = list.pop_head() {
+                let _ = list.push_tail(item)?;
+            }
+        }
+        Step::Live(place, live) => {
+            return Ok(matches!(slots.get(*place), Some(slot) if list.is_live(*slot) == *live));
+        }
+        Step::Len(len) => return Ok(list.len() == *len),
+    }
+    Ok(true)
+}
+
+fn are_done(
+    alloc: Global,
+    list: &mut DoublyLinkedList,
+    steps: &[Step],
+) -> Result<bool, AllocError> {
     let mut slots = Vec::new(alloc);
-    for item in 0..len {
-        slots.push(list.push_tail(item)?)?;
+    for step in steps {
+        if !is_done(list, &mut slots, step)? {
+            return Ok(false);
+        }
     }
-    Ok((list, slots))
+    Ok(true)
 }
 
-fn slot_at(slots: &[Slot], place: usize) -> Result<Slot, Fail> {
-    Ok(slots.get(place).copied().ok_or("a slot")?)
+// Whether these are the items, as the list is walked from its tail.
+fn is_walked(list: &DoublyLinkedList, items: &[PageId]) -> bool {
+    let mut at = list.last();
+    for item in items.iter().rev() {
+        match at {
+            Some(slot) if list.is_live(slot) && list.item(slot) == *item => at = list.before(slot),
+            _ => return false,
+        }
+    }
+    at.is_none() && list.len() == items.len()
 }
 
-// The slot of the item that was promoted, or none where the slot isn't live.
-fn promote(list: &mut DoublyLinkedList, slot: Slot) -> Option<Slot> {
-    if !list.is_live(slot) {
-        return None;
+// Whether the steps leave these items, from the head to the tail.
+fn leave(alloc: Global, steps: &[Step], items: &[PageId]) -> Result<bool, AllocError> {
+    let mut list = DoublyLinkedList::default(alloc);
+    let is_so = are_done(alloc, &mut list, steps)? && is_walked(&list, items);
+    Ok(list.into_vec()?.as_slice() == items && is_so)
+}
+
+// ---- each length
+
+// What is done with the items 0, 1 and so on, one after the other.
+enum Pass {
+    Head,
+    Tail,
+    Promote,
+    PopHead,
+    PopTail,
+    Turn,
+}
+
+fn step_of(pass: &Pass, item: PageId, len: PageId) -> Step {
+    match pass {
+        Pass::Head => Step::Head(item),
+        Pass::Tail => Step::Tail(item),
+        Pass::Promote => Step::Promote(item as usize),
+        Pass::PopHead => Step::PopHead(Some(item)),
+        Pass::PopTail => Step::PopTail(Some(len.saturating_sub(item).saturating_sub(1))),
+        Pass::Turn => Step::Turn,
     }
-    Some(list.promote(slot))
+}
+
+fn are_passed(
+    alloc: Global,
+    list: &mut DoublyLinkedList,
+    passes: &[Pass],
+    len: PageId,
+) -> Result<bool, AllocError> {
+    let mut slots = Vec::new(alloc);
+    for pass in passes {
+        for item in 0..len {
+            if !is_done(list, &mut slots, &step_of(pass, item, len))? {
+                return Ok(false);
+            }
+        }
+    }
+    Ok(true)
+}
+
+// Which items are left, from the head to the tail.
+enum Left {
+    None,
+    Rising,
+    Falling,
+}
+
+fn are_left(items: &[PageId], left: &Left, len: PageId) -> bool {
+    for (place, item) in items.iter().enumerate() {
+        let behind = items.len() - 1 - place;
+        if *item as usize
+            != if matches!(left, Left::Rising) {
+                place
+            } else {
+                behind
+            }
+        {
+            return false;
+        }
+    }
+    items.len() as u64 == if matches!(left, Left::None) { 0 } else { len }
+}
+
+fn is_passed(alloc: Global, passes: &[Pass], len: PageId, left: &Left) -> Result<bool, AllocError> {
+    let mut list = DoublyLinkedList::default(alloc);
+    let is_so = are_passed(alloc, &mut list, passes, len)?;
+    let count = list.len();
+    let is_over = count > 0 || list.pop_head().is_none() && list.pop_tail().is_none();
+    let items = list.into_vec()?;
+    Ok(is_so && is_over && items.len() == count && are_left(&items, left, len))
+}
+
+fn is_passed_at_each_length(
+    alloc: Global,
+    passes: &[Pass],
+    left: &Left,
+) -> Result<bool, AllocError> {
+    for len in [0, 1, 2, 3, 16, 17, 1_000] {
+        if !is_passed(alloc, passes, len, left)? {
+            return Ok(false);
+        }
+    }
+    Ok(true)
+}
+
+// ---- rows
+
+enum Case {
+    // Steps, and the items that they leave.
+    Steps(&'static [Step], &'static [PageId]),
+    Lengths(&'static [Pass], Left),
+}
+
+const STEPS: &[(&str, Case)] = &[
+    ("no item", Case::Steps(&[], &[])),
+    ("one item at the head", Case::Steps(&[Step::Head(1)], &[1])),
+    ("one item at the tail", Case::Steps(&[Step::Tail(1)], &[1])),
+    (
+        "two items at the head",
+        Case::Steps(&[Step::Head(1), Step::Head(2)], &[2, 1]),
+    ),
+    (
+        "two items at the tail",
+        Case::Steps(&[Step::Tail(1), Step::Tail(2)], &[1, 2]),
+    ),
+    (
+        "items at both ends",
+        Case::Steps(&[Step::Tail(2), Step::Tail(3), Step::Head(1)], &[1, 2, 3]),
+    ),
+    (
+        "more items at both ends",
+        Case::Steps(
+            &[
+                Step::Head(5),
+                Step::Tail(6),
+                Step::Head(4),
+                Step::Tail(7),
+                Step::Tail(8),
+                Step::Head(3),
+                Step::Tail(9),
+                Step::Head(2),
+                Step::Head(1),
+            ],
+            &[1, 2, 3, 4, 5, 6, 7, 8, 9],
+        ),
+    ),
+    (
+        "the only item is promoted",
+        Case::Steps(&[Step::Tail(0), Step::Promote(0)], &[0]),
+    ),
+    (
+        "the first of two items is promoted",
+        Case::Steps(&[Step::Tail(0), Step::Tail(1), Step::Promote(0)], &[0, 1]),
+    ),
+    (
+        "the last of two items is promoted",
+        Case::Steps(&[Step::Tail(0), Step::Tail(1), Step::Promote(1)], &[1, 0]),
+    ),
+    (
+        "the first of three items is promoted",
+        Case::Steps(
+            &[
+                Step::Tail(0),
+                Step::Tail(1),
+                Step::Tail(2),
+                Step::Promote(0),
+            ],
+            &[0, 1, 2],
+        ),
+    ),
+    (
+        "the second of three items is promoted",
+        Case::Steps(
+            &[
+                Step::Tail(0),
+                Step::Tail(1),
+                Step::Tail(2),
+                Step::Promote(1),
+            ],
+            &[1, 0, 2],
+        ),
+    ),
+    (
+        "the last of three items is promoted",
+        Case::Steps(
+            &[
+                Step::Tail(0),
+                Step::Tail(1),
+                Step::Tail(2),
+                Step::Promote(2),
+            ],
+            &[2, 0, 1],
+        ),
+    ),
+    (
+        "a promoted item is popped last",
+        Case::Steps(
+            &[
+                Step::Tail(2),
+                Step::Tail(3),
+                Step::Head(1),
+                Step::Promote(1),
+                Step::PopTail(Some(2)),
+                Step::Len(2),
+                Step::PopTail(Some(1)),
+                Step::Len(1),
+            ],
+            &[3],
+        ),
+    ),
+    (
+        "a slot is live until its item is popped",
+        Case::Steps(
+            &[
+                Step::Tail(0),
+                Step::Tail(1),
+                Step::Tail(2),
+                Step::PopTail(Some(2)),
+                Step::PopHead(Some(0)),
+                Step::Live(0, false),
+                Step::Live(1, true),
+                Step::Live(2, false),
+                Step::PopTail(Some(1)),
+                Step::TailAt(4, 1),
+                Step::TailAt(5, 0),
+                Step::TailAt(6, 2),
+            ],
+            &[4, 5, 6],
+        ),
+    ),
+    (
+        "a list is walked from its tail",
+        Case::Steps(&[Step::Tail(0), Step::Tail(1), Step::Tail(2)], &[0, 1, 2]),
+    ),
+];
+
+const LENGTHS: &[(&str, Case)] = &[
+    (
+        "every item is popped from the head",
+        Case::Lengths(&[Pass::Tail, Pass::PopHead], Left::None),
+    ),
+    (
+        "every item is popped from the tail",
+        Case::Lengths(&[Pass::Tail, Pass::PopTail], Left::None),
+    ),
+    (
+        "every item is pushed to the head",
+        Case::Lengths(&[Pass::Head], Left::Falling),
+    ),
+    (
+        "every item is turned",
+        Case::Lengths(&[Pass::Tail, Pass::Turn], Left::Rising),
+    ),
+    (
+        "every item is promoted and turned",
+        Case::Lengths(&[Pass::Tail, Pass::Promote, Pass::Turn], Left::Falling),
+    ),
+];
+
+fn holds(alloc: Global, case: &Case) -> Result<bool, AllocError> {
+    match case {
+        Case::Steps(steps, items) => leave(alloc, steps, items),
+        Case::Lengths(passes, left) => is_passed_at_each_length(alloc, passes, left),
+    }
 }
 
 #[test]
 fn items_stand_in_the_order_of_their_ends(rt: HostRuntime) -> Result<(), Fail> {
-    for (items, row) in [
-        ([].as_slice(), [].as_slice()),
-        (&[(1, true)], &[1]),
-        (&[(1, false)], &[1]),
-        (&[(1, true), (2, true)], &[2, 1]),
-        (&[(1, false), (2, false)], &[1, 2]),
-        (&[(2, false), (3, false), (1, true)], &[1, 2, 3]),
-        (
-            &[
-                (5, true),
-                (6, false),
-                (4, true),
-                (7, false),
-                (8, false),
-                (3, true),
-                (9, false),
-                (2, true),
-                (1, true),
-            ],
-            &[1, 2, 3, 4, 5, 6, 7, 8, 9],
-        ),
-    ] {
-        let list = pushed(rt.alloc(), items)?;
-        assert_eq!(rt; list.len(), row.len(), "{items:?}");
-        assert_eq!(rt; list.into_vec()?.as_slice(), row, "{items:?}");
-    }
-    Ok(())
-}
-
-#[test]
-fn a_promoted_item_goes_to_the_head(rt: HostRuntime) -> Result<(), Fail> {
-    for (len, promoted, row) in [
-        (1, 0, [0].as_slice()),
-        (2, 0, &[0, 1]),
-        (2, 1, &[1, 0]),
-        (3, 0, &[0, 1, 2]),
-        (3, 1, &[1, 0, 2]),
-        (3, 2, &[2, 0, 1]),
-    ] {
-        let (mut list, slots) = counted(rt.alloc(), len)?;
-        let slot = slot_at(&slots, promoted)?;
-        assert_eq!(rt; promote(&mut list, slot), Some(slot));
-        assert_eq!(rt; list.into_vec()?.as_slice(), row, "{promoted} of {len}");
-    }
-    Ok(())
-}
-
-// Pops from the tail, or else from the head, until the list is empty.
-fn popped(
-    alloc: Global,
-    list: &mut DoublyLinkedList,
-    at_tail: bool,
-) -> Result<Vec<PageId>, AllocError> {
-    let mut items = Vec::new(alloc);
-    for _ in 0..list.len() {
-        let item = if at_tail {
-            list.pop_tail()
-        } else {
-            list.pop_head()
-        };
-        if let Some(item) = item {
-            items.push(item)?;
+    for rows in [STEPS, LENGTHS] {
+        for (row, case) in rows {
+            assert!(rt; holds(rt.alloc(), case)?, "{row}");
         }
     }
-    Ok(items)
-}
-
-#[test]
-fn every_item_is_popped_once(rt: HostRuntime) -> Result<(), Fail> {
-    for len in LENGTHS {
-        for at_tail in [false, true] {
-            let (mut list, _) = counted(rt.alloc(), *len)?;
-            let mut items = popped(rt.alloc(), &mut list, at_tail)?;
-            if at_tail {
-                items.reverse();
-            }
-            let mut row = Vec::new(rt.alloc());
-            for item in 0..*len {
-                row.push(item)?;
-            }
-            assert_eq!(rt; items, row, "{len}");
-            assert_eq!(rt; list.pop_head(), None);
-            assert_eq!(rt; list.pop_tail(), None);
-        }
-    }
-    Ok(())
-}
-
-// Whether these are 0, 1 and so on, so many.
-fn are_counted(items: &[PageId], len: PageId) -> bool {
-    for (place, item) in items.iter().enumerate() {
-        if *item != place as u64 {
-            return false;
-        }
-    }
-    items.len() as u64 == len
-}
-
-// Puts each item, from the head on, at the other end.
-fn turn(list: &mut DoublyLinkedList) -> Result<(), AllocError> {
-    for _ in 0..list.len() {
-        if let Some(item) = list.pop_head() {
-            let _ = list.push_tail(item)?;
-        }
-    }
-    Ok(())
-}
-
-// Whether so many items stand in order that were pushed to the tail, and the other way round once each was promoted.
-fn is_turned(alloc: Global, len: PageId, promotes: bool) -> Result<bool, AllocError> {
-    let (mut list, slots) = counted(alloc, len)?;
-    for slot in &slots {
-        if promotes && promote(&mut list, *slot) != Some(*slot) {
-            return Ok(false);
-        }
-    }
-    turn(&mut list)?;
-    let mut items = list.into_vec()?;
-    if promotes {
-        items.reverse();
-    }
-    Ok(are_counted(&items, len))
-}
-
-// Whether so many items stand the other way round that were pushed to the head.
-fn is_stacked(alloc: Global, len: PageId) -> Result<bool, AllocError> {
-    let mut list = DoublyLinkedList::default(alloc);
-    for item in 0..len {
-        let _ = list.push_head(item)?;
-    }
-    let is_long = list.len() as u64 == len;
-    let mut items = list.into_vec()?;
-    items.reverse();
-    Ok(is_long && are_counted(&items, len))
-}
-
-#[test]
-fn lists_hold_at_each_length(rt: HostRuntime) -> Result<(), Fail> {
-    for len in LENGTHS {
-        let is_so = is_stacked(rt.alloc(), *len)?
-            && is_turned(rt.alloc(), *len, false)?
-            && is_turned(rt.alloc(), *len, true)?;
-        assert!(rt; is_so, "{len} items");
-    }
-    Ok(())
-}
-
-#[test]
-fn a_promoted_item_is_popped_last(rt: HostRuntime) -> Result<(), Fail> {
-    let mut list = DoublyLinkedList::default(rt.alloc());
-    let _ = list.push_tail(2)?;
-    let third = list.push_tail(3)?;
-    let _ = list.push_head(1)?;
-    assert_eq!(rt; promote(&mut list, third), Some(third));
-    for (item, len) in [(2, 2), (1, 1)] {
-        assert_eq!(rt; list.pop_tail(), Some(item));
-        assert_eq!(rt; list.len(), len);
-    }
-    assert_eq!(rt; list.into_vec()?.as_slice(), [3].as_slice());
-    Ok(())
-}
-
-#[test]
-fn a_slot_is_live_until_its_item_is_popped(rt: HostRuntime) -> Result<(), Fail> {
-    let (mut list, slots) = counted(rt.alloc(), 3)?;
-    assert_eq!(rt; list.pop_tail(), Some(2));
-    assert_eq!(rt; list.pop_head(), Some(0));
-    for (place, live) in [(0, false), (1, true), (2, false)] {
-        let slot = slot_at(&slots, place)?;
-        assert_eq!(rt; list.is_live(slot), live, "{place}");
-    }
-    assert_eq!(rt; list.pop_tail(), Some(1));
-    for (item, place) in [(4, 1), (5, 0), (6, 2)] {
-        let slot = slot_at(&slots, place)?;
-        assert_eq!(rt; list.push_tail(item)?, slot, "{item}");
-    }
-    assert_eq!(rt; list.into_vec()?.as_slice(), [4, 5, 6].as_slice());
-    Ok(())
-}
-
-#[test]
-fn a_list_is_walked_from_its_tail(rt: HostRuntime) -> Result<(), Fail> {
-    let (list, _) = counted(rt.alloc(), 3)?;
-    let mut at = list.last();
-    for item in [2, 1, 0] {
-        let slot = at.expect(&rt, "an item");
-        assert!(rt; list.is_live(slot));
-        assert_eq!(rt; list.item(slot), item);
-        at = list.before(slot);
-    }
-    assert_eq!(rt; at, None);
     Ok(())
 }

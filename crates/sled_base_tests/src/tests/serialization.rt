@@ -2,7 +2,8 @@ ghost use Rattle.std.specs.Prelude.{◌<◌, ◌^◌, length};
 
 mod rows;
 
-use rows::{FIXED, LONGER, OPTIONAL, PARTS, TEXTS, UNSIGNED, Value};
+use super::joined;
+use rows::{Case, ENCODED, REFUSED, SEQUENCES, Type, Value};
 use sled_base::{BatchManifest, ConsumeSequence, Error, IVec, Serialize};
 use std::alloc::{AllocError, Global};
 use std::num::NonZeroU64;
@@ -43,8 +44,7 @@ fn is_encoding<T: Serialize + PartialEq>(
             return Ok(false);
         }
     }
-    let mut followed = Vec::from_slice(alloc, bytes)?;
-    followed.extend_from_slice(&[7, 8])?;
+    let followed = joined(alloc, bytes, &[7, 8])?;
     Ok(is_read(alloc, bytes, value, &[])? && is_read(alloc, &followed, value, &[7, 8])?)
 }
 
@@ -59,15 +59,16 @@ fn writes<T: Serialize>(
     requires can_write { T.can_write value.now }
     requires fits { length (T.written value.now) < 2 ^ 64 }
 {
-    let mut written = value.serialize(alloc)?;
+    let written = value.serialize(alloc)?;
     let size = value.serialized_size();
-    if size != written.len() as u64 || (written.as_slice() == bytes) != is_written {
-        return Ok(false);
-    }
     let mut out = vec![in alloc; 9u8; written.len() + 2]?;
     let end = value.serialize_into(&mut out);
-    written.extend_from_slice(&[9, 9])?;
-    Ok(end as u64 == size && out == written)
+    Ok(
+        (written.as_slice() == bytes) == is_written
+            && [written.len() as u64, end as u64] == [size, size]
+            && out.starts_with(&written)
+            && out.ends_with(&[9, 9]),
+    )
 }
 
 // Whether the bytes are an encoding of the value, and the one that is written where that is wanted.
@@ -91,8 +92,7 @@ fn is_text(
     length: &[u8],
     is_written: bool,
 ) -> Result<bool, AllocError> {
-    let mut bytes = Vec::from_slice(alloc, length)?;
-    bytes.extend_from_slice(text)?;
+    let bytes = joined(alloc, length, text)?;
     let string = IVec::from_slice(alloc, text)?;
     is_encoded(alloc, &string, &bytes, is_written)
 }
@@ -100,8 +100,7 @@ fn is_text(
 // Whether so many bytes 6 are written behind this length, and read again.
 fn is_long_text(alloc: Global, len: usize, length: &[u8]) -> Result<bool, AllocError> {
     let text = vec![in alloc; 6u8; len]?;
-    let mut bytes = Vec::from_slice(alloc, length)?;
-    bytes.extend_from_slice(&text)?;
+    let bytes = joined(alloc, length, &text)?;
     let string = IVec::from_vec(alloc, text)?;
     Ok(writes(alloc, &string, &bytes, true)? && is_read(alloc, &bytes, &string, &[])?)
 }
@@ -129,40 +128,20 @@ fn agrees(alloc: Global, value: Value, bytes: &[u8], is_written: bool) -> Result
     }
 }
 
+// What is longer than it need be is read, and never written.
 #[test]
 fn values_are_encoded(rt: HostRuntime) -> Result<(), Fail> {
-    for rows in [UNSIGNED, FIXED, OPTIONAL, PARTS, TEXTS] {
-        for (row, value, bytes) in rows {
-            assert!(rt; agrees(rt.alloc(), *value, bytes, true)?, "{row}");
+    for (rows, is_written) in ENCODED {
+        for (row, value, bytes) in *rows {
+            assert!(rt; agrees(rt.alloc(), *value, bytes, *is_written)?, "{row}");
         }
-    }
-    Ok(())
-}
-
-#[test]
-fn other_encodings_are_read(rt: HostRuntime) -> Result<(), Fail> {
-    for (row, value, bytes) in LONGER {
-        assert!(rt; agrees(rt.alloc(), *value, bytes, false)?, "{row}");
     }
     Ok(())
 }
 
 // ---- refusals
 
-#[derive(Clone, Copy)]
-enum Type {
-    U64,
-    U32,
-    U8,
-    I64,
-    Bool,
-    Manifest,
-    Pair,
-    Triple,
-    Text,
-}
-
-fn refuses(alloc: Global, of: Type, bytes: &[u8]) -> bool {
+fn refuses(alloc: Global, of: &Type, bytes: &[u8]) -> bool {
     match of {
         Type::U64 => is_refused::<u64>(alloc, bytes),
         Type::U32 => is_refused::<u32>(alloc, bytes),
@@ -176,62 +155,15 @@ fn refuses(alloc: Global, of: Type, bytes: &[u8]) -> bool {
     }
 }
 
-// It passes with each allocation failing: a forged length asks for no memory.
-#[test]
-fn what_is_no_encoding_is_refused(rt: HostRuntime) {
-    for (row, of, bytes) in [
-        ("a u64 of no byte", Type::U64, [].as_slice()),
-        ("a u64 of 1 byte of 2", Type::U64, &[241]),
-        ("a u64 of 2 bytes of 3", Type::U64, &[249, 0]),
-        ("a u64 of 2 bytes of 4", Type::U64, &[250, 1]),
-        ("a u64 of 3 bytes of 4", Type::U64, &[250, 1, 0]),
-        (
-            "a u64 of 8 bytes of 9",
-            Type::U64,
-            &[255, 0, 0, 0, 0, 0, 0, 0],
-        ),
-        ("a u32 of 3 bytes", Type::U32, &[1, 2, 3]),
-        ("an i64 of 7 bytes", Type::I64, &[1, 2, 3, 4, 5, 6, 7]),
-        (
-            "a manifest of 7 bytes",
-            Type::Manifest,
-            &[1, 2, 3, 4, 5, 6, 7],
-        ),
-        ("a u8 of no byte", Type::U8, &[]),
-        ("a bool of no byte", Type::Bool, &[]),
-        (
-            "a pair without the end of its second",
-            Type::Pair,
-            &[1, 241],
-        ),
-        (
-            "a triple without the end of its third",
-            Type::Triple,
-            &[1, 2, 0, 0],
-        ),
-        ("a byte string of no byte", Type::Text, &[]),
-        ("a byte string without its last byte", Type::Text, &[2, 97]),
-        (
-            "a forged length of u64::MAX, and no byte",
-            Type::Text,
-            &[255; 9],
-        ),
-        (
-            "a forged length of 65,536, and 1 byte",
-            Type::Text,
-            &[250, 0, 0, 1, 97],
-        ),
-        (
-            "a forged length of i64::MAX, and 1 byte",
-            Type::Text,
-            &[255, 255, 255, 255, 255, 255, 255, 255, 127, 97],
-        ),
-    ] {
-        assert!(rt; refuses(rt.alloc(), of, bytes), "{row}");
+// ---- values to the end of an input
+
+// Whether the value comes next.
+fn is_next<T: Serialize + PartialEq>(values: &mut ConsumeSequence<'_, T>, value: &T) -> bool {
+    match values.next() {
+        Some(Ok(next)) => next == *value,
+        _ => false,
     }
 }
-
-// ---- values to the end of an input
 
 // Whether the input gives these numbers, and then a refusal where that is wanted, and nothing more.
 fn gives(alloc: Global, input: &[u8], numbers: &[u64], is_refused: bool) -> bool {
@@ -245,24 +177,6 @@ fn gives(alloc: Global, input: &[u8], numbers: &[u64], is_refused: bool) -> bool
         return false;
     }
     values.next().is_none()
-}
-
-#[test]
-fn values_come_to_the_end(rt: HostRuntime) {
-    for (row, input, numbers, is_refused) in [
-        ("no byte", [].as_slice(), [].as_slice(), false),
-        ("one value", &[7], &[7], false),
-        ("whole values", &[1, 241, 1, 2], &[1, 241, 2], false),
-        ("a torn value alone", &[241], &[], true),
-        (
-            "a torn value at the end",
-            &[1, 241, 1, 2, 241],
-            &[1, 241, 2],
-            true,
-        ),
-    ] {
-        assert!(rt; gives(rt.alloc(), input, numbers, is_refused), "{row}");
-    }
 }
 
 // A byte string of each length at which it is kept or encoded in another way, and a number of each length.
@@ -286,14 +200,6 @@ fn triples(alloc: Global, count: u32) -> Result<Vec<u8>, AllocError> {
         bytes.extend_from_slice(&text_at(alloc, i + 1)?.serialize(alloc)?)?;
     }
     Ok(bytes)
-}
-
-// Whether the value comes next.
-fn is_next<T: Serialize + PartialEq>(values: &mut ConsumeSequence<'_, T>, value: &T) -> bool {
-    match values.next() {
-        Some(Ok(next)) => next == *value,
-        _ => false,
-    }
 }
 
 fn come_as_triples(alloc: Global, input: &[u8], count: u32) -> Result<bool, AllocError> {
@@ -333,40 +239,42 @@ fn as_many_values_come_as_were_written(rt: HostRuntime) -> Result<(), Fail> {
 fn last_of(alloc: Global, input: &[u8]) -> Option<u64> {
     let mut last = None;
     for pair in ConsumeSequence::<((), u64)>::new(alloc, input) {
-        last = pair.ok().map(|pair| pair.1);
+        last = match pair {
+            Ok(pair) => Some(pair.1),
+            Err(_) => None,
+        };
     }
     last
-}
-
-#[test]
-fn pairs_come_to_an_end(rt: HostRuntime) {
-    for (row, input, last) in [
-        ("no byte", [].as_slice(), None),
-        ("one pair", &[7], Some(7)),
-        ("three pairs", &[1, 241, 1, 2], Some(2)),
-        ("a torn pair", &[1, 241], None),
-    ] {
-        assert!(rt; last_of(rt.alloc(), input) == last, "{row}");
-    }
-}
-
-fn comes(values: &mut ConsumeSequence<'_, ()>) -> bool {
-    matches!(values.next(), Some(Ok(())))
 }
 
 // Whether so many values of no byte come.
 fn come_again(alloc: Global, input: &[u8], count: u32) -> bool {
     let mut values = ConsumeSequence::<()>::new(alloc, input);
-    let mut come = true;
     for _ in 0..count {
-        come &= comes(&mut values);
+        if !is_next(&mut values, &()) {
+            return false;
+        }
     }
-    come
+    true
 }
 
-// Values that take no byte come without end, unless there is no byte.
+// ---- what takes no memory
+
+fn holds(alloc: Global, case: &Case) -> bool {
+    match case {
+        Case::Refused(of, bytes) => refuses(alloc, of, bytes),
+        Case::Numbers(input, numbers, is_refused) => gives(alloc, input, numbers, *is_refused),
+        Case::Pairs(input, last) => last_of(alloc, input) == *last,
+        Case::Nothing(input, count, comes) => come_again(alloc, input, *count) == *comes,
+    }
+}
+
+// It passes with each allocation failing.
 #[test]
-fn nothing_comes_again_and_again(rt: HostRuntime) {
-    assert!(rt; !come_again(rt.alloc(), &[], 1));
-    assert!(rt; come_again(rt.alloc(), &[7], 1_000));
+fn what_is_refused_or_of_numbers_takes_no_memory(rt: HostRuntime) {
+    for rows in [REFUSED, SEQUENCES] {
+        for (row, case) in rows {
+            assert!(rt; holds(rt.alloc(), case), "{row}");
+        }
+    }
 }

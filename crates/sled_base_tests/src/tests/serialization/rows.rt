@@ -26,10 +26,10 @@ pub(super) enum Value {
 }
 
 // Rows of a name, a value, and its encoding.
-pub(super) type Rows = &'static [(&'static str, Value, &'static [u8])];
+type Rows = &'static [(&'static str, Value, &'static [u8])];
 
 // Up to 240 in one byte, to 2,287 in two, to 67,823 in three, and above in 4 to 9, the first of which is 247 and how many follow.
-pub(super) const UNSIGNED: Rows = &[
+const UNSIGNED: Rows = &[
     ("the least of 1 byte", Value::U64(0), &[0]),
     ("the greatest of 1 byte", Value::U64(240), &[240]),
     ("the least of 2 bytes", Value::U64(241), &[241, 1]),
@@ -104,7 +104,7 @@ pub(super) const UNSIGNED: Rows = &[
     ("the greatest of 9 bytes", Value::U64(u64::MAX), &[255; 9]),
 ];
 
-pub(super) const FIXED: Rows = &[
+const FIXED: Rows = &[
     ("a u32 in its order", Value::U32(67305985), &[1, 2, 3, 4]),
     ("the least u32", Value::U32(0), &[0; 4]),
     ("the greatest u32", Value::U32(u32::MAX), &[255; 4]),
@@ -149,7 +149,7 @@ pub(super) const FIXED: Rows = &[
 ];
 
 // An unsigned number is one more than it is, and a signed one too, unless it is below 0.
-pub(super) const OPTIONAL: Rows = &[
+const OPTIONAL: Rows = &[
     ("no u64", Value::NoU64, &[0]),
     ("some u64 0", Value::SomeU64(0), &[1]),
     (
@@ -190,14 +190,14 @@ pub(super) const OPTIONAL: Rows = &[
     ),
 ];
 
-pub(super) const PARTS: Rows = &[
+const PARTS: Rows = &[
     ("nothing", Value::Unit, &[]),
     ("a pair", Value::Pair(1, 241), &[1, 241, 1]),
     ("a triple", Value::Triple(1, 2), &[1, 2, 0, 0, 0]),
 ];
 
 // Byte strings by their lengths.
-pub(super) const TEXTS: Rows = &[
+const TEXTS: Rows = &[
     ("no byte", Value::Text(&[]), &[0]),
     ("1 byte", Value::Text(&[7]), &[1]),
     ("2 bytes, \"ab\"", Value::Text(b"ab"), &[2]),
@@ -218,7 +218,7 @@ pub(super) const TEXTS: Rows = &[
 ];
 
 // What is read but never written. A value above 240 has a longer encoding too.
-pub(super) const LONGER: Rows = &[
+const LONGER: Rows = &[
     ("240 in 2 bytes", Value::U64(240), &[241, 0]),
     ("1 in 4 bytes", Value::U64(1), &[250, 1, 0, 0]),
     ("2288 in 4 bytes", Value::U64(2288), &[250, 240, 8, 0]),
@@ -250,4 +250,119 @@ pub(super) const LONGER: Rows = &[
         Value::Text(b"ab"),
         &[250, 2, 0, 0],
     ),
+];
+
+// The rows, and whether they are what is written.
+pub(super) const ENCODED: &[(Rows, bool)] = &[
+    (UNSIGNED, true),
+    (FIXED, true),
+    (OPTIONAL, true),
+    (PARTS, true),
+    (TEXTS, true),
+    (LONGER, false),
+];
+
+// ---- what takes no memory
+
+pub(super) enum Type {
+    U64,
+    U32,
+    U8,
+    I64,
+    Bool,
+    Manifest,
+    Pair,
+    Triple,
+    Text,
+}
+
+pub(super) enum Case {
+    Refused(Type, &'static [u8]),
+    // An input, the numbers that it gives, and whether a refusal comes behind them.
+    Numbers(&'static [u8], &'static [u64], bool),
+    // An input of pairs, and the second of the last.
+    Pairs(&'static [u8], Option<u64>),
+    // An input, how many values of no byte are asked for, and whether they come.
+    Nothing(&'static [u8], u32, bool),
+}
+
+pub(super) type Cases = &'static [(&'static str, Case)];
+
+// A forged length asks for no memory.
+pub(super) const REFUSED: Cases = &[
+    ("a u64 of no byte", Case::Refused(Type::U64, &[])),
+    ("a u64 of 1 byte of 2", Case::Refused(Type::U64, &[241])),
+    ("a u64 of 2 bytes of 3", Case::Refused(Type::U64, &[249, 0])),
+    ("a u64 of 2 bytes of 4", Case::Refused(Type::U64, &[250, 1])),
+    (
+        "a u64 of 3 bytes of 4",
+        Case::Refused(Type::U64, &[250, 1, 0]),
+    ),
+    (
+        "a u64 of 8 bytes of 9",
+        Case::Refused(Type::U64, &[255, 0, 0, 0, 0, 0, 0, 0]),
+    ),
+    ("a u32 of 3 bytes", Case::Refused(Type::U32, &[1, 2, 3])),
+    (
+        "an i64 of 7 bytes",
+        Case::Refused(Type::I64, &[1, 2, 3, 4, 5, 6, 7]),
+    ),
+    (
+        "a manifest of 7 bytes",
+        Case::Refused(Type::Manifest, &[1, 2, 3, 4, 5, 6, 7]),
+    ),
+    ("a u8 of no byte", Case::Refused(Type::U8, &[])),
+    ("a bool of no byte", Case::Refused(Type::Bool, &[])),
+    (
+        "a pair without the end of its second",
+        Case::Refused(Type::Pair, &[1, 241]),
+    ),
+    (
+        "a triple without the end of its third",
+        Case::Refused(Type::Triple, &[1, 2, 0, 0]),
+    ),
+    ("a byte string of no byte", Case::Refused(Type::Text, &[])),
+    (
+        "a byte string without its last byte",
+        Case::Refused(Type::Text, &[2, 97]),
+    ),
+    (
+        "a forged length of u64::MAX, and no byte",
+        Case::Refused(Type::Text, &[255; 9]),
+    ),
+    (
+        "a forged length of 65,536, and 1 byte",
+        Case::Refused(Type::Text, &[250, 0, 0, 1, 97]),
+    ),
+    (
+        "a forged length of i64::MAX, and 1 byte",
+        Case::Refused(
+            Type::Text,
+            &[255, 255, 255, 255, 255, 255, 255, 255, 127, 97],
+        ),
+    ),
+];
+
+// Values that take no byte come without end, unless there is no byte.
+pub(super) const SEQUENCES: Cases = &[
+    ("numbers of no byte", Case::Numbers(&[], &[], false)),
+    ("one number", Case::Numbers(&[7], &[7], false)),
+    (
+        "whole numbers",
+        Case::Numbers(&[1, 241, 1, 2], &[1, 241, 2], false),
+    ),
+    ("a torn number alone", Case::Numbers(&[241], &[], true)),
+    (
+        "a torn number at the end",
+        Case::Numbers(&[1, 241, 1, 2, 241], &[1, 241, 2], true),
+    ),
+    ("pairs of no byte", Case::Pairs(&[], None)),
+    ("one pair", Case::Pairs(&[7], Some(7))),
+    ("three pairs", Case::Pairs(&[1, 241, 1, 2], Some(2))),
+    ("a torn pair", Case::Pairs(&[1, 241], None)),
+    (
+        "nothing where there is no byte",
+        Case::Nothing(&[], 1, false),
+    ),
+    ("nothing, again and again", Case::Nothing(&[7], 1_000, true)),
 ];
