@@ -1,4 +1,4 @@
-ghost use Rattle.std.specs.Prelude.{◌≡◌, [], true};
+ghost use Rattle.std.specs.Prelude.{◌≡◌, [], true, OnOk};
 
 mod blind;
 mod buffered;
@@ -16,6 +16,7 @@ use eager::EagerLog;
 use sled_base::{DiskPtr, Lsn, MessageKind, PageId};
 use std::alloc::Global;
 use std::test::Fail;
+use walks::Answer;
 
 // The payloads of an empty root map, of the counter 0, and of an empty leaf.
 const ROOTS: [u8; 0] = [];
@@ -36,25 +37,277 @@ fn is_at(
     placed == Ok((lsn, pointer, log_size))
 }
 
-// Whether a page has a content, put there at this place, and so many links.
-fn is_present(page: &PageState, base: (Lsn, DiskPtr, u64), links: usize) -> bool {
-    match page {
-        PageState::Present { base: found, frags } => *found == base && frags.len() == links,
-        PageState::Free(_, _) => false,
+/// A call of the log in memory.
+#[derive(Clone, Copy)]
+enum Call {
+    Append(MessageKind, PageId, &'static [u8]),
+    MakeStable,
+    Pin,
+    Seal,
+    Cancel,
+}
+
+/// A call, what it answers, and the log behind it: its size, how far it is durable, whether a batch is open, and how many of
+/// the pending events, from none on, a crash may keep.
+#[derive(Clone, Copy)]
+struct Step(Call, Answer, (u64, Lsn, bool), &'static [bool]);
+
+/// Where the content of a page was put, and its links, or none where the page is free.
+type Page = Option<((Lsn, DiskPtr, u64), usize)>;
+
+/// What is shown, the greatest payload that is no blob, calls of an empty log, and the pages that they make.
+type Script = (&'static str, usize, &'static [Step], &'static [Page]);
+
+const SCRIPTS: &[Script] = &[
+    (
+        "a message stands where the others end",
+        4,
+        &[
+            Step(
+                Call::Append(MessageKind::InlineMeta, 0, &ROOTS),
+                Answer::Placed(0, DiskPtr::Inline(0), 17),
+                (17, 0, false),
+                &[true, true, false],
+            ),
+            Step(
+                Call::Append(MessageKind::Counter, 1, &COUNTER),
+                Answer::Placed(17, DiskPtr::Inline(17), 18),
+                (35, 0, false),
+                &[true, true, true, false],
+            ),
+            Step(
+                Call::Append(MessageKind::InlineNode, 2, &LEAF),
+                Answer::Placed(35, DiskPtr::Blob(35, 35), 25),
+                (60, 0, false),
+                &[true, true, true, true, false],
+            ),
+        ],
+        &[
+            Some(((0, DiskPtr::Inline(0), 17), 0)),
+            Some(((17, DiskPtr::Inline(17), 18), 0)),
+            Some(((35, DiskPtr::Blob(35, 35), 25), 0)),
+        ],
+    ),
+    (
+        "what is pending becomes stable",
+        512,
+        &[
+            Step(
+                Call::Append(MessageKind::InlineMeta, 0, &ROOTS),
+                Answer::Placed(0, DiskPtr::Inline(0), 17),
+                (17, 0, false),
+                &[true, true, false],
+            ),
+            Step(
+                Call::Append(MessageKind::Counter, 1, &COUNTER),
+                Answer::Placed(17, DiskPtr::Inline(17), 18),
+                (35, 0, false),
+                &[true, true, true, false],
+            ),
+            Step(
+                Call::MakeStable,
+                Answer::Wrote(35),
+                (35, 35, false),
+                &[true, false],
+            ),
+            Step(
+                Call::Append(MessageKind::InlineNode, 2, &LEAF),
+                Answer::Placed(35, DiskPtr::Inline(35), 25),
+                (60, 35, false),
+                &[true, true, false],
+            ),
+            Step(
+                Call::MakeStable,
+                Answer::Wrote(25),
+                (60, 60, false),
+                &[true, false],
+            ),
+        ],
+        &[
+            Some(((0, DiskPtr::Inline(0), 17), 0)),
+            Some(((17, DiskPtr::Inline(17), 18), 0)),
+            Some(((35, DiskPtr::Inline(35), 25), 0)),
+        ],
+    ),
+    (
+        "a crash keeps a prefix",
+        512,
+        &[
+            Step(
+                Call::Append(MessageKind::InlineNode, 0, &LEAF),
+                Answer::Placed(0, DiskPtr::Inline(0), 25),
+                (25, 0, false),
+                &[true, true, false],
+            ),
+            Step(
+                Call::Append(MessageKind::InlineLink, 0, &LINK),
+                Answer::Placed(25, DiskPtr::Inline(25), 22),
+                (47, 0, false),
+                &[true, true, true, false],
+            ),
+        ],
+        &[Some(((0, DiskPtr::Inline(0), 25), 1))],
+    ),
+    (
+        "a crash splits no batch",
+        512,
+        &[
+            Step(Call::Pin, Answer::Done, (0, 0, true), &[true, false, false]),
+            Step(
+                Call::Append(MessageKind::InlineNode, 0, &LEAF),
+                Answer::Placed(0, DiskPtr::Inline(0), 25),
+                (25, 0, true),
+                &[true, false, false],
+            ),
+            Step(
+                Call::Seal,
+                Answer::Done,
+                (25, 0, false),
+                &[true, false, false, true],
+            ),
+        ],
+        &[Some(((0, DiskPtr::Inline(0), 25), 0))],
+    ),
+    (
+        "a crash may keep part of a cancelled batch",
+        512,
+        &[
+            Step(Call::Pin, Answer::Done, (0, 0, true), &[true, false, false]),
+            Step(
+                Call::Append(MessageKind::InlineNode, 0, &LEAF),
+                Answer::Placed(0, DiskPtr::Inline(0), 25),
+                (25, 0, true),
+                &[true, false, false],
+            ),
+            Step(
+                Call::Cancel,
+                Answer::Done,
+                (25, 0, false),
+                &[true, true, true, true],
+            ),
+        ],
+        &[Some(((0, DiskPtr::Inline(0), 25), 0))],
+    ),
+    (
+        "pages are recovered by their chains",
+        512,
+        &[
+            Step(
+                Call::Append(MessageKind::InlineNode, 0, &LEAF),
+                Answer::Placed(0, DiskPtr::Inline(0), 25),
+                (25, 0, false),
+                &[true, true, false],
+            ),
+            Step(
+                Call::Append(MessageKind::InlineLink, 0, &LINK),
+                Answer::Placed(25, DiskPtr::Inline(25), 22),
+                (47, 0, false),
+                &[true, true, true, false],
+            ),
+            Step(
+                Call::Append(MessageKind::InlineNode, 1, &LEAF),
+                Answer::Placed(47, DiskPtr::Inline(47), 25),
+                (72, 0, false),
+                &[true, true, true, true, false],
+            ),
+            Step(
+                Call::Append(MessageKind::Free, 1, &ROOTS),
+                Answer::Placed(72, DiskPtr::Inline(72), 17),
+                (89, 0, false),
+                &[true, true, true, true, true, false],
+            ),
+        ],
+        &[Some(((0, DiskPtr::Inline(0), 25), 1)), None],
+    ),
+];
+
+// Makes a call, and gives what it answers, or none where it can't be made.
+fn answer(log: &mut MemLog, call: Call) -> Result<Option<Answer>, LogError> {
+    Ok(match call {
+        Call::Append(kind, pid, payload) => {
+            let (lsn, pointer, log_size) = log.append(kind, pid, payload)?;
+            Some(Answer::Placed(lsn, pointer, log_size))
+        }
+        Call::MakeStable if !log.batch_open() => Some(Answer::Wrote(log.make_stable()?)),
+        Call::Pin if !log.batch_open() => {
+            log.pin()?;
+            Some(Answer::Done)
+        }
+        Call::Seal if log.batch_open() => {
+            log.seal()?;
+            Some(Answer::Done)
+        }
+        Call::Cancel if log.batch_open() => {
+            log.cancel()?;
+            Some(Answer::Done)
+        }
+        _ => None,
+    })
+}
+
+// Whether a crash may keep just these numbers of the pending events.
+fn are_fair(log: &MemLog, cuts: &[bool]) -> bool {
+    for (n, is_fair) in cuts.iter().enumerate() {
+        if log.is_fair(n) != *is_fair {
+            return false;
+        }
+    }
+    true
+}
+
+fn takes_step(log: &mut MemLog, step: &Step) -> Result<bool, LogError> {
+    let Step(call, wanted, told, cuts) = step;
+    if answer(log, *call)? != Some(*wanted) {
+        return Ok(false);
+    }
+    Ok((log.size(), log.stable_offset(), log.batch_open()) == *told && are_fair(log, cuts))
+}
+
+fn takes_steps(log: &mut MemLog, steps: &[Step]) -> Result<bool, LogError> {
+    for step in steps {
+        if !takes_step(log, step)? {
+            return Ok(false);
+        }
+    }
+    Ok(true)
+}
+
+fn is_page(page: &PageState, want: &Page) -> bool {
+    match (page, want) {
+        (PageState::Present { base, frags }, Some((place, links))) => {
+            base == place && frags.len() == *links
+        }
+        (PageState::Free(_, _), None) => true,
+        _ => false,
     }
 }
 
+fn are_pages(pages: &[PageState], want: &[Page]) -> bool {
+    if pages.len() != want.len() {
+        return false;
+    }
+    for i in 0..want.len() {
+        if !is_page(&pages[i], &want[i]) {
+            return false;
+        }
+    }
+    true
+}
+
+fn takes_script(alloc: Global, script: &Script) -> Result<bool, LogError> {
+    let (_, blob_limit, steps, pages) = script;
+    let mut log = MemLog::new(alloc, *blob_limit, 16);
+    if !takes_steps(&mut log, steps)? {
+        return Ok(false);
+    }
+    Ok(are_pages(&log.recover()?, pages))
+}
+
 #[test]
-fn a_message_stands_where_the_others_end(rt: HostRuntime) -> Result<(), Fail> {
-    let mut log = MemLog::new(rt.alloc(), 4, 0);
-    let roots = log.append(MessageKind::InlineMeta, 0, &ROOTS);
-    assert!(rt; is_at(roots, 0, DiskPtr::Inline(0), 17));
-    let counter = log.append(MessageKind::Counter, 1, &COUNTER);
-    assert!(rt; is_at(counter, 17, DiskPtr::Inline(17), 18));
-    let leaf = log.append(MessageKind::InlineNode, 2, &LEAF);
-    assert!(rt; is_at(leaf, 35, DiskPtr::Blob(35, 35), 25));
-    assert_eq!(rt; log.size(), 60);
-    assert_eq!(rt; log.stable_offset(), 0);
+fn the_log_in_memory_answers_each_call(rt: HostRuntime) -> Result<(), Fail> {
+    for script in SCRIPTS {
+        assert!(rt; takes_script(rt.alloc(), script)?, "{}", script.0);
+    }
     Ok(())
 }
 
@@ -68,24 +321,10 @@ fn leaf_at(alloc: Global, blob_limit: usize) -> Option<DiskPtr> {
 }
 
 #[test]
-fn a_payload_above_the_limit_is_a_blob(rt: HostRuntime) -> Result<(), Fail> {
-    let alloc = rt.alloc();
-    assert_eq!(rt; leaf_at(alloc, 8), Some(DiskPtr::Inline(0)));
-    assert_eq!(rt; leaf_at(alloc, 7), Some(DiskPtr::Blob(0, 0)));
-    Ok(())
-}
-
-#[test]
-fn what_is_pending_becomes_stable(rt: HostRuntime) -> Result<(), Fail> {
-    let mut log = MemLog::new(rt.alloc(), 512, 16);
-    let _ = log.append(MessageKind::InlineMeta, 0, &ROOTS)?;
-    let _ = log.append(MessageKind::Counter, 1, &COUNTER)?;
-    assert_eq!(rt; log.make_stable()?, 35);
-    assert_eq!(rt; log.stable_offset(), 35);
-    let _ = log.append(MessageKind::InlineNode, 2, &LEAF)?;
-    assert_eq!(rt; log.size(), 60);
-    assert_eq!(rt; log.make_stable()?, 25);
-    Ok(())
+fn a_payload_above_the_limit_is_a_blob(rt: HostRuntime) {
+    for (limit, pointer) in [(8, DiskPtr::Inline(0)), (7, DiskPtr::Blob(0, 0))] {
+        assert!(rt; leaf_at(rt.alloc(), limit) == Some(pointer), "{limit}");
+    }
 }
 
 // How many pages a crash leaves that keeps so many events, if it may.
@@ -112,11 +351,10 @@ fn page_and_link(alloc: Global) -> Result<MemLog, LogError> {
 
 #[test]
 fn a_crash_leaves_what_was_stable(rt: HostRuntime) -> Result<(), Fail> {
-    let alloc = rt.alloc();
-    assert_eq!(rt; pages_left(page_and_link(alloc)?, 0), Some(1));
-    assert_eq!(rt; pages_left(page_and_link(alloc)?, 1), Some(2));
-    assert_eq!(rt; pages_left(page_and_link(alloc)?, 2), Some(2));
-    assert_eq!(rt; pages_left(page_and_link(alloc)?, 3), None);
+    for (kept, pages) in [(0, Some(1)), (1, Some(2)), (2, Some(2)), (3, None)] {
+        let log = page_and_link(rt.alloc())?;
+        assert!(rt; pages_left(log, kept) == pages, "{kept}");
+    }
     Ok(())
 }
 
@@ -132,13 +370,16 @@ fn is_read_so(
     }
 }
 
-#[test]
-fn a_blob_is_read_with_its_kind(rt: HostRuntime) -> Result<(), Fail> {
-    let mut log = MemLog::new(rt.alloc(), 4, 0);
+fn reads_a_blob(alloc: Global) -> Result<bool, LogError> {
+    let mut log = MemLog::new(alloc, 4, 0);
     let (_, pointer, _) = log.append(MessageKind::InlineNode, 0, &LEAF)?;
     let read = log.read(0, 0, pointer);
-    assert!(rt; is_read_so(read, MessageKind::BlobNode, 8));
-    assert_eq!(rt; log.reads(), 1);
+    Ok((is_read_so(read, MessageKind::BlobNode, 8), log.reads()) == (true, 1))
+}
+
+#[test]
+fn a_blob_is_read_with_its_kind(rt: HostRuntime) -> Result<(), Fail> {
+    assert!(rt; reads_a_blob(rt.alloc())?);
     Ok(())
 }
 
@@ -146,6 +387,7 @@ fn a_blob_is_read_with_its_kind(rt: HostRuntime) -> Result<(), Fail> {
 fn batch<L: Log>(alloc: Global, log: &mut L) -> Result<(), LogError>
     requires tells { L.tells }
     requires empty { L.state log.old ≡ record { stable = []; pending = []; usable = true } }
+    ensures usable { OnOk result ((L.state log.new).usable ≡ true) }
 {
     let calls = [
         LogCall::Pin,
@@ -157,98 +399,56 @@ fn batch<L: Log>(alloc: Global, log: &mut L) -> Result<(), LogError>
     runs::make_calls(log, &calls)
 }
 
+// Whether both pages of the batch are durable then.
+fn keeps_batch<L: Log>(alloc: Global, log: &mut L) -> Result<bool, LogError>
+    requires tells { L.tells }
+    requires empty { L.state log.old ≡ record { stable = []; pending = []; usable = true } }
+{
+    batch(alloc, log)?;
+    let durable = log.stable_offset();
+    Ok((durable, log.recover()?.len()) == (43, 2))
+}
+
+fn memory_keeps_batch(alloc: Global) -> Result<bool, LogError> {
+    let mut log = MemLog::new(alloc, 512, 16);
+    let is_kept = keeps_batch(alloc, &mut log)?;
+    Ok((is_kept, pages_left(log, 0)) == (true, Some(2)))
+}
+
+fn buffered_keeps_batch(alloc: Global) -> Result<bool, LogError> {
+    let mut log = BufferedLog::new(alloc);
+    keeps_batch(alloc, &mut log)
+}
+
+fn eager_keeps_batch(alloc: Global) -> Result<bool, LogError> {
+    let mut log = EagerLog::new(alloc);
+    keeps_batch(alloc, &mut log)
+}
+
 #[test]
 fn calls_are_made_in_a_row(rt: HostRuntime) -> Result<(), Fail> {
-    let alloc = rt.alloc();
-    let mut log = MemLog::new(alloc, 512, 16);
-    batch(alloc, &mut log)?;
-    assert_eq!(rt; log.stable_offset(), 43);
-    assert_eq!(rt; pages_left(log, 0), Some(2));
+    assert!(rt; memory_keeps_batch(rt.alloc())?, "in memory");
+    assert!(rt; buffered_keeps_batch(rt.alloc())?, "with a buffer");
+    assert!(rt; eager_keeps_batch(rt.alloc())?, "eager");
     Ok(())
 }
 
-#[test]
-fn calls_are_made_of_a_log_with_a_buffer(rt: HostRuntime) -> Result<(), Fail> {
-    let alloc = rt.alloc();
-    let mut log = BufferedLog::new(alloc);
-    batch(alloc, &mut log)?;
-    assert_eq!(rt; log.stable_offset(), 43);
-    let pages = log.recover()?;
-    assert_eq!(rt; pages.len(), 2);
-    Ok(())
-}
-
-#[test]
-fn a_crash_keeps_a_prefix(rt: HostRuntime) -> Result<(), Fail> {
-    let mut log = MemLog::new(rt.alloc(), 512, 16);
+fn eager_makes_stable(alloc: Global) -> Result<bool, LogError> {
+    let mut log = EagerLog::new(alloc);
     let _ = log.append(MessageKind::InlineNode, 0, &LEAF)?;
-    let _ = log.append(MessageKind::InlineLink, 0, &LINK)?;
-    assert!(rt; log.is_fair(0) && log.is_fair(1) && log.is_fair(2) && !log.is_fair(3));
-    let pages = log.recover()?;
-    assert_eq!(rt; pages.len(), 1);
-    Ok(())
-}
-
-#[test]
-fn a_crash_splits_no_batch(rt: HostRuntime) -> Result<(), Fail> {
-    let mut log = MemLog::new(rt.alloc(), 512, 16);
+    let first = (log.stable_offset(), log.batch_open());
+    let wrote = log.make_stable()?;
     log.pin()?;
     let _ = log.append(MessageKind::InlineNode, 0, &LEAF)?;
-    assert!(rt; log.batch_open());
-    assert!(rt; log.is_fair(0) && !log.is_fair(1) && !log.is_fair(2));
+    let inside = (log.stable_offset(), log.batch_open());
     log.seal()?;
-    assert!(rt; !log.batch_open());
-    assert!(rt; log.is_fair(0) && !log.is_fair(1) && !log.is_fair(2) && log.is_fair(3));
-    Ok(())
-}
-
-#[test]
-fn a_crash_may_keep_part_of_a_cancelled_batch(rt: HostRuntime) -> Result<(), Fail> {
-    let mut log = MemLog::new(rt.alloc(), 512, 16);
-    log.pin()?;
-    let _ = log.append(MessageKind::InlineNode, 0, &LEAF)?;
-    log.cancel()?;
-    assert!(rt; log.is_fair(0) && log.is_fair(1) && log.is_fair(2) && log.is_fair(3));
-    Ok(())
-}
-
-#[test]
-fn pages_are_recovered_by_their_chains(rt: HostRuntime) -> Result<(), Fail> {
-    let mut log = MemLog::new(rt.alloc(), 512, 16);
-    let _ = log.append(MessageKind::InlineNode, 0, &LEAF)?;
-    let _ = log.append(MessageKind::InlineLink, 0, &LINK)?;
-    let _ = log.append(MessageKind::InlineNode, 1, &LEAF)?;
-    let _ = log.append(MessageKind::Free, 1, &ROOTS)?;
-    let pages = log.recover()?;
-    assert_eq!(rt; pages.len(), 2);
-    assert!(rt; is_present(&pages[0], (0, DiskPtr::Inline(0), 25), 1));
-    assert!(rt; pages[1].is_free());
-    Ok(())
+    let last = (wrote, log.stable_offset());
+    Ok((first, inside, last) == ((25, false), (25, true), (0, 50)))
 }
 
 #[test]
 fn an_eager_log_makes_each_call_stable(rt: HostRuntime) -> Result<(), Fail> {
-    let mut log = EagerLog::new(rt.alloc());
-    let _ = log.append(MessageKind::InlineNode, 0, &LEAF)?;
-    assert_eq!(rt; log.stable_offset(), 25);
-    assert!(rt; !log.batch_open());
-    assert_eq!(rt; log.make_stable()?, 0);
-    log.pin()?;
-    let _ = log.append(MessageKind::InlineNode, 0, &LEAF)?;
-    assert_eq!(rt; log.stable_offset(), 25);
-    assert!(rt; log.batch_open());
-    log.seal()?;
-    assert_eq!(rt; log.stable_offset(), 50);
-    Ok(())
-}
-
-#[test]
-fn an_eager_log_takes_calls_in_a_row(rt: HostRuntime) -> Result<(), Fail> {
-    let alloc = rt.alloc();
-    let mut log = EagerLog::new(alloc);
-    batch(alloc, &mut log)?;
-    assert_eq!(rt; log.stable_offset(), 43);
-    assert_eq!(rt; log.recover()?.len(), 2);
+    assert!(rt; eager_makes_stable(rt.alloc())?);
     Ok(())
 }
 

@@ -10,7 +10,7 @@ use super::*;
 use sled_base::PageId;
 
 // Which calls of a log fail, each counted from 1: a read, and one of the calls that write. That one may do its work before.
-#[derive(Clone, Copy, Debug)]
+#[derive(Clone, Copy)]
 pub(super) struct Faults {
     pub(super) read: u64,
     pub(super) write: u64,

@@ -13,7 +13,7 @@ use sled_base::PageId;
 
 // What a call answered: where a message stands and its log size, how many bytes were written, the kind and the length of
 // what was read, or how many pages there are, with the links of page 1 if it has a content.
-#[derive(Clone, Copy, Debug, PartialEq, Eq)]
+#[derive(Clone, Copy, PartialEq, Eq)]
 pub(super) enum Answer {
     Placed(Lsn, DiskPtr, u64),
     Wrote(usize),
@@ -24,7 +24,7 @@ pub(super) enum Answer {
 }
 
 // What a log says of itself.
-#[derive(Clone, Copy, Debug, PartialEq, Eq)]
+#[derive(Clone, Copy, PartialEq, Eq)]
 pub(super) struct Status {
     pub(super) reads: u64,
     pub(super) failed_reads: u64,

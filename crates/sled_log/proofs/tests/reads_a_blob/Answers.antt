@@ -9,7 +9,7 @@ use Rattle.sled_log.specs.Memory.{state_of}
 use Rattle.sled_log.specs.Messages.{Entry, Chain, effect_of_entry}
 use Rattle.sled_log.specs.Pages.{IsAt}
 use Rattle.sled_log.specs.LogState.{LogState, now}
-use Rattle.sled_log.proofs.tests.a_blob_is_read_with_its_kind.Goals as goal
+use Rattle.sled_log.proofs.tests.reads_a_blob.Goals as goal
 
 -- the one message that the log holds
 only : (state : LogState Entry) (before : List (Event Entry)) (entry : Entry) → state.stable ≡ [] → state.pending ≡ before ++ Change 0 entry ∷ [] → before ≡ [] → entry.message.kind ≡ InlineNode → entry.place.lsn ≡ pos 0
@@ -21,6 +21,6 @@ only state before entry stable pending none kind lsn =
     (0, entry, omega arith, refl, (lsn, refl))
 
 pub read-read-requires : goal.read-read-requires
-read-read-requires g c =
+read-read-requires c =
     let made = c.in_ok-pointer.ensures in
     record { known = only (state_of c.append.new.self) _ _ (made.moves.stable ∙ ap (λ s. s.stable) c.new-log.ensures.state) made.moves.ok (ap (λ (s : LogState Entry). s.pending) c.new-log.ensures.state) refl (made.lsn ∙ ap pos c.new-log.ensures.size) }
