@@ -16,7 +16,7 @@ use Rattle.sled_node.specs.Pairs.{IsWithinLimit, HasPairs}
 use Rattle.sled_pagecache.specs.Token.{Token, token, pid_of, stamp_of}
 use Rattle.sled_pagecache.specs.declared.pagecache.call.Call.{Call}
 use Rattle.sled_pagecache.specs.declared.pagecache.call.Call.TheVariants.{Allocate, Get, Link, Replace, Free, GetMeta, MetaPidForName, CasRoot, GetIdgen, GenerateId, Flush, SizeOnDisk, Pin, Seal, Cancel}
-use Rattle.sledpc.specs.Asked.{AsksBehind, AreTwo, BeginsWithToken, EncodeLeaf, EncodeRoots, OpensBehind, at_the_end}
+use Rattle.sledpc.specs.Asked.{AsksBehind, AreTwo, BeginsWithToken, EncodeLeaf, EncodeRoots, at_the_end}
 use Rattle.sledpc.specs.Commands.{Asks, IsRootNumber, IsToken, Encodes, EncodesOpen, IsCommand, IsOfScript, mark_word, root_word}
 use Rattle.sledpc.specs.Cut.{HasNo}
 use Rattle.sledpc.specs.declared.script.command.Command.{Command}
@@ -500,32 +500,24 @@ open_behind line name text asked begins encodes =
     let plain : HasNoSpace (codes "open") = search rules in
     named line name (codes "open") text (bytes_word asked ∷ []) begins plain encodes.2
 
--- behind the name no call is asked for
-open_asks_none : (text : Option Bytes) (call : Call) → ¬ AsksBehind (codes "open") text call
-open_asks_none text (Link old ChildMergeCap) asked = asked.1
-open_asks_none text call asked = let e : ◌≡◌ {A = ℕ} 6647919 (key_of call) = asks_by_key (codes "open" ∷ asked.0) call (asked.1) in absurd (omega (arith, e))
-
-pub some_open : {E : Type 0} (line name : Bytes) (text : Option Bytes) (result : Result (Option Command) E) → length line ≤ longest_line → BeginsLine line name text → name ≡ codes "open" → IfOk result (λ found. IfSome found (OpensBehind text)) → IfOk result (λ found. IfSome found (IsCommand line))
+pub some_open : {E : Type 0} (line name : Bytes) (text : Option Bytes) (result : Result (Option Bytes) E) → length line ≤ longest_line → BeginsLine line name text → name ≡ codes "open"
+    → IfOk result (λ found. IfSome found (λ asked. AreBytes asked × (text ≡ Some (bytes_word asked)))) → IfOk result (λ found. IfSome found (EncodesOpen line))
 some_open line name text (Ok None) short begins is some = tt
-some_open line name text (Ok (Some (command.Call call))) short begins is some = absurd some
-some_open line name text (Ok (Some (command.Mark asked))) short begins is some = absurd some
-some_open line name text (Ok (Some (command.OpenTree asked))) short begins is some =
-    (short, some.0, joined_line line (codes "open") text (bytes_word asked ∷ []) (subst (λ word. BeginsLine line word text) is begins) some.1)
+some_open line name text (Ok (Some asked)) short begins is some = (short, some.0, joined_line line (codes "open") text (bytes_word asked ∷ []) (subst (λ word. BeginsLine line word text) is begins) some.1)
 some_open line name text (Err error) short begins is some = tt
 
-pub none_open : {E : Type 0} (line name : Bytes) (text : Option Bytes) (result : Result (Option Command) E) → BeginsLine line name text → name ≡ codes "open" → ((asked : Mark) → line ≢ mark_word asked)
-    → IfOk result (λ found. IfNone found ((asked : Bytes) → AreBytes asked → text ≢ Some (bytes_word asked))) → IfOk result (λ found. IfNone found ((asked : Command) → ¬ IsCommand line asked))
-none_open line name text (Ok None) begins is marks none = by
-  where
-    by : (asked : Command) → ¬ IsCommand line asked
-    by (command.Call call) encodes = open_asks_none text call (subst (λ word. AsksBehind word text call) is (encoded_behind line name text call begins encodes))
-    by (command.OpenTree asked) encodes = none asked encodes.1 (open_behind line name text asked begins encodes).1
-    by (command.Mark asked) encodes = marks asked encodes
-none_open line name text (Ok (Some asked)) begins is marks none = tt
-none_open line name text (Err error) begins is marks none = tt
+pub none_open : {E : Type 0} (line name : Bytes) (text : Option Bytes) (result : Result (Option Bytes) E) → BeginsLine line name text
+    → IfOk result (λ found. IfNone found ((asked : Bytes) → AreBytes asked → text ≢ Some (bytes_word asked))) → IfOk result (λ found. IfNone found ((asked : Bytes) → ¬ EncodesOpen line asked))
+none_open line name text (Ok None) begins none = λ asked encodes. none asked encodes.1 (open_behind line name text asked begins encodes).1
+none_open line name text (Ok (Some asked)) begins none = tt
+none_open line name text (Err error) begins none = tt
 
--- a line of another name that asks for no call, and is that of no mark
-pub no_command : (line name : Bytes) (text : Option Bytes) → BeginsLine line name text → name ≢ codes "open" → ((asked : Mark) → line ≢ mark_word asked) → ((call : Call) → ¬ Encodes line call) → (asked : Command) → ¬ IsCommand line asked
-no_command line name text begins other marks calls (command.Call call) encodes = calls call encodes
-no_command line name text begins other marks calls (command.OpenTree asked) encodes = other (open_behind line name text asked begins encodes).0
-no_command line name text begins other marks calls (command.Mark asked) encodes = marks asked encodes
+-- a line of another name opens no tree
+pub no_open : (line name : Bytes) (text : Option Bytes) → BeginsLine line name text → name ≢ codes "open" → (asked : Bytes) → ¬ EncodesOpen line asked
+no_open line name text begins other asked encodes = other (open_behind line name text asked begins encodes).0
+
+-- a line that asks for no call, is that of no mark and opens no tree is no command
+pub no_command : (line : Bytes) → ((call : Call) → ¬ Encodes line call) → ((asked : Mark) → line ≢ mark_word asked) → ((asked : Bytes) → ¬ EncodesOpen line asked) → (asked : Command) → ¬ IsCommand line asked
+no_command line calls marks trees (command.Call call) encodes = calls call encodes
+no_command line calls marks trees (command.OpenTree asked) encodes = trees asked encodes
+no_command line calls marks trees (command.Mark asked) encodes = marks asked encodes

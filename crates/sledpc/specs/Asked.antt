@@ -7,9 +7,7 @@ use Rattle.sled_node.specs.Node.{WholeNode}
 use Rattle.sled_pagecache.specs.Token.{Token, pid_of, stamp_of}
 use Rattle.sled_pagecache.specs.declared.pagecache.call.Call.{Call}
 use Rattle.sledpc.specs.Commands.{Asks, IsLeafOf, IsRootNumber, IsToken, root_word}
-use Rattle.sledpc.specs.Words.{AreBytes, after_name, bytes_word, HasNoSpace, EncodePairs}
-use Rattle.sledpc.specs.declared.script.command.Command.{Command}
-use Rattle.sledpc.specs.declared.script.command.Command.TheVariants as command
+use Rattle.sledpc.specs.Words.{after_name, HasNoSpace, EncodePairs}
 
 -- the name and the words in the text behind it ask for the call
 abbrev pub AsksBehind : Bytes → Option Bytes → Call → Type 0
@@ -38,9 +36,3 @@ EncodeLeaf text node = (pairs : List (Bytes × Bytes)) × IsLeafOf pairs node ×
 pub record EncodeRoots (text : Bytes) (old new : Option ℕ) : Type 0 where
   pub numbers : IsRootNumber old × IsRootNumber new
   pub joined : text ≡ join_with_byte 32 (root_word old ∷ root_word new ∷ [])
-
--- the text is the name of the tree that the command opens
-abbrev pub OpensBehind : Option Bytes → Command → Type 0
-OpensBehind text (command.Call call) = ⊥
-OpensBehind text (command.Mark mark) = ⊥
-OpensBehind text (command.OpenTree name) = AreBytes name × (text ≡ Some (bytes_word name))

@@ -13,7 +13,7 @@ use std::io::{BufRead, Error, ErrorKind};
 pub const MAX_LINE: usize = 65_536;
 
 /// What stood at the front of the input.
-#[derive(Clone, Copy, Debug, PartialEq, Eq)]
+#[derive(Clone, Copy, PartialEq, Eq)]
 pub enum Line {
     /// Nothing: the input is at its end.
     End,
@@ -24,7 +24,7 @@ pub enum Line {
 }
 
 /// Why a line was not read.
-#[derive(Clone, Copy, Debug, PartialEq, Eq)]
+#[derive(Clone, Copy, PartialEq, Eq)]
 pub enum ReadError {
     Read,
     Memory,

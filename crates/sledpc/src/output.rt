@@ -11,7 +11,7 @@ use crate::piece::{Piece, ROOM};
 use std::io::{ErrorKind, Write};
 
 /// The writer did not take all of a text.
-#[derive(Clone, Copy, Debug, PartialEq, Eq)]
+#[derive(Clone, Copy, Debug)]
 pub struct Unwritten;
 
 /// Writes all of the bytes. At an error a prefix of them was written.

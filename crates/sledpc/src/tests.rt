@@ -163,22 +163,23 @@ fn are_written(
     Ok(writer.got.as_slice() == want.as_bytes())
 }
 
-// Whether a call that is refused so is replied to by this line.
-fn replies_to_error(alloc: Global, error: Error, want: &str) -> Result<bool, Unwritten> {
+// Whether an answer is replied to by this line.
+fn replies_with(alloc: Global, lent: LentAnswer<'_>, want: &str) -> Result<bool, Unwritten> {
     let mut writer = slow_writer(alloc, 99);
     let mut piece = Piece::new();
-    gather_line(&mut writer, &mut piece, LentAnswer::Flushed(&Err(error)))?;
+    gather_line(&mut writer, &mut piece, lent)?;
     write_out(&mut writer, &mut piece)?;
     Ok(writer.got.as_slice() == want.as_bytes())
 }
 
+// Whether a call that is refused so is replied to by this line.
+fn replies_to_error(alloc: Global, error: Error, want: &str) -> Result<bool, Unwritten> {
+    replies_with(alloc, LentAnswer::Flushed(&Err(error)), want)
+}
+
 // Whether a generated id, or why none is given, is replied to by this line.
 fn replies_to_id(alloc: Global, given: Result<u64, Error>, want: &str) -> Result<bool, Unwritten> {
-    let mut writer = slow_writer(alloc, 99);
-    let mut piece = Piece::new();
-    gather_line(&mut writer, &mut piece, LentAnswer::Generated(&given))?;
-    write_out(&mut writer, &mut piece)?;
-    Ok(writer.got.as_slice() == want.as_bytes())
+    replies_with(alloc, LentAnswer::Generated(&given), want)
 }
 
 #[test]

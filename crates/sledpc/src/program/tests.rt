@@ -61,13 +61,41 @@ fn replies(alloc: Global, mut script: &[u8], want: &str) -> Result<bool, AllocEr
     Ok(is_done && output.as_slice() == want.as_bytes())
 }
 
+/// A script, and what it is to be replied to.
+#[derive(Drop)]
+struct Script {
+    asked: Vec<u8>,
+    wanted: Vec<u8>,
+}
+
+fn new_script(alloc: Global) -> Script {
+    Script {
+        asked: Vec::new(alloc),
+        wanted: Vec::new(alloc),
+    }
+}
+
+// Whether the script is replied to so.
+fn is_replied(alloc: Global, script: &Script) -> Result<bool, AllocError> {
+    let mut output = Vec::new(alloc);
+    let is_done = ends_so(alloc, &mut script.asked.as_slice(), &mut output, 0, "")?;
+    Ok(is_done && output.as_slice() == script.wanted.as_slice())
+}
+
+// Puts a line that sets a value of so many digits behind the text, and one behind it.
+fn put_long(text: &mut Vec<u8>, digits: usize) -> Result<(), AllocError> {
+    text.extend_from_slice(b"set 9 10 61 ")?;
+    for _ in 0..digits {
+        text.push(b'0')?;
+    }
+    text.extend_from_slice(b"\nget 9\n")?;
+    Ok(())
+}
+
 // Whether a script whose first line has so many digits of a value is answered so.
 fn replies_to_long(alloc: Global, digits: usize, want: &str) -> Result<bool, AllocError> {
-    let mut script = Vec::from_slice(alloc, b"set 9 10 61 ")?;
-    for _ in 0..digits {
-        script.push(b'0')?;
-    }
-    script.extend_from_slice(b"\nget 9\n")?;
+    let mut script = Vec::new(alloc);
+    put_long(&mut script, digits)?;
     replies(alloc, &script, want)
 }
 
@@ -83,21 +111,28 @@ fn put_word(text: &mut Vec<u8>, count: usize) -> Result<(), AllocError> {
     Ok(())
 }
 
+// Puts a pair of so many bytes each behind the text, between two others.
+fn put_pair(
+    text: &mut Vec<u8>,
+    front: &[u8],
+    (key, value): (usize, usize),
+    end: &[u8],
+) -> Result<(), AllocError> {
+    text.extend_from_slice(front)?;
+    put_word(text, key)?;
+    text.push(b'=')?;
+    put_word(text, value)?;
+    text.extend_from_slice(end)?;
+    Ok(())
+}
+
 // Whether a pair whose key and value have so many bytes is replied as it was encoded.
 fn returns_pair(alloc: Global, key: usize, value: usize) -> Result<bool, AllocError> {
-    let mut pair = Vec::new(alloc);
-    put_word(&mut pair, key)?;
-    pair.push(b'=')?;
-    put_word(&mut pair, value)?;
-    let mut script = Vec::from_slice(alloc, b"alloc ")?;
-    script.extend_from_slice(&pair)?;
-    script.extend_from_slice(b"\nget 2\n")?;
-    let mut want = Vec::from_slice(alloc, b"page 2 1\nleaf 1 ")?;
-    want.extend_from_slice(&pair)?;
-    want.push(b'\n')?;
-    let mut output = Vec::new(alloc);
-    let is_done = ends_so(alloc, &mut script.as_slice(), &mut output, 0, "")?;
-    Ok(is_done && output.as_slice() == want.as_slice())
+    let mut script = new_script(alloc);
+    let Script { asked, wanted } = &mut script;
+    put_pair(asked, b"alloc ", (key, value), b"\nget 2\n")?;
+    put_pair(wanted, b"page 2 1\nleaf 1 ", (key, value), b"\n")?;
+    is_replied(alloc, &script)
 }
 
 // Whether these words, or such as are no text, are reported as wrong, and no stream is touched.

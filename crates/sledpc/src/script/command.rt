@@ -5,11 +5,10 @@ ghost use Rattle.std.specs.Option.{option_map, SomeIff};
 ghost use Rattle.sled_base.specs.Order.{Bytes};
 ghost use Rattle.sled_node.specs.Node.{Value, WholeNode, leaf_of};
 ghost use Rattle.sled_node.specs.Pairs.{IsWithinLimit, HasPairs};
-ghost use Rattle.sledpc.specs.Asked.{AsksBehind, AreTwo, BeginsWithToken, EncodeLeaf, EncodeRoots, OpensBehind};
-ghost use Rattle.sledpc.specs.Commands.{Encodes, IsCommand, IsRootNumber, mark_word, root_word};
+ghost use Rattle.sledpc.specs.Asked.{AsksBehind, AreTwo, BeginsWithToken, EncodeLeaf, EncodeRoots};
+ghost use Rattle.sledpc.specs.Commands.{Encodes, EncodesOpen, IsRootNumber, mark_word, root_word};
 ghost use Rattle.sledpc.specs.Settings.{longest_line};
 ghost use Rattle.sledpc.specs.Words.{AreBytes, bytes_word};
-ghost use Rattle.sledpc.specs.declared.script.command.Command.{Command};
 ghost use Rattle.sledpc.specs.declared.script.command.Mark.{Mark};
 ghost use Rattle.sled_pagecache.specs.Token.{Token};
 ghost use Rattle.sled_pagecache.specs.declared.pagecache.call.Call.{Call};
@@ -20,14 +19,14 @@ use sled_pagecache::{Call, Data, IVec, Leaf, Link, Node, PageId, PageView};
 use std::alloc::{AllocError, Global};
 
 /// The mark that opens or closes a batch.
-#[derive(Clone, Copy, Debug, PartialEq, Eq)]
+#[derive(Clone, Copy, PartialEq, Eq)]
 pub enum Mark {
     Pin,
     Seal,
     Cancel,
 }
 
-/// What a line asks for.
+/// What a line asks for, as contracts have it. None is made: a line is read for each in turn.
 #[derive(Drop)]
 pub enum Command {
     /// A call of the cache.
@@ -38,27 +37,8 @@ pub enum Command {
     Mark(Mark),
 }
 
-/// What a line asks for, or none where it is no command.
-pub fn command_of(alloc: Global, line: &[u8]) -> Result<Option<Command>, AllocError>
-    requires { length line.now ≤ longest_line }
-    ensures some { IfOk result (λ found. IfSome found (IsCommand line.now)) }
-    ensures none { IfOk result (λ found. IfNone found ((command : Command) → ¬ IsCommand line.now command)) }
-{
-    if let Some(mark) = mark_of(line) {
-        return Ok(Some(Command::Mark(mark)));
-    }
-    let (name, arguments) = first_word(line);
-    if name == b"open".as_slice() {
-        return open_of(alloc, arguments);
-    }
-    let Some(call) = call_of(alloc, line)? else {
-        return Ok(None);
-    };
-    Ok(Some(Command::Call(call)))
-}
-
-// `pin`, `seal` or `cancel`
-fn mark_of(line: &[u8]) -> Option<Mark>
+/// The mark of a line `pin`, `seal` or `cancel`, or none where it is no such line.
+pub fn mark_of(line: &[u8]) -> Option<Mark>
     ensures some { IfSome result (λ mark. line.now ≡ mark_word mark) }
     ensures none { IfNone result ((mark : Mark) → line.now ≢ mark_word mark) }
 {
@@ -74,15 +54,17 @@ fn mark_of(line: &[u8]) -> Option<Mark>
     None
 }
 
-// `open NAME`
-fn open_of(alloc: Global, arguments: Option<&[u8]>) -> Result<Option<Command>, AllocError>
-    ensures some { IfOk result (λ found. IfSome found (OpensBehind (option_map (λ rest. rest.now) arguments.entry))) }
-    ensures none { IfOk result (λ found. IfNone found ((name : Bytes) → AreBytes name → option_map (λ rest. rest.now) arguments.entry ≢ Some (bytes_word name))) }
+/// The name of the tree that a line `open NAME` asks for, or none where it is no such line.
+pub fn tree_to_open(alloc: Global, line: &[u8]) -> Result<Option<IVec>, AllocError>
+    requires { length line.now ≤ longest_line }
+    ensures some { IfOk result (λ found. IfSome found (EncodesOpen line.now)) }
+    ensures none { IfOk result (λ found. IfNone found ((name : Bytes) → ¬ EncodesOpen line.now name)) }
 {
-    let Some(name) = name_behind(alloc, arguments)? else {
-        return Ok(None);
-    };
-    Ok(Some(Command::OpenTree(name)))
+    let (word, arguments) = first_word(line);
+    if word == b"open".as_slice() {
+        return name_behind(alloc, arguments);
+    }
+    Ok(None)
 }
 
 /// The page that a line `get ID` asks for, or none where it is no such line.

@@ -10,7 +10,9 @@ ghost use Rattle.sled_pagecache.specs.declared.pagecache.call.Call.{Call};
 ghost use Rattle.sled_pagecache.specs.declared.pagecache.call.Call.TheVariants as calls;
 
 use super::batch::{pin_again, serve_batch};
-use super::command::{Command, Mark, call_of, command_of, leaf_to_add, link_to_make, page_to_get};
+use super::command::{
+    Mark, call_of, leaf_to_add, link_to_make, mark_of, page_to_get, tree_to_open,
+};
 use super::reply::{LentAnswer, gather_line, gather_mark, gather_tree};
 use crate::lines::{Line, ReadError, read_line};
 use crate::output::{Unwritten, flush, gather_text, write_out, write_rest};
@@ -21,7 +23,7 @@ use std::io::{BufRead, Write};
 use thiserror::Error;
 
 /// Why a run ended before its input did.
-#[derive(Clone, Copy, Debug, PartialEq, Eq, Error)]
+#[derive(Clone, Copy, Debug, Error)]
 pub enum RunError {
     /// The input was not read.
     #[error("error read")]
@@ -200,15 +202,51 @@ fn serve_line<L: Log, W: Write>(
         serve_get(cache, pid, writer, piece)?;
         return Ok(None);
     }
-    if let Some((old, link)) = link_to_make(alloc, line)? {
-        serve_link(cache, old, link, writer, piece)?;
-        return Ok(None);
+    serve_change(alloc, cache, line, writer, piece)
+}
+
+// Serves one line that gets no page.
+fn serve_change<L: Log, W: Write>(
+    alloc: Global,
+    cache: &mut PageCache<L>,
+    line: &[u8],
+    writer: &mut W,
+    piece: &mut Piece,
+) -> Result<Option<Mark>, RunError>
+    requires { length line.now ≤ longest_line }
+    ensures replies { RepliesLine L.Log cache.old line.now (W.contents writer.old) (W.contents writer.new) piece.old piece.new result cache.new }
+    ensures batch { cache.new.batch ≡ cache.old.batch }
+{
+    match link_to_make(alloc, line) {
+        Ok(Some((old, link))) => {
+            serve_link(cache, old, link, writer, piece)?;
+            Ok(None)
+        }
+        Ok(None) => serve_new(alloc, cache, line, writer, piece),
+        Err(_) => Err(RunError::Memory),
     }
-    if let Some(node) = leaf_to_add(alloc, line)? {
-        serve_allocate(cache, node, writer, piece)?;
-        return Ok(None);
+}
+
+// Serves one line that gets no page, and makes no link.
+fn serve_new<L: Log, W: Write>(
+    alloc: Global,
+    cache: &mut PageCache<L>,
+    line: &[u8],
+    writer: &mut W,
+    piece: &mut Piece,
+) -> Result<Option<Mark>, RunError>
+    requires { length line.now ≤ longest_line }
+    ensures replies { RepliesLine L.Log cache.old line.now (W.contents writer.old) (W.contents writer.new) piece.old piece.new result cache.new }
+    ensures batch { cache.new.batch ≡ cache.old.batch }
+{
+    match leaf_to_add(alloc, line) {
+        Ok(Some(node)) => {
+            serve_allocate(cache, node, writer, piece)?;
+            Ok(None)
+        }
+        Ok(None) => serve_other(alloc, cache, line, writer, piece),
+        Err(_) => Err(RunError::Memory),
     }
-    serve_other(alloc, cache, line, writer, piece)
 }
 
 // Serves one line that asks for another call, or for none. A call is served as it was read, since a command that holds it would be one more copy of all
@@ -229,28 +267,30 @@ fn serve_other<L: Log, W: Write>(
             serve_call(cache, call, writer, piece)?;
             Ok(None)
         }
-        Ok(None) => serve_command(alloc, cache, line, writer, piece),
+        Ok(None) => serve_uncalled(alloc, cache, line, writer, piece),
         Err(_) => Err(RunError::Memory),
     }
 }
 
-// Serves one line, whatever command it is, or none.
-fn serve_command<L: Log, W: Write>(
+// Serves one line that asks for no call: that of a mark, one that opens a tree, or no command.
+fn serve_uncalled<L: Log, W: Write>(
     alloc: Global,
     cache: &mut PageCache<L>,
     line: &[u8],
     writer: &mut W,
     piece: &mut Piece,
 ) -> Result<Option<Mark>, RunError>
-    requires { length line.now ≤ longest_line }
+    requires short { length line.now ≤ longest_line }
+    requires uncalled { (call : Call) → ¬ Encodes line.now call }
     ensures replies { RepliesLine L.Log cache.old line.now (W.contents writer.old) (W.contents writer.new) piece.old piece.new result cache.new }
     ensures batch { cache.new.batch ≡ cache.old.batch }
 {
-    match command_of(alloc, line)? {
+    if let Some(mark) = mark_of(line) {
+        return serve_mark(cache, mark, writer, piece);
+    }
+    match tree_to_open(alloc, line)? {
+        Some(name) => serve_open(cache, name, writer, piece)?,
         None => gather_text(writer, piece, b"error line\n")?,
-        Some(Command::Call(call)) => serve_call(cache, call, writer, piece)?,
-        Some(Command::OpenTree(name)) => serve_open(cache, name, writer, piece)?,
-        Some(Command::Mark(mark)) => return serve_mark(cache, mark, writer, piece),
     }
     Ok(None)
 }

@@ -14,20 +14,6 @@ struct Signs<'a> {
     number: &'a [u8],
 }
 
-/// A script, and what it is to be replied to.
-#[derive(Drop)]
-struct Script {
-    asked: Vec<u8>,
-    wanted: Vec<u8>,
-}
-
-fn new_script(alloc: Global) -> Script {
-    Script {
-        asked: Vec::new(alloc),
-        wanted: Vec::new(alloc),
-    }
-}
-
 // Puts a line behind the text, with what stands for its signs.
 fn put_line(text: &mut Vec<u8>, line: &str, signs: Signs<'_>) -> Result<(), AllocError> {
     for byte in line.as_bytes() {
@@ -50,23 +36,25 @@ fn put_lines(script: &mut Script, lines: Lines, signs: Signs<'_>) -> Result<(), 
     Ok(())
 }
 
-// Puts the lines behind the script, with a number in them.
-fn put_numbered(alloc: Global, script: &mut Script, lines: Lines, number: u64) -> Result<(), Fail> {
+/// No pairs, and no value.
+const NOTHING: (&[u8], &str) = (&[], "");
+
+// Puts the lines behind the script, with pairs, a value and a number in them.
+fn put_numbered(
+    alloc: Global,
+    script: &mut Script,
+    lines: Lines,
+    (pairs, value): (&[u8], &str),
+    number: u64,
+) -> Result<(), Fail> {
     let number = format!(in alloc; "{number}")?;
     let signs = Signs {
-        pairs: &[],
-        value: &[],
+        pairs,
+        value: value.as_bytes(),
         number: number.as_bytes(),
     };
     put_lines(script, lines, signs)?;
     Ok(())
-}
-
-// Whether the script is replied to so.
-fn is_replied(alloc: Global, script: &Script) -> Result<bool, AllocError> {
-    let mut output = Vec::new(alloc);
-    let is_done = ends_so(alloc, &mut script.asked.as_slice(), &mut output, 0, "")?;
-    Ok(is_done && output.as_slice() == script.wanted.as_slice())
 }
 
 // ---- leaves
@@ -134,14 +122,8 @@ fn serves_pairs(alloc: Global, tail: &str, value: &str, count: u32) -> Result<bo
     let pairs = pair_words(alloc, tail, count)?;
     let (tail_len, value_len) = (tail.len() as u64 / 2, value.len() as u64 / 2);
     let number = flushed(count, tail_len + 4, value_len);
-    let number = format!(in alloc; "{number}")?;
-    let signs = Signs {
-        pairs: &pairs,
-        value: value.as_bytes(),
-        number: number.as_bytes(),
-    };
     let mut script = new_script(alloc);
-    put_lines(&mut script, OF_PAIRS, signs)?;
+    put_numbered(alloc, &mut script, OF_PAIRS, (&pairs, value), number)?;
     Ok(is_replied(alloc, &script)?)
 }
 
@@ -220,34 +202,31 @@ const OF_NO_PAGE: Lines = &[
 fn serves_numbers(alloc: Global) -> Result<bool, Fail> {
     let mut script = new_script(alloc);
     for page in 2..=LAST_PAGE {
-        put_numbered(alloc, &mut script, OF_A_NEW_PAGE, page)?;
+        put_numbered(alloc, &mut script, OF_A_NEW_PAGE, NOTHING, page)?;
     }
     for page in PAGES {
-        put_numbered(alloc, &mut script, OF_A_PAGE, *page)?;
+        put_numbered(alloc, &mut script, OF_A_PAGE, NOTHING, *page)?;
     }
     for number in NO_PAGES {
-        put_numbered(alloc, &mut script, OF_NO_PAGE, *number)?;
+        put_numbered(alloc, &mut script, OF_NO_PAGE, NOTHING, *number)?;
     }
     Ok(is_replied(alloc, &script)?)
 }
 
 const OF_A_STAMP: Lines = &[("set 2 # 61 62", "ok +")];
 
+// Puts a link that makes the new stamp of the old one.
+fn put_stamp(alloc: Global, script: &mut Script, old: u64, new: u64) -> Result<(), Fail> {
+    let new = format!(in alloc; "{new}")?;
+    put_numbered(alloc, script, OF_A_STAMP, (&[], new.as_str()), old)
+}
+
 // Whether page 2 takes links up to this stamp.
 fn serves_stamps(alloc: Global, last: u64) -> Result<bool, Fail> {
     let mut script = new_script(alloc);
-    put_numbered(alloc, &mut script, OF_A_NEW_PAGE, 2)?;
+    put_numbered(alloc, &mut script, OF_A_NEW_PAGE, NOTHING, 2)?;
     for stamp in 1..last {
-        let (old, new) = (
-            format!(in alloc; "{stamp}")?,
-            format!(in alloc; "{}", stamp + 1)?,
-        );
-        let signs = Signs {
-            pairs: &[],
-            value: new.as_bytes(),
-            number: old.as_bytes(),
-        };
-        put_lines(&mut script, OF_A_STAMP, signs)?;
+        put_stamp(alloc, &mut script, stamp, stamp + 1)?;
     }
     Ok(is_replied(alloc, &script)?)
 }
@@ -285,9 +264,9 @@ const IDS: &[(u64, u64)] = &[
 fn serves_ids(alloc: Global, count: u64, bytes: u64) -> Result<bool, Fail> {
     let mut script = new_script(alloc);
     for id in 0..count {
-        put_numbered(alloc, &mut script, OF_AN_ID, id)?;
+        put_numbered(alloc, &mut script, OF_AN_ID, NOTHING, id)?;
     }
-    put_numbered(alloc, &mut script, OF_THE_LOG, bytes)?;
+    put_numbered(alloc, &mut script, OF_THE_LOG, NOTHING, bytes)?;
     Ok(is_replied(alloc, &script)?)
 }
 

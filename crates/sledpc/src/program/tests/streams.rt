@@ -105,11 +105,8 @@ fn flushes_so_before_failing(
 
 // Whether a line of so many digits and more, and those around it, are replied to so, and flushed where bars stand.
 fn flushes_around(alloc: Global, digits: usize, want: &str) -> Result<bool, AllocError> {
-    let mut script = Vec::from_slice(alloc, b"get 9\nset 9 10 61 ")?;
-    for _ in 0..digits {
-        script.push(b'0')?;
-    }
-    script.extend_from_slice(b"\nget 9\n")?;
+    let mut script = Vec::from_slice(alloc, b"get 9\n")?;
+    put_long(&mut script, digits)?;
     is_taken(alloc, &mut script.as_slice(), 999, want.as_bytes())
 }
 
@@ -129,17 +126,23 @@ fn put_pairs(text: &mut Vec<u8>) -> Result<(), AllocError> {
     Ok(())
 }
 
+// Puts these texts behind the text, with the pairs between each and the next.
+fn put_between(text: &mut Vec<u8>, parts: &[&str]) -> Result<(), AllocError> {
+    for (index, part) in parts.iter().enumerate() {
+        if index > 0 {
+            put_pairs(text)?;
+        }
+        text.extend_from_slice(part.as_bytes())?;
+    }
+    Ok(())
+}
+
 // Whether a leaf of 1,000 pairs is replied to twice and then flushed, by a writer with so much room.
 fn takes_large(alloc: Global, room: usize) -> Result<bool, AllocError> {
-    let mut script = Vec::from_slice(alloc, b"alloc")?;
-    put_pairs(&mut script)?;
-    script.extend_from_slice(b"\nget 2\nget 2\n")?;
-    let mut want = Vec::from_slice(alloc, b"page 2 1\nleaf 1")?;
-    put_pairs(&mut want)?;
-    want.extend_from_slice(b"\nleaf 1")?;
-    put_pairs(&mut want)?;
-    want.extend_from_slice(b"\n|")?;
-    is_taken(alloc, &mut script.as_slice(), room, &want)
+    let mut script = new_script(alloc);
+    put_between(&mut script.asked, &["alloc", "\nget 2\nget 2\n"])?;
+    put_between(&mut script.wanted, &["page 2 1\nleaf 1", "\nleaf 1", "\n|"])?;
+    is_taken(alloc, &mut script.asked.as_slice(), room, &script.wanted)
 }
 
 #[test]

@@ -1,9 +1,12 @@
 //! Lines that ask for calls, and lines that don't.
 
-use super::{Command, Mark, command_of};
+ghost use Rattle.std.specs.Prelude.{◌≤◌, length};
+ghost use Rattle.sledpc.specs.Settings.{longest_line};
+
+use super::{Mark, call_of, mark_of, tree_to_open};
 use crate::lines::MAX_LINE;
 use sled_pagecache::{Call, Item, Link, Node, PageId, PageView};
-use std::alloc::Global;
+use std::alloc::{AllocError, Global};
 use std::test::Fail;
 
 /// What a line asks for. Each token is that of page 2 at stamp 1.
@@ -58,26 +61,43 @@ fn is_wanted(call: &Call, want: Wanted<'_>) -> bool {
     }
 }
 
-fn is_asked(command: &Command, want: Wanted<'_>) -> bool {
-    match (command, want) {
-        (Command::OpenTree(name), Wanted::Open(asked)) => name.as_slice() == asked.as_bytes(),
-        (Command::Mark(mark), Wanted::Mark(asked)) => *mark == asked,
-        (Command::OpenTree(_) | Command::Mark(_), _) => false,
-        (Command::Call(call), want) => is_wanted(call, want),
-    }
+// Whether the line asks for this call, or for none. A call is let go here, and not in a test, which would be proved for each way
+// in which it may be kept.
+fn asks_for(alloc: Global, line: &[u8], want: Option<Wanted<'_>>) -> Result<bool, AllocError>
+    requires { length line.now ≤ longest_line }
+{
+    let found = call_of(alloc, line)?;
+    Ok(match (&found, want) {
+        (Some(call), Some(want)) => is_wanted(call, want),
+        (found, want) => found.is_none() && want.is_none(),
+    })
 }
 
-// Whether the line asks for this, or for nothing. A command is let go here, and not in a test, which would be proved for each
-// way in which it may be kept.
+// Whether the line asks for the tree of this name, or for none.
+fn opens(alloc: Global, line: &[u8], want: Option<&str>) -> Result<bool, AllocError>
+    requires { length line.now ≤ longest_line }
+{
+    let found = tree_to_open(alloc, line)?;
+    Ok(match (&found, want) {
+        (Some(name), Some(want)) => name.as_slice() == want.as_bytes(),
+        (found, want) => found.is_none() && want.is_none(),
+    })
+}
+
+// Whether the line asks for this alone, or for nothing.
 fn asks(alloc: Global, line: &str, want: Option<Wanted<'_>>) -> Result<bool, Fail> {
+    let line = line.as_bytes();
     // No line that is read is longer.
     if line.len() > MAX_LINE {
         return Err(Fail::from("a long line"));
     }
-    Ok(match (command_of(alloc, line.as_bytes())?, want) {
-        (Some(command), Some(want)) => is_asked(&command, want),
-        (command, want) => command.is_none() && want.is_none(),
-    })
+    let (mark, name, call) = match want {
+        Some(Wanted::Mark(mark)) => (Some(mark), None, None),
+        Some(Wanted::Open(name)) => (None, Some(name), None),
+        call => (None, None, call),
+    };
+    let is_asked = asks_for(alloc, line, call)? && opens(alloc, line, name)?;
+    Ok(is_asked && mark_of(line) == mark)
 }
 
 #[test]
