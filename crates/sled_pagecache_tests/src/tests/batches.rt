@@ -2,10 +2,15 @@
 
 ghost use Rattle.std.specs.Prelude.{◌≡◌, true};
 
-use super::failing::FailingLog;
+use super::calls::{draws, replaces_by_pair};
+use super::failing::Trouble::{Never, Write};
+use super::openings::{Faulty, opened_with};
+use super::scripts::left_by;
+use super::steps::Outcome::At;
+use super::steps::Sight::{Empty, Pair};
+use super::steps::Step::{AddsFrom, Flushes, Gets};
+use super::steps::{Outcome, shows};
 use super::*;
-
-type Faulty = PageCache<FailingLog>;
 
 // How a batch ends.
 #[derive(Clone, Copy, Debug, PartialEq, Eq)]
@@ -15,110 +20,87 @@ enum End {
     Cancelled,
 }
 
-// A leaf of one pair.
-fn leaf(alloc: Global) -> Result<Node, Error> {
-    let mut node = Node::default(alloc);
-    put(alloc, &mut node)?;
-    Ok(node)
+// Whether pages 2, 3 and 4 are replaced, each at stamp 1.
+fn replaces_three(alloc: Global, cache: &mut Faulty) -> bool
+    ensures { cache.new.batch ≡ cache.old.batch }
+{
+    replaces_by_pair(alloc, cache, 2, 1) == At(2)
+        && replaces_by_pair(alloc, cache, 3, 1) == At(2)
+        && replaces_by_pair(alloc, cache, 4, 1) == At(2)
 }
 
-// Sets the pair of a leaf.
-fn put(alloc: Global, node: &mut Node) -> Result<(), AllocError> {
-    let link = set(alloc, b"k", b"v")?;
-    if node.accepts(&link) {
-        return node.apply(&link);
+// What the calls inside a batch answer.
+fn answered(done: bool) -> Result<(), Error> {
+    if done {
+        Ok(())
+    } else {
+        Err(Error::Io(Device::Write))
     }
-    Ok(())
 }
 
-// Replaces a page that is at stamp 1.
-fn replace<L: Log>(alloc: Global, cache: &mut PageCache<L>, pid: PageId) -> Result<(), Error>
-    ensures { cache.new.batch ≡ cache.old.batch }
-{
-    let node = leaf(alloc)?;
-    let _ = cache.replace(pid, PageView::new(pid, 1), node)?;
-    Ok(())
-}
-
-fn replace_three<L: Log>(alloc: Global, cache: &mut PageCache<L>) -> Result<(), Error>
-    ensures { cache.new.batch ≡ cache.old.batch }
-{
-    replace(alloc, cache, 2)?;
-    replace(alloc, cache, 3)?;
-    replace(alloc, cache, 4)
-}
-
-// A batch of three replacements, which ends so.
-fn batch<L: Log>(alloc: Global, cache: &mut PageCache<L>, end: End) -> Result<(), Error> {
-    let mut guard = cache.pin_log()?;
-    let done = replace_three(alloc, guard.cache());
+// Whether a batch of three replacements is made, which ends so.
+fn batch(alloc: Global, cache: &mut Faulty, end: End) -> bool {
+    let Ok(mut guard) = cache.pin_log() else {
+        return false;
+    };
+    let done = replaces_three(alloc, guard.cache());
     if end == End::Cancelled {
-        let cancelled = guard.cancel();
-        done?;
-        return cancelled;
+        return guard.cancel().is_ok() && done;
     }
-    guard.settle(done)
+    guard.settle(answered(done)).is_ok()
 }
 
-fn adds_three(alloc: Global, cache: &mut Faulty) -> Result<(), Error> {
-    for _ in 0..3 {
-        let _ = cache.allocate(Node::default(alloc))?;
+// Adds three pages, flushes them, and makes a batch over them that ends so.
+fn writes(alloc: Global, cache: &mut Faulty, end: End) -> bool {
+    let is_flushed = shows(alloc, cache, &AddsFrom(2, 5)) && shows(alloc, cache, &Flushes);
+    if batch(alloc, cache, end) && end == End::Flushed {
+        return is_flushed && shows(alloc, cache, &Flushes);
     }
-    cache.flush()?;
-    Ok(())
+    is_flushed
 }
 
 // The log of a cache with three pages, which are flushed, and a batch over them that ends so. The write behind so many of the batch's
 // five events fails.
-fn written(alloc: Global, end: End, events: u64) -> Result<Option<MemLog>, Fail> {
+fn written(alloc: Global, end: End, events: u64) -> Option<MemLog> {
     // three writes open the cache, and four are the pages and their flush
-    let fails_at = if events < 5 { 8 + events } else { 0 };
-    let log = FailingLog::new(MemLog::new(alloc, 512, 16), 0, fails_at);
-    if log.batch_open() {
-        return Ok(None);
-    }
-    match PageCache::start(alloc, CONFIG, log) {
-        Ok(mut cache) => {
-            adds_three(alloc, &mut cache)?;
-            if batch(alloc, &mut cache, end).is_ok() && end == End::Flushed {
-                cache.flush()?;
-            }
-            Ok(log_of(cache).map(|log| log.into_log()))
-        }
-        Err((error, _)) => Err(error.into()),
-    }
+    let trouble = if events < 5 { Write(8 + events) } else { Never };
+    let mut cache = opened_with(alloc, MemLog::new(alloc, 512, 16), 10, &trouble).ok()?;
+    let is_so = writes(alloc, &mut cache, end);
+    Some(log_if(cache, is_so)?.into_log())
 }
 
 // Whether a page has the pair, or none where it has another.
-fn is_replaced(cache: &mut Cache, pid: PageId) -> Option<bool> {
-    if is_empty(cache, pid, 0) {
+fn is_replaced(alloc: Global, cache: &mut Cache, pid: PageId) -> Option<bool> {
+    if shows(alloc, cache, &Gets(pid, Empty(0))) {
         return Some(false);
     }
-    has_pair(cache, pid, 0, b"k", b"v").then_some(true)
+    shows(alloc, cache, &Gets(pid, Pair(0, b"k", b"v"))).then_some(true)
 }
 
-// How many pages are replaced where a crash leaves so many of the pending events: the first ones, or none where another page is. There
-// is none where a crash may not leave them.
+// How many pages are replaced: the first ones, or none where another page is.
+fn replaced_in(alloc: Global, cache: &mut Cache) -> Option<usize> {
+    match (
+        is_replaced(alloc, cache, 2),
+        is_replaced(alloc, cache, 3),
+        is_replaced(alloc, cache, 4),
+    ) {
+        (Some(false), Some(false), Some(false)) => Some(0),
+        (Some(true), Some(false), Some(false)) => Some(1),
+        (Some(true), Some(true), Some(false)) => Some(2),
+        (Some(true), Some(true), Some(true)) => Some(3),
+        _ => None,
+    }
+}
+
+// The same where a crash leaves so many of the pending events. There is none where a crash may not leave them.
 fn replaced(alloc: Global, end: End, events: u64, kept: usize) -> Result<Option<usize>, Fail> {
-    let Some(log) = written(alloc, end, events)? else {
+    let Some(log) = written(alloc, end, events) else {
         return Err("a batch that is open".into());
     };
-    let Some(mut cache) = left_by(alloc, log, kept) else {
-        return Ok(None);
-    };
-    Ok(
-        match (
-            is_replaced(&mut cache, 2),
-            is_replaced(&mut cache, 3),
-            is_replaced(&mut cache, 4),
-        ) {
-            (Some(false), Some(false), Some(false)) => Some(0),
-            (Some(true), Some(false), Some(false)) => Some(1),
-            (Some(true), Some(true), Some(false)) => Some(2),
-            (Some(true), Some(true), Some(true)) => Some(3),
-            _ => None,
-        },
-    )
+    match left_by(alloc, log, kept) {
+        Some(mut cache) => Ok(replaced_in(alloc, &mut cache)),
+        None => Ok(None),
+    }
 }
 
 // How many replacements are among so many events of a batch of three.
@@ -160,10 +142,6 @@ fn a_crash_leaves_a_batch_whole_or_not_at_all(rt: HostRuntime) -> Result<(), Fai
     Ok(())
 }
 
-fn is_too_early<T: Drop>(answer: Result<T, Error>) -> bool {
-    matches!(answer, Err(Error::Unsupported(Why::BatchOpen)))
-}
-
 // Whether a batch inside another is refused.
 fn refuses_a_second(cache: &mut Cache) -> bool
     requires { cache.old.batch ≡ true }
@@ -179,10 +157,9 @@ fn refuses_a_second(cache: &mut Cache) -> bool
 fn refuses_to_be_durable(cache: &mut Cache) -> bool
     ensures { cache.new.batch ≡ cache.old.batch }
 {
-    let flushed = cache.flush();
-    let first = cache.generate_id_inner();
-    let second = cache.generate_id_inner();
-    is_too_early(flushed) && matches!(first, Ok(0)) && is_too_early(second)
+    cache.flush() == Err(Error::Unsupported(Why::BatchOpen))
+        && cache.generate_id_inner() == Ok(0)
+        && cache.generate_id_inner() == Err(Error::Unsupported(Why::BatchOpen))
 }
 
 // Whether a page is added, linked and freed, and a tree is opened.
@@ -199,31 +176,35 @@ fn serves(alloc: Global, cache: &mut Cache) -> Result<bool, Error>
     Ok(open_tree(cache, name)? == 3 && is_freed)
 }
 
-// A cache in which each id but the first needs a new counter.
-fn counting(alloc: Global) -> Result<Cache, Fail> {
+// Whether a batch serves what writes nothing durable, refuses the rest, and ends.
+fn stays_pending(alloc: Global, cache: &mut Cache) -> bool {
+    let Ok(mut guard) = cache.pin_log() else {
+        return false;
+    };
+    let is_so = guard.cache().batch_open()
+        && matches!(serves(alloc, guard.cache()), Ok(true))
+        && refuses_to_be_durable(guard.cache())
+        && refuses_a_second(guard.cache());
+    guard.seal_batch().is_ok() && is_so
+}
+
+// Whether a cache does so in which each id but the first needs a new counter, and gives the next id behind the batch.
+fn serves_in_a_batch(alloc: Global) -> bool {
     let config = Config {
         idgen_persist_interval: 1,
         ..CONFIG
     };
-    Ok(open(alloc, config).map_err(|(error, _)| error)?)
-}
-
-// Whether a batch serves what writes nothing durable, refuses the rest, and ends.
-fn stays_pending(alloc: Global, cache: &mut Cache) -> Result<bool, Error> {
-    let mut guard = cache.pin_log()?;
-    let is_open = guard.cache().batch_open();
-    let serves = serves(alloc, guard.cache());
-    let refuses = refuses_to_be_durable(guard.cache()) && refuses_a_second(guard.cache());
-    guard.seal_batch()?;
-    Ok(is_open && serves? && refuses)
+    match opened_over(alloc, config, MemLog::new(alloc, 512, 16)) {
+        Some(mut cache) => {
+            stays_pending(alloc, &mut cache)
+                && !cache.batch_open()
+                && draws(&mut cache) == Outcome::Id(1)
+        }
+        None => false,
+    }
 }
 
 #[test]
-fn nothing_is_made_durable_inside_a_batch(rt: HostRuntime) -> Result<(), Fail> {
-    let alloc = rt.alloc();
-    let mut cache = counting(alloc)?;
-    assert!(rt; stays_pending(alloc, &mut cache)?);
-    assert!(rt; !cache.batch_open());
-    assert_eq!(rt; cache.generate_id_inner()?, 1);
-    Ok(())
+fn nothing_is_made_durable_inside_a_batch(rt: HostRuntime) {
+    assert!(rt; serves_in_a_batch(rt.alloc()));
 }

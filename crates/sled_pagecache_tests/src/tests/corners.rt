@@ -1,6 +1,12 @@
 // Each call of the cache on leaves and indexes of none to 1,000 pairs, over all keys and under a prefix, with short and long keys and
 // values, whose payloads are blobs or not; and on pages by the lengths of their ids.
 
+use super::calls::{adds, flushes, links, replaces};
+use super::scripts::left_by;
+use super::steps::Outcome::{At, Made, Unaccepted};
+use super::steps::Sight::{Absent, Empty, Pair};
+use super::steps::Step::{Adds, AddsFrom, Frees, Gets, Links, Replaces, Takes};
+use super::steps::{PAIR, shown, shows};
 use super::*;
 
 const COUNTS: &[u32] = &[0, 1, 2, 3, 16, 17, 1_000];
@@ -127,8 +133,8 @@ const CHANGES: &[Change] = &[
     Change::Cap,
 ];
 
-fn link_of(alloc: Global, tail: &[u8], change: Change) -> Result<Link, AllocError> {
-    Ok(match change {
+fn link_of(alloc: Global, tail: &[u8], change: &Change) -> Result<Link, AllocError> {
+    Ok(match *change {
         Change::Set(value) => Link::Set(key_at(alloc, tail, 0)?, IVec::from_slice(alloc, value)?),
         Change::Del => Link::Del(key_at(alloc, tail, 0)?),
         Change::Intend(i) => Link::ParentMergeIntention(page_at(i)),
@@ -149,23 +155,27 @@ fn is_kept(cache: &mut Cache, pid: PageId, stamp: u32, same: &Node) -> bool {
 
 // Links page 2, and the same node beside it, if that accepts the link; else the cache refuses it. The stamp behind it, if all is so.
 fn changed(
+    alloc: Global,
     cache: &mut Cache,
     same: &mut Node,
     stamp: u32,
-    link: Link,
+    change: (&[u8], &Change),
 ) -> Result<Option<u32>, AllocError> {
-    let old = u64::from(stamp);
-    let accepts = same.accepts(&link);
+    let beside = link_of(alloc, change.0, change.1)?;
+    let accepts = same.accepts(&beside);
     if accepts {
-        same.apply(&link)?;
+        same.apply(&beside)?;
     }
-    let (stamp, wanted) = if accepts {
-        (stamp.saturating_add(1), Ok(Ok(PageView::new(2, old + 1))))
+    let link = link_of(alloc, change.0, change.1)?;
+    let next = stamp.saturating_add(u32::from(accepts));
+    let wanted = if accepts {
+        At(u64::from(next))
     } else {
-        (stamp, Err(Error::ReportableBug(Bug::LinkRefused)))
+        Unaccepted
     };
-    let is_so = answers(cache, 2, old, link, wanted) && is_kept(cache, 2, stamp, same);
-    Ok(is_so.then(|| stamp))
+    let is_so = links(cache, 2, u64::from(stamp), link, &beside) == wanted
+        && is_kept(cache, 2, next, same);
+    Ok(is_so.then_some(next))
 }
 
 // Whether page 2, at stamp 1, takes all links as the same node does.
@@ -177,8 +187,7 @@ fn is_linked(
 ) -> Result<bool, AllocError> {
     let mut stamp = 1;
     for change in CHANGES {
-        let link = link_of(alloc, tail, *change)?;
-        match changed(cache, same, stamp, link)? {
+        match changed(alloc, cache, same, stamp, (tail, change))? {
             Some(next) => stamp = next,
             None => return Ok(false),
         }
@@ -194,74 +203,45 @@ fn size_with(alloc: Global, node: &Node) -> Result<u64, AllocError> {
     Ok((payload.len() as u64).saturating_add(52))
 }
 
-fn has_size(cache: &Cache, size: u64) -> bool {
-    matches!(cache.size_on_disk(), Ok(found) if found == size)
+// Whether the node goes to page 2, at this stamp.
+fn comes(cache: &mut Cache, node: Node, stamp: u32, same: &Node) -> bool {
+    adds(cache, node) == Made(2, u64::from(stamp)) && is_kept(cache, 2, stamp, same)
 }
 
 // The log in which the node went to page 2, and took all links as the same node does.
 fn written(alloc: Global, shape: &Shape, same: &mut Node) -> Result<Option<MemLog>, Fail> {
-    let mut cache = started(alloc, shape.blob_limit)?;
+    let node = node(alloc, shape)?;
     let size = size_with(alloc, same)?;
-    let is_so = adds(&mut cache, node(alloc, shape)?, 2)
-        && has_size(&cache, size)
-        && is_kept(&mut cache, 2, 1, same)
-        && is_linked(alloc, &mut cache, same, shape.tail)?;
+    let Some(mut cache) = started(alloc, shape.blob_limit) else {
+        return Ok(None);
+    };
+    let is_so = comes(&mut cache, node, 1, same)
+        && shows(alloc, &mut cache, &Takes(size))
+        && is_linked(alloc, &mut cache, same, shape.tail) == Ok(true);
     Ok(log_if(cache, is_so))
 }
 
 // Whether all behind the system pages is made stable, and nothing a second time.
 fn is_flushed(cache: &mut Cache) -> bool {
-    match (cache.size_on_disk(), cache.flush(), cache.flush()) {
-        (Ok(size), Ok(first), Ok(second)) => first as u64 == size.saturating_sub(35) && second == 0,
+    match (cache.size_on_disk(), flushes(cache), flushes(cache)) {
+        (Ok(size), Ok(first), Ok(0)) => first as u64 == size.saturating_sub(35),
         _ => false,
     }
 }
 
 // The log in which page 2, at stamp 0, was replaced by the node, and flushed.
-fn replaced(
-    alloc: Global,
-    cache: Cache,
-    shape: &Shape,
-    same: &Node,
-) -> Result<Option<MemLog>, Fail> {
-    let mut cache = cache;
-    let is_so = is_answer(
-        &mut cache,
-        2,
-        0,
-        node(alloc, shape)?,
-        Ok(Ok(PageView::new(2, 1))),
-    ) && is_kept(&mut cache, 2, 1, same)
+fn replaced(mut cache: Cache, node: Node, same: &Node) -> Option<MemLog> {
+    let is_so = replaces(&mut cache, 2, 0, node, same) == At(1)
+        && is_kept(&mut cache, 2, 1, same)
         && is_flushed(&mut cache);
-    Ok(log_if(cache, is_so))
-}
-
-fn frees(cache: &mut Cache, pid: PageId, stamp: u32) -> bool {
-    let old = u64::from(stamp);
-    match cache.free(pid, PageView::new(pid, old)) {
-        Ok(Ok(token)) => token == PageView::new(pid, old + 1),
-        _ => false,
-    }
-}
-
-// Whether the node goes to the free page, at this stamp.
-fn comes_again(cache: &mut Cache, node: Node, pid: PageId, stamp: u64) -> bool {
-    match cache.allocate(node) {
-        Ok(made) => made == (pid, PageView::new(pid, stamp)),
-        Err(_) => false,
-    }
+    log_if(cache, is_so)
 }
 
 // Whether page 2 holds the same node, and once it was freed another one.
-fn ends(alloc: Global, cache: Cache, shape: &Shape, same: &Node) -> Result<bool, Fail> {
-    let mut cache = cache;
-    Ok(
-        is_kept(&mut cache, 2, 0, same)
-            && frees(&mut cache, 2, 0)
-            && is_absent(&mut cache, 2)
-            && comes_again(&mut cache, node(alloc, shape)?, 2, 2)
-            && is_kept(&mut cache, 2, 2, same),
-    )
+fn ends(alloc: Global, cache: &mut Cache, node: Node, same: &Node) -> bool {
+    is_kept(cache, 2, 0, same)
+        && shown(alloc, cache, &[Frees(2, 0, At(1)), Gets(2, Absent)]) == 2
+        && comes(cache, node, 2, same)
 }
 
 // The cache that is opened again over what was written, if page 2 has the node there that all links made.
@@ -270,7 +250,7 @@ fn linked(alloc: Global, shape: &Shape) -> Result<Option<Cache>, Fail> {
     let Some(log) = written(alloc, shape, &mut same)? else {
         return Ok(None);
     };
-    let Some(mut cache) = reopened(alloc, log) else {
+    let Some(mut cache) = opened_over(alloc, CONFIG, log) else {
         return Ok(None);
     };
     if is_kept(&mut cache, 2, 0, &same) {
@@ -279,18 +259,21 @@ fn linked(alloc: Global, shape: &Shape) -> Result<Option<Cache>, Fail> {
     Ok(None)
 }
 
+// Whether page 2 holds the node through the rest of the calls.
+fn lasts(alloc: Global, cache: Cache, (first, second): (Node, Node), same: &Node) -> bool {
+    match replaced(cache, first, same).and_then(|log| left_by(alloc, log, 0)) {
+        Some(mut cache) => ends(alloc, &mut cache, second, same),
+        None => false,
+    }
+}
+
 // Whether page 2 holds the node through all calls: it is added, linked, opened again, replaced, flushed, left by a crash, freed
 // and added again.
 fn is_held(alloc: Global, shape: &Shape) -> Result<bool, Fail> {
-    let Some(cache) = linked(alloc, shape)? else {
-        return Ok(false);
-    };
-    let fresh = node(alloc, shape)?;
-    let Some(log) = replaced(alloc, cache, shape, &fresh)? else {
-        return Ok(false);
-    };
-    match left_by(alloc, log, 0) {
-        Some(cache) => ends(alloc, cache, shape, &fresh),
+    let nodes = (node(alloc, shape)?, node(alloc, shape)?);
+    let same = node(alloc, shape)?;
+    match linked(alloc, shape)? {
+        Some(cache) => Ok(lasts(alloc, cache, nodes, &same)),
         None => Ok(false),
     }
 }
@@ -330,47 +313,36 @@ fn nodes_are_held_at_each_size(rt: HostRuntime) -> Result<(), Fail> {
 
 const PAGES: &[PageId] = &[2, 3, 16, 17, 239, 240, 241, 2_286, 2_287, 2_288, 2_289];
 
-// Whether the empty leaf at this stamp is linked, replaced, freed and added again.
-fn serves_at(alloc: Global, cache: &mut Cache, pid: PageId, stamp: u32) -> Result<bool, Fail> {
+// Whether each empty leaf at this stamp is linked, replaced, freed and added again.
+fn serve(alloc: Global, cache: &mut Cache, stamp: u32) -> bool {
     let old = u64::from(stamp);
-    let link = set(alloc, b"b", b"v")?;
-    Ok(
-        answers(cache, pid, old, link, Ok(Ok(PageView::new(pid, old + 1))))
-            && has_pair(cache, pid, old + 1, b"b", b"v")
-            && is_answer(
-                cache,
-                pid,
-                old + 1,
-                Node::default(alloc),
-                Ok(Ok(PageView::new(pid, old + 2))),
-            )
-            && is_empty(cache, pid, old + 2)
-            && frees(cache, pid, stamp.saturating_add(2))
-            && is_absent(cache, pid)
-            && comes_again(cache, Node::default(alloc), pid, old + 4)
-            && is_empty(cache, pid, old + 4),
-    )
-}
-
-// Whether each of the pages does that.
-fn serve(alloc: Global, cache: &mut Cache, stamp: u32) -> Result<bool, Fail> {
     for pid in PAGES {
-        if !serves_at(alloc, cache, *pid, stamp)? {
-            return Ok(false);
+        let steps = [
+            Links(*pid, old, PAIR, At(old + 1)),
+            Gets(*pid, Pair(old + 1, b"b", b"v")),
+            Replaces(*pid, old + 1, At(old + 2)),
+            Gets(*pid, Empty(old + 2)),
+            Frees(*pid, old + 2, At(old + 3)),
+            Gets(*pid, Absent),
+            Adds(*pid, old + 4),
+            Gets(*pid, Empty(old + 4)),
+        ];
+        if shown(alloc, cache, &steps) != steps.len() {
+            return false;
         }
     }
-    Ok(true)
+    true
+}
+
+// Whether they do so in a new cache, and in one that is opened again over its log.
+fn serve_twice(alloc: Global) -> Option<bool> {
+    let mut cache = started(alloc, 512)?;
+    let is_so = shows(alloc, &mut cache, &AddsFrom(2, 2_290)) && serve(alloc, &mut cache, 1);
+    let mut cache = opened_over(alloc, CONFIG, log_if(cache, is_so)?)?;
+    Some(serve(alloc, &mut cache, 0))
 }
 
 #[test]
-fn pages_serve_at_each_id(rt: HostRuntime) -> Result<(), Fail> {
-    let alloc = rt.alloc();
-    let mut cache = opened(alloc)?;
-    for pid in 2..2_290 {
-        assert!(rt; adds_leaf(alloc, &mut cache, pid), "page {pid}");
-    }
-    assert!(rt; serve(alloc, &mut cache, 1)?);
-    let mut cache = reopened(alloc, log_of(cache).ok_or("a log")?).ok_or("the cache again")?;
-    assert!(rt; serve(alloc, &mut cache, 0)?);
-    Ok(())
+fn pages_serve_at_each_id(rt: HostRuntime) {
+    assert_eq!(rt; serve_twice(rt.alloc()), Some(true));
 }

@@ -1,111 +1,99 @@
 // Pages that leave memory, the one that was used longest ago first.
 
+use super::scripts::walks_at;
+use super::steps::Change::Set;
+use super::steps::Outcome::{At, Stale};
+use super::steps::Sight::{Empty, Holds};
+use super::steps::Step::{AddsFrom, Gets, Links, Reads};
+use super::steps::{PAIR, Step};
 use super::*;
 
-// A cache of which each shard has room for so many bytes, with the empty leaves 2 to 258. Each of them takes 25 bytes of the log,
-// rounded 32, and 2 and 258 share a shard.
-fn crowded(alloc: Global, shard: u32) -> Result<Option<Cache>, Fail> {
-    let config = Config {
-        cache_capacity: 256 * u64::from(shard),
-        idgen_persist_interval: 10,
-        segment_size: 4096,
-    };
-    let Ok(mut cache) = open(alloc, config) else {
-        return Ok(None);
-    };
-    for pid in 2..259 {
-        if !adds_leaf(alloc, &mut cache, pid) {
-            return Ok(None);
-        }
-    }
-    Ok(Some(cache))
-}
+// The empty leaves 2 to 258. Each of them takes 25 bytes of the log, rounded 32, and 2 and 258 share a shard.
+const CROWD: Step = AddsFrom(2, 259);
 
-// How often the log was read once these pages, which are empty leaves, were asked for.
-fn reads_for(alloc: Global, shard: u32, pids: &[PageId]) -> Result<Option<u64>, Fail> {
-    let Some(mut cache) = crowded(alloc, shard)? else {
-        return Ok(None);
-    };
-    for pid in pids {
-        if !is_empty(&mut cache, *pid, 1) {
-            return Ok(None);
-        }
-    }
-    Ok(log_of(cache).map(|log| log.reads()))
-}
+const FIRST: Step = Gets(2, Empty(1));
 
-#[test]
-fn the_page_of_the_last_use_stays(rt: HostRuntime) -> Result<(), Fail> {
-    let alloc = rt.alloc();
-    for (pids, reads) in [
-        ([258].as_slice(), 0),
-        (&[2], 1),
-        (&[2, 2], 1),
-        (&[2, 2, 258], 2),
-        (&[2, 258, 2], 3),
-        (&[3, 4, 257], 0),
-    ] {
-        assert_eq!(rt; reads_for(alloc, 1, pids)?, Some(reads), "{pids:?}");
-    }
-    Ok(())
-}
+const LAST: Step = Gets(258, Empty(1));
 
-#[test]
-fn as_many_pages_stay_as_a_shard_has_room_for(rt: HostRuntime) -> Result<(), Fail> {
-    let alloc = rt.alloc();
-    assert_eq!(rt; reads_for(alloc, 63, &[258, 2, 258])?, Some(2));
-    assert_eq!(rt; reads_for(alloc, 64, &[258, 2, 258])?, Some(0));
-    Ok(())
-}
+// A link after which page 258 takes 146 bytes of the log, rounded 256.
+const LENGTHENS: Step = Links(258, 1, Set(b"b", &[7; 100]), At(2));
 
-// How often the log was read once a link by the token with this stamp was answered so on page 2, which has left memory.
-fn reads_of_link(alloc: Global, stamp: u64) -> Result<Option<u64>, Fail> {
-    let Some(mut cache) = crowded(alloc, 1)? else {
-        return Ok(None);
-    };
-    let (link, same) = (set(alloc, b"b", b"v")?, set(alloc, b"b", b"v")?);
-    let answered = if stamp == 1 {
-        takes(&mut cache, link)
-    } else {
-        is_stale(&mut cache, stamp, link, PageView::new(2, 1), same)
-    };
-    Ok(log_if(cache, answered).map(|log| log.reads()))
-}
+const LONG: Step = Gets(258, Holds(2, 1));
 
-#[test]
-fn a_stale_link_reads_nothing(rt: HostRuntime) -> Result<(), Fail> {
-    let alloc = rt.alloc();
-    assert_eq!(rt; reads_of_link(alloc, 7)?, Some(0));
-    assert_eq!(rt; reads_of_link(alloc, 1)?, Some(1));
-    Ok(())
-}
-
-// How often the log was read once a link was put on page 258, which takes 146 bytes of the log then, rounded 256, and the pages were
-// asked for.
-fn reads_after_link(alloc: Global, shard: u32) -> Result<Option<u64>, Fail> {
-    let Some(mut cache) = crowded(alloc, shard)? else {
-        return Ok(None);
-    };
-    let link = set(alloc, b"b", &[7; 100])?;
-    let linked = answers(&mut cache, 258, 1, link, Ok(Ok(PageView::new(258, 2))));
-    let stays = linked && has_one(&mut cache, 258) && has_one(&mut cache, 258);
-    let found = stays && is_empty(&mut cache, 2, 1);
-    Ok(log_if(cache, found).map(|log| log.reads()))
-}
-
-// Whether the page has a node of one pair.
-fn has_one(cache: &mut Cache, pid: PageId) -> bool {
-    match cache.get(pid) {
-        Ok(Some(view)) => view.node().len() == 1,
-        _ => false,
-    }
-}
+// Caches of which each shard has room for so many bytes, and how often the log was read at the end.
+const SCRIPTS: [(&str, u32, &[Step]); 13] = [
+    ("the last page stays", 1, &[CROWD, LAST, Reads(0)]),
+    ("the first has left", 1, &[CROWD, FIRST, Reads(1)]),
+    ("it stays then", 1, &[CROWD, FIRST, FIRST, Reads(1)]),
+    (
+        "the last has left then",
+        1,
+        &[CROWD, FIRST, FIRST, LAST, Reads(2)],
+    ),
+    (
+        "each puts out the other",
+        1,
+        &[CROWD, FIRST, LAST, FIRST, Reads(3)],
+    ),
+    (
+        "pages that are alone in their shards stay",
+        1,
+        &[
+            CROWD,
+            Gets(3, Empty(1)),
+            Gets(4, Empty(1)),
+            Gets(257, Empty(1)),
+            Reads(0),
+        ],
+    ),
+    (
+        "a byte too few for two pages",
+        63,
+        &[CROWD, LAST, FIRST, LAST, Reads(2)],
+    ),
+    (
+        "room for two pages",
+        64,
+        &[CROWD, LAST, FIRST, LAST, Reads(0)],
+    ),
+    (
+        "a stale link reads nothing",
+        1,
+        &[CROWD, Links(2, 7, PAIR, Stale(1)), Reads(0)],
+    ),
+    (
+        "a link reads the page",
+        1,
+        &[CROWD, Links(2, 1, PAIR, At(2)), Reads(1)],
+    ),
+    (
+        "a page larger than its shard stays alone",
+        64,
+        &[CROWD, LENGTHENS, LONG, LONG, FIRST, Reads(1)],
+    ),
+    (
+        "a byte too few for both",
+        287,
+        &[CROWD, LENGTHENS, LONG, LONG, FIRST, Reads(1)],
+    ),
+    (
+        "room for both",
+        288,
+        &[CROWD, LENGTHENS, LONG, LONG, FIRST, Reads(0)],
+    ),
+];
 
 #[test]
-fn a_page_larger_than_its_shard_stays_alone(rt: HostRuntime) -> Result<(), Fail> {
-    let alloc = rt.alloc();
-    for (shard, reads) in [(64, 1), (287, 1), (288, 0)] {
-        assert_eq!(rt; reads_after_link(alloc, shard)?, Some(reads), "{shard}");
+fn the_pages_of_the_last_use_stay(rt: HostRuntime) {
+    for (name, shard, steps) in SCRIPTS {
+        let config = Config {
+            cache_capacity: 256 * u64::from(shard),
+            ..CONFIG
+        };
+        assert_eq!(rt;
+            walks_at(rt.alloc(), config, 512, steps),
+            steps.len(),
+            "{name}"
+        );
     }
-    Ok(())
 }

@@ -7,6 +7,16 @@ ghost use Rattle.sled_log.specs.Memory.{kept_in, state_of, clock_of, might_have_
 
 use super::*;
 
+// Which read or write of a log fails, or which message finds it full, each counted from 1, or the room that it has.
+#[derive(Clone, Copy)]
+pub(super) enum Trouble {
+    Never,
+    Read(u64),
+    Write(u64),
+    Full(u64),
+    Room(u64),
+}
+
 // A log in memory. The read with one number fails, and the write with the other, each counted from 1, and no other. A write that
 // fails writes nothing. It takes no message that would make it larger than it may be, and not the one with a third number.
 #[derive(Drop)]
@@ -24,7 +34,7 @@ pub(super) struct FailingLog {
 }
 
 // One more, unless the count is the greatest.
-fn one_more(count: u64) -> u64
+pub(super) fn one_more(count: u64) -> u64
     ensures { result ≡ one_more count }
 {
     if count == u64::MAX { count } else { count + 1 }
@@ -39,16 +49,22 @@ fn is_next(count: &mut u64, number: u64) -> bool
 }
 
 impl FailingLog {
-    pub(super) fn new(log: MemLog, fails_to_read: u64, fails_to_write: u64) -> FailingLog
-        ensures log { result.log ≡ log }
+    pub(super) fn new(log: MemLog, trouble: &Trouble) -> FailingLog
         ensures usable { result.faults ≡ 0 }
     {
+        let (fails_to_read, fails_to_write, full_at, room) = match *trouble {
+            Trouble::Never => (0, 0, 0, u64::MAX),
+            Trouble::Read(number) => (number, 0, 0, u64::MAX),
+            Trouble::Write(number) => (0, number, 0, u64::MAX),
+            Trouble::Full(number) => (0, 0, number, u64::MAX),
+            Trouble::Room(bytes) => (0, 0, 0, bytes),
+        };
         FailingLog {
             log,
             fails_to_read,
             fails_to_write,
-            room: u64::MAX,
-            full_at: 0,
+            room,
+            full_at,
             reads: 0,
             writes: 0,
             appends: 0,
@@ -57,30 +73,8 @@ impl FailingLog {
         }
     }
 
-    // A log of which no call fails, with room for so many bytes.
-    pub(super) fn with_room(log: MemLog, room: u64) -> FailingLog
-        ensures log { result.log ≡ log }
-        ensures usable { result.faults ≡ 0 }
-    {
-        let mut full = FailingLog::new(log, 0, 0);
-        full.room = room;
-        full
-    }
-
-    // A log of which one write fails, and that is full for one message.
-    pub(super) fn full_once(log: MemLog, fails_to_write: u64, full_at: u64) -> FailingLog
-        ensures log { result.log ≡ log }
-        ensures usable { result.faults ≡ 0 }
-    {
-        let mut full = FailingLog::new(log, 0, fails_to_write);
-        full.full_at = full_at;
-        full
-    }
-
     // What is left of it.
-    pub(super) fn into_log(self) -> MemLog
-        ensures { result ≡ self.log }
-    {
+    pub(super) fn into_log(self) -> MemLog {
         self.log
     }
 }

@@ -1,126 +1,104 @@
-// A list of calls, each made a second time where an allocation failed. Run with one allocation refused, whichever it is, it gives
-// the same answers and as many bytes: what was refused had changed nothing.
+// Scripts of calls, each of which is made a second time where an allocation failed. Run with one allocation refused, whichever it
+// is, they show the same and as many bytes: what was refused had changed nothing.
 
-ghost use Rattle.std.specs.Prelude.{◌≡◌};
-
+use super::calls::{draws, names_and_stamp, replaces_by_pair};
+use super::steps::Outcome::At;
+use super::steps::Sight::{Absent, Pair};
+use super::steps::Step::{Adds, Frees, Gets, Links, ReplacesByPair, Takes, Writes};
+use super::steps::{Outcome, PAIR, Step, shows, shows_page};
 use super::*;
 
-// Whether a call did what it should, and none where an allocation failed.
-type Done = Option<bool>;
-
+// A cache over the log, which is opened a second time where an allocation failed.
 fn opens(alloc: Global, log: MemLog) -> Option<Cache> {
-    if log.batch_open() {
-        return None;
-    }
-    match PageCache::start(alloc, CONFIG, log) {
+    match opening(alloc, CONFIG, log) {
         Ok(cache) => Some(cache),
-        Err((Error::OutOfMemory, log)) => reopened(alloc, log),
+        Err((Error::OutOfMemory, log)) => opened_over(alloc, CONFIG, log),
         Err(_) => None,
     }
 }
 
-fn adds_once(alloc: Global, cache: &mut Cache, pid: PageId) -> Done {
-    match cache.allocate(Node::default(alloc)) {
-        Ok(made) => Some(made == (pid, PageView::new(pid, 1))),
-        Err(Error::OutOfMemory) => None,
-        Err(_) => Some(false),
+// Whether a step shows what it should. It is made a second time where an allocation failed.
+fn makes(alloc: Global, cache: &mut Cache, step: &Step) -> bool {
+    match shows_page(alloc, cache, step) {
+        Some(is_so) => is_so,
+        None => shows(alloc, cache, step),
     }
 }
 
-fn adds_page(alloc: Global, cache: &mut Cache, pid: PageId) -> bool {
-    match adds_once(alloc, cache, pid) {
-        Some(done) => done,
-        None => adds_leaf(alloc, cache, pid),
-    }
-}
-
-// What a swap of a page answered: its token, that an allocation failed, or something else.
-fn has_token<R>(answer: &Result<Result<PageView, R>, Error>, token: PageView) -> Done {
-    match answer {
-        Ok(Ok(given)) => Some(*given == token),
-        Err(Error::OutOfMemory) => None,
-        _ => Some(false),
-    }
-}
-
-// Links page 2 at this stamp.
-fn links_once(alloc: Global, cache: &mut Cache, old: u32) -> Done {
-    let old = u64::from(old);
-    let Ok(link) = set(alloc, b"b", b"v") else {
-        return Some(false);
-    };
-    let answer = cache.link(2, PageView::new(2, old), link);
-    let done = has_token(&answer, PageView::new(2, old + 1));
-    let_go(answer);
-    done
-}
-
-fn links_page(alloc: Global, cache: &mut Cache, old: u32) -> bool {
-    match links_once(alloc, cache, old) {
-        Some(done) => done,
-        None => links_once(alloc, cache, old) == Some(true),
-    }
-}
-
-// Whether page 2 takes links at stamps 1 to 11, and the log has so many bytes then.
-fn takes_eleven_links(alloc: Global, cache: &mut Cache, bytes: u64) -> bool {
-    for old in 1..12 {
-        if !links_page(alloc, cache, old) {
-            return false;
+// How many steps show what they should, before the first that doesn't.
+fn made(alloc: Global, cache: &mut Cache, steps: &[Step]) -> usize {
+    for (done, step) in steps.iter().enumerate() {
+        if !makes(alloc, cache, step) {
+            return done;
         }
     }
-    has_bytes(cache, bytes)
+    steps.len()
 }
 
-// A leaf of one pair.
-fn leaf_once(alloc: Global) -> Option<Node> {
-    let mut node = Node::default(alloc);
-    let Ok(link) = set(alloc, b"k", b"v") else {
-        return None;
-    };
-    if !node.accepts(&link) || node.apply(&link).is_err() {
-        return None;
-    }
-    Some(node)
+// Two pages are added, and one is linked and the other replaced. The links take so many bytes of the log: nine links, the node of one
+// pair that the tenth makes, and a link.
+const FILLED: &[Step] = &[
+    Takes(35),
+    Adds(2, 1),
+    Adds(3, 1),
+    Takes(85),
+    Links(2, 1, PAIR, At(2)),
+    Links(2, 2, PAIR, At(3)),
+    Links(2, 3, PAIR, At(4)),
+    Links(2, 4, PAIR, At(5)),
+    Links(2, 5, PAIR, At(6)),
+    Links(2, 6, PAIR, At(7)),
+    Links(2, 7, PAIR, At(8)),
+    Links(2, 8, PAIR, At(9)),
+    Links(2, 9, PAIR, At(10)),
+    Links(2, 10, PAIR, At(11)),
+    Links(2, 11, PAIR, At(12)),
+    Takes(85 + 9 * 22 + 29 + 22),
+    ReplacesByPair(3, 1, At(2)),
+    Takes(363),
+    Writes(328),
+];
+
+// Both stand again, and one is linked and the other freed.
+const FOUND: &[Step] = &[
+    Gets(2, Pair(0, b"b", b"v")),
+    Gets(3, Pair(0, b"k", b"v")),
+    Links(2, 0, PAIR, At(1)),
+    Takes(385),
+    Frees(3, 0, At(1)),
+    Takes(402),
+];
+
+fn new_cache(alloc: Global) -> Option<Cache> {
+    opens(alloc, MemLog::new(alloc, 512, 16))
 }
 
-fn leaf(alloc: Global) -> Option<Node> {
-    match leaf_once(alloc) {
-        Some(node) => Some(node),
-        None => leaf_once(alloc),
-    }
+// How many of these steps show what they should, in a new cache and in one that is opened again over its log.
+fn steps_made(alloc: Global) -> Option<(usize, usize)> {
+    let mut cache = new_cache(alloc)?;
+    let filled = made(alloc, &mut cache, FILLED);
+    let mut cache = opens(alloc, log_of(cache)?)?;
+    Some((filled, made(alloc, &mut cache, FOUND)))
 }
 
-fn replaces_once(alloc: Global, cache: &mut Cache) -> Done
-    ensures { cache.new.batch ≡ cache.old.batch }
-{
-    let Some(node) = leaf(alloc) else {
-        return Some(false);
-    };
-    let answer = cache.replace(3, PageView::new(3, 1), node);
-    let done = has_token(&answer, PageView::new(3, 2));
-    let_replaced_go(answer);
-    done
+#[test]
+fn refused_allocations_change_nothing(rt: HostRuntime) {
+    assert_eq!(rt; steps_made(rt.alloc()), Some((FILLED.len(), FOUND.len())));
 }
 
-fn replaces_page(alloc: Global, cache: &mut Cache) -> bool
-    ensures { cache.new.batch ≡ cache.old.batch }
-{
-    match replaces_once(alloc, cache) {
-        Some(done) => done,
-        None => replaces_once(alloc, cache) == Some(true),
-    }
-}
-
-// Replaces page 3 in a batch. Inside it an allocation that failed is made again; sealing makes none.
-fn batch_once(alloc: Global, cache: &mut Cache) -> Done {
+// Whether page 3 is replaced in a batch, and none where an allocation failed. Inside it such an allocation is made again; sealing
+// makes none.
+fn batch_once(alloc: Global, cache: &mut Cache) -> Option<bool> {
     let mut guard = match cache.pin_log() {
         Ok(guard) => guard,
         Err(Error::OutOfMemory) => return None,
         Err(_) => return Some(false),
     };
-    let is_replaced = replaces_page(alloc, guard.cache());
-    Some(guard.seal_batch().is_ok() && is_replaced)
+    let mut answer = replaces_by_pair(alloc, guard.cache(), 3, 1);
+    if answer == Outcome::Unmade {
+        answer = replaces_by_pair(alloc, guard.cache(), 3, 1);
+    }
+    Some(guard.seal_batch().is_ok() && answer == At(2))
 }
 
 fn replaces_in_a_batch(alloc: Global, cache: &mut Cache) -> bool {
@@ -130,111 +108,49 @@ fn replaces_in_a_batch(alloc: Global, cache: &mut Cache) -> bool {
     }
 }
 
-// Frees page 3, which is at stamp 0.
-fn frees_once(cache: &mut Cache) -> Done {
-    let answer = cache.free(3, PageView::new(3, 0));
-    has_token(&answer, PageView::new(3, 1))
-}
-
-fn frees_page(cache: &mut Cache) -> bool {
-    match frees_once(cache) {
-        Some(done) => done,
-        None => frees_once(cache) == Some(true),
-    }
-}
-
-fn holds_once(cache: &mut Cache, pid: PageId, key: &[u8], value: &[u8]) -> Done {
-    match cache.get(pid) {
-        Ok(Some(view)) => Some(
-            view.token() == PageView::new(pid, 0) && is_pair(view.node(), key, value),
-        ),
-        Err(Refusal::OutOfMemory) => None,
-        _ => Some(false),
-    }
-}
-
-fn holds_pair(cache: &mut Cache, pid: PageId, key: &[u8], value: &[u8]) -> bool {
-    match holds_once(cache, pid, key, value) {
-        Some(done) => done,
-        None => has_pair(cache, pid, 0, key, value),
-    }
-}
-
-fn has_bytes(cache: &Cache, bytes: u64) -> bool {
-    matches!(cache.size_on_disk(), Ok(size) if size == bytes)
-}
-
-// Whether two pages are added, and one is linked and the other replaced, each by so many bytes.
-fn is_filled(alloc: Global, cache: &mut Cache) -> bool {
-    // nine links, the node of one pair that the tenth makes, and a link
-    has_bytes(cache, 35)
-        && adds_page(alloc, cache, 2)
-        && adds_page(alloc, cache, 3)
-        && has_bytes(cache, 85)
-        && takes_eleven_links(alloc, cache, 85 + 9 * 22 + 29 + 22)
-        && replaces_page(alloc, cache)
-        && has_bytes(cache, 363)
-}
-
-// Whether both stand again, and one is linked and the other freed.
-fn is_found_again(alloc: Global, cache: &mut Cache) -> bool {
-    holds_pair(cache, 2, b"b", b"v")
-        && holds_pair(cache, 3, b"k", b"v")
-        && links_page(alloc, cache, 0)
-        && has_bytes(cache, 385)
-        && frees_page(cache)
-        && has_bytes(cache, 402)
-}
-
-#[test]
-fn refused_allocations_change_nothing(rt: HostRuntime) -> Result<(), Fail> {
-    let alloc = rt.alloc();
-    let mut cache = opens(alloc, MemLog::new(alloc, 512, 16)).ok_or("a new cache")?;
-    assert!(rt; is_filled(alloc, &mut cache));
-    assert_eq!(rt; cache.flush()?, 328);
-    let mut cache = opens(alloc, log_of(cache).ok_or("a log")?).ok_or("the cache again")?;
-    assert!(rt; is_found_again(alloc, &mut cache));
-    Ok(())
+// Whether a batch over two pages is whole, and stands when the cache is opened again.
+fn keeps_a_batch(alloc: Global, mut cache: Cache) -> Option<bool> {
+    let is_written = made(alloc, &mut cache, &[Adds(2, 1), Adds(3, 1), Takes(85)]) == 3
+        && replaces_in_a_batch(alloc, &mut cache)
+        && makes(alloc, &mut cache, &Takes(85 + 29));
+    let mut cache = opens(alloc, log_of(cache)?)?;
+    Some(is_written && makes(alloc, &mut cache, &Gets(3, Pair(0, b"k", b"v"))))
 }
 
 #[test]
 fn a_refused_allocation_leaves_a_batch_whole(rt: HostRuntime) -> Result<(), Fail> {
-    let alloc = rt.alloc();
-    let mut cache = opens(alloc, MemLog::new(alloc, 512, 16)).ok_or("a new cache")?;
-    assert!(rt; adds_page(alloc, &mut cache, 2) && adds_page(alloc, &mut cache, 3));
-    assert!(rt; has_bytes(&cache, 85));
-    assert!(rt; replaces_in_a_batch(alloc, &mut cache));
-    assert!(rt; has_bytes(&cache, 85 + 29));
-    let mut cache = opens(alloc, log_of(cache).ok_or("a log")?).ok_or("the cache again")?;
-    assert!(rt; holds_pair(&mut cache, 3, b"k", b"v"));
+    let cache = new_cache(rt.alloc()).ok_or("a new cache")?;
+    assert_eq!(rt; keeps_a_batch(rt.alloc(), cache), Some(true));
     Ok(())
 }
 
-fn draws_once(cache: &mut Cache, id: u64) -> Done {
-    match cache.generate_id_inner() {
-        Ok(given) => Some(given == id),
-        Err(Error::OutOfMemory) => None,
-        Err(_) => Some(false),
+// Whether these ids are drawn, each a second time where an allocation failed. Only an id with a new counter allocates.
+fn draws_ids(cache: &mut Cache, first: u64, end: u64) -> bool {
+    for id in first..end {
+        let mut answer = draws(cache);
+        if answer == Outcome::Unmade && id != 0 && id % 10 == 0 {
+            answer = draws(cache);
+        }
+        if answer != Outcome::Id(id) {
+            return false;
+        }
     }
+    true
 }
 
-// Draws an id, and a second time where an allocation failed. Only an id with a new counter allocates.
-fn draws_id(cache: &mut Cache, id: u64) -> bool {
-    match draws_once(cache, id) {
-        Some(done) => done,
-        None => id != 0 && id % 10 == 0 && draws_once(cache, id) == Some(true),
-    }
+// Whether the ids of a cache, and of one that is opened again over its log, are drawn so.
+fn keeps_ids(alloc: Global, mut cache: Cache) -> Option<bool> {
+    let are_drawn = draws_ids(&mut cache, 0, 31) && makes(alloc, &mut cache, &Takes(35 + 3 * 18));
+    let mut cache = opens(alloc, log_of(cache)?)?;
+    Some(
+        are_drawn && draws_ids(&mut cache, 50, 71) && makes(alloc, &mut cache, &Takes(89 + 3 * 18)),
+    )
 }
 
 #[test]
 fn a_refused_allocation_uses_no_id(rt: HostRuntime) -> Result<(), Fail> {
-    let alloc = rt.alloc();
-    let mut cache = opens(alloc, MemLog::new(alloc, 512, 16)).ok_or("a new cache")?;
-    assert!(rt; (0..31).all(|id| draws_id(&mut cache, id)));
-    assert!(rt; has_bytes(&cache, 35 + 3 * 18));
-    let mut cache = opens(alloc, log_of(cache).ok_or("a log")?).ok_or("the cache again")?;
-    assert!(rt; (50..71).all(|id| draws_id(&mut cache, id)));
-    assert!(rt; has_bytes(&cache, 89 + 3 * 18));
+    let cache = new_cache(rt.alloc()).ok_or("a new cache")?;
+    assert_eq!(rt; keeps_ids(rt.alloc(), cache), Some(true));
     Ok(())
 }
 
@@ -249,19 +165,29 @@ fn opens_tree(alloc: Global, cache: &mut Cache) -> bool {
     if let Some(root) = tree_once(alloc, cache) {
         return root == 3;
     }
-    let first = match (is_absent(cache, 2), is_absent(cache, 3)) {
-        (true, _) => 2,
-        (false, true) => 3,
-        (false, false) => 4,
+    let first = if shows(alloc, cache, &Gets(2, Absent)) {
+        2
+    } else if shows(alloc, cache, &Gets(3, Absent)) {
+        3
+    } else {
+        4
     };
     tree_once(alloc, cache) == Some(first + 1)
 }
 
+// Whether the tree is the only one of a new cache.
+fn has_tree(alloc: Global) -> bool {
+    match new_cache(alloc) {
+        Some(mut cache) => opens_tree(alloc, &mut cache) && has_one_name(&cache),
+        None => false,
+    }
+}
+
+fn has_one_name(cache: &Cache) -> bool {
+    matches!(names_and_stamp(cache), Some((1, _)))
+}
+
 #[test]
-fn a_refused_allocation_leaves_what_was_made_of_a_tree(rt: HostRuntime) -> Result<(), Fail> {
-    let alloc = rt.alloc();
-    let mut cache = opens(alloc, MemLog::new(alloc, 512, 16)).ok_or("a new cache")?;
-    assert!(rt; opens_tree(alloc, &mut cache));
-    assert!(rt; cache.get_meta().is_ok_and(|view| view.meta().len() == 1));
-    Ok(())
+fn a_refused_allocation_leaves_what_was_made_of_a_tree(rt: HostRuntime) {
+    assert!(rt; has_tree(rt.alloc()));
 }

@@ -1,77 +1,99 @@
 // Each read of a log failing in turn.
 
-use super::failing::FailingLog;
+use super::failing::Trouble::{Never, Read};
+use super::openings::Ending::HandedOn;
+use super::openings::{Opening, lasts};
+use super::steps::Outcome::Unread as Refused;
+use super::steps::Sight::{Holds, Unread};
+use super::steps::Step;
+use super::steps::Step::{Adds, Flushes, Gets, LinksFrom, Unopened};
 use super::*;
 
-// The log of a cache with page 2, of a leaf and three links, and page 3, of an empty leaf, both flushed.
-fn two_pages(alloc: Global) -> Result<Option<MemLog>, Fail> {
-    let mut cache = opened(alloc)?;
-    let written = adds_leaf(alloc, &mut cache, 2)
-        && adds_leaf(alloc, &mut cache, 3)
-        && recovery::takes_links(alloc, &mut cache, 3)?;
-    let _ = cache.flush()?;
-    Ok(log_if(cache, written))
-}
+// Page 2, of a leaf and three links, and page 3, of an empty leaf, both flushed.
+const TWO_PAGES: Opening = (
+    10,
+    Never,
+    &[Adds(2, 1), Adds(3, 1), LinksFrom(2, 1, 3), Flushes],
+    HandedOn,
+);
 
-// What a call answered: that a read failed, this stamp and so many pairs, or something else.
-#[derive(Clone, Copy, Debug, PartialEq, Eq)]
-enum Outcome {
-    Failed,
-    Found(u64, usize),
-    Other,
-}
+const FIRST: Step = Gets(2, Holds(0, 1));
 
-fn asked(cache: &mut PageCache<FailingLog>, pid: PageId) -> Outcome {
-    match cache.get(pid) {
-        Ok(Some(view)) => Outcome::Found(view.token().ts(), view.node().len()),
-        Err(Refusal::Io(Device::Read)) => Outcome::Failed,
-        _ => Outcome::Other,
-    }
-}
+const SECOND: Step = Gets(3, Holds(0, 0));
 
-// Pages 2 and 3 asked for twice each.
-fn asked_twice(cache: &mut PageCache<FailingLog>) -> [Outcome; 4] {
-    [
-        asked(cache, 2),
-        asked(cache, 2),
-        asked(cache, 3),
-        asked(cache, 3),
-    ]
-}
+const NO_FIRST: Step = Gets(2, Unread);
 
-// What is answered where the read with this number fails: whether the cache was opened at once, and the outcomes.
-fn outcomes(alloc: Global, log: MemLog, fails_at: u64) -> Option<(bool, [Outcome; 4])> {
-    let log = FailingLog::new(log, fails_at, 0);
-    if log.batch_open() {
-        return None;
-    }
-    match PageCache::start(alloc, CONFIG, log) {
-        Ok(mut cache) => Some((true, asked_twice(&mut cache))),
-        Err((Error::Io(Device::Read), log)) => match PageCache::start(alloc, CONFIG, log) {
-            Ok(mut cache) => Some((false, asked_twice(&mut cache))),
-            Err(_) => None,
-        },
-        Err(_) => None,
-    }
-}
+const NO_SECOND: Step = Gets(3, Unread);
+
+// An opening that answers the failed read, and the next one over the same log.
+const UNOPENED: &[Step] = &[Unopened(Refused)];
+
+const AGAIN: Opening = (10, Never, &[FIRST, FIRST, SECOND, SECOND], HandedOn);
+
+// Both pages asked for twice, where the read with a number fails.
+const RUNS: [(&str, &[Opening]); 9] = [
+    (
+        "read 1",
+        &[TWO_PAGES, (10, Read(1), UNOPENED, HandedOn), AGAIN],
+    ),
+    (
+        "read 2",
+        &[TWO_PAGES, (10, Read(2), UNOPENED, HandedOn), AGAIN],
+    ),
+    (
+        "read 3",
+        &[
+            TWO_PAGES,
+            (10, Read(3), &[NO_FIRST, FIRST, SECOND, SECOND], HandedOn),
+        ],
+    ),
+    (
+        "read 4",
+        &[
+            TWO_PAGES,
+            (10, Read(4), &[NO_FIRST, FIRST, SECOND, SECOND], HandedOn),
+        ],
+    ),
+    (
+        "read 5",
+        &[
+            TWO_PAGES,
+            (10, Read(5), &[NO_FIRST, FIRST, SECOND, SECOND], HandedOn),
+        ],
+    ),
+    (
+        "read 6",
+        &[
+            TWO_PAGES,
+            (10, Read(6), &[NO_FIRST, FIRST, SECOND, SECOND], HandedOn),
+        ],
+    ),
+    (
+        "read 7",
+        &[
+            TWO_PAGES,
+            (10, Read(7), &[FIRST, FIRST, NO_SECOND, SECOND], HandedOn),
+        ],
+    ),
+    (
+        "read 8",
+        &[
+            TWO_PAGES,
+            (10, Read(8), &[FIRST, FIRST, SECOND, SECOND], HandedOn),
+        ],
+    ),
+    (
+        "read 9",
+        &[
+            TWO_PAGES,
+            (10, Read(9), &[FIRST, FIRST, SECOND, SECOND], HandedOn),
+        ],
+    ),
+];
 
 #[test]
-fn a_read_that_fails_leaves_every_page(rt: HostRuntime) -> Result<(), Fail> {
-    let alloc = rt.alloc();
-    let (first, second) = (Outcome::Found(0, 1), Outcome::Found(0, 0));
-    for fails_at in 1..10 {
-        let log = two_pages(alloc)?.ok_or("two pages")?;
-        let wanted = match fails_at {
-            1 | 2 => (false, [first, first, second, second]),
-            3..=6 => (true, [Outcome::Failed, first, second, second]),
-            7 => (true, [first, first, Outcome::Failed, second]),
-            _ => (true, [first, first, second, second]),
-        };
-        assert_eq!(rt;
-            outcomes(alloc, log, fails_at),
-            Some(wanted),
-            "read {fails_at}"
-        );
+fn a_read_that_fails_leaves_every_page(rt: HostRuntime) {
+    for (name, openings) in RUNS {
+        assert_eq!(rt; lasts(rt.alloc(), openings), openings.len(), "{name}");
     }
-    Ok(())
 }

@@ -1,163 +1,14 @@
-// Named roots. The steps of trees that are opened by their names are here too.
+// Named roots.
 
-use super::crashes::reopen;
-use super::failing::FailingLog;
+use super::calls::{names_and_stamp, root_of, swaps};
+use super::failing::Trouble::Room;
+use super::openings::Ending::HandedOn;
+use super::openings::{Opening, lasts};
+use super::scripts::walks;
+use super::steps::Outcome::{Done, Is, Refused};
+use super::steps::Step::{Crashes, Finds, Flushes, Has, Lacks, Swaps, Takes};
+use super::steps::{Outcome, Step};
 use super::*;
-
-// What a swap of a root answered: it was made, another root is there, or why it was refused.
-#[derive(Clone, Copy, Debug, PartialEq, Eq)]
-pub(super) enum Outcome {
-    Done,
-    Is(Option<PageId>),
-    Refused(Why),
-    Faulty,
-}
-
-fn swap<L: Log>(
-    cache: &mut PageCache<L>,
-    name: &[u8],
-    old: Option<PageId>,
-    new: Option<PageId>,
-) -> Outcome {
-    match cache.cas_root_in_meta(name, old, new) {
-        Ok(Ok(())) => Outcome::Done,
-        Ok(Err(root)) => Outcome::Is(root),
-        Err(Error::Unsupported(why)) => Outcome::Refused(why),
-        Err(_) => Outcome::Faulty,
-    }
-}
-
-// What opening a tree answered: its root, why it was refused, or something else.
-#[derive(Clone, Copy, Debug, PartialEq, Eq)]
-pub(super) enum Opened {
-    Root(PageId),
-    RefusedFor(Why),
-    Neither,
-}
-
-pub(super) fn open_named<L: Log>(alloc: Global, cache: &mut PageCache<L>, name: &[u8]) -> Opened {
-    let Ok(name) = IVec::from_slice(alloc, name) else {
-        return Opened::Neither;
-    };
-    match open_tree(cache, name) {
-        Ok(root) => Opened::Root(root),
-        Err(Error::Unsupported(why)) => Opened::RefusedFor(why),
-        Err(_) => Opened::Neither,
-    }
-}
-
-// Whether the page is an index that leads each key to the leaf, at this stamp.
-fn leads_to(cache: &mut Cache, root: PageId, stamp: u64, leaf: PageId) -> bool {
-    match cache.get(root) {
-        Ok(Some(view)) => view.token() == PageView::new(root, stamp)
-            && is_index_over(view.node(), leaf),
-        _ => false,
-    }
-}
-
-fn is_index_over(node: &Node, leaf: PageId) -> bool {
-    if node.len() != 1 || !node.lo().is_empty() || !node.hi().is_empty() {
-        return false;
-    }
-    let (stored, item) = node.pair(0);
-    stored.is_empty() && item == Item::Child(leaf)
-}
-
-// Whether a page at stamp 1 is freed.
-fn is_freed(cache: &mut Cache, pid: PageId) -> bool {
-    matches!(cache.free(pid, PageView::new(pid, 1)), Ok(Ok(_)))
-}
-
-// The root of a name, if it has one.
-pub(super) fn root_of<L: Log>(cache: &PageCache<L>, name: &[u8]) -> Option<PageId> {
-    cache.meta_pid_for_name(name).ok()
-}
-
-// Whether the name is reported where it has no root.
-fn is_reported(cache: &Cache, name: &[u8]) -> bool {
-    match cache.meta_pid_for_name(name) {
-        Err(Error::CollectionNotFound(missing)) => missing.as_slice() == name,
-        _ => false,
-    }
-}
-
-// How many names there are, and the stamp of their page.
-fn names_and_stamp<L: Log>(cache: &PageCache<L>) -> Option<(usize, u64)> {
-    match cache.get_meta() {
-        Ok(view) if view.token().pid() == 0 => Some((view.meta().len(), view.token().ts())),
-        _ => None,
-    }
-}
-
-// A step of a script, and what it shows.
-#[derive(Clone, Copy, Debug)]
-pub(super) enum Step {
-    Swaps(&'static [u8], Option<PageId>, Option<PageId>, Outcome),
-    // the tree of that name has this root
-    Opens(&'static [u8], PageId),
-    // a page is an index that leads each key to the leaf, at this stamp
-    Leads(PageId, u64, PageId),
-    // a page is an empty leaf at this stamp
-    Leaf(PageId, u64),
-    Absent(PageId),
-    // an empty leaf goes to this page
-    Adds(PageId),
-    Frees(PageId),
-    // the name has this root
-    Finds(&'static [u8], PageId),
-    // the name has none, and is reported
-    Lacks(&'static [u8]),
-    // there are so many names, on a page with this stamp
-    Has(usize, u64),
-    // the log takes so many bytes
-    Takes(u64),
-    Flushes,
-    // a crash leaves so many of the pending changes, and the cache is opened again
-    Crashes(usize),
-}
-
-// Whether it shows that. A cache that can't be opened again is none.
-fn shows(alloc: Global, cache: Cache, step: Step) -> Option<Cache> {
-    let mut cache = cache;
-    let is_so = match step {
-        Step::Swaps(name, old, new, answer) => swap(&mut cache, name, old, new) == answer,
-        Step::Opens(name, root) => open_named(alloc, &mut cache, name) == Opened::Root(root),
-        Step::Leads(root, stamp, leaf) => leads_to(&mut cache, root, stamp, leaf),
-        Step::Leaf(pid, stamp) => is_empty(&mut cache, pid, stamp),
-        Step::Absent(pid) => is_absent(&mut cache, pid),
-        Step::Adds(pid) => adds_leaf(alloc, &mut cache, pid),
-        Step::Frees(pid) => is_freed(&mut cache, pid),
-        Step::Finds(name, root) => root_of(&cache, name) == Some(root),
-        Step::Lacks(name) => is_reported(&cache, name),
-        Step::Has(names, stamp) => names_and_stamp(&cache) == Some((names, stamp)),
-        Step::Takes(bytes) => matches!(cache.size_on_disk(), Ok(size) if size == bytes),
-        Step::Flushes => cache.flush().is_ok(),
-        Step::Crashes(n) => return left_by(alloc, log_of(cache)?, n),
-    };
-    is_so.then(|| cache)
-}
-
-// How many steps of a script show what they should, before the first that doesn't.
-pub(super) fn walks(alloc: Global, steps: &[Step]) -> Result<usize, Fail> {
-    let cache = opened(alloc)?;
-    Ok(walks_over(alloc, cache, steps))
-}
-
-// The same over a cache.
-pub(super) fn walks_over(alloc: Global, mut cache: Cache, steps: &[Step]) -> usize {
-    for (done, step) in steps.iter().enumerate() {
-        let Some(next) = shows(alloc, cache, *step) else {
-            return done;
-        };
-        cache = next;
-    }
-    steps.len()
-}
-
-use Outcome::{Done, Is, Refused};
-use Step::{
-    Absent, Adds, Crashes, Finds, Flushes, Frees, Has, Lacks, Leads, Leaf, Opens, Swaps, Takes,
-};
 
 pub(super) const SHORT: &[u8] = &[b's'; 22];
 
@@ -262,11 +113,10 @@ const SCRIPTS: [(&str, &[Step]); 6] = [
 ];
 
 #[test]
-fn names_have_roots(rt: HostRuntime) -> Result<(), Fail> {
+fn names_have_roots(rt: HostRuntime) {
     for (name, steps) in SCRIPTS {
-        assert_eq!(rt; walks(rt.alloc(), steps)?, steps.len(), "{name}");
+        assert_eq!(rt; walks(rt.alloc(), steps), steps.len(), "{name}");
     }
-    Ok(())
 }
 
 // One of 1,000 names, in a scattered order.
@@ -276,56 +126,96 @@ fn name_of(n: u64) -> [u8; 8] {
 
 // Whether 1,000 names are set and found, and each hundredth is taken out.
 fn sets_many(cache: &mut Cache) -> bool {
-    (0..1000).all(|n| swap(cache, &name_of(n), None, Some(n)) == Done)
-        && (0..1000).all(|n| root_of(cache, &name_of(n)) == Some(n))
-        && (0..1000).all(|n| n % 100 != 0 || swap(cache, &name_of(n), Some(n), None) == Done)
-        && names_and_stamp(cache) == Some((990, 1011))
+    for n in 0..1000 {
+        if swaps(cache, &name_of(n), None, Some(n)) != Done {
+            return false;
+        }
+    }
+    for n in 0..1000 {
+        if root_of(cache, &name_of(n)) != Some(Some(n)) {
+            return false;
+        }
+    }
+    for n in 0..10 {
+        if swaps(cache, &name_of(100 * n), Some(100 * n), None) != Done {
+            return false;
+        }
+    }
+    names_and_stamp(cache) == Some((990, 1011))
 }
 
 #[test]
 fn a_thousand_names_are_set_and_taken_out(rt: HostRuntime) -> Result<(), Fail> {
-    let mut cache = opened(rt.alloc())?;
+    let mut cache = started(rt.alloc(), 512).ok_or("a cache")?;
     assert!(rt; sets_many(&mut cache));
     Ok(())
 }
 
-// What a swap of `a` answers, and the root that is found then, beside that of `b`.
-fn swaps(cache: &mut PageCache<FailingLog>, new: Option<PageId>) -> (Outcome, Option<PageId>) {
-    let set = swap(cache, b"a", None, Some(2));
-    if set != Done {
-        return (set, root_of(cache, b"a"));
-    }
-    (swap(cache, b"a", Some(2), new), root_of(cache, b"a"))
-}
+const FULL: Outcome = Refused(Why::LogFull);
 
-// The same over a log that has room for so many bytes.
-fn swaps_in(
-    alloc: Global,
-    room: u64,
-    new: Option<PageId>,
-) -> Result<(Outcome, Option<PageId>), Fail> {
-    let log = FailingLog::with_room(MemLog::new(alloc, 512, 16), room);
-    if log.batch_open() {
-        return Err("a batch".into());
-    }
-    match PageCache::start(alloc, CONFIG, log) {
-        Ok(mut cache) => Ok(swaps(&mut cache, new)),
-        Err((error, _)) => Err(error.into()),
-    }
-}
+// The system pages take 35 bytes, a map of `a` 20, and an empty one 17.
+const RUNS: [(&str, &[Opening]); 6] = [
+    (
+        "no room for a name",
+        &[(
+            10,
+            Room(54),
+            &[Swaps(b"a", None, Some(2), FULL), Lacks(b"a")],
+            HandedOn,
+        )],
+    ),
+    (
+        "room for one name",
+        &[(
+            10,
+            Room(55),
+            &[SET, Swaps(b"a", Some(2), Some(3), FULL), Finds(b"a", 2)],
+            HandedOn,
+        )],
+    ),
+    (
+        "a byte too few for its other root",
+        &[(
+            10,
+            Room(74),
+            &[SET, Swaps(b"a", Some(2), Some(3), FULL), Finds(b"a", 2)],
+            HandedOn,
+        )],
+    ),
+    (
+        "room for its other root",
+        &[(
+            10,
+            Room(75),
+            &[SET, Swaps(b"a", Some(2), Some(3), Done), Finds(b"a", 3)],
+            HandedOn,
+        )],
+    ),
+    (
+        "a byte too few to take it out",
+        &[(
+            10,
+            Room(71),
+            &[SET, Swaps(b"a", Some(2), None, FULL), Finds(b"a", 2)],
+            HandedOn,
+        )],
+    ),
+    (
+        "room to take it out",
+        &[(
+            10,
+            Room(72),
+            &[SET, Swaps(b"a", Some(2), None, Done), Lacks(b"a")],
+            HandedOn,
+        )],
+    ),
+];
+
+const SET: Step = Swaps(b"a", None, Some(2), Done);
 
 #[test]
-fn a_refused_swap_leaves_the_names(rt: HostRuntime) -> Result<(), Fail> {
-    // the system pages take 35 bytes, a map of `a` 20, and an empty one 17
-    for (room, new, wanted) in [
-        (54, Some(3), (Refused(Why::LogFull), None)),
-        (55, Some(3), (Refused(Why::LogFull), Some(2))),
-        (74, Some(3), (Refused(Why::LogFull), Some(2))),
-        (75, Some(3), (Done, Some(3))),
-        (71, None, (Refused(Why::LogFull), Some(2))),
-        (72, None, (Done, None)),
-    ] {
-        assert_eq!(rt; swaps_in(rt.alloc(), room, new)?, wanted, "{room}");
+fn a_refused_swap_leaves_the_names(rt: HostRuntime) {
+    for (name, openings) in RUNS {
+        assert_eq!(rt; lasts(rt.alloc(), openings), openings.len(), "{name}");
     }
-    Ok(())
 }

@@ -1,9 +1,9 @@
 // Caches over a log whose device tells nothing of its bytes: it gives the pages and the messages that it was told to give.
 
 ghost use Rattle.std.specs.Prelude.{⊤, ◌≡◌, ℕ, [], pos, false, true};
-ghost use Rattle.sled_log.specs.Calls.{one_more};
 ghost use Rattle.sled_log.specs.Marks.{marks};
 
+use super::failing::one_more;
 use super::*;
 
 // A message of a page: its kind and its payload.
@@ -59,13 +59,6 @@ impl ToldLog {
             Said::Of(messages) => messages.get((at % 100) as usize).copied(),
         }
     }
-}
-
-// One more, or the greatest number.
-fn one_more(count: u64) -> u64
-    ensures { result ≡ one_more count }
-{
-    if count == u64::MAX { count } else { count + 1 }
 }
 
 // How the log keeps a message of a page, by its number from 0 on: at 100 times the id, and the number. It tells no lsn.

@@ -1,10 +1,15 @@
 // Runs of openings: each with its interval, what goes wrong, what it shows, and how it ends.
 
-use super::Ending::{Crash, HandedOn};
-use super::Given::{Refused, Unwritten};
-use super::Step::{Adds, Counts, Finds, Flushes, Gives, Hides, Loses, Refuses, Takes};
-use super::Trouble::{Full, Never, Write};
 use super::*;
+use crate::tests::failing::Trouble::{Full, Never, Write};
+use crate::tests::openings::Ending::{Crash, HandedOn};
+use crate::tests::openings::Opening;
+use crate::tests::steps::Outcome::{Faulty, Refused};
+use crate::tests::steps::Sight::{Absent, Empty};
+use crate::tests::steps::Step;
+use crate::tests::steps::Step::{
+    Adds, AddsNone, Counts, Gets, Gives, Hides, Refuses, Takes, Writes,
+};
 
 const USED_UP: Step = Refuses(Refused(Why::IdsUsedUp));
 
@@ -152,28 +157,28 @@ pub(super) const RUNS: [(&str, &[Opening]); 24] = [
     (
         "a counter makes durable what is pending",
         &[
-            (10, Never, &[Adds(2), Gives(0, 11), Flushes(0)], Crash(0)),
-            (10, Never, &[Finds(2, Some(0)), Gives(30, 1)], Crash(0)),
+            (10, Never, &[Adds(2, 1), Gives(0, 11), Writes(0)], Crash(0)),
+            (10, Never, &[Gets(2, Empty(0)), Gives(30, 1)], Crash(0)),
         ],
     ),
     (
         "an id without a counter doesn't",
         &[
-            (10, Never, &[Adds(2), Gives(0, 10)], Crash(0)),
-            (10, Never, &[Finds(2, None), Gives(20, 1)], Crash(0)),
+            (10, Never, &[Adds(2, 1), Gives(0, 10)], Crash(0)),
+            (10, Never, &[Gets(2, Absent), Gives(20, 1)], Crash(0)),
         ],
     ),
     (
         "the first id puts a counter over what was handed on",
         &[
-            (10, Never, &[Gives(0, 11), Adds(2), Adds(3)], HandedOn),
+            (10, Never, &[Gives(0, 11), Adds(2, 1), Adds(3, 1)], HandedOn),
             (
                 10,
                 Never,
-                &[Counts(10, 0), Gives(30, 1), Flushes(0)],
+                &[Counts(10, 0), Gives(30, 1), Writes(0)],
                 Crash(0),
             ),
-            (10, Never, &[Finds(3, Some(0)), Gives(50, 1)], HandedOn),
+            (10, Never, &[Gets(3, Empty(0)), Gives(50, 1)], HandedOn),
             (10, Never, &[Gives(70, 1)], Crash(0)),
         ],
     ),
@@ -184,10 +189,10 @@ pub(super) const RUNS: [(&str, &[Opening]); 24] = [
             (
                 u64::MAX,
                 Never,
-                &[USED_UP, USED_UP, Counts(0, 0), Adds(2), USED_UP],
+                &[USED_UP, USED_UP, Counts(0, 0), Adds(2, 1), USED_UP],
                 Crash(1),
             ),
-            (u64::MAX, Never, &[Finds(2, Some(0)), USED_UP], Crash(0)),
+            (u64::MAX, Never, &[Gets(2, Empty(0)), USED_UP], Crash(0)),
         ],
     ),
     (
@@ -208,7 +213,7 @@ pub(super) const RUNS: [(&str, &[Opening]); 24] = [
             (
                 HALF,
                 Never,
-                &[USED_UP, Counts(u64::MAX - 3, 0), Adds(2), Flushes(25)],
+                &[USED_UP, Counts(u64::MAX - 3, 0), Adds(2, 1), Writes(25)],
                 Crash(0),
             ),
         ],
@@ -266,8 +271,8 @@ pub(super) const RUNS: [(&str, &[Opening]); 24] = [
     (
         "where it was refused nothing is made durable",
         &[
-            (10, Full(4), &[Gives(0, 10), Adds(2), NO_ROOM], Crash(0)),
-            (10, Never, &[Finds(2, None), Gives(20, 1)], Crash(0)),
+            (10, Full(4), &[Gives(0, 10), Adds(2, 1), NO_ROOM], Crash(0)),
+            (10, Never, &[Gets(2, Absent), Gives(20, 1)], Crash(0)),
         ],
     ),
     (
@@ -276,7 +281,7 @@ pub(super) const RUNS: [(&str, &[Opening]); 24] = [
             (
                 10,
                 Write(4),
-                &[Gives(0, 10), Loses, Refuses(Unwritten), Hides],
+                &[Gives(0, 10), AddsNone(Faulty), Refuses(Faulty), Hides],
                 Crash(0),
             ),
             (10, Never, &[Gives(20, 1)], Crash(0)),
@@ -290,10 +295,10 @@ pub(super) const RUNS: [(&str, &[Opening]); 24] = [
                 Write(4),
                 &[
                     Gives(0, 10),
-                    Refuses(Unwritten),
-                    Refuses(Unwritten),
+                    Refuses(Faulty),
+                    Refuses(Faulty),
                     Hides,
-                    Loses,
+                    AddsNone(Faulty),
                 ],
                 Crash(0),
             ),
@@ -306,7 +311,7 @@ pub(super) const RUNS: [(&str, &[Opening]); 24] = [
             (
                 10,
                 Write(5),
-                &[Gives(0, 10), Refuses(Unwritten), Refuses(Unwritten), Hides],
+                &[Gives(0, 10), Refuses(Faulty), Refuses(Faulty), Hides],
                 Crash(0),
             ),
             (10, Never, &[Counts(0, 0), Gives(20, 1)], Crash(0)),
@@ -318,7 +323,7 @@ pub(super) const RUNS: [(&str, &[Opening]); 24] = [
             (
                 10,
                 Write(5),
-                &[Gives(0, 10), Refuses(Unwritten), Refuses(Unwritten), Hides],
+                &[Gives(0, 10), Refuses(Faulty), Refuses(Faulty), Hides],
                 Crash(1),
             ),
             (10, Never, &[Counts(10, 0), Gives(30, 1)], Crash(0)),
@@ -332,7 +337,7 @@ pub(super) const RUNS: [(&str, &[Opening]); 24] = [
             (
                 u64::MAX,
                 Write(1),
-                &[USED_UP, Loses, Refuses(Unwritten)],
+                &[USED_UP, AddsNone(Faulty), Refuses(Faulty)],
                 Crash(0),
             ),
         ],

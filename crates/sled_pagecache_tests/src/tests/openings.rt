@@ -1,0 +1,87 @@
+// Runs of openings, one after another over one log, each with its own trouble.
+
+use super::calls::outcome_of;
+use super::failing::{FailingLog, Trouble};
+use super::steps::{Step, shown};
+use super::*;
+
+pub(super) type Faulty = PageCache<FailingLog>;
+
+// How an opening ends: a crash keeps so many of the pending events, or the log is handed on, also where it was read so often.
+#[derive(Clone, Copy)]
+pub(super) enum Ending {
+    Crash(usize),
+    HandedOn,
+    Read(u64),
+}
+
+// A cache that is opened over the log that was left before, with this interval; what it shows; and how it ends.
+pub(super) type Opening = (u64, Trouble, &'static [Step], Ending);
+
+pub(super) fn opened_with(
+    alloc: Global,
+    log: MemLog,
+    interval: u64,
+    trouble: &Trouble,
+) -> Result<Faulty, (Error, FailingLog)> {
+    let log = FailingLog::new(log, trouble);
+    if log.batch_open() {
+        return Err((Error::Unsupported(Why::BatchOpen), log));
+    }
+    let config = Config {
+        idgen_persist_interval: interval,
+        ..CONFIG
+    };
+    PageCache::start(alloc, config, log)
+}
+
+// The log that is left, if so many of its pending events may be kept, or it was read so often.
+pub(super) fn ended(log: FailingLog, ending: &Ending) -> Option<MemLog> {
+    let reads = log.reads();
+    let log = log.into_log();
+    match *ending {
+        Ending::HandedOn => Some(log),
+        Ending::Crash(n) if log.is_fair(n) => Some(log.stop(n)),
+        Ending::Read(n) if n == reads => Some(log),
+        _ => None,
+    }
+}
+
+// Whether the script has nothing but that the cache is not opened, for this error.
+fn is_unopened(error: &Error, steps: &[Step]) -> bool {
+    match steps.first() {
+        Some(Step::Unopened(outcome)) => steps.len() == 1 && outcome_of(error) == *outcome,
+        _ => false,
+    }
+}
+
+// The log of a cache, if that shows all that it should.
+fn shown_by(alloc: Global, mut cache: Faulty, steps: &[Step]) -> Option<FailingLog> {
+    let is_shown = shown(alloc, &mut cache, steps) == steps.len();
+    log_if(cache, is_shown)
+}
+
+// The log that an opening leaves, if its cache shows all that it should.
+fn left_by(alloc: Global, log: MemLog, opening: &Opening) -> Option<MemLog> {
+    let (interval, trouble, steps, ending) = opening;
+    match opened_with(alloc, log, *interval, trouble) {
+        Ok(cache) => ended(shown_by(alloc, cache, steps)?, ending),
+        Err((error, log)) => if is_unopened(&error, steps) {
+            ended(log, ending)
+        } else {
+            None
+        },
+    }
+}
+
+// How many openings show what they should, before the first that doesn't.
+pub(super) fn lasts(alloc: Global, openings: &[Opening]) -> usize {
+    let mut log = MemLog::new(alloc, 512, 16);
+    for (done, opening) in openings.iter().enumerate() {
+        let Some(left) = left_by(alloc, log, opening) else {
+            return done;
+        };
+        log = left;
+    }
+    openings.len()
+}

@@ -1,0 +1,209 @@
+// What scripts do to a cache over any log, and what each step shows.
+
+use super::calls::{
+    adds, adds_between, adds_from, counted, draws, flushes, frees, gets, gives, is_printed,
+    links_from, links_so, names_and_stamp, opens, replaces_by_empty, replaces_by_pair, root_of,
+    size_of, swaps,
+};
+use super::*;
+
+/// What a call answered.
+#[derive(Clone, Copy, PartialEq)]
+pub(super) enum Outcome {
+    Done,
+    // a new page, at this stamp
+    Made(PageId, u64),
+    // the new stamp of the page
+    At(u64),
+    // the present stamp of the page; a link or a node comes back as it was given
+    Stale(u64),
+    // there is no such page
+    Gone,
+    // the root that a name has in place of that which was told
+    Is(Option<PageId>),
+    // a generated id, or the root of a tree
+    Id(u64),
+    Refused(Why),
+    // the node doesn't accept the link
+    Unaccepted,
+    // a write failed
+    Faulty,
+    // a read failed
+    Unread,
+    // an allocation failed
+    Unmade,
+    Other,
+}
+
+/// A link.
+#[derive(Clone, Copy)]
+pub(super) enum Change {
+    Set(&'static [u8], &'static [u8]),
+    Del(&'static [u8]),
+    Intend(PageId),
+    Confirm,
+    Cap,
+}
+
+/// What a get of a page finds.
+#[derive(Clone, Copy)]
+pub(super) enum Sight {
+    // a node of no pairs, at this stamp
+    Empty(u64),
+    // a node of one pair, of this stored key and this value, at this stamp
+    Pair(u64, &'static [u8], &'static [u8]),
+    // a node of so many pairs, at this stamp
+    Holds(u64, usize),
+    // a node of the keys between these, of which the first byte is a prefix
+    Between(&'static [u8], &'static [u8]),
+    // an index that leads each key to this leaf, at this stamp
+    Leads(u64, PageId),
+    // no page
+    Absent,
+    // a page that is not lent, since it is the cache's own
+    Reserved,
+    // that a read failed
+    Unread,
+    // that a write failed before
+    Unwritten,
+}
+
+/// A link that sets the pair of most pages.
+pub(super) const PAIR: Change = Change::Set(b"b", b"v");
+
+/// A step of a script, and what it shows.
+#[derive(Clone, Copy)]
+pub(super) enum Step {
+    // the log held a cache before, or not
+    Recovered(bool),
+    // an empty leaf goes to this page, at this stamp
+    Adds(PageId, u64),
+    // the same for pages from this one on and up to another
+    AddsFrom(PageId, PageId),
+    AddsNone(Outcome),
+    // an empty leaf of the keys between these, of which the first byte is a prefix, goes to this page, at stamp 1
+    AddsBetween(PageId, &'static [u8], &'static [u8]),
+    // a link by a token of this stamp
+    Links(PageId, u64, Change, Outcome),
+    // so many links of one pair, by tokens of this stamp and the following
+    LinksFrom(PageId, u32, u32),
+    // a replacement by an empty leaf, by a token of this stamp
+    Replaces(PageId, u64, Outcome),
+    // the same by a leaf of one pair
+    ReplacesByPair(PageId, u64, Outcome),
+    Frees(PageId, u64, Outcome),
+    Gets(PageId, Sight),
+    // a swap of the root of a name
+    Swaps(&'static [u8], Option<PageId>, Option<PageId>, Outcome),
+    // the opening of the tree of that name
+    Opens(&'static [u8], Outcome),
+    // the name has this root
+    Finds(&'static [u8], PageId),
+    // the name has none, and is reported
+    Lacks(&'static [u8]),
+    // there are so many names, on a page with this stamp
+    Has(usize, u64),
+    // so many ids come, from this one on
+    Gives(u64, u64),
+    // no id comes
+    Refuses(Outcome),
+    // the counter is this, on a page with this stamp
+    Counts(u64, u64),
+    // a write failed, and the counter isn't answered
+    Hides,
+    // the log takes so many bytes
+    Takes(u64),
+    Flushes,
+    // a flush writes so many bytes
+    Writes(usize),
+    // a write failed, and neither a flush nor the size of the log is answered
+    Faults,
+    // the cache is shown so
+    Prints(&'static str),
+    // the cache is not opened
+    Unopened(Outcome),
+    // the cache is opened again over its log
+    Reopens,
+    // the same where the log was read so often
+    Reads(u64),
+    // a crash leaves so many of the pending changes, and the cache is opened again
+    Crashes(usize),
+}
+
+// Whether a step showed what it should, and none where an allocation failed.
+pub(super) type Shown = Option<bool>;
+
+fn is(found: Outcome, wanted: &Outcome) -> Shown {
+    if found == Outcome::Unmade {
+        return None;
+    }
+    Some(found == *wanted)
+}
+
+// Whether a step shows what it should, and none where an allocation failed.
+pub(super) fn shows_page<L: Log>(alloc: Global, cache: &mut PageCache<L>, step: &Step) -> Shown {
+    match step {
+        Step::Adds(pid, stamp) => is(
+            adds(cache, Node::default(alloc)),
+            &Outcome::Made(*pid, *stamp),
+        ),
+        Step::AddsNone(outcome) => is(adds(cache, Node::default(alloc)), outcome),
+        Step::AddsFrom(first, end) => Some(adds_from(alloc, cache, *first, *end)),
+        Step::AddsBetween(pid, lo, hi) => is(
+            adds_between(alloc, cache, lo, hi),
+            &Outcome::Made(*pid, 1),
+        ),
+        Step::Links(pid, stamp, change, outcome) => {
+            is(links_so(alloc, cache, *pid, *stamp, change), outcome)
+        }
+        Step::LinksFrom(pid, stamp, count) => Some(links_from(alloc, cache, *pid, *stamp, *count)),
+        Step::Replaces(pid, stamp, outcome) => {
+            is(replaces_by_empty(alloc, cache, *pid, *stamp), outcome)
+        }
+        Step::ReplacesByPair(pid, stamp, outcome) => {
+            is(replaces_by_pair(alloc, cache, *pid, *stamp), outcome)
+        }
+        Step::Frees(pid, stamp, outcome) => is(frees(cache, *pid, *stamp), outcome),
+        Step::Gets(pid, sight) => gets(cache, *pid, sight),
+        _ => shows_rest(alloc, cache, step),
+    }
+}
+
+// The same of roots, ids and the log.
+fn shows_rest<L: Log>(alloc: Global, cache: &mut PageCache<L>, step: &Step) -> Shown {
+    match step {
+        Step::Swaps(name, old, new, outcome) => is(swaps(cache, name, *old, *new), outcome),
+        Step::Opens(name, outcome) => is(opens(alloc, cache, name), outcome),
+        Step::Refuses(outcome) => is(draws(cache), outcome),
+        Step::Finds(name, root) => Some(root_of(cache, name) == Some(Some(*root))),
+        Step::Lacks(name) => Some(root_of(cache, name) == Some(None)),
+        Step::Has(names, stamp) => Some(names_and_stamp(cache) == Some((*names, *stamp))),
+        Step::Gives(first, count) => Some(gives(cache, *first, *count)),
+        Step::Counts(counter, stamp) => Some(counted(cache) == Some(Some((*counter, *stamp)))),
+        Step::Hides => Some(counted(cache) == Some(None)),
+        Step::Recovered(was) => Some(cache.was_recovered() == *was),
+        Step::Takes(bytes) => Some(size_of(cache) == Ok(*bytes)),
+        Step::Flushes => Some(flushes(cache).is_ok()),
+        Step::Writes(bytes) => Some(flushes(cache) == Ok(*bytes)),
+        Step::Faults => Some(
+            flushes(cache) == Err(Outcome::Faulty) && size_of(cache) == Err(Outcome::Faulty),
+        ),
+        Step::Prints(text) => Some(is_printed(alloc, cache, text)),
+        _ => Some(false),
+    }
+}
+
+// Whether a step shows what it should.
+pub(super) fn shows<L: Log>(alloc: Global, cache: &mut PageCache<L>, step: &Step) -> bool {
+    shows_page(alloc, cache, step) == Some(true)
+}
+
+// How many steps show what they should, before the first that doesn't.
+pub(super) fn shown<L: Log>(alloc: Global, cache: &mut PageCache<L>, steps: &[Step]) -> usize {
+    for (done, step) in steps.iter().enumerate() {
+        if !shows(alloc, cache, step) {
+            return done;
+        }
+    }
+    steps.len()
+}
