@@ -1,8 +1,4 @@
 use super::*;
-use crate::tests::{EMPTY, bound_of, node_of};
-use sled_base::Error;
-use std::alloc::Global;
-use std::test::Fail;
 
 // A leaf from "ba" up to "bz".
 const FROM_BA: &[u8] = &[0, 0, 0, 1, 2, 98, 97, 2, 98, 122, 0, 1, 1, 98, 1, 118];

@@ -1,8 +1,5 @@
 use super::*;
-use crate::tests::{EMPTY, bytes, is_node, let_go, node_of};
-use sled_base::Error;
 use sled_node::node::MAX_BYTES;
-use std::test::Fail;
 
 // An index of the empty key to page 5.
 const ROOT: &[u8] = &[0, 0, 0, 0, 0, 0, 1, 1, 0, 5];
@@ -20,7 +17,7 @@ const INDEX_BA: &[u8] = &[
 ];
 
 // The place and the page that the key leads to, if there is one.
-fn next(node: &Node, key: &[u8]) -> Option<(usize, PageId)> {
+pub(super) fn next(node: &Node, key: &[u8]) -> Option<(usize, PageId)> {
     if !node.has_child_for(key) {
         return None;
     }
@@ -59,7 +56,7 @@ fn whole_keys_lead_to_children(rt: HostRuntime) -> Result<(), Fail> {
 }
 
 // Whether the key was new, or none where the node can't take it.
-fn split(node: &mut Node, at: &[u8], to: PageId) -> Result<Option<bool>, AllocError> {
+pub(super) fn split(node: &mut Node, at: &[u8], to: PageId) -> Result<Option<bool>, AllocError> {
     if !node.accepts_child(at) {
         return Ok(None);
     }
@@ -75,7 +72,7 @@ fn is_split(
     is_new: bool,
     after: &[u8],
 ) -> Result<bool, Error> {
-    Ok(split(node, at, to)? == Some(is_new) && is_node(alloc, node, after)?)
+    Ok(split(node, at, to)? == Some(is_new) && is_read(alloc, after, node)?)
 }
 
 fn splits(
@@ -139,15 +136,19 @@ fn hoisted(alloc: Global) -> Result<Node, AllocError> {
     Node::new_hoisted_root(alloc, 2, at, 3)
 }
 
+fn is_root(alloc: Global) -> Result<bool, Error> {
+    let root = Node::new_root(alloc, 5)?;
+    is_read(alloc, ROOT, &root)
+}
+
+fn is_hoisted(alloc: Global) -> Result<bool, Error> {
+    let root = hoisted(alloc)?;
+    is_read(alloc, HOISTED, &root)
+}
+
 #[test]
 fn roots_lead_to_their_children(rt: HostRuntime) -> Result<(), Fail> {
-    let root = Node::new_root(rt.alloc(), 5)?;
-    let done = is_node(rt.alloc(), &root, ROOT);
-    let_go(root);
-    assert!(rt; done?);
-    let root = hoisted(rt.alloc())?;
-    let done = is_node(rt.alloc(), &root, HOISTED);
-    let_go(root);
-    assert!(rt; done?);
+    assert!(rt; is_root(rt.alloc())?);
+    assert!(rt; is_hoisted(rt.alloc())?);
     Ok(())
 }

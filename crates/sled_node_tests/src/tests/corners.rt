@@ -1,6 +1,13 @@
 // Each call of a node at the corners: none to 1,000 pairs, short and long keys and values, pages of each length, and prefixes that
 // stay, that become longer in a part, and that become shorter again where the parts are merged.
 
+use super::children::{next, split};
+use super::leaf::push;
+use super::links::applies;
+use super::lookups::is_found;
+use super::neighbours::nearest;
+use super::parts::{is_over, node_over};
+use super::serialization::is_node_written;
 use super::*;
 
 const COUNTS: &[u32] = &[0, 1, 2, 3, 16, 17, 1_000];
@@ -9,7 +16,7 @@ const COUNTS: &[u32] = &[0, 1, 2, 3, 16, 17, 1_000];
 const TAILS: &[&[u8]] = &[b"", b"xxxxxxxxxxxxxxxxxxxxxxxxxxxxxx"];
 
 // The range of a node, and how its keys begin.
-struct Shape {
+pub(super) struct Shape {
     row: &'static str,
     prefix_len: u8,
     lo: &'static [u8],
@@ -17,7 +24,7 @@ struct Shape {
     front: &'static [u8],
 }
 
-const SHAPES: &[Shape] = &[
+pub(super) const SHAPES: &[Shape] = &[
     Shape {
         row: "over all keys",
         prefix_len: 0,
@@ -51,16 +58,18 @@ const SHAPES: &[Shape] = &[
 // ---- keys, and nodes of them
 
 // The whole key at a place: the front, eight bytes of the place, and the tail.
-fn key_at(alloc: Global, shape: &Shape, tail: &[u8], place: u64) -> Result<Vec<u8>, AllocError> {
-    let mut key = Vec::from_slice(alloc, shape.front)?;
-    key.extend_from_slice(&place.to_be_bytes())?;
-    key.extend_from_slice(tail)?;
-    Ok(key)
+fn key_at(shape: &Shape, tail: &[u8], place: u64) -> Key {
+    let digits = place.to_be_bytes();
+    let mut key = ([0; 40], 0);
+    append(&mut key, shape.front);
+    append(&mut key, &digits);
+    append(&mut key, tail);
+    key
 }
 
 // A whole key as it is stored.
-fn stored<'a>(shape: &Shape, key: &'a [u8]) -> &'a [u8] {
-    key.get(shape.prefix_len as usize..).unwrap_or(&[])
+fn stored<'a>(shape: &Shape, key: &'a Key) -> &'a [u8] {
+    whole(key).get(shape.prefix_len as usize..).unwrap_or(&[])
 }
 
 // The keys stand at odd places, so at even ones keys are absent.
@@ -68,54 +77,72 @@ fn there(i: u32) -> u64 {
     i as u64 * 2 + 1
 }
 
-fn absent(i: u32) -> u64 {
-    i as u64 * 2
-}
-
-fn after(i: u32) -> u64 {
-    i as u64 * 2 + 2
-}
-
 // Pages of each length.
 fn page_at(i: u32) -> u64 {
     1 << (i % 64)
 }
 
-fn over(alloc: Global, shape: &Shape, contents: Data) -> Result<Node, Fail> {
-    let (lo, hi) = (bytes(alloc, shape.lo)?, bytes(alloc, shape.hi)?);
-    let node = Node::from_parts(shape.prefix_len, None, None, false, lo, hi, contents);
-    Ok(node.ok_or("well-formed")?)
-}
-
-fn leaf_of(alloc: Global, shape: &Shape, tail: &[u8], count: u32) -> Result<Node, Fail> {
+fn leaf_in(
+    alloc: Global,
+    shape: &Shape,
+    tail: &[u8],
+    count: u32,
+) -> Result<Option<Leaf>, AllocError> {
     let mut pairs = Vec::new(alloc);
     for i in 0..count {
-        let key = key_at(alloc, shape, tail, there(i))?;
-        pairs.push((bytes(alloc, stored(shape, &key))?, bytes(alloc, tail)?))?;
+        let key = key_at(shape, tail, there(i));
+        push(alloc, &mut pairs, stored(shape, &key), tail)?;
     }
-    let leaf = Leaf::from_pairs(alloc, pairs)?.ok_or("ascending")?;
-    over(alloc, shape, Data::Leaf(leaf))
+    Leaf::from_pairs(alloc, pairs)
 }
 
-fn index_of(alloc: Global, shape: &Shape, tail: &[u8], count: u32) -> Result<Node, Fail> {
+pub(super) fn push_child(
+    alloc: Global,
+    pairs: &mut Vec<(IVec, PageId)>,
+    key: &[u8],
+    page: PageId,
+) -> Result<(), AllocError> {
+    pairs.push((bytes(alloc, key)?, page))?;
+    Ok(())
+}
+
+fn index_in(
+    alloc: Global,
+    shape: &Shape,
+    tail: &[u8],
+    count: u32,
+) -> Result<Option<Index>, AllocError> {
     let mut pairs = Vec::new(alloc);
     for i in 0..count {
-        let key = key_at(alloc, shape, tail, there(i))?;
-        pairs.push((bytes(alloc, stored(shape, &key))?, page_at(i)))?;
+        let key = key_at(shape, tail, there(i));
+        push_child(alloc, &mut pairs, stored(shape, &key), page_at(i))?;
     }
-    let index = Index::from_pairs(alloc, pairs)?.ok_or("ascending")?;
-    over(alloc, shape, Data::Index(index))
+    Index::from_pairs(alloc, pairs)
+}
+
+// A leaf or an index of so many pairs, or none where they make up no node.
+pub(super) fn filled(
+    alloc: Global,
+    is_index: bool,
+    shape: &Shape,
+    tail: &[u8],
+    count: u32,
+) -> Result<Option<Node>, AllocError> {
+    let contents = if is_index {
+        let Some(index) = index_in(alloc, shape, tail, count)? else {
+            return Ok(None);
+        };
+        Data::Index(index)
+    } else {
+        let Some(leaf) = leaf_in(alloc, shape, tail, count)? else {
+            return Ok(None);
+        };
+        Data::Leaf(leaf)
+    };
+    node_over(alloc, shape.prefix_len, [shape.lo, shape.hi], 0, contents)
 }
 
 // ---- what both kinds do
-
-// Whether the node is written and read again as itself, and so is its clone.
-fn is_written(alloc: Global, node: &Node) -> Result<bool, Error> {
-    let payload = node.serialize(alloc)?;
-    let is_so = payload.len() as u64 == node.serialized_size() && is_node(alloc, node, &payload)?;
-    let copy = node.clone()?;
-    Ok(is_so && copy == *node)
-}
 
 // Whether the two are merged into one of so many pairs, which is that node but for its prefix.
 fn merge_into(left: &Node, right: &Node, shape: &Shape, count: u32) -> Result<bool, AllocError> {
@@ -129,7 +156,7 @@ fn merge_into(left: &Node, right: &Node, shape: &Shape, count: u32) -> Result<bo
 // Whether the parts are those of a node of so many pairs, and are merged again.
 fn are_parts(left: &Node, right: &Node, shape: &Shape, count: u32) -> Result<bool, AllocError> {
     let half = count as usize / 2 + 1;
-    let halves = left.len() == half && Some(right.len()) == (count as usize).checked_sub(half);
+    let halves = left.len() == half && half.saturating_add(right.len()) == count as usize;
     Ok(halves && merge_into(left, right, shape, count)?)
 }
 
@@ -145,28 +172,18 @@ fn splits(node: Node, shape: &Shape, count: u32) -> Result<bool, AllocError> {
 // ---- leaves
 
 // Whether the leaf has the key at the place with the tail as its value, or lacks it.
-fn looks_up(
-    alloc: Global,
-    leaf: &Node,
-    shape: &Shape,
-    tail: &[u8],
-    place: u64,
-) -> Result<bool, AllocError> {
-    let key = key_at(alloc, shape, tail, place)?;
-    if leaf.is_index() || !leaf.contains_key(&key) {
-        return Ok(false);
-    }
-    let short = stored(shape, &key);
-    let wanted = if place % 2 == 1 { Some(tail) } else { None };
-    let pair = leaf.node_kv_pair(&key)?;
-    let value = pair.1.as_ref().map(|value| value.as_slice());
-    let lent = leaf.leaf_pair_for_key(&key);
-    Ok(pair.0.eq_bytes(short) && value == wanted && lent == wanted.map(|value| (short, value)))
+fn looks_up(leaf: &Node, shape: &Shape, tail: &[u8], place: u64) -> Result<bool, AllocError> {
+    let key = key_at(shape, tail, place);
+    let value = if place % 2 == 1 { Some(tail) } else { None };
+    is_found(leaf, whole(&key), Some(stored(shape, &key)), value)
 }
 
 // Whether the found pair has the key at the place, and the tail as its value.
 fn is_pair(found: Option<(IVec, IVec)>, key: &[u8], tail: &[u8]) -> bool {
-    found.is_some_and(|pair| pair.0.eq_bytes(key) && pair.1.eq_bytes(tail))
+    match found {
+        Some(pair) => pair.0.eq_bytes(key) && pair.1.eq_bytes(tail),
+        None => false,
+    }
 }
 
 // Whether the key at the place is the nearest behind the key before it, and the nearest before the key behind it.
@@ -177,14 +194,13 @@ fn is_nearest(
     tail: &[u8],
     i: u32,
 ) -> Result<bool, AllocError> {
-    let key = key_at(alloc, shape, tail, there(i))?;
-    let low = bytes(alloc, &key_at(alloc, shape, tail, absent(i))?)?;
-    let high = bytes(alloc, &key_at(alloc, shape, tail, after(i))?)?;
-    if leaf.is_index() {
-        return Ok(false);
-    }
-    let behind = is_pair(leaf.successor(&Bound::Excluded(low))?, &key, tail);
-    Ok(behind && is_pair(leaf.predecessor(&Bound::Included(high))?, &key, tail))
+    let key = key_at(shape, tail, there(i));
+    let low = key_at(shape, tail, there(i).saturating_sub(1));
+    let high = key_at(shape, tail, there(i).saturating_add(1));
+    let behind = nearest(alloc, leaf, true, b'(', whole(&low))?;
+    let is_behind = is_pair(behind, whole(&key), tail);
+    let before = nearest(alloc, leaf, false, b'[', whole(&high))?;
+    Ok(is_pair(before, whole(&key), tail) && is_behind)
 }
 
 // Whether all its keys are found in the leaf, by name and as neighbours, and those between them are not.
@@ -195,31 +211,25 @@ fn is_read(
     tail: &[u8],
     count: u32,
 ) -> Result<bool, AllocError> {
+    let mut is_so = leaf.len() == count as usize;
     for i in 0..count {
-        let is_so = looks_up(alloc, leaf, shape, tail, there(i))?
-            && looks_up(alloc, leaf, shape, tail, absent(i))?
+        is_so = is_so
+            && looks_up(leaf, shape, tail, i as u64 * 2)?
+            && looks_up(leaf, shape, tail, there(i))?
             && is_nearest(alloc, leaf, shape, tail, i)?;
-        if !is_so {
-            return Ok(false);
-        }
     }
-    Ok(leaf.len() == count as usize)
+    Ok(is_so)
 }
 
-fn set_link(
-    alloc: Global,
-    shape: &Shape,
-    tail: &[u8],
-    place: u64,
-    value: &[u8],
-) -> Result<Link, AllocError> {
-    let key = key_at(alloc, shape, tail, place)?;
-    Ok(Link::Set(bytes(alloc, stored(shape, &key))?, bytes(alloc, value)?))
+// Whether the leaf takes the key with the value.
+fn sets(alloc: Global, leaf: &mut Node, key: &[u8], value: &[u8]) -> Result<bool, AllocError> {
+    let link = Link::Set(bytes(alloc, key)?, bytes(alloc, value)?);
+    applies(leaf, &link)
 }
 
-fn del_link(alloc: Global, shape: &Shape, tail: &[u8], place: u64) -> Result<Link, AllocError> {
-    let key = key_at(alloc, shape, tail, place)?;
-    Ok(Link::Del(bytes(alloc, stored(shape, &key))?))
+fn deletes(alloc: Global, leaf: &mut Node, key: &[u8]) -> Result<bool, AllocError> {
+    let link = Link::Del(bytes(alloc, key)?);
+    applies(leaf, &link)
 }
 
 // Whether the leaf takes a new key in front, another value for it, and is what it was when the key is taken out again.
@@ -230,102 +240,68 @@ fn is_changed(
     tail: &[u8],
     count: u32,
 ) -> Result<bool, AllocError> {
-    let new = applies(leaf, &set_link(alloc, shape, tail, 0, b"")?)?;
-    let over = applies(leaf, &set_link(alloc, shape, tail, 0, TAILS[1])?)?;
+    let place = key_at(shape, tail, 0);
+    let key = stored(shape, &place);
+    let new = sets(alloc, leaf, key, b"")? && sets(alloc, leaf, key, TAILS[1])?;
     let more = leaf.len() == count as usize + 1;
-    let out = applies(leaf, &del_link(alloc, shape, tail, 0)?)?;
-    Ok(new && over && more && out && leaf.len() == count as usize)
+    Ok(new && more && deletes(alloc, leaf, key)? && leaf.len() == count as usize)
 }
 
 // How large the leaf is: 128, its bounds, and for each pair the stored key and the value.
-fn leaf_size(alloc: Global, shape: &Shape, tail: &[u8], count: u32) -> Result<u64, AllocError> {
-    let key = key_at(alloc, shape, tail, 0)?;
-    let mut size = 128u64;
-    for part in [shape.lo, shape.hi] {
-        size = size.saturating_add(part.len() as u64);
-    }
-    for _ in 0..count {
-        for part in [stored(shape, &key), tail] {
-            size = size.saturating_add(part.len() as u64);
-        }
-    }
-    Ok(size)
+fn leaf_size(shape: &Shape, tail: &[u8], count: u32) -> u64 {
+    let key = key_at(shape, tail, 0);
+    let bounds = shape.lo.len().saturating_add(shape.hi.len());
+    let pair = stored(shape, &key).len().saturating_add(tail.len());
+    let pairs = pair.saturating_mul(count as usize);
+    128u64.saturating_add(bounds.saturating_add(pairs) as u64)
 }
 
-fn holds_as_leaf(alloc: Global, shape: &Shape, tail: &[u8], count: u32) -> Result<bool, Fail> {
-    let mut leaf = leaf_of(alloc, shape, tail, count)?;
-    let sized = leaf.rss() == leaf_size(alloc, shape, tail, count)?;
-    let changed = is_changed(alloc, &mut leaf, shape, tail, count)?;
-    let read = is_read(alloc, &leaf, shape, tail, count)? && is_written(alloc, &leaf)?;
-    Ok(sized && changed && read && splits(leaf, shape, count)?)
-}
-
-#[test]
-fn leaves_hold_at_each_size(rt: HostRuntime) -> Result<(), Fail> {
-    for shape in SHAPES {
-        for tail in TAILS {
-            for count in COUNTS {
-                let is_so = holds_as_leaf(rt.alloc(), shape, tail, *count)?;
-                assert!(rt; is_so, "{}, {count} pairs", shape.row);
-            }
-        }
-    }
-    Ok(())
+fn acts_as_leaf(
+    alloc: Global,
+    leaf: &mut Node,
+    shape: &Shape,
+    tail: &[u8],
+    count: u32,
+) -> Result<bool, Error> {
+    let sized = leaf.rss() == leaf_size(shape, tail, count);
+    let changed = is_changed(alloc, leaf, shape, tail, count)?;
+    let read = is_read(alloc, leaf, shape, tail, count)?;
+    Ok(sized && changed && read && is_node_written(alloc, leaf, None)? && is_cloned(leaf)?)
 }
 
 // ---- indexes
 
-// Whether the key at the place leads to the child, or to none.
+// Whether the key at the place leads to this page at this place, or to none.
 fn leads(
-    alloc: Global,
     index: &Node,
     shape: &Shape,
     tail: &[u8],
     place: u64,
-    child: Option<u32>,
-) -> Result<bool, AllocError> {
-    let key = key_at(alloc, shape, tail, place)?;
-    if !index.has_child_for(&key) {
-        return Ok(child.is_none());
-    }
-    let (at, page) = index.index_next_node(&key);
-    Ok(child.is_some_and(|i| at == i as usize && page == page_at(i)))
+    child: Option<(usize, PageId)>,
+) -> bool {
+    let key = key_at(shape, tail, place);
+    next(index, whole(&key)) == child
 }
 
 // Whether each key, and one above it, leads to its child, and one below them all to none.
-fn is_led(
-    alloc: Global,
-    index: &Node,
-    shape: &Shape,
-    tail: &[u8],
-    count: u32,
-) -> Result<bool, AllocError> {
+fn is_led(index: &Node, shape: &Shape, tail: &[u8], count: u32) -> bool {
+    let mut is_so = leads(index, shape, tail, 0, None);
     for i in 0..count {
-        let is_so = leads(alloc, index, shape, tail, there(i), Some(i))?
-            && leads(alloc, index, shape, tail, after(i), Some(i))?;
-        if !is_so {
-            return Ok(false);
-        }
+        let child = Some((i as usize, page_at(i)));
+        is_so = is_so
+            && leads(index, shape, tail, there(i), child)
+            && leads(index, shape, tail, there(i).saturating_add(1), child);
     }
-    leads(alloc, index, shape, tail, 0, None)
+    is_so
 }
 
 const NEW_PAGE: u64 = u64::MAX;
 
 // Whether the index leads to a new child in front once it is asked to, and to no other when it is asked again.
-fn is_parted(
-    alloc: Global,
-    index: &mut Node,
-    shape: &Shape,
-    tail: &[u8],
-) -> Result<bool, AllocError> {
-    let key = key_at(alloc, shape, tail, 0)?;
-    for is_new in [true, false] {
-        if !index.accepts_child(&key) || index.parent_split(&key, NEW_PAGE)? != is_new {
-            return Ok(false);
-        }
-    }
-    Ok(true)
+fn is_parted(index: &mut Node, shape: &Shape, tail: &[u8]) -> Result<bool, AllocError> {
+    let key = key_at(shape, tail, 0);
+    let first = split(index, whole(&key), NEW_PAGE)?;
+    Ok(first == Some(true) && split(index, whole(&key), NEW_PAGE)? == Some(false))
 }
 
 // Whether the new child is taken out again when it was merged.
@@ -336,23 +312,58 @@ fn is_confirmed(index: &mut Node) -> Result<bool, AllocError> {
     )
 }
 
-fn holds_as_index(alloc: Global, shape: &Shape, tail: &[u8], count: u32) -> Result<bool, Fail> {
-    let mut index = index_of(alloc, shape, tail, count)?;
-    let read = is_led(alloc, &index, shape, tail, count)? && is_written(alloc, &index)?;
-    let parted = is_parted(alloc, &mut index, shape, tail)? && index.len() == count as usize + 1;
-    let merged = is_confirmed(&mut index)? && index.len() == count as usize;
-    Ok(read && parted && merged && splits(index, shape, count)?)
+fn acts_as_index(
+    alloc: Global,
+    index: &mut Node,
+    shape: &Shape,
+    tail: &[u8],
+    count: u32,
+) -> Result<bool, Error> {
+    let written = is_node_written(alloc, index, None)? && is_cloned(index)?;
+    let read = is_led(index, shape, tail, count) && written;
+    let parted = is_parted(index, shape, tail)? && index.len() == count as usize + 1;
+    Ok(read && parted && is_confirmed(index)? && index.len() == count as usize)
 }
 
-#[test]
-fn indexes_hold_at_each_size(rt: HostRuntime) -> Result<(), Fail> {
+// ---- both
+
+fn holds(
+    alloc: Global,
+    is_index: bool,
+    shape: &Shape,
+    tail: &[u8],
+    count: u32,
+) -> Result<bool, Error> {
+    let Some(mut node) = filled(alloc, is_index, shape, tail, count)? else {
+        return Ok(false);
+    };
+    let done = if is_index {
+        acts_as_index(alloc, &mut node, shape, tail, count)
+    } else {
+        acts_as_leaf(alloc, &mut node, shape, tail, count)
+    };
+    let parted = splits(node, shape, count);
+    Ok(done? && parted?)
+}
+
+fn hold(rt: &impl Abort, alloc: Global, is_index: bool) -> Result<(), Error> {
     for shape in SHAPES {
         for tail in TAILS {
             for count in COUNTS {
-                let is_so = holds_as_index(rt.alloc(), shape, tail, *count)?;
+                let is_so = holds(alloc, is_index, shape, tail, *count)?;
                 assert!(rt; is_so, "{}, {count} pairs", shape.row);
             }
         }
     }
     Ok(())
+}
+
+#[test]
+fn leaves_hold_at_each_size(rt: HostRuntime) -> Result<(), Fail> {
+    Ok(hold(&rt, rt.alloc(), false)?)
+}
+
+#[test]
+fn indexes_hold_at_each_size(rt: HostRuntime) -> Result<(), Fail> {
+    Ok(hold(&rt, rt.alloc(), true)?)
 }

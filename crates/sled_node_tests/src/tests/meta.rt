@@ -1,43 +1,25 @@
 mod corners;
 
+use super::serialization::{is_corrupt, is_meta_written};
 use super::*;
-use sled_base::Error;
-use sled_node::Serialize;
 use sled_node::node::MAX_BYTES;
 use std::collections::BTreeMap;
-use std::process::Abort;
-use std::test::Fail;
 
-fn set(
-    rt: &impl Abort,
+// Sets the name, and answers its former root, or none where there is no room.
+fn replace(
     alloc: Global,
     meta: &mut Meta,
     name: &[u8],
     root: PageId,
-) -> Result<Option<PageId>, AllocError> {
-    assert!(rt; name.len() <= MAX_BYTES);
-    assert!(rt; meta.has_room(name));
-    meta.set_root(IVec::from_slice(alloc, name)?, root)
+) -> Result<Option<Option<PageId>>, AllocError> {
+    if name.len() > MAX_BYTES || !meta.has_room(name) {
+        return Ok(None);
+    }
+    let former = meta.set_root(IVec::from_slice(alloc, name)?, root)?;
+    Ok(Some(former))
 }
 
-// The map with `a` at page 2 and `b` at page 3.
-fn two_names(rt: &impl Abort, alloc: Global) -> Result<Meta, AllocError> {
-    let mut meta = Meta::default(alloc);
-    set(rt, alloc, &mut meta, b"b", 3)?;
-    set(rt, alloc, &mut meta, b"a", 2)?;
-    Ok(meta)
-}
-
-#[test]
-fn names_have_pages(rt: HostRuntime) -> Result<(), Fail> {
-    let meta = two_names(&rt, rt.alloc())?;
-    assert_eq!(rt; meta.len(), 2);
-    assert_eq!(rt; meta.get_root(b"a"), Some(2));
-    assert_eq!(rt; meta.get_root(b"b"), Some(3));
-    assert_eq!(rt; meta.get_root(b"ab"), None);
-    assert_eq!(rt; meta.rss(), 18);
-    Ok(())
-}
+fn let_go(_meta: Meta) {}
 
 // Whether the entry is of this name, at this page.
 fn is_entry(entry: Option<(&Vec<u8>, &PageId)>, name: &[u8], root: PageId) -> bool {
@@ -47,46 +29,73 @@ fn is_entry(entry: Option<(&Vec<u8>, &PageId)>, name: &[u8], root: PageId) -> bo
     }
 }
 
-fn expect_in_order(rt: &impl Abort, tenants: &BTreeMap<Vec<u8>, PageId>) {
-    assert_eq!(rt; tenants.len(), 2);
-    assert!(rt; is_entry(tenants.first_key_value(), b"a", 2));
-    assert!(rt; is_entry(tenants.last_key_value(), b"b", 3));
+fn are_in_order(tenants: &BTreeMap<Vec<u8>, PageId>) -> bool {
+    tenants.len() == 2
+        && is_entry(tenants.first_key_value(), b"a", 2)
+        && is_entry(tenants.last_key_value(), b"b", 3)
 }
 
-fn expect_tenants(rt: &impl Abort, meta: &Meta) -> Result<(), AllocError> {
+fn tenants_are_in_order(meta: &Meta) -> Result<bool, AllocError> {
     let tenants = meta.tenants()?;
-    expect_in_order(rt, &tenants);
+    Ok(are_in_order(&tenants))
+}
+
+fn expect_roots(rt: &impl Abort, meta: &Meta) {
+    assert!(rt; meta.len() == 2);
+    assert!(rt; meta.rss() == 18);
+    for (name, root) in [(b"a".as_slice(), Some(2)), (b"b", Some(3)), (b"ab", None)] {
+        assert!(rt; meta.get_root(name) == root, "{name:?}");
+    }
+}
+
+fn is_empty_another(alloc: Global, meta: &Meta) -> bool {
+    let empty = Meta::default(alloc);
+    empty != *meta
+}
+
+// Sets `b` to page 3, and then `a` to page 2.
+fn expect_two_names(rt: &impl Abort, alloc: Global, meta: &mut Meta) -> Result<(), Error> {
+    for (name, root) in [(b"b".as_slice(), 3), (b"a", 2)] {
+        assert!(rt; replace(alloc, meta, name, root)? == Some(None));
+    }
+    expect_roots(rt, meta);
+    assert!(rt; tenants_are_in_order(meta)?);
+    assert!(rt; is_cloned(meta)? && is_empty_another(alloc, meta));
+    assert!(rt; is_meta_written(alloc, meta, Some(&[1, 97, 2, 1, 98, 3]))?);
     Ok(())
 }
 
-fn let_go(_meta: Meta) {}
-
 #[test]
-fn tenants_come_in_order(rt: HostRuntime) -> Result<(), Fail> {
-    let meta = two_names(&rt, rt.alloc())?;
-    let done = expect_tenants(&rt, &meta);
+fn two_names_have_pages(rt: HostRuntime) -> Result<(), Fail> {
+    let mut meta = Meta::default(rt.alloc());
+    let done = expect_two_names(&rt, rt.alloc(), &mut meta);
     let_go(meta);
     Ok(done?)
 }
 
 fn expect_set(rt: &impl Abort, alloc: Global, meta: &mut Meta) -> Result<(), AllocError> {
-    assert!(rt; meta.is_empty());
-    assert_eq!(rt; set(rt, alloc, meta, b"a", 2)?, None);
-    assert_eq!(rt; set(rt, alloc, meta, b"a", 5)?, Some(2));
-    assert_eq!(rt; meta.get_root(b"a"), Some(5));
-    expect_taken_out(rt, meta);
-    // a name that has no room in place
-    let long = b"xxxxxxxxxxxxxxxxxxxxxxxxxxxxxx";
-    assert_eq!(rt; set(rt, alloc, meta, long, 7)?, None);
-    assert_eq!(rt; meta.get_root(long), Some(7));
+    // a name that has no room in place comes last
+    let long = b"xxxxxxxxxxxxxxxxxxxxxxxxxxxxxx".as_slice();
+    for (name, root, former, is_taken_out) in [
+        (b"a".as_slice(), 2, None, false),
+        (b"a", 5, Some(2), true),
+        (long, 7, None, false),
+    ] {
+        assert!(rt; meta.is_empty() == former.is_none());
+        assert!(rt; replace(alloc, meta, name, root)? == Some(former));
+        assert!(rt; meta.get_root(name) == Some(root));
+        if is_taken_out {
+            expect_taken_out(rt, meta);
+        }
+    }
     Ok(())
 }
 
 fn expect_taken_out(rt: &impl Abort, meta: &mut Meta) {
-    assert_eq!(rt; meta.del_root(b"b"), None);
-    assert_eq!(rt; meta.len(), 1);
-    assert_eq!(rt; meta.del_root(b"a"), Some(5));
-    assert_eq!(rt; meta.get_root(b"a"), None);
+    assert!(rt; meta.del_root(b"b") == None);
+    assert!(rt; meta.len() == 1);
+    assert!(rt; meta.del_root(b"a") == Some(5));
+    assert!(rt; meta.get_root(b"a") == None);
     assert!(rt; meta.is_empty());
 }
 
@@ -98,57 +107,26 @@ fn names_are_set_and_taken_out(rt: HostRuntime) -> Result<(), Fail> {
     Ok(done?)
 }
 
-#[test]
-fn clones_are_equal(rt: HostRuntime) -> Result<(), Fail> {
-    let meta = two_names(&rt, rt.alloc())?;
-    assert!(rt; meta.clone()? == meta);
-    assert!(rt; Meta::default(rt.alloc()) != meta);
-    Ok(())
-}
-
-// The bytes are a whole encoding of a map with this page at `a`, and of so many names.
-fn expect_read(
-    rt: &impl Abort,
-    alloc: Global,
-    bytes: &[u8],
-    root: Option<PageId>,
-    names: usize,
-) -> Result<(), Error> {
+// Whether the bytes are a whole encoding of a map with this page at `a`, and of so many names.
+fn reads(alloc: Global, bytes: &[u8], root: Option<PageId>, names: usize) -> Result<bool, Error> {
     let mut rest = bytes;
     let meta = Meta::deserialize(alloc, &mut rest)?;
-    assert!(rt; rest.is_empty());
-    assert_eq!(rt; meta.get_root(b"a"), root);
-    assert_eq!(rt; meta.len(), names);
-    Ok(())
-}
-
-fn expect_written(rt: &impl Abort, alloc: Global, meta: &Meta) -> Result<(), Error> {
-    assert_eq!(rt; meta.serialized_size(), 6);
-    let bytes = meta.serialize(alloc)?;
-    assert_eq!(rt; bytes.as_slice(), [1, 97, 2, 1, 98, 3].as_slice());
-    expect_read(rt, alloc, &bytes, Some(2), 2)
+    Ok(rest.is_empty() && meta.get_root(b"a") == root && meta.len() == names)
 }
 
 #[test]
-fn maps_are_written_and_read(rt: HostRuntime) -> Result<(), Fail> {
-    let alloc = rt.alloc();
-    let meta = two_names(&rt, alloc)?;
-    let done = expect_written(&rt, alloc, &meta);
-    let_go(meta);
-    done?;
-    expect_read(&rt, alloc, &[1, 98, 3, 1, 97, 2], Some(2), 2)?;
-    expect_read(&rt, alloc, &[1, 97, 2, 1, 97, 5], Some(5), 1)?;
-    expect_read(&rt, alloc, &[], None, 0)?;
-    Ok(())
-}
-
-#[test]
-fn bytes_that_are_no_pair(rt: HostRuntime) -> Result<(), Fail> {
+fn maps_are_read(rt: HostRuntime) -> Result<(), Fail> {
+    for (bytes, root, names) in [
+        ([1, 97, 2, 1, 98, 3].as_slice(), Some(2), 2),
+        (&[1, 98, 3, 1, 97, 2], Some(2), 2),
+        (&[1, 97, 2, 1, 97, 5], Some(5), 1),
+        (&[], None, 0),
+    ] {
+        assert!(rt; reads(rt.alloc(), bytes, root, names)?, "{bytes:?}");
+    }
+    // bytes that are no pair
     for bytes in [[1].as_slice(), &[1, 97], &[1, 97, 2, 1]] {
-        let mut rest = bytes;
-        let answer = Meta::deserialize(rt.alloc(), &mut rest);
-        assert!(rt; matches!(answer, Err(Error::Corruption(None))));
-        assert_eq!(rt; rest.len(), bytes.len());
+        assert!(rt; is_corrupt::<Meta>(rt.alloc(), bytes), "{bytes:?}");
     }
     Ok(())
 }

@@ -1,8 +1,4 @@
 use super::*;
-use crate::tests::{EMPTY, bound_of, node_of};
-use sled_base::Error;
-use std::alloc::Global;
-use std::test::Fail;
 
 // Over "ba" to "bz", without the first byte: "b" to "v".
 const ONE_PAIR: &[u8] = &[0, 0, 0, 1, 2, 98, 97, 2, 98, 122, 0, 1, 1, 98, 1, 118];
@@ -40,31 +36,34 @@ fn value_of(found: Option<(IVec, IVec)>) -> u8 {
     }
 }
 
-fn behind(alloc: Global, node: &Node, kind: u8, key: &[u8]) -> Result<u8, AllocError> {
+// The nearest pair behind the bound, or before it. An index has none.
+pub(super) fn nearest(
+    alloc: Global,
+    node: &Node,
+    is_behind: bool,
+    kind: u8,
+    key: &[u8],
+) -> Result<Option<(IVec, IVec)>, AllocError> {
     if node.is_index() {
-        return Ok(b'?');
+        return Ok(None);
     }
     let bound = bound_of(alloc, kind, key)?;
-    Ok(value_of(node.successor(&bound)?))
-}
-
-fn before(alloc: Global, node: &Node, kind: u8, key: &[u8]) -> Result<u8, AllocError> {
-    if node.is_index() {
-        return Ok(b'?');
+    if is_behind {
+        node.successor(&bound)
+    } else {
+        node.predecessor(&bound)
     }
-    let bound = bound_of(alloc, kind, key)?;
-    Ok(value_of(node.predecessor(&bound)?))
 }
 
 // The values of the nearest pairs at or above the key, above it, at or below it, and below it, and of the first and the last.
 fn near(alloc: Global, node: &Node, key: &[u8]) -> Result<[u8; 6], AllocError> {
     Ok([
-        behind(alloc, node, b'[', key)?,
-        behind(alloc, node, b'(', key)?,
-        before(alloc, node, b'[', key)?,
-        before(alloc, node, b'(', key)?,
-        behind(alloc, node, b'-', key)?,
-        before(alloc, node, b'-', key)?,
+        value_of(nearest(alloc, node, true, b'[', key)?),
+        value_of(nearest(alloc, node, true, b'(', key)?),
+        value_of(nearest(alloc, node, false, b'[', key)?),
+        value_of(nearest(alloc, node, false, b'(', key)?),
+        value_of(nearest(alloc, node, true, b'-', key)?),
+        value_of(nearest(alloc, node, false, b'-', key)?),
     ])
 }
 

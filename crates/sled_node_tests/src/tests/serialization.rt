@@ -1,126 +1,158 @@
 ghost use Rattle.std.specs.Prelude.{◌<◌, ◌^◌, length};
 ghost use Rattle.sled_node.specs.Payloads.Links.{written_link, CanWriteLink};
 
+use super::corners::push_child;
 use super::*;
-use crate::tests::let_go;
-use sled_base::{Error, IVec};
-use sled_node::{Data, Index, Leaf, Link, Node};
-use std::alloc::{AllocError, Global};
-use std::num::NonZeroU64;
-use std::process::Abort;
-use std::test::Fail;
 
-// The value at the front of the input, or none where none is read. An error is out of memory.
-fn read<T: Serialize>(alloc: Global, input: &mut &[u8]) -> Result<Option<T>, AllocError> {
-    match T::deserialize(alloc, input) {
-        Ok(value) => Ok(Some(value)),
-        Err(Error::OutOfMemory) => Err(AllocError),
-        Err(_) => Ok(None),
-    }
-}
-
-// A test that may end early lets what was read go here, once, and not on each way out.
-
-fn let_data_go(_data: Data) {}
-
-// The bytes are a whole encoding of the value.
-fn expect_read<T: Serialize + PartialEq>(
-    rt: &impl Abort,
-    alloc: Global,
-    bytes: &[u8],
-    value: &T,
-) -> Result<(), AllocError> {
-    let mut rest = bytes;
-    let read = read::<T>(alloc, &mut rest)?;
-    assert!(rt; matches!(&read, Some(found) if *found == *value));
-    assert!(rt; rest.is_empty());
-    Ok(())
-}
-
-// The bytes are the encoding that was written, of the size that was answered, and they are read as the value.
-fn expect_same<T: Serialize + PartialEq>(
-    rt: &impl Abort,
+// Whether the bytes are the encoding that was written, of the size that was answered, and they are read as the value.
+fn is_same<T: Serialize + PartialEq>(
     alloc: Global,
     value: &T,
     written: &[u8],
     size: u64,
     bytes: &[u8],
-) -> Result<(), AllocError> {
-    assert!(rt; written == bytes);
-    assert!(rt; size == bytes.len() as u64);
-    expect_read(rt, alloc, bytes, value)
+) -> Result<bool, Error> {
+    Ok(written == bytes && size == bytes.len() as u64 && is_read(alloc, bytes, value)?)
 }
 
-fn expect_link(rt: &impl Abort, alloc: Global, link: &Link, bytes: &[u8]) -> Result<(), AllocError>
+fn is_link_written(alloc: Global, link: &Link, bytes: &[u8]) -> Result<bool, Error>
     requires can_write { CanWriteLink link.now }
     requires fits { length (written_link link.now) < 2 ^ 64 }
 {
     let written = link.serialize(alloc)?;
-    expect_same(rt, alloc, link, &written, link.serialized_size(), bytes)
+    is_same(alloc, link, &written, link.serialized_size(), bytes)
 }
 
-fn expect_data(
-    rt: &impl Abort,
-    alloc: Global,
-    data: &Data,
-    bytes: &[u8],
-) -> Result<(), AllocError> {
+fn is_data_written(alloc: Global, data: &Data, bytes: &[u8]) -> Result<bool, Error> {
     let written = data.serialize(alloc)?;
-    expect_same(rt, alloc, data, &written, data.serialized_size(), bytes)
+    is_same(alloc, data, &written, data.serialized_size(), bytes)
 }
 
-fn expect_node(
-    rt: &impl Abort,
+// Whether the node is written as these bytes, or as any, and read again from them.
+pub(super) fn is_node_written(
     alloc: Global,
     node: &Node,
-    bytes: &[u8],
-) -> Result<(), AllocError> {
+    bytes: Option<&[u8]>,
+) -> Result<bool, Error> {
     let written = node.serialize(alloc)?;
-    expect_same(rt, alloc, node, &written, node.serialized_size(), bytes)
+    let bytes = bytes.unwrap_or(&written);
+    is_same(alloc, node, &written, node.serialized_size(), bytes)
 }
 
-// No value is read, and the input stays where it was.
-fn expect_corruption<T: Serialize>(rt: &impl Abort, alloc: Global, bytes: &[u8]) {
-    let mut rest = bytes;
-    let answer = T::deserialize(alloc, &mut rest);
-    assert!(rt; matches!(&answer, Err(Error::Corruption(None))));
-    assert!(rt; rest.len() == bytes.len());
-}
-
-// As `expect_link`, of a link that is let go here.
-fn expect_written(
-    rt: &impl Abort,
+pub(super) fn is_meta_written(
     alloc: Global,
-    link: Link,
-    bytes: &[u8],
-) -> Result<(), AllocError>
-    requires can_write { CanWriteLink link }
-    requires fits { length (written_link link) < 2 ^ 64 }
-{
-    expect_link(rt, alloc, &link, bytes)
+    meta: &Meta,
+    bytes: Option<&[u8]>,
+) -> Result<bool, Error> {
+    let written = meta.serialize(alloc)?;
+    let bytes = bytes.unwrap_or(&written);
+    is_same(alloc, meta, &written, meta.serialized_size(), bytes)
 }
 
-fn expect_set(rt: &impl Abort, alloc: Global, bytes: &[u8]) -> Result<(), AllocError> {
+fn is_set_written(alloc: Global, bytes: &[u8]) -> Result<bool, Error> {
     let key = IVec::from_slice(alloc, &[1])?;
     let value = IVec::from_slice(alloc, &[2])?;
-    expect_written(rt, alloc, Link::Set(key, value), bytes)
+    let link = Link::Set(key, value);
+    is_link_written(alloc, &link, bytes)
 }
 
-fn expect_del(rt: &impl Abort, alloc: Global, bytes: &[u8]) -> Result<(), AllocError> {
-    let key = IVec::from_slice(alloc, &[1])?;
-    expect_written(rt, alloc, Link::Del(key), bytes)
+fn is_del_written(alloc: Global, bytes: &[u8]) -> Result<bool, Error> {
+    let link = Link::Del(IVec::from_slice(alloc, &[1])?);
+    is_link_written(alloc, &link, bytes)
 }
 
 #[test]
 fn links(rt: HostRuntime) -> Result<(), Fail> {
-    expect_set(&rt, rt.alloc(), &[0, 1, 1, 1, 2])?;
-    expect_del(&rt, rt.alloc(), &[1, 1, 1])?;
+    let alloc = rt.alloc();
+    assert!(rt; is_set_written(alloc, &[0, 1, 1, 1, 2])?);
+    assert!(rt; is_del_written(alloc, &[1, 1, 1])?);
     for (page, bytes) in [(0, [2, 0].as_slice()), (241, &[2, 241, 1])] {
-        expect_written(&rt, rt.alloc(), Link::ParentMergeIntention(page), bytes)?;
+        assert!(rt; is_link_written(alloc, &Link::ParentMergeIntention(page), bytes)?);
     }
-    expect_written(&rt, rt.alloc(), Link::ParentMergeConfirm, &[3])?;
-    expect_written(&rt, rt.alloc(), Link::ChildMergeCap, &[4])?;
+    assert!(rt; is_link_written(alloc, &Link::ParentMergeConfirm, &[3])?);
+    assert!(rt; is_link_written(alloc, &Link::ChildMergeCap, &[4])?);
     Ok(())
+}
+
+// Whether a leaf is read from the input, whose last byte is left, and written as the bytes.
+fn is_leaf_read(alloc: Global, input: &[u8], bytes: &[u8]) -> Result<bool, Error> {
+    let mut rest = input;
+    let leaf = Data::deserialize(alloc, &mut rest)?;
+    Ok(rest == [7].as_slice() && is_data_written(alloc, &leaf, bytes)?)
+}
+
+fn is_empty_leaf_written(alloc: Global) -> Result<bool, Error> {
+    let empty = Data::Leaf(Leaf::default(alloc));
+    is_data_written(alloc, &empty, &[0, 0])
+}
+
+// An index of these two keys, to the pages 2 and 241, or none where they don't rise.
+fn index_of(alloc: Global, left: &[u8], right: &[u8]) -> Result<Option<Index>, AllocError> {
+    let mut pairs = Vec::new(alloc);
+    push_child(alloc, &mut pairs, left, 2)?;
+    push_child(alloc, &mut pairs, right, 241)?;
+    Index::from_pairs(alloc, pairs)
+}
+
+// Whether the two keys make up no index where the bytes are none, and else one that is written as the bytes.
+fn is_index_written(
+    alloc: Global,
+    left: &[u8],
+    right: &[u8],
+    bytes: Option<&[u8]>,
+) -> Result<bool, Error> {
+    match (index_of(alloc, left, right)?, bytes) {
+        (Some(index), Some(bytes)) => is_data_written(alloc, &Data::Index(index), bytes),
+        (None, None) => Ok(true),
+        _ => Ok(false),
+    }
+}
+
+#[test]
+fn leaves_and_indexes(rt: HostRuntime) -> Result<(), Fail> {
+    let alloc = rt.alloc();
+    let longer = [0, 250, 1, 0, 0, 1, 97, 1, 98, 7];
+    assert!(rt; is_empty_leaf_written(alloc)?);
+    assert!(rt; is_leaf_read(alloc, &longer, &[0, 1, 1, 97, 1, 98])?);
+    for (left, right, bytes) in [
+        (
+            b"".as_slice(),
+            b"a".as_slice(),
+            Some([1, 2, 0, 1, 97, 2, 241, 1].as_slice()),
+        ),
+        (b"a", b"", None),
+        (b"a", b"a", None),
+    ] {
+        assert!(rt; is_index_written(alloc, left, right, bytes)?);
+    }
+    Ok(())
+}
+
+// Whether no value is read, and the input stays where it was.
+pub(super) fn is_corrupt<T: Serialize>(alloc: Global, bytes: &[u8]) -> bool {
+    let mut rest = bytes;
+    let answer = T::deserialize(alloc, &mut rest);
+    matches!(&answer, Err(Error::Corruption(None))) && rest.len() == bytes.len()
+}
+
+// Run with the first allocation refused too: none of these asks for any.
+#[test]
+fn a_forged_length_takes_no_memory(rt: HostRuntime) {
+    for bytes in [
+        [0, 255, 255, 255, 255, 255, 255, 255, 255, 255].as_slice(),
+        &[0, 250, 0, 0, 1, 1, 97, 1, 98],
+        &[1, 250, 0, 0, 1, 1, 97, 1],
+        &[1, 251, 0, 0, 0, 1, 0, 0],
+    ] {
+        assert!(rt; is_corrupt::<Data>(rt.alloc(), bytes), "{bytes:?}");
+    }
+    for bytes in [
+        [0, 250, 255, 255, 255, 1, 1].as_slice(),
+        &[1, 255, 0, 0, 0, 0, 0, 0, 0, 1],
+    ] {
+        assert!(rt; is_corrupt::<Link>(rt.alloc(), bytes), "{bytes:?}");
+    }
+    assert!(rt; is_corrupt::<Node>(rt.alloc(), &[0, 0, 0, 0, 252, 0, 0, 0, 0, 1, 0, 0]));
 }
 
 #[test]
@@ -135,44 +167,12 @@ fn no_links(rt: HostRuntime) {
         &[2],
         &[2, 241],
     ] {
-        expect_corruption::<Link>(&rt, rt.alloc(), bytes);
+        assert!(rt; is_corrupt::<Link>(rt.alloc(), bytes), "{bytes:?}");
     }
 }
 
-// Run with the first allocation refused too: none of these asks for any.
 #[test]
-fn a_forged_length_takes_no_memory(rt: HostRuntime) {
-    for bytes in [
-        [0, 255, 255, 255, 255, 255, 255, 255, 255, 255].as_slice(),
-        &[0, 250, 0, 0, 1, 1, 97, 1, 98],
-        &[1, 250, 0, 0, 1, 1, 97, 1],
-        &[1, 251, 0, 0, 0, 1, 0, 0],
-    ] {
-        expect_corruption::<Data>(&rt, rt.alloc(), bytes);
-    }
-    expect_corruption::<Link>(&rt, rt.alloc(), &[0, 250, 255, 255, 255, 1, 1]);
-    expect_corruption::<Link>(&rt, rt.alloc(), &[1, 255, 0, 0, 0, 0, 0, 0, 0, 1]);
-    expect_corruption::<Node>(&rt, rt.alloc(), &[0, 0, 0, 0, 252, 0, 0, 0, 0, 1, 0, 0]);
-}
-
-fn expect_empty_leaf(rt: &impl Abort, alloc: Global) -> Result<(), AllocError> {
-    let empty = Data::Leaf(Leaf::default(alloc));
-    expect_data(rt, alloc, &empty, &[0, 0])
-}
-
-#[test]
-fn leaves(rt: HostRuntime) -> Result<(), Fail> {
-    expect_empty_leaf(&rt, rt.alloc())?;
-    let mut input: &[u8] = &[0, 250, 1, 0, 0, 1, 97, 1, 98, 7];
-    let leaf = read::<Data>(rt.alloc(), &mut input)?.ok_or("a leaf")?;
-    assert!(rt; input == [7].as_slice());
-    let done = expect_data(&rt, rt.alloc(), &leaf, &[0, 1, 1, 97, 1, 98]);
-    let_data_go(leaf);
-    Ok(done?)
-}
-
-#[test]
-fn no_leaves(rt: HostRuntime) {
+fn no_leaves_or_indexes(rt: HostRuntime) {
     for bytes in [
         [].as_slice(),
         &[0],
@@ -184,66 +184,12 @@ fn no_leaves(rt: HostRuntime) {
         &[0, 2, 1, 97, 1, 98, 1, 120],
         &[0, 2, 1, 98, 1, 97, 0, 0],
         &[0, 2, 1, 97, 1, 97, 0, 0],
+        &[1],
+        &[1, 2, 1, 97, 0, 2, 3],
+        &[1, 1, 1, 97],
     ] {
-        expect_corruption::<Data>(&rt, rt.alloc(), bytes);
+        assert!(rt; is_corrupt::<Data>(rt.alloc(), bytes), "{bytes:?}");
     }
-}
-
-// An index of these two keys, to the pages 2 and 241, or none where they don't rise.
-fn index_of(alloc: Global, left: &[u8], right: &[u8]) -> Result<Option<Index>, Fail> {
-    let mut pairs = Vec::new(alloc);
-    pairs.push((IVec::from_slice(alloc, left)?, 2u64))?;
-    pairs.push((IVec::from_slice(alloc, right)?, 241))?;
-    Ok(Index::from_pairs(alloc, pairs)?)
-}
-
-#[test]
-fn indexes(rt: HostRuntime) -> Result<(), Fail> {
-    let index = Data::Index(index_of(rt.alloc(), b"", b"a")?.ok_or("ascending")?);
-    expect_data(&rt, rt.alloc(), &index, &[1, 2, 0, 1, 97, 2, 241, 1])?;
-    assert!(rt; index_of(rt.alloc(), b"a", b"")?.is_none());
-    assert!(rt; index_of(rt.alloc(), b"a", b"a")?.is_none());
-    for bytes in [[1].as_slice(), &[1, 2, 1, 97, 0, 2, 3], &[1, 1, 1, 97]] {
-        expect_corruption::<Data>(&rt, rt.alloc(), bytes);
-    }
-    Ok(())
-}
-
-fn expect_empty_node(rt: &impl Abort, alloc: Global) -> Result<(), AllocError> {
-    let empty = Node::default(alloc);
-    expect_node(rt, alloc, &empty, &[0; 8])
-}
-
-#[test]
-fn nodes(rt: HostRuntime) -> Result<(), Fail> {
-    expect_empty_node(&rt, rt.alloc())?;
-    let mut input: &[u8] = &[0, 0, 1, 0, 0, 0, 1, 0];
-    let merging = read::<Node>(rt.alloc(), &mut input)?.ok_or("a node")?;
-    assert!(rt; merging.merging());
-    assert!(rt; merging.is_index());
-    let done = expect_node(&rt, rt.alloc(), &merging, &[0, 0, 1, 0, 0, 0, 1, 0]);
-    let_go(merging);
-    Ok(done?)
-}
-
-fn expect_prefixed(rt: &impl Abort, node: &Node) {
-    assert!(rt; node.next() == NonZeroU64::new(7));
-    assert!(rt; node.merging_child() == NonZeroU64::new(5));
-    assert!(rt; node.prefix_len() == 1);
-    assert!(rt; node.len() == 1);
-    assert!(rt; node.contains_key(b"bb"));
-}
-
-#[test]
-fn a_node_with_a_prefix(rt: HostRuntime) -> Result<(), Fail> {
-    // Next to page 7; the child on page 5 is being merged; the range is from "ba" to "bz", and "b" isn't stored.
-    let bytes: &[u8] = &[7, 5, 0, 1, 2, 98, 97, 2, 98, 122, 0, 1, 1, 98, 1, 118];
-    let mut input = bytes;
-    let node = read::<Node>(rt.alloc(), &mut input)?.ok_or("a node")?;
-    expect_prefixed(&rt, &node);
-    let done = expect_node(&rt, rt.alloc(), &node, bytes);
-    let_go(node);
-    Ok(done?)
 }
 
 #[test]
@@ -261,6 +207,6 @@ fn no_nodes(rt: HostRuntime) {
         // Equal keys.
         &[0, 0, 0, 0, 0, 0, 0, 2, 1, 97, 1, 97, 0, 0],
     ] {
-        expect_corruption::<Node>(&rt, rt.alloc(), bytes);
+        assert!(rt; is_corrupt::<Node>(rt.alloc(), bytes), "{bytes:?}");
     }
 }

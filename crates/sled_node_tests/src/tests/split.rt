@@ -1,9 +1,4 @@
 use super::*;
-use crate::tests::{is_node, let_go, node_of};
-use sled_base::Error;
-use std::alloc::Global;
-use std::process::Abort;
-use std::test::Fail;
 
 // The nodes are payloads: next page, merging child, mark, prefix length, both bounds, kind, count, stored keys, items. In these
 // texts '*' stands for 255 bytes "a", and '#' for 30 bytes "x".
@@ -29,7 +24,7 @@ fn node_in(alloc: Global, text: &[u8]) -> Result<Node, Error> {
 
 fn is_in(alloc: Global, node: &Node, text: &[u8]) -> Result<bool, Error> {
     let payload = expanded(alloc, text)?;
-    is_node(alloc, node, &payload)
+    is_read(alloc, &payload, node)
 }
 
 // Whether the left node takes in the right one, and is then the node of the text.
@@ -54,119 +49,106 @@ fn splits(alloc: Global, whole: &[u8], texts: [&[u8]; 3]) -> Result<bool, Error>
         return Ok(false);
     }
     let (left, right) = node.split()?;
-    let done = are_parts(alloc, &left, &right, texts);
-    let_go(left);
-    let_go(right);
-    done
+    are_parts(alloc, &left, &right, texts)
 }
 
-// Whether the parts of the node are those of the texts, and the two merged again are the node.
-fn splits_and_merges(
-    alloc: Global,
-    whole: &[u8],
-    left: &[u8],
-    right: &[u8],
-) -> Result<bool, Error> {
-    splits(alloc, whole, [left, right, whole])
-}
-
+// The prefix lengths of parts and of a merged node are those of their bounds, also where that of the whole is less: then the node
+// that is merged again is another one.
 #[test]
 fn nodes_split_and_merge(rt: HostRuntime) -> Result<(), Fail> {
-    for (row, whole, left, right) in [
+    for (row, whole, left, right, merged) in [
         (
             "a leaf without an end",
             b"\x07\x05\x01\0\x02aa\0\0\x03\x03aab\x03aac\x03aad\x01v\x01w\x01x".as_slice(),
             b"\0\x05\x01\x02\x02aa\x03aad\0\x02\x01b\x01c\x01v\x01w".as_slice(),
             b"\x07\0\0\0\x03aad\0\0\x01\x03aad\x01x".as_slice(),
+            None,
         ),
         (
             "an index splits at the least right key, and pages go with their keys",
             b"\x07\x05\x01\0\0\0\x01\x03\0\x01b\x01c\x02\x03\x04",
             b"\0\x05\x01\0\0\x01c\x01\x02\0\x01b\x02\x03",
             b"\x07\0\0\0\x01c\0\x01\x01\x01c\x04",
+            None,
         ),
         (
             "a leaf splits at the shortest string",
             b"\x07\x05\x01\0\0\0\0\x03\x03aaa\x03aab\x03abc\x01v\x01w\x01x",
             b"\0\x05\x01\0\0\x02ab\0\x02\x03aaa\x03aab\x01v\x01w",
             b"\x07\0\0\0\x02ab\0\0\x01\x03abc\x01x",
+            None,
         ),
         (
             "parts have the prefix of the whole",
             b"\x07\x05\x01\x01\x02ba\x02bz\0\x03\x01b\x01c\x01d\x01v\x01w\x01x",
             b"\0\x05\x01\x01\x02ba\x02bd\0\x02\x01b\x01c\x01v\x01w",
             b"\x07\0\0\x01\x02bd\x02bz\0\x01\x01d\x01x",
+            None,
         ),
         (
             "a prefix ends at 255 bytes",
             b"\x07\x05\x01\xff\xf1\x10*a\xf1\x10*z\0\x03\x01b\x01c\x01d\x01v\x01w\x01x",
             b"\0\x05\x01\xff\xf1\x10*a\xf1\x10*d\0\x02\x01b\x01c\x01v\x01w",
             b"\x07\0\0\xff\xf1\x10*d\xf1\x10*z\0\x01\x01d\x01x",
+            None,
         ),
         (
             "no prefix is longer",
             b"\x07\x05\x01\xff\xf1\x11*aa\xf1\x11*az\0\x03\x02ab\x02ac\x02ad\x01v\x01w\x01x",
             b"\0\x05\x01\xff\xf1\x11*aa\xf1\x11*ad\0\x02\x02ab\x02ac\x01v\x01w",
             b"\x07\0\0\xff\xf1\x11*ad\xf1\x11*az\0\x01\x02ad\x01x",
+            None,
         ),
         (
             "long keys lose a longer prefix, and get it back",
             b"\x07\x05\x01\0\x02aa\0\0\x03\x21aab#\x21aac#\x21aad#\x01v\x1e#\x01x",
             b"\0\x05\x01\x02\x02aa\x03aad\0\x02\x1fb#\x1fc#\x01v\x1e#",
             b"\x07\0\0\0\x03aad\0\0\x01\x21aad#\x01x",
+            None,
         ),
         (
             "17 pairs",
             b"\0\0\0\0\0\0\0\x11\x01a\x01b\x01c\x01d\x01e\x01f\x01g\x01h\x01i\x01j\x01k\x01l\x01m\x01n\x01o\x01p\x01q\0\0\0\0\0\0\0\0\0\0\0\0\0\0\0\0\0",
             b"\0\0\0\0\0\x01j\0\x09\x01a\x01b\x01c\x01d\x01e\x01f\x01g\x01h\x01i\0\0\0\0\0\0\0\0\0",
             b"\0\0\0\0\x01j\0\0\x08\x01j\x01k\x01l\x01m\x01n\x01o\x01p\x01q\0\0\0\0\0\0\0\0",
+            None,
         ),
         (
             "16 pairs",
             b"\0\0\0\0\0\0\0\x10\x01a\x01b\x01c\x01d\x01e\x01f\x01g\x01h\x01i\x01j\x01k\x01l\x01m\x01n\x01o\x01p\0\0\0\0\0\0\0\0\0\0\0\0\0\0\0\0",
             b"\0\0\0\0\0\x01j\0\x09\x01a\x01b\x01c\x01d\x01e\x01f\x01g\x01h\x01i\0\0\0\0\0\0\0\0\0",
             b"\0\0\0\0\x01j\0\0\x07\x01j\x01k\x01l\x01m\x01n\x01o\x01p\0\0\0\0\0\0\0",
-        ),
-    ] {
-        assert!(rt; splits_and_merges(rt.alloc(), whole, left, right)?, "{row}");
-    }
-    Ok(())
-}
-
-// The prefix lengths of parts and of a merged node are those of their bounds, also where that of the whole is less.
-#[test]
-fn a_short_prefix_is_made_up_for(rt: HostRuntime) -> Result<(), Fail> {
-    for (row, whole, texts) in [
-        (
-            "short keys",
-            b"\x07\x05\x01\0\x02ba\x02bz\0\x03\x02bb\x02bc\x03bdx\x01v\x01w\x01x".as_slice(),
-            [
-                b"\0\x05\x01\x01\x02ba\x02bd\0\x02\x01b\x01c\x01v\x01w".as_slice(),
-                b"\x07\0\0\x01\x02bd\x02bz\0\x01\x02dx\x01x",
-                b"\x07\x05\x01\x01\x02ba\x02bz\0\x03\x01b\x01c\x02dx\x01v\x01w\x01x",
-            ],
+            None,
         ),
         (
-            "long keys",
+            "short keys whose prefix might be longer",
+            b"\x07\x05\x01\0\x02ba\x02bz\0\x03\x02bb\x02bc\x03bdx\x01v\x01w\x01x",
+            b"\0\x05\x01\x01\x02ba\x02bd\0\x02\x01b\x01c\x01v\x01w",
+            b"\x07\0\0\x01\x02bd\x02bz\0\x01\x02dx\x01x",
+            Some(b"\x07\x05\x01\x01\x02ba\x02bz\0\x03\x01b\x01c\x02dx\x01v\x01w\x01x".as_slice()),
+        ),
+        (
+            "long keys whose prefix might be longer",
             b"\x07\x05\x01\0\x02ba\x02bz\0\x03\x20bb#\x20bc#\x20bd#\x01v\x01w\x01x",
-            [
-                b"\0\x05\x01\x01\x02ba\x02bd\0\x02\x1fb#\x1fc#\x01v\x01w",
-                b"\x07\0\0\x01\x02bd\x02bz\0\x01\x1fd#\x01x",
-                b"\x07\x05\x01\x01\x02ba\x02bz\0\x03\x1fb#\x1fc#\x1fd#\x01v\x01w\x01x",
-            ],
+            b"\0\x05\x01\x01\x02ba\x02bd\0\x02\x1fb#\x1fc#\x01v\x01w",
+            b"\x07\0\0\x01\x02bd\x02bz\0\x01\x1fd#\x01x",
+            Some(b"\x07\x05\x01\x01\x02ba\x02bz\0\x03\x1fb#\x1fc#\x1fd#\x01v\x01w\x01x"),
         ),
     ] {
+        let texts = [left, right, merged.unwrap_or(whole)];
         assert!(rt; splits(rt.alloc(), whole, texts)?, "{row}");
     }
     Ok(())
 }
 
+fn takes_in(alloc: Global, left: &Node, right: &[u8]) -> Result<bool, Error> {
+    let right = node_of(alloc, right)?;
+    Ok(left.can_receive(&right))
+}
+
 fn receives(alloc: Global, left: &[u8], right: &[u8]) -> Result<bool, Error> {
     let left = node_of(alloc, left)?;
-    let right = node_of(alloc, right);
-    let done = right.is_ok_and(|right| left.can_receive(&right));
-    let_go(left);
-    Ok(done)
+    takes_in(alloc, &left, right)
 }
 
 const BELOW_M: &[u8] = b"\0\0\0\0\0\x01m\0\0";

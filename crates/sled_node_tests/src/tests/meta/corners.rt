@@ -8,86 +8,86 @@ const COUNTS: &[u32] = &[0, 1, 2, 3, 16, 17, 1_000];
 // What stands at the end of each name: nothing, or more than is kept in place.
 const TAILS: &[&[u8]] = &[b"", b"xxxxxxxxxxxxxxxxxxxxxxxxxxxxxx"];
 
-fn name_at(alloc: Global, tail: &[u8], i: u32) -> Result<Vec<u8>, AllocError> {
-    let mut name = Vec::from_slice(alloc, &i.to_be_bytes())?;
-    name.extend_from_slice(tail)?;
-    Ok(name)
+fn name_at(tail: &[u8], i: u32) -> Key {
+    let digits = i.to_be_bytes();
+    let mut name = ([0; 40], 0);
+    append(&mut name, &digits);
+    append(&mut name, tail);
+    name
 }
 
 fn root_at(i: u32) -> PageId {
     1 << (i % 64)
 }
 
-// Sets the name, where there is room, and answers its former root.
-fn replace(
-    alloc: Global,
-    meta: &mut Meta,
-    name: &[u8],
-    root: PageId,
-) -> Result<Option<PageId>, Fail> {
-    if name.len() > MAX_BYTES || !meta.has_room(name) {
-        return Err(Fail::from("room"));
-    }
-    Ok(meta.set_root(IVec::from_slice(alloc, name)?, root)?)
-}
-
 // Whether the name is new to the map, and is read back with each root that it is given.
-fn is_set(alloc: Global, meta: &mut Meta, tail: &[u8], i: u32) -> Result<bool, Fail> {
-    let name = name_at(alloc, tail, i)?;
-    let is_new = meta.get_root(&name).is_none() && replace(alloc, meta, &name, 7)?.is_none();
-    let former = replace(alloc, meta, &name, root_at(i))?;
-    Ok(is_new && former == Some(7) && meta.get_root(&name) == Some(root_at(i)))
+fn is_set(alloc: Global, meta: &mut Meta, tail: &[u8], i: u32) -> Result<bool, AllocError> {
+    let name = name_at(tail, i);
+    let name = whole(&name);
+    let is_new = meta.get_root(name).is_none();
+    let new = replace(alloc, meta, name, 7)?;
+    let former = replace(alloc, meta, name, root_at(i))?;
+    let replaced = new == Some(None) && former == Some(Some(7));
+    Ok(is_new && replaced && meta.get_root(name) == Some(root_at(i)))
 }
 
 // Whether the name is taken out with its root, and only once.
-fn is_taken_out(alloc: Global, meta: &mut Meta, tail: &[u8], i: u32) -> Result<bool, AllocError> {
-    let name = name_at(alloc, tail, i)?;
-    Ok(meta.del_root(&name) == Some(root_at(i)) && meta.del_root(&name).is_none())
-}
-
-// Whether the map is copied, and written and read again, as itself.
-fn is_copied(alloc: Global, meta: &Meta) -> Result<bool, Error> {
-    let bytes = meta.serialize(alloc)?;
-    let mut rest = bytes.as_slice();
-    let read = Meta::deserialize(alloc, &mut rest)?;
-    let is_so = bytes.len() as u64 == meta.serialized_size() && rest.is_empty() && read == *meta;
-    Ok(is_so && meta.clone()? == *meta)
+fn is_taken_out(meta: &mut Meta, tail: &[u8], i: u32) -> bool {
+    let name = name_at(tail, i);
+    let name = whole(&name);
+    meta.del_root(name) == Some(root_at(i)) && meta.del_root(name).is_none()
 }
 
 // How large a map of so many names is: for each its length, and 8.
 fn size_of(tail: &[u8], count: u32) -> u64 {
-    let mut size = 0u64;
-    for _ in 0..count {
-        size = size.saturating_add(tail.len() as u64).saturating_add(12);
-    }
-    size
+    let each = (tail.len() as u64).saturating_add(12);
+    each.saturating_mul(count as u64)
 }
 
-// Whether the map has so many names, in their order.
-fn has_names(alloc: Global, meta: &Meta, tail: &[u8], count: u32) -> Result<bool, AllocError> {
-    let tenants = meta.tenants()?;
+// Whether these are so many names, in their order.
+fn are_names(tenants: &BTreeMap<Vec<u8>, PageId>, tail: &[u8], count: u32) -> bool {
     let mut next = 0;
-    for (name, root) in &tenants {
-        if next >= count || *name != name_at(alloc, tail, next)? || *root != root_at(next) {
-            return Ok(false);
+    for (name, root) in tenants {
+        let wanted = name_at(tail, next);
+        if next >= count || name.as_slice() != whole(&wanted) || *root != root_at(next) {
+            return false;
         }
         next += 1;
     }
-    Ok(next == count && meta.len() == count as usize && meta.is_empty() == (count == 0))
+    next == count
 }
 
-fn holds(alloc: Global, tail: &[u8], count: u32) -> Result<bool, Fail> {
-    let mut meta = Meta::default(alloc);
+// Whether the map has so many names, in their order.
+fn has_names(meta: &Meta, tail: &[u8], count: u32) -> Result<bool, AllocError> {
+    let tenants = meta.tenants()?;
+    Ok(are_names(&tenants, tail, count))
+}
+
+fn has_size(meta: &Meta, tail: &[u8], count: u32) -> bool {
+    meta.len() == count as usize
+        && meta.is_empty() == (count == 0)
+        && meta.rss() == size_of(tail, count)
+}
+
+// Whether the map takes so many names, has them, is copied, written and read again as itself, and is then empty without them.
+fn is_filled(alloc: Global, meta: &mut Meta, tail: &[u8], count: u32) -> Result<bool, Error> {
     let mut is_so = true;
     for i in 0..count {
-        is_so = is_so && is_set(alloc, &mut meta, tail, i)?;
+        is_so = is_set(alloc, meta, tail, i)? && is_so;
     }
-    is_so = is_so && has_names(alloc, &meta, tail, count)? && is_copied(alloc, &meta)?;
-    is_so = is_so && meta.rss() == size_of(tail, count);
+    is_so = is_so && has_size(meta, tail, count) && has_names(meta, tail, count)?;
+    is_so = is_so && is_meta_written(alloc, meta, None)? && is_cloned(meta)?;
     for i in 0..count {
-        is_so = is_so && is_taken_out(alloc, &mut meta, tail, i)?;
+        is_so = is_taken_out(meta, tail, i) && is_so;
     }
     Ok(is_so && meta.is_empty())
+}
+
+fn holds(alloc: Global, tail: &[u8], count: u32) -> Result<bool, Error> {
+    let mut meta = Meta::default(alloc);
+    let done = is_filled(alloc, &mut meta, tail, count);
+    let_go(meta);
+    done
 }
 
 #[test]
@@ -100,11 +100,18 @@ fn maps_hold_at_each_size(rt: HostRuntime) -> Result<(), Fail> {
     Ok(())
 }
 
+fn len_of(map: Result<Meta, Error>) -> Option<usize> {
+    match map {
+        Ok(map) => Some(map.len()),
+        Err(_) => None,
+    }
+}
+
 // How many names the last map of an input has, or none where none is read. The loop ends, since a map takes all that is left.
 fn last_names(alloc: Global, input: &[u8]) -> Option<usize> {
     let mut names = None;
     for map in ConsumeSequence::<Meta>::new(alloc, input) {
-        names = map.ok().map(|map| map.len());
+        names = len_of(map);
     }
     names
 }
