@@ -69,12 +69,17 @@ fn are_empty_cloned(alloc: Global) -> Result<bool, AllocError> {
     Ok(leaf != index && is_cloned(&leaf)? && is_cloned(&index)?)
 }
 
+fn is_empty_index_cloned(alloc: Global) -> Result<bool, AllocError> {
+    let index = Index::default(alloc);
+    is_cloned(&index)
+}
+
 #[test]
 fn clones_are_equal(rt: HostRuntime) -> Result<(), Fail> {
     let alloc = rt.alloc();
     assert!(rt; is_leaf_cloned(alloc, &[b"a".as_slice(), b"b"])?);
     assert!(rt; differ(alloc, &[b"a".as_slice()], &[b"a".as_slice(), b"b"])?);
     assert!(rt; are_empty_cloned(alloc)?);
-    assert!(rt; is_cloned(&Index::default(alloc))?);
+    assert!(rt; is_empty_index_cloned(alloc)?);
     Ok(())
 }

@@ -49,16 +49,23 @@ pub(super) fn is_meta_written(
     is_same(alloc, meta, &written, meta.serialized_size(), bytes)
 }
 
-fn is_set_written(alloc: Global, bytes: &[u8]) -> Result<bool, Error> {
-    let key = IVec::from_slice(alloc, &[1])?;
-    let value = IVec::from_slice(alloc, &[2])?;
-    let link = Link::Set(key, value);
+// The same of a link that is let go here.
+fn is_written(alloc: Global, link: Link, bytes: &[u8]) -> Result<bool, Error>
+    requires can_write { CanWriteLink link }
+    requires fits { length (written_link link) < 2 ^ 64 }
+{
     is_link_written(alloc, &link, bytes)
 }
 
+fn is_set_written(alloc: Global, bytes: &[u8]) -> Result<bool, Error> {
+    let key = IVec::from_slice(alloc, &[1])?;
+    let value = IVec::from_slice(alloc, &[2])?;
+    is_written(alloc, Link::Set(key, value), bytes)
+}
+
 fn is_del_written(alloc: Global, bytes: &[u8]) -> Result<bool, Error> {
-    let link = Link::Del(IVec::from_slice(alloc, &[1])?);
-    is_link_written(alloc, &link, bytes)
+    let key = IVec::from_slice(alloc, &[1])?;
+    is_written(alloc, Link::Del(key), bytes)
 }
 
 #[test]
@@ -67,10 +74,10 @@ fn links(rt: HostRuntime) -> Result<(), Fail> {
     assert!(rt; is_set_written(alloc, &[0, 1, 1, 1, 2])?);
     assert!(rt; is_del_written(alloc, &[1, 1, 1])?);
     for (page, bytes) in [(0, [2, 0].as_slice()), (241, &[2, 241, 1])] {
-        assert!(rt; is_link_written(alloc, &Link::ParentMergeIntention(page), bytes)?);
+        assert!(rt; is_written(alloc, Link::ParentMergeIntention(page), bytes)?);
     }
-    assert!(rt; is_link_written(alloc, &Link::ParentMergeConfirm, &[3])?);
-    assert!(rt; is_link_written(alloc, &Link::ChildMergeCap, &[4])?);
+    assert!(rt; is_written(alloc, Link::ParentMergeConfirm, &[3])?);
+    assert!(rt; is_written(alloc, Link::ChildMergeCap, &[4])?);
     Ok(())
 }
 
@@ -135,78 +142,84 @@ pub(super) fn is_corrupt<T: Serialize>(alloc: Global, bytes: &[u8]) -> bool {
     matches!(&answer, Err(Error::Corruption(None))) && rest.len() == bytes.len()
 }
 
-// Run with the first allocation refused too: none of these asks for any.
-#[test]
-fn a_forged_length_takes_no_memory(rt: HostRuntime) {
-    for bytes in [
-        [0, 255, 255, 255, 255, 255, 255, 255, 255, 255].as_slice(),
-        &[0, 250, 0, 0, 1, 1, 97, 1, 98],
-        &[1, 250, 0, 0, 1, 1, 97, 1],
-        &[1, 251, 0, 0, 0, 1, 0, 0],
-    ] {
-        assert!(rt; is_corrupt::<Data>(rt.alloc(), bytes), "{bytes:?}");
-    }
-    for bytes in [
-        [0, 250, 255, 255, 255, 1, 1].as_slice(),
-        &[1, 255, 0, 0, 0, 0, 0, 0, 0, 1],
-    ] {
-        assert!(rt; is_corrupt::<Link>(rt.alloc(), bytes), "{bytes:?}");
-    }
-    assert!(rt; is_corrupt::<Node>(rt.alloc(), &[0, 0, 0, 0, 252, 0, 0, 0, 0, 1, 0, 0]));
+// What is read.
+enum Kind {
+    Link,
+    Data,
+    Node,
 }
 
-#[test]
-fn no_links(rt: HostRuntime) {
-    for bytes in [
-        [].as_slice(),
-        &[5],
-        &[255],
-        &[0, 1, 1],
-        &[0, 1, 1, 2, 2],
-        &[1, 2, 1],
-        &[2],
-        &[2, 241],
-    ] {
-        assert!(rt; is_corrupt::<Link>(rt.alloc(), bytes), "{bytes:?}");
+fn is_refused(alloc: Global, kind: &Kind, bytes: &[u8]) -> bool {
+    match kind {
+        Kind::Link => is_corrupt::<Link>(alloc, bytes),
+        Kind::Data => is_corrupt::<Data>(alloc, bytes),
+        Kind::Node => is_corrupt::<Node>(alloc, bytes),
     }
 }
 
-#[test]
-fn no_leaves_or_indexes(rt: HostRuntime) {
-    for bytes in [
-        [].as_slice(),
-        &[0],
-        &[2, 0],
-        &[0, 1],
-        &[0, 1, 1],
-        &[0, 1, 1, 97],
-        &[0, 1, 1, 97, 1],
-        &[0, 2, 1, 97, 1, 98, 1, 120],
-        &[0, 2, 1, 98, 1, 97, 0, 0],
-        &[0, 2, 1, 97, 1, 97, 0, 0],
-        &[1],
-        &[1, 2, 1, 97, 0, 2, 3],
-        &[1, 1, 1, 97],
-    ] {
-        assert!(rt; is_corrupt::<Data>(rt.alloc(), bytes), "{bytes:?}");
-    }
-}
+// A forged length takes no memory: run with the first allocation refused too, none of these asks for any.
+const FORGED: &[(Kind, &[u8])] = &[
+    (
+        Kind::Data,
+        &[0, 255, 255, 255, 255, 255, 255, 255, 255, 255],
+    ),
+    (Kind::Data, &[0, 250, 0, 0, 1, 1, 97, 1, 98]),
+    (Kind::Data, &[1, 250, 0, 0, 1, 1, 97, 1]),
+    (Kind::Data, &[1, 251, 0, 0, 0, 1, 0, 0]),
+    (Kind::Link, &[0, 250, 255, 255, 255, 1, 1]),
+    (Kind::Link, &[1, 255, 0, 0, 0, 0, 0, 0, 0, 1]),
+    (Kind::Node, &[0, 0, 0, 0, 252, 0, 0, 0, 0, 1, 0, 0]),
+];
+
+const NO_LINKS: &[(Kind, &[u8])] = &[
+    (Kind::Link, &[]),
+    (Kind::Link, &[5]),
+    (Kind::Link, &[255]),
+    (Kind::Link, &[0, 1, 1]),
+    (Kind::Link, &[0, 1, 1, 2, 2]),
+    (Kind::Link, &[1, 2, 1]),
+    (Kind::Link, &[2]),
+    (Kind::Link, &[2, 241]),
+];
+
+const NO_LEAVES: &[(Kind, &[u8])] = &[
+    (Kind::Data, &[]),
+    (Kind::Data, &[0]),
+    (Kind::Data, &[2, 0]),
+    (Kind::Data, &[0, 1]),
+    (Kind::Data, &[0, 1, 1]),
+    (Kind::Data, &[0, 1, 1, 97]),
+    (Kind::Data, &[0, 1, 1, 97, 1]),
+    (Kind::Data, &[0, 2, 1, 97, 1, 98, 1, 120]),
+    (Kind::Data, &[0, 2, 1, 98, 1, 97, 0, 0]),
+    (Kind::Data, &[0, 2, 1, 97, 1, 97, 0, 0]),
+];
+
+const NO_INDEXES: &[(Kind, &[u8])] = &[
+    (Kind::Data, &[1]),
+    (Kind::Data, &[1, 2, 1, 97, 0, 2, 3]),
+    (Kind::Data, &[1, 1, 1, 97]),
+];
+
+const NO_NODES: &[(Kind, &[u8])] = &[
+    (Kind::Node, &[]),
+    (Kind::Node, &[0, 0, 0, 0, 0, 0, 0]),
+    // A prefix without an upper end.
+    (Kind::Node, &[0, 0, 0, 1, 1, 97, 0, 0, 0]),
+    // The lower bound above the upper one.
+    (Kind::Node, &[0, 0, 0, 0, 1, 98, 1, 97, 0, 0]),
+    // A key below the lower bound, and one that isn't below the upper bound.
+    (Kind::Node, &[0, 0, 0, 0, 1, 98, 0, 0, 1, 1, 97, 0]),
+    (Kind::Node, &[0, 0, 0, 0, 0, 1, 98, 0, 1, 1, 98, 0]),
+    // Equal keys.
+    (Kind::Node, &[0, 0, 0, 0, 0, 0, 0, 2, 1, 97, 1, 97, 0, 0]),
+];
 
 #[test]
-fn no_nodes(rt: HostRuntime) {
-    for bytes in [
-        [].as_slice(),
-        &[0, 0, 0, 0, 0, 0, 0],
-        // A prefix without an upper end.
-        &[0, 0, 0, 1, 1, 97, 0, 0, 0],
-        // The lower bound above the upper one.
-        &[0, 0, 0, 0, 1, 98, 1, 97, 0, 0],
-        // A key below the lower bound, and one that isn't below the upper bound.
-        &[0, 0, 0, 0, 1, 98, 0, 0, 1, 1, 97, 0],
-        &[0, 0, 0, 0, 0, 1, 98, 0, 1, 1, 98, 0],
-        // Equal keys.
-        &[0, 0, 0, 0, 0, 0, 0, 2, 1, 97, 1, 97, 0, 0],
-    ] {
-        assert!(rt; is_corrupt::<Node>(rt.alloc(), bytes), "{bytes:?}");
+fn what_is_no_encoding_is_refused(rt: HostRuntime) {
+    for rows in [FORGED, NO_LINKS, NO_LEAVES, NO_INDEXES, NO_NODES] {
+        for (kind, bytes) in rows {
+            assert!(rt; is_refused(rt.alloc(), kind, bytes), "{bytes:?}");
+        }
     }
 }

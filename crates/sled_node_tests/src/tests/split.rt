@@ -148,7 +148,9 @@ fn takes_in(alloc: Global, left: &Node, right: &[u8]) -> Result<bool, Error> {
 
 fn receives(alloc: Global, left: &[u8], right: &[u8]) -> Result<bool, Error> {
     let left = node_of(alloc, left)?;
-    takes_in(alloc, &left, right)
+    let done = takes_in(alloc, &left, right);
+    let_go(left);
+    done
 }
 
 const BELOW_M: &[u8] = b"\0\0\0\0\0\x01m\0\0";
