@@ -14,7 +14,7 @@ pub(super) const HEAD: u64 = 17;
 pub(super) const NEVER: u64 = u64::MAX;
 
 // What the log was told: a message of a page, or the mark of a batch.
-#[derive(Clone, Copy, Debug)]
+#[derive(Clone, Copy)]
 pub(super) enum Mark {
     Change { kind: MessageKind, pid: PageId },
     Pin,
@@ -24,7 +24,7 @@ pub(super) enum Mark {
 
 // What the log was told, with the log sizes of all up to it, the place in the buffer where its payload ends, the moment when it
 // came, and that when it became stable.
-#[derive(Debug, Drop)]
+#[derive(Drop)]
 pub(super) struct LogItem {
     pub(super) mark: Mark,
     pub(super) end: u64,

@@ -15,7 +15,7 @@ use sled_node::{Link, Node, Serialize};
 use std::alloc::Global;
 
 /// A message of a page that a log gave back: its kind, its payload, and where it is kept.
-#[derive(Debug, Drop)]
+#[derive(Drop)]
 pub(super) struct Found {
     pub(super) kind: MessageKind,
     pub(super) payload: Vec<u8>,

@@ -1,0 +1,6 @@
+use Rattle.std.proofs.Common.{rules}
+use Rattle.sled_pagecache.proofs.pagecache.pagetable.PageTable.insert.Goals as goal
+
+-- A wrong body is refused at this answer, so that no offers are printed.
+pub returns-clause-ok : goal.returns-clause-ok
+returns-clause-ok c = search rules
