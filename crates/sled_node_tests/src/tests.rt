@@ -18,36 +18,41 @@ use std::alloc::{AllocError, Global};
 use std::num::NonZeroU64;
 use std::ops::Bound;
 use std::process::Abort;
-use std::test::Fail;
 
-// Steps that the tests of this crate share. What a call takes or gives is let go in a step, and not in a test, which would be
-// proved for each way in which it may be kept. A test that may end early lends its node to a step, and lets it go once, behind it.
-
-pub(crate) fn let_go(_node: Node) {}
+// Steps that the tests of this crate share. What a call takes or gives is let go in a step, which answers only whether all was so:
+// no test holds an answer that may be an error, which it would be proved for each way of dropping.
 
 pub(crate) fn bytes(alloc: Global, from: &[u8]) -> Result<IVec, AllocError> {
     IVec::from_slice(alloc, from)
 }
 
-pub(crate) fn node_of(alloc: Global, payload: &[u8]) -> Result<Node, Error> {
+pub(crate) fn node_of(alloc: Global, payload: &[u8]) -> Option<Node> {
     let mut input = payload;
-    Node::deserialize(alloc, &mut input)
+    Node::deserialize(alloc, &mut input).ok()
 }
 
-// Whether the bytes are a whole encoding of the value.
-pub(crate) fn is_read<T: Serialize + PartialEq>(
+// Whether the bytes are a whole encoding of the value, or none where nothing is read.
+pub(crate) fn reads_as<T: Serialize + PartialEq>(
     alloc: Global,
     bytes: &[u8],
     value: &T,
-) -> Result<bool, Error> {
+) -> Option<bool> {
     let mut rest = bytes;
-    let read = T::deserialize(alloc, &mut rest)?;
-    Ok(read == *value && rest.is_empty())
+    match T::deserialize(alloc, &mut rest) {
+        Ok(read) => Some(read == *value && rest.is_empty()),
+        Err(_) => None,
+    }
 }
 
-pub(crate) fn is_cloned<T: Clone + PartialEq + Drop>(value: &T) -> Result<bool, AllocError> {
-    let copy = value.clone()?;
-    Ok(copy == *value)
+pub(crate) fn is_read<T: Serialize + PartialEq>(alloc: Global, bytes: &[u8], value: &T) -> bool {
+    reads_as(alloc, bytes, value) == Some(true)
+}
+
+pub(crate) fn is_cloned<T: Clone + PartialEq + Drop>(value: &T) -> bool {
+    match value.clone() {
+        Ok(copy) => copy == *value,
+        Err(_) => false,
+    }
 }
 
 // A bound at the key that includes it for '[' and excludes it for '(', and none for '-'.

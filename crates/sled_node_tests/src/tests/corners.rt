@@ -120,131 +120,133 @@ fn index_in(
     Index::from_pairs(alloc, pairs)
 }
 
-// A leaf or an index of so many pairs, or none where they make up no node.
+// A leaf or an index of so many pairs, or none where they make up no node, or there is no memory.
 pub(super) fn filled(
     alloc: Global,
     is_index: bool,
     shape: &Shape,
     tail: &[u8],
     count: u32,
-) -> Result<Option<Node>, AllocError> {
+) -> Option<Node> {
     let contents = if is_index {
-        let Some(index) = index_in(alloc, shape, tail, count)? else {
-            return Ok(None);
-        };
-        Data::Index(index)
+        Data::Index(index_in(alloc, shape, tail, count).ok()??)
     } else {
-        let Some(leaf) = leaf_in(alloc, shape, tail, count)? else {
-            return Ok(None);
-        };
-        Data::Leaf(leaf)
+        Data::Leaf(leaf_in(alloc, shape, tail, count).ok()??)
     };
-    node_over(alloc, shape.prefix_len, [shape.lo, shape.hi], 0, contents)
+    let range = [shape.lo, shape.hi];
+    node_over(alloc, shape.prefix_len, range, 0, contents).ok()?
 }
 
 // ---- what both kinds do
 
 // Whether the two are merged into one of so many pairs, which is that node but for its prefix.
-fn merge_into(left: &Node, right: &Node, shape: &Shape, count: u32) -> Result<bool, AllocError> {
+fn merge_into(left: &Node, right: &Node, shape: &Shape, count: u32) -> bool {
     if !left.can_receive(right) {
-        return Ok(false);
+        return false;
     }
-    let merged = left.receive_merge(right)?;
-    Ok(merged.len() == count as usize && is_over(&merged, merged.prefix_len(), shape.lo, shape.hi))
+    match left.receive_merge(right) {
+        Ok(merged) => is_merged(&merged, shape, count),
+        Err(_) => false,
+    }
+}
+
+fn is_merged(node: &Node, shape: &Shape, count: u32) -> bool {
+    node.len() == count as usize && is_over(node, node.prefix_len(), shape.lo, shape.hi)
 }
 
 // Whether the parts are those of a node of so many pairs, and are merged again.
-fn are_parts(left: &Node, right: &Node, shape: &Shape, count: u32) -> Result<bool, AllocError> {
+fn are_parts(left: &Node, right: &Node, shape: &Shape, count: u32) -> bool {
     let half = count as usize / 2 + 1;
     let halves = left.len() == half && half.saturating_add(right.len()) == count as usize;
-    Ok(halves && merge_into(left, right, shape, count)?)
+    halves && merge_into(left, right, shape, count)
 }
 
 // Whether the node splits, if it has three pairs.
-fn splits(node: Node, shape: &Shape, count: u32) -> Result<bool, AllocError> {
+fn splits(node: Node, shape: &Shape, count: u32) -> bool {
     if node.len() < 3 {
-        return Ok(count < 3);
+        return count < 3;
     }
-    let (left, right) = node.split()?;
-    are_parts(&left, &right, shape, count)
+    match node.split() {
+        Ok((left, right)) => are_parts(&left, &right, shape, count),
+        Err(_) => false,
+    }
 }
 
 // ---- leaves
 
 // Whether the leaf has the key at the place with the tail as its value, or lacks it.
-fn looks_up(leaf: &Node, shape: &Shape, tail: &[u8], place: u64) -> Result<bool, AllocError> {
+fn looks_up(leaf: &Node, shape: &Shape, tail: &[u8], place: u64) -> bool {
     let key = key_at(shape, tail, place);
     let value = if place % 2 == 1 { Some(tail) } else { None };
     is_found(leaf, whole(&key), Some(stored(shape, &key)), value)
 }
 
-// Whether the found pair has the key at the place, and the tail as its value.
-fn is_pair(found: Option<(IVec, IVec)>, key: &[u8], tail: &[u8]) -> bool {
-    match found {
-        Some(pair) => pair.0.eq_bytes(key) && pair.1.eq_bytes(tail),
-        None => false,
+// Whether the nearest pair behind the bound, or before it, has this key, and the tail as its value.
+fn is_near(
+    alloc: Global,
+    leaf: &Node,
+    is_behind: bool,
+    bound: (u8, &Key),
+    key: &Key,
+    tail: &[u8],
+) -> bool {
+    let (kind, at) = bound;
+    match nearest(alloc, leaf, is_behind, kind, whole(at)) {
+        Ok(Some(pair)) => pair.0.eq_bytes(whole(key)) && pair.1.eq_bytes(tail),
+        _ => false,
     }
 }
 
 // Whether the key at the place is the nearest behind the key before it, and the nearest before the key behind it.
-fn is_nearest(
-    alloc: Global,
-    leaf: &Node,
-    shape: &Shape,
-    tail: &[u8],
-    i: u32,
-) -> Result<bool, AllocError> {
+fn is_nearest(alloc: Global, leaf: &Node, shape: &Shape, tail: &[u8], i: u32) -> bool {
     let key = key_at(shape, tail, there(i));
     let low = key_at(shape, tail, there(i).saturating_sub(1));
     let high = key_at(shape, tail, there(i).saturating_add(1));
-    let behind = nearest(alloc, leaf, true, b'(', whole(&low))?;
-    let is_behind = is_pair(behind, whole(&key), tail);
-    let before = nearest(alloc, leaf, false, b'[', whole(&high))?;
-    Ok(is_pair(before, whole(&key), tail) && is_behind)
+    is_near(alloc, leaf, true, (b'(', &low), &key, tail)
+        && is_near(alloc, leaf, false, (b'[', &high), &key, tail)
 }
 
 // Whether all its keys are found in the leaf, by name and as neighbours, and those between them are not.
-fn is_read(
-    alloc: Global,
-    leaf: &Node,
-    shape: &Shape,
-    tail: &[u8],
-    count: u32,
-) -> Result<bool, AllocError> {
+fn is_read(alloc: Global, leaf: &Node, shape: &Shape, tail: &[u8], count: u32) -> bool {
     let mut is_so = leaf.len() == count as usize;
     for i in 0..count {
         is_so = is_so
-            && looks_up(leaf, shape, tail, i as u64 * 2)?
-            && looks_up(leaf, shape, tail, there(i))?
-            && is_nearest(alloc, leaf, shape, tail, i)?;
+            && looks_up(leaf, shape, tail, i as u64 * 2)
+            && looks_up(leaf, shape, tail, there(i))
+            && is_nearest(alloc, leaf, shape, tail, i);
     }
-    Ok(is_so)
+    is_so
 }
 
 // Whether the leaf takes the key with the value.
-fn sets(alloc: Global, leaf: &mut Node, key: &[u8], value: &[u8]) -> Result<bool, AllocError> {
-    let link = Link::Set(bytes(alloc, key)?, bytes(alloc, value)?);
-    applies(leaf, &link)
+fn sets(alloc: Global, leaf: &mut Node, key: &[u8], value: &[u8]) -> bool {
+    let Ok(key) = bytes(alloc, key) else {
+        return false;
+    };
+    match bytes(alloc, value) {
+        Ok(value) => takes(leaf, Link::Set(key, value)),
+        Err(_) => false,
+    }
 }
 
-fn deletes(alloc: Global, leaf: &mut Node, key: &[u8]) -> Result<bool, AllocError> {
-    let link = Link::Del(bytes(alloc, key)?);
-    applies(leaf, &link)
+fn deletes(alloc: Global, leaf: &mut Node, key: &[u8]) -> bool {
+    match bytes(alloc, key) {
+        Ok(key) => takes(leaf, Link::Del(key)),
+        Err(_) => false,
+    }
+}
+
+fn takes(node: &mut Node, link: Link) -> bool {
+    matches!(applies(node, &link), Ok(true))
 }
 
 // Whether the leaf takes a new key in front, another value for it, and is what it was when the key is taken out again.
-fn is_changed(
-    alloc: Global,
-    leaf: &mut Node,
-    shape: &Shape,
-    tail: &[u8],
-    count: u32,
-) -> Result<bool, AllocError> {
+fn is_changed(alloc: Global, leaf: &mut Node, shape: &Shape, tail: &[u8], count: u32) -> bool {
     let place = key_at(shape, tail, 0);
     let key = stored(shape, &place);
-    let new = sets(alloc, leaf, key, b"")? && sets(alloc, leaf, key, TAILS[1])?;
+    let new = sets(alloc, leaf, key, b"") && sets(alloc, leaf, key, TAILS[1]);
     let more = leaf.len() == count as usize + 1;
-    Ok(new && more && deletes(alloc, leaf, key)? && leaf.len() == count as usize)
+    new && more && deletes(alloc, leaf, key) && leaf.len() == count as usize
 }
 
 // How large the leaf is: 128, its bounds, and for each pair the stored key and the value.
@@ -256,17 +258,12 @@ fn leaf_size(shape: &Shape, tail: &[u8], count: u32) -> u64 {
     128u64.saturating_add(bounds.saturating_add(pairs) as u64)
 }
 
-fn acts_as_leaf(
-    alloc: Global,
-    leaf: &mut Node,
-    shape: &Shape,
-    tail: &[u8],
-    count: u32,
-) -> Result<bool, Error> {
-    let sized = leaf.rss() == leaf_size(shape, tail, count);
-    let changed = is_changed(alloc, leaf, shape, tail, count)?;
-    let read = is_read(alloc, leaf, shape, tail, count)?;
-    Ok(sized && changed && read && is_node_written(alloc, leaf, None)? && is_cloned(leaf)?)
+fn acts_as_leaf(alloc: Global, leaf: &mut Node, shape: &Shape, tail: &[u8], count: u32) -> bool {
+    leaf.rss() == leaf_size(shape, tail, count)
+        && is_changed(alloc, leaf, shape, tail, count)
+        && is_read(alloc, leaf, shape, tail, count)
+        && is_node_written(alloc, leaf, None)
+        && is_cloned(leaf)
 }
 
 // ---- indexes
@@ -298,72 +295,64 @@ fn is_led(index: &Node, shape: &Shape, tail: &[u8], count: u32) -> bool {
 const NEW_PAGE: u64 = u64::MAX;
 
 // Whether the index leads to a new child in front once it is asked to, and to no other when it is asked again.
-fn is_parted(index: &mut Node, shape: &Shape, tail: &[u8]) -> Result<bool, AllocError> {
+fn is_parted(index: &mut Node, shape: &Shape, tail: &[u8]) -> bool {
     let key = key_at(shape, tail, 0);
-    let first = split(index, whole(&key), NEW_PAGE)?;
-    Ok(first == Some(true) && split(index, whole(&key), NEW_PAGE)? == Some(false))
+    let key = whole(&key);
+    split(index, key, NEW_PAGE) == Some(true) && split(index, key, NEW_PAGE) == Some(false)
 }
 
 // Whether the new child is taken out again when it was merged.
-fn is_confirmed(index: &mut Node) -> Result<bool, AllocError> {
-    Ok(
-        applies(index, &Link::ParentMergeIntention(NEW_PAGE))?
-            && applies(index, &Link::ParentMergeConfirm)?,
-    )
+fn is_confirmed(index: &mut Node) -> bool {
+    takes(index, Link::ParentMergeIntention(NEW_PAGE)) && takes(index, Link::ParentMergeConfirm)
 }
 
-fn acts_as_index(
-    alloc: Global,
-    index: &mut Node,
-    shape: &Shape,
-    tail: &[u8],
-    count: u32,
-) -> Result<bool, Error> {
-    let written = is_node_written(alloc, index, None)? && is_cloned(index)?;
-    let read = is_led(index, shape, tail, count) && written;
-    let parted = is_parted(index, shape, tail)? && index.len() == count as usize + 1;
-    Ok(read && parted && is_confirmed(index)? && index.len() == count as usize)
+fn acts_as_index(alloc: Global, index: &mut Node, shape: &Shape, tail: &[u8], count: u32) -> bool {
+    is_node_written(alloc, index, None)
+        && is_cloned(index)
+        && is_led(index, shape, tail, count)
+        && is_parted(index, shape, tail)
+        && index.len() == count as usize + 1
+        && is_confirmed(index)
+        && index.len() == count as usize
 }
 
 // ---- both
 
-fn holds(
-    alloc: Global,
-    is_index: bool,
-    shape: &Shape,
-    tail: &[u8],
-    count: u32,
-) -> Result<bool, Error> {
-    let Some(mut node) = filled(alloc, is_index, shape, tail, count)? else {
-        return Ok(false);
-    };
-    let done = if is_index {
-        acts_as_index(alloc, &mut node, shape, tail, count)
+fn acts(alloc: Global, node: &mut Node, shape: &Shape, tail: &[u8], count: u32) -> bool {
+    if node.is_index() {
+        acts_as_index(alloc, node, shape, tail, count)
     } else {
-        acts_as_leaf(alloc, &mut node, shape, tail, count)
-    };
-    let parted = splits(node, shape, count);
-    Ok(done? && parted?)
+        acts_as_leaf(alloc, node, shape, tail, count)
+    }
 }
 
-fn hold(rt: &impl Abort, alloc: Global, is_index: bool) -> Result<(), Error> {
+fn holds(alloc: Global, is_index: bool, shape: &Shape, tail: &[u8], count: u32) -> bool {
+    match filled(alloc, is_index, shape, tail, count) {
+        Some(mut node) => {
+            let done = node.is_index() == is_index && acts(alloc, &mut node, shape, tail, count);
+            splits(node, shape, count) && done
+        }
+        None => false,
+    }
+}
+
+fn hold(rt: &impl Abort, alloc: Global, is_index: bool) {
     for shape in SHAPES {
         for tail in TAILS {
             for count in COUNTS {
-                let is_so = holds(alloc, is_index, shape, tail, *count)?;
+                let is_so = holds(alloc, is_index, shape, tail, *count);
                 assert!(rt; is_so, "{}, {count} pairs", shape.row);
             }
         }
     }
-    Ok(())
 }
 
 #[test]
-fn leaves_hold_at_each_size(rt: HostRuntime) -> Result<(), Fail> {
-    Ok(hold(&rt, rt.alloc(), false)?)
+fn leaves_hold_at_each_size(rt: HostRuntime) {
+    hold(&rt, rt.alloc(), false);
 }
 
 #[test]
-fn indexes_hold_at_each_size(rt: HostRuntime) -> Result<(), Fail> {
-    Ok(hold(&rt, rt.alloc(), true)?)
+fn indexes_hold_at_each_size(rt: HostRuntime) {
+    hold(&rt, rt.alloc(), true);
 }

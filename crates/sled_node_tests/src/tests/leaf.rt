@@ -21,65 +21,72 @@ pub(super) fn leaf_of(alloc: Global, keys: &[&[u8]]) -> Result<Option<Leaf>, All
     Leaf::from_pairs(alloc, pairs)
 }
 
-// How many pairs such a leaf has, or none where there is no such leaf.
-fn len_of(alloc: Global, keys: &[&[u8]]) -> Result<Option<usize>, AllocError> {
-    match leaf_of(alloc, keys)? {
-        Some(leaf) => Ok(Some(leaf.len())),
-        None => Ok(None),
+// Whether there is such a leaf, of so many pairs, or is none.
+fn is_leaf(alloc: Global, keys: &[&[u8]], is_so: bool) -> bool {
+    match leaf_of(alloc, keys) {
+        Ok(Some(leaf)) => is_so && leaf.len() == keys.len(),
+        Ok(None) => !is_so,
+        Err(_) => false,
     }
 }
+
+const KEYS: &[(&[&[u8]], bool)] = &[
+    (&[], true),
+    (&[b"a"], true),
+    (&[b"a", b"b"], true),
+    (&[b"a", b"aa", b"b"], true),
+    (&[b"", b"a"], true),
+    (&[b"a", b"a"], false),
+    (&[b"b", b"a"], false),
+    (&[b"aa", b"a"], false),
+    (&[b"a", b"b", b"b"], false),
+    (&[b"a", b"c", b"b"], false),
+];
 
 #[test]
-fn leaves_have_ascending_keys(rt: HostRuntime) -> Result<(), Fail> {
-    let alloc = rt.alloc();
-    for (keys, is_so) in [
-        ([].as_slice(), true),
-        (&[b"a".as_slice()], true),
-        (&[b"a".as_slice(), b"b"], true),
-        (&[b"a".as_slice(), b"aa", b"b"], true),
-        (&[b"".as_slice(), b"a"], true),
-        (&[b"a".as_slice(), b"a"], false),
-        (&[b"b".as_slice(), b"a"], false),
-        (&[b"aa".as_slice(), b"a"], false),
-        (&[b"a".as_slice(), b"b", b"b"], false),
-        (&[b"a".as_slice(), b"c", b"b"], false),
-    ] {
-        let wanted = if is_so { Some(keys.len()) } else { None };
-        assert!(rt; len_of(alloc, keys)? == wanted, "{keys:?}");
+fn leaves_have_ascending_keys(rt: HostRuntime) {
+    for (keys, is_so) in KEYS {
+        assert!(rt; is_leaf(rt.alloc(), keys, *is_so), "{keys:?}");
     }
-    Ok(())
 }
 
-fn is_leaf_cloned(alloc: Global, keys: &[&[u8]]) -> Result<bool, AllocError> {
-    let leaf = leaf_of(alloc, keys)?;
-    is_cloned(&leaf)
+// Whether the leaf of these keys is another than this one.
+fn differs(alloc: Global, keys: &[&[u8]], other: &Option<Leaf>) -> bool {
+    match leaf_of(alloc, keys) {
+        Ok(leaf) => leaf != *other,
+        Err(_) => false,
+    }
 }
 
-// Whether the leaf of these keys is another than the leaf of those.
-fn differ(alloc: Global, keys: &[&[u8]], others: &[&[u8]]) -> Result<bool, AllocError> {
-    let leaf = leaf_of(alloc, keys)?;
-    let other = leaf_of(alloc, others)?;
-    Ok(leaf != other)
+// Whether the leaf of these keys is equal to its clone, and other than the leaf of those.
+fn is_leaf_cloned(alloc: Global, keys: &[&[u8]], others: &[&[u8]]) -> bool {
+    match leaf_of(alloc, keys) {
+        Ok(leaf) => is_cloned(&leaf) && differs(alloc, others, &leaf),
+        Err(_) => false,
+    }
 }
 
 // Whether an empty leaf and an empty index are equal to their clones, and other than each other.
-fn are_empty_cloned(alloc: Global) -> Result<bool, AllocError> {
+fn are_empty_cloned(alloc: Global) -> bool {
     let leaf = Data::Leaf(Leaf::default(alloc));
     let index = Data::Index(Index::default(alloc));
-    Ok(leaf != index && is_cloned(&leaf)? && is_cloned(&index)?)
+    leaf != index && is_cloned(&leaf) && is_cloned(&index)
 }
 
-fn is_empty_index_cloned(alloc: Global) -> Result<bool, AllocError> {
+fn is_empty_index_cloned(alloc: Global) -> bool {
     let index = Index::default(alloc);
     is_cloned(&index)
 }
 
+const A_B: &[&[u8]] = &[b"a", b"b"];
+
+const A: &[&[u8]] = &[b"a"];
+
+fn are_clones_equal(alloc: Global) -> bool {
+    is_leaf_cloned(alloc, A_B, A) && are_empty_cloned(alloc) && is_empty_index_cloned(alloc)
+}
+
 #[test]
-fn clones_are_equal(rt: HostRuntime) -> Result<(), Fail> {
-    let alloc = rt.alloc();
-    assert!(rt; is_leaf_cloned(alloc, &[b"a".as_slice(), b"b"])?);
-    assert!(rt; differ(alloc, &[b"a".as_slice()], &[b"a".as_slice(), b"b"])?);
-    assert!(rt; are_empty_cloned(alloc)?);
-    assert!(rt; is_empty_index_cloned(alloc)?);
-    Ok(())
+fn clones_are_equal(rt: HostRuntime) {
+    assert!(rt; are_clones_equal(rt.alloc()));
 }

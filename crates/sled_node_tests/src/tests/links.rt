@@ -54,9 +54,9 @@ const CAPPED_FROM_BA: &[u8] = &[0, 0, 1, 1, 2, 98, 97, 2, 98, 122, 0, 0];
 
 const CAPPED_B: &[u8] = &[0, 0, 1, 1, 2, 98, 97, 2, 98, 122, 0, 1, 1, 98, 1, 118];
 
-fn link_of(alloc: Global, payload: &[u8]) -> Result<Link, Error> {
+fn link_of(alloc: Global, payload: &[u8]) -> Option<Link> {
     let mut input = payload;
-    Link::deserialize(alloc, &mut input)
+    Link::deserialize(alloc, &mut input).ok()
 }
 
 // Whether the node accepts the link, which is then applied.
@@ -89,19 +89,19 @@ fn edits(node: &mut Node, link: Link) -> Result<bool, AllocError> {
     }
 }
 
-pub(super) fn applies_payload(
-    alloc: Global,
-    node: &mut Node,
-    is_edit: bool,
-    payload: &[u8],
-) -> Result<bool, Error> {
-    let link = link_of(alloc, payload)?;
-    let done = if is_edit {
-        edits(node, link)
-    } else {
-        applies(node, &link)
-    };
-    Ok(done?)
+// The same of the link of a payload; none where there is no such link, or no memory.
+pub(super) fn applies_payload(alloc: Global, node: &mut Node, payload: &[u8]) -> Option<bool> {
+    match link_of(alloc, payload) {
+        Some(link) => applies(node, &link).ok(),
+        None => None,
+    }
+}
+
+fn edits_payload(alloc: Global, node: &mut Node, payload: &[u8]) -> Option<bool> {
+    match link_of(alloc, payload) {
+        Some(link) => edits(node, link).ok(),
+        None => None,
+    }
 }
 
 // Whether the node accepts the link, and is then the node of the other payload, or doesn't accept it where there is no other.
@@ -111,25 +111,23 @@ fn changes(
     is_edit: bool,
     link: &[u8],
     after: Option<&[u8]>,
-) -> Result<bool, Error> {
-    let accepts = applies_payload(alloc, node, is_edit, link)?;
+) -> bool {
+    let accepts = if is_edit {
+        edits_payload(alloc, node, link)
+    } else {
+        applies_payload(alloc, node, link)
+    };
     match after {
-        Some(after) => Ok(accepts && is_read(alloc, after, node)?),
-        None => Ok(!accepts),
+        Some(after) => accepts == Some(true) && is_read(alloc, after, node),
+        None => accepts == Some(false),
     }
 }
 
-fn takes(
-    alloc: Global,
-    is_edit: bool,
-    before: &[u8],
-    link: &[u8],
-    after: Option<&[u8]>,
-) -> Result<bool, Error> {
-    let mut node = node_of(alloc, before)?;
-    let done = changes(alloc, &mut node, is_edit, link, after);
-    let_go(node);
-    done
+fn takes(alloc: Global, is_edit: bool, before: &[u8], link: &[u8], after: Option<&[u8]>) -> bool {
+    match node_of(alloc, before) {
+        Some(mut node) => changes(alloc, &mut node, is_edit, link, after),
+        None => false,
+    }
 }
 
 // A node, a link, and the node that it is applied to it, or none where the node refuses it.
@@ -227,25 +225,25 @@ const EDITS: &[Row] = &[
 ];
 
 #[test]
-fn links_are_applied_and_leaves_edited(rt: HostRuntime) -> Result<(), Fail> {
+fn links_are_applied_and_leaves_edited(rt: HostRuntime) {
     for (is_edit, rows) in [(false, LINKS), (true, EDITS)] {
         for (row, before, link, after) in rows {
-            let is_so = takes(rt.alloc(), is_edit, before, link, *after)?;
+            let is_so = takes(rt.alloc(), is_edit, before, link, *after);
             assert!(rt; is_so, "{row}");
         }
     }
-    Ok(())
 }
 
-fn is_link_cloned(alloc: Global, payload: &[u8]) -> Result<bool, Error> {
-    let link = link_of(alloc, payload)?;
-    Ok(is_cloned(&link)?)
+fn is_link_cloned(alloc: Global, payload: &[u8]) -> bool {
+    match link_of(alloc, payload) {
+        Some(link) => is_cloned(&link),
+        None => false,
+    }
 }
 
 #[test]
-fn clones_of_links_are_equal(rt: HostRuntime) -> Result<(), Fail> {
+fn clones_of_links_are_equal(rt: HostRuntime) {
     for link in [SET_KEY, DEL_KEY, MERGE_7, CONFIRM, CAP] {
-        assert!(rt; is_link_cloned(rt.alloc(), link)?);
+        assert!(rt; is_link_cloned(rt.alloc(), link));
     }
-    Ok(())
 }

@@ -20,12 +20,14 @@ fn is_value(found: &Option<IVec>, value: Option<&[u8]>) -> bool {
 }
 
 // Whether the leaf gives the stored key for the whole key, with this value or none.
-fn gives(node: &Node, key: &[u8], stored: &[u8], value: Option<&[u8]>) -> Result<bool, AllocError> {
+fn gives(node: &Node, key: &[u8], stored: &[u8], value: Option<&[u8]>) -> bool {
     if node.is_index() || !node.contains_key(key) {
-        return Ok(false);
+        return false;
     }
-    let pair = node.node_kv_pair(key)?;
-    Ok(pair.0.eq_bytes(stored) && is_value(&pair.1, value))
+    match node.node_kv_pair(key) {
+        Ok(pair) => pair.0.eq_bytes(stored) && is_value(&pair.1, value),
+        Err(_) => false,
+    }
 }
 
 // Whether the whole key, which is stored as this one, or as none where it is out of the range, is found with the value.
@@ -34,13 +36,13 @@ pub(super) fn is_found(
     key: &[u8],
     stored: Option<&[u8]>,
     value: Option<&[u8]>,
-) -> Result<bool, AllocError> {
+) -> bool {
     match (stored, value) {
-        (None, _) => Ok(lends(node, key, None)),
-        (Some(stored), None) => Ok(lends(node, key, None) && gives(node, key, stored, None)?),
-        (Some(stored), Some(value)) => Ok(
-            lends(node, key, Some((stored, value))) && gives(node, key, stored, Some(value))?,
-        ),
+        (None, _) => lends(node, key, None),
+        (Some(stored), None) => lends(node, key, None) && gives(node, key, stored, None),
+        (Some(stored), Some(value)) => {
+            lends(node, key, Some((stored, value))) && gives(node, key, stored, Some(value))
+        }
     }
 }
 
@@ -50,41 +52,37 @@ fn finds(
     key: &[u8],
     stored: Option<&[u8]>,
     value: Option<&[u8]>,
-) -> Result<bool, Error> {
-    let node = node_of(alloc, payload)?;
-    let done = is_found(&node, key, stored, value);
-    let_go(node);
-    Ok(done?)
+) -> bool {
+    match node_of(alloc, payload) {
+        Some(node) => is_found(&node, key, stored, value),
+        None => false,
+    }
 }
 
+const ROWS: &[(&[u8], &[u8], Option<&[u8]>, Option<&[u8]>)] = &[
+    (ONE_PAIR, b"bb", Some(b"b"), Some(b"v")),
+    (ONE_PAIR, b"", None, None),
+    (ONE_PAIR, b"a", None, None),
+    (ONE_PAIR, b"b", None, None),
+    (ONE_PAIR, b"abb", None, None),
+    (ONE_PAIR, b"ba", Some(b"a"), None),
+    (ONE_PAIR, b"bc", Some(b"c"), None),
+    (ONE_PAIR, b"bbb", Some(b"bb"), None),
+    (ONE_PAIR, b"c", None, None),
+    (
+        ONE_PAIR,
+        b"bxxxxxxxxxxxxxxxxxxxxxxxxxxxxxx",
+        Some(b"xxxxxxxxxxxxxxxxxxxxxxxxxxxxxx"),
+        None,
+    ),
+    (TWO_PAIRS, b"", Some(b""), Some(b"v")),
+    (TWO_PAIRS, b"b", Some(b"b"), Some(b"w")),
+    (TWO_PAIRS, b"a", Some(b"a"), None),
+];
+
 #[test]
-fn whole_keys_are_looked_up(rt: HostRuntime) -> Result<(), Fail> {
-    for (payload, key, stored, value) in [
-        (
-            ONE_PAIR,
-            b"bb".as_slice(),
-            Some(b"b".as_slice()),
-            Some(b"v".as_slice()),
-        ),
-        (ONE_PAIR, b"", None, None),
-        (ONE_PAIR, b"a", None, None),
-        (ONE_PAIR, b"b", None, None),
-        (ONE_PAIR, b"abb", None, None),
-        (ONE_PAIR, b"ba", Some(b"a"), None),
-        (ONE_PAIR, b"bc", Some(b"c"), None),
-        (ONE_PAIR, b"bbb", Some(b"bb"), None),
-        (ONE_PAIR, b"c", None, None),
-        (
-            ONE_PAIR,
-            b"bxxxxxxxxxxxxxxxxxxxxxxxxxxxxxx",
-            Some(b"xxxxxxxxxxxxxxxxxxxxxxxxxxxxxx"),
-            None,
-        ),
-        (TWO_PAIRS, b"", Some(b""), Some(b"v")),
-        (TWO_PAIRS, b"b", Some(b"b"), Some(b"w")),
-        (TWO_PAIRS, b"a", Some(b"a"), None),
-    ] {
-        assert!(rt; finds(rt.alloc(), payload, key, stored, value)?, "{key:?}");
+fn whole_keys_are_looked_up(rt: HostRuntime) {
+    for (payload, key, stored, value) in ROWS {
+        assert!(rt; finds(rt.alloc(), payload, key, *stored, *value), "{key:?}");
     }
-    Ok(())
 }

@@ -55,48 +55,59 @@ pub(super) fn nearest(
     }
 }
 
-// The values of the nearest pairs at or above the key, above it, at or below it, and below it, and of the first and the last.
-fn near(alloc: Global, node: &Node, key: &[u8]) -> Result<[u8; 6], AllocError> {
-    Ok([
-        value_of(nearest(alloc, node, true, b'[', key)?),
-        value_of(nearest(alloc, node, true, b'(', key)?),
-        value_of(nearest(alloc, node, false, b'[', key)?),
-        value_of(nearest(alloc, node, false, b'(', key)?),
-        value_of(nearest(alloc, node, true, b'-', key)?),
-        value_of(nearest(alloc, node, false, b'-', key)?),
-    ])
+// The value of such a pair, or '!' where there was no memory.
+fn value_near(alloc: Global, node: &Node, is_behind: bool, kind: u8, key: &[u8]) -> u8 {
+    match nearest(alloc, node, is_behind, kind, key) {
+        Ok(found) => value_of(found),
+        Err(_) => b'!',
+    }
 }
 
-fn near_in(alloc: Global, payload: &[u8], key: &[u8]) -> Result<[u8; 6], Error> {
-    let node = node_of(alloc, payload)?;
-    Ok(near(alloc, &node, key)?)
+// The values of the nearest pairs at or above the key, above it, at or below it, and below it, and of the first and the last.
+fn near(alloc: Global, node: &Node, key: &[u8]) -> [u8; 6] {
+    [
+        value_near(alloc, node, true, b'[', key),
+        value_near(alloc, node, true, b'(', key),
+        value_near(alloc, node, false, b'[', key),
+        value_near(alloc, node, false, b'(', key),
+        value_near(alloc, node, true, b'-', key),
+        value_near(alloc, node, false, b'-', key),
+    ]
 }
+
+fn are_near(alloc: Global, payload: &[u8], key: &[u8], values: &[u8; 6]) -> bool {
+    match node_of(alloc, payload) {
+        Some(node) => near(alloc, &node, key) == *values,
+        None => false,
+    }
+}
+
+const ROWS: &[(&[u8], &[u8], &[u8; 6])] = &[
+    (THREE_PAIRS, b"", b"11--13"),
+    (THREE_PAIRS, b"a", b"11--13"),
+    (THREE_PAIRS, b"azz", b"11--13"),
+    (THREE_PAIRS, b"b", b"11--13"),
+    (THREE_PAIRS, b"ba", b"11--13"),
+    (THREE_PAIRS, b"bb", b"121-13"),
+    (THREE_PAIRS, b"bba", b"221113"),
+    (THREE_PAIRS, b"bc", b"221113"),
+    (THREE_PAIRS, b"bd", b"232113"),
+    (THREE_PAIRS, b"be", b"332213"),
+    (THREE_PAIRS, b"bf", b"3-3213"),
+    (THREE_PAIRS, b"bz", b"--3313"),
+    (THREE_PAIRS, b"c", b"--3313"),
+    (THREE_PAIRS, b"d", b"--3313"),
+    (LONG_PAIR, b"bb", b"44--44"),
+    (LONG_PAIR, b"bbxxxxxxxxxxxxxxxxxxxxxxxxxxxxxx", b"4-4-44"),
+    (LONG_PAIR, b"bc", b"--4444"),
+    (ONE_PAIR, b"ab", b"vv--vv"),
+    (ONE_PAIR, b"c", b"--vvvv"),
+    (EMPTY, b"a", b"------"),
+];
 
 #[test]
-fn the_nearest_pair_is_found(rt: HostRuntime) -> Result<(), Fail> {
-    for (payload, key, values) in [
-        (THREE_PAIRS, b"".as_slice(), b"11--13"),
-        (THREE_PAIRS, b"a", b"11--13"),
-        (THREE_PAIRS, b"azz", b"11--13"),
-        (THREE_PAIRS, b"b", b"11--13"),
-        (THREE_PAIRS, b"ba", b"11--13"),
-        (THREE_PAIRS, b"bb", b"121-13"),
-        (THREE_PAIRS, b"bba", b"221113"),
-        (THREE_PAIRS, b"bc", b"221113"),
-        (THREE_PAIRS, b"bd", b"232113"),
-        (THREE_PAIRS, b"be", b"332213"),
-        (THREE_PAIRS, b"bf", b"3-3213"),
-        (THREE_PAIRS, b"bz", b"--3313"),
-        (THREE_PAIRS, b"c", b"--3313"),
-        (THREE_PAIRS, b"d", b"--3313"),
-        (LONG_PAIR, b"bb", b"44--44"),
-        (LONG_PAIR, b"bbxxxxxxxxxxxxxxxxxxxxxxxxxxxxxx", b"4-4-44"),
-        (LONG_PAIR, b"bc", b"--4444"),
-        (ONE_PAIR, b"ab", b"vv--vv"),
-        (ONE_PAIR, b"c", b"--vvvv"),
-        (EMPTY, b"a", b"------"),
-    ] {
-        assert!(rt; near_in(rt.alloc(), payload, key)? == *values, "{key:?}");
+fn the_nearest_pair_is_found(rt: HostRuntime) {
+    for (payload, key, values) in ROWS {
+        assert!(rt; are_near(rt.alloc(), payload, key, values), "{key:?}");
     }
-    Ok(())
 }

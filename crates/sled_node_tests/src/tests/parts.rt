@@ -93,33 +93,37 @@ fn says(node: &Node, wanted: &Wanted) -> bool {
 }
 
 // Whether the clone is equal, and says the same.
-fn clone_says(node: &Node, wanted: &Wanted) -> Result<bool, AllocError> {
-    let copy = node.clone()?;
-    Ok(says(&copy, wanted) && copy == *node)
+fn clone_says(node: &Node, wanted: &Wanted) -> bool {
+    match node.clone() {
+        Ok(copy) => says(&copy, wanted) && copy == *node,
+        Err(_) => false,
+    }
 }
 
-fn is_wanted(alloc: Global, node: &Node, wanted: &Wanted) -> Result<bool, Error> {
-    let written = is_node_written(alloc, node, Some(wanted.payload))?;
-    Ok(written && says(node, wanted) && clone_says(node, wanted)?)
+fn is_wanted(alloc: Global, node: &Node, wanted: &Wanted) -> bool {
+    is_node_written(alloc, node, Some(wanted.payload))
+        && says(node, wanted)
+        && clone_says(node, wanted)
 }
 
-fn node_is_wanted(alloc: Global, wanted: &Wanted) -> Result<bool, Error> {
-    let node = node_of(alloc, wanted.payload)?;
-    is_wanted(alloc, &node, wanted)
+fn node_is_wanted(alloc: Global, wanted: &Wanted) -> bool {
+    match node_of(alloc, wanted.payload) {
+        Some(node) => is_wanted(alloc, &node, wanted),
+        None => false,
+    }
 }
 
-fn default_is_wanted(alloc: Global) -> Result<bool, Error> {
+fn default_is_wanted(alloc: Global) -> bool {
     let node = Node::default(alloc);
     is_wanted(alloc, &node, DEFAULT)
 }
 
 #[test]
-fn nodes_say_what_they_are(rt: HostRuntime) -> Result<(), Fail> {
-    assert!(rt; default_is_wanted(rt.alloc())?);
+fn nodes_say_what_they_are(rt: HostRuntime) {
+    assert!(rt; default_is_wanted(rt.alloc()));
     for (row, wanted) in NODES {
-        assert!(rt; node_is_wanted(rt.alloc(), wanted)?, "{row}");
+        assert!(rt; node_is_wanted(rt.alloc(), wanted), "{row}");
     }
-    Ok(())
 }
 
 // Whether the node has one pair, of this stored key and this value.
@@ -131,7 +135,9 @@ fn has_pair(node: &Node, key: &[u8], value: &[u8]) -> bool {
     stored == key && item == Item::Value(value)
 }
 
-fn expect_range(rt: &impl Abort, marked: &Node, empty: &Node) {
+fn expect_range(rt: &impl Abort, marked: Option<&Node>, empty: &Node) {
+    assert!(rt; marked.is_some());
+    let marked = marked.unwrap_or(empty);
     assert!(rt; has_pair(marked, b"b", b"v"));
     for (node, key, is_in) in [
         (marked, b"ba".as_slice(), true),
@@ -147,32 +153,35 @@ fn expect_range(rt: &impl Abort, marked: &Node, empty: &Node) {
 }
 
 #[test]
-fn keys_are_in_the_range(rt: HostRuntime) -> Result<(), Fail> {
-    let marked = node_of(rt.alloc(), MARKED)?;
+fn keys_are_in_the_range(rt: HostRuntime) {
+    let marked = node_of(rt.alloc(), MARKED);
     let empty = Node::default(rt.alloc());
-    expect_range(&rt, &marked, &empty);
-    Ok(())
+    expect_range(&rt, marked.as_ref(), &empty);
 }
 
-fn are_equal(alloc: Global, one: &[u8], other: &[u8]) -> Result<bool, Error> {
-    let node = node_of(alloc, one)?;
-    is_read(alloc, other, &node)
+// Whether the two are equal, or are not.
+fn are_equal(alloc: Global, one: &[u8], other: &[u8], is_so: bool) -> bool {
+    match node_of(alloc, one) {
+        Some(node) => reads_as(alloc, other, &node) == Some(is_so),
+        None => false,
+    }
 }
+
+const PAIRS: &[(&[u8], &[u8], bool)] = &[
+    (EMPTY, EMPTY, true),
+    (EMPTY, CAPPED, false),
+    (EMPTY, MERGING_5, false),
+    (EMPTY, INDEX_OF_NONE, false),
+    (B_TO_V, B_TO_W, false),
+    (PREFIXED_A, PREFIXED_B, false),
+    (MARKED, MARKED, true),
+];
 
 #[test]
-fn equal_nodes_are_the_same(rt: HostRuntime) -> Result<(), Fail> {
-    for (one, other, is_so) in [
-        (EMPTY, EMPTY, true),
-        (EMPTY, CAPPED, false),
-        (EMPTY, MERGING_5, false),
-        (EMPTY, INDEX_OF_NONE, false),
-        (B_TO_V, B_TO_W, false),
-        (PREFIXED_A, PREFIXED_B, false),
-        (MARKED, MARKED, true),
-    ] {
-        assert!(rt; are_equal(rt.alloc(), one, other)? == is_so);
+fn equal_nodes_are_the_same(rt: HostRuntime) {
+    for (one, other, is_so) in PAIRS {
+        assert!(rt; are_equal(rt.alloc(), one, other, *is_so));
     }
-    Ok(())
 }
 
 // ---- parts
@@ -192,21 +201,31 @@ pub(super) fn node_over(
     Ok(Node::from_parts(prefix_len, next, None, false, lo, hi, contents))
 }
 
-// Whether a leaf of these stored keys may be over this range.
+// Whether there is such a node next to page 7, or none where there is no memory.
+fn is_node_over(alloc: Global, prefix_len: u8, range: [&[u8]; 2], contents: Data) -> Option<bool> {
+    match node_over(alloc, prefix_len, range, 7, contents) {
+        Ok(node) => Some(node.is_some()),
+        Err(_) => None,
+    }
+}
+
+// Whether a leaf of these stored keys may be over this range, or may not.
 fn is_well_formed(
     alloc: Global,
     prefix_len: u8,
     range: [&[u8]; 2],
     keys: &[&[u8]],
-) -> Result<bool, AllocError> {
-    match leaf_of(alloc, keys)? {
-        Some(leaf) => Ok(node_over(alloc, prefix_len, range, 7, Data::Leaf(leaf))?.is_some()),
-        None => Ok(false),
+    is_so: bool,
+) -> bool {
+    match leaf_of(alloc, keys) {
+        Ok(Some(leaf)) => is_node_over(alloc, prefix_len, range, Data::Leaf(leaf)) == Some(is_so),
+        Ok(None) => !is_so,
+        Err(_) => false,
     }
 }
 
 #[test]
-fn ill_formed_parts_make_no_node(rt: HostRuntime) -> Result<(), Fail> {
+fn ill_formed_parts_make_no_node(rt: HostRuntime) {
     let none = [].as_slice();
     let bb = [b"bb".as_slice()];
     let bb = bb.as_slice();
@@ -225,8 +244,7 @@ fn ill_formed_parts_make_no_node(rt: HostRuntime) -> Result<(), Fail> {
         (0, b"bc", b"", bb, false),
         (0, b"a", b"bb", bb, false),
     ] {
-        let is_node = is_well_formed(rt.alloc(), prefix_len, [lo, hi], keys)?;
-        assert!(rt; is_node == is_so, "{prefix_len} {lo:?} {hi:?}");
+        let holds = is_well_formed(rt.alloc(), prefix_len, [lo, hi], keys, is_so);
+        assert!(rt; holds, "{prefix_len} {lo:?} {hi:?}");
     }
-    Ok(())
 }

@@ -11,84 +11,103 @@ fn is_same<T: Serialize + PartialEq>(
     written: &[u8],
     size: u64,
     bytes: &[u8],
-) -> Result<bool, Error> {
-    Ok(written == bytes && size == bytes.len() as u64 && is_read(alloc, bytes, value)?)
+) -> bool {
+    written == bytes && size == bytes.len() as u64 && is_read(alloc, bytes, value)
 }
 
-fn is_link_written(alloc: Global, link: &Link, bytes: &[u8]) -> Result<bool, Error>
+fn is_link_written(alloc: Global, link: &Link, bytes: &[u8]) -> bool
     requires can_write { CanWriteLink link.now }
     requires fits { length (written_link link.now) < 2 ^ 64 }
 {
-    let written = link.serialize(alloc)?;
-    is_same(alloc, link, &written, link.serialized_size(), bytes)
+    match link.serialize(alloc) {
+        Ok(written) => is_same(alloc, link, &written, link.serialized_size(), bytes),
+        Err(_) => false,
+    }
 }
 
-fn is_data_written(alloc: Global, data: &Data, bytes: &[u8]) -> Result<bool, Error> {
-    let written = data.serialize(alloc)?;
-    is_same(alloc, data, &written, data.serialized_size(), bytes)
+fn is_data_written(alloc: Global, data: &Data, bytes: &[u8]) -> bool {
+    match data.serialize(alloc) {
+        Ok(written) => is_same(alloc, data, &written, data.serialized_size(), bytes),
+        Err(_) => false,
+    }
 }
 
 // Whether the node is written as these bytes, or as any, and read again from them.
-pub(super) fn is_node_written(
-    alloc: Global,
-    node: &Node,
-    bytes: Option<&[u8]>,
-) -> Result<bool, Error> {
-    let written = node.serialize(alloc)?;
-    let bytes = bytes.unwrap_or(&written);
-    is_same(alloc, node, &written, node.serialized_size(), bytes)
+pub(super) fn is_node_written(alloc: Global, node: &Node, bytes: Option<&[u8]>) -> bool {
+    match node.serialize(alloc) {
+        Ok(written) => {
+            let bytes = bytes.unwrap_or(&written);
+            is_same(alloc, node, &written, node.serialized_size(), bytes)
+        }
+        Err(_) => false,
+    }
 }
 
-pub(super) fn is_meta_written(
-    alloc: Global,
-    meta: &Meta,
-    bytes: Option<&[u8]>,
-) -> Result<bool, Error> {
-    let written = meta.serialize(alloc)?;
-    let bytes = bytes.unwrap_or(&written);
-    is_same(alloc, meta, &written, meta.serialized_size(), bytes)
+pub(super) fn is_meta_written(alloc: Global, meta: &Meta, bytes: Option<&[u8]>) -> bool {
+    match meta.serialize(alloc) {
+        Ok(written) => {
+            let bytes = bytes.unwrap_or(&written);
+            is_same(alloc, meta, &written, meta.serialized_size(), bytes)
+        }
+        Err(_) => false,
+    }
 }
 
 // The same of a link that is let go here.
-fn is_written(alloc: Global, link: Link, bytes: &[u8]) -> Result<bool, Error>
+fn is_written(alloc: Global, link: Link, bytes: &[u8]) -> bool
     requires can_write { CanWriteLink link }
     requires fits { length (written_link link) < 2 ^ 64 }
 {
     is_link_written(alloc, &link, bytes)
 }
 
-fn is_set_written(alloc: Global, bytes: &[u8]) -> Result<bool, Error> {
-    let key = IVec::from_slice(alloc, &[1])?;
-    let value = IVec::from_slice(alloc, &[2])?;
-    is_written(alloc, Link::Set(key, value), bytes)
+fn is_set_written(alloc: Global, bytes: &[u8]) -> bool {
+    let Ok(key) = IVec::from_slice(alloc, &[1]) else {
+        return false;
+    };
+    match IVec::from_slice(alloc, &[2]) {
+        Ok(value) => is_written(alloc, Link::Set(key, value), bytes),
+        Err(_) => false,
+    }
 }
 
-fn is_del_written(alloc: Global, bytes: &[u8]) -> Result<bool, Error> {
-    let key = IVec::from_slice(alloc, &[1])?;
-    is_written(alloc, Link::Del(key), bytes)
+fn is_del_written(alloc: Global, bytes: &[u8]) -> bool {
+    match IVec::from_slice(alloc, &[1]) {
+        Ok(key) => is_written(alloc, Link::Del(key), bytes),
+        Err(_) => false,
+    }
+}
+
+fn are_marks_written(alloc: Global) -> bool {
+    is_written(alloc, Link::ParentMergeIntention(0), &[2, 0])
+        && is_written(alloc, Link::ParentMergeIntention(241), &[2, 241, 1])
+        && is_written(alloc, Link::ParentMergeConfirm, &[3])
+        && is_written(alloc, Link::ChildMergeCap, &[4])
+}
+
+const SET: &[u8] = &[0, 1, 1, 1, 2];
+
+const DEL: &[u8] = &[1, 1, 1];
+
+fn are_links_written(alloc: Global) -> bool {
+    is_set_written(alloc, SET) && is_del_written(alloc, DEL) && are_marks_written(alloc)
 }
 
 #[test]
-fn links(rt: HostRuntime) -> Result<(), Fail> {
-    let alloc = rt.alloc();
-    assert!(rt; is_set_written(alloc, &[0, 1, 1, 1, 2])?);
-    assert!(rt; is_del_written(alloc, &[1, 1, 1])?);
-    for (page, bytes) in [(0, [2, 0].as_slice()), (241, &[2, 241, 1])] {
-        assert!(rt; is_written(alloc, Link::ParentMergeIntention(page), bytes)?);
-    }
-    assert!(rt; is_written(alloc, Link::ParentMergeConfirm, &[3])?);
-    assert!(rt; is_written(alloc, Link::ChildMergeCap, &[4])?);
-    Ok(())
+fn links(rt: HostRuntime) {
+    assert!(rt; are_links_written(rt.alloc()));
 }
 
 // Whether a leaf is read from the input, whose last byte is left, and written as the bytes.
-fn is_leaf_read(alloc: Global, input: &[u8], bytes: &[u8]) -> Result<bool, Error> {
+fn is_leaf_read(alloc: Global, input: &[u8], bytes: &[u8]) -> bool {
     let mut rest = input;
-    let leaf = Data::deserialize(alloc, &mut rest)?;
-    Ok(rest == [7].as_slice() && is_data_written(alloc, &leaf, bytes)?)
+    match Data::deserialize(alloc, &mut rest) {
+        Ok(leaf) => rest == [7].as_slice() && is_data_written(alloc, &leaf, bytes),
+        Err(_) => false,
+    }
 }
 
-fn is_empty_leaf_written(alloc: Global) -> Result<bool, Error> {
+fn is_empty_leaf_written(alloc: Global) -> bool {
     let empty = Data::Leaf(Leaf::default(alloc));
     is_data_written(alloc, &empty, &[0, 0])
 }
@@ -101,26 +120,28 @@ fn index_of(alloc: Global, left: &[u8], right: &[u8]) -> Result<Option<Index>, A
     Index::from_pairs(alloc, pairs)
 }
 
+fn is_any_written(alloc: Global, data: &Data, bytes: Option<&[u8]>) -> bool {
+    match bytes {
+        Some(bytes) => is_data_written(alloc, data, bytes),
+        None => false,
+    }
+}
+
 // Whether the two keys make up no index where the bytes are none, and else one that is written as the bytes.
-fn is_index_written(
-    alloc: Global,
-    left: &[u8],
-    right: &[u8],
-    bytes: Option<&[u8]>,
-) -> Result<bool, Error> {
-    match (index_of(alloc, left, right)?, bytes) {
-        (Some(index), Some(bytes)) => is_data_written(alloc, &Data::Index(index), bytes),
-        (None, None) => Ok(true),
-        _ => Ok(false),
+fn is_index_written(alloc: Global, left: &[u8], right: &[u8], bytes: Option<&[u8]>) -> bool {
+    match index_of(alloc, left, right) {
+        Ok(Some(index)) => is_any_written(alloc, &Data::Index(index), bytes),
+        Ok(None) => bytes.is_none(),
+        Err(_) => false,
     }
 }
 
 #[test]
-fn leaves_and_indexes(rt: HostRuntime) -> Result<(), Fail> {
+fn leaves_and_indexes(rt: HostRuntime) {
     let alloc = rt.alloc();
     let longer = [0, 250, 1, 0, 0, 1, 97, 1, 98, 7];
-    assert!(rt; is_empty_leaf_written(alloc)?);
-    assert!(rt; is_leaf_read(alloc, &longer, &[0, 1, 1, 97, 1, 98])?);
+    assert!(rt; is_empty_leaf_written(alloc));
+    assert!(rt; is_leaf_read(alloc, &longer, &[0, 1, 1, 97, 1, 98]));
     for (left, right, bytes) in [
         (
             b"".as_slice(),
@@ -130,9 +151,8 @@ fn leaves_and_indexes(rt: HostRuntime) -> Result<(), Fail> {
         (b"a", b"", None),
         (b"a", b"a", None),
     ] {
-        assert!(rt; is_index_written(alloc, left, right, bytes)?);
+        assert!(rt; is_index_written(alloc, left, right, bytes));
     }
-    Ok(())
 }
 
 // Whether no value is read, and the input stays where it was.

@@ -7,61 +7,59 @@ fn should(node: &Node) -> (bool, bool) {
     (node.should_split(), node.should_merge())
 }
 
-// The same of a leaf or an index of so many pairs.
-fn should_of(
-    alloc: Global,
-    is_index: bool,
-    count: u32,
-) -> Result<Option<(bool, bool)>, AllocError> {
-    match filled(alloc, is_index, &SHAPES[0], b"", count)? {
-        Some(node) => Ok(Some(should(&node))),
-        None => Ok(None),
+// Whether this is so of a leaf or an index of so many pairs.
+fn should_be(alloc: Global, is_index: bool, count: u32, wanted: (bool, bool)) -> bool {
+    match filled(alloc, is_index, &SHAPES[0], b"", count) {
+        Some(node) => should(&node) == wanted,
+        None => false,
     }
 }
+
+const COUNTS: &[(bool, u32, bool, bool)] = &[
+    (false, 3, false, true),
+    (false, 4, false, false),
+    (false, 16, false, false),
+    (false, 17, true, false),
+    (true, 63, false, true),
+    (true, 64, false, false),
+    (true, 256, false, false),
+    (true, 257, true, false),
+];
 
 #[test]
-fn nodes_are_split_and_merged(rt: HostRuntime) -> Result<(), Fail> {
-    for (is_index, count, split, merge) in [
-        (false, 3, false, true),
-        (false, 4, false, false),
-        (false, 16, false, false),
-        (false, 17, true, false),
-        (true, 63, false, true),
-        (true, 64, false, false),
-        (true, 256, false, false),
-        (true, 257, true, false),
-    ] {
-        let should = should_of(rt.alloc(), is_index, count)?;
-        assert!(rt; should == Some((split, merge)), "{count} pairs");
+fn nodes_are_split_and_merged(rt: HostRuntime) {
+    for (is_index, count, split, merge) in COUNTS {
+        let is_so = should_be(rt.alloc(), *is_index, *count, (*split, *merge));
+        assert!(rt; is_so, "{count} pairs");
     }
-    Ok(())
 }
 
-// Whether an empty leaf to which the link is applied, if it accepts that, is to be merged, or may have a child merged.
-fn is_free(alloc: Global, link: &[u8]) -> Result<(bool, bool), Error> {
+// Whether it is so that an empty leaf to which the link is applied, if it accepts that, is to be merged, and that it may have a
+// child merged.
+fn is_free(alloc: Global, link: &[u8], wanted: (bool, bool)) -> bool {
     let mut node = Node::default(alloc);
-    let done = applies_payload(alloc, &mut node, false, link);
-    let is_free = (node.should_merge(), node.can_merge_child());
-    let_go(node);
-    done?;
-    Ok(is_free)
+    let is_done = applies_payload(alloc, &mut node, link).is_some();
+    is_done && (node.should_merge(), node.can_merge_child()) == wanted
 }
+
+const MARKS: &[(&str, &[u8], (bool, bool))] = &[
+    ("no mark", MERGE_0, (true, true)),
+    ("a child is being merged", MERGE_5, (false, false)),
+    ("the node is being merged", CAP, (false, false)),
+];
 
 #[test]
-fn a_marked_node_stays(rt: HostRuntime) -> Result<(), Fail> {
-    for (row, link, wanted) in [
-        ("no mark", MERGE_0, (true, true)),
-        ("a child is being merged", MERGE_5, (false, false)),
-        ("the node is being merged", CAP, (false, false)),
-    ] {
-        assert!(rt; is_free(rt.alloc(), link)? == wanted, "{row}");
+fn a_marked_node_stays(rt: HostRuntime) {
+    for (row, link, wanted) in MARKS {
+        assert!(rt; is_free(rt.alloc(), link, *wanted), "{row}");
     }
-    Ok(())
 }
 
-fn rss(alloc: Global, payload: &[u8]) -> Result<u64, Error> {
-    let node = node_of(alloc, payload)?;
-    Ok(node.rss())
+fn has_size(alloc: Global, payload: &[u8], size: u64) -> bool {
+    match node_of(alloc, payload) {
+        Some(node) => node.rss() == size,
+        None => false,
+    }
 }
 
 fn empty_rss(alloc: Global) -> u64 {
@@ -70,7 +68,7 @@ fn empty_rss(alloc: Global) -> u64 {
 }
 
 #[test]
-fn stored_keys_and_items_count(rt: HostRuntime) -> Result<(), Fail> {
+fn stored_keys_and_items_count(rt: HostRuntime) {
     for (row, payload, size) in [
         (
             "a leaf from \"ba\" up to \"bz\" with a pair",
@@ -84,8 +82,7 @@ fn stored_keys_and_items_count(rt: HostRuntime) -> Result<(), Fail> {
             158,
         ),
     ] {
-        assert!(rt; rss(rt.alloc(), payload)? == size, "{row}");
+        assert!(rt; has_size(rt.alloc(), payload, size), "{row}");
     }
     assert!(rt; empty_rss(rt.alloc()) == 0);
-    Ok(())
 }

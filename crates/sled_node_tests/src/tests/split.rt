@@ -17,45 +17,56 @@ fn expanded(alloc: Global, text: &[u8]) -> Result<Vec<u8>, AllocError> {
     Ok(payload)
 }
 
-fn node_in(alloc: Global, text: &[u8]) -> Result<Node, Error> {
-    let payload = expanded(alloc, text)?;
-    node_of(alloc, &payload)
+fn node_in(alloc: Global, text: &[u8]) -> Option<Node> {
+    match expanded(alloc, text) {
+        Ok(payload) => node_of(alloc, &payload),
+        Err(_) => None,
+    }
 }
 
-fn is_in(alloc: Global, node: &Node, text: &[u8]) -> Result<bool, Error> {
-    let payload = expanded(alloc, text)?;
-    is_read(alloc, &payload, node)
+fn is_in(alloc: Global, node: &Node, text: &[u8]) -> bool {
+    match expanded(alloc, text) {
+        Ok(payload) => is_read(alloc, &payload, node),
+        Err(_) => false,
+    }
 }
 
 // Whether the left node takes in the right one, and is then the node of the text.
-fn merges(alloc: Global, left: &Node, right: &Node, text: &[u8]) -> Result<bool, Error> {
+fn merges(alloc: Global, left: &Node, right: &Node, text: &[u8]) -> bool {
     if !left.can_receive(right) {
-        return Ok(false);
+        return false;
     }
-    let merged = left.receive_merge(right)?;
-    is_in(alloc, &merged, text)
+    match left.receive_merge(right) {
+        Ok(merged) => is_in(alloc, &merged, text),
+        Err(_) => false,
+    }
 }
 
 // Whether the parts are the nodes of the texts, and the two merged again that of the last.
-fn are_parts(alloc: Global, left: &Node, right: &Node, texts: [&[u8]; 3]) -> Result<bool, Error> {
-    let split = is_in(alloc, left, texts[0])? && is_in(alloc, right, texts[1])?;
-    Ok(split && merges(alloc, left, right, texts[2])?)
+fn are_parts(alloc: Global, left: &Node, right: &Node, texts: [&[u8]; 3]) -> bool {
+    is_in(alloc, left, texts[0])
+        && is_in(alloc, right, texts[1])
+        && merges(alloc, left, right, texts[2])
 }
 
 // Whether the node of the text splits into the nodes of the next two, and these are merged again into that of the last.
-fn splits(alloc: Global, whole: &[u8], texts: [&[u8]; 3]) -> Result<bool, Error> {
-    let node = node_in(alloc, whole)?;
+fn splits(alloc: Global, whole: &[u8], texts: [&[u8]; 3]) -> bool {
+    let Some(node) = node_in(alloc, whole) else {
+        return false;
+    };
     if node.len() < 3 {
-        return Ok(false);
+        return false;
     }
-    let (left, right) = node.split()?;
-    are_parts(alloc, &left, &right, texts)
+    match node.split() {
+        Ok((left, right)) => are_parts(alloc, &left, &right, texts),
+        Err(_) => false,
+    }
 }
 
 // The prefix lengths of parts and of a merged node are those of their bounds, also where that of the whole is less: then the node
 // that is merged again is another one.
 #[test]
-fn nodes_split_and_merge(rt: HostRuntime) -> Result<(), Fail> {
+fn nodes_split_and_merge(rt: HostRuntime) {
     for (row, whole, left, right, merged) in [
         (
             "a leaf without an end",
@@ -136,21 +147,23 @@ fn nodes_split_and_merge(rt: HostRuntime) -> Result<(), Fail> {
         ),
     ] {
         let texts = [left, right, merged.unwrap_or(whole)];
-        assert!(rt; splits(rt.alloc(), whole, texts)?, "{row}");
+        assert!(rt; splits(rt.alloc(), whole, texts), "{row}");
     }
-    Ok(())
 }
 
-fn takes_in(alloc: Global, left: &Node, right: &[u8]) -> Result<bool, Error> {
-    let right = node_of(alloc, right)?;
-    Ok(left.can_receive(&right))
+fn takes_in(alloc: Global, left: &Node, right: &[u8], is_so: bool) -> bool {
+    match node_of(alloc, right) {
+        Some(right) => left.can_receive(&right) == is_so,
+        None => false,
+    }
 }
 
-fn receives(alloc: Global, left: &[u8], right: &[u8]) -> Result<bool, Error> {
-    let left = node_of(alloc, left)?;
-    let done = takes_in(alloc, &left, right);
-    let_go(left);
-    done
+// Whether the left node may take in the right one, or may not.
+fn receives(alloc: Global, left: &[u8], right: &[u8], is_so: bool) -> bool {
+    match node_of(alloc, left) {
+        Some(left) => takes_in(alloc, &left, right, is_so),
+        None => false,
+    }
 }
 
 const BELOW_M: &[u8] = b"\0\0\0\0\0\x01m\0\0";
@@ -161,17 +174,18 @@ const INDEX_FROM_M: &[u8] = b"\0\0\0\0\x01m\0\x01\0";
 
 const ALL: &[u8] = b"\0\0\0\0\0\0\0\0";
 
+const NEIGHBOURS: &[(&str, &[u8], &[u8], bool)] = &[
+    ("neighbours", BELOW_M, FROM_M, true),
+    ("the wrong way round", FROM_M, BELOW_M, false),
+    ("a node itself", BELOW_M, BELOW_M, false),
+    ("a leaf and an index", BELOW_M, INDEX_FROM_M, false),
+    // The empty end of a node is none, and not the empty key at which another begins.
+    ("a node without an end", ALL, ALL, false),
+];
+
 #[test]
-fn neighbours_meet_and_are_of_one_kind(rt: HostRuntime) -> Result<(), Fail> {
-    for (row, left, right, is_so) in [
-        ("neighbours", BELOW_M, FROM_M, true),
-        ("the wrong way round", FROM_M, BELOW_M, false),
-        ("a node itself", BELOW_M, BELOW_M, false),
-        ("a leaf and an index", BELOW_M, INDEX_FROM_M, false),
-        // The empty end of a node is none, and not the empty key at which another begins.
-        ("a node without an end", ALL, ALL, false),
-    ] {
-        assert!(rt; receives(rt.alloc(), left, right)? == is_so, "{row}");
+fn neighbours_meet_and_are_of_one_kind(rt: HostRuntime) {
+    for (row, left, right, is_so) in NEIGHBOURS {
+        assert!(rt; receives(rt.alloc(), left, right, *is_so), "{row}");
     }
-    Ok(())
 }
