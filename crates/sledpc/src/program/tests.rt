@@ -5,7 +5,6 @@ use super::*;
 use std::alloc::AllocError;
 use std::io;
 use std::io::ErrorKind;
-use std::test::Fail;
 
 const TOLD_USAGE: &[u8] = b"usage: sledpc mem | file PATH | crew N M\n";
 
@@ -47,18 +46,19 @@ fn ends_so<R: Read, W: Write>(
     output: &mut W,
     status: u8,
     fault: &str,
-) -> Result<bool, AllocError> {
-    let words = texts(alloc, &["mem"])?;
+) -> bool {
+    let Ok(words) = texts(alloc, &["mem"]) else {
+        return false;
+    };
     let mut faults = Vec::new(alloc);
     let ended = drive(alloc, Some(words.as_slice()), input, output, &mut faults);
-    Ok(ended == status && faults.as_slice() == fault.as_bytes())
+    ended == status && faults.as_slice() == fault.as_bytes()
 }
 
 // Whether the program answers a script so, ends with status 0 and reports no fault.
-fn replies(alloc: Global, mut script: &[u8], want: &str) -> Result<bool, AllocError> {
+fn replies(alloc: Global, mut script: &[u8], want: &[u8]) -> bool {
     let mut output = Vec::new(alloc);
-    let is_done = ends_so(alloc, &mut script, &mut output, 0, "")?;
-    Ok(is_done && output.as_slice() == want.as_bytes())
+    ends_so(alloc, &mut script, &mut output, 0, "") && output.as_slice() == want
 }
 
 /// A script, and what it is to be replied to.
@@ -76,10 +76,8 @@ fn new_script(alloc: Global) -> Script {
 }
 
 // Whether the script is replied to so.
-fn is_replied(alloc: Global, script: &Script) -> Result<bool, AllocError> {
-    let mut output = Vec::new(alloc);
-    let is_done = ends_so(alloc, &mut script.asked.as_slice(), &mut output, 0, "")?;
-    Ok(is_done && output.as_slice() == script.wanted.as_slice())
+fn is_replied(alloc: Global, script: &Script) -> bool {
+    replies(alloc, &script.asked, &script.wanted)
 }
 
 // Puts a line that sets a value of so many digits behind the text, and one behind it.
@@ -93,10 +91,9 @@ fn put_long(text: &mut Vec<u8>, digits: usize) -> Result<(), AllocError> {
 }
 
 // Whether a script whose first line has so many digits of a value is answered so.
-fn replies_to_long(alloc: Global, digits: usize, want: &str) -> Result<bool, AllocError> {
+fn replies_to_long(alloc: Global, digits: usize, want: &str) -> bool {
     let mut script = Vec::new(alloc);
-    put_long(&mut script, digits)?;
-    replies(alloc, &script, want)
+    put_long(&mut script, digits).is_ok() && replies(alloc, &script, want.as_bytes())
 }
 
 // Puts the word of a byte string of so many bytes behind the text.
@@ -126,30 +123,30 @@ fn put_pair(
     Ok(())
 }
 
+// Puts a pair whose key and value have so many bytes behind the script.
+fn put_pair_lines(script: &mut Script, pair: (usize, usize)) -> Result<(), AllocError> {
+    put_pair(&mut script.asked, b"alloc ", pair, b"\nget 2\n")?;
+    put_pair(&mut script.wanted, b"page 2 1\nleaf 1 ", pair, b"\n")
+}
+
 // Whether a pair whose key and value have so many bytes is replied as it was encoded.
-fn returns_pair(alloc: Global, key: usize, value: usize) -> Result<bool, AllocError> {
+fn returns_pair(alloc: Global, key: usize, value: usize) -> bool {
     let mut script = new_script(alloc);
-    let Script { asked, wanted } = &mut script;
-    put_pair(asked, b"alloc ", (key, value), b"\nget 2\n")?;
-    put_pair(wanted, b"page 2 1\nleaf 1 ", (key, value), b"\n")?;
-    is_replied(alloc, &script)
+    put_pair_lines(&mut script, (key, value)).is_ok() && is_replied(alloc, &script)
 }
 
 // Whether these words, or such as are no text, are reported as wrong, and no stream is touched.
-fn are_wrong(alloc: Global, words: Option<&[&str]>) -> Result<bool, AllocError> {
-    let words = match words {
-        Some(words) => Some(texts(alloc, words)?),
-        None => None,
-    };
+fn are_wrong(alloc: Global, words: Option<&[String]>) -> bool {
     let mut faults = Vec::new(alloc);
-    let status = drive(
-        alloc,
-        words.as_ref().map(|words| words.as_slice()),
-        &mut Broken,
-        &mut Broken,
-        &mut faults,
-    );
-    Ok(status == 2 && faults.as_slice() == TOLD_USAGE)
+    let status = drive(alloc, words, &mut Broken, &mut Broken, &mut faults);
+    status == 2 && faults.as_slice() == TOLD_USAGE
+}
+
+fn are_wrong_words(alloc: Global, words: &[&str]) -> bool {
+    match texts(alloc, words) {
+        Ok(words) => are_wrong(alloc, Some(words.as_slice())),
+        Err(_) => false,
+    }
 }
 
 fn answers_unreported(alloc: Global) -> bool {
@@ -158,210 +155,211 @@ fn answers_unreported(alloc: Global) -> bool {
     drive(alloc, None, &mut input, &mut output, &mut Broken) == 2
 }
 
+/// Scripts, and what each is replied to.
+const REPLIES: &[(&str, &str)] = &[
+    ("", ""),
+    (
+        "alloc\nset 2 1 62 76\nget 2\nset 2 1 63 77\nflush\n",
+        "page 2 1\nok 2\nleaf 2 62=76\nstale 2\nflushed 47\n",
+    ),
+    ("\n", "error line\n"),
+    ("alloc\nget 2", "page 2 1\nleaf 1\n"),
+    (
+        "alloc\nalloc -=-\nget 3\n",
+        "page 2 1\npage 3 1\nleaf 1 -=-\n",
+    ),
+    (
+        "alloc 61=62 63=-\nget 2\nset 2 1 62 ff00\nget 2\nset 2 2 61 -\nget 2\n",
+        "page 2 1\nleaf 1 61=62 63=-\nok 2\nleaf 2 61=62 62=ff00 63=-\nok 3\nleaf 3 61=- 62=ff00 63=-\n",
+    ),
+    (
+        "get 0\nget 1\nget 18446744073709550949\nset 0 0 61 62\nset 1 1 61 62\n",
+        "error unsupported 1\nerror unsupported 1\nerror unsupported 1\nerror unsupported 1\nerror unsupported 1\n",
+    ),
+    (
+        "get 9\nget 18446744073709551615\nset 9 1 61 62\nset 18446744073709551615 1 61 62\n",
+        "none\nnone\ngone\ngone\n",
+    ),
+    (
+        "alloc\nset 2 0 61 62\nset 2 2 61 62\nset 2 18446744073709551615 61 62\nget 2\n",
+        "page 2 1\nstale 1\nstale 1\nstale 1\nleaf 1\n",
+    ),
+    (
+        "alloc 62=76 61=77\nalloc 61=76 61=77\nalloc \nalloc  61=62\nalloc 61=62 \nget 2\n",
+        "error line\nerror line\nerror line\nerror line\nerror line\nnone\n",
+    ),
+    (
+        "get 18446744073709551616\nget 02\nget +2\nget\nget 2 3\nGET 2\nget 2\r\n",
+        "error line\nerror line\nerror line\nerror line\nerror line\nerror line\nerror line\n",
+    ),
+    (
+        "alloc\nset 2 1 6 62\nset 2 1 61 6G\nset 2 1 61 6A\nset 2 1 61\nset 2 1 61 62 63\nset  2 1 61 62\nget 2\n",
+        "page 2 1\nerror line\nerror line\nerror line\nerror line\nerror line\nerror line\nleaf 1\n",
+    ),
+    ("gc\namp\n", "error line\nerror line\n"),
+    (
+        "pin\nalloc 61=62\nflush\npin\nseal\nseal\nget 0\n",
+        "ok\npage 2 1\nerror unsupported 8\nerror unsupported 8\nok\nerror line\nerror unsupported 1\n",
+    ),
+    (
+        "seal\ncancel\npin\ncancel\ncancel\npin\nseal\nseal\npin\npin\nseal\nflush\nsize\n",
+        "error line\nerror line\nok\nok\nerror line\nok\nok\nerror line\nok\nerror unsupported 8\nok\nflushed 0\nsize 35\n",
+    ),
+    (
+        "pin \npin 1\nPIN\npins\npi\nseal \nseal 1\nsealed\ncancel \ncancels\npin\nseal \nseal\n",
+        "error line\nerror line\nerror line\nerror line\nerror line\nerror line\nerror line\nerror line\nerror line\nerror line\nok\nerror line\nok\n",
+    ),
+    // Each command inside a batch.
+    (
+        "pin\nalloc 61=62\nset 2 1 63 64\ndel 2 2 61\nget 2\nreplace 2 3\nget 2\nfree 2 4\nopen 74\nroot 74\ncas 74 3 -\nid\nsize\nx\ncancel\nget 3\nflush\n",
+        "ok\npage 2 1\nok 2\nok 3\nleaf 3 63=64\nok 4\nleaf 4\nok 5\npage 3\npage 3\nok\nid 0\nsize 237\nerror line\nok\nindex 1 -=2\nflushed 202\n",
+    ),
+    // The eleventh id needs a new counter.
+    (
+        "id\nid\nid\nid\nid\nid\nid\nid\nid\npin\nid\nid\nid\nseal\nid\n",
+        "id 0\nid 1\nid 2\nid 3\nid 4\nid 5\nid 6\nid 7\nid 8\nok\nid 9\nerror unsupported 8\nerror unsupported 8\nok\nid 10\n",
+    ),
+    // The input ends inside a batch, behind a line of it and behind the one that opens it.
+    ("pin\nalloc\nget 2", "ok\npage 2 1\nleaf 1\n"),
+    ("pin", "ok\n"),
+    (
+        "pin\nseal\npin\nalloc\ncancel\npin\nflush",
+        "ok\nok\nok\npage 2 1\nok\nok\nerror unsupported 8\n",
+    ),
+    (
+        "open 74\nget 3\nroot 74\ncas 74 2 -\ncas 74 3 -\nroot 74\nset 3 1 61 62\n",
+        "page 3\nindex 1 -=2\npage 3\nis 3\nok\nnone\nerror bug 3\n",
+    ),
+    (
+        "open -\nopen 74\nopen -\nroot -\nget 2\nget 5\nopen 74\nsize\n",
+        "page 3\npage 5\npage 3\npage 3\nleaf 1\nindex 1 -=4\npage 5\nsize 180\n",
+    ),
+    (
+        "cas 74 - 9\nopen 74\nalloc\nalloc\nfree 2 1\nfree 3 1\nopen 75\nget 2\nget 3\n",
+        "ok\npage 9\npage 2 1\npage 3 1\nok 2\nok 2\npage 2\nindex 3 -=3\nleaf 3\n",
+    ),
+    (
+        "open\nopen \nopen 7\nopen 7G\nopen 74 75\nopen  74\nOPEN 74\nopened 74\nope 74\nsize\n",
+        "error line\nerror line\nerror line\nerror line\nerror line\nerror line\nerror line\nerror line\nerror line\nsize 35\n",
+    ),
+    (
+        "root 74\ncas 74 - 3\nroot 74\ncas 74 2 -\ncas 74 3 -\nroot 74\nsize\n",
+        "none\nok\npage 3\nis 3\nok\nnone\nsize 72\n",
+    ),
+    (
+        "cas - - 0\nroot -\ncas - - -\ncas 61 2 3\ncas - 0 18446744073709551615\nroot -\ncas 61 - -\nsize\n",
+        "ok\npage 0\nis 0\nis -\nok\npage 18446744073709551615\nok\nsize 108\n",
+    ),
+    (
+        "root\nroot 7\nroot 74 74\ncas\ncas 74\ncas 74 2\ncas 74 2 3 4\ncas 7 - -\ncas 74 -- 2\ncas 74 02 2\ncas 74 - 18446744073709551616\nsize\n",
+        "error line\nerror line\nerror line\nerror line\nerror line\nerror line\nerror line\nerror line\nerror line\nerror line\nerror line\nsize 35\n",
+    ),
+    (
+        "id\nid 1\nid \nID\nids\nid\nsize\nid",
+        "id 0\nerror line\nerror line\nerror line\nerror line\nid 1\nsize 35\nid 2\n",
+    ),
+    // The eleventh id makes all durable that is pending.
+    (
+        "id\nid\nid\nid\nid\nid\nid\nid\nid\nalloc\nid\nsize\nid\nsize\nflush\n",
+        "id 0\nid 1\nid 2\nid 3\nid 4\nid 5\nid 6\nid 7\nid 8\npage 2 1\nid 9\nsize 60\nid 10\nsize 78\nflushed 0\n",
+    ),
+    (
+        "alloc\nfree 2 1\nget 2\nset 2 2 61 62\nalloc\n",
+        "page 2 1\nok 2\nnone\ngone\npage 2 3\n",
+    ),
+    (
+        "alloc\nfree 2 2\nfree 0 1\nfree 9 1\nfree 2\nfree 2 1 \nfree 2 1\nfree 2 2\nreplace 2 2\nsize\n",
+        "page 2 1\nstale 1\nerror unsupported 1\ngone\nerror line\nerror line\nok 2\ngone\ngone\nsize 77\n",
+    ),
+    (
+        "size\nalloc\nset 2 1 62 76\nsize\nflush\nflush\nsize\n",
+        "size 35\npage 2 1\nok 2\nsize 82\nflushed 47\nflushed 0\nsize 82\n",
+    ),
+    (
+        "flush \nflush 1\nFLUSH\nflushed\nsize \nsize 1\nsizes\n",
+        "error line\nerror line\nerror line\nerror line\nerror line\nerror line\nerror line\n",
+    ),
+    (
+        "alloc 61=62\nreplace 2 1 63=64\nget 2\ndel 2 2 63\nget 2\nget 9\nset 9 1 61 62\nget 0\nalloc 62=76 61=77\n",
+        "page 2 1\nok 2\nleaf 2 63=64\nok 3\nleaf 3\nnone\ngone\nerror unsupported 1\nerror line\n",
+    ),
+    (
+        "alloc 61=62\nreplace 2 1\nget 2\nreplace 2 1 63=64\ndel 2 1 61\nreplace 9 1\ndel 9 1 61\nreplace 0 0\ndel 0 0 61\n",
+        "page 2 1\nok 2\nleaf 2\nstale 2\nstale 2\ngone\ngone\nerror unsupported 1\nerror unsupported 1\n",
+    ),
+    (
+        "alloc\nreplace 2 1 \nreplace 2\nreplace 2 1 62=76 61=77\ndel 2 1\ndel 2 1 6\ndel 2 1 61 62\nget 2\n",
+        "page 2 1\nerror line\nerror line\nerror line\nerror line\nerror line\nerror line\nleaf 1\n",
+    ),
+];
+
 #[test]
-fn replies_to_lines(rt: HostRuntime) -> Result<(), Fail> {
-    for (script, want) in [
-        ("", ""),
-        (
-            "alloc\nset 2 1 62 76\nget 2\nset 2 1 63 77\nflush\n",
-            "page 2 1\nok 2\nleaf 2 62=76\nstale 2\nflushed 47\n",
-        ),
-        ("\n", "error line\n"),
-        ("alloc\nget 2", "page 2 1\nleaf 1\n"),
-        (
-            "alloc\nalloc -=-\nget 3\n",
-            "page 2 1\npage 3 1\nleaf 1 -=-\n",
-        ),
-        (
-            "alloc 61=62 63=-\nget 2\nset 2 1 62 ff00\nget 2\nset 2 2 61 -\nget 2\n",
-            "page 2 1\nleaf 1 61=62 63=-\nok 2\nleaf 2 61=62 62=ff00 63=-\nok 3\nleaf 3 61=- 62=ff00 63=-\n",
-        ),
-        (
-            "get 0\nget 1\nget 18446744073709550949\nset 0 0 61 62\nset 1 1 61 62\n",
-            "error unsupported 1\nerror unsupported 1\nerror unsupported 1\nerror unsupported 1\nerror unsupported 1\n",
-        ),
-        (
-            "get 9\nget 18446744073709551615\nset 9 1 61 62\nset 18446744073709551615 1 61 62\n",
-            "none\nnone\ngone\ngone\n",
-        ),
-        (
-            "alloc\nset 2 0 61 62\nset 2 2 61 62\nset 2 18446744073709551615 61 62\nget 2\n",
-            "page 2 1\nstale 1\nstale 1\nstale 1\nleaf 1\n",
-        ),
-        (
-            "alloc 62=76 61=77\nalloc 61=76 61=77\nalloc \nalloc  61=62\nalloc 61=62 \nget 2\n",
-            "error line\nerror line\nerror line\nerror line\nerror line\nnone\n",
-        ),
-        (
-            "get 18446744073709551616\nget 02\nget +2\nget\nget 2 3\nGET 2\nget 2\r\n",
-            "error line\nerror line\nerror line\nerror line\nerror line\nerror line\nerror line\n",
-        ),
-        (
-            "alloc\nset 2 1 6 62\nset 2 1 61 6G\nset 2 1 61 6A\nset 2 1 61\nset 2 1 61 62 63\nset  2 1 61 62\nget 2\n",
-            "page 2 1\nerror line\nerror line\nerror line\nerror line\nerror line\nerror line\nleaf 1\n",
-        ),
-        ("gc\namp\n", "error line\nerror line\n"),
-        (
-            "pin\nalloc 61=62\nflush\npin\nseal\nseal\nget 0\n",
-            "ok\npage 2 1\nerror unsupported 8\nerror unsupported 8\nok\nerror line\nerror unsupported 1\n",
-        ),
-        (
-            "seal\ncancel\npin\ncancel\ncancel\npin\nseal\nseal\npin\npin\nseal\nflush\nsize\n",
-            "error line\nerror line\nok\nok\nerror line\nok\nok\nerror line\nok\nerror unsupported 8\nok\nflushed 0\nsize 35\n",
-        ),
-        (
-            "pin \npin 1\nPIN\npins\npi\nseal \nseal 1\nsealed\ncancel \ncancels\npin\nseal \nseal\n",
-            "error line\nerror line\nerror line\nerror line\nerror line\nerror line\nerror line\nerror line\nerror line\nerror line\nok\nerror line\nok\n",
-        ),
-        // Each command inside a batch.
-        (
-            "pin\nalloc 61=62\nset 2 1 63 64\ndel 2 2 61\nget 2\nreplace 2 3\nget 2\nfree 2 4\nopen 74\nroot 74\ncas 74 3 -\nid\nsize\nx\ncancel\nget 3\nflush\n",
-            "ok\npage 2 1\nok 2\nok 3\nleaf 3 63=64\nok 4\nleaf 4\nok 5\npage 3\npage 3\nok\nid 0\nsize 237\nerror line\nok\nindex 1 -=2\nflushed 202\n",
-        ),
-        // The eleventh id needs a new counter.
-        (
-            "id\nid\nid\nid\nid\nid\nid\nid\nid\npin\nid\nid\nid\nseal\nid\n",
-            "id 0\nid 1\nid 2\nid 3\nid 4\nid 5\nid 6\nid 7\nid 8\nok\nid 9\nerror unsupported 8\nerror unsupported 8\nok\nid 10\n",
-        ),
-        // The input ends inside a batch, behind a line of it and behind the one that opens it.
-        ("pin\nalloc\nget 2", "ok\npage 2 1\nleaf 1\n"),
-        ("pin", "ok\n"),
-        (
-            "pin\nseal\npin\nalloc\ncancel\npin\nflush",
-            "ok\nok\nok\npage 2 1\nok\nok\nerror unsupported 8\n",
-        ),
-        (
-            "open 74\nget 3\nroot 74\ncas 74 2 -\ncas 74 3 -\nroot 74\nset 3 1 61 62\n",
-            "page 3\nindex 1 -=2\npage 3\nis 3\nok\nnone\nerror bug 3\n",
-        ),
-        (
-            "open -\nopen 74\nopen -\nroot -\nget 2\nget 5\nopen 74\nsize\n",
-            "page 3\npage 5\npage 3\npage 3\nleaf 1\nindex 1 -=4\npage 5\nsize 180\n",
-        ),
-        (
-            "cas 74 - 9\nopen 74\nalloc\nalloc\nfree 2 1\nfree 3 1\nopen 75\nget 2\nget 3\n",
-            "ok\npage 9\npage 2 1\npage 3 1\nok 2\nok 2\npage 2\nindex 3 -=3\nleaf 3\n",
-        ),
-        (
-            "open\nopen \nopen 7\nopen 7G\nopen 74 75\nopen  74\nOPEN 74\nopened 74\nope 74\nsize\n",
-            "error line\nerror line\nerror line\nerror line\nerror line\nerror line\nerror line\nerror line\nerror line\nsize 35\n",
-        ),
-        (
-            "root 74\ncas 74 - 3\nroot 74\ncas 74 2 -\ncas 74 3 -\nroot 74\nsize\n",
-            "none\nok\npage 3\nis 3\nok\nnone\nsize 72\n",
-        ),
-        (
-            "cas - - 0\nroot -\ncas - - -\ncas 61 2 3\ncas - 0 18446744073709551615\nroot -\ncas 61 - -\nsize\n",
-            "ok\npage 0\nis 0\nis -\nok\npage 18446744073709551615\nok\nsize 108\n",
-        ),
-        (
-            "root\nroot 7\nroot 74 74\ncas\ncas 74\ncas 74 2\ncas 74 2 3 4\ncas 7 - -\ncas 74 -- 2\ncas 74 02 2\ncas 74 - 18446744073709551616\nsize\n",
-            "error line\nerror line\nerror line\nerror line\nerror line\nerror line\nerror line\nerror line\nerror line\nerror line\nerror line\nsize 35\n",
-        ),
-        (
-            "id\nid 1\nid \nID\nids\nid\nsize\nid",
-            "id 0\nerror line\nerror line\nerror line\nerror line\nid 1\nsize 35\nid 2\n",
-        ),
-        // The eleventh id makes all durable that is pending.
-        (
-            "id\nid\nid\nid\nid\nid\nid\nid\nid\nalloc\nid\nsize\nid\nsize\nflush\n",
-            "id 0\nid 1\nid 2\nid 3\nid 4\nid 5\nid 6\nid 7\nid 8\npage 2 1\nid 9\nsize 60\nid 10\nsize 78\nflushed 0\n",
-        ),
-        (
-            "alloc\nfree 2 1\nget 2\nset 2 2 61 62\nalloc\n",
-            "page 2 1\nok 2\nnone\ngone\npage 2 3\n",
-        ),
-        (
-            "alloc\nfree 2 2\nfree 0 1\nfree 9 1\nfree 2\nfree 2 1 \nfree 2 1\nfree 2 2\nreplace 2 2\nsize\n",
-            "page 2 1\nstale 1\nerror unsupported 1\ngone\nerror line\nerror line\nok 2\ngone\ngone\nsize 77\n",
-        ),
-        (
-            "size\nalloc\nset 2 1 62 76\nsize\nflush\nflush\nsize\n",
-            "size 35\npage 2 1\nok 2\nsize 82\nflushed 47\nflushed 0\nsize 82\n",
-        ),
-        (
-            "flush \nflush 1\nFLUSH\nflushed\nsize \nsize 1\nsizes\n",
-            "error line\nerror line\nerror line\nerror line\nerror line\nerror line\nerror line\n",
-        ),
-        (
-            "alloc 61=62\nreplace 2 1 63=64\nget 2\ndel 2 2 63\nget 2\nget 9\nset 9 1 61 62\nget 0\nalloc 62=76 61=77\n",
-            "page 2 1\nok 2\nleaf 2 63=64\nok 3\nleaf 3\nnone\ngone\nerror unsupported 1\nerror line\n",
-        ),
-        (
-            "alloc 61=62\nreplace 2 1\nget 2\nreplace 2 1 63=64\ndel 2 1 61\nreplace 9 1\ndel 9 1 61\nreplace 0 0\ndel 0 0 61\n",
-            "page 2 1\nok 2\nleaf 2\nstale 2\nstale 2\ngone\ngone\nerror unsupported 1\nerror unsupported 1\n",
-        ),
-        (
-            "alloc\nreplace 2 1 \nreplace 2\nreplace 2 1 62=76 61=77\ndel 2 1\ndel 2 1 6\ndel 2 1 61 62\nget 2\n",
-            "page 2 1\nerror line\nerror line\nerror line\nerror line\nerror line\nerror line\nleaf 1\n",
-        ),
-    ] {
+fn replies_to_lines(rt: HostRuntime) {
+    for (script, want) in REPLIES {
         assert!(rt;
-            replies(rt.alloc(), script.as_bytes(), want)?,
+            replies(rt.alloc(), script.as_bytes(), want.as_bytes()),
             "at {script}"
         );
     }
-    Ok(())
 }
 
+/// Lengths of a key or a value, beside one byte.
+const LENGTHS: &[usize] = &[0, 1, 21, 22, 23, 24, 25, 30, 31, 79, 80, 81, 160, 161, 200];
+
+/// Lengths of a key and a value: entries at the room of a piece.
+const ENTRIES: &[(usize, usize)] = &[
+    (0, 0),
+    (77, 1),
+    (78, 0),
+    (0, 78),
+    (39, 39),
+    (78, 1),
+    (79, 0),
+    (0, 79),
+    (40, 39),
+    (80, 80),
+    (200, 200),
+];
+
 #[test]
-fn pairs_of_any_size_are_replied_as_they_were_encoded(rt: HostRuntime) -> Result<(), Fail> {
-    for count in [0, 1, 21, 22, 23, 24, 25, 30, 31, 79, 80, 81, 160, 161, 200] {
+fn pairs_of_any_size_are_replied_as_they_were_encoded(rt: HostRuntime) {
+    for count in LENGTHS {
         assert!(rt;
-            returns_pair(rt.alloc(), count, 1)?,
-            "with a key of {count} bytes"
-        );
-        assert!(rt;
-            returns_pair(rt.alloc(), 1, count)?,
-            "with a value of {count} bytes"
+            returns_pair(rt.alloc(), *count, 1) && returns_pair(rt.alloc(), 1, *count),
+            "with a key or a value of {count} bytes"
         );
     }
-    // Entries at the room of a piece.
-    for (key, value) in [
-        (0, 0),
-        (77, 1),
-        (78, 0),
-        (0, 78),
-        (39, 39),
-        (78, 1),
-        (79, 0),
-        (0, 79),
-        (40, 39),
-        (80, 80),
-        (200, 200),
-    ] {
+    for (key, value) in ENTRIES {
         assert!(rt;
-            returns_pair(rt.alloc(), key, value)?,
+            returns_pair(rt.alloc(), *key, *value),
             "with {key} and {value} bytes"
         );
     }
-    Ok(())
 }
 
 #[test]
-fn a_line_of_65536_bytes_is_read_and_a_longer_one_is_not(rt: HostRuntime) -> Result<(), Fail> {
+fn a_line_of_65536_bytes_is_read_and_a_longer_one_is_not(rt: HostRuntime) {
     for (digits, want) in [(65_524, "gone\nnone\n"), (65_526, "error line\nnone\n")] {
         assert!(rt;
-            replies_to_long(rt.alloc(), digits, want)?,
+            replies_to_long(rt.alloc(), digits, want),
             "with {digits} digits"
         );
     }
-    Ok(())
 }
 
+const WRONG: &[&[&str]] = &[
+    &[],
+    &["memory"],
+    &["mem", "x"],
+    &["file", "path"],
+    &["crew", "1", "0"],
+];
+
 #[test]
-fn wrong_words_are_reported_and_touch_no_stream(rt: HostRuntime) -> Result<(), Fail> {
-    assert!(rt; are_wrong(rt.alloc(), None)?);
+fn wrong_words_are_reported_and_touch_no_stream(rt: HostRuntime) {
+    assert!(rt; are_wrong(rt.alloc(), None));
     assert!(rt; answers_unreported(rt.alloc()));
-    let wrong: [&[&str]; 5] = [
-        &[],
-        &["memory"],
-        &["mem", "x"],
-        &["file", "path"],
-        &["crew", "1", "0"],
-    ];
-    for words in wrong {
-        assert!(rt; are_wrong(rt.alloc(), Some(words))?);
+    for words in WRONG {
+        assert!(rt; are_wrong_words(rt.alloc(), words));
     }
-    Ok(())
 }

@@ -46,15 +46,14 @@ fn put_numbered(
     lines: Lines,
     (pairs, value): (&[u8], &str),
     number: u64,
-) -> Result<(), Fail> {
+) -> Result<(), AllocError> {
     let number = format!(in alloc; "{number}")?;
     let signs = Signs {
         pairs,
         value: value.as_bytes(),
         number: number.as_bytes(),
     };
-    put_lines(script, lines, signs)?;
-    Ok(())
+    put_lines(script, lines, signs)
 }
 
 // ---- leaves
@@ -97,7 +96,7 @@ const OF_PAIRS: Lines = &[
 ];
 
 // So many pairs of a key and no byte. The keys have four bytes and the tail.
-fn pair_words(alloc: Global, tail: &str, count: u32) -> Result<Vec<u8>, Fail> {
+fn pair_words(alloc: Global, tail: &str, count: u32) -> Result<Vec<u8>, AllocError> {
     let mut words = Vec::new(alloc);
     for i in 0..count {
         let word = format!(in alloc; " {i:08x}{tail}=-")?;
@@ -118,26 +117,27 @@ fn flushed(count: u32, key: u64, value: u64) -> u64 {
         .saturating_add(value)
 }
 
-fn serves_pairs(alloc: Global, tail: &str, value: &str, count: u32) -> Result<bool, Fail> {
-    let pairs = pair_words(alloc, tail, count)?;
+fn serves_pairs(alloc: Global, tail: &str, value: &str, count: u32) -> bool {
+    let Ok(pairs) = pair_words(alloc, tail, count) else {
+        return false;
+    };
     let (tail_len, value_len) = (tail.len() as u64 / 2, value.len() as u64 / 2);
     let number = flushed(count, tail_len + 4, value_len);
     let mut script = new_script(alloc);
-    put_numbered(alloc, &mut script, OF_PAIRS, (&pairs, value), number)?;
-    Ok(is_replied(alloc, &script)?)
+    put_numbered(alloc, &mut script, OF_PAIRS, (&pairs, value), number).is_ok()
+        && is_replied(alloc, &script)
 }
 
 #[test]
-fn commands_serve_at_each_number_of_pairs(rt: HostRuntime) -> Result<(), Fail> {
+fn commands_serve_at_each_number_of_pairs(rt: HostRuntime) {
     for (tail, value) in TAILS {
         for count in COUNTS {
             assert!(rt;
-                serves_pairs(rt.alloc(), tail, value, *count)?,
+                serves_pairs(rt.alloc(), tail, value, *count),
                 "{count} pairs"
             );
         }
     }
-    Ok(())
 }
 
 // ---- numbers
@@ -199,43 +199,50 @@ const OF_NO_PAGE: Lines = &[
     ("free 2289 #", "stale 1"),
 ];
 
-fn serves_numbers(alloc: Global) -> Result<bool, Fail> {
-    let mut script = new_script(alloc);
+fn put_numbers(alloc: Global, script: &mut Script) -> Result<(), AllocError> {
     for page in 2..=LAST_PAGE {
-        put_numbered(alloc, &mut script, OF_A_NEW_PAGE, NOTHING, page)?;
+        put_numbered(alloc, script, OF_A_NEW_PAGE, NOTHING, page)?;
     }
     for page in PAGES {
-        put_numbered(alloc, &mut script, OF_A_PAGE, NOTHING, *page)?;
+        put_numbered(alloc, script, OF_A_PAGE, NOTHING, *page)?;
     }
     for number in NO_PAGES {
-        put_numbered(alloc, &mut script, OF_NO_PAGE, NOTHING, *number)?;
+        put_numbered(alloc, script, OF_NO_PAGE, NOTHING, *number)?;
     }
-    Ok(is_replied(alloc, &script)?)
+    Ok(())
+}
+
+fn serves_numbers(alloc: Global) -> bool {
+    let mut script = new_script(alloc);
+    put_numbers(alloc, &mut script).is_ok() && is_replied(alloc, &script)
 }
 
 const OF_A_STAMP: Lines = &[("set 2 # 61 62", "ok +")];
 
 // Puts a link that makes the new stamp of the old one.
-fn put_stamp(alloc: Global, script: &mut Script, old: u64, new: u64) -> Result<(), Fail> {
+fn put_stamp(alloc: Global, script: &mut Script, old: u64, new: u64) -> Result<(), AllocError> {
     let new = format!(in alloc; "{new}")?;
     put_numbered(alloc, script, OF_A_STAMP, (&[], new.as_str()), old)
 }
 
-// Whether page 2 takes links up to this stamp.
-fn serves_stamps(alloc: Global, last: u64) -> Result<bool, Fail> {
-    let mut script = new_script(alloc);
-    put_numbered(alloc, &mut script, OF_A_NEW_PAGE, NOTHING, 2)?;
+fn put_stamps(alloc: Global, script: &mut Script, last: u64) -> Result<(), AllocError> {
+    put_numbered(alloc, script, OF_A_NEW_PAGE, NOTHING, 2)?;
     for stamp in 1..last {
-        put_stamp(alloc, &mut script, stamp, stamp + 1)?;
+        put_stamp(alloc, script, stamp, stamp + 1)?;
     }
-    Ok(is_replied(alloc, &script)?)
+    Ok(())
+}
+
+// Whether page 2 takes links up to this stamp.
+fn serves_stamps(alloc: Global, last: u64) -> bool {
+    let mut script = new_script(alloc);
+    put_stamps(alloc, &mut script, last).is_ok() && is_replied(alloc, &script)
 }
 
 #[test]
-fn commands_serve_at_each_length_of_their_numbers(rt: HostRuntime) -> Result<(), Fail> {
-    assert!(rt; serves_numbers(rt.alloc())?, "pages");
-    assert!(rt; serves_stamps(rt.alloc(), 2_290)?, "stamps");
-    Ok(())
+fn commands_serve_at_each_length_of_their_numbers(rt: HostRuntime) {
+    assert!(rt; serves_numbers(rt.alloc()), "pages");
+    assert!(rt; serves_stamps(rt.alloc(), 2_290), "stamps");
 }
 
 // ---- generated ids
@@ -261,19 +268,21 @@ const IDS: &[(u64, u64)] = &[
     (2_301, 4_383),
 ];
 
-fn serves_ids(alloc: Global, count: u64, bytes: u64) -> Result<bool, Fail> {
-    let mut script = new_script(alloc);
+fn put_ids(alloc: Global, script: &mut Script, count: u64, bytes: u64) -> Result<(), AllocError> {
     for id in 0..count {
-        put_numbered(alloc, &mut script, OF_AN_ID, NOTHING, id)?;
+        put_numbered(alloc, script, OF_AN_ID, NOTHING, id)?;
     }
-    put_numbered(alloc, &mut script, OF_THE_LOG, NOTHING, bytes)?;
-    Ok(is_replied(alloc, &script)?)
+    put_numbered(alloc, script, OF_THE_LOG, NOTHING, bytes)
+}
+
+fn serves_ids(alloc: Global, count: u64, bytes: u64) -> bool {
+    let mut script = new_script(alloc);
+    put_ids(alloc, &mut script, count, bytes).is_ok() && is_replied(alloc, &script)
 }
 
 #[test]
-fn ids_rise_by_one_and_each_tenth_is_logged(rt: HostRuntime) -> Result<(), Fail> {
+fn ids_rise_by_one_and_each_tenth_is_logged(rt: HostRuntime) {
     for (count, bytes) in IDS {
-        assert!(rt; serves_ids(rt.alloc(), *count, *bytes)?, "{count} ids");
+        assert!(rt; serves_ids(rt.alloc(), *count, *bytes), "{count} ids");
     }
-    Ok(())
 }

@@ -55,12 +55,7 @@ impl Write for Barred {
 
 // Whether a script is replied to so, and flushed where bars stand, by a writer with so much room. Where it has too little it
 // takes just what it has room for, and that is reported.
-fn is_taken<R: Read>(
-    alloc: Global,
-    input: &mut R,
-    room: usize,
-    want: &[u8],
-) -> Result<bool, AllocError> {
+fn is_taken<R: Read>(alloc: Global, input: &mut R, room: usize, want: &[u8]) -> bool {
     let mut output = Barred {
         got: Vec::new(alloc),
         room,
@@ -71,26 +66,22 @@ fn is_taken<R: Read>(
     } else {
         (0, "")
     };
-    let ends = ends_so(alloc, input, &mut output, status, fault)?;
-    Ok(ends && output.got.as_slice() == &want[..room.min(want.len())])
+    let ends = ends_so(alloc, input, &mut output, status, fault);
+    ends && output.got.as_slice() == &want[..room.min(want.len())]
 }
 
-// Whether a script that is given in these pieces is replied to so, and flushed where bars stand.
-fn flushes_so(alloc: Global, pieces: &[&str], want: &str) -> Result<bool, AllocError> {
+// Whether a script that is given in these pieces is replied to so, and flushed where bars stand, by a writer with so much room.
+fn flushes_so(alloc: Global, pieces: &[&str], room: usize, want: &str) -> bool {
     let mut input = Pieces {
         left: pieces,
         is_broken: false,
     };
-    is_taken(alloc, &mut input, 999, want.as_bytes())
+    is_taken(alloc, &mut input, room, want.as_bytes())
 }
 
 // Whether a script that is given in these pieces, and can't be read behind them, is replied to so, and flushed where bars
 // stand.
-fn flushes_so_before_failing(
-    alloc: Global,
-    pieces: &[&str],
-    want: &str,
-) -> Result<bool, AllocError> {
+fn flushes_so_before_failing(alloc: Global, pieces: &[&str], want: &str) -> bool {
     let mut input = Pieces {
         left: pieces,
         is_broken: true,
@@ -99,15 +90,16 @@ fn flushes_so_before_failing(
         got: Vec::new(alloc),
         room: 999,
     };
-    let ends = ends_so(alloc, &mut input, &mut output, 1, "sledpc: error read\n")?;
-    Ok(ends && output.got.as_slice() == want.as_bytes())
+    let ends = ends_so(alloc, &mut input, &mut output, 1, "sledpc: error read\n");
+    ends && output.got.as_slice() == want.as_bytes()
 }
 
 // Whether a line of so many digits and more, and those around it, are replied to so, and flushed where bars stand.
-fn flushes_around(alloc: Global, digits: usize, want: &str) -> Result<bool, AllocError> {
-    let mut script = Vec::from_slice(alloc, b"get 9\n")?;
-    put_long(&mut script, digits)?;
-    is_taken(alloc, &mut script.as_slice(), 999, want.as_bytes())
+fn flushes_around(alloc: Global, digits: usize, want: &str) -> bool {
+    let mut script = Vec::new(alloc);
+    let is_put = script.extend_from_slice(b"get 9\n").is_ok()
+        && put_long(&mut script, digits).is_ok();
+    is_put && is_taken(alloc, &mut script.as_slice(), 999, want.as_bytes())
 }
 
 /// What a large leaf is replied to, of which a writer may have room for a part.
@@ -137,107 +129,118 @@ fn put_between(text: &mut Vec<u8>, parts: &[&str]) -> Result<(), AllocError> {
     Ok(())
 }
 
-// Whether a leaf of 1,000 pairs is replied to twice and then flushed, by a writer with so much room.
-fn takes_large(alloc: Global, room: usize) -> Result<bool, AllocError> {
-    let mut script = new_script(alloc);
+// Puts the lines that make a large leaf and read it twice behind the script.
+fn put_large(script: &mut Script) -> Result<(), AllocError> {
     put_between(&mut script.asked, &["alloc", "\nget 2\nget 2\n"])?;
-    put_between(&mut script.wanted, &["page 2 1\nleaf 1", "\nleaf 1", "\n|"])?;
-    is_taken(alloc, &mut script.asked.as_slice(), room, &script.wanted)
+    put_between(&mut script.wanted, &["page 2 1\nleaf 1", "\nleaf 1", "\n|"])
 }
 
+// Whether a leaf of 1,000 pairs is replied to twice and then flushed, by a writer with so much room.
+fn takes_large(alloc: Global, room: usize) -> bool {
+    let mut script = new_script(alloc);
+    let is_put = put_large(&mut script).is_ok();
+    is_put && is_taken(alloc, &mut script.asked.as_slice(), room, &script.wanted)
+}
+
+/// Pieces of a script, and what it is replied to.
+type Flushed = &'static [(&'static [&'static str], &'static str)];
+
+const BEFORE_WAITING: Flushed = &[
+    (&["alloc\nget 2\n"], "page 2 1\nleaf 1\n|"),
+    (
+        &["alloc\n", "get 2\n", "get 3\n"],
+        "page 2 1\n|leaf 1\n|none\n|",
+    ),
+    (
+        &["alloc\nge", "t 2\nget", " 3\n"],
+        "page 2 1\n|leaf 1\n|none\n|",
+    ),
+    (&["alloc\nget 2\nget", " 3"], "page 2 1\nleaf 1\n|none\n|"),
+    (&["a", "l", "l", "o", "c", "\n"], "page 2 1\n|"),
+    (&["x"], "error line\n|"),
+    (&["\n\n", "\n"], "error line\nerror line\n|error line\n|"),
+    (&["pin\nseal\n"], "ok\nok\n|"),
+    (
+        &["pin\n", "alloc\n", "pin\n", "seal\n", "seal"],
+        "ok\n|page 2 1\n|error unsupported 8\n|ok\n|error line\n|",
+    ),
+    (
+        &["pin\nget 2\n", "cancel\nget 2"],
+        "ok\nnone\n|ok\n|none\n|",
+    ),
+    (&[], ""),
+];
+
+// A line within what is buffered at once, one beyond it, one of 65,536 bytes, and one that is too long.
+const LONG: &[(usize, &str)] = &[
+    (8_000, "none\ngone\nnone\n|"),
+    (9_000, "none\n|gone\nnone\n|"),
+    (65_524, "none\n|gone\nnone\n|"),
+    (65_526, "none\n|error line\n|none\n|"),
+];
+
 #[test]
-fn replies_go_out_before_a_read_that_may_wait(rt: HostRuntime) -> Result<(), Fail> {
-    let together: &[&str] = &["alloc\nget 2\n"];
-    for (pieces, want) in [
-        (together, "page 2 1\nleaf 1\n|"),
-        (
-            &["alloc\n", "get 2\n", "get 3\n"],
-            "page 2 1\n|leaf 1\n|none\n|",
-        ),
-        (
-            &["alloc\nge", "t 2\nget", " 3\n"],
-            "page 2 1\n|leaf 1\n|none\n|",
-        ),
-        (&["alloc\nget 2\nget", " 3"], "page 2 1\nleaf 1\n|none\n|"),
-        (&["a", "l", "l", "o", "c", "\n"], "page 2 1\n|"),
-        (&["x"], "error line\n|"),
-        (&["\n\n", "\n"], "error line\nerror line\n|error line\n|"),
-        (&["pin\nseal\n"], "ok\nok\n|"),
-        (
-            &["pin\n", "alloc\n", "pin\n", "seal\n", "seal"],
-            "ok\n|page 2 1\n|error unsupported 8\n|ok\n|error line\n|",
-        ),
-        (
-            &["pin\nget 2\n", "cancel\nget 2"],
-            "ok\nnone\n|ok\n|none\n|",
-        ),
-        (&[], ""),
-    ] {
-        assert!(rt; flushes_so(rt.alloc(), pieces, want)?, "at {want}");
+fn replies_go_out_before_a_read_that_may_wait(rt: HostRuntime) {
+    for (pieces, want) in BEFORE_WAITING {
+        assert!(rt; flushes_so(rt.alloc(), pieces, 999, want), "at {want}");
     }
-    // A line within what is buffered at once, one beyond it, one of 65,536 bytes, and one that is too long.
-    for (digits, want) in [
-        (8_000, "none\ngone\nnone\n|"),
-        (9_000, "none\n|gone\nnone\n|"),
-        (65_524, "none\n|gone\nnone\n|"),
-        (65_526, "none\n|error line\n|none\n|"),
-    ] {
+    for (digits, want) in LONG {
         assert!(rt;
-            flushes_around(rt.alloc(), digits, want)?,
+            flushes_around(rt.alloc(), *digits, want),
             "with {digits} digits"
         );
     }
-    Ok(())
 }
 
+const BEFORE_FAILING: Flushed = &[
+    (&[], ""),
+    (&["get"], ""),
+    (&["alloc\n"], "page 2 1\n|"),
+    (&["alloc\nget 2\nget"], "page 2 1\nleaf 1\n|"),
+    (&["pin\nalloc\nse"], "ok\npage 2 1\n|"),
+    (&["pin\n"], "ok\n|"),
+];
+
 #[test]
-fn replies_go_out_before_a_reader_that_fails(rt: HostRuntime) -> Result<(), Fail> {
-    let nothing: &[&str] = &[];
-    for (pieces, want) in [
-        (nothing, ""),
-        (&["get"], ""),
-        (&["alloc\n"], "page 2 1\n|"),
-        (&["alloc\nget 2\nget"], "page 2 1\nleaf 1\n|"),
-        (&["pin\nalloc\nse"], "ok\npage 2 1\n|"),
-        (&["pin\n"], "ok\n|"),
-    ] {
+fn replies_go_out_before_a_reader_that_fails(rt: HostRuntime) {
+    for (pieces, want) in BEFORE_FAILING {
         assert!(rt;
-            flushes_so_before_failing(rt.alloc(), pieces, want)?,
+            flushes_so_before_failing(rt.alloc(), pieces, want),
             "at {want}"
         );
     }
-    Ok(())
 }
 
+// What may be refused at each place below so much room.
+const REFUSED: &[(&[&str], &str, usize)] = &[
+    (
+        &["alloc\n", "get 2\n\nget", " 3"],
+        "page 2 1\n|leaf 1\nerror line\n|none\n|",
+        40,
+    ),
+    (
+        &["pin\n", "alloc\npin\nsea", "l\n", "pin\ncancel\npin"],
+        "ok\n|page 2 1\nerror unsupported 8\n|ok\n|ok\nok\n|ok\n|",
+        50,
+    ),
+];
+
+const ROOMS: &[usize] = &[0, 4_095, 4_096, 4_097, 8_191, 8_192, 8_193, 16_023, 16_024];
+
 #[test]
-fn a_writer_may_refuse_at_each_place(rt: HostRuntime) -> Result<(), Fail> {
-    let want = "page 2 1\n|leaf 1\nerror line\n|none\n|";
-    for room in 0..40 {
-        let mut input = Pieces {
-            left: &["alloc\n", "get 2\n\nget", " 3"],
-            is_broken: false,
-        };
+fn a_writer_may_refuse_at_each_place(rt: HostRuntime) {
+    for (pieces, want, end) in REFUSED {
+        for room in 0..*end {
+            assert!(rt;
+                flushes_so(rt.alloc(), pieces, room, want),
+                "with room for {room} bytes"
+            );
+        }
+    }
+    for room in ROOMS {
         assert!(rt;
-            is_taken(rt.alloc(), &mut input, room, want.as_bytes())?,
+            takes_large(rt.alloc(), *room),
             "with room for {room} bytes"
         );
     }
-    let want = "ok\n|page 2 1\nerror unsupported 8\n|ok\n|ok\nok\n|ok\n|";
-    for room in 0..50 {
-        let mut input = Pieces {
-            left: &["pin\n", "alloc\npin\nsea", "l\n", "pin\ncancel\npin"],
-            is_broken: false,
-        };
-        assert!(rt;
-            is_taken(rt.alloc(), &mut input, room, want.as_bytes())?,
-            "with room for {room} bytes"
-        );
-    }
-    for room in [0, 4_095, 4_096, 4_097, 8_191, 8_192, 8_193, 16_023, 16_024] {
-        assert!(rt;
-            takes_large(rt.alloc(), room)?,
-            "with room for {room} bytes"
-        );
-    }
-    Ok(())
 }
