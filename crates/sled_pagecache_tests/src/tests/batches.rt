@@ -92,14 +92,14 @@ fn replaced_in(alloc: Global, cache: &mut Cache) -> Option<usize> {
     }
 }
 
-// The same where a crash leaves so many of the pending events. There is none where a crash may not leave them.
-fn replaced(alloc: Global, end: End, events: u64, kept: usize) -> Result<Option<usize>, Fail> {
+// Whether so many pages are replaced where a crash leaves so many of the pending events, or that is none where a crash may not leave them.
+fn are_replaced(alloc: Global, end: End, events: u64, kept: usize, wanted: Option<usize>) -> bool {
     let Some(log) = written(alloc, end, events) else {
-        return Err("a batch that is open".into());
+        return false;
     };
     match left_by(alloc, log, kept) {
-        Some(mut cache) => Ok(replaced_in(alloc, &mut cache)),
-        None => Ok(None),
+        Some(mut cache) => replaced_in(alloc, &mut cache) == wanted,
+        None => wanted.is_none(),
     }
 }
 
@@ -127,19 +127,24 @@ fn wanted(end: End, events: usize, kept: usize) -> Option<usize> {
     }
 }
 
+// Whether a crash that keeps so many of the pending events leaves what it may of a batch that ends so.
+fn leaves_so(alloc: Global, end: End, events: u8, kept: usize) -> bool {
+    let wanted = wanted(end, usize::from(events), kept);
+    are_replaced(alloc, end, u64::from(events), kept, wanted)
+}
+
 #[test]
-fn a_crash_leaves_a_batch_whole_or_not_at_all(rt: HostRuntime) -> Result<(), Fail> {
-    let alloc = rt.alloc();
+fn a_crash_leaves_a_batch_whole_or_not_at_all(rt: HostRuntime) {
     for end in [End::Sealed, End::Flushed, End::Cancelled] {
-        for events in 0..6_u8 {
+        for events in 0..6 {
             for kept in 0..7 {
-                let found = replaced(alloc, end, u64::from(events), kept)?;
-                let wanted = wanted(end, usize::from(events), kept);
-                assert_eq!(rt; found, wanted, "{end:?} {events} {kept}");
+                assert!(rt;
+                    leaves_so(rt.alloc(), end, events, kept),
+                    "{end:?} {events} {kept}"
+                );
             }
         }
     }
-    Ok(())
 }
 
 // Whether a batch inside another is refused.

@@ -77,17 +77,20 @@ fn index(alloc: Global, shape: &Shape) -> Result<Option<Index>, AllocError> {
     Index::from_pairs(alloc, pairs)
 }
 
-fn node(alloc: Global, shape: &Shape) -> Result<Node, Fail> {
-    let contents = if shape.is_index {
-        Data::Index(index(alloc, shape)?.ok_or("ascending")?)
+fn contents(alloc: Global, shape: &Shape) -> Option<Data> {
+    if shape.is_index {
+        Some(Data::Index(index(alloc, shape).ok()??))
     } else {
-        Data::Leaf(leaf(alloc, shape)?.ok_or("ascending")?)
-    };
+        Some(Data::Leaf(leaf(alloc, shape).ok()??))
+    }
+}
+
+fn node(alloc: Global, shape: &Shape) -> Option<Node> {
     let (prefix_len, lo, hi) = shape.range;
-    let lo = IVec::from_slice(alloc, lo)?;
-    let hi = IVec::from_slice(alloc, hi)?;
-    let node = Node::from_parts(prefix_len, None, None, false, lo, hi, contents);
-    Ok(node.ok_or("well-formed")?)
+    let lo = IVec::from_slice(alloc, lo).ok()?;
+    let hi = IVec::from_slice(alloc, hi).ok()?;
+    let contents = contents(alloc, shape)?;
+    Node::from_parts(prefix_len, None, None, false, lo, hi, contents)
 }
 
 // ---- links
@@ -154,71 +157,78 @@ fn is_kept(cache: &mut Cache, pid: PageId, stamp: u32, same: &Node) -> bool {
 }
 
 // Links page 2, and the same node beside it, if that accepts the link; else the cache refuses it. The stamp behind it, if all is so.
-fn changed(
-    alloc: Global,
-    cache: &mut Cache,
-    same: &mut Node,
-    stamp: u32,
-    change: (&[u8], &Change),
-) -> Result<Option<u32>, AllocError> {
-    let beside = link_of(alloc, change.0, change.1)?;
-    let accepts = same.accepts(&beside);
-    if accepts {
-        same.apply(&beside)?;
+fn taken(cache: &mut Cache, same: &mut Node, stamp: u32, link: Link, beside: &Link) -> Option<u32> {
+    let accepts = same.accepts(beside);
+    if accepts && same.apply(beside).is_err() {
+        return None;
     }
-    let link = link_of(alloc, change.0, change.1)?;
     let next = stamp.saturating_add(u32::from(accepts));
     let wanted = if accepts {
         At(u64::from(next))
     } else {
         Unaccepted
     };
-    let is_so = links(cache, 2, u64::from(stamp), link, &beside) == wanted
+    let is_so = links(cache, 2, u64::from(stamp), link, beside) == wanted
         && is_kept(cache, 2, next, same);
-    Ok(is_so.then_some(next))
+    is_so.then_some(next)
 }
 
-// Whether page 2, at stamp 1, takes all links as the same node does.
-fn is_linked(
+fn changed(
     alloc: Global,
     cache: &mut Cache,
     same: &mut Node,
-    tail: &[u8],
-) -> Result<bool, AllocError> {
+    stamp: u32,
+    change: (&[u8], &Change),
+) -> Option<u32> {
+    match (
+        link_of(alloc, change.0, change.1),
+        link_of(alloc, change.0, change.1),
+    ) {
+        (Ok(link), Ok(beside)) => taken(cache, same, stamp, link, &beside),
+        _ => None,
+    }
+}
+
+// Whether page 2, at stamp 1, takes all links as the same node does.
+fn is_linked(alloc: Global, cache: &mut Cache, same: &mut Node, tail: &[u8]) -> bool {
     let mut stamp = 1;
     for change in CHANGES {
-        match changed(alloc, cache, same, stamp, (tail, change))? {
+        match changed(alloc, cache, same, stamp, (tail, change)) {
             Some(next) => stamp = next,
-            None => return Ok(false),
+            None => return false,
         }
     }
-    Ok(same.merging())
+    same.merging()
 }
 
 // ---- a page from its beginning to its end
 
 // How many bytes the log has that holds two system pages and the node.
-fn size_with(alloc: Global, node: &Node) -> Result<u64, AllocError> {
-    let payload = node.serialize(alloc)?;
-    Ok((payload.len() as u64).saturating_add(52))
+fn size_with(alloc: Global, node: &Node) -> Option<u64> {
+    match node.serialize(alloc) {
+        Ok(payload) => Some((payload.len() as u64).saturating_add(52)),
+        Err(_) => None,
+    }
 }
 
-// Whether the node goes to page 2, at this stamp.
-fn comes(cache: &mut Cache, node: Node, stamp: u32, same: &Node) -> bool {
-    adds(cache, node) == Made(2, u64::from(stamp)) && is_kept(cache, 2, stamp, same)
+// Whether a node of this shape, which is the same as that, goes to page 2 at this stamp.
+fn comes(alloc: Global, cache: &mut Cache, shape: &Shape, stamp: u32, same: &Node) -> bool {
+    match node(alloc, shape) {
+        Some(node) => {
+            adds(cache, node) == Made(2, u64::from(stamp)) && is_kept(cache, 2, stamp, same)
+        }
+        None => false,
+    }
 }
 
-// The log in which the node went to page 2, and took all links as the same node does.
-fn written(alloc: Global, shape: &Shape, same: &mut Node) -> Result<Option<MemLog>, Fail> {
-    let node = node(alloc, shape)?;
-    let size = size_with(alloc, same)?;
-    let Some(mut cache) = started(alloc, shape.blob_limit) else {
-        return Ok(None);
+// Whether the node goes to page 2, and takes all links as the same node does.
+fn is_written(alloc: Global, cache: &mut Cache, shape: &Shape, same: &mut Node) -> bool {
+    let Some(size) = size_with(alloc, same) else {
+        return false;
     };
-    let is_so = comes(&mut cache, node, 1, same)
-        && shows(alloc, &mut cache, &Takes(size))
-        && is_linked(alloc, &mut cache, same, shape.tail) == Ok(true);
-    Ok(log_if(cache, is_so))
+    comes(alloc, cache, shape, 1, same)
+        && shows(alloc, cache, &Takes(size))
+        && is_linked(alloc, cache, same, shape.tail)
 }
 
 // Whether all behind the system pages is made stable, and nothing a second time.
@@ -229,56 +239,53 @@ fn is_flushed(cache: &mut Cache) -> bool {
     }
 }
 
-// The log in which page 2, at stamp 0, was replaced by the node, and flushed.
-fn replaced(mut cache: Cache, node: Node, same: &Node) -> Option<MemLog> {
-    let is_so = replaces(&mut cache, 2, 0, node, same) == At(1)
-        && is_kept(&mut cache, 2, 1, same)
-        && is_flushed(&mut cache);
+// The cache that is opened again over what was written.
+fn linked(alloc: Global, shape: &Shape, same: &mut Node) -> Option<Cache> {
+    let mut cache = started(alloc, shape.blob_limit)?;
+    let is_so = is_written(alloc, &mut cache, shape, same);
+    opened_over(alloc, CONFIG, log_if(cache, is_so)?)
+}
+
+// Whether page 2, at stamp 0, is replaced by a node of this shape, and flushed.
+fn is_replaced(alloc: Global, cache: &mut Cache, shape: &Shape, same: &Node) -> bool {
+    let is_so = match node(alloc, shape) {
+        Some(node) => replaces(cache, 2, 0, node, same) == At(1),
+        None => false,
+    };
+    is_so && is_kept(cache, 2, 1, same) && is_flushed(cache)
+}
+
+// The log in which page 2 has the node there that all links made, and was replaced.
+fn replaced(alloc: Global, shape: &Shape, same: &Node) -> Option<MemLog> {
+    let mut with_links = node(alloc, shape)?;
+    let mut cache = linked(alloc, shape, &mut with_links)?;
+    let is_so = is_kept(&mut cache, 2, 0, &with_links)
+        && is_replaced(alloc, &mut cache, shape, same);
     log_if(cache, is_so)
 }
 
 // Whether page 2 holds the same node, and once it was freed another one.
-fn ends(alloc: Global, cache: &mut Cache, node: Node, same: &Node) -> bool {
+fn ends(alloc: Global, cache: &mut Cache, shape: &Shape, same: &Node) -> bool {
     is_kept(cache, 2, 0, same)
         && shown(alloc, cache, &[Frees(2, 0, At(1)), Gets(2, Absent)]) == 2
-        && comes(cache, node, 2, same)
+        && comes(alloc, cache, shape, 2, same)
 }
 
-// The cache that is opened again over what was written, if page 2 has the node there that all links made.
-fn linked(alloc: Global, shape: &Shape) -> Result<Option<Cache>, Fail> {
-    let mut same = node(alloc, shape)?;
-    let Some(log) = written(alloc, shape, &mut same)? else {
-        return Ok(None);
-    };
-    let Some(mut cache) = opened_over(alloc, CONFIG, log) else {
-        return Ok(None);
-    };
-    if is_kept(&mut cache, 2, 0, &same) {
-        return Ok(Some(cache));
-    }
-    Ok(None)
-}
-
-// Whether page 2 holds the node through the rest of the calls.
-fn lasts(alloc: Global, cache: Cache, (first, second): (Node, Node), same: &Node) -> bool {
-    match replaced(cache, first, same).and_then(|log| left_by(alloc, log, 0)) {
-        Some(mut cache) => ends(alloc, &mut cache, second, same),
-        None => false,
-    }
+fn lasts(alloc: Global, shape: &Shape, same: &Node) -> Option<bool> {
+    let mut cache = left_by(alloc, replaced(alloc, shape, same)?, 0)?;
+    Some(ends(alloc, &mut cache, shape, same))
 }
 
 // Whether page 2 holds the node through all calls: it is added, linked, opened again, replaced, flushed, left by a crash, freed
 // and added again.
-fn is_held(alloc: Global, shape: &Shape) -> Result<bool, Fail> {
-    let nodes = (node(alloc, shape)?, node(alloc, shape)?);
-    let same = node(alloc, shape)?;
-    match linked(alloc, shape)? {
-        Some(cache) => Ok(lasts(alloc, cache, nodes, &same)),
-        None => Ok(false),
+fn is_held(alloc: Global, shape: &Shape) -> bool {
+    match node(alloc, shape) {
+        Some(same) => lasts(alloc, shape, &same) == Some(true),
+        None => false,
     }
 }
 
-fn are_held(alloc: Global, is_index: bool, count: u32) -> Result<bool, Fail> {
+fn are_held(alloc: Global, is_index: bool, count: u32) -> bool {
     for (range, tail, blob_limit) in KINDS {
         let shape = Shape {
             is_index,
@@ -287,26 +294,25 @@ fn are_held(alloc: Global, is_index: bool, count: u32) -> Result<bool, Fail> {
             blob_limit: *blob_limit,
             count,
         };
-        if !is_held(alloc, &shape)? {
-            return Ok(false);
+        if !is_held(alloc, &shape) {
+            return false;
         }
     }
-    Ok(true)
+    true
 }
 
 #[test]
-fn nodes_are_held_at_each_size(rt: HostRuntime) -> Result<(), Fail> {
+fn nodes_are_held_at_each_size(rt: HostRuntime) {
     for count in COUNTS {
         assert!(rt;
-            are_held(rt.alloc(), false, *count)?,
+            are_held(rt.alloc(), false, *count),
             "a leaf of {count} pairs"
         );
         assert!(rt;
-            are_held(rt.alloc(), true, *count)?,
+            are_held(rt.alloc(), true, *count),
             "an index of {count} pairs"
         );
     }
-    Ok(())
 }
 
 // ---- pages by their ids

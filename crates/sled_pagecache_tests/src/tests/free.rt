@@ -3,15 +3,15 @@
 use super::calls::frees;
 use super::failing::Trouble::{Room, Write};
 use super::openings::Ending::HandedOn;
-use super::openings::{Opening, lasts};
-use super::scripts::walks;
+use super::openings::{Run, first_wrong_run};
+use super::scripts::{Script, first_wrong};
 use super::steps::Outcome::{At, Faulty, Gone, Refused, Stale};
 use super::steps::Sight::{Absent, Empty, Unwritten};
 use super::steps::Step::{Adds, AddsFrom, Crashes, Flushes, Frees, Gets, Links, Prints};
 use super::steps::{Outcome, PAIR, Step, shows};
 use super::*;
 
-const SCRIPTS: [(&str, &[Step]); 8] = [
+const SCRIPTS: &[Script] = &[
     (
         "the greatest free id is used first, at the next stamp",
         &[
@@ -135,9 +135,7 @@ const SCRIPTS: [(&str, &[Step]); 8] = [
 
 #[test]
 fn freed_pages_are_absent_and_used_again(rt: HostRuntime) {
-    for (name, steps) in SCRIPTS {
-        assert_eq!(rt; walks(rt.alloc(), steps), steps.len(), "{name}");
-    }
+    assert_eq!(rt; first_wrong(rt.alloc(), SCRIPTS), None);
 }
 
 // Whether 1,000 pages are freed in a scattered order, and used again from the greatest to the least.
@@ -173,7 +171,7 @@ const FULL: Outcome = Refused(Why::LogFull);
 
 // The system pages take 35 bytes of the log, an empty leaf 25, and a free page 17. Three writes open the cache, and the fourth is that
 // of the leaf.
-const RUNS: [(&str, &[Opening]); 5] = [
+const RUNS: &[Run] = &[
     (
         "a log with room for no free",
         &[(
@@ -223,7 +221,5 @@ const RUNS: [(&str, &[Opening]); 5] = [
 
 #[test]
 fn a_refused_free_leaves_the_page(rt: HostRuntime) {
-    for (name, openings) in RUNS {
-        assert_eq!(rt; lasts(rt.alloc(), openings), openings.len(), "{name}");
-    }
+    assert_eq!(rt; first_wrong_run(rt.alloc(), RUNS), None);
 }

@@ -18,6 +18,9 @@ pub(super) enum Ending {
 // A cache that is opened over the log that was left before, with this interval; what it shows; and how it ends.
 pub(super) type Opening = (u64, Trouble, &'static [Step], Ending);
 
+/// Openings over a new log, with a name.
+pub(super) type Run = (&'static str, &'static [Opening]);
+
 pub(super) fn opened_with(
     alloc: Global,
     log: MemLog,
@@ -84,4 +87,15 @@ pub(super) fn lasts(alloc: Global, openings: &[Opening]) -> usize {
         log = left;
     }
     openings.len()
+}
+
+// The first run of which an opening doesn't show what it should, and how many do so before.
+pub(super) fn first_wrong_run(alloc: Global, runs: &[Run]) -> Option<(&'static str, usize)> {
+    for (name, openings) in runs {
+        let done = lasts(alloc, openings);
+        if done != openings.len() {
+            return Some((*name, done));
+        }
+    }
+    None
 }

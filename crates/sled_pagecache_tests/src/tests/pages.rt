@@ -37,34 +37,63 @@ fn has_chain(page: &Page, chain: &[CacheInfo], bytes: u64, last: Lsn, is_free: b
         && page.is_free() == is_free
 }
 
-// Whether a copy of the page that is said so is said so again.
-fn is_said_again(alloc: Global, state: &PageState) -> Result<bool, AllocError> {
-    let copy = Page::from_state(alloc, state)?.clone()?;
-    Ok(copy.to_page_state(alloc)? == *state)
+fn is_said(alloc: Global, page: &Page, state: &PageState) -> bool {
+    match page.to_page_state(alloc) {
+        Ok(said) => said == *state,
+        Err(_) => false,
+    }
 }
 
-#[test]
-fn a_page_reports_its_chain(rt: HostRuntime) -> Result<(), Fail> {
-    let alloc = rt.alloc();
-    let page = Page::from_state(alloc, &two_messages(alloc)?)?;
-    assert!(rt; has_chain(&page, &[FIRST, SECOND], 47, 25, false));
-    let free = Page::from_state(alloc, &PageState::Free(9, DiskPtr::Inline(9)))?;
+// Whether a copy of the page is said so.
+fn is_said_again(alloc: Global, page: &Page, state: &PageState) -> bool {
+    match page.clone() {
+        Ok(copy) => is_said(alloc, &copy, state),
+        Err(_) => false,
+    }
+}
+
+// Whether the page of two messages has their chain, and a copy of it is said by them again.
+fn is_chained(alloc: Global, state: &PageState) -> bool {
+    match Page::from_state(alloc, state) {
+        Ok(page) => {
+            has_chain(&page, &[FIRST, SECOND], 47, 25, false) && is_said_again(alloc, &page, state)
+        }
+        Err(_) => false,
+    }
+}
+
+// Whether the free page has the chain of its one message, which is at this lsn, and a copy of it is said so again.
+fn is_freed(alloc: Global, lsn: u32) -> bool {
     let freed = CacheInfo {
         ts: 0,
-        lsn: 9,
-        pointer: DiskPtr::Inline(9),
+        lsn: Lsn::from(lsn),
+        pointer: DiskPtr::Inline(u64::from(lsn)),
         log_size: 17,
     };
-    assert!(rt; has_chain(&free, &[freed], 17, 9, true));
-    Ok(())
+    let state = PageState::Free(freed.lsn, freed.pointer);
+    match Page::from_state(alloc, &state) {
+        Ok(page) => {
+            has_chain(&page, &[freed], 17, freed.lsn, true) && is_said_again(alloc, &page, &state)
+        }
+        Err(_) => false,
+    }
+}
+
+fn two_are_chained(alloc: Global) -> bool {
+    match two_messages(alloc) {
+        Ok(state) => is_chained(alloc, &state),
+        Err(_) => false,
+    }
 }
 
 #[test]
-fn a_page_is_said_by_its_chain(rt: HostRuntime) -> Result<(), Fail> {
-    let alloc = rt.alloc();
-    assert!(rt; is_said_again(alloc, &two_messages(alloc)?)?);
-    assert!(rt; is_said_again(alloc, &PageState::Free(0, DiskPtr::Inline(0)))?);
-    Ok(())
+fn a_page_reports_its_chain_and_is_said_by_it(rt: HostRuntime) {
+    assert!(rt; two_are_chained(rt.alloc()), "a page of two messages");
+    assert!(rt; is_freed(rt.alloc(), 9), "a free page");
+    assert!(rt;
+        is_freed(rt.alloc(), 0),
+        "a free page at the begin of the log"
+    );
 }
 
 // ---- a table of free pages, each with the lsn of its id
@@ -140,14 +169,21 @@ fn misplaced(table: &PageTable, count: u64) -> Option<PageId> {
     None
 }
 
-#[test]
-fn pages_are_kept_by_their_ids(rt: HostRuntime) -> Result<(), Fail> {
-    for count in COUNTS {
-        let table = table_of(rt.alloc(), count)?;
-        assert_eq!(rt; table.len() as u64, count, "length of {count} pages");
-        assert_eq!(rt; misplaced(&table, count), None, "id of {count} pages");
+// Whether a table of so many pages has that length, and each page at its id.
+fn are_kept(alloc: Global, count: u64) -> bool
+    requires { count ≤ most_pages }
+{
+    match table_of(alloc, count) {
+        Ok(table) => table.len() as u64 == count && misplaced(&table, count).is_none(),
+        Err(_) => false,
     }
-    Ok(())
+}
+
+#[test]
+fn pages_are_kept_by_their_ids(rt: HostRuntime) {
+    for count in COUNTS {
+        assert!(rt; are_kept(rt.alloc(), count), "{count} pages");
+    }
 }
 
 #[test]
@@ -163,39 +199,84 @@ fn an_id_is_split(rt: HostRuntime) {
     }
 }
 
-#[test]
-fn a_page_is_changed_in_its_place(rt: HostRuntime) -> Result<(), Fail> {
-    let alloc = rt.alloc();
-    let mut table = table_of(alloc, (1 << 18) + 1)?;
-    for pid in [0, 1, (1 << 18) - 1, 1 << 18] {
-        put(&mut table, pid, page(alloc, 7)?);
-        assert_eq!(rt; lsn_at(&table, pid), Some(7), "lsn of page {pid}");
-        put(&mut table, pid, page(alloc, pid as Lsn)?);
-        assert_eq!(rt;
-            misplaced(&table, (1 << 18) + 1),
-            None,
-            "id beside page {pid}"
-        );
+// Puts a page of this lsn in the place of another, and whether it is found there.
+fn is_put(alloc: Global, table: &mut PageTable, pid: u32, lsn: u32) -> bool {
+    match page(alloc, Lsn::from(lsn)) {
+        Ok(page) => {
+            put(table, PageId::from(pid), page);
+            lsn_at(table, PageId::from(pid)) == Some(Lsn::from(lsn))
+        }
+        Err(_) => false,
     }
-    Ok(())
+}
+
+// How many of these pages of a table of so many are changed in their places, and changed back, before the first where another page isn't
+// what it was.
+fn changed(alloc: Global, table: &mut PageTable, count: u64, pids: &[u32]) -> usize {
+    for (done, pid) in pids.iter().enumerate() {
+        let is_changed = is_put(alloc, table, *pid, 7)
+            && is_put(alloc, table, *pid, *pid)
+            && misplaced(table, count).is_none();
+        if !is_changed {
+            return done;
+        }
+    }
+    pids.len()
+}
+
+fn changed_in_place(alloc: Global) -> usize {
+    match table_of(alloc, (1 << 18) + 1) {
+        Ok(mut table) => changed(
+            alloc,
+            &mut table,
+            (1 << 18) + 1,
+            &[0, 1, (1 << 18) - 1, 1 << 18],
+        ),
+        Err(_) => 0,
+    }
 }
 
 #[test]
-fn a_page_goes_in_where_room_was_made(rt: HostRuntime) -> Result<(), Fail> {
-    let alloc = rt.alloc();
+fn a_page_is_changed_in_its_place(rt: HostRuntime) {
+    assert_eq!(rt; changed_in_place(rt.alloc()), 4);
+}
+
+// Whether a page goes in as the first of the table.
+fn goes_in(alloc: Global, table: &mut PageTable) -> bool
+    requires { 0 ≡ length table.old.pages }
+{
+    match page(alloc, 5) {
+        Ok(page) => table.insert(0, page).is_ok() && lsn_at(table, 0) == Some(5),
+        Err(_) => false,
+    }
+}
+
+fn goes_in_behind_reserve(alloc: Global) -> bool {
     let mut table = PageTable::default(alloc);
-    table.reserve()?;
-    assert!(rt; table.insert(0, page(alloc, 5)?).is_ok());
-    assert_eq!(rt; lsn_at(&table, 0), Some(5));
-    Ok(())
+    table.reserve().is_ok() && goes_in(alloc, &mut table)
+}
+
+#[test]
+fn a_page_goes_in_where_room_was_made(rt: HostRuntime) {
+    assert!(rt; goes_in_behind_reserve(rt.alloc()));
+}
+
+fn has_room_for_at_most(alloc: Global, count: u64, most: usize) -> bool
+    requires { count ≤ most_pages }
+{
+    match table_of(alloc, count) {
+        Ok(table) => table.capacity() <= most,
+        Err(_) => false,
+    }
 }
 
 // The room of a chunk grows as the chunk fills.
 #[test]
-fn few_pages_take_little_room(rt: HostRuntime) -> Result<(), Fail> {
+fn few_pages_take_little_room(rt: HostRuntime) {
     for (count, most) in [(1, 16), (17, 64), (1000, 2048)] {
-        let table = table_of(rt.alloc(), count)?;
-        assert!(rt; table.capacity() <= most, "room of {count} pages");
+        assert!(rt;
+            has_room_for_at_most(rt.alloc(), count, most),
+            "room of {count} pages"
+        );
     }
-    Ok(())
 }

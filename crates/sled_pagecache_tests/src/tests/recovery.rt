@@ -1,6 +1,6 @@
 // Caches that are opened over a log that another wrote.
 
-use super::scripts::{walks, walks_at};
+use super::scripts::{Script, first_wrong, first_wrong_at, walks};
 use super::steps::Change::Set;
 use super::steps::Outcome::{At, Stale};
 use super::steps::Sight::{Absent, Empty, Pair};
@@ -19,7 +19,7 @@ const HELD: Step = Gets(2, Pair(0, b"b", b"v"));
 
 const OTHER: Change = Set(b"c", b"w");
 
-const SCRIPTS: [(&str, &[Step]); 9] = [
+const SCRIPTS: &[Script] = &[
     (
         "a crash keeps no change",
         &[
@@ -71,21 +71,18 @@ const SCRIPTS: [(&str, &[Step]); 9] = [
     ),
 ];
 
+// A crash can't leave three changes.
+const THREE: &[Step] = &[ADDS, LINKS, Crashes(3)];
+
 #[test]
 fn a_log_is_opened_again(rt: HostRuntime) {
-    for (name, steps) in SCRIPTS {
-        assert_eq!(rt; walks(rt.alloc(), steps), steps.len(), "{name}");
-    }
-    assert_eq!(rt;
-        walks(rt.alloc(), &[ADDS, LINKS, Crashes(3)]),
-        2,
-        "three changes"
-    );
+    assert_eq!(rt; first_wrong(rt.alloc(), SCRIPTS), None);
+    assert_eq!(rt; walks(rt.alloc(), THREE), 2, "three changes");
 }
 
 // How often the log of a page with three links is read once it is opened again, and once the page is asked for. Two of the reads are
 // of the system pages.
-const READS: [(&str, &[Step]); 3] = [
+const READS: &[Script] = &[
     (
         "no get",
         &[ADDS, LinksFrom(2, 1, 3), Flushes, Reopens, Reads(2)],
@@ -111,13 +108,11 @@ const READS: [(&str, &[Step]); 3] = [
 #[test]
 fn a_page_is_read_once(rt: HostRuntime) {
     for blob_limit in [512, 4] {
-        for (name, steps) in READS {
-            assert_eq!(rt;
-                walks_at(rt.alloc(), CONFIG, blob_limit, steps),
-                steps.len(),
-                "{name} over {blob_limit} bytes"
-            );
-        }
+        assert_eq!(rt;
+            first_wrong_at(rt.alloc(), blob_limit, READS),
+            None,
+            "over {blob_limit} bytes"
+        );
     }
 }
 

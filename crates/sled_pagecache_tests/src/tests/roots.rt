@@ -3,8 +3,8 @@
 use super::calls::{names_and_stamp, root_of, swaps};
 use super::failing::Trouble::Room;
 use super::openings::Ending::HandedOn;
-use super::openings::{Opening, lasts};
-use super::scripts::walks;
+use super::openings::{Run, first_wrong_run};
+use super::scripts::{Script, first_wrong};
 use super::steps::Outcome::{Done, Is, Refused};
 use super::steps::Step::{Crashes, Finds, Flushes, Has, Lacks, Swaps, Takes};
 use super::steps::{Outcome, Step};
@@ -18,7 +18,7 @@ pub(super) const LONGER: &[u8] = &[b'm'; 1000];
 
 // The system pages take 17 and 18 bytes of the log, and a root map 17 and, for each name, its length, the bytes of that length, and
 // those of its root.
-const SCRIPTS: [(&str, &[Step]); 6] = [
+const SCRIPTS: &[Script] = &[
     (
         "a name is set, changed and taken out",
         &[
@@ -114,9 +114,7 @@ const SCRIPTS: [(&str, &[Step]); 6] = [
 
 #[test]
 fn names_have_roots(rt: HostRuntime) {
-    for (name, steps) in SCRIPTS {
-        assert_eq!(rt; walks(rt.alloc(), steps), steps.len(), "{name}");
-    }
+    assert_eq!(rt; first_wrong(rt.alloc(), SCRIPTS), None);
 }
 
 // One of 1,000 names, in a scattered order.
@@ -154,7 +152,7 @@ fn a_thousand_names_are_set_and_taken_out(rt: HostRuntime) -> Result<(), Fail> {
 const FULL: Outcome = Refused(Why::LogFull);
 
 // The system pages take 35 bytes, a map of `a` 20, and an empty one 17.
-const RUNS: [(&str, &[Opening]); 6] = [
+const RUNS: &[Run] = &[
     (
         "no room for a name",
         &[(
@@ -215,7 +213,5 @@ const SET: Step = Swaps(b"a", None, Some(2), Done);
 
 #[test]
 fn a_refused_swap_leaves_the_names(rt: HostRuntime) {
-    for (name, openings) in RUNS {
-        assert_eq!(rt; lasts(rt.alloc(), openings), openings.len(), "{name}");
-    }
+    assert_eq!(rt; first_wrong_run(rt.alloc(), RUNS), None);
 }

@@ -4,6 +4,9 @@ use super::crashes::reopen;
 use super::steps::{Step, shows};
 use super::*;
 
+/// Steps over a new log, with a name.
+pub(super) type Script = (&'static str, &'static [Step]);
+
 // A cache over a log in which no batch is open.
 pub(super) fn opened_over(alloc: Global, config: Config, log: MemLog) -> Option<Cache> {
     opening(alloc, config, log).ok()
@@ -60,4 +63,23 @@ pub(super) fn walks_at(alloc: Global, config: Config, blob_limit: usize, steps: 
 
 pub(super) fn walks(alloc: Global, steps: &[Step]) -> usize {
     walks_at(alloc, CONFIG, 512, steps)
+}
+
+// The first script that doesn't show all that it should, and how many of its steps do so before.
+pub(super) fn first_wrong_at(
+    alloc: Global,
+    blob_limit: usize,
+    scripts: &[Script],
+) -> Option<(&'static str, usize)> {
+    for (name, steps) in scripts {
+        let done = walks_at(alloc, CONFIG, blob_limit, steps);
+        if done != steps.len() {
+            return Some((*name, done));
+        }
+    }
+    None
+}
+
+pub(super) fn first_wrong(alloc: Global, scripts: &[Script]) -> Option<(&'static str, usize)> {
+    first_wrong_at(alloc, 512, scripts)
 }

@@ -255,8 +255,8 @@ fn opened_over(
 }
 
 // A cache over a log with page 2 of these messages.
-fn opened(alloc: Global, messages: &'static [Message]) -> Result<Told, Error> {
-    opened_over(alloc, ROOTS, COUNTER, Some(Said::Of(messages)))
+fn opened(alloc: Global, messages: &'static [Message]) -> Option<Told> {
+    opened_over(alloc, ROOTS, COUNTER, Some(Said::Of(messages))).ok()
 }
 
 fn got(cache: &mut Told) -> Option<Answer> {
@@ -279,43 +279,45 @@ fn links_so(cache: &mut Told, wanted: Answer) -> bool {
 }
 
 // Whether page 2 is answered so twice, and page 3 is lent.
-fn answers_so(alloc: Global, messages: &'static [Message], wanted: Answer) -> Result<bool, Error> {
-    let mut cache = opened(alloc, messages)?;
+fn answers_so(cache: &mut Told, wanted: Answer) -> bool {
     for _ in 0..2 {
-        if got(&mut cache) != Some(wanted) || !links_so(&mut cache, wanted) {
-            return Ok(false);
+        if got(cache) != Some(wanted) || !links_so(cache, wanted) {
+            return false;
         }
     }
-    Ok(matches!(cache.get(3), Ok(Some(_))))
+    matches!(cache.get(3), Ok(Some(_)))
+}
+
+fn is_answered(alloc: Global, messages: &'static [Message], wanted: Answer) -> bool {
+    match opened(alloc, messages) {
+        Some(mut cache) => answers_so(&mut cache, wanted),
+        None => false,
+    }
 }
 
 #[test]
-fn a_page_is_what_its_messages_make_or_reported_by_the_first_wrong_one(
-    rt: HostRuntime,
-) -> Result<(), Fail> {
+fn a_page_is_what_its_messages_make_or_reported_by_the_first_wrong_one(rt: HostRuntime) {
     for (messages, wanted) in PAGES {
-        assert!(rt; answers_so(rt.alloc(), messages, *wanted)?, "{messages:?}");
+        assert!(rt; is_answered(rt.alloc(), messages, *wanted), "{messages:?}");
     }
-    Ok(())
 }
 
 // How often the log was read once page 2 was asked for so often.
-fn reads_after(alloc: Global, gets: u32) -> Result<Option<u64>, Error> {
+fn reads_after(alloc: Global, gets: u32) -> Option<u64> {
     let mut cache = opened(alloc, &[LEAF, SET])?;
     for _ in 0..gets {
         if got(&mut cache) != Some(Answer::Pair) {
-            return Ok(None);
+            return None;
         }
     }
-    Ok(log_of(cache).map(|log| log.reads()))
+    log_of(cache).map(|log| log.reads())
 }
 
 #[test]
-fn a_page_is_read_from_its_log_once(rt: HostRuntime) -> Result<(), Fail> {
+fn a_page_is_read_from_its_log_once(rt: HostRuntime) {
     for (gets, reads) in [(0, 2), (1, 4), (2, 4)] {
-        assert_eq!(rt; reads_after(rt.alloc(), gets)?, Some(reads), "{gets} gets");
+        assert_eq!(rt; reads_after(rt.alloc(), gets), Some(reads), "{gets} gets");
     }
-    Ok(())
 }
 
 // ---- pages that no cache leaves so
@@ -342,28 +344,27 @@ const SAID: &[(Said, Said, Option<Said>, Option<u64>)] = &[
     (ROOTS, COUNTER, Some(ELEVEN), Some(200)),
 ];
 
-// Where the opening of a cache over these pages found a misfit, or none where it opened one.
-fn misfit(
+// Whether the opening of a cache over these pages finds a misfit there, or none and opens one.
+fn is_misfit(
     alloc: Global,
     roots: Said,
     counter: Said,
     page: Option<Said>,
-) -> Result<Option<u64>, Error> {
+    wanted: Option<u64>,
+) -> bool {
     match opened_over(alloc, roots, counter, page) {
-        Ok(_) => Ok(None),
-        Err(Error::Corruption(Some(place))) => Ok(Some(place.lid())),
-        Err(error) => Err(error),
+        Ok(_) => wanted.is_none(),
+        Err(Error::Corruption(Some(place))) => wanted == Some(place.lid()),
+        Err(_) => false,
     }
 }
 
 #[test]
-fn a_page_that_no_cache_leaves_so_is_reported_at_opening(rt: HostRuntime) -> Result<(), Fail> {
+fn a_page_that_no_cache_leaves_so_is_reported_at_opening(rt: HostRuntime) {
     for (roots, counter, page, wanted) in SAID {
-        assert_eq!(rt;
-            misfit(rt.alloc(), *roots, *counter, *page)?,
-            *wanted,
+        assert!(rt;
+            is_misfit(rt.alloc(), *roots, *counter, *page, *wanted),
             "{roots:?} {counter:?} {page:?}"
         );
     }
-    Ok(())
 }

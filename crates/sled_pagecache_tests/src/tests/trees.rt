@@ -2,9 +2,9 @@
 
 use super::failing::Trouble::{Never, Room, Write};
 use super::openings::Ending::HandedOn;
-use super::openings::{Opening, lasts};
+use super::openings::{Run, first_wrong_run};
 use super::roots::{LONG, LONGER, SHORT};
-use super::scripts::walks;
+use super::scripts::{Script, first_wrong};
 use super::steps::Outcome::{At, Done, Faulty, Id, Refused};
 use super::steps::Sight::{Absent, Empty, Leads};
 use super::steps::Step;
@@ -16,7 +16,7 @@ use super::*;
 // The system pages, an empty leaf, an index over it, and a name of one byte.
 const TREE: u64 = 35 + 25 + 27 + 20;
 
-const SCRIPTS: [(&str, &[Step]); 6] = [
+const SCRIPTS: &[Script] = &[
     (
         "a tree is an index over an empty leaf, and is made once",
         &[
@@ -106,9 +106,7 @@ const SCRIPTS: [(&str, &[Step]); 6] = [
 
 #[test]
 fn a_name_has_one_tree(rt: HostRuntime) {
-    for (name, steps) in SCRIPTS {
-        assert_eq!(rt; walks(rt.alloc(), steps), steps.len(), "{name}");
-    }
+    assert_eq!(rt; first_wrong(rt.alloc(), SCRIPTS), None);
 }
 
 const FULL: Step = Opens(b"t", Refused(Why::LogFull));
@@ -122,7 +120,7 @@ const NO_INDEX: Step = Gets(3, Absent);
 const NO_NAME: Step = Lacks(b"t");
 
 // Logs with room for so many bytes, and logs of which a write fails: three open the cache.
-const RUNS: [(&str, &[Opening]); 9] = [
+const RUNS: &[Run] = &[
     (
         "a byte too few for the leaf",
         &[(10, Room(59), &[FULL, NO_LEAF, NO_INDEX, NO_NAME], HandedOn)],
@@ -207,7 +205,5 @@ const RUNS: [(&str, &[Opening]); 9] = [
 
 #[test]
 fn what_was_made_before_a_refusal_stands(rt: HostRuntime) {
-    for (name, openings) in RUNS {
-        assert_eq!(rt; lasts(rt.alloc(), openings), openings.len(), "{name}");
-    }
+    assert_eq!(rt; first_wrong_run(rt.alloc(), RUNS), None);
 }

@@ -3,7 +3,7 @@
 use super::*;
 use crate::tests::failing::Trouble::{Full, Never, Write};
 use crate::tests::openings::Ending::{Crash, HandedOn};
-use crate::tests::openings::Opening;
+use crate::tests::openings::Run;
 use crate::tests::steps::Outcome::{Faulty, Refused};
 use crate::tests::steps::Sight::{Absent, Empty};
 use crate::tests::steps::Step;
@@ -22,7 +22,7 @@ const HALF: u64 = (1 << 63) - 2;
 const THIRD: u64 = u64::MAX / 3;
 
 // The system pages take 17 and 18 bytes of the log, an empty leaf 25, and a counter 17 and those of its number.
-pub(super) const RUNS: [(&str, &[Opening]); 24] = [
+pub(super) const RUNS: &[Run] = &[
     (
         "the eleventh id of ten puts a counter, and the next opening begins two intervals above it",
         &[
