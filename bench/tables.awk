@@ -79,8 +79,8 @@ function print_memory(    i, j, line, script, wanted, count) {
         script = wanted[i]
         line = title_of[script]
         for (j = 1; j <= program_count; j++) {
-            line = line " | " sprintf("%.0f", bytes_each(script, program[j]))
-            if (files[script, program[j]] > 0) line = line sprintf(", files %.0f", files_each(script, program[j]))
+            line = line " | " whole(bytes_each(script, program[j]))
+            if (files[script, program[j]] > 0) line = line ", files " whole(files_each(script, program[j]))
         }
         print "| " line " |"
     }
@@ -91,4 +91,9 @@ END {
     print_ratios()
     print_runs()
     print_memory()
+}
+
+# The nearest whole number, of which 0 has no sign.
+function whole(number) {
+    return sprintf("%.0f", number) + 0
 }
