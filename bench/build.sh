@@ -1,6 +1,6 @@
 #!/bin/sh
-# build.sh FOLDER: builds into the folder the programs that measure.sh needs: `timed`, and the script's peers. It prints the names of
-# the peers that were built, and a line `left out NAME PACKAGE` for each whose package is missing.
+# build.sh FOLDER: builds into the folder the programs that measure.sh and measure_file.sh need: `timed`, and the script's peers. It
+# prints the names of the peers that were built, and a line `left out NAME PACKAGE` for each whose package is missing.
 set -eu
 
 here=$(CDPATH='' cd -- "$(dirname -- "$(readlink -f -- "$0")")" && pwd)

@@ -2,11 +2,11 @@
 # have room for four times the longest of the first program; a longer one is cut, which a gap shows, and its number stands beside it.
 
 function line_time(script, whose) {
-    return is_nothing(script, whose) ? 0 : own_time(script, whose) / lines_of[script]
+    return is_nothing(time, script, whose) ? 0 : own(time, script, whose) / lines_of[script]
 }
 
 function number_of(script, whose) {
-    return is_nothing(script, whose) ? "-" : short(line_time(script, whose))
+    return is_nothing(time, script, whose) ? "-" : short(line_time(script, whose))
 }
 
 function draw(script, top,    j, length_of_bar, is_cut) {

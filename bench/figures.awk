@@ -1,5 +1,7 @@
-# The figures of measure.sh's runs, for tables.awk and chart.awk. The first file is the list of scripts, the second the results:
-# lines `script NAME SETUP LINES`, and `run NAME PROGRAM MICROSECONDS KILOBYTES FILES`. `programs` are their names in order.
+# The figures of the runs of measure.sh or measure_file.sh, for the tables and the chart. The first file is the list of scripts, the
+# second the results: lines `script NAME SETUP LINES`, `run NAME PROGRAM MICROSECONDS WALL KILOBYTES FILES`, where WALL is microseconds too,
+# and of measure_file.sh `flushes NAME COUNT`, `syncs NAME PROGRAM COUNT` and `kept NAME PROGRAM KILOBYTES`. `programs` are their names
+# in order. Scripts of what was kept, whose names begin with `reopened_`, stand apart from the others.
 
 BEGIN {
     program_count = split(programs, program, " ")
@@ -9,7 +11,8 @@ BEGIN {
 }
 
 FNR == NR {
-    listed[++listed_count] = $1
+    if ($1 ~ /^reopened_/) reopened[++reopened_count] = $1
+    else listed[++listed_count] = $1
     title = $0
     sub(/^[^ ]* [^ ]* /, "", title)
     title_of[$1] = title
@@ -24,9 +27,14 @@ $1 == "script" {
 $1 == "run" {
     at = ++run_count[$2, $3]
     time[$2, $3, at] = $4
-    memory[$2, $3, at] = $5
-    files[$2, $3] = $6
+    wall[$2, $3, at] = $5
+    memory[$2, $3, at] = $6
+    files[$2, $3] = $7
 }
+
+$1 == "flushes" { flushes_of[$2] = $3 }
+$1 == "syncs" { syncs[$2, $3] = $4; syncs_count++ }
+$1 == "kept" { kept[$2, $3] = $4 }
 
 # nth(FIGURES, SCRIPT, WHOSE, PLACE): the figure that stands there in ascending order
 function nth(figures, script, whose, place,    count, i, j, held, sorted) {
@@ -53,19 +61,20 @@ function greatest(figures, script, whose) {
     return nth(figures, script, whose, run_count[script, whose])
 }
 
-# The microseconds of a script's own lines: the least of its runs without the least of its setup's.
-function own_time(script, whose) {
-    return least(time, script, whose) - least(time, setup_of[script], whose)
+# The microseconds of a script's own lines: the least of its runs without the least of its setup's. The figures are processor times or
+# wall times.
+function own(figures, script, whose) {
+    return least(figures, script, whose) - least(figures, setup_of[script], whose)
 }
 
 # What is left of a script without its setup says nothing below a twentieth of that, and little below a fifth or five milliseconds. Nor
-# does a script say anything of a program that didn't run it.
-function is_nothing(script, whose) {
-    return !run_count[script, whose] || own_time(script, whose) <= least(time, setup_of[script], whose) / 20
+# does a script say anything of a program that didn't run it, or one that has no lines, as a small COUNT gives it.
+function is_nothing(figures, script, whose) {
+    return !run_count[script, whose] || !lines_of[script] || own(figures, script, whose) <= least(figures, setup_of[script], whose) / 20
 }
 
-function is_rough(script, whose) {
-    return own_time(script, whose) < least(time, setup_of[script], whose) / 5 || own_time(script, whose) < 5000
+function is_rough(figures, script, whose) {
+    return own(figures, script, whose) < least(figures, setup_of[script], whose) / 5 || own(figures, script, whose) < 5000
 }
 
 # A number with about three figures.

@@ -1,48 +1,12 @@
-# The scripts that measure.sh runs: their names, what each is, and their lines. COUNT, of measure.sh, is about how many lines most of
-# them have; those whose single lines are dear have fewer.
-
-# script_list: a line for each, of its name, the name of its setup, and what it does. What a script takes is what all takes without
-# what its setup takes by itself. A setup that is listed too has one of its own.
-script_list() {
-    cat <<'END'
-absent pages_1000 gets of pages that are not there
-gets pages_1000 gets, 1,000 pages
-links_1000 pages_1000 two sets and a get, 1,000 pages
-links_10000 pages_10000 two sets and a get, 10,000 pages
-links_100000 pages_100000 two sets and a get, 100,000 pages
-links_1000000 pages_1000000 two sets and a get, 1,000,000 pages
-sets pages_1000 sets, 1,000 pages
-deletions pages_1000 a set and a deletion of its key, 1,000 pages
-replacements pages_1000 replacements by four pairs, 1,000 pages
-pages_1000000 nothing 1,000,000 allocations of empty pages
-pairs_10000 nothing 10,000 allocations with a pair
-pairs_100000 nothing 100,000 allocations with a pair
-pairs_1000000 nothing 1,000,000 allocations with a pair
-leaves_1000 nothing allocations of pages of 1,000 pairs
-leaves_8000 nothing allocations of pages of 8,000 pairs
-large_1000 leaf_1000 sets on a page of 1,000 pairs
-large_8000 leaf_8000 sets on a page of 8,000 pairs
-replies leaf_1000 gets of a page of 1,000 pairs
-flushes_1000 pages_1000 sets, and a flush after each 1,000
-flushes_10 pages_1000 sets, and a flush after each 10
-flushes_1 pages_1000 sets, and a flush after each
-batches_1000 pages_1000 batches of 1,000 sets
-batches_10 pages_1000 batches of 10 sets
-short_sets pages_1000 1,000,000 sets of one byte to one byte, 1,000 pages
-ids_10 nothing ids, of which each tenth puts a durable counter
-ids_1000 nothing ids, of which each thousandth does
-frees_mixed pages_1000000 1,000,000 frees of empty pages, in a mixed order
-frees_rising pages_1000000 1,000,000 frees of empty pages, in rising order
-reuses frees_rising 1,000,000 allocations of empty pages that use free ids
-roots_10 names_10 swaps of roots, 10 names
-roots_1000 names_1000 swaps of roots, 1,000 names
-roots_10000 names_10000 swaps of roots, 10,000 names
-END
-}
+# The scripts of measure.sh and measure_file.sh: their setups and their lines. $count is about how many lines most of them have; those
+# whose single lines are dear have fewer.
+#
+# $list is a file with a line for each script, of its name, the name of its setup, and what it does. What a script takes is what all
+# takes without what its setup takes by itself. A setup that is listed too has one of its own.
 
 # setup_of NAME: the name of the setup of a script or of a setup
 setup_of() {
-    script_list | awk -v name="$1" '$1 == name { found = $2 } END { print found ? found : "nothing" }'
+    awk -v name="$1" '$1 == name { found = $2 } END { print found ? found : "nothing" }' "$list"
 }
 
 # whole_script NAME: the lines of a script or of a setup behind those of its own setup
@@ -69,8 +33,10 @@ script_lines() {
     large_1000) large 1000 "$((count / 10))" ;;
     large_8000) large 8000 "$((count / 40))" ;;
     replies) repeated "$((count / 200))" 'get 2' ;;
-    flushes_*) rounds 1000 "$count" 1 0 "${1#flushes_}" ;;
+    flushes_*) flushes 1000 "$count" "${1#flushes_}" ;;
     batches_*) batches 1000 "$count" "${1#batches_}" ;;
+    durable_batches_*) batches 1000 "$count" "${1#durable_batches_}" | with_flushes "$((${1#durable_batches_} + 2))" ;;
+    durable_large_1000) large 1000 "$((count / 10))" | with_flushes 100 ;;
     short_sets) short_sets 1000 1000000 ;;
     ids_*) repeated "$count" 'id' ;;
     frees_mixed) frees_mixed 1000000 ;;
@@ -80,6 +46,9 @@ script_lines() {
     roots_10) roots 10 "$count" ;;
     roots_1000) roots 1000 "$((count / 10))" ;;
     roots_10000) roots 10000 "$((count / 50))" ;;
+    flushed_short_sets) script_lines pages_1000 && script_lines short_sets && echo flush ;;
+    flushed_*) script_lines "${1#flushed_}" && echo flush ;;
+    reopened_*) echo 'get 2' ;;
     *) die "there is no script $1" ;;
     esac
 }
@@ -96,7 +65,7 @@ interval_of() {
 # read before they are written, so these two have none here.
 can_run() {
     case $1-$2 in
-    leveldb-batches_* | rocksdb-batches_*) return 1 ;;
+    leveldb-*batches_* | rocksdb-*batches_*) return 1 ;;
     esac
 }
 
@@ -116,10 +85,20 @@ absent() {
     }'
 }
 
-# rounds PAGES LINES SETS GETS [EVERY]: rounds over so many pages, of which the ids begin at 2. In each round one page gets so
-# many sets, each of the next of four keys, and is asked for so often. With EVERY all is flushed after so many sets.
+# with_flushes EVERY: the lines of standard input, with a flush after each so many
+with_flushes() {
+    awk -v every="$1" '{ print } NR % every == 0 { print "flush" }'
+}
+
+# flushes PAGES LINES EVERY: sets with a flush after each so many, which ends them
+flushes() {
+    rounds "$1" "$(($2 / ($3 + 1) * $3))" 1 0 | with_flushes "$3"
+}
+
+# rounds PAGES LINES SETS GETS: rounds over so many pages, of which the ids begin at 2. In each round one page gets so many sets, each
+# of the next of four keys, and is asked for so often.
 rounds() {
-    awk -v pages="$1" -v lines="$2" -v sets="$3" -v gets="$4" -v every="${5:-0}" 'BEGIN {
+    awk -v pages="$1" -v lines="$2" -v sets="$3" -v gets="$4" 'BEGIN {
         for (i = 0; i < pages; i++) stamp[i] = 1
         seed = 1
         while (written < lines) {
@@ -130,7 +109,6 @@ rounds() {
                 stamp[page]++
                 done++
                 written++
-                if (every && done % every == 0) { print "flush"; written++ }
             }
             for (k = 0; k < gets; k++) { printf "get %d\n", page + 2; written++ }
         }

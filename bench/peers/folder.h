@@ -1,5 +1,11 @@
-// A folder of files in TMPDIR, or else in /dev/shm, where they lie in memory. It is removed at the end of its life, and says then on
-// standard error how many kilobytes its files had, since a process's own peak memory counts no files but mapped ones.
+// The folder of a program's files. The environment says where it is and what becomes of it:
+//
+//     KEEP      the folder itself. It is made where it isn't there, and stays, so a later run opens the files that are in it
+//     TMPDIR    without KEEP: where a new folder is made (/dev/shm, where files lie in memory). It is removed at the end of its life
+//     SYNC      1: a flush is durable when it is answered. Without it no store waits for a disk
+//
+// At the end of its life the folder says on standard error how many kilobytes its files had, since a process's own peak memory counts
+// no files but mapped ones.
 #pragma once
 
 #include <algorithm>
@@ -8,12 +14,24 @@
 #include <filesystem>
 #include <stdexcept>
 #include <string>
+#include <string_view>
 #include <sys/stat.h>
+
+inline bool wants_syncs() {
+    const char *asked = std::getenv("SYNC");
+    return asked && std::string_view(asked) == "1";
+}
 
 class Folder {
   public:
     Folder() {
-        const char *parent = std::getenv("TMPDIR");
+        const char *kept = std::getenv("KEEP"), *parent = std::getenv("TMPDIR");
+        is_kept = kept;
+        if (is_kept) {
+            name = kept;
+            std::filesystem::create_directories(name);
+            return;
+        }
         name = std::string(parent ? parent : "/dev/shm") + "/bench-XXXXXX";
         if (!mkdtemp(name.data())) throw std::runtime_error("no folder can be made for " + name);
     }
@@ -24,7 +42,7 @@ class Folder {
     ~Folder() {
         std::error_code ignored;
         std::fprintf(stderr, "files %lld\n", bytes() / 1024);
-        std::filesystem::remove_all(name, ignored);
+        if (!is_kept) std::filesystem::remove_all(name, ignored);
     }
 
     const std::string &path() const { return name; }
@@ -43,4 +61,5 @@ class Folder {
     }
 
     std::string name;
+    bool is_kept = false;
 };

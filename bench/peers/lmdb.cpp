@@ -1,6 +1,7 @@
-// The script over LMDB: the rows of rows.h in one B+ tree, whose file is written through a map of memory. All that stands between
-// two flushes is one transaction, which `flush` and the end of a batch commit without fsync. LMDB takes keys of up to 511 bytes, so a page's keys and
-// names have up to 502.
+// The script over LMDB: the rows of rows.h in one B+ tree. All that stands between two flushes is one transaction, which `flush` and
+// the end of a batch commit. Without SYNC the file is written through a map of memory. With it a commit is durable: it writes the pages
+// that changed, syncs them, and then writes the page that names the new root to a file opened with O_DSYNC. (Through a map both would
+// be an msync, which takes longer.) LMDB takes keys of up to 511 bytes, so a page's keys and names have up to 502.
 #include "folder.h"
 #include "rows.h"
 
@@ -23,7 +24,8 @@ class Lmdb {
     Lmdb() {
         check(mdb_env_create(&environment));
         check(mdb_env_set_mapsize(environment, map_size));
-        check(mdb_env_open(environment, folder.path().c_str(), MDB_NOSYNC | MDB_WRITEMAP | MDB_NOLOCK, 0600));
+        const unsigned kind = wants_syncs() ? 0 : MDB_NOSYNC | MDB_WRITEMAP;
+        check(mdb_env_open(environment, folder.path().c_str(), kind | MDB_NOLOCK, 0600));
         begin();
     }
 

@@ -1,5 +1,6 @@
 // The script over RocksDB: the rows of rows.h in its memory table, tables and log. A change is one batch; the log is kept in the
-// process until `flush` writes it to its file, without fsync. The other settings are the default ones, but nothing is compressed.
+// process until `flush` writes it to its file. With SYNC the flush then syncs each file of the log that isn't synced yet, so what was
+// written before is durable. The other settings are the default ones, but nothing is compressed.
 #include "folder.h"
 #include "rows.h"
 
@@ -55,10 +56,11 @@ class RocksDb {
         check(rows->status());
     }
 
-    void flush() { check(db->FlushWAL(false)); }
+    void flush() { check(db->FlushWAL(is_synced)); }
 
   private:
     Folder folder;
+    const bool is_synced = wants_syncs();
     std::unique_ptr<rocksdb::DB> db;
     rocksdb::WriteBatch batch;
 };

@@ -13,8 +13,9 @@
 //     void put_counter(number)               keeps the counter of ids, which a flush makes durable
 //
 // and throws what it can't answer, which ends the program with status 1. `size` and `open` are no commands here. Which ids of pages
-// are free is known here, and in no store, and so is whether a batch is open, which ends with a flush. Ids of `id` come in intervals, of a
-// length that the environment gives as INTERVAL (10).
+// are free is known here, and in no store, and so is whether a batch is open, which ends with a flush. That is not
+// read back, nor are the next page and the next id, so a script over files of an earlier run does without `alloc`, `free` and `id`.
+// Ids of `id` come in intervals, of a length that the environment gives as INTERVAL (10).
 #pragma once
 
 #include <cerrno>

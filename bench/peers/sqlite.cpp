@@ -1,7 +1,7 @@
 // The script over SQLite: tables of pages with their stamps, of pairs by page and key, and of roots by name, and one row with the
-// counter of ids. All that stands between two flushes is one transaction, which `flush` and the end of a batch commit to a write-ahead log without
-// fsync.
-// The cache has 256 MB, and statements are prepared once.
+// counter of ids. All that stands between two flushes is one transaction, which `flush` and the end of a batch commit to a write-ahead
+// log. With SYNC each commit syncs that log (`synchronous = FULL`), which makes it durable. The cache has 256 MB, and statements are
+// prepared once.
 #include "folder.h"
 #include "script.h"
 
@@ -12,20 +12,24 @@ namespace {
 using script::Change;
 using script::Root;
 
-constexpr const char *settings = "PRAGMA journal_mode = WAL; PRAGMA synchronous = OFF; PRAGMA locking_mode = EXCLUSIVE;"
-                                 "PRAGMA cache_size = -262144; PRAGMA temp_store = MEMORY;"
-                                 "CREATE TABLE page (id INTEGER PRIMARY KEY, stamp INTEGER NOT NULL);"
-                                 "CREATE TABLE pair (page INTEGER NOT NULL, key BLOB NOT NULL, value BLOB NOT NULL,"
-                                 "                   PRIMARY KEY (page, key)) WITHOUT ROWID;"
-                                 "CREATE TABLE root (name BLOB PRIMARY KEY, page INTEGER NOT NULL) WITHOUT ROWID;"
-                                 "CREATE TABLE counter (number INTEGER NOT NULL); INSERT INTO counter VALUES (0);"
-                                 "BEGIN;";
+constexpr const char *settings = "PRAGMA journal_mode = WAL; PRAGMA locking_mode = EXCLUSIVE;"
+                                 "PRAGMA cache_size = -262144; PRAGMA temp_store = MEMORY;";
+constexpr const char *tables = "BEGIN;"
+                               "CREATE TABLE IF NOT EXISTS page (id INTEGER PRIMARY KEY, stamp INTEGER NOT NULL);"
+                               "CREATE TABLE IF NOT EXISTS pair (page INTEGER NOT NULL, key BLOB NOT NULL, value BLOB NOT NULL,"
+                               "                                 PRIMARY KEY (page, key)) WITHOUT ROWID;"
+                               "CREATE TABLE IF NOT EXISTS root (name BLOB PRIMARY KEY, page INTEGER NOT NULL) WITHOUT ROWID;"
+                               "CREATE TABLE IF NOT EXISTS counter (number INTEGER NOT NULL);"
+                               "INSERT INTO counter SELECT 0 WHERE NOT EXISTS (SELECT * FROM counter);"
+                               "COMMIT; BEGIN;";
 
 class Database {
   public:
     Database() {
         check(sqlite3_open((folder.path() + "/pages").c_str(), &handle));
         run(settings);
+        run(wants_syncs() ? "PRAGMA synchronous = FULL" : "PRAGMA synchronous = OFF");
+        run(tables);
     }
 
     ~Database() { sqlite3_close_v2(handle); }
