@@ -7,6 +7,7 @@ pub mod Contents
 pub mod Reading
 pub mod LogState
 pub mod Calls
+pub mod Refusals
 pub mod Pages
 pub mod Laws
 pub mod SeenLaws

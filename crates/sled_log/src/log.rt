@@ -10,10 +10,12 @@ ghost use Rattle.sled_log.specs.Limits.{head_size, size_limit};
 ghost use Rattle.sled_log.specs.Messages.{Entry, Messages, message, placed, effect_of, effect_of_entry};
 ghost use Rattle.sled_log.specs.Pages.{IsPageState, IsSized, IsAt, IsRead};
 ghost use Rattle.sled_log.specs.LogState.{LogState, now, IsLeft, unplaced_state};
+ghost use Rattle.sled_log.specs.Refusals.{refusal_of};
+ghost use Rattle.sled_base.specs.Errors.{error_of};
 ghost use Rattle.sled_log.specs.declared.log.LogError.TheVariants.{Memory, Full, ReadFault, WriteFault};
 
 use crate::PageState;
-use sled_base::{DiskPtr, Lsn, MessageKind, PageId};
+use sled_base::{Device, DiskPtr, Error, Lsn, MessageKind, PageId, Refusal, Why};
 use std::alloc::{AllocError, AllocFailed};
 
 /// Why a call of a log failed.
@@ -44,6 +46,29 @@ impl<T: Drop> From<AllocFailed<T>> for LogError {
 
     fn from(_e: AllocFailed<T>) -> LogError {
         LogError::Memory
+    }
+}
+
+/// What a cache answers where its log failed so.
+impl From<LogError> for Refusal {
+    ghost from_gives = { λ error refusal. refusal ≡ refusal_of error };
+
+    fn from(error: LogError) -> Refusal {
+        match error {
+            LogError::Memory => Refusal::OutOfMemory,
+            LogError::Full => Refusal::Unsupported(Why::LogFull),
+            LogError::ReadFault => Refusal::Io(Device::Read),
+            LogError::WriteFault => Refusal::Io(Device::Write),
+            LogError::Corruption => Refusal::Corruption(None),
+        }
+    }
+}
+
+impl From<LogError> for Error {
+    ghost from_gives = { λ failure error. error ≡ error_of (refusal_of failure) };
+
+    fn from(error: LogError) -> Error {
+        Error::from(Refusal::from(error))
     }
 }
 

@@ -1,25 +1,17 @@
 -- What the calls of a cache make of its log.
-use Rattle.std.specs.Prelude.{◌≡◌, ◌≤◌, ℕ, Bool, true, false, List, [], None, Result, Ok, Err, IsErrOf, ⊤}
+use Rattle.std.specs.Prelude.{◌≡◌, ◌≤◌, ℕ, Bool, true, false, List, [], Result, Ok, Err, IsErrOf, ⊤}
 use Rattle.sled_base.specs.declared.types.Device.TheVariants.{Read, Write}
 use Rattle.sled_base.specs.declared.types.Refusal.{Refusal}
-use Rattle.sled_base.specs.declared.types.Refusal.TheVariants.{Unsupported, Io, Corruption, OutOfMemory}
+use Rattle.sled_base.specs.declared.types.Refusal.TheVariants.{Unsupported, Io, OutOfMemory}
 use Rattle.sled_base.specs.declared.types.Why.TheVariants.{LogFull}
 use Rattle.sled_log.specs.Batches.{is_open, open_after}
 use Rattle.sled_log.specs.Calls.{Counts, HasGrown}
 use Rattle.sled_log.specs.Events.{Event}
 use Rattle.sled_log.specs.Messages.{Message, Entry, Messages, effect_of}
 use Rattle.sled_log.specs.LogState.{LogState, Adds, IsLeft, CrashesSinceLeave, unplaced_state}
+use Rattle.sled_log.specs.Refusals.{refusal_of}
 use Rattle.sled_log.specs.declared.log.LogError.{LogError}
-use Rattle.sled_log.specs.declared.log.LogError.TheVariants as unlogged
 use Rattle.sled_pagecache.specs.declared.pagecache.sticky_log.StickyLog.{StickyLog}
-
--- what a cache answers where its log refuses a call
-abbrev pub refusal_of : LogError → Refusal
-refusal_of unlogged.Memory = OutOfMemory
-refusal_of unlogged.Full = Unsupported LogFull
-refusal_of unlogged.ReadFault = Io Read
-refusal_of unlogged.WriteFault = Io Write
-refusal_of unlogged.Corruption = Corruption None
 
 -- what a cache answers to what its log answered
 abbrev pub cache_answer : {T : Type 0} → Result T LogError → Result T Refusal

@@ -13,9 +13,9 @@ ghost use Rattle.sled_log.specs.Limits.{head_size, size_limit};
 ghost use Rattle.sled_log.specs.Messages.{effect_of_entry, message, placed};
 ghost use Rattle.sled_log.specs.Pages.{IsAt, IsPageState, IsRead, IsSized};
 ghost use Rattle.sled_log.specs.LogState.{now};
-ghost use Rattle.sled_pagecache.specs.StickyLog.{Went, IsCaused, IsOfLog, begun_by, cache_answer, refusal_of};
+ghost use Rattle.sled_pagecache.specs.StickyLog.{Went, IsCaused, IsOfLog, begun_by, cache_answer};
 
-use sled_base::{Device, DiskPtr, Lsn, MessageKind, PageId, PageState, Refusal, Why};
+use sled_base::{DiskPtr, Lsn, MessageKind, PageId, PageState, Refusal};
 use sled_log::{Log, LogError};
 
 /// The log of a cache, whether a batch is open, and whether a write fault was met: then the log is not called any more.
@@ -166,20 +166,7 @@ fn keep_fault<T>(fault: &mut bool, outcome: Result<T, LogError>) -> Result<T, Re
             if error == LogError::WriteFault {
                 *fault = true;
             }
-            Err(refusal_of(error))
+            Err(Refusal::from(error))
         }
-    }
-}
-
-// What a cache answers where its log refuses a call.
-fn refusal_of(error: LogError) -> Refusal
-    ensures { result ≡ refusal_of error }
-{
-    match error {
-        LogError::Memory => Refusal::OutOfMemory,
-        LogError::Full => Refusal::Unsupported(Why::LogFull),
-        LogError::ReadFault => Refusal::Io(Device::Read),
-        LogError::WriteFault => Refusal::Io(Device::Write),
-        LogError::Corruption => Refusal::Corruption(None),
     }
 }
