@@ -1,0 +1,200 @@
+-- A message of a page by its place, in the file or in the buffer.
+use Rattle.std.proofs.Common.{◌≡◌, ◌⊎◌, inl, inr, ⊎_elim, ℕ, zero, suc, ◌+◌, ◌-◌, ◌≤◌, ◌<◌, Bool, List, [], ◌∷◌, ◌++◌, length, map, take, drop, get_or, slice_index_or, refl, ap, sym, ◌∙◌, subst, append_assoc, arith}
+use Rattle.std.specs.Prelude.{Some, ℤ}
+use Rattle.std.specs.Global.{Vec}
+use Rattle.std.specs.List.{All, Any, AllByRecursion}
+use Rattle.std.proofs.Math.ListN.{get_or-map}
+use Rattle.std.proofs.lemmas.List.{take_at, drop_at, drop-take, take-take, drop-drop, take-append-le, take-append-drop, length-append, length-take, append-nil}
+use Rattle.std.proofs.lemmas.List.Elements.{All-from_recursion}
+use Rattle.sled_base.specs.Kinds.{kind_of, log_kind_of}
+use Rattle.sled_base.specs.declared.kinds.LogKind.{LogKind}
+use Rattle.sled_base.specs.declared.kinds.LogKind.TheVariants as effects
+use Rattle.sled_base.specs.declared.kinds.MessageKind.{MessageKind}
+use Rattle.sled_base.specs.declared.types.DiskPtr.{DiskPtr}
+use Rattle.sled_base.specs.declared.types.DiskPtr.TheVariants.{Inline}
+use Rattle.sled_log.proofs.ChainLaws.{all-append, all-get, Says, AllIn, chains-all}
+use Rattle.sled_log.specs.Events.{Event, Change, Pin, Seal, Cancel}
+use Rattle.sled_log.specs.Laws.{chains_after-append}
+use Rattle.sled_log.specs.LogState.{now}
+use Rattle.sled_log.specs.Messages.{Entry, Chain, effect_of_entry}
+use Rattle.sled_log.specs.Pages.{IsAt, IsRead}
+use Rattle.sled_disk.specs.declared.head.Head.{Head}
+use Rattle.sled_disk.specs.declared.mark.Mark.{Mark}
+use Rattle.sled_disk.specs.Format.{opening, Record, size, body, number, frames_bytes, event_by, event_at, events_at, frames_events, IsBytes}
+use Rattle.sled_disk.specs.Found.{IsHeadOf}
+use Rattle.sled_disk.specs.MeaningLaws.{heads_after}
+use Rattle.sled_disk.specs.Opened.{EndsBy, IsWrittenIn}
+use Rattle.sled_disk.specs.Pending.{count, state_in}
+use Rattle.sled_disk.specs.Reading.{records_of, head_at, effect_of_head, entry_in}
+use Rattle.sled_disk.specs.Standing.{Stands, records_behind}
+use Rattle.sled_disk.specs.StandingLaws.{Parsed, parsed, before-is, records-good, ends-at, place-is, heads-stand}
+use Rattle.sled_disk.proofs.Adding.{now-is}
+use Rattle.sled_disk.proofs.Placed.{frames-written, events-written, entries-read}
+use Rattle.sled_disk.proofs.Shown.{frames-end}
+use Rattle.sled_disk.proofs.Waiting.{waits}
+
+-- a head's record ends before the gate, or stands in the buffer
+abbrev pub Side : ℕ → Head → Type 0
+Side gate head = (head.place + (17 + head.len) ≤ gate) ⊎ (gate + 9 ≤ head.place)
+
+abbrev Sides : ℕ → List (Event Head) → Type 0
+Sides gate events = AllByRecursion (Says effect_of_head (Side gate)) events
+
+event-side : (gate : ℕ) (kind : LogKind) (place : ℕ) (r : Record) → (place + size r ≤ gate) ⊎ (gate + 9 ≤ place) → Sides gate (event_by head_at kind place r)
+event-side gate effects.Replace place r h = (h, tt)
+event-side gate effects.Free place r h = (h, tt)
+event-side gate effects.Link place r h = (h, tt)
+event-side gate effects.Skip place r h = tt
+event-side gate effects.Corrupted place r h = tt
+
+events-behind : (gate place : ℕ) (rs : List Record) → gate + 9 ≤ place → Sides gate (events_at head_at place rs)
+events-behind gate place [] le = tt
+events-behind gate place (r ∷ rs) le =
+    all-append (Says effect_of_head (Side gate)) (event_at head_at place r) (events_at head_at (place + size r) rs)
+    (event-side gate (log_kind_of (kind_of r.kind)) place r (inr le)) (events-behind gate (place + size r) rs (omega (arith, le)))
+
+ends-side : (gate : ℕ) (events : List (Event Head)) → AllByRecursion (Says effect_of_head (EndsBy gate)) events → Sides gate events
+ends-side gate [] h = tt
+ends-side gate (event ∷ events) h = (by event h.0, ends-side gate events h.1)
+  where
+    by : (event : Event Head) → Says effect_of_head (EndsBy gate) event → Says effect_of_head (Side gate) event
+    by (Change id head) h = inl h
+    by Pin h = tt
+    by Seal h = tt
+    by Cancel h = tt
+
+-- one of some of which P holds
+pub all-at : {X : Type 0} (P : X → Type 0) (xs : List X) (i : ℕ) (d : X) → i < length xs → AllByRecursion P xs → P (get_or xs i d)
+all-at P [] i d lt h = absurd (omega (arith, lt))
+all-at P (x ∷ xs) zero d lt h = h.0
+all-at P (x ∷ xs) (suc i) d lt h = all-at P xs i d (omega (arith, lt)) h.1
+
+-- what is known of a place that is one of a page's chain
+known-head : (bytes : List ℕ) (chain : List Head) (lsn : ℤ) (pointer : DiskPtr) (d : Head) (k : ℕ) (x : Entry) → k < length (map (entry_in bytes) chain) → get_or (map (entry_in bytes) chain) k x ≡ x → IsAt lsn pointer x
+    → (i : ℕ) × (i < length chain) × (pointer ≡ Inline (get_or chain i d).place)
+known-head bytes [] lsn pointer d k x lt is at = absurd (omega (arith, lt))
+known-head bytes (head ∷ chain) lsn pointer d zero x lt is at = (0, omega arith, sym at.1 ∙ sym (ap (λ (e : Entry). e.place.pointer) is))
+known-head bytes (head ∷ chain) lsn pointer d (suc k) x lt is at = let h = known-head bytes chain lsn pointer d k x (omega (arith, lt)) is at in let below = h.1 in (suc h.0, omega (arith, below), h.2)
+
+module _ (seen : List ℕ) (gate : ℕ) (ms : List Mark) (buffer : List ℕ) (usable : Bool) (heads : List (List Head)) (fits : IsBytes seen) (s : Stands seen gate (records_behind buffer) heads)
+    (are : IsBytes buffer) (front : 8 ≤ length buffer) (read : records_of (drop 8 buffer) ≡ Some (records_behind buffer)) (counted : count ms ≡ length (records_behind buffer)) where
+  abbrev rs : List Record
+  rs = records_behind buffer
+
+  abbrev p : Parsed seen gate rs heads
+  p = parsed seen gate rs heads fits s
+
+  abbrev file : List ℕ
+  file = opening ++ frames_bytes p.frames
+
+  -- the file up to its gate, and the buffer behind it
+  abbrev pub whole : List ℕ
+  whole = opening ++ (frames_bytes p.frames ++ 0 ∷ (take 8 buffer ++ body rs))
+
+  pad-long : length (take 8 buffer) ≡ 8
+  pad-long = omega (arith, length-take 8 buffer, front)
+
+  first-is : take (gate + 1) seen ≡ file ++ 0 ∷ []
+  first-is =
+      ap (take (gate + 1)) (p.is ∙ sym (append_assoc opening (frames_bytes p.frames) (0 ∷ p.rest)) ∙ sym (append_assoc file (0 ∷ []) p.rest))
+      ∙ take_at (file ++ 0 ∷ []) p.rest (gate + 1) (let l = place-is seen gate rs heads p in omega (arith, l, length-append file (0 ∷ [])))
+
+  pub whole-is : whole ≡ take (gate + 1) seen ++ buffer
+  whole-is =
+      sym (append_assoc opening (frames_bytes p.frames) (0 ∷ (take 8 buffer ++ body rs))) ∙ sym (append_assoc file (0 ∷ []) (take 8 buffer ++ body rs))
+      ∙ ap (λ (l : List ℕ). l ++ (take 8 buffer ++ body rs)) (sym first-is)
+      ∙ ap (λ (l : List ℕ). take (gate + 1) seen ++ (take 8 buffer ++ l)) (sym (waits buffer are read).0)
+      ∙ ap (λ (l : List ℕ). take (gate + 1) seen ++ l) (take-append-drop 8 buffer)
+
+  front-long : length (take (gate + 1) seen) ≡ gate + 1
+  front-long = ap length first-is ∙ (let l = place-is seen gate rs heads p in omega (arith, l, length-append file (0 ∷ [])))
+
+  abbrev first : List (Event Head)
+  first = frames_events head_at 8 p.frames
+
+  abbrev second : List (Event Head)
+  second = events_at head_at (gate + 9) rs
+
+  heads-are : heads_after [] (first ++ second) ≡ heads
+  heads-are = chains_after-append effect_of_head [] first second ∙ ap (λ (l : List (List Head)). heads_after l second) (before-is seen gate rs heads p) ∙ (records-good seen gate rs heads p).1
+
+  pub all-written : AllIn effect_of_head (IsWrittenIn whole) heads
+  all-written =
+      subst (AllIn effect_of_head (IsWrittenIn whole)) heads-are
+      (chains-all effect_of_head (IsWrittenIn whole) [] (first ++ second) tt
+      (all-append (Says effect_of_head (IsWrittenIn whole)) first second (frames-written whole opening 8 p.frames (0 ∷ (take 8 buffer ++ body rs)) p.each refl refl)
+      (events-written whole (file ++ 0 ∷ take 8 buffer) (gate + 9) rs [] (waits buffer are read).1
+      (sym (append_assoc opening (frames_bytes p.frames) (0 ∷ (take 8 buffer ++ body rs))) ∙ sym (append_assoc file (0 ∷ take 8 buffer) (body rs)) ∙ ap (λ (l : List ℕ). (file ++ 0 ∷ take 8 buffer) ++ l) (sym (append-nil (body rs))))
+      (let l = place-is seen gate rs heads p in let q = pad-long in omega (arith, l, q, length-append file (0 ∷ take 8 buffer))))))
+
+  pub all-sides : AllIn effect_of_head (Side gate) heads
+  all-sides =
+      subst (AllIn effect_of_head (Side gate)) heads-are
+      (chains-all effect_of_head (Side gate) [] (first ++ second) tt
+      (all-append (Says effect_of_head (Side gate)) first second (ends-side gate first (frames-end gate 8 p.frames (let e = ends-at seen gate rs heads p in omega (arith, e)))) (events-behind gate (gate + 9) rs (omega arith))))
+
+  pub now-heads : map (map (entry_in whole)) heads ≡ now effect_of_entry (state_in seen gate ms buffer usable)
+  now-heads = heads-stand seen gate rs heads p whole (take 8 buffer) pad-long refl ∙ sym (now-is seen gate ms buffer usable counted)
+
+  module _ (pid : ℕ) where
+    abbrev chain : List Head
+    chain = slice_index_or heads pid []
+
+    pub chain-is : map (entry_in whole) chain ≡ slice_index_or (now effect_of_entry (state_in seen gate ms buffer usable)) pid []
+    chain-is = sym (get_or-map (map (entry_in whole)) heads pid []) ∙ ap (λ (l : List Chain). slice_index_or l pid []) now-heads
+
+    written : AllByRecursion (IsWrittenIn whole) chain
+    written = all-get (AllByRecursion (IsWrittenIn whole)) pid heads [] all-written tt
+
+    sides : AllByRecursion (Side gate) chain
+    sides = all-get (AllByRecursion (Side gate)) pid heads [] all-sides tt
+
+    pub known-place : (lsn : ℤ) (pointer : DiskPtr) (d : Head) → Any (IsAt lsn pointer) (slice_index_or (now effect_of_entry (state_in seen gate ms buffer usable)) pid []) → (i : ℕ) × (i < length chain) × (pointer ≡ Inline (get_or chain i d).place)
+    known-place lsn pointer d known = by (subst (Any (IsAt lsn pointer)) (sym chain-is) known)
+      where
+        by : Any (IsAt lsn pointer) (map (entry_in whole) chain) → (i : ℕ) × (i < length chain) × (pointer ≡ Inline (get_or chain i d).place)
+        by (k, x, lt, is, at) = known-head whole chain lsn pointer d k x lt is at
+
+    module _ (at : ℕ) (head : Head) (found : IsHeadOf at head chain) where
+      pub is-written : IsWrittenIn whole head
+      is-written = subst (IsWrittenIn whole) (sym found.2) (all-at (IsWrittenIn whole) chain found.0 head found.1 written)
+
+      side : Side gate head
+      side = subst (Side gate) (sym found.2) (all-at (Side gate) chain found.0 head found.1 sides)
+
+      long : length whole ≡ (gate + 1) + length buffer
+      long = ap length whole-is ∙ (let f = front-long in omega (arith, f, length-append (take (gate + 1) seen) buffer))
+
+      pub within : head.place + (17 + head.len) ≤ (gate + 1) + length buffer
+      within = let w = is-written in let i = w.within in let l = long in omega (arith, i, l)
+
+      in-file : head.place ≤ gate → head.place + (17 + head.len) ≤ gate
+      in-file le = ⊎_elim (λ h. h) (λ far. absurd (omega (arith, le, far))) side
+
+      pub durable-payload : head.place ≤ gate → take head.len (drop (head.place + 17) seen) ≡ take head.len (drop (head.place + 17) whole)
+      durable-payload le =
+          let k = head.place + 17 in
+          let end = in-file le in
+          let f = front-long in
+          sym (drop-take k head.len seen)
+          ∙ ap (drop k) (sym (take-take (k + head.len) (gate + 1) seen (omega (arith, end))) ∙ sym (take-append-le (k + head.len) (take (gate + 1) seen) buffer (omega (arith, end, f))) ∙ ap (take (k + head.len)) (sym whole-is))
+          ∙ drop-take k head.len whole
+
+      pub pending-payload : gate < head.place → take head.len (drop (head.place - gate - 1 + 17) buffer) ≡ take head.len (drop (head.place + 17) whole)
+      pending-payload lt =
+          let k = head.place - gate - 1 + 17 in
+          ap (take head.len)
+          (ap (drop k) (sym (ap (drop (gate + 1)) whole-is ∙ drop_at (take (gate + 1) seen) buffer (gate + 1) front-long))
+          ∙ drop-drop k (gate + 1) whole ∙ ap (λ n. drop n whole) (omega (arith, lt)))
+
+      -- what is read of it is each entry at that place
+      pub read-is : (lsn : ℤ) (found : MessageKind × Vec ℕ) → found.0 ≡ head.kind → found.1.items ≡ take head.len (drop (head.place + 17) whole)
+          → All (λ entry. IsAt lsn (Inline at) entry → IsRead entry found) (slice_index_or (now effect_of_entry (state_in seen gate ms buffer usable)) pid [])
+      read-is lsn answer kind payload =
+          let w = is-written in
+          let place : head.place ≡ at = found.3 in
+          let pointer : DiskPtr = Inline at in
+          subst (λ (l : List Entry). All (λ entry. IsAt lsn (Inline at) entry → IsRead entry answer) l) chain-is
+          (All-from_recursion _ _ (entries-read whole chain lsn pointer answer written
+          (kind ∙ sym w.kind ∙ ap (λ n. kind_of (get_or (drop n whole) 0 0)) place)
+          (payload ∙ ap (λ n. take n (drop (head.place + 17) whole)) (sym w.len) ∙ ap (λ n. take (number (take 8 (drop (n + 9) whole))) (drop (n + 17) whole)) place)))

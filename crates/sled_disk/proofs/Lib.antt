@@ -1,0 +1,21 @@
+pub mod Heads
+pub mod OnDisk
+mod Left
+mod Going
+pub mod Shown
+pub mod Sized
+pub mod Placed
+pub mod FrameWrite
+mod Overlays
+mod Journal
+mod DiskMoments
+mod Waiting
+mod Written
+mod Adding
+mod Calling
+mod Sealing
+mod ByPlace
+mod Bounded
+mod Reached
+mod Created
+mod Kept

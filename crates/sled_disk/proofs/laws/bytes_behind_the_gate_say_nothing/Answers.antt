@@ -1,0 +1,5 @@
+use Rattle.sled_disk.specs.DurableLaws.{behind-gate}
+use Rattle.sled_disk.proofs.laws.bytes_behind_the_gate_say_nothing.Goals as goal
+
+pub returns : goal.returns
+returns c = behind-gate

@@ -1,0 +1,58 @@
+use Rattle.std.proofs.Common.{◌+◌, ◌++◌, List, [], sym, subst}
+use Rattle.std.specs.Prelude.{Result, Ok, Err, OnOk}
+use Rattle.std.specs.List.{AllZip, AllByRecursion}
+use Rattle.std.proofs.lemmas.Result.{IfOk-weaker}
+use Rattle.sled_log.specs.Messages.{Chain, effect_of_entry}
+use Rattle.sled_log.specs.Pages.{IsPageState}
+use Rattle.sled_log.specs.ShapeLaws.{AreChains, chains-are}
+use Rattle.std.specs.Global.{Vec}
+use Rattle.sled_disk.specs.declared.head.Head.{Head}
+use Rattle.sled_disk.specs.Opened.{AreHeads, IsShown}
+use Rattle.sled_disk.specs.Format.{events_at, entry_at}
+use Rattle.sled_disk.specs.Reading.{chains_of}
+use Rattle.sled_disk.specs.Standing.{records_behind, events_in}
+use Rattle.sled_disk.proofs.Adding.{now-is, heads-now, bytes}
+use Rattle.sled_disk.proofs.Calling.{called-nothing}
+use Rattle.sled_disk.proofs.Shown.{pages-in}
+use Rattle.sled_disk.proofs.Sized.{stands-sized, waits-small}
+use Rattle.sled_disk.proofs.log.calls.DiskLogLog.recover.Goals as goal
+
+if_any : {T E A : Type 0} (r : Result T E) → A → OnOk r A
+if_any (Ok x) a = a
+if_any (Err e) a = _
+
+pub returns-clause-called : goal.returns-clause-called
+returns-clause-called g c =
+    let log = c.args.self.now in
+    let next = log.next in
+    called-nothing (λ log. log.disk) (λ log. log.next.gate) (λ log. log.next.marks.items) (λ log. log.next.buffer.items) (λ log. log.usable) (λ log. log.reads)
+    g.D.Disk.tells g.D.Disk.seen g.D.Disk.may_leave g.D.Disk.moment g.D.Disk.left_since g.D.Disk.counts (λ disk left told was. g.met.D.Disk.only_now disk left told was)
+    log c.pages_of.result c.pages_of.ensures.only
+    (λ told is. c.pages_of.ensures.sound (subst (λ (l : List (Vec Head)). AllByRecursion AreHeads (chains_of l)) (sym c.deref.ensures.value) log.heads) is)
+    c.requires.usable
+    (λ told. record { heads = chains_of log.pages.items; fits = λ i. g.met.D.Disk.are_bytes log.disk i told; stands = log.stands told c.requires.usable; durable = log.durable told c.requires.usable })
+
+pub returns-clause-sized : goal.returns-clause-sized
+returns-clause-sized g c = λ told.
+    let log = c.args.self.now in
+    let next = log.next in
+    if_any c.pages_of.result
+    (stands-sized (g.D.Disk.seen log.disk) next.gate next.marks.items next.buffer.items log.usable (chains_of log.pages.items) (λ i. g.met.D.Disk.are_bytes log.disk i told) (log.stands told c.requires.usable) next.counted
+    (waits-small next.gate next.buffer.items next.are_bytes next.front next.parsed next.small next.fits))
+
+pub returns-clause-chains : goal.returns-clause-chains
+returns-clause-chains g c = λ told.
+    let log = c.args.self.now in
+    let next = log.next in
+    if_any c.pages_of.result
+    (subst (λ (l : List Chain). AreChains effect_of_entry l) (sym (now-is (g.D.Disk.seen log.disk) next.gate next.marks.items next.buffer.items log.usable next.counted)) (chains-are effect_of_entry [] (events_in (g.D.Disk.seen log.disk) ++ events_at entry_at (next.gate + 9) (records_behind next.buffer.items)) tt))
+
+pub returns-clause-pages : goal.returns-clause-pages
+returns-clause-pages g c = λ told.
+    let log = c.args.self.now in
+    let next = log.next in
+    let seen = g.D.Disk.seen log.disk in
+    let heads = chains_of log.pages.items in
+    let all = bytes seen next.gate next.buffer.items heads (λ i. g.met.D.Disk.are_bytes log.disk i told) (log.stands told c.requires.usable) in
+    let is = heads-now seen next.gate next.buffer.items heads (λ i. g.met.D.Disk.are_bytes log.disk i told) (log.stands told c.requires.usable) next.marks.items log.usable next.counted in
+    IfOk-weaker c.pages_of.result _ _ (λ pages shown. subst (λ (l : List Chain). AllZip IsPageState l pages.items) is (pages-in all heads pages.items (subst (λ (l : List (Vec Head)). AllZip IsShown (chains_of l) pages.items) c.deref.ensures.value shown))) c.pages_of.ensures.shown

@@ -1,0 +1,39 @@
+use Rattle.std.proofs.Common.{arith, refl, sym, ◌∙◌, ap, subst}
+use Rattle.sled_disk.specs.Pending.{pending_in}
+use Rattle.sled_disk.specs.Reading.{chains_of}
+use Rattle.sled_disk.specs.Standing.{Stands, records_behind}
+use Rattle.sled_disk.proofs.Sealing.{seal-stands, pending-seal}
+use Rattle.sled_disk.specs.Waiting.{place_of}
+use Rattle.sled_disk.proofs.Kept.{all-later}
+use Rattle.sled_disk.proofs.Calling.{opens-by, called-waits, rests-same}
+use Rattle.sled_disk.proofs.log.calls.DiskLogLog.seal.Goals as goal
+
+pub seal-requires : goal.seal-requires
+seal-requires g c = record { opened = let next = c.args.self.now.next in next.batch_is ∙ sym (opens-by next.gate next.marks.items next.buffer.items) ∙ c.requires.opened }
+
+pub invariant_of-self-clause-stands : goal.invariant_of-self-clause-stands
+invariant_of-self-clause-stands g c = λ told usable.
+    let log = c.args.self.now in
+    let next = c.seal.new.self in
+    subst (λ n. Stands (g.D.Disk.seen log.disk) n (records_behind next.buffer.items) (chains_of log.pages.items)) (sym c.seal.ensures.gate)
+    (seal-stands (g.D.Disk.seen log.disk) log.next.gate log.next.batch_place log.next.last_place log.next.buffer.items next.buffer.items (chains_of log.pages.items) (λ i. g.met.D.Disk.are_bytes log.disk i told) c.seal.ensures.last (log.next.batch_stands (log.next.batch_is ∙ sym (opens-by log.next.gate log.next.marks.items log.next.buffer.items) ∙ c.requires.opened)) c.seal.ensures.records (log.stands told usable))
+
+pub returns-clause-called : goal.returns-clause-called
+returns-clause-called g c =
+    let log = c.args.self.now in
+    let next = c.seal.new.self in
+    called-waits (λ log. log.disk) (λ log. log.next.gate) (λ log. log.next.marks.items) (λ log. log.next.buffer.items) (λ log. log.usable) (λ log. log.reads)
+    g.D.Disk.tells g.D.Disk.seen g.D.Disk.may_leave g.D.Disk.moment g.D.Disk.left_since g.D.Disk.counts (λ disk left told was. g.met.D.Disk.only_now disk left told was)
+    log _ _ _ tt (rests-same g.D.Disk.seen g.D.Disk.may_leave g.D.Disk.moment g.D.Disk.left_since g.D.Disk.tells log.disk) refl c.requires.usable refl
+    (λ told. ap (λ n. pending_in n next.marks.items next.buffer.items) c.seal.ensures.gate
+    ∙ pending-seal log.next.gate log.next.batch_place log.next.last_place log.next.marks.items next.marks.items log.next.buffer.items next.buffer.items (log.next.batch_stands (log.next.batch_is ∙ sym (opens-by log.next.gate log.next.marks.items log.next.buffer.items) ∙ c.requires.opened)) c.seal.ensures.records c.seal.ensures.marks)
+    (sym next.batch_is ∙ c.seal.ensures.batch)
+    (λ told. record { heads = chains_of log.pages.items; fits = λ i. g.met.D.Disk.are_bytes log.disk i told; stands = log.stands told c.requires.usable; durable = log.durable told c.requires.usable })
+
+pub invariant_of-self-clause-ends : goal.invariant_of-self-clause-ends
+invariant_of-self-clause-ends g c = λ usable.
+    let log = c.args.self.now in
+    let next = c.seal.new.self in
+    let gate = c.seal.ensures.gate in
+    let len = c.seal.ensures.len in
+    all-later (place_of log.next) (place_of next) (chains_of log.pages.items) (omega (arith, gate, len)) (log.ends usable)

@@ -1,0 +1,87 @@
+-- What follows of a log that may be called.
+use Rattle.std.proofs.Common.{◌≡◌, ℕ, ◌≤◌, Bool, true, List, [], ◌∷◌, ◌++◌, length, map, drop, get_or, refl, ap, sym, ◌∙◌, subst, append_assoc, arith}
+use Rattle.std.specs.Prelude.{Some}
+use Rattle.std.proofs.lemmas.Bool.{eq-eqb}
+use Rattle.std.proofs.lemmas.List.{drop_all, get_or_at, length-append}
+use Rattle.sled_log.specs.Chains.{chains_after}
+use Rattle.sled_log.specs.Events.{Event}
+use Rattle.sled_log.specs.Laws.{IsFair-none}
+use Rattle.sled_log.specs.LogState.{IsLeft, unplaced_state}
+use Rattle.sled_log.specs.Messages.{Message, Messages, Entry, unplaced, effect_of, effect_of_entry}
+use Rattle.sled_disk.specs.declared.head.Head.{Head}
+use Rattle.sled_disk.specs.declared.mark.Mark.{Mark}
+use Rattle.sled_disk.specs.Crash.{IsClosed}
+use Rattle.sled_disk.specs.Disk.{Only}
+use Rattle.sled_disk.specs.DurableLaws.{one-meaning}
+use Rattle.sled_disk.specs.Format.{opening, Record, frames_bytes, Describes, DescribesTo, IsBytes}
+use Rattle.sled_disk.specs.Opened.{AreRead}
+use Rattle.sled_disk.specs.Pending.{state_in}
+use Rattle.sled_disk.specs.Reading.{records_in, records_of, steps}
+use Rattle.sled_disk.specs.Ready.{Means, LeavesPages}
+use Rattle.sled_disk.specs.Standing.{events_in, records_behind, Stands}
+use Rattle.sled_disk.specs.StandingLaws.{parsed, described, place-is}
+
+-- a buffer of 8 bytes has no records
+pub none-parsed : (buffer : List ℕ) → length buffer ≤ 8 → records_of (drop 8 buffer) ≡ Some []
+unfolding records_of records_in
+none-parsed buffer le = ap records_of (drop_all 8 buffer le)
+
+pub none-behind : (buffer : List ℕ) → length buffer ≤ 8 → records_behind buffer ≡ []
+none-behind buffer le = rw (none-parsed buffer le) refl
+
+-- what was read stands, with no records behind it
+pub read-stands : (seen : List ℕ) (gate : ℕ) (heads : List (List Head)) → AreRead seen gate heads → Stands seen gate [] heads
+unfolding steps
+read-stands seen gate heads read = record { opens = read.opens; made = rw (read.found, eq-eqb gate gate refl) refl }
+
+module _ (seen : List ℕ) (gate : ℕ) (rs : List Record) (heads : List (List Head)) (fits : IsBytes seen) (s : Stands seen gate rs heads) where
+  -- the file is described
+  pub stands-described : DescribesTo gate seen (events_in seen)
+  stands-described = described seen gate rs heads (parsed seen gate rs heads fits s)
+
+  -- its gate is closed
+  pub stands-closed : IsClosed gate seen
+  stands-closed =
+      let p = parsed seen gate rs heads fits s in
+      let front = opening ++ frames_bytes p.frames in
+      let file : seen ≡ front ++ 0 ∷ p.rest = p.is ∙ sym (append_assoc opening (frames_bytes p.frames) (0 ∷ p.rest)) in
+      let at = place-is seen gate rs heads p in
+      record {
+        within = let e = ap length file in omega (arith, e, at, length-append front (0 ∷ p.rest));
+        closed = ap (λ (l : List ℕ). get_or l gate 1) file ∙ get_or_at front 0 p.rest 1 gate at;
+      }
+
+  -- the pages that the open frames make
+  abbrev pub durable_pages : List Messages
+  durable_pages = map unplaced (chains_after effect_of_entry [] (events_in seen))
+
+  -- what its own bytes mean
+  pub stands-means : Means seen durable_pages
+  stands-means events describes = ap (λ (l : List (Event Entry)). map unplaced (chains_after effect_of_entry [] l)) (one-meaning seen (events_in seen) events (gate, stands-described) describes)
+
+  -- a crash may leave what is durable
+  pub ready-keeps : (left : List ℕ → Type 0) → left seen → LeavesPages left durable_pages
+  ready-keeps left may = (seen, may, stands-means)
+
+  -- and nothing else
+  pub ready-only : (may_leave : List ℕ → Type 0) → Only seen may_leave → (pages : List Messages) → LeavesPages may_leave pages → pages ≡ durable_pages
+  ready-only may_leave only pages (bytes, may, means) =
+      means (events_in seen) (subst (λ (l : List ℕ). Describes l (events_in seen)) (sym (only bytes may)) (gate, stands-described))
+
+-- what is durable is left of a log
+pub left-stable : (seen : List ℕ) (gate : ℕ) (marks : List Mark) (buffer : List ℕ) (begun : List (Event Message)) (pages : List Messages)
+    → pages ≡ map unplaced (chains_after effect_of_entry [] (events_in seen)) → IsLeft effect_of (unplaced_state (state_in seen gate marks buffer true)) begun pages
+left-stable seen gate marks buffer begun pages is =
+    let pending : List (Event Message) = (unplaced_state (state_in seen gate marks buffer true)).pending in
+    record { came = []; beginning = (begun, refl); cut = 0; fair = IsFair-none (pending ++ []); is = is }
+
+-- ---- the laws of a log at rest
+
+module _ (seen : List ℕ) (gate : ℕ) (rs : List Record) (heads : List (List Head)) (fits : IsBytes seen) (s : Stands seen gate rs heads) where
+  pub log-keeps : (left : List ℕ → Type 0) → left seen → LeavesPages left (map unplaced (chains_after effect_of_entry [] (events_in seen)))
+  log-keeps left may = ready-keeps seen gate rs heads fits s left may
+
+  pub log-only : (marks : List Mark) (buffer : List ℕ) (usable : Bool) (may_leave : List ℕ → Type 0) → Only seen may_leave → (pages : List Messages) → LeavesPages may_leave pages → IsLeft effect_of (unplaced_state (state_in seen gate marks buffer usable)) [] pages
+  log-only marks buffer usable may_leave only pages left =
+      let pending : List (Event Message) = (unplaced_state (state_in seen gate marks buffer usable)).pending in
+      record { came = []; beginning = ([], refl); cut = 0; fair = IsFair-none (pending ++ []); is = ready-only seen gate rs heads fits s may_leave only pages left }

@@ -1,0 +1,80 @@
+//! The whole chain once, at the disk in memory: a log over a disk, a crash, and a log over what it left.
+
+ghost use Rattle.std.specs.Prelude.{◌≡◌, ℕ, ◌+◌, ◌-◌, ◌≤◌, List, [], min, IfOk, IfErr, IsTrue, map, true};
+ghost use Rattle.sled_log.specs.Batches.{is_open};
+ghost use Rattle.sled_log.specs.LogState.{LogState, IsLeft, now, unplaced_state};
+ghost use Rattle.sled_log.specs.Runs.{can_make_all, events_of_all};
+ghost use Rattle.sled_log.specs.Messages.{Messages, Entry, effect_of};
+ghost use Rattle.sled_disk.specs.DiskMemory.{clock_of};
+ghost use Rattle.sled_log.specs.declared.log.LogError.TheVariants.{Full, Corruption};
+
+use crate::disk::MemDisk;
+use crate::log::DiskLog;
+use sled_log::runs::make_calls;
+use sled_log::{Log, LogCall, LogError};
+use std::alloc::Global;
+
+/// A log on a disk in memory tells its bytes.
+pub fn a_log_on_a_disk_in_memory_tells()
+    ensures { ⟦<DiskLog<MemDisk> as Log>⟧.tells }
+{}
+
+/// What is known of a log at rest.
+pub fn a_log_at_rest<L: Log>(_log: &L)
+    ensures keeps { L.tells → (L.state _log.now).usable ≡ true → L.left_since _log.now (L.moment _log.now) (unplaced_state (L.state _log.now)).stable }
+    ensures only { (pages : List Messages) → L.tells → (L.state _log.now).usable ≡ true → L.left_since _log.now (L.moment _log.now) pages → IsLeft effect_of (unplaced_state (L.state _log.now)) [] pages }
+    ensures earlier { (t u : ℕ) (pages : List Messages) → L.tells → t ≤ u → L.left_since _log.now u pages → L.left_since _log.now t pages }
+{}
+
+/// The same of a log on a disk in memory, with no premise on its bytes.
+pub fn a_disk_log_at_rest(log: &DiskLog<MemDisk>)
+    ensures keeps { (⟦<DiskLog<MemDisk> as Log>⟧.state log.now).usable ≡ true → ⟦<DiskLog<MemDisk> as Log>⟧.left_since log.now (⟦<DiskLog<MemDisk> as Log>⟧.moment log.now) (unplaced_state (⟦<DiskLog<MemDisk> as Log>⟧.state log.now)).stable }
+    ensures only { (pages : List Messages) → (⟦<DiskLog<MemDisk> as Log>⟧.state log.now).usable ≡ true → ⟦<DiskLog<MemDisk> as Log>⟧.left_since log.now (⟦<DiskLog<MemDisk> as Log>⟧.moment log.now) pages → IsLeft effect_of (unplaced_state (⟦<DiskLog<MemDisk> as Log>⟧.state log.now)) [] pages }
+{
+    a_log_at_rest(log);
+}
+
+/// A crash of the disk before its n-th write or sync, of which the first is 1, and the log that is opened of what it left: one of
+/// the crash states of the log since that moment, all of it durable. Where none opens for Corruption, the log was no log: it
+/// might have left anything.
+pub fn reopen_after_a_crash(
+    alloc: Global,
+    log: DiskLog<MemDisk>,
+    n: usize,
+    fill: Option<u8>,
+    segment_size: u64,
+    clean_every: u64,
+) -> Result<DiskLog<MemDisk>, (LogError, MemDisk)>
+    ensures usable { IfOk result (λ new. (⟦<DiskLog<MemDisk> as Log>⟧.state new).usable ≡ true) }
+    ensures pending { IfOk result (λ new. (⟦<DiskLog<MemDisk> as Log>⟧.state new).pending ≡ []) }
+    ensures left { IfOk result (λ new. ⟦<DiskLog<MemDisk> as Log>⟧.left_since log (min (n - 1) (clock_of log.disk)) (unplaced_state (⟦<DiskLog<MemDisk> as Log>⟧.state new)).stable) }
+    ensures sound { IfErr result (λ e. e.0 ≡ Corruption → (pages : List Messages) → ⟦<DiskLog<MemDisk> as Log>⟧.left_since log (min (n - 1) (clock_of log.disk)) pages) }
+    ensures not_full { IfErr result (λ e. e.0 ≡ Full → ⊥) }
+{
+    let left = log.into_disk().stop(n, fill);
+    DiskLog::open(alloc, left, segment_size, clean_every)
+}
+
+/// The chain once: a log on a disk that was flushed, calls of it, whatever they answer, a crash at any moment since the flush that
+/// leaves any bytes in what isn't synced, and the log that is opened of what it left. It has all that was flushed, and a prefix of
+/// what the calls add that splits no batch. It never fails for Corruption.
+pub fn what_was_flushed_is_there(
+    alloc: Global,
+    mut log: DiskLog<MemDisk>,
+    calls: &[LogCall],
+    n: usize,
+    fill: Option<u8>,
+    segment_size: u64,
+    clean_every: u64,
+) -> Result<DiskLog<MemDisk>, (LogError, MemDisk)>
+    requires usable { (⟦<DiskLog<MemDisk> as Log>⟧.state log).usable ≡ true }
+    requires flushed { (⟦<DiskLog<MemDisk> as Log>⟧.state log).pending ≡ [] }
+    requires can { IsTrue (can_make_all (now effect_of (unplaced_state (⟦<DiskLog<MemDisk> as Log>⟧.state log))) (is_open (⟦<DiskLog<MemDisk> as Log>⟧.state log).pending) calls.now) }
+    requires since { clock_of log.disk ≤ n - 1 }
+    ensures prefix { IfOk result (λ new. IsLeft effect_of (unplaced_state (⟦<DiskLog<MemDisk> as Log>⟧.state log)) (events_of_all calls.now) (unplaced_state (⟦<DiskLog<MemDisk> as Log>⟧.state new)).stable) }
+    ensures sound { IfErr result (λ e. e.0 ≡ Corruption → ⊥) }
+    ensures not_full { IfErr result (λ e. e.0 ≡ Full → ⊥) }
+{
+    let _whatever_they_answer = make_calls(&mut log, calls);
+    reopen_after_a_crash(alloc, log, n, fill, segment_size, clean_every)
+}

@@ -1,0 +1,265 @@
+//! A log on a disk.
+
+ghost use Rattle.std.specs.Prelude.{◌≡◌, ◌≢◌, ◌≤◌, ◌<◌, ◌+◌, ◌-◌, ◌^◌, ◌⊎◌, ◌++◌, ◌↔◌, List, [], ◌∷◌, true, false, length, is_ok, IfOk, IfErr, OnOk, OnErr, IsErrOf, vec_len, vec_capacity};
+ghost use Rattle.std.specs.List.{AllByRecursion};
+ghost use Rattle.sled_log.specs.Calls.{HasGrown, HasCause, can_append};
+ghost use Rattle.sled_log.specs.Events.{Event, Change};
+ghost use Rattle.sled_log.specs.LogState.{now};
+ghost use Rattle.sled_log.specs.Messages.{Entry, effect_of_entry, message, placed};
+ghost use Rattle.sled_log.specs.declared.log.LogError.TheVariants.{Memory, Full, ReadFault, WriteFault, Corruption};
+ghost use Rattle.sled_disk.specs.Crash.{BytesLeft, IsTornOf};
+ghost use Rattle.sled_disk.specs.Disk.{Only, overlaid, LeavesTheSame};
+ghost use Rattle.sled_disk.specs.Format.{Describes, opening};
+ghost use Rattle.sled_disk.specs.GoesOn.{GoesOn};
+ghost use Rattle.sled_disk.specs.OnDisk.{Rests};
+ghost use Rattle.sled_disk.specs.HeadLaws.{are_heads-prop, end_by-prop};
+ghost use Rattle.sled_disk.specs.Opened.{AllEndBy, AreHeads};
+ghost use Rattle.sled_disk.specs.Reading.{chains_of, effect_of_head};
+ghost use Rattle.sled_disk.specs.Ready.{IsLogOf, IsBeforeOrAfter};
+ghost use Rattle.sled_disk.specs.Standing.{Stands, records_behind, events_in};
+ghost use Rattle.sled_disk.specs.Waiting.{pending_of, state_of, place_of, said_of, events_of, events_with, IsFullFor};
+
+use crate::disk::Disk;
+use crate::head::Head;
+use crate::next_frame::NextFrame;
+use crate::pages::take_head;
+use crate::reader::Reader;
+use sled_base::{MessageKind, PageId};
+use sled_log::{Log, LogError};
+use std::alloc::Global;
+
+mod calls;
+mod finding;
+
+// the opening bytes and a closed gate
+const EMPTY: [u8; 9] = [0x53, 0x4c, 0x50, 0x43, 0x4c, 0x4f, 0x47, 0x31, 0];
+
+/// A log on a disk, which `create` made empty once, and on which each `open` finds all that is durable.
+///
+/// What is pending waits in memory, and is written as one frame: behind a closed gate, which is opened once the frame is durable. So
+/// at any moment a crash leaves all that was durable, and all of a frame or nothing of it, and what it leaves opens again.
+///
+/// Full: the place of the next gate would be above `i64::MAX`. Memory: an allocation failed, in the log or for what the disk is to
+/// keep; `make_stable`, `seal` and `cancel` need none. Corruption is for a place that the log doesn't hold, and a change that fits no
+/// page. After a WriteFault the log is called no more: what was durable is found by opening the disk again, and a file from
+/// `FileDisk::open` on.
+#[derive(Drop)]
+pub struct DiskLog<D: Disk> {
+    alloc: Global,
+    disk: D,
+    // at so many bytes of pending records an append outside a batch writes a frame
+    segment_size: u64,
+    // a page is to be moved for every so many messages
+    clean_every: u64,
+    // the chains of the pages, by the heads of their records, the pending ones among them
+    pages: Vec<Vec<Head>>,
+    next: NextFrame,
+    usable: bool,
+    reads: u64,
+    ghost heads: { AllByRecursion AreHeads (chains_of pages.items) } by { are_heads-prop (chains_of pages.items) },
+    ghost ends: { usable ≡ true → AllEndBy (place_of next) (chains_of pages.items) } by { end_by-prop usable (place_of next) (chains_of pages.items) },
+    ghost stands: { D.tells → usable ≡ true → Stands (D.seen disk) next.gate (records_behind next.buffer.items) (chains_of pages.items) },
+    ghost durable: { D.tells → usable ≡ true → Only (D.seen disk) (D.may_leave disk) },
+}
+
+impl<D: Disk> DiskLog<D> {
+    /// Makes the disk an empty file: the opening bytes and a closed gate, durable.
+    ///
+    /// Memory: nothing was done. WriteFault: the device failed to write or to sync, and the first nine bytes may be any. So may they be
+    /// after a crash during this call: a file whose `create` did not answer Ok has no log in it, and may be made anew.
+    pub fn create(disk: &mut D) -> Result<(), LogError>
+        ensures bytes { D.tells → OnOk result (D.seen disk.new ≡ overlaid (D.seen disk.old) 0 (opening ++ 0 ∷ [])) }
+        ensures empty { D.tells → OnOk result (Describes (D.seen disk.new) []) }
+        ensures durable { D.tells → OnOk result (Only (D.seen disk.new) (D.may_leave disk.new)) }
+        ensures any_moment { D.tells → BytesLeft D.moment D.left_since disk.old disk.new (IsTornOf (D.may_leave disk.old) 0 9) }
+        ensures memory { IsErrOf result Memory → Rests D.tells D.seen D.may_leave D.moment D.left_since disk.old disk.new }
+        ensures only { IfErr result (λ e. (e ≡ Memory) ⊎ (e ≡ WriteFault)) }
+        ensures cause { HasCause (D.counts disk.old) (D.counts disk.new) result }
+        ensures reads { (D.counts disk.new).reads ≡ (D.counts disk.old).reads }
+    {
+        disk.make_room(EMPTY.len())?;
+        disk.write_at(0, &EMPTY)?;
+        disk.sync()
+    }
+
+    /// The log of a file on a disk, which is synced once and then read: all that the file describes is durable, and nothing is pending.
+    ///
+    /// An `append` outside a batch that leaves `segment_size` bytes of records pending writes them, which takes two syncs. So between two
+    /// flushes a log syncs twice for each `segment_size` bytes: some thousands keep little in memory, a million suits many writes in a
+    /// row. `clean_every` is how many messages a page is due to be moved for (0: never; nothing is moved yet).
+    ///
+    /// Corruption: the file describes no events, as one with fewer than nine bytes; no crash of a log leaves such a file. ReadFault and
+    /// WriteFault: the device failed to read, or to sync. Memory: an allocation failed. At an error the disk comes back, which was
+    /// read and synced at most.
+    pub fn open(
+        alloc: Global,
+        mut disk: D,
+        segment_size: u64,
+        clean_every: u64,
+    ) -> Result<Self, (LogError, D)>
+        ensures opened { D.tells → IfOk result (λ log. IsLogOf (D.seen disk) (⟦<Self as Log>⟧.state log)) }
+        ensures durable { D.tells → IfOk result (λ log. Only (D.seen log.disk) (D.may_leave log.disk)) }
+        ensures usable { IfOk result (λ log. (⟦<Self as Log>⟧.state log).usable ≡ true) }
+        ensures none { IfOk result (λ log. (⟦<Self as Log>⟧.state log).pending ≡ []) }
+        ensures reads { IfOk result (λ log. (⟦<Self as Log>⟧.counts log).reads ≡ 0) }
+        ensures settings { IfOk result (λ log. (log.segment_size ≡ segment_size) × (log.clean_every ≡ clean_every)) }
+        ensures rests { IfOk result (λ log. Rests D.tells D.seen D.may_leave D.moment D.left_since disk log.disk) }
+        ensures corrupt { D.tells → IfErr result (λ e. e.0 ≡ Corruption → (events : List (Event Entry)) → Describes (D.seen disk) events → ⊥) }
+        ensures left { IfErr result (λ e. LeavesTheSame D.tells D.may_leave D.moment D.left_since disk e.1) }
+        ensures seen { D.tells → IfErr result (λ e. e.0 ≢ WriteFault → D.seen e.1 ≡ D.seen disk) }
+        ensures not_full { IfErr result (λ e. e.0 ≢ Full) }
+        ensures read_fault { IfErr result (λ e. e.0 ≡ ReadFault → HasGrown (D.counts disk).failed_reads (D.counts e.1).failed_reads) }
+        ensures write_fault { IfErr result (λ e. e.0 ≡ WriteFault → HasGrown (D.counts disk).write_faults (D.counts e.1).write_faults) }
+    {
+        if let Err(e) = disk.sync() {
+            return Err((e, disk));
+        }
+        let reader = match Reader::begin(alloc, &mut disk) {
+            Ok(reader) => reader,
+            Err(e) => return Err((e, disk)),
+        };
+        match DiskLog::open_with(alloc, reader, disk, segment_size, clean_every) {
+            Ok(log) => Ok(log),
+            Err((e, _, disk)) => Err((e, disk)),
+        }
+    }
+
+    /// The log of a file whose reading was begun: the last step of `open`, behind a sync of the disk and `Reader::begin`, for a caller
+    /// who goes on behind a fault. The two numbers are those of `open`.
+    ///
+    /// ReadFault: the device failed to read. Memory: an allocation failed. Corruption: the file describes no events. At an error the
+    /// disk comes back, which was read at most, and beside it the reader: with both the call can be made again, and goes on where it
+    /// was.
+    pub fn open_with(
+        alloc: Global,
+        mut reader: Reader,
+        mut disk: D,
+        segment_size: u64,
+        clean_every: u64,
+    ) -> Result<Self, (LogError, Reader, D)>
+        requires goes_on { D.tells → GoesOn (D.seen disk) reader }
+        requires synced { D.tells → Only (D.seen disk) (D.may_leave disk) }
+        ensures opened { D.tells → IfOk result (λ log. IsLogOf (D.seen disk) (⟦<Self as Log>⟧.state log)) }
+        ensures durable { D.tells → IfOk result (λ log. Only (D.seen log.disk) (D.may_leave log.disk)) }
+        ensures usable { IfOk result (λ log. (⟦<Self as Log>⟧.state log).usable ≡ true) }
+        ensures none { IfOk result (λ log. (⟦<Self as Log>⟧.state log).pending ≡ []) }
+        ensures reads { IfOk result (λ log. (⟦<Self as Log>⟧.counts log).reads ≡ 0) }
+        ensures settings { IfOk result (λ log. (log.segment_size ≡ segment_size) × (log.clean_every ≡ clean_every)) }
+        ensures rests { IfOk result (λ log. Rests D.tells D.seen D.may_leave D.moment D.left_since disk log.disk) }
+        ensures goes_on { D.tells → IfErr result (λ e. GoesOn (D.seen e.2) e.1) }
+        ensures synced { D.tells → IfErr result (λ e. Only (D.seen e.2) (D.may_leave e.2)) }
+        ensures only_read { IfErr result (λ e. Rests D.tells D.seen D.may_leave D.moment D.left_since disk e.2) }
+        ensures corrupt { D.tells → IfErr result (λ e. e.0 ≡ Corruption → (events : List (Event Entry)) → Describes (D.seen disk) events → ⊥) }
+        ensures only { IfErr result (λ e. (e.0 ≡ Memory) ⊎ (e.0 ≡ ReadFault) ⊎ (e.0 ≡ Corruption)) }
+        ensures read_fault { IfErr result (λ e. e.0 ≡ ReadFault → HasGrown (D.counts disk).failed_reads (D.counts e.2).failed_reads) }
+    {
+        let gate = match reader.read(&mut disk) {
+            Ok(gate) => gate,
+            Err(e) => return Err((e, reader, disk)),
+        };
+        let Ok(next) = NextFrame::new(alloc, gate) else {
+            return Err((LogError::Memory, reader, disk));
+        };
+        Ok(DiskLog {
+            alloc,
+            disk,
+            segment_size,
+            clean_every,
+            pages: reader.into_pages(),
+            next,
+            usable: true,
+            reads: 0,
+        })
+    }
+
+    /// The disk, to be looked at.
+    pub fn disk(&self) -> &D
+        ensures { result.now ≡ self.now.disk }
+    {
+        &self.disk
+    }
+
+    /// Ends the log, and makes nothing durable.
+    pub fn into_disk(self) -> D
+        ensures { result ≡ self.disk }
+    {
+        self.disk
+    }
+
+    // Makes room for a record with a payload of so many bytes: in the next frame, and on the disk for all that will be written then.
+    fn make_room(&mut self, len: usize) -> Result<(), LogError>
+        requires usable { self.old.usable ≡ true }
+        requires not_full { IsFullFor self.old.next len → ⊥ }
+        ensures rests { Rests D.tells D.seen D.may_leave D.moment D.left_since self.old.disk self.new.disk }
+        ensures counts { D.counts self.new.disk ≡ D.counts self.old.disk }
+        ensures usable { self.new.usable ≡ true }
+        ensures reads { self.new.reads ≡ self.old.reads }
+        ensures settings { (self.new.segment_size ≡ self.old.segment_size) × (self.new.clean_every ≡ self.old.clean_every) }
+        ensures pages { self.new.pages.items ≡ self.old.pages.items }
+        ensures gate { self.new.next.gate ≡ self.old.next.gate }
+        ensures buffer { self.new.next.buffer.items ≡ self.old.next.buffer.items }
+        ensures marks { self.new.next.marks.items ≡ self.old.next.marks.items }
+        ensures batch { self.new.next.batch ≡ self.old.next.batch }
+        ensures room { OnOk result (vec_len self.new.next.buffer + 18 + len ≤ vec_capacity self.new.next.buffer) }
+        ensures mark_room { OnOk result (vec_len self.new.next.marks + 2 ≤ vec_capacity self.new.next.marks) }
+        ensures only { IfErr result (λ e. e ≡ Memory) }
+    {
+        self.next.make_room(len)?;
+        self.disk.make_room(self.next.to_write_with(len))
+    }
+
+    // Adds a record of a page to what is pending, and answers where it will stand.
+    fn add(&mut self, kind: MessageKind, pid: PageId, payload: &[u8]) -> Result<u64, LogError>
+        requires usable { self.old.usable ≡ true }
+        requires can { D.tells → can_append effect_of_entry (now effect_of_entry (state_of (D.seen self.old.disk) self.old.next self.old.usable)) pid kind ≡ true }
+        ensures rests { Rests D.tells D.seen D.may_leave D.moment D.left_since self.old.disk self.new.disk }
+        ensures counts { D.counts self.new.disk ≡ D.counts self.old.disk }
+        ensures usable { self.new.usable ≡ true }
+        ensures reads { self.new.reads ≡ self.old.reads }
+        ensures gate { self.new.next.gate ≡ self.old.next.gate }
+        ensures batch { self.new.next.batch ≡ self.old.next.batch }
+        ensures added { D.tells → OnOk result (pending_of self.new.next ≡ pending_of self.old.next ++ Change pid (placed (message kind payload.now) (said_of self.old.next payload.now)) ∷ []) }
+        ensures written { D.tells → OnOk result (events_of self.new.next ≡ events_with self.old.next kind pid payload.now) }
+        ensures kept { OnErr result (pending_of self.new.next ≡ pending_of self.old.next) }
+        ensures settings { (self.new.segment_size ≡ self.old.segment_size) × (self.new.clean_every ≡ self.old.clean_every) }
+        ensures some { OnOk result (8 < length self.new.next.buffer.items) }
+        ensures len { OnOk result (length self.new.next.buffer.items ≡ length self.old.next.buffer.items + 17 + length payload.now) }
+        ensures mark { OnOk result (0 < length self.new.next.marks.items) }
+        ensures place { IfOk result (λ place. place ≡ place_of self.old.next) }
+        ensures small { IfOk result (λ place. place + 17 + length payload.now < 2 ^ 63) }
+        ensures full { IsErrOf result Full ↔ IsFullFor self.old.next (length payload.now) }
+        ensures sound { can_append effect_of_head (chains_of self.old.pages.items) pid kind ≡ true → IsErrOf result Corruption → ⊥ }
+        ensures only { IfErr result (λ e. (e ≡ Memory) ⊎ (e ≡ Full) ⊎ (e ≡ Corruption)) }
+    {
+        if self.next.is_full(payload.len()) {
+            return Err(LogError::Full);
+        }
+        self.make_room(payload.len())?;
+        let place = self.next.place();
+        let len = payload.len() as u64;
+        take_head(self.alloc, &mut self.pages, pid, Head { kind, place, len })?;
+        self.next.push(u8::from(kind), pid, payload);
+        Ok(place)
+    }
+
+    // Writes what is pending as a frame.
+    //
+    // At any moment of a crash the file describes what was durable, with all that was pending or without.
+    fn write_next(&mut self) -> Result<(), LogError>
+        requires usable { self.old.usable ≡ true }
+        requires some { 8 < length self.old.next.buffer.items }
+        ensures usable { self.new.usable ≡ is_ok result }
+        ensures reads { self.new.reads ≡ self.old.reads }
+        ensures settings { (self.new.segment_size ≡ self.old.segment_size) × (self.new.clean_every ≡ self.old.clean_every) }
+        ensures none { self.new.next.marks.items ≡ [] }
+        ensures batch { self.new.next.batch ≡ false }
+        ensures stable { D.tells → OnOk result (events_in (D.seen self.new.disk) ≡ events_in (D.seen self.old.disk) ++ events_of self.old.next) }
+        ensures any_moment { D.tells → BytesLeft D.moment D.left_since self.old.disk self.new.disk (IsBeforeOrAfter (events_in (D.seen self.old.disk)) (events_of self.old.next)) }
+        ensures only { IfErr result (λ e. e ≡ WriteFault) }
+        ensures cause { HasCause (D.counts self.old.disk) (D.counts self.new.disk) result }
+    {
+        let wrote = self.next.write(&mut self.disk);
+        self.usable = wrote.is_ok();
+        wrote
+    }
+}

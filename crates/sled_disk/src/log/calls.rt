@@ -1,0 +1,224 @@
+// The log on a disk as a log.
+
+ghost use Rattle.std.specs.Prelude.{◌≡◌, ◌≤◌, ◌<◌, ◌+◌, ◌^◌, ◌⊎◌, ◌↔◌, ℕ, ℤ, pos, [], ◌∷◌, true, false, length, slice_index_or, IfOk, IfErr, OnOk, IsErrOf, IsOk, IfSome};
+ghost use Rattle.std.specs.List.{All, AllByRecursion, AllZip, Any};
+ghost use Rattle.sled_log.specs.Batches.{is_open};
+ghost use Rattle.sled_log.specs.Calls.{Called, can_append, one_more};
+ghost use Rattle.sled_log.specs.Chains.{is_chain};
+ghost use Rattle.sled_log.specs.Events.{Change, Pin, Seal, Cancel};
+ghost use Rattle.sled_log.specs.Limits.{head_size, size_limit};
+ghost use Rattle.sled_log.specs.LogState.{now};
+ghost use Rattle.sled_log.specs.Messages.{effect_of_entry, message, placed};
+ghost use Rattle.sled_log.specs.Pages.{IsPageState, IsSized, IsAt, IsRead};
+ghost use Rattle.sled_log.specs.declared.log.LogError.TheVariants.{Memory, Full, WriteFault, Corruption};
+ghost use Rattle.sled_base.specs.declared.types.DiskPtr.TheVariants.{Inline};
+ghost use Rattle.sled_disk.specs.Crash.{BytesLeft};
+ghost use Rattle.sled_disk.specs.Reading.{chains_of, effect_of_head};
+ghost use Rattle.sled_disk.specs.Standing.{events_in};
+ghost use Rattle.sled_disk.specs.OnDisk.{Rests};
+ghost use Rattle.sled_disk.specs.Ready.{LeavesPages, IsBeforeOrAfter};
+ghost use Rattle.sled_disk.specs.ReadyLaws.{log-keeps, log-only};
+ghost use Rattle.sled_disk.specs.Waiting.{state_of, said_of, size_of, events_of, events_with, IsDue, IsFullFor};
+
+use super::DiskLog;
+use super::finding::find;
+use crate::disk::{Disk, count};
+use crate::recovery::pages_of;
+use sled_base::{DiskPtr, Lsn, MessageKind, PageId};
+use sled_log::{Log, LogError, PageState};
+
+// What an append answers of a record at a place.
+fn said_at(place: u64, len: usize) -> (Lsn, DiskPtr, u64)
+    requires { place + 17 + len < 2 ^ 63 }
+    ensures { result ≡ (pos place, Inline place, 17 + len) }
+{
+    (place as Lsn, DiskPtr::Inline(place), 17 + len as u64)
+}
+
+impl<D: Disk> Log for DiskLog<D> {
+    ghost tells = { D.tells };
+
+    ghost state = { λ log. state_of (D.seen log.disk) log.next log.usable };
+
+    ghost moment = { λ log. D.moment log.disk };
+
+    ghost left_since = { λ log t pages. LeavesPages (D.left_since log.disk t) pages };
+
+    ghost counts = { λ log. record { reads = log.reads; failed_reads = (D.counts log.disk).failed_reads; write_faults = (D.counts log.disk).write_faults } };
+
+    ghost bytes = { λ log. log.next.gate + 1 };
+
+    ghost stable_bytes = { λ log. pos log.next.gate };
+
+    ghost to_write = { λ log. size_of log.next };
+
+    ghost is_full = { λ log n. IsFullFor log.next n };
+
+    ghost is_full_for_batch = { λ log. IsFullFor log.next 8 };
+
+    ghost keeps_stable = { λ log told usable. log-keeps (D.seen log.disk) _ _ _ (λ i. D.are_bytes log.disk i told) (log.stands told usable) (D.left_since log.disk (D.moment log.disk)) (D.left_now log.disk (D.seen log.disk) told (D.seen_now log.disk told)) };
+
+    ghost only_now = { λ log pages told usable left. log-only (D.seen log.disk) _ _ _ (λ i. D.are_bytes log.disk i told) (log.stands told usable) log.next.marks.items log.next.buffer.items log.usable (D.left_since log.disk (D.moment log.disk)) (λ bytes was. log.durable told usable bytes (D.only_now log.disk bytes told was)) pages left };
+
+    ghost since_earlier = { λ log t u pages told le left. (left.0, D.since_earlier log.disk t u left.0 told le left.1, left.2) };
+
+    // At any moment a crash leaves a file that describes what was durable, with all of the frame and the new record or without. Full comes
+    // exactly where the gate behind that frame would stand above the greatest i64.
+    fn append(
+        &mut self,
+        kind: MessageKind,
+        pid: PageId,
+        payload: &[u8],
+    ) -> Result<(Lsn, DiskPtr, u64), LogError>
+        requires usable { (⟦<Self as Log>⟧.state self.old).usable ≡ true }
+        requires can { D.tells → can_append effect_of_entry (now effect_of_entry (⟦<Self as Log>⟧.state self.old)) pid kind ≡ true }
+        ensures called { Called D.tells ⟦<Self as Log>⟧.state ⟦<Self as Log>⟧.moment ⟦<Self as Log>⟧.left_since ⟦<Self as Log>⟧.counts self.old self.new self.old.reads (λ said. Change pid (placed (message kind payload.now) said) ∷ []) (Change pid (message kind payload.now) ∷ []) result }
+        ensures any_moment { D.tells → BytesLeft D.moment D.left_since self.old.disk self.new.disk (IsBeforeOrAfter (events_in (D.seen self.old.disk)) (events_with self.old.next kind pid payload.now)) }
+        ensures size { IfOk result (λ said. (said.2 ≡ head_size + length payload.now) × (said.2 < size_limit)) }
+        ensures sized { D.tells → OnOk result (AllByRecursion IsSized (now effect_of_entry (⟦<Self as Log>⟧.state self.new))) }
+        ensures full { IsErrOf result Full ↔ IsFullFor self.old.next (length payload.now) }
+        ensures sound { can_append effect_of_head (chains_of self.old.pages.items) pid kind ≡ true → IsErrOf result Corruption → ⊥ }
+        ensures written { OnOk result (IsDue self.old.segment_size self.old.next (length payload.now) ↔ (⟦<Self as Log>⟧.to_write self.new ≡ 0)) }
+        ensures settings { (self.new.segment_size ≡ self.old.segment_size) × (self.new.clean_every ≡ self.old.clean_every) }
+        ensures said { IfOk result (λ said. said ≡ said_of self.old.next payload.now) }
+    {
+        let place = self.add(kind, pid, payload)?;
+        let said = said_at(place, payload.len());
+        if self.next.batch_open() || (self.next.len() as u64) < self.segment_size {
+            return Ok(said);
+        }
+        self.write_next()?;
+        Ok(said)
+    }
+
+    // A record that is pending is read from memory. A place of the page's chain is never Corruption, whatever the disk gives.
+    fn read(
+        &mut self,
+        pid: PageId,
+        lsn: Lsn,
+        pointer: DiskPtr,
+    ) -> Result<(MessageKind, Vec<u8>), LogError>
+        requires usable { (⟦<Self as Log>⟧.state self.old).usable ≡ true }
+        requires known { D.tells → Any (IsAt lsn pointer) (slice_index_or (now effect_of_entry (⟦<Self as Log>⟧.state self.old)) pid []) }
+        ensures called { Called D.tells ⟦<Self as Log>⟧.state ⟦<Self as Log>⟧.moment ⟦<Self as Log>⟧.left_since ⟦<Self as Log>⟧.counts self.old self.new (one_more self.old.reads) (λ _. []) [] result }
+        ensures found { D.tells → IfOk result (λ found. All (λ entry. IsAt lsn pointer entry → IsRead entry found) (slice_index_or (now effect_of_entry (⟦<Self as Log>⟧.state self.old)) pid [])) }
+        ensures settings { (self.new.segment_size ≡ self.old.segment_size) × (self.new.clean_every ≡ self.old.clean_every) }
+        ensures room { (n : ℕ) → IsFullFor self.new.next n → IsFullFor self.old.next n }
+        ensures not_full { IsErrOf result Full → ⊥ }
+        ensures rests { Rests D.tells D.seen D.may_leave D.moment D.left_since self.old.disk self.new.disk }
+        ensures memory { (at : ℕ) → pointer ≡ Inline at → self.old.next.gate < at → self.new.disk ≡ self.old.disk }
+        ensures sound { Any (λ head. pointer ≡ Inline head.place) (slice_index_or (chains_of self.old.pages.items) pid []) → IsErrOf result Corruption → ⊥ }
+    {
+        count(&mut self.reads);
+        let DiskPtr::Inline(at) = pointer else {
+            return Err(LogError::Corruption);
+        };
+        let Some(head) = find(&self.pages, pid, at) else {
+            return Err(LogError::Corruption);
+        };
+        let payload = self.payload(head)?;
+        Ok((head.kind, payload))
+    }
+
+    // At any moment a crash leaves a file that describes what was durable, with all that was pending or without.
+    fn make_stable(&mut self) -> Result<usize, LogError>
+        requires usable { (⟦<Self as Log>⟧.state self.old).usable ≡ true }
+        requires closed { is_open (⟦<Self as Log>⟧.state self.old).pending ≡ false }
+        ensures called { Called D.tells ⟦<Self as Log>⟧.state ⟦<Self as Log>⟧.moment ⟦<Self as Log>⟧.left_since ⟦<Self as Log>⟧.counts self.old self.new self.old.reads (λ _. []) [] result }
+        ensures stable { OnOk result ((⟦<Self as Log>⟧.state self.new).pending ≡ []) }
+        ensures settings { (self.new.segment_size ≡ self.old.segment_size) × (self.new.clean_every ≡ self.old.clean_every) }
+        ensures number { IfOk result (λ n. n ≡ ⟦<Self as Log>⟧.to_write self.old) }
+        ensures only { IfErr result (λ e. e ≡ WriteFault) }
+        ensures any_moment { D.tells → BytesLeft D.moment D.left_since self.old.disk self.new.disk (IsBeforeOrAfter (events_in (D.seen self.old.disk)) (events_of self.old.next)) }
+    {
+        let bytes = self.next.to_write();
+        if bytes == 0 {
+            return Ok(0);
+        }
+        self.write_next()?;
+        Ok(bytes)
+    }
+
+    // The disk makes room, and is called no more.
+    fn pin(&mut self) -> Result<(), LogError>
+        requires usable { (⟦<Self as Log>⟧.state self.old).usable ≡ true }
+        requires closed { is_open (⟦<Self as Log>⟧.state self.old).pending ≡ false }
+        ensures called { Called D.tells ⟦<Self as Log>⟧.state ⟦<Self as Log>⟧.moment ⟦<Self as Log>⟧.left_since ⟦<Self as Log>⟧.counts self.old self.new self.old.reads (λ _. Pin ∷ []) (Pin ∷ []) result }
+        ensures settings { (self.new.segment_size ≡ self.old.segment_size) × (self.new.clean_every ≡ self.old.clean_every) }
+        ensures rests { Rests D.tells D.seen D.may_leave D.moment D.left_since self.old.disk self.new.disk }
+        ensures full { IsErrOf result Full ↔ IsFullFor self.old.next 8 }
+        ensures refusals { IfErr result (λ e. (e ≡ Memory) ⊎ (e ≡ Full)) }
+    {
+        if self.next.is_full(8) {
+            return Err(LogError::Full);
+        }
+        self.make_room(8)?;
+        self.next.pin();
+        Ok(())
+    }
+
+    // It calls no device.
+    fn seal(&mut self) -> Result<(), LogError>
+        requires usable { (⟦<Self as Log>⟧.state self.old).usable ≡ true }
+        requires opened { is_open (⟦<Self as Log>⟧.state self.old).pending ≡ true }
+        ensures called { Called D.tells ⟦<Self as Log>⟧.state ⟦<Self as Log>⟧.moment ⟦<Self as Log>⟧.left_since ⟦<Self as Log>⟧.counts self.old self.new self.old.reads (λ _. Seal ∷ []) (Seal ∷ []) result }
+        ensures disk { self.new.disk ≡ self.old.disk }
+        ensures settings { (self.new.segment_size ≡ self.old.segment_size) × (self.new.clean_every ≡ self.old.clean_every) }
+        ensures ok { IsOk result }
+    {
+        self.next.seal();
+        Ok(())
+    }
+
+    // It calls no device.
+    fn cancel(&mut self) -> Result<(), LogError>
+        requires usable { (⟦<Self as Log>⟧.state self.old).usable ≡ true }
+        requires opened { is_open (⟦<Self as Log>⟧.state self.old).pending ≡ true }
+        ensures called { Called D.tells ⟦<Self as Log>⟧.state ⟦<Self as Log>⟧.moment ⟦<Self as Log>⟧.left_since ⟦<Self as Log>⟧.counts self.old self.new self.old.reads (λ _. Cancel ∷ []) (Cancel ∷ []) result }
+        ensures disk { self.new.disk ≡ self.old.disk }
+        ensures settings { (self.new.segment_size ≡ self.old.segment_size) × (self.new.clean_every ≡ self.old.clean_every) }
+        ensures ok { IsOk result }
+    {
+        self.next.cancel();
+        Ok(())
+    }
+
+    // It fails for memory alone, whatever the disk gives.
+    fn recover(&mut self) -> Result<Vec<PageState>, LogError>
+        requires usable { (⟦<Self as Log>⟧.state self.old).usable ≡ true }
+        ensures called { Called D.tells ⟦<Self as Log>⟧.state ⟦<Self as Log>⟧.moment ⟦<Self as Log>⟧.left_since ⟦<Self as Log>⟧.counts self.old self.new self.old.reads (λ _. []) [] result }
+        ensures pages { D.tells → IfOk result (λ pages. AllZip IsPageState (now effect_of_entry (⟦<Self as Log>⟧.state self.old)) pages.items) }
+        ensures sized { D.tells → OnOk result (AllByRecursion IsSized (now effect_of_entry (⟦<Self as Log>⟧.state self.old))) }
+        ensures chains { D.tells → OnOk result (AllByRecursion (λ chain. is_chain effect_of_entry chain ≡ true) (now effect_of_entry (⟦<Self as Log>⟧.state self.old))) }
+        ensures disk { self.new.disk ≡ self.old.disk }
+        ensures settings { (self.new.segment_size ≡ self.old.segment_size) × (self.new.clean_every ≡ self.old.clean_every) }
+        ensures room { (n : ℕ) → IsFullFor self.new.next n → IsFullFor self.old.next n }
+        ensures only { IfErr result (λ e. e ≡ Memory) }
+    {
+        pages_of(self.alloc, &self.pages)
+    }
+
+    fn batch_open(&self) -> bool {
+        self.next.batch_open()
+    }
+
+    fn stable_offset(&self) -> Lsn {
+        self.next.gate() as Lsn
+    }
+
+    fn size(&self) -> u64 {
+        self.next.gate() + 1
+    }
+
+    fn reads(&self) -> u64 {
+        self.reads
+    }
+
+    fn failed_reads(&self) -> u64 {
+        self.disk.failed_reads()
+    }
+
+    fn write_faults(&self) -> u64 {
+        self.disk.write_faults()
+    }
+}

@@ -1,0 +1,246 @@
+//! The frame that comes next: the records that are pending, as they will be written.
+
+ghost use Rattle.std.specs.Prelude.{◌≡◌, ◌≤◌, ◌<◌, ◌+◌, ◌-◌, ◌^◌, ◌⊎◌, ◌++◌, ◌↔◌, ℕ, [], ◌∷◌, true, false, length, take, drop, replicate, Some, IfOk, OnOk, OnErr, IfErr, IsErrOf, IsTrue, vec_len, vec_capacity};
+ghost use Rattle.sled_log.specs.Calls.{HasCause};
+ghost use Rattle.sled_log.specs.declared.log.LogError.TheVariants.{Memory, WriteFault, Corruption};
+ghost use Rattle.sled_disk.specs.declared.mark.Mark.TheVariants.{Change, Pin, Seal, Cancel};
+ghost use Rattle.sled_disk.specs.Crash.{BytesLeft, IsClosed, IsShutOrOpened, IsWhole};
+ghost use Rattle.sled_disk.specs.Disk.{Only};
+ghost use Rattle.sled_disk.specs.Format.{record_bytes, IsBytes};
+ghost use Rattle.sled_disk.specs.Pending.{open_by, count, batch_at, begun_record, sealed_in, frame_in, frame_size};
+ghost use Rattle.sled_disk.specs.Reading.{records_of};
+ghost use Rattle.sled_disk.specs.Ready.{IsFull};
+ghost use Rattle.sled_disk.specs.Standing.{records_behind};
+
+use crate::disk::Disk;
+use crate::frame::{close, empty, mark_in, push_record, put, write_frame};
+use crate::mark::Mark;
+use crate::reading::MAX_PLACE;
+use sled_base::PageId;
+use sled_base::growth::reserve;
+use sled_log::LogError;
+use std::alloc::{AllocError, Global};
+
+// The records that are pending, and the marks of batches between them. They will stand behind the present gate.
+#[derive(Drop)]
+pub(crate) struct NextFrame {
+    // the place of the present gate
+    gate: u64,
+    // 8 bytes for a length, the pending records, and room for a gate
+    buffer: Vec<u8>,
+    // what the pending records are, and the marks between them
+    marks: Vec<Mark>,
+    // whether a batch is open; where its record will stand, and the last record behind it
+    batch: bool,
+    batch_place: u64,
+    last_place: u64,
+    ghost are_bytes: { IsBytes buffer.items },
+    ghost parsed: { records_of (drop 8 buffer.items) ≡ Some (records_behind buffer.items) },
+    ghost front: { 8 ≤ length buffer.items },
+    ghost room: { vec_len buffer < vec_capacity buffer },
+    ghost small: { gate < 2 ^ 63 },
+    ghost fits: { 8 < length buffer.items → gate + 1 + length buffer.items < 2 ^ 63 },
+    ghost counted: { count marks.items ≡ length (records_behind buffer.items) },
+    ghost begun: { 0 < length marks.items → 8 < length buffer.items },
+    ghost batch_is: { batch ≡ open_by false marks.items },
+    // a batch that is open has room for its closing mark
+    ghost mark_room: { batch ≡ true → vec_len marks < vec_capacity marks },
+    ghost batch_stands: { batch ≡ true → batch_at (gate + 9) batch_place last_place (records_behind buffer.items) ≡ true },
+}
+
+impl NextFrame {
+    // No records yet, behind a gate.
+    pub(crate) fn new(alloc: Global, gate: u64) -> Result<NextFrame, AllocError>
+        requires { gate < 2 ^ 63 }
+        ensures gate { IfOk result (λ next. next.gate ≡ gate) }
+        ensures none { IfOk result (λ next. next.marks.items ≡ []) }
+        ensures buffer { IfOk result (λ next. length next.buffer.items ≡ 8) }
+    {
+        let mut buffer = Vec::new(alloc);
+        buffer.reserve(9)?;
+        put(&mut buffer, &[0; 8]);
+        Ok(NextFrame {
+            gate,
+            buffer,
+            marks: Vec::new(alloc),
+            batch: false,
+            batch_place: 0,
+            last_place: 0,
+        })
+    }
+
+    // The place of the present gate.
+    pub(crate) fn gate(&self) -> u64
+        ensures { result ≡ self.now.gate }
+    {
+        self.gate
+    }
+
+    // Whether a batch is open.
+    pub(crate) fn batch_open(&self) -> bool
+        ensures { result ≡ self.now.batch }
+    {
+        self.batch
+    }
+
+    // How many bytes the pending records have.
+    pub(crate) fn len(&self) -> usize
+        ensures { result ≡ length self.now.buffer.items - 8 }
+    {
+        self.buffer.len() - 8
+    }
+
+    // How many bytes writing them writes.
+    pub(crate) fn to_write(&self) -> usize
+        ensures { result ≡ frame_size self.now.marks.items self.now.buffer.items }
+    {
+        if self.marks.is_empty() {
+            return 0;
+        }
+        self.buffer.len() - 8 + 10
+    }
+
+    // How many bytes writing them will write, with one record more.
+    pub(crate) fn to_write_with(&self, len: usize) -> usize
+        requires { IsFull self.now.gate self.now.buffer.items len → ⊥ }
+        ensures { result ≡ length self.now.buffer.items + 19 + len }
+    {
+        self.buffer.len() + 19 + len
+    }
+
+    // Whether the next gate's place would be above the greatest i64 with one record more.
+    pub(crate) fn is_full(&self, len: usize) -> bool
+        ensures { IsTrue result ↔ IsFull self.now.gate self.now.buffer.items len }
+    {
+        let room = MAX_PLACE - self.gate;
+        let taken = self.buffer.len() as u64 + 18;
+        room < taken || room - taken < len as u64
+    }
+
+    // Where the next record will stand.
+    pub(crate) fn place(&self) -> u64
+        requires { self.now.gate + 1 + length self.now.buffer.items < 2 ^ 64 }
+        ensures { result ≡ self.now.gate + 1 + length self.now.buffer.items }
+    {
+        self.gate + 1 + self.buffer.len() as u64
+    }
+
+    // Makes room for a record with a payload of so many bytes, a gate behind it, and two marks.
+    pub(crate) fn make_room(&mut self, len: usize) -> Result<(), AllocError>
+        requires { IsFull self.old.gate self.old.buffer.items len → ⊥ }
+        ensures gate { self.new.gate ≡ self.old.gate }
+        ensures buffer { self.new.buffer.items ≡ self.old.buffer.items }
+        ensures marks { self.new.marks.items ≡ self.old.marks.items }
+        ensures batch { self.new.batch ≡ self.old.batch }
+        ensures batch_place { self.new.batch_place ≡ self.old.batch_place }
+        ensures last_place { self.new.last_place ≡ self.old.last_place }
+        ensures room { OnOk result (vec_len self.new.buffer + 18 + len ≤ vec_capacity self.new.buffer) }
+        ensures mark_room { OnOk result (vec_len self.new.marks + 2 ≤ vec_capacity self.new.marks) }
+    {
+        self.buffer.reserve(18 + len)?;
+        reserve(&mut self.marks, 2)
+    }
+
+    // Adds the record of a page, for which there is room.
+    pub(crate) fn push(&mut self, kind: u8, page: PageId, payload: &[u8])
+        requires not_full { IsFull self.old.gate self.old.buffer.items (length payload.now) → ⊥ }
+        requires room { vec_len self.old.buffer + 18 + length payload.now ≤ vec_capacity self.old.buffer }
+        requires mark_room { vec_len self.old.marks + 2 ≤ vec_capacity self.old.marks }
+        ensures gate { self.new.gate ≡ self.old.gate }
+        ensures buffer { self.new.buffer.items ≡ self.old.buffer.items ++ record_bytes (record { kind = kind; id = page; payload = payload.now }) }
+        ensures len { length self.new.buffer.items ≡ length self.old.buffer.items + 17 + length payload.now }
+        ensures records { records_behind self.new.buffer.items ≡ records_behind self.old.buffer.items ++ record { kind = kind; id = page; payload = payload.now } ∷ [] }
+        ensures marks { self.new.marks.items ≡ self.old.marks.items ++ Change ∷ [] }
+        ensures batch { self.new.batch ≡ self.old.batch }
+    {
+        self.last_place = self.place();
+        push_record(&mut self.buffer, kind, page, payload);
+        self.marks.push_reserved(Mark::Change);
+    }
+
+    // Opens a batch by its record, for which there is room: that of a cancelled batch, until it is sealed.
+    pub(crate) fn pin(&mut self)
+        requires not_full { IsFull self.old.gate self.old.buffer.items 8 → ⊥ }
+        requires closed { self.old.batch ≡ false }
+        requires room { vec_len self.old.buffer + 18 + 8 ≤ vec_capacity self.old.buffer }
+        requires mark_room { vec_len self.old.marks + 2 ≤ vec_capacity self.old.marks }
+        ensures gate { self.new.gate ≡ self.old.gate }
+        ensures len { length self.new.buffer.items ≡ length self.old.buffer.items + 25 }
+        ensures records { records_behind self.new.buffer.items ≡ records_behind self.old.buffer.items ++ begun_record ∷ [] }
+        ensures marks { self.new.marks.items ≡ self.old.marks.items ++ Pin ∷ [] }
+        ensures batch { self.new.batch ≡ true }
+    {
+        self.batch_place = self.place();
+        self.last_place = self.batch_place;
+        push_record(&mut self.buffer, 1, u64::MAX - 666, &[0; 8]);
+        self.marks.push_reserved(Mark::Pin);
+        self.batch = true;
+    }
+
+    // Seals the batch: its record gets the place of the last record.
+    pub(crate) fn seal(&mut self)
+        requires opened { self.old.batch ≡ true }
+        ensures gate { self.new.gate ≡ self.old.gate }
+        ensures records { records_behind self.new.buffer.items ≡ sealed_in (self.old.gate + 9) self.old.batch_place self.old.last_place (records_behind self.old.buffer.items) }
+        ensures marks { self.new.marks.items ≡ self.old.marks.items ++ Seal ∷ [] }
+        ensures len { length self.new.buffer.items ≡ length self.old.buffer.items }
+        ensures last { self.old.last_place < 2 ^ 64 }
+        ensures batch { self.new.batch ≡ false }
+    {
+        let at = (self.batch_place - self.gate - 1) as usize;
+        mark_in(&mut self.buffer, at, self.last_place);
+        self.marks.push_reserved(Mark::Seal);
+        self.batch = false;
+    }
+
+    // Cancels the batch: its record stays that of a cancelled one.
+    pub(crate) fn cancel(&mut self)
+        requires opened { self.old.batch ≡ true }
+        ensures gate { self.new.gate ≡ self.old.gate }
+        ensures buffer { self.new.buffer.items ≡ self.old.buffer.items }
+        ensures marks { self.new.marks.items ≡ self.old.marks.items ++ Cancel ∷ [] }
+        ensures batch { self.new.batch ≡ false }
+    {
+        self.marks.push_reserved(Mark::Cancel);
+        self.batch = false;
+    }
+
+    // The payload of a record that begins so many bytes from the front of the buffer.
+    pub(crate) fn payload(&self, alloc: Global, at: u64, len: u64) -> Result<Vec<u8>, AllocError>
+        requires { at + 17 + len ≤ length self.now.buffer.items }
+        ensures { IfOk result (λ bytes. bytes.items ≡ take len (drop (at + 17) self.now.buffer.items)) }
+    {
+        let from = at as usize + 17;
+        self.buffer[from..from + len as usize].to_vec(alloc)
+    }
+
+    // Writes the pending records as a frame behind the present gate, which is closed, and opens the gate once they are durable.
+    // They are pending no more, whatever the answer.
+    pub(crate) fn write<D: Disk>(&mut self, disk: &mut D) -> Result<(), LogError>
+        requires some { 8 < length self.old.buffer.items }
+        requires closed { D.tells → IsClosed self.old.gate (D.seen disk.old) }
+        requires durable { D.tells → Only (D.seen disk.old) (D.may_leave disk.old) }
+        ensures gate { OnOk result (self.new.gate ≡ self.old.gate + 1 + length self.old.buffer.items) }
+        ensures err { OnErr result (self.new.gate ≡ self.old.gate) }
+        ensures none { self.new.marks.items ≡ [] }
+        ensures buffer { length self.new.buffer.items ≡ 8 }
+        ensures batch { self.new.batch ≡ false }
+        ensures written { D.tells → OnOk result (IsWhole self.old.gate (frame_in self.old.buffer.items) (D.seen disk.old) (D.seen disk.new)) }
+        ensures durable { D.tells → OnOk result (Only (D.seen disk.new) (D.may_leave disk.new)) }
+        ensures stop { D.tells → BytesLeft D.moment D.left_since disk.old disk.new (IsShutOrOpened self.old.gate (frame_in self.old.buffer.items) (D.seen disk.old)) }
+        ensures only { IfErr result (λ e. e ≡ WriteFault) }
+        ensures cause { HasCause (D.counts disk.old) (D.counts disk.new) result }
+        ensures reads { (D.counts disk.new).reads ≡ (D.counts disk.old).reads }
+    {
+        let len = self.buffer.len() as u64;
+        close(&mut self.buffer);
+        let wrote = write_frame(disk, self.gate, &self.buffer);
+        empty(&mut self.buffer);
+        self.marks.clear();
+        self.batch = false;
+        if wrote.is_ok() {
+            self.gate += 1 + len;
+        }
+        wrote
+    }
+}

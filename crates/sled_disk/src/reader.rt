@@ -1,0 +1,37 @@
+//! Reading a file from record to record.
+
+ghost use Rattle.std.specs.Prelude.{◌≡◌, ◌≤◌, ◌<◌, List, ℕ, length};
+ghost use Rattle.std.proofs.Props.{props};
+ghost use Rattle.std.specs.List.{AllByRecursion};
+ghost use Rattle.sled_disk.specs.Opened.{AreHeadsBy};
+ghost use Rattle.sled_disk.specs.Reading.{chains_of};
+
+use crate::head::Head;
+use crate::targets::Targets;
+use crate::window::Window;
+use std::alloc::Global;
+
+mod steps;
+
+/// A reader of the file on a disk. It keeps its place and the heads of the records before it, so after a read that failed, or
+/// without memory, it goes on where it was. `DiskLog::open_with` makes the log of the file.
+///
+/// Of the file it holds a window of 64 KiB at most, however long frames and payloads are; payloads are skipped. Besides it keeps
+/// 8 bytes, or 16 where their vector has grown, for each place that a batch's mark named and that is still to come.
+#[derive(Drop)]
+pub struct Reader {
+    alloc: Global,
+    window: Window,
+    // the file's length
+    end: u64,
+    // the place of the next record of a frame's body, or of the next gate
+    at: u64,
+    // where that body ends; at a gate, its place
+    body_end: u64,
+    pages: Vec<Vec<Head>>,
+    // the places that the marks of the frame named, and that are still to come
+    targets: Targets,
+    ghost within: { at ≤ body_end },
+    ghost inside: { body_end ≤ end },
+    ghost heads: { AllByRecursion (AreHeadsBy at) (chains_of pages.items) } by { Prim.hlevel props },
+}

@@ -1,0 +1,179 @@
+//! A reader's steps: a gate, or a record.
+
+ghost use Rattle.std.specs.Prelude.{◌≡◌, ℕ, ◌+◌, ◌≤◌, ◌<◌, ◌^◌, ◌⊎◌, ◌&&◌, ◌||◌, ◌==◌, Bool, true, false, Some, None, List, [], length, take, drop, IfOk, IfErr, OnOk, OnErr, IsErrOf};
+ghost use Rattle.std.specs.List.{AllByRecursion, list_all};
+ghost use Rattle.sled_log.specs.Events.{Event};
+ghost use Rattle.sled_log.specs.Messages.{Entry};
+ghost use Rattle.sled_log.specs.declared.log.LogError.TheVariants.{Memory, ReadFault, Corruption};
+ghost use Rattle.sled_disk.specs.Format.{Describes};
+ghost use Rattle.sled_disk.specs.GoesOn.{GoesOn};
+ghost use Rattle.sled_disk.specs.OnDisk.{Rests, ReadFaults};
+ghost use Rattle.sled_disk.specs.Opened.{AllEndBy, AreHeads, AreRead};
+ghost use Rattle.sled_disk.specs.Reading.{chains_of, found_at, Holds};
+
+use super::Reader;
+use crate::disk::Disk;
+use crate::head::Head;
+use crate::pages::take_head;
+use crate::parts::{body_on, gate_on, head_on, number_on};
+use crate::reading::{MAX_PLACE, OPENING, is_mark};
+use crate::targets::Targets;
+use crate::window::Window;
+use sled_base::MessageKind;
+use sled_log::LogError;
+use std::alloc::Global;
+
+// Names the place that a mark which stands at `at` names. A place before the mark is Corruption.
+fn name(targets: &mut Targets, at: u64, target: u64) -> Result<(), LogError>
+    ensures named { OnOk result ((test : ℕ → Bool) → list_all test targets.new ≡ ((target == at || test target) && list_all test targets.old)) }
+    ensures kept { OnErr result (targets.new ≡ targets.old) }
+    ensures before { IsErrOf result Corruption → target < at }
+    ensures only { IfErr result (λ e. (e ≡ Memory) ⊎ (e ≡ Corruption)) }
+{
+    if target < at {
+        return Err(LogError::Corruption);
+    }
+    if target == at {
+        return Ok(());
+    }
+    Ok(targets.push(target)?)
+}
+
+impl Reader {
+    /// Begins to read the file on a disk.
+    ///
+    /// Corruption: the file doesn't begin with the opening bytes. ReadFault, Memory: a read failed, or out of memory; nothing is
+    /// kept, and the call can be made again.
+    pub fn begin<D: Disk>(alloc: Global, disk: &mut D) -> Result<Reader, LogError>
+        ensures goes_on { D.tells → IfOk result (λ reader. GoesOn (D.seen disk.new) reader) }
+        ensures corrupt { D.tells → IsErrOf result Corruption → (events : List (Event Entry)) → Describes (D.seen disk.old) events → ⊥ }
+        ensures only { IfErr result (λ e. (e ≡ Memory) ⊎ (e ≡ ReadFault) ⊎ (e ≡ Corruption)) }
+        ensures rests { Rests D.tells D.seen D.may_leave D.moment D.left_since disk.old disk.new }
+        ensures faults { ReadFaults (D.counts disk.old) (D.counts disk.new) result }
+    {
+        let end = disk.len()?;
+        if end < 8 {
+            return Err(LogError::Corruption);
+        }
+        let mut window = Window::new(alloc);
+        let from = window.reach(disk, 0, 8, end)?;
+        let front = &window.bytes()[from..from + 8];
+        if front != OPENING.as_slice() {
+            return Err(LogError::Corruption);
+        }
+        Ok(Reader {
+            alloc,
+            window,
+            end,
+            at: 8,
+            body_end: 8,
+            pages: Vec::new(alloc),
+            targets: Targets::new(alloc),
+        })
+    }
+
+    // Goes behind the gate, or says that it is closed.
+    fn pass_gate<D: Disk>(&mut self, disk: &mut D) -> Result<bool, LogError>
+        requires goes_on { D.tells → GoesOn (D.seen disk.old) self.old }
+        requires gate { self.old.at ≡ self.old.body_end }
+        ensures goes_on { D.tells → GoesOn (D.seen disk.old) self.new }
+        ensures end { self.new.end ≡ self.old.end }
+        ensures kept { self.old.at ≤ self.new.at }
+        ensures further { IfOk result (λ opened. opened ≡ true → self.old.at < self.new.at) }
+        ensures small { IfOk result (λ opened. opened ≡ false → self.new.at < 2 ^ 63) }
+        ensures closed { D.tells → IfOk result (λ opened. opened ≡ false → found_at 8 [] (drop 8 (D.seen disk.old)) ≡ Some (self.new.at, chains_of self.new.pages.items)) }
+        ensures corrupt { D.tells → IsErrOf result Corruption → found_at 8 [] (drop 8 (D.seen disk.old)) ≡ None }
+        ensures only { IfErr result (λ e. (e ≡ Memory) ⊎ (e ≡ ReadFault) ⊎ (e ≡ Corruption)) }
+        ensures rests { Rests D.tells D.seen D.may_leave D.moment D.left_since disk.old disk.new }
+        ensures faults { ReadFaults (D.counts disk.old) (D.counts disk.new) result }
+    {
+        if !self.targets.is_empty() {
+            return Err(LogError::Corruption);
+        }
+        if self.at >= self.end {
+            return Err(LogError::Corruption);
+        }
+        if gate_on(&mut self.window, disk, self.at, self.end)? == 0 {
+            if self.at > MAX_PLACE {
+                return Err(LogError::Corruption);
+            }
+            return Ok(false);
+        }
+        let Some(len) = body_on(&mut self.window, disk, self.at + 1, self.end)? else {
+            return Err(LogError::Corruption);
+        };
+        self.at += 9;
+        self.body_end = self.at + len;
+        Ok(true)
+    }
+
+    // Takes the next record of a body.
+    fn take_record<D: Disk>(&mut self, disk: &mut D) -> Result<(), LogError>
+        requires goes_on { D.tells → GoesOn (D.seen disk.old) self.old }
+        requires body { self.old.at < self.old.body_end }
+        ensures goes_on { D.tells → GoesOn (D.seen disk.old) self.new }
+        ensures end { self.new.end ≡ self.old.end }
+        ensures kept { self.old.at ≤ self.new.at }
+        ensures further { OnOk result (self.old.at < self.new.at) }
+        ensures corrupt { D.tells → IsErrOf result Corruption → found_at 8 [] (drop 8 (D.seen disk.old)) ≡ None }
+        ensures only { IfErr result (λ e. (e ≡ Memory) ⊎ (e ≡ ReadFault) ⊎ (e ≡ Corruption)) }
+        ensures rests { Rests D.tells D.seen D.may_leave D.moment D.left_since disk.old disk.new }
+        ensures faults { ReadFaults (D.counts disk.old) (D.counts disk.new) result }
+    {
+        let head = head_on(&mut self.window, disk, self.at, self.body_end, self.end)?;
+        let Some((raw, len)) = head else {
+            return Err(LogError::Corruption);
+        };
+        if !self.targets.reach(self.at) {
+            return Err(LogError::Corruption);
+        }
+        if is_mark(raw, len) {
+            let target = number_on(&mut self.window, disk, self.at + 17, self.end)?;
+            name(&mut self.targets, self.at, target)?;
+            self.at += 25;
+            return Ok(());
+        }
+        let head = Head {
+            kind: MessageKind::from(raw.kind),
+            place: self.at,
+            len,
+        };
+        take_head(self.alloc, &mut self.pages, raw.page, head)?;
+        self.at += 17 + len;
+        Ok(())
+    }
+
+    /// Reads on, on the disk that it began with, up to the closed gate where the file's meaning ends, and answers the gate's place.
+    ///
+    /// Corruption: the file describes no events. ReadFault, Memory: a read failed, or out of memory; what was read stays read, and
+    /// the next call goes on from there.
+    pub fn read<D: Disk>(&mut self, disk: &mut D) -> Result<u64, LogError>
+        requires goes_on { D.tells → GoesOn (D.seen disk.old) self.old }
+        ensures goes_on { D.tells → GoesOn (D.seen disk.new) self.new }
+        ensures kept { self.old.at ≤ self.new.at }
+        ensures small { IfOk result (λ gate. gate < 2 ^ 63) }
+        ensures read { D.tells → IfOk result (λ gate. AreRead (D.seen disk.old) gate (chains_of self.new.pages.items)) }
+        ensures holds { D.tells → IfOk result (λ gate. Holds (D.seen disk.old) gate (chains_of self.new.pages.items)) }
+        ensures heads { OnOk result (AllByRecursion AreHeads (chains_of self.new.pages.items)) }
+        ensures ends { IfOk result (λ gate. AllEndBy gate (chains_of self.new.pages.items)) }
+        ensures corrupt { D.tells → IsErrOf result Corruption → (events : List (Event Entry)) → Describes (D.seen disk.old) events → ⊥ }
+        ensures only { IfErr result (λ e. (e ≡ Memory) ⊎ (e ≡ ReadFault) ⊎ (e ≡ Corruption)) }
+        ensures rests { Rests D.tells D.seen D.may_leave D.moment D.left_since disk.old disk.new }
+        ensures faults { ReadFaults (D.counts disk.old) (D.counts disk.new) result }
+    {
+        loop {
+            if self.at < self.body_end {
+                self.take_record(disk)?;
+            } else if !self.pass_gate(disk)? {
+                return Ok(self.at);
+            }
+        }
+    }
+
+    /// The pages that were read, by the heads of their chains.
+    pub(crate) fn into_pages(self) -> Vec<Vec<Head>>
+        ensures { result ≡ self.pages }
+    {
+        self.pages
+    }
+}

@@ -1,0 +1,67 @@
+//! Places that are still to be reached.
+
+ghost use Rattle.std.specs.BinaryHeap.{IsHeap, heap_items};
+ghost use Rattle.std.specs.List.{AllByRecursion, list_all};
+ghost use Rattle.std.specs.Ordering.{nat_cmp};
+ghost use Rattle.std.specs.Prelude.{◌≡◌, ◌<◌, ◌==◌, ◌&&◌, ℕ, Bool, true, false, List, [], length, map, OnOk, OnErr};
+
+use std::alloc::{AllocError, Global};
+use std::cmp::Reverse;
+use std::collections::BinaryHeap;
+use std::marker::Model;
+
+/// Places of a file that were named and are still to be reached, in no order.
+#[derive(Drop)]
+pub(crate) struct Targets {
+    heap: BinaryHeap<Reverse<u64>>,
+}
+
+impl Model for Targets {
+    ghost Value = { List ℕ };
+
+    ghost view = { λ targets. map (λ target. target.0) (heap_items targets.heap) };
+
+    ghost invariant = { λ targets. IsHeap (λ x y. nat_cmp y.0 x.0) (heap_items targets.heap) };
+}
+
+impl Targets {
+    /// No place.
+    pub(crate) fn new(alloc: Global) -> Targets
+        ensures { result ≡ [] }
+    {
+        Targets {
+            heap: BinaryHeap::new(alloc),
+        }
+    }
+
+    /// Whether each place was reached.
+    pub(crate) fn is_empty(&self) -> bool
+        ensures { result ≡ (length self.now == 0) }
+    {
+        self.heap.is_empty()
+    }
+
+    /// Names a place. An error means out of memory, and leaves the places unchanged.
+    pub(crate) fn push(&mut self, target: u64) -> Result<(), AllocError>
+        ensures named { OnOk result ((test : ℕ → Bool) → list_all test self.new ≡ (test target && list_all test self.old)) }
+        ensures kept { OnErr result (self.new ≡ self.old) }
+    {
+        self.heap.push(Reverse(target))?;
+        Ok(())
+    }
+
+    /// Takes away what names a place that is reached now, and says whether all others are behind it.
+    pub(crate) fn reach(&mut self, at: u64) -> bool
+        ensures reached { (test : ℕ → Bool) → test at ≡ true → list_all test self.new ≡ list_all test self.old }
+        ensures behind { result ≡ true → AllByRecursion (λ target. at < target) self.new }
+        ensures missed { result ≡ false → (test : ℕ → Bool) → ((target : ℕ) → target < at → test target ≡ false) → list_all test self.new ≡ false }
+    {
+        while let Some(Reverse(target)) = self.heap.peek() {
+            if *target != at {
+                return at < *target;
+            }
+            let _ = self.heap.pop();
+        }
+        true
+    }
+}

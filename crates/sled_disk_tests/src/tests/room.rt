@@ -1,0 +1,135 @@
+// A disk that keeps what is written until it is handed on, and takes the memory for it only where it is asked to make room.
+
+ghost use Rattle.std.specs.Prelude.{[]};
+
+use super::*;
+use sled_base::MessageKind;
+
+#[derive(Drop)]
+struct KeepingDisk {
+    inner: MemDisk,
+    // the most that it has memory for, and what it has made room for and was not written yet
+    most: usize,
+    room: usize,
+    reads: u64,
+    failed_reads: u64,
+    write_faults: u64,
+}
+
+impl KeepingDisk {
+    fn over(inner: MemDisk, most: usize) -> KeepingDisk {
+        KeepingDisk {
+            inner,
+            most,
+            room: 0,
+            reads: 0,
+            failed_reads: 0,
+            write_faults: 0,
+        }
+    }
+}
+
+impl Disk for KeepingDisk {
+    ghost tells = { ⊥ };
+
+    ghost seen = { λ _. [] };
+
+    ghost may_leave = { λ _ _. ⊥ };
+
+    ghost moment = { λ _. 0 };
+
+    ghost left_since = { λ _ _ _. ⊥ };
+
+    ghost counts = { λ disk. record { reads = disk.reads; failed_reads = disk.failed_reads; write_faults = disk.write_faults } };
+
+    ghost are_bytes = { λ disk i told. absurd told };
+
+    ghost seen_now = { λ disk told. absurd told };
+
+    ghost left_now = { λ disk left told may. absurd told };
+
+    ghost only_now = { λ disk left told was. absurd told };
+
+    ghost since_earlier = { λ disk t u left told le was. absurd told };
+
+    fn len(&mut self) -> Result<u64, LogError> {
+        count(&mut self.reads);
+        let read = self.inner.len();
+        if read.is_err() {
+            count(&mut self.failed_reads);
+        }
+        read
+    }
+
+    fn read_at(&mut self, at: u64, into: &mut [u8]) -> Result<(), LogError> {
+        count(&mut self.reads);
+        let read = self.inner.read_at(at, into);
+        if read.is_err() {
+            count(&mut self.failed_reads);
+        }
+        read
+    }
+
+    fn make_room(&mut self, len: usize) -> Result<(), LogError> {
+        if len > self.most {
+            return Err(LogError::Memory);
+        }
+        self.room = len;
+        Ok(())
+    }
+
+    // A write for which no room was made is a fault.
+    fn write_at(&mut self, at: u64, bytes: &[u8]) -> Result<(), LogError> {
+        if bytes.len() > self.room || self.inner.write_at(at, bytes).is_err() {
+            count(&mut self.write_faults);
+            return Err(LogError::WriteFault);
+        }
+        self.room -= bytes.len();
+        Ok(())
+    }
+
+    fn sync(&mut self) -> Result<(), LogError> {
+        if self.inner.sync().is_err() {
+            count(&mut self.write_faults);
+            return Err(LogError::WriteFault);
+        }
+        Ok(())
+    }
+
+    fn reads(&self) -> u64 {
+        self.reads
+    }
+
+    fn failed_reads(&self) -> u64 {
+        self.failed_reads
+    }
+
+    fn write_faults(&self) -> u64 {
+        self.write_faults
+    }
+}
+
+// A new log over a disk with memory for so many bytes at a time: a frame of two pages, and one of a batch.
+fn kept(alloc: Global, most: usize) -> Result<(), LogError> {
+    let mut disk = KeepingDisk::over(MemDisk::new(alloc, 4096)?, most);
+    DiskLog::create(&mut disk)?;
+    let mut log = DiskLog::open(alloc, disk, 4096, 0).map_err(|(error, _)| error)?;
+    log.append(MessageKind::InlineMeta, 0, &[])?;
+    log.append(MessageKind::Counter, 1, &[0])?;
+    log.make_stable()?;
+    log.pin()?;
+    log.append(MessageKind::Counter, 1, &[10])?;
+    log.seal()?;
+    log.make_stable()?;
+    Ok(())
+}
+
+// The bytes of an empty file are 9, those of the first frame 45, and those of the second 53. Whatever there is no room for is
+// refused before it is written: none of these ends with a write fault.
+#[test]
+fn room_is_made_for_a_whole_frame(rt: HostRuntime) {
+    for most in [0, 8, 9, 44, 45, 52] {
+        assert!(rt; kept(rt.alloc(), most) == Err(LogError::Memory), "{most}");
+    }
+    assert!(rt; kept(rt.alloc(), 53) == Ok(()));
+}
