@@ -9,7 +9,7 @@ use Rattle.sled_pagecache.specs.Reopening.{AreAfterPrefix, CrashReopensTo, Reope
 abbrev pub IsKeptAs : List Messages → (List Content → Type 0) → Type 0
 IsKeptAs pages Are = (contents : List Content) × AreKept pages contents × Are contents
 
-kept-logged : (pages : List Messages) (contents : List Content) → AreKept pages contents → (usable : Bool) → IsLogged (only_stable pages usable) (only_stable_contents contents)
+pub kept-logged : (pages : List Messages) (contents : List Content) → AreKept pages contents → (usable : Bool) → IsLogged (only_stable pages usable) (only_stable_contents contents)
 kept-logged pages contents kept usable = record {
   stable = kept.holds;
   pending = tt;

@@ -1,8 +1,7 @@
 -- How much of the log the messages of a page take, beside those of its chain.
-use Rattle.sled_pagecache.proofs.Names.{◌≡◌, ◌<◌, ◌^◌, ◌+◌, ℕ, ℤ, false, true, Bool, List, [], ◌∷◌, ◌++◌, map, Option, None, Some, slice_get, refl, sym, ◌∙◌, ap, subst, arith, none-some, same_Some, slice_get-map, option_map, slice_index_or, zero, suc, length, AllZip, AllByRecursion, ◌-◌, sum_by, sum_by-cons, DiskPtr, Chain, Entry, effect_of_entry, said_of, IsSized, Ghosts, chain_size, place_of, IsKept, is_free, IsConsistent, infos_after, message_of, link_update, WholeNode, Config, CacheInfo, StickyLog, Kept, Page, sum_by_push, head_size, capped, AreSized, size_in, access_size, size_if, node_access_size, size_linked}
+use Rattle.sled_pagecache.proofs.Names.{◌≡◌, ◌<◌, ◌^◌, ◌+◌, ℕ, ℤ, false, true, Bool, List, [], ◌∷◌, ◌++◌, map, Option, None, Some, slice_get, refl, sym, ◌∙◌, ap, subst, arith, none-some, same_Some, slice_get-map, option_map, slice_index_or, zero, suc, length, AllZip, AllByRecursion, ◌-◌, sum_by, sum_by-cons, DiskPtr, Chain, Entry, effect_of_entry, said_of, IsSized, Ghosts, chain_size, place_of, IsKept, is_free, IsConsistent, infos_after, Config, CacheInfo, StickyLog, Kept, Page, sum_by_push, head_size, capped, AreSized, size_in, access_size, size_if, node_access_size, size_linked}
 use Rattle.std.specs.Prelude.{nat_lt, min, if◌then◌else◌}
 use Rattle.sled_log.specs.LogState as log
-use Rattle.sled_node.specs.declared.node.link.Link.{Link as NodeLink}
 use Rattle.sled_pagecache.proofs.TableNodes.{view}
 use Rattle.sled_pagecache.specs.declared.pagecache.page.Kept.TheVariants as kept
 

@@ -16,6 +16,7 @@ pub mod Ids
 pub mod Rows
 pub mod RowLaws
 pub mod Reopening
+pub mod Crashes
 pub mod Atomic
 pub mod Openings
 pub mod StickyLog

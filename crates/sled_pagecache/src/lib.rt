@@ -5,11 +5,13 @@
 //! - `pagecache`: the cache, its settings, its tokens and its calls
 //! - `rows`: what calls of the page cache in a row do
 //! - `batches`: what a crash leaves of a batch
+//! - `crashes`: crashes of a cache on a disk in memory, each opened again
 //! - `openings`: generated ids, over caches that are opened one after another
 //! - `laws`: what holds of the definitions that the contracts of a page cache cite: crashes first of all
 #![tactic(auto)]
 
 pub mod batches;
+pub mod crashes;
 pub mod laws;
 pub mod openings;
 pub mod pagecache;
@@ -23,5 +25,6 @@ pub use sled_base::{
     self, BatchManifest, Bug, ConsumeSequence, Device, DiskPtr, Error, IVec, LogKind, MessageKind,
     PageId, PageState, Refusal, Serialize, Why,
 };
+pub use sled_disk::{self, Disk, DiskLog, FileDisk, MemDisk};
 pub use sled_log::{self, Log, LogError, MemLog};
 pub use sled_node::{self, Data, Index, Item, Leaf, Link, Meta, Node};

@@ -1,6 +1,6 @@
 //! The cache: pages, and their accesses. Each call is one step of a machine.
 
-ghost use Rattle.std.specs.Prelude.{◌≡◌, ◌≢◌, ℕ, [], false, true, length, None, Some, Err, slice_get, IfOk, IfErr, IsOk, OnOk, OnErr, IsErrOf, MatchOption};
+ghost use Rattle.std.specs.Prelude.{◌≡◌, ◌≢◌, ◌≤◌, ℕ, [], false, true, length, None, Some, Err, slice_get, IfOk, IfErr, IsOk, OnOk, OnErr, IsErrOf, MatchOption};
 ghost use Rattle.std.specs.Borrow.{sem};
 ghost use Rattle.sled_base.specs.declared.types.Device.TheVariants.{Write};
 ghost use Rattle.sled_base.specs.declared.types.Error.TheVariants.{Unsupported, Io};
@@ -295,6 +295,27 @@ impl<L: Log> PageCache<L> {
         ensures again { self.fault ≡ false → MayBeOpened L.Log result }
     {
         self.pages.into_log()
+    }
+
+    // Its log, to be looked at.
+    pub(crate) fn log(&self) -> &L
+        ensures { result.now ≡ self.now.log }
+    {
+        self.pages.log()
+    }
+
+    // Its log as a crash finds it: a batch may be open.
+    pub(crate) fn crashed_log(self) -> L
+        ensures { result ≡ self.log }
+    {
+        self.pages.into_log()
+    }
+
+    // Every cache has both system pages. Nothing is done.
+    pub(crate) fn know_own(&self)
+        ensures { 2 ≤ length self.now.stamps }
+    {
+        self.pages.know_own();
     }
 
     // What the cache allocates by.

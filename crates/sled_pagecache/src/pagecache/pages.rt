@@ -1,6 +1,6 @@
 //! The pages of a cache, which stay in memory until they are paged out. Each call is one step of a machine.
 
-ghost use Rattle.std.specs.Prelude.{◌≡◌, ◌≢◌, ℕ, [], false, true, length, None, Some, Err, slice_get, IfOk, IfErr, IsOk, OnOk, OnErr, IsErrOf, MatchOption, Contains};
+ghost use Rattle.std.specs.Prelude.{◌≡◌, ◌≢◌, ◌≤◌, ℕ, [], false, true, length, None, Some, Err, slice_get, IfOk, IfErr, IsOk, OnOk, OnErr, IsErrOf, MatchOption, Contains};
 ghost use Rattle.sled_base.specs.declared.types.Device.TheVariants.{Write};
 ghost use Rattle.sled_base.specs.declared.types.Error.TheVariants.{Unsupported, Io};
 ghost use Rattle.sled_base.specs.declared.types.Refusal.TheVariants as refusal;
@@ -294,12 +294,24 @@ impl<L: Log> Pages<L> {
         Ok(self.sticky_log.log.size())
     }
 
+    pub(super) fn log(&self) -> &L
+        ensures { result.now ≡ self.now.log }
+    {
+        &self.sticky_log.log
+    }
+
     pub(super) fn into_log(self) -> L
-        requires closed { self.batch ≡ false }
         ensures log { result ≡ self.log }
-        ensures again { self.fault ≡ false → MayBeOpened L.Log result }
+        ensures again { self.batch ≡ false → self.fault ≡ false → MayBeOpened L.Log result }
     {
         self.sticky_log.log
+    }
+
+    // Every cache has both system pages. Nothing is done.
+    pub(super) fn know_own(&self)
+        ensures { 2 ≤ length self.now.stamps }
+    {
+        let _recovered = self.recovered;
     }
 
     // Refuses what can't be read, reads the page from the log where it doesn't lie in memory, and accesses it.

@@ -1,0 +1,104 @@
+//! Crashes of a cache on a disk in memory, and the cache that is opened over what is left.
+
+ghost use Rattle.std.specs.Prelude.{◌≡◌, ◌≤◌, ◌<◌, ◌-◌, ◌^◌, ℕ, [], false, List, IfOk, IfErr};
+ghost use Rattle.sled_disk.specs.declared.disk.memory.MemDisk.{MemDisk};
+ghost use Rattle.sled_disk.specs.declared.log.DiskLog.{DiskLog};
+ghost use Rattle.sled_pagecache.specs.Cache.{Cache, IsIn};
+ghost use Rattle.sled_pagecache.specs.Crashes.{IsFlushed, ReopensAfter, HasFlushed, RefusesReopening};
+ghost use Rattle.sled_pagecache.specs.Logged.{Logged};
+ghost use Rattle.sled_pagecache.specs.Opening.{opened};
+ghost use Rattle.sled_pagecache.specs.Rows.{StepInRow};
+ghost use Rattle.sled_pagecache.specs.State.{State};
+ghost use Rattle.sled_pagecache.specs.declared.pagecache.call.Answer.{Answer};
+ghost use Rattle.sled_pagecache.specs.declared.pagecache.call.Call.{Call};
+
+use crate::pagecache::{Config, PageCache};
+use crate::rows::calls_in_a_row_are_steps;
+use sled_base::Error;
+use sled_disk::{Disk, DiskLog, MemDisk};
+use sled_log::Log;
+use std::alloc::Global;
+
+/// A cache of which nothing is pending, and that keeps no write fault, is flushed, in whatever state it is.
+pub fn a_cache_is_flushed<L: Log>(cache: &PageCache<L>)
+    ensures { cache.now.fault ≡ false → (L.state cache.now.log).pending ≡ [] → (held : Logged) (s : State) → IsIn L.Log cache.now held s → IsFlushed L.Log cache.now s }
+{
+    cache.know_own();
+}
+
+/// A cache on a new disk in memory, which has room for so many written bytes, and for so many writes and syncs. It has the system
+/// pages alone, and all of it is durable.
+pub fn start_on_a_new_disk(
+    alloc: Global,
+    limit: usize,
+    config: Config,
+    clean_every: u64,
+) -> Result<PageCache<DiskLog<MemDisk>>, Error>
+    ensures { IfOk result (λ cache. IsFlushed ⟦<DiskLog<MemDisk> as Log>⟧ cache (opened config [])) }
+{
+    let segment_size = config.segment_size as u64;
+    let mut disk = MemDisk::new(alloc, limit)?;
+    DiskLog::create(&mut disk)?;
+    match DiskLog::open(alloc, disk, segment_size, clean_every) {
+        Ok(log) => match PageCache::start(alloc, config, log) {
+            Ok(cache) => Ok(cache),
+            Err((error, _log)) => Err(error),
+        },
+        Err((error, _disk)) => Err(Error::from(error)),
+    }
+}
+
+/// How many writes and syncs the disk of a cache has made: the moment of its log. A crash before the next one is a crash now.
+pub fn writes_and_syncs(cache: &PageCache<DiskLog<MemDisk>>) -> usize
+    ensures moment { result ≡ ⟦<DiskLog<MemDisk> as Log>⟧.moment cache.now.log }
+    ensures small { result < 2 ^ 63 }
+{
+    cache.log().disk().calls()
+}
+
+/// The cache that is opened again after a crash of its disk before the n-th write or sync, of which the first is 1. Unsynced ranges
+/// are left as they were written or, where one is given, of that byte.
+///
+/// A cache was flushed, and calls were made of it since, whatever they answered. The crash comes at any moment since the flush, also
+/// inside a call, inside a batch, and behind a write fault. The cache that is opened again has the pages after a prefix of the changes
+/// of those calls, which splits no batch and holds all that was flushed; and all of it is durable, so the same holds of the next crash.
+/// Nothing but the settings, an allocation or the device refuses it.
+pub fn reopen_after_a_crash(
+    alloc: Global,
+    cache: PageCache<DiskLog<MemDisk>>,
+    n: usize,
+    fill: Option<u8>,
+    config: Config,
+    clean_every: u64,
+) -> Result<PageCache<DiskLog<MemDisk>>, Error>
+    ensures { (first : Cache (DiskLog MemDisk ⟦<MemDisk as Disk>⟧)) (calls : List (Call × Answer)) (s : State) → IsFlushed ⟦<DiskLog<MemDisk> as Log>⟧ first s → ⟦<DiskLog<MemDisk> as Log>⟧.moment first.log ≤ n - 1 → StepInRow ⟦<DiskLog<MemDisk> as Log>⟧ first calls cache → ReopensAfter ⟦<DiskLog<MemDisk> as Log>⟧ s calls config result }
+{
+    let segment_size = config.segment_size as u64;
+    let log = cache.crashed_log();
+    sled_disk::a_log_at_rest(&log);
+    match sled_disk::reopen_after_a_crash(alloc, log, n, fill, segment_size, clean_every) {
+        Ok(log) => match PageCache::start(alloc, config, log) {
+            Ok(cache) => Ok(cache),
+            Err((error, _log)) => Err(error),
+        },
+        Err((error, _disk)) => Err(Error::from(error)),
+    }
+}
+
+/// The same of a cache that was flushed and not called since: what is opened again has exactly its pages, each at stamp 0.
+pub fn what_was_flushed_is_there(
+    alloc: Global,
+    cache: PageCache<DiskLog<MemDisk>>,
+    n: usize,
+    fill: Option<u8>,
+    config: Config,
+    clean_every: u64,
+) -> Result<PageCache<DiskLog<MemDisk>>, Error>
+    requires clear { cache.fault ≡ false }
+    requires flushed { (⟦<DiskLog<MemDisk> as Log>⟧.state cache.log).pending ≡ [] }
+    ensures { (held : Logged) (s : State) → IsIn ⟦<DiskLog<MemDisk> as Log>⟧ cache held s → ⟦<DiskLog<MemDisk> as Log>⟧.moment cache.log ≤ n - 1 → IfOk result (HasFlushed ⟦<DiskLog<MemDisk> as Log>⟧ s config) × IfErr result (RefusesReopening config) }
+{
+    calls_in_a_row_are_steps::<DiskLog<MemDisk>>();
+    a_cache_is_flushed(&cache);
+    reopen_after_a_crash(alloc, cache, n, fill, config, clean_every)
+}
