@@ -2,6 +2,11 @@ mod batches;
 mod calls;
 mod corners;
 mod crashes;
+mod disk_crashes;
+mod disk_faults;
+mod disk_files;
+mod disk_law;
+mod disks;
 mod eviction;
 mod failing;
 mod free;
@@ -34,7 +39,7 @@ use sled_base::{
 };
 use sled_log::{Log, LogError, MemLog};
 use sled_node::{Data, Index, Item, Leaf, Link, Node};
-use sled_pagecache::{Config, PageCache, PageView, open_tree};
+use sled_pagecache::{Config, Disk, DiskLog, MemDisk, PageCache, PageView, open_tree};
 use std::alloc::{AllocError, Global};
 use std::test::Fail;
 

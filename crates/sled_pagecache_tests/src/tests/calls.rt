@@ -23,7 +23,9 @@ pub(super) fn outcome_of(error: &Error) -> Outcome {
 
 // ---- pages
 
-pub(super) fn adds<L: Log>(cache: &mut PageCache<L>, node: Node) -> Outcome {
+pub(super) fn adds<L: Log>(cache: &mut PageCache<L>, node: Node) -> Outcome
+    ensures { cache.new.batch ≡ cache.old.batch }
+{
     match cache.allocate(node) {
         Ok((pid, token)) if token.pid() == pid => Outcome::Made(pid, token.ts()),
         Ok(_) => Outcome::Other,
@@ -91,7 +93,9 @@ pub(super) fn links<L: Log>(
     stamp: u64,
     link: Link,
     same: &Link,
-) -> Outcome {
+) -> Outcome
+    ensures { cache.new.batch ≡ cache.old.batch }
+{
     let answer = cache.link(pid, PageView::new(pid, stamp), link);
     let outcome = outcome_of_swap(&answer, pid, same);
     let_go(answer);
@@ -106,7 +110,9 @@ pub(super) fn links_so<L: Log>(
     pid: PageId,
     stamp: u64,
     change: &Change,
-) -> Outcome {
+) -> Outcome
+    ensures { cache.new.batch ≡ cache.old.batch }
+{
     match (link_of(alloc, change), link_of(alloc, change)) {
         (Ok(link), Ok(same)) => links(cache, pid, stamp, link, &same),
         _ => Outcome::Unmade,
