@@ -1,4 +1,4 @@
--- A list of one item, and a log that holds nothing.
+-- Lists of one item and of two, and a log that holds nothing.
 use Rattle.std.proofs.Common.{◌≡◌, ◌≢◌, ◌<◌, ◌≤◌, zero, suc, true, List, [], ◌∷◌, length, map, get_or, sym, ap, ◌∙◌, arith}
 use Rattle.sled_log.specs.Messages.{Message}
 use Rattle.sled_log.specs.LogState as log
@@ -10,6 +10,12 @@ pub only_one : {A B : Type 0} (f : A → B) (xs : List A) (x : A) (y : B) → 1 
 only_one f [] x y some few at e = absurd (omega arith)
 only_one f (a ∷ []) x y some few at e = ap (λ l. l ∷ []) (ap f (sym at) ∙ e)
 only_one f (a ∷ b ∷ xs) x y some few at e = absurd (omega arith)
+
+pub only_two : {A B : Type 0} (f : A → B) (xs : List A) (x z : A) (y : B) → 2 ≤ length xs → length xs < 3 → x ≡ get_or xs 0 x → z ≡ get_or xs 1 z → f x ≡ y → map f xs ≡ y ∷ f z ∷ []
+only_two f [] x z y some few at then e = absurd (omega arith)
+only_two f (a ∷ []) x z y some few at then e = absurd (omega arith)
+only_two f (a ∷ b ∷ []) x z y some few at then e = cc
+only_two f (a ∷ b ∷ c ∷ xs) x z y some few at then e = absurd (omega arith)
 
 abbrev pub nothing : Logged
 nothing = record { stable = []; pending = [] }

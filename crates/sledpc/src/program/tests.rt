@@ -1,4 +1,5 @@
 mod corners;
+mod files;
 mod streams;
 
 use super::*;
@@ -7,6 +8,8 @@ use std::io;
 use std::io::ErrorKind;
 
 const TOLD_USAGE: &[u8] = b"usage: sledpc mem | file PATH | crew N M\n";
+
+const MEM: &[&str] = &["mem"];
 
 /// A stream that fails at each use.
 #[derive(Drop)]
@@ -39,26 +42,35 @@ fn texts(alloc: Global, from: &[&str]) -> Result<Vec<String>, AllocError> {
     Ok(words)
 }
 
-// Whether the program ends a script so, and reports this fault.
+// Whether the program with these words ends a script with status 0 and no fault; or, where there is one to be reported, with status
+// 1 and that fault.
 fn ends_so<R: Read, W: Write>(
-    alloc: Global,
+    rt: &HostRuntime,
+    words: &[&str],
     input: &mut R,
     output: &mut W,
-    status: u8,
     fault: &str,
 ) -> bool {
-    let Ok(words) = texts(alloc, &["mem"]) else {
+    let Ok(words) = texts(rt.alloc(), words) else {
         return false;
     };
-    let mut faults = Vec::new(alloc);
-    let ended = drive(alloc, Some(words.as_slice()), input, output, &mut faults);
+    let mut faults = Vec::new(rt.alloc());
+    let ended = drive(
+        rt,
+        rt.alloc(),
+        Some(words.as_slice()),
+        input,
+        output,
+        &mut faults,
+    );
+    let status = if fault.is_empty() { 0 } else { 1 };
     ended == status && faults.as_slice() == fault.as_bytes()
 }
 
-// Whether the program answers a script so, ends with status 0 and reports no fault.
-fn replies(alloc: Global, mut script: &[u8], want: &[u8]) -> bool {
-    let mut output = Vec::new(alloc);
-    ends_so(alloc, &mut script, &mut output, 0, "") && output.as_slice() == want
+// Whether the program over a log in memory answers a script so, and ends without a fault.
+fn replies(rt: &HostRuntime, mut script: &[u8], want: &[u8]) -> bool {
+    let mut output = Vec::new(rt.alloc());
+    ends_so(rt, MEM, &mut script, &mut output, "") && output.as_slice() == want
 }
 
 /// A script, and what it is to be replied to.
@@ -76,8 +88,8 @@ fn new_script(alloc: Global) -> Script {
 }
 
 // Whether the script is replied to so.
-fn is_replied(alloc: Global, script: &Script) -> bool {
-    replies(alloc, &script.asked, &script.wanted)
+fn is_replied(rt: &HostRuntime, script: &Script) -> bool {
+    replies(rt, &script.asked, &script.wanted)
 }
 
 // Puts a line that sets a value of so many digits behind the text, and one behind it.
@@ -91,9 +103,9 @@ fn put_long(text: &mut Vec<u8>, digits: usize) -> Result<(), AllocError> {
 }
 
 // Whether a script whose first line has so many digits of a value is answered so.
-fn replies_to_long(alloc: Global, digits: usize, want: &str) -> bool {
-    let mut script = Vec::new(alloc);
-    put_long(&mut script, digits).is_ok() && replies(alloc, &script, want.as_bytes())
+fn replies_to_long(rt: &HostRuntime, digits: usize, want: &str) -> bool {
+    let mut script = Vec::new(rt.alloc());
+    put_long(&mut script, digits).is_ok() && replies(rt, &script, want.as_bytes())
 }
 
 // Puts the word of a byte string of so many bytes behind the text.
@@ -130,29 +142,29 @@ fn put_pair_lines(script: &mut Script, pair: (usize, usize)) -> Result<(), Alloc
 }
 
 // Whether a pair whose key and value have so many bytes is replied as it was encoded.
-fn returns_pair(alloc: Global, key: usize, value: usize) -> bool {
-    let mut script = new_script(alloc);
-    put_pair_lines(&mut script, (key, value)).is_ok() && is_replied(alloc, &script)
+fn returns_pair(rt: &HostRuntime, key: usize, value: usize) -> bool {
+    let mut script = new_script(rt.alloc());
+    put_pair_lines(&mut script, (key, value)).is_ok() && is_replied(rt, &script)
 }
 
 // Whether these words, or such as are no text, are reported as wrong, and no stream is touched.
-fn are_wrong(alloc: Global, words: Option<&[String]>) -> bool {
-    let mut faults = Vec::new(alloc);
-    let status = drive(alloc, words, &mut Broken, &mut Broken, &mut faults);
+fn are_wrong(rt: &HostRuntime, words: Option<&[String]>) -> bool {
+    let mut faults = Vec::new(rt.alloc());
+    let status = drive(rt, rt.alloc(), words, &mut Broken, &mut Broken, &mut faults);
     status == 2 && faults.as_slice() == TOLD_USAGE
 }
 
-fn are_wrong_words(alloc: Global, words: &[&str]) -> bool {
-    match texts(alloc, words) {
-        Ok(words) => are_wrong(alloc, Some(words.as_slice())),
+fn are_wrong_words(rt: &HostRuntime, words: &[&str]) -> bool {
+    match texts(rt.alloc(), words) {
+        Ok(words) => are_wrong(rt, Some(words.as_slice())),
         Err(_) => false,
     }
 }
 
-fn answers_unreported(alloc: Global) -> bool {
+fn answers_unreported(rt: &HostRuntime) -> bool {
     let mut input = b"".as_slice();
-    let mut output = Vec::new(alloc);
-    drive(alloc, None, &mut input, &mut output, &mut Broken) == 2
+    let mut output = Vec::new(rt.alloc());
+    drive(rt, rt.alloc(), None, &mut input, &mut output, &mut Broken) == 2
 }
 
 /// Scripts, and what each is replied to.
@@ -297,7 +309,7 @@ const REPLIES: &[(&str, &str)] = &[
 fn replies_to_lines(rt: HostRuntime) {
     for (script, want) in REPLIES {
         assert!(rt;
-            replies(rt.alloc(), script.as_bytes(), want.as_bytes()),
+            replies(&rt, script.as_bytes(), want.as_bytes()),
             "at {script}"
         );
     }
@@ -325,13 +337,13 @@ const ENTRIES: &[(usize, usize)] = &[
 fn pairs_of_any_size_are_replied_as_they_were_encoded(rt: HostRuntime) {
     for count in LENGTHS {
         assert!(rt;
-            returns_pair(rt.alloc(), *count, 1) && returns_pair(rt.alloc(), 1, *count),
+            returns_pair(&rt, *count, 1) && returns_pair(&rt, 1, *count),
             "with a key or a value of {count} bytes"
         );
     }
     for (key, value) in ENTRIES {
         assert!(rt;
-            returns_pair(rt.alloc(), *key, *value),
+            returns_pair(&rt, *key, *value),
             "with {key} and {value} bytes"
         );
     }
@@ -340,10 +352,7 @@ fn pairs_of_any_size_are_replied_as_they_were_encoded(rt: HostRuntime) {
 #[test]
 fn a_line_of_65536_bytes_is_read_and_a_longer_one_is_not(rt: HostRuntime) {
     for (digits, want) in [(65_524, "gone\nnone\n"), (65_526, "error line\nnone\n")] {
-        assert!(rt;
-            replies_to_long(rt.alloc(), digits, want),
-            "with {digits} digits"
-        );
+        assert!(rt; replies_to_long(&rt, digits, want), "with {digits} digits");
     }
 }
 
@@ -351,15 +360,18 @@ const WRONG: &[&[&str]] = &[
     &[],
     &["memory"],
     &["mem", "x"],
-    &["file", "path"],
+    &["file"],
+    &["file", "a", "b"],
+    &["files", "a"],
+    &["mem", "file"],
     &["crew", "1", "0"],
 ];
 
 #[test]
 fn wrong_words_are_reported_and_touch_no_stream(rt: HostRuntime) {
-    assert!(rt; are_wrong(rt.alloc(), None));
-    assert!(rt; answers_unreported(rt.alloc()));
+    assert!(rt; are_wrong(&rt, None));
+    assert!(rt; answers_unreported(&rt));
     for words in WRONG {
-        assert!(rt; are_wrong_words(rt.alloc(), words));
+        assert!(rt; are_wrong_words(&rt, words));
     }
 }

@@ -117,25 +117,22 @@ fn flushed(count: u32, key: u64, value: u64) -> u64 {
         .saturating_add(value)
 }
 
-fn serves_pairs(alloc: Global, tail: &str, value: &str, count: u32) -> bool {
-    let Ok(pairs) = pair_words(alloc, tail, count) else {
+fn serves_pairs(rt: &HostRuntime, tail: &str, value: &str, count: u32) -> bool {
+    let Ok(pairs) = pair_words(rt.alloc(), tail, count) else {
         return false;
     };
     let (tail_len, value_len) = (tail.len() as u64 / 2, value.len() as u64 / 2);
     let number = flushed(count, tail_len + 4, value_len);
-    let mut script = new_script(alloc);
-    put_numbered(alloc, &mut script, OF_PAIRS, (&pairs, value), number).is_ok()
-        && is_replied(alloc, &script)
+    let mut script = new_script(rt.alloc());
+    put_numbered(rt.alloc(), &mut script, OF_PAIRS, (&pairs, value), number).is_ok()
+        && is_replied(rt, &script)
 }
 
 #[test]
 fn commands_serve_at_each_number_of_pairs(rt: HostRuntime) {
     for (tail, value) in TAILS {
         for count in COUNTS {
-            assert!(rt;
-                serves_pairs(rt.alloc(), tail, value, *count),
-                "{count} pairs"
-            );
+            assert!(rt; serves_pairs(&rt, tail, value, *count), "{count} pairs");
         }
     }
 }
@@ -212,9 +209,9 @@ fn put_numbers(alloc: Global, script: &mut Script) -> Result<(), AllocError> {
     Ok(())
 }
 
-fn serves_numbers(alloc: Global) -> bool {
-    let mut script = new_script(alloc);
-    put_numbers(alloc, &mut script).is_ok() && is_replied(alloc, &script)
+fn serves_numbers(rt: &HostRuntime) -> bool {
+    let mut script = new_script(rt.alloc());
+    put_numbers(rt.alloc(), &mut script).is_ok() && is_replied(rt, &script)
 }
 
 const OF_A_STAMP: Lines = &[("set 2 # 61 62", "ok +")];
@@ -234,15 +231,15 @@ fn put_stamps(alloc: Global, script: &mut Script, last: u64) -> Result<(), Alloc
 }
 
 // Whether page 2 takes links up to this stamp.
-fn serves_stamps(alloc: Global, last: u64) -> bool {
-    let mut script = new_script(alloc);
-    put_stamps(alloc, &mut script, last).is_ok() && is_replied(alloc, &script)
+fn serves_stamps(rt: &HostRuntime, last: u64) -> bool {
+    let mut script = new_script(rt.alloc());
+    put_stamps(rt.alloc(), &mut script, last).is_ok() && is_replied(rt, &script)
 }
 
 #[test]
 fn commands_serve_at_each_length_of_their_numbers(rt: HostRuntime) {
-    assert!(rt; serves_numbers(rt.alloc()), "pages");
-    assert!(rt; serves_stamps(rt.alloc(), 2_290), "stamps");
+    assert!(rt; serves_numbers(&rt), "pages");
+    assert!(rt; serves_stamps(&rt, 2_290), "stamps");
 }
 
 // ---- generated ids
@@ -275,14 +272,14 @@ fn put_ids(alloc: Global, script: &mut Script, count: u64, bytes: u64) -> Result
     put_numbered(alloc, script, OF_THE_LOG, NOTHING, bytes)
 }
 
-fn serves_ids(alloc: Global, count: u64, bytes: u64) -> bool {
-    let mut script = new_script(alloc);
-    put_ids(alloc, &mut script, count, bytes).is_ok() && is_replied(alloc, &script)
+fn serves_ids(rt: &HostRuntime, count: u64, bytes: u64) -> bool {
+    let mut script = new_script(rt.alloc());
+    put_ids(rt.alloc(), &mut script, count, bytes).is_ok() && is_replied(rt, &script)
 }
 
 #[test]
 fn ids_rise_by_one_and_each_tenth_is_logged(rt: HostRuntime) {
     for (count, bytes) in IDS {
-        assert!(rt; serves_ids(rt.alloc(), *count, *bytes), "{count} ids");
+        assert!(rt; serves_ids(&rt, *count, *bytes), "{count} ids");
     }
 }

@@ -55,51 +55,51 @@ impl Write for Barred {
 
 // Whether a script is replied to so, and flushed where bars stand, by a writer with so much room. Where it has too little it
 // takes just what it has room for, and that is reported.
-fn is_taken<R: Read>(alloc: Global, input: &mut R, room: usize, want: &[u8]) -> bool {
+fn is_taken<R: Read>(rt: &HostRuntime, input: &mut R, room: usize, want: &[u8]) -> bool {
     let mut output = Barred {
-        got: Vec::new(alloc),
+        got: Vec::new(rt.alloc()),
         room,
     };
     let is_short = room < want.len();
-    let (status, fault) = if is_short {
-        (1, "sledpc: error write\n")
+    let fault = if is_short {
+        "sledpc: error write\n"
     } else {
-        (0, "")
+        ""
     };
-    let ends = ends_so(alloc, input, &mut output, status, fault);
+    let ends = ends_so(rt, MEM, input, &mut output, fault);
     ends && output.got.as_slice() == &want[..room.min(want.len())]
 }
 
 // Whether a script that is given in these pieces is replied to so, and flushed where bars stand, by a writer with so much room.
-fn flushes_so(alloc: Global, pieces: &[&str], room: usize, want: &str) -> bool {
+fn flushes_so(rt: &HostRuntime, pieces: &[&str], room: usize, want: &str) -> bool {
     let mut input = Pieces {
         left: pieces,
         is_broken: false,
     };
-    is_taken(alloc, &mut input, room, want.as_bytes())
+    is_taken(rt, &mut input, room, want.as_bytes())
 }
 
 // Whether a script that is given in these pieces, and can't be read behind them, is replied to so, and flushed where bars
 // stand.
-fn flushes_so_before_failing(alloc: Global, pieces: &[&str], want: &str) -> bool {
+fn flushes_so_before_failing(rt: &HostRuntime, pieces: &[&str], want: &str) -> bool {
     let mut input = Pieces {
         left: pieces,
         is_broken: true,
     };
     let mut output = Barred {
-        got: Vec::new(alloc),
+        got: Vec::new(rt.alloc()),
         room: 999,
     };
-    let ends = ends_so(alloc, &mut input, &mut output, 1, "sledpc: error read\n");
+    let ends = ends_so(rt, MEM, &mut input, &mut output, "sledpc: error read\n");
     ends && output.got.as_slice() == want.as_bytes()
 }
 
 // Whether a line of so many digits and more, and those around it, are replied to so, and flushed where bars stand.
-fn flushes_around(alloc: Global, digits: usize, want: &str) -> bool {
-    let mut script = Vec::new(alloc);
+fn flushes_around(rt: &HostRuntime, digits: usize, want: &str) -> bool {
+    let mut script = Vec::new(rt.alloc());
     let is_put = script.extend_from_slice(b"get 9\n").is_ok()
         && put_long(&mut script, digits).is_ok();
-    is_put && is_taken(alloc, &mut script.as_slice(), 999, want.as_bytes())
+    is_put && is_taken(rt, &mut script.as_slice(), 999, want.as_bytes())
 }
 
 /// What a large leaf is replied to, of which a writer may have room for a part.
@@ -136,10 +136,10 @@ fn put_large(script: &mut Script) -> Result<(), AllocError> {
 }
 
 // Whether a leaf of 1,000 pairs is replied to twice and then flushed, by a writer with so much room.
-fn takes_large(alloc: Global, room: usize) -> bool {
-    let mut script = new_script(alloc);
+fn takes_large(rt: &HostRuntime, room: usize) -> bool {
+    let mut script = new_script(rt.alloc());
     let is_put = put_large(&mut script).is_ok();
-    is_put && is_taken(alloc, &mut script.asked.as_slice(), room, &script.wanted)
+    is_put && is_taken(rt, &mut script.asked.as_slice(), room, &script.wanted)
 }
 
 /// Pieces of a script, and what it is replied to.
@@ -182,13 +182,10 @@ const LONG: &[(usize, &str)] = &[
 #[test]
 fn replies_go_out_before_a_read_that_may_wait(rt: HostRuntime) {
     for (pieces, want) in BEFORE_WAITING {
-        assert!(rt; flushes_so(rt.alloc(), pieces, 999, want), "at {want}");
+        assert!(rt; flushes_so(&rt, pieces, 999, want), "at {want}");
     }
     for (digits, want) in LONG {
-        assert!(rt;
-            flushes_around(rt.alloc(), *digits, want),
-            "with {digits} digits"
-        );
+        assert!(rt; flushes_around(&rt, *digits, want), "with {digits} digits");
     }
 }
 
@@ -204,10 +201,7 @@ const BEFORE_FAILING: Flushed = &[
 #[test]
 fn replies_go_out_before_a_reader_that_fails(rt: HostRuntime) {
     for (pieces, want) in BEFORE_FAILING {
-        assert!(rt;
-            flushes_so_before_failing(rt.alloc(), pieces, want),
-            "at {want}"
-        );
+        assert!(rt; flushes_so_before_failing(&rt, pieces, want), "at {want}");
     }
 }
 
@@ -232,15 +226,12 @@ fn a_writer_may_refuse_at_each_place(rt: HostRuntime) {
     for (pieces, want, end) in REFUSED {
         for room in 0..*end {
             assert!(rt;
-                flushes_so(rt.alloc(), pieces, room, want),
+                flushes_so(&rt, pieces, room, want),
                 "with room for {room} bytes"
             );
         }
     }
     for room in ROOMS {
-        assert!(rt;
-            takes_large(rt.alloc(), *room),
-            "with room for {room} bytes"
-        );
+        assert!(rt; takes_large(&rt, *room), "with room for {room} bytes");
     }
 }
