@@ -9,19 +9,18 @@ set -eu
 cd "$(CDPATH='' cd -- "$(dirname -- "$0")/.." && pwd)"
 work=$(mktemp -d)
 trap 'rm -rf "$work"' EXIT
-trap 'exit 1' HUP INT TERM
+trap 'exit 1' HUP INT PIPE TERM
 status=0
 
-# The crates of the library, with a program beside them.
-{
-    grep '^sled_\(base\|node\|log\|pagecache\):' crates.txt
-    echo 'refused: sled_base sled_node sled_log sled_pagecache'
-} >"$work/crates.txt"
+# The cache and the crates that it stands on, with a program beside them.
+library=$(awk '$1 == "sled_pagecache:" { $1 = "sled_pagecache"; print }' crates.txt)
 mkdir -p "$work/crates/refused/src"
-for crate in sled_base sled_node sled_log sled_pagecache; do
+for crate in $library; do
+    grep "^$crate:" crates.txt >>"$work/crates.txt"
     mkdir "$work/crates/$crate"
     cp -R "crates/$crate/src" "crates/$crate/specs" "crates/$crate/proofs" "$work/crates/$crate"
 done
+echo "refused: $library" >>"$work/crates.txt"
 program=$work/crates/refused/src/main.rt
 
 # try: the program on standard input, behind what each begins with. A line that is to be refused ends in `// error: NAME`.

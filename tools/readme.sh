@@ -4,7 +4,8 @@
 # - each block of Rust stands at the head of a file of crates/sledpc/src/tests/readme, which is named as its function is
 #   and has a test behind it, and each of these files has its block;
 # - each session of the program `./sledpc` stands in the run that the gate makes of it: its words in crates/sledpc/args,
-#   its input in crates/sledpc/stdin, and its replies at the same lines of crates/sledpc/stdout;
+#   its input in crates/sledpc/stdin, and its replies at the same lines of crates/sledpc/stdout; and one over a file in a row of the
+#   tests of the program;
 # - each other command of a session is there;
 # - each file of a crate's specs has its line in docs/ARCHITECTURE.md.
 #
@@ -15,9 +16,10 @@ cd "$(CDPATH='' cd -- "$(dirname -- "$0")/.." && pwd)"
 page=README.md
 examples=crates/sledpc/src/tests/readme
 run=crates/sledpc
+file_runs=crates/sledpc/src/program/tests/files.rt
 work=$(mktemp -d)
 trap 'rm -rf "$work"' EXIT
-trap 'exit 1' HUP INT TERM
+trap 'exit 1' HUP INT PIPE TERM
 status=0
 
 differ() {
@@ -96,6 +98,12 @@ compare_run() {
     fi
 }
 
+# Compares a run of the program over a file: $1 is what is printed to it, $2 the file of what it replies.
+compare_file_run() {
+    row="(\"$1\", \"$(awk '{ printf "%s\\n", $0 }' "$2")\"),"
+    grep -qF -- "$row" "$file_runs" || differ "no row of $file_runs is $row"
+}
+
 compare_sessions() {
     for command in "$work"/*.command; do
         [ -e "$command" ] || continue
@@ -105,7 +113,12 @@ compare_sessions() {
         case $text in
         "printf '"*"' | ./sledpc "*)
             text=${text#"printf '"}
-            compare_run "${text%"' | ./sledpc "*}" "${text##*"' | ./sledpc "}" "$replies"
+            input=${text%"' | ./sledpc "*}
+            words=${text##*"' | ./sledpc "}
+            case $words in
+            "file "*) compare_file_run "$input" "$replies" ;;
+            *) compare_run "$input" "$words" "$replies" ;;
+            esac
             ;;
         ./* | .ci/* | tools/*)
             [ -x "${text%% *}" ] || differ "there is no command ${text%% *}"
