@@ -1,5 +1,5 @@
 -- Heads in their bytes.
-use Rattle.std.proofs.Common.{◌≡◌, ℕ, zero, suc, ◌+◌, ◌^◌, ◌≤◌, ◌<◌, List, [], ◌∷◌, ◌++◌, length, map, take, drop, get_or, slice_index_or, refl, ap, sym, ◌∙◌, subst, append_assoc, arith}
+use Rattle.std.proofs.Common.{◌≡◌, ℕ, zero, suc, ◌+◌, ◌^◌, ◌<◌, List, [], ◌∷◌, ◌++◌, length, map, take, drop, get_or, slice_index_or, refl, ap, sym, ◌∙◌, subst, append_assoc, arith}
 use Rattle.std.specs.Global.{Vec}
 use Rattle.sled_log.specs.declared.log.LogError.{LogError}
 use Rattle.std.specs.Prelude.{Result, Ok, Err, IfOk, ℤ, nat_lt, Option, Some, None}
@@ -138,24 +138,6 @@ module _ (bytes : List ℕ) (gate : ℕ) (heads : List (List Head)) (fits : IsBy
       by (k, x, lt, is, at) =
           head-of bytes (slice_index_or heads pid []) lsn pointer k x lt is at written
           (all-get (AllByRecursion IsPlaced) pid heads [] (placed-of heads (read-heads bytes gate heads read)) tt)
-
-  pub known-small : Any (IsAt lsn pointer) (slice_index_or (entries_in bytes heads) pid []) → offset_of pointer + 17 < 2 ^ 64
-  known-small known =
-      let h = known-head known in
-      let one = h.1 in
-      let place = one.place in
-      let placed = one.placed in
-      omega arith
-
-  pub known-within : Any (IsAt lsn pointer) (slice_index_or (entries_in bytes heads) pid []) → offset_of pointer + (17 + number (take 8 (drop (offset_of pointer + 9) bytes))) ≤ length bytes
-  known-within known =
-      let h = known-head known in
-      let one = h.1 in
-      let w = one.written in
-      let in_file = w.within in
-      let len : number (take 8 (drop (offset_of pointer + 9) bytes)) ≡ h.0.len = ap (λ n. number (take 8 (drop (n + 9) bytes))) one.place ∙ w.len in
-      let place = one.place in
-      omega arith
 
   pub known-read : (found : MessageKind × Vec ℕ) → found.0 ≡ kind_of (get_or (drop (offset_of pointer) bytes) 0 0) → found.1.items ≡ take (number (take 8 (drop (offset_of pointer + 9) bytes))) (drop (offset_of pointer + 17) bytes)
       → All (λ entry. IsAt lsn pointer entry → IsRead entry found) (slice_index_or (entries_in bytes heads) pid [])

@@ -165,9 +165,6 @@ module _ (buffer : List ℕ) (gate at last : ℕ) (are : IsBytes buffer) (front 
       ∙ ap (λ (n : ℕ). (pad ++ body t.before) ++ (3 ∷ ((number_bytes t.it.id ++ number_bytes n) ++ (number_bytes last ++ body t.after)))) (t.begins.long ∙ sym (number_bytes-length last))
       ∙ ap (λ (l : List ℕ). (pad ++ body t.before) ++ l) (sym (parts (sealed last t.it) (body t.after)))
 
-  pub sealed-records : List Record
-  sealed-records = t.before ++ sealed last t.it ∷ t.after
-
   sealed-fits : (xs : List Record) → AllByRecursion Fits (xs ++ t.it ∷ t.after) → AllByRecursion Fits (xs ++ sealed last t.it ∷ t.after)
   sealed-fits [] f = (record { id = f.0.id; payload = omega (arith, number_bytes-length last) }, f.1)
   sealed-fits (x ∷ xs) f = (f.0, sealed-fits xs f.1)
@@ -185,23 +182,6 @@ module _ (buffer : List ℕ) (gate at last : ℕ) (are : IsBytes buffer) (front 
 
   pub parsed-sealed : records_of (drop 8 (marked_at (at - (gate + 1)) last buffer)) ≡ Some (records_behind (marked_at (at - (gate + 1)) last buffer))
   parsed-sealed = sealed-parsed ∙ ap (λ (rs : List Record). Some rs) (sym behind-sealed)
-
-  pub length-sealed : length (marked_at (at - (gate + 1)) last buffer) ≡ length buffer
-  length-sealed =
-      let l = t.begins.long in let e = ap length buffer-is in let f = ap length sealed-bytes in
-      omega (
-        arith,
-        l,
-        e,
-        f,
-        length-append (pad ++ body t.before) (record_bytes t.it ++ body t.after),
-        length-append (pad ++ body t.before) (record_bytes (sealed last t.it) ++ body t.after),
-        length-append (record_bytes t.it) (body t.after),
-        length-append (record_bytes (sealed last t.it)) (body t.after),
-        record_bytes-length t.it,
-        record_bytes-length (sealed last t.it),
-        number_bytes-length last,
-      )
 
   pub count-sealed : length (sealed_in (gate + 9) at last (records_behind buffer)) ≡ length (records_behind buffer)
   count-sealed = ap length t.seals ∙ omega (arith, length-append t.before (sealed last t.it ∷ t.after), length-append t.before (t.it ∷ t.after), ap length t.is)

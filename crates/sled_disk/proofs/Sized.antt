@@ -1,5 +1,5 @@
 -- The chains of a file, and their sizes.
-use Rattle.std.proofs.Common.{◌≡◌, ℕ, ◌+◌, ◌^◌, ◌≤◌, ◌<◌, List, [], ◌∷◌, length, map, refl, ap, sym, ◌∙◌, subst, arith}
+use Rattle.std.proofs.Common.{◌≡◌, ℕ, ◌+◌, ◌^◌, ◌≤◌, ◌<◌, List, [], ◌∷◌, length, refl, ap, sym, ◌∙◌, subst, arith}
 use Rattle.std.specs.List.{AllByRecursion}
 use Rattle.std.proofs.lemmas.List.{length-append}
 use Rattle.std.proofs.lemmas.List.Sums.{sum_by-append}
@@ -12,7 +12,6 @@ use Rattle.sled_log.specs.Chains.{chains_after}
 use Rattle.sled_log.specs.Events.{Event}
 use Rattle.sled_log.specs.Messages.{Entry, Chain, effect_of_entry, message_size}
 use Rattle.sled_log.specs.Pages.{IsSized}
-use Rattle.sled_log.specs.ShapeLaws.{AreChains, chains-are}
 use Rattle.std.specs.Prelude.{Some, drop, Bool}
 use Rattle.std.proofs.Common.{⊎_elim, ◌++◌}
 use Rattle.std.proofs.lemmas.Bool.{cases_lt}
@@ -25,9 +24,8 @@ use Rattle.sled_disk.specs.StandingLaws.{parsed, events-are, ends-at}
 use Rattle.sled_disk.proofs.Adding.{now-is}
 use Rattle.sled_disk.proofs.Waiting.{waits-length}
 use Rattle.sled_disk.specs.declared.head.Head.{Head}
-use Rattle.sled_disk.specs.Format.{Record, Frame, size, record_bytes, body, event_by, event_at, events_at, frames_events, entry_at, opening, frames_bytes, IsBytes}
-use Rattle.sled_disk.specs.Reading.{Holds, entry_in}
-use Rattle.sled_disk.specs.MeaningLaws.{gate_after, gate_after-is, record_bytes-length}
+use Rattle.sled_disk.specs.Format.{Record, Frame, size, record_bytes, body, event_by, event_at, events_at, frames_events, entry_at, IsBytes}
+use Rattle.sled_disk.specs.MeaningLaws.{gate_after, record_bytes-length}
 
 abbrev log_size_of : Entry → ℕ
 log_size_of entry = entry.place.log_size
@@ -82,21 +80,6 @@ frames-total gate (frame ∷ frames) =
 both : (chains : List Chain) → AllIn effect_of_entry IsOfSize chains → AllByRecursion (λ chain. chain_size effect_of_entry log_size_of chain < 2 ^ 63) chains → AllByRecursion IsSized chains
 both [] h i = tt
 both (chain ∷ chains) h i = (record { each = h.0; total = i.0 }, both chains h.1 i.1)
-
-pub holds-sized : (bytes : List ℕ) (gate : ℕ) (heads : List (List Head)) → Holds bytes gate heads → AllByRecursion IsSized (map (map (entry_in bytes)) heads)
-holds-sized bytes gate heads holds =
-    let d = holds.described in
-    let events = frames_events entry_at 8 d.frames in
-    let place = d.place in
-    let small = d.small in
-    let chains = chains_after effect_of_entry [] events in
-    let is : map (map (entry_in bytes)) heads ≡ chains = holds.kept ∙ ap (chains_after effect_of_entry []) d.meaning in
-    subst (λ (l : List Chain). AllByRecursion IsSized l) (sym is)
-    (both chains (chains-all effect_of_entry IsOfSize [] events tt (frames-sized 8 d.frames))
-    (each-below effect_of_entry log_size_of (2 ^ 63) chains (omega (arith, chains_after-size effect_of_entry log_size_of [] events, frames-total 8 d.frames, gate_after-is 8 d.frames, length-append opening (frames_bytes d.frames)))))
-
-pub holds-chains : (bytes : List ℕ) (gate : ℕ) (heads : List (List Head)) → Holds bytes gate heads → AreChains effect_of_entry (map (map (entry_in bytes)) heads)
-holds-chains bytes gate heads holds = subst (λ (l : List Chain). AreChains effect_of_entry l) (sym holds.kept) (chains-are effect_of_entry [] holds.events tt)
 
 -- ---- what is pending too
 

@@ -1,5 +1,5 @@
 -- What follows of a log that may be called.
-use Rattle.std.proofs.Common.{◌≡◌, ℕ, ◌≤◌, Bool, true, List, [], ◌∷◌, ◌++◌, length, map, drop, get_or, refl, ap, sym, ◌∙◌, subst, append_assoc, arith}
+use Rattle.std.proofs.Common.{◌≡◌, ℕ, ◌≤◌, Bool, List, [], ◌∷◌, ◌++◌, length, map, drop, get_or, refl, ap, sym, ◌∙◌, subst, append_assoc, arith}
 use Rattle.std.specs.Prelude.{Some}
 use Rattle.std.proofs.lemmas.Bool.{eq-eqb}
 use Rattle.std.proofs.lemmas.List.{drop_all, get_or_at, length-append}
@@ -67,13 +67,6 @@ module _ (seen : List ℕ) (gate : ℕ) (rs : List Record) (heads : List (List H
   pub ready-only : (may_leave : List ℕ → Type 0) → Only seen may_leave → (pages : List Messages) → LeavesPages may_leave pages → pages ≡ durable_pages
   ready-only may_leave only pages (bytes, may, means) =
       means (events_in seen) (subst (λ (l : List ℕ). Describes l (events_in seen)) (sym (only bytes may)) (gate, stands-described))
-
--- what is durable is left of a log
-pub left-stable : (seen : List ℕ) (gate : ℕ) (marks : List Mark) (buffer : List ℕ) (begun : List (Event Message)) (pages : List Messages)
-    → pages ≡ map unplaced (chains_after effect_of_entry [] (events_in seen)) → IsLeft effect_of (unplaced_state (state_in seen gate marks buffer true)) begun pages
-left-stable seen gate marks buffer begun pages is =
-    let pending : List (Event Message) = (unplaced_state (state_in seen gate marks buffer true)).pending in
-    record { came = []; beginning = (begun, refl); cut = 0; fair = IsFair-none (pending ++ []); is = is }
 
 -- ---- the laws of a log at rest
 

@@ -71,11 +71,6 @@ stands seen gate rs heads p =
     }
 
 module _ (seen : List ℕ) (gate : ℕ) (rs : List Record) (heads : List (List Head)) (p : Parsed seen gate rs heads) where
-  -- what the frames alone make
-  pub parsed-file : Parsed seen gate [] p.before
-  unfolding steps
-  parsed-file = record { frames = p.frames; each = p.each; rest = p.rest; is = p.is; before = p.before; opened = p.opened; made = refl }
-
   abbrev SameEnd : ℕ × List (List Head) → ℕ × List (List Head) → Type 0
   SameEnd x y = x ≡ y
 

@@ -5,8 +5,9 @@ ghost use Rattle.sled_log.specs.Batches.{is_open};
 ghost use Rattle.sled_log.specs.LogState.{LogState, IsLeft, now, unplaced_state};
 ghost use Rattle.sled_log.specs.Runs.{can_make_all, events_of_all};
 ghost use Rattle.sled_log.specs.Messages.{Messages, Entry, effect_of};
-ghost use Rattle.sled_disk.specs.DiskMemory.{clock_of};
-ghost use Rattle.sled_log.specs.declared.log.LogError.TheVariants.{Full, Corruption};
+ghost use Rattle.sled_log.specs.Calls.{HasGrown};
+ghost use Rattle.sled_disk.specs.DiskMemory.{clock_of, counts_of};
+ghost use Rattle.sled_log.specs.declared.log.LogError.TheVariants.{Full, ReadFault, WriteFault, Corruption};
 
 use crate::disk::MemDisk;
 use crate::log::DiskLog;
@@ -50,6 +51,8 @@ pub fn reopen_after_a_crash(
     ensures left { IfOk result (λ new. ⟦<DiskLog<MemDisk> as Log>⟧.left_since log (min (n - 1) (clock_of log.disk)) (unplaced_state (⟦<DiskLog<MemDisk> as Log>⟧.state new)).stable) }
     ensures sound { IfErr result (λ e. e.0 ≡ Corruption → (pages : List Messages) → ⟦<DiskLog<MemDisk> as Log>⟧.left_since log (min (n - 1) (clock_of log.disk)) pages) }
     ensures not_full { IfErr result (λ e. e.0 ≡ Full → ⊥) }
+    ensures read_fault { IfErr result (λ e. e.0 ≡ ReadFault → HasGrown 0 (counts_of e.1).failed_reads) }
+    ensures write_fault { IfErr result (λ e. e.0 ≡ WriteFault → HasGrown 0 (counts_of e.1).write_faults) }
 {
     let left = log.into_disk().stop(n, fill);
     DiskLog::open(alloc, left, segment_size, clean_every)
@@ -74,6 +77,8 @@ pub fn what_was_flushed_is_there(
     ensures prefix { IfOk result (λ new. IsLeft effect_of (unplaced_state (⟦<DiskLog<MemDisk> as Log>⟧.state log)) (events_of_all calls.now) (unplaced_state (⟦<DiskLog<MemDisk> as Log>⟧.state new)).stable) }
     ensures sound { IfErr result (λ e. e.0 ≡ Corruption → ⊥) }
     ensures not_full { IfErr result (λ e. e.0 ≡ Full → ⊥) }
+    ensures read_fault { IfErr result (λ e. e.0 ≡ ReadFault → HasGrown 0 (counts_of e.1).failed_reads) }
+    ensures write_fault { IfErr result (λ e. e.0 ≡ WriteFault → HasGrown 0 (counts_of e.1).write_faults) }
 {
     let _whatever_they_answer = make_calls(&mut log, calls);
     reopen_after_a_crash(alloc, log, n, fill, segment_size, clean_every)
