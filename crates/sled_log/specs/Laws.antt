@@ -104,52 +104,69 @@ module _ {E S : Type 0} (after : S → List (Event E) → S) (splits : (s : S) (
 
   -- what is behind a cut of the events so far, when more come
   module _ (durable durable_mid : S) (waiting waiting_mid first second : List (Event E)) (a : AddsEvents after durable waiting first durable_mid waiting_mid) where
-    whole : (waiting ++ first) ++ second ≡ waiting ++ (first ++ second)
-    whole = append_assoc waiting first second
+    abbrev all : List (Event E)
+    all = (waiting ++ first) ++ second
 
-    rest : waiting_mid ++ second ≡ drop a.cut ((waiting ++ first) ++ second)
+    rest : waiting_mid ++ second ≡ drop a.cut all
     rest = let w = a.fair.within in ap (λ (l : List (Event E)). l ++ second) a.pending ∙ sym (drop-append-le a.cut (waiting ++ first) second w)
 
-    cut_behind : (n : ℕ) → IsFair (waiting_mid ++ second) n → IsFair (waiting ++ (first ++ second)) (a.cut + n)
-    cut_behind n fair =
-        subst (λ (l : List (Event E)). IsFair l (a.cut + n)) whole
-        (IsFair-add ((waiting ++ first) ++ second) a.cut n (IsFair-more (waiting ++ first) second a.cut a.fair) (subst (λ (l : List (Event E)). IsFair l n) rest fair))
+    cut_behind : (n : ℕ) → IsFair (waiting_mid ++ second) n → IsFair all (a.cut + n)
+    cut_behind n fair = IsFair-add all a.cut n (IsFair-more (waiting ++ first) second a.cut a.fair) (subst (λ (l : List (Event E)). IsFair l n) rest fair)
 
-    stable_behind : (n : ℕ) → after durable_mid (take n (waiting_mid ++ second)) ≡ after durable (take (a.cut + n) (waiting ++ (first ++ second)))
+    stable_behind : (n : ℕ) → after durable_mid (take n (waiting_mid ++ second)) ≡ after durable (take (a.cut + n) all)
     stable_behind n =
-        let xs = (waiting ++ first) ++ second in
         let w = a.fair.within in
         ap (λ (s : S). after s (take n (waiting_mid ++ second))) (a.stable ∙ ap (after durable) (sym (take-append-le a.cut (waiting ++ first) second w)))
-        ∙ ap (λ (l : List (Event E)). after (after durable (take a.cut xs)) (take n l)) rest
-        ∙ sym (splits durable (take a.cut xs) (take n (drop a.cut xs)))
-        ∙ ap (after durable) (sym (take-add a.cut n xs))
-        ∙ ap (λ (l : List (Event E)). after durable (take (a.cut + n) l)) whole
+        ∙ ap (λ (l : List (Event E)). after (after durable (take a.cut all)) (take n l)) rest
+        ∙ sym (splits durable (take a.cut all) (take n (drop a.cut all)))
+        ∙ ap (after durable) (sym (take-add a.cut n all))
 
-    pending_behind : (n : ℕ) → drop n (waiting_mid ++ second) ≡ drop (a.cut + n) (waiting ++ (first ++ second))
-    pending_behind n =
-        ap (λ (l : List (Event E)). drop n l) rest ∙ drop-drop n a.cut ((waiting ++ first) ++ second) ∙ ap (λ (l : List (Event E)). drop (a.cut + n) l) whole
+    pending_behind : (n : ℕ) → drop n (waiting_mid ++ second) ≡ drop (a.cut + n) all
+    pending_behind n = ap (λ (l : List (Event E)). drop n l) rest ∙ drop-drop n a.cut all
 
-  -- one call after another
+  -- one call after another: the cuts add up
   pub AddsEvents-then : (durable durable_mid durable_then : S) (waiting waiting_mid waiting_then first second : List (Event E))
-      → AddsEvents after durable waiting first durable_mid waiting_mid → AddsEvents after durable_mid waiting_mid second durable_then waiting_then
-      → AddsEvents after durable waiting (first ++ second) durable_then waiting_then
-  AddsEvents-then durable durable_mid durable_then waiting waiting_mid waiting_then first second a b = record {
-    cut = a.cut + b.cut;
-    fair = cut_behind durable durable_mid waiting waiting_mid first second a b.cut b.fair;
-    stable = b.stable ∙ stable_behind durable durable_mid waiting waiting_mid first second a b.cut;
-    pending = b.pending ∙ pending_behind durable durable_mid waiting waiting_mid first second a b.cut;
-  }
+      → (a : AddsEvents after durable waiting first durable_mid waiting_mid) → (b : AddsEvents after durable_mid waiting_mid second durable_then waiting_then)
+      → (both : AddsEvents after durable waiting (first ++ second) durable_then waiting_then) × (both.cut ≡ a.cut + b.cut)
+  AddsEvents-then durable durable_mid durable_then waiting waiting_mid waiting_then first second a b =
+      let whole = append_assoc waiting first second in (
+        record {
+          cut = a.cut + b.cut;
+          fair = subst (λ (l : List (Event E)). IsFair l (a.cut + b.cut)) whole (cut_behind durable durable_mid waiting waiting_mid first second a b.cut b.fair);
+          stable = b.stable ∙ stable_behind durable durable_mid waiting waiting_mid first second a b.cut ∙ ap (λ (l : List (Event E)). after durable (take (a.cut + b.cut) l)) whole;
+          pending = b.pending ∙ pending_behind durable durable_mid waiting waiting_mid first second a b.cut ∙ ap (λ (l : List (Event E)). drop (a.cut + b.cut) l) whole;
+        },
+        refl,
+      )
 
-  -- what a crash keeps in the second call
+  -- what a crash keeps in the second call: all that was durable behind the first, whose events have all come
+  pub CrashKeeps-added : (durable durable_mid : S) (waiting waiting_mid first second : List (Event E)) (Is : S → Type 0)
+      → (a : AddsEvents after durable waiting first durable_mid waiting_mid) → (left : CrashKeeps after durable_mid waiting_mid second Is)
+      → (all : CrashKeeps after durable (waiting ++ first) second Is) × (all.cut ≡ a.cut + left.cut)
+  CrashKeeps-added durable durable_mid waiting waiting_mid first second Is a left = (
+    record {
+      came = left.came;
+      beginning = left.beginning;
+      cut = a.cut + left.cut;
+      fair = cut_behind durable durable_mid waiting waiting_mid first left.came a left.cut left.fair;
+      is = subst Is (stable_behind durable durable_mid waiting waiting_mid first left.came a left.cut) left.is;
+    },
+    refl,
+  )
+
+  -- the same, as what a crash keeps in both calls
   pub CrashKeeps-behind : (durable durable_mid : S) (waiting waiting_mid first second : List (Event E)) (Is : S → Type 0)
       → AddsEvents after durable waiting first durable_mid waiting_mid → CrashKeeps after durable_mid waiting_mid second Is → CrashKeeps after durable waiting (first ++ second) Is
-  CrashKeeps-behind durable durable_mid waiting waiting_mid first second Is a left = record {
-    came = first ++ left.came;
-    beginning = IsPrefix-behind first left.came second left.beginning;
-    cut = a.cut + left.cut;
-    fair = cut_behind durable durable_mid waiting waiting_mid first left.came a left.cut left.fair;
-    is = subst Is (stable_behind durable durable_mid waiting waiting_mid first left.came a left.cut) left.is;
-  }
+  CrashKeeps-behind durable durable_mid waiting waiting_mid first second Is a left =
+      let behind = (CrashKeeps-added durable durable_mid waiting waiting_mid first second Is a left).0 in
+      let whole = append_assoc waiting first behind.came in
+      record {
+        came = first ++ behind.came;
+        beginning = IsPrefix-behind first behind.came second behind.beginning;
+        cut = behind.cut;
+        fair = subst (λ (l : List (Event E)). IsFair l behind.cut) whole behind.fair;
+        is = subst (λ (l : List (Event E)). Is (after durable (take behind.cut l))) whole behind.is;
+      }
 
   -- what it keeps where more events come
   pub CrashKeeps-more : (durable : S) (waiting first all : List (Event E)) (Is : S → Type 0) → IsPrefix first all → CrashKeeps after durable waiting first Is → CrashKeeps after durable waiting all Is
@@ -172,7 +189,7 @@ module _ {E : Type 0} (effect : E → LogKind) where
   Adds-none state = AddsEvents-none (chains_after effect) chains_after-append state.stable state.pending refl
 
   pub Adds-then : (old mid new : LogState E) (first second : List (Event E)) → Adds effect old first mid → Adds effect mid second new → Adds effect old (first ++ second) new
-  Adds-then old mid new first second = AddsEvents-then (chains_after effect) chains_after-append old.stable mid.stable new.stable old.pending mid.pending new.pending first second
+  Adds-then old mid new first second a b = (AddsEvents-then (chains_after effect) chains_after-append old.stable mid.stable new.stable old.pending mid.pending new.pending first second a b).0
 
   -- a crash between two calls
   pub IsLeft-cut : (state : LogState E) (cut : ℕ) (pages : List (List E)) → IsFair state.pending cut → pages ≡ chains_after effect state.stable (take cut state.pending) → IsLeft effect state [] pages

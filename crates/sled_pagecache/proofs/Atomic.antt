@@ -4,13 +4,13 @@ use Rattle.sled_log.specs.LogState as log
 use Rattle.sled_log.specs.ReadingLaws.{contents_after-append}
 use Rattle.sled_pagecache.proofs.BatchCuts.{left-open, left-sealed}
 use Rattle.sled_pagecache.proofs.ProperPages.{all-append}
-use Rattle.sled_pagecache.proofs.Reopening.{IsKeptAs, crash-reopens, crash-reopens-to}
+use Rattle.sled_pagecache.proofs.Reopening.{IsKeptAs, crash-reopens, crash-reopens-to, kept-prefix}
 use Rattle.sled_pagecache.proofs.Unmarked.{IsChange, call-inside}
 use Rattle.sled_pagecache.specs.Atomic.{AreThoseOf, AreWithout, ClosesNone, RunsBatch, StandsInPart, StandsWhole, with_pin}
 use Rattle.sled_pagecache.specs.Logged.{Adds, AreKept, IsLeft, now}
 use Rattle.sled_pagecache.specs.Reopening.{CrashReopensTo}
 use Rattle.sled_pagecache.specs.RowLaws.{IsLonger, left-now, one-longer, step-stuck}
-use Rattle.sled_pagecache.specs.Rows.{AreSteps, IsMade, IsRow}
+use Rattle.sled_pagecache.specs.Rows.{AreSteps, IsMade, IsRow, changes_of}
 use Rattle.sled_pagecache.specs.Step.{Closes, Flushes}
 use Rattle.sled_pagecache.specs.declared.pagecache.call.Answer.TheVariants.{Pinned, Sealed, Cancelled}
 use Rattle.sled_pagecache.specs.declared.pagecache.call.Call.TheVariants as call
@@ -33,13 +33,6 @@ now-added held then changes added =
     ∙ sym (contents_after-append held.stable (take added.cut all) (drop added.cut all))
     ∙ ap (contents_after held.stable) (take-append-drop added.cut all)
     ∙ contents_after-append held.stable held.pending changes
-
-kept-without : (held : Logged) (pages : List Messages) → IsLeft held [] pages → IsKeptAs pages (AreWithout held)
-kept-without held pages left = (
-  contents_after held.stable (take left.cut (held.pending ++ left.came)),
-  left.is,
-  record { came = left.came; beginning = left.beginning; cut = left.cut; fair = left.fair; is = refl },
-)
 
 -- nothing is pending
 nothing-came : {E : Type 0} (came : List (Event E)) → log.IsPrefix came [] → came ≡ []
@@ -80,11 +73,13 @@ module _ {L : Type 0} (g : Ghosts L) where
   is-sealed s (Err e) out step clear =
       split s.fault step.1 (λ kept _. absurd (true≢false (sym kept ∙ clear))) (λ _ h. record { changes = ap (λ (o : Outcome). o.changes) h.1; same = ap (λ (o : Outcome). contents_of o.state) h.1 })
 
-  steps-inside : (s t : State) (calls : List (Call × Answer)) (changes : List (Event Update)) → s.batch ≡ true → AllByRecursion (λ made. ClosesNone made.0) calls → AreSteps g s calls changes t → AllByRecursion IsChange changes
-  steps-inside s t [] changes opened none steps = subst (AllByRecursion IsChange) (sym steps.0) tt
-  steps-inside s t (made ∷ calls) changes opened none (cache, out, rest, step, are, steps) =
-      let one = call-inside g cache s opened made.0 made.1 out none.0 step in
-      subst (AllByRecursion IsChange) (sym are) (all-append IsChange out.changes rest one.changes (steps-inside out.state t calls rest (one.batch ∙ opened) none.1 steps))
+  steps-inside : (old new : Cache L) (s t : State) (calls : List (Call × Answer)) (outs : List Outcome) → s.batch ≡ true → AllByRecursion (λ made. ClosesNone made.0) calls → AreSteps g (Steps g) old s calls outs new t → AllByRecursion IsChange (changes_of outs)
+  steps-inside old new s t [] [] opened none steps = tt
+  steps-inside old new s t [] (out ∷ outs) opened none steps = absurd steps
+  steps-inside old new s t (made ∷ calls) [] opened none steps = absurd steps
+  steps-inside old new s t (made ∷ calls) (out ∷ outs) opened none (mid, called, step, is, steps) =
+      let one = call-inside g old s opened made.0 made.1 out none.0 step in
+      all-append IsChange out.changes (changes_of outs) one.changes (steps-inside mid new out.state t calls outs (one.batch ∙ opened) none.1 steps)
 
   -- ---- a batch that was opened
 
@@ -92,33 +87,34 @@ module _ {L : Type 0} (g : Ghosts L) where
     pub row : IsRow g old (with_pin calls) new held s
     pub closed : is_open held.pending ≡ false
     pub inner : List (Event Update)
-    pub changes : row.changes ≡ Pin ∷ inner
+    pub changes : changes_of row.outs ≡ Pin ∷ inner
     pub all : AllByRecursion IsChange inner
 
   runs : (old new : Cache L) (calls : List (Call × Answer)) → RunsBatch g old calls new → (held : Logged) (s : State) → IsIn g old held s → s.fault ≡ false → IsRun old calls new held s
   runs old new calls batch held s is clear =
       by ((row-then g old batch.pinned new ((call.Pin, Pinned (Ok tt)) ∷ []) calls (row-one g old batch.pinned call.Pin (Pinned (Ok tt)) batch.pin) batch.row).from_each held s is)
     where
-      of : (row : IsRow g old (with_pin calls) new held s) → AreSteps g s (with_pin calls) row.changes row.t → IsRun old calls new held s
-      of row (cache, out, rest, step, are, steps) =
-          let pin = is-pinned cache s out step clear in
+      of : (row : IsRow g old (with_pin calls) new held s) (outs : List Outcome) → row.outs ≡ outs → AreSteps g (Steps g) old s (with_pin calls) outs new row.t → IsRun old calls new held s
+      of row [] are steps = absurd steps
+      of row (out ∷ outs) are (mid, called, step, in_state, steps) =
+          let pin = is-pinned old s out step clear in
           record {
             row = row;
             closed = sym (is.known clear).opened ∙ pin.closed;
-            inner = rest;
-            changes = are ∙ ap (λ (l : List (Event Update)). l ++ rest) pin.changes;
-            all = steps-inside out.state row.t calls rest pin.opened batch.inside steps;
+            inner = changes_of outs;
+            changes = ap changes_of are ∙ ap (λ (l : List (Event Update)). l ++ changes_of outs) pin.changes;
+            all = steps-inside mid new out.state row.t calls outs pin.opened batch.inside steps;
           }
 
       by : IsRow g old (with_pin calls) new held s → IsRun old calls new held s
-      by row = of row row.steps
+      by row = of row row.outs refl row.steps
 
   module _ (since_earlier : (log : L) (t u : ℕ) (pages : List Messages) → g.tells → t ≤ u → g.left_since log u pages → g.left_since log t pages) where
     pub unsealed : (old new : Cache L) (calls : List (Call × Answer)) → RunsBatch g old calls new → (held : Logged) (s : State) → IsIn g old held s → s.fault ≡ false → CrashReopensTo g new.log (g.moment old.log) (AreWithout held)
     unsealed old new calls batch held s is clear =
         let run = runs old new calls batch held s is clear in
         crash-reopens-to g (λ l t u pages. since_earlier l t u pages is.tells) new.log (g.moment old.log) (AreWithout held)
-        (λ pages left. kept-without held pages (left-open held run.closed pages run.inner run.all (subst (λ l. IsLeft held l pages) run.changes ((run.row.stop clear).each pages left))))
+        (λ pages left. kept-prefix held [] pages (left-open held run.closed pages run.inner run.all (subst (λ l. IsLeft held l pages) run.changes ((run.row.stop clear).each pages left))))
 
     module _ (old mid new : Cache L) (calls : List (Call × Answer)) (batch : RunsBatch g old calls mid) (held : Logged) (s : State) (is : IsIn g old held s) (clear : s.fault ≡ false) where
       abbrev run : IsRun old calls mid held s
@@ -134,11 +130,11 @@ module _ {L : Type 0} (g : Ghosts L) where
         abbrev calls_then : List (Call × Answer)
         calls_then = with_pin calls ++ (call.Seal, Sealed result) ∷ []
 
-        whole : IsLonger g old new calls_then held s (so.changes ++ one.out.changes) one.out.state
+        whole : IsLonger g old new calls_then held s ((changes_of so.outs) ++ one.out.changes) one.out.state
         whole = one-longer g old mid new (with_pin calls) call.Seal (Sealed result) held s so seal
 
         -- what a crash leaves of the log
-        leaves : (pages : List Messages) → g.left_since new.log (g.moment old.log) pages → IsLeft held (so.changes ++ one.out.changes) pages
+        leaves : (pages : List Messages) → g.left_since new.log (g.moment old.log) pages → IsLeft held ((changes_of so.outs) ++ one.out.changes) pages
         leaves pages left = subst (λ l. IsLeft held l pages) whole.writes ((whole.row.stop clear).each pages left)
 
         -- the pages, where a crash leaves all
@@ -147,7 +143,7 @@ module _ {L : Type 0} (g : Ghosts L) where
             contents_after-append held.stable held.pending (Pin ∷ run.inner ++ Seal ∷ [])
             ∙ contents_after-append (now held) (Pin ∷ run.inner) (Seal ∷ [])
             ∙ ap (contents_after (now held)) (sym run.changes)
-            ∙ sym (now-added held so.held_then so.changes (so.added free))
+            ∙ sym (now-added held so.held_then (changes_of so.outs) (so.added free))
             ∙ sym (so.is.known free).contents
             ∙ sym is_sealed.same
 
@@ -155,7 +151,7 @@ module _ {L : Type 0} (g : Ghosts L) where
         crash pages left = by so.t.fault refl
           where
             none : IsLeft held [] pages → IsKeptAs pages (λ contents. AreWithout held contents ⊎ AreThoseOf one.out.state contents)
-            none left = let kept = kept-without held pages left in (kept.0, kept.1, inl kept.2)
+            none left = let kept = kept-prefix held [] pages left in (kept.0, kept.1, inl kept.2)
 
             either : so.t.fault ≡ false → IsSealed so.t one.out → IsLeft held [] pages ⊎ AreKept pages (contents_after held.stable (held.pending ++ (Pin ∷ run.inner ++ Seal ∷ []))) → IsKeptAs pages (λ contents. AreWithout held contents ⊎ AreThoseOf one.out.state contents)
             either free is_sealed (inl left) = none left
@@ -164,17 +160,17 @@ module _ {L : Type 0} (g : Ghosts L) where
             by : (fault : Bool) → so.t.fault ≡ fault → IsKeptAs pages (λ contents. AreWithout held contents ⊎ AreThoseOf one.out.state contents)
             by true kept =
                 let nothing : one.out.changes ≡ [] = ap (λ (o : Outcome). o.changes) (step-stuck g mid so.t call.Seal (Sealed result) one.out one.step kept) in
-                none (left-open held run.closed pages run.inner run.all (subst (λ l. IsLeft held l pages) (ap (λ l. so.changes ++ l) nothing ∙ append-nil so.changes ∙ run.changes) (leaves pages left)))
+                none (left-open held run.closed pages run.inner run.all (subst (λ l. IsLeft held l pages) (ap (λ l. (changes_of so.outs) ++ l) nothing ∙ append-nil (changes_of so.outs) ∙ run.changes) (leaves pages left)))
             by false free =
                 let is_sealed = is-sealed so.t result one.out one.step free in
-                either free is_sealed (left-sealed held run.closed pages run.inner run.all (subst (λ l. IsLeft held l pages) (ap (λ l. so.changes ++ l) is_sealed.changes ∙ ap (λ l. l ++ Seal ∷ []) run.changes) (leaves pages left)))
+                either free is_sealed (left-sealed held run.closed pages run.inner run.all (subst (λ l. IsLeft held l pages) (ap (λ l. (changes_of so.outs) ++ l) is_sealed.changes ∙ ap (λ l. l ++ Seal ∷ []) run.changes) (leaves pages left)))
 
         pub sealed : StandsWhole g old calls_then new held s
         sealed = record {
           held_then = whole.row.held_then;
           t = whole.row.t;
           is = whole.row.is;
-          changes = whole.row.changes;
+          outs = whole.row.outs;
           steps = whole.row.steps;
           crash =
               subst (λ t. CrashReopensTo g new.log (g.moment old.log) (λ contents. AreWithout held contents ⊎ AreThoseOf t contents)) (sym whole.leaves)
@@ -188,9 +184,9 @@ module _ {L : Type 0} (g : Ghosts L) where
             held_then = row.held_then;
             t = row.t;
             is = row.is;
-            changes = row.changes;
+            outs = row.outs;
             steps = row.steps;
-            crash = crash-reopens g (λ l t u pages. since_earlier l t u pages is.tells) new.log (g.moment old.log) held row.changes (row.stop clear).each;
+            crash = crash-reopens g (λ l t u pages. since_earlier l t u pages is.tells) new.log (g.moment old.log) held (changes_of row.outs) (row.stop clear).each;
           }
 
     -- ---- a flush

@@ -12,6 +12,7 @@ use Rattle.sled_pagecache.proofs.Carrying.{proper-now}
 use Rattle.sled_pagecache.proofs.Changing.{leads-same}
 use Rattle.sled_pagecache.proofs.Counted.{spares-refused, whole-added, whole-then}
 use Rattle.sled_pagecache.proofs.Putting.{blamed}
+use Rattle.sled_pagecache.proofs.Refused.{no_name}
 use Rattle.sled_pagecache.proofs.Staying.{stay-one}
 use Rattle.sled_pagecache.proofs.TableNodes.{view}
 use Rattle.sled_pagecache.proofs.Tables.{consistent-kept}
@@ -80,6 +81,7 @@ module _ {L : Type 0} (g : Ghosts L) (next : ℕ) (config : Config) (recovered :
     blame = record { read = λ is. absurd cc; write = λ is clear. absurd (false≢true (sym clear ∙ kept)) };
     done = tt;
     refused = refl;
+    unnamed = tt;
     stamps = refl;
     fault = rw kept refl;
     stuck = λ _. (refl, refl);
@@ -98,6 +100,7 @@ module _ {L : Type 0} (g : Ghosts L) (next : ℕ) (config : Config) (recovered :
       blame = record { read = λ is. absurd cc; write = λ is. absurd cc };
       done = tt;
       refused = refl;
+      unnamed = tt;
       stamps = refl;
       fault = rw ready refl;
       stuck = λ kept. absurd (false≢true (sym ready ∙ kept));
@@ -115,6 +118,7 @@ module _ {L : Type 0} (g : Ghosts L) (next : ℕ) (config : Config) (recovered :
         blame = record { read = λ is. absurd cc; write = λ is. absurd cc };
         done = (none, refl);
         refused = tt;
+        unnamed = tt;
         stamps = refl;
         fault = rw ready free;
         stuck = λ kept. absurd (false≢true (sym ready ∙ kept));
@@ -151,6 +155,7 @@ module _ {L : Type 0} (g : Ghosts L) (next : ℕ) (config : Config) (recovered :
         blame = blamed g (cache before) (cache after) (g.is_full_for_batch before.log) refusal refused.1;
         done = tt;
         refused = refused.0.batch;
+        unnamed = no_name refusal;
         stamps = refl;
         fault = rw ready (refused.1.fault ∙ fault-same (Unit {0}) (Unit {0}) refusal);
         stuck = λ kept. absurd (false≢true (sym ready ∙ kept));

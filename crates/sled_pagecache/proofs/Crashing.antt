@@ -7,13 +7,15 @@ use Rattle.sled_log.specs.LogState.{LogState}
 use Rattle.sled_log.specs.Refusals.{refusal_of}
 use Rattle.sled_log.specs.declared.log.LogError.{LogError}
 use Rattle.sled_log.specs.declared.log.LogError.TheVariants as failures
-use Rattle.sled_pagecache.proofs.Reopening.{kept-logged}
+use Rattle.sled_pagecache.proofs.Reopening.{empty-logged, kept-logged}
 use Rattle.sled_pagecache.specs.Crashes.{RefusesReopening, AreFlushedThen, IsFlushed, OpensAgain, ReopensAfter, HasFlushed}
 use Rattle.sled_pagecache.specs.Limits.{most_pages}
 use Rattle.sled_pagecache.specs.Logged.{IsLeft}
-use Rattle.sled_pagecache.specs.Rows.{IsRow, StepInRow}
+use Rattle.sled_pagecache.specs.Calls.{Steps}
+use Rattle.sled_pagecache.specs.Rows.{AreSteps, IsRow, StepInRow, changes_of}
 use Rattle.sled_pagecache.specs.Starts.{IsOpened, IsUnopened}
 use Rattle.sled_pagecache.specs.State.{StampedPage}
+use Rattle.sled_pagecache.specs.Step.{Outcome}
 use Rattle.sled_pagecache.specs.declared.pagecache.call.Answer.{Answer}
 use Rattle.sled_pagecache.specs.declared.pagecache.call.Call.{Call}
 
@@ -79,7 +81,7 @@ same-pages s contents after = after.is ∙ ap (λ (l : List (Event Update)). con
 
 -- ---- opening
 
-refuses : {L : Type 0} (g : Ghosts L) (log after : L) (config : Config) (held : Logged) (error : Error) → changes_of_start (contents_after held.stable held.pending) ≡ [] → IsUnopened g log held error after → RefusesReopening config error
+pub refuses : {L : Type 0} (g : Ghosts L) (log after : L) (config : Config) (held : Logged) (error : Error) → changes_of_start (contents_after held.stable held.pending) ≡ [] → IsUnopened g log held error after → RefusesReopening config error
 refuses g log after config held errors.OutOfMemory none un = tt
 refuses g log after config held (errors.Io device) none un = tt
 refuses g log after config held (errors.Unsupported LogFull) none un =
@@ -110,9 +112,9 @@ module _ {L : Type 0} (g : Ghosts L) (first : Cache L) (calls : List (Call × An
     is-since : g.moment first.log ≤ moment
     is-since = (let later = (row.stop flushed.clear).later in let still = ap g.moment same in omega (arith, since, later, still))
 
-    crash-state : (pages : List Messages) → g.left_since crashed moment pages → IsLeft (only_stable_contents (contents_of s)) row.changes pages
+    crash-state : (pages : List Messages) → g.left_since crashed moment pages → IsLeft (only_stable_contents (contents_of s)) (changes_of row.outs) pages
     crash-state pages left =
-        subst (λ (h : Logged). IsLeft h row.changes pages) holds-pages
+        subst (λ (h : Logged). IsLeft h (changes_of row.outs) pages) holds-pages
         ((row.stop flushed.clear).each pages (subst (λ (l : L). g.left_since l (g.moment first.log) pages) same (since_earlier (g.moment first.log) moment pages flushed.is.tells is-since left)))
 
     -- where the log isn't opened
@@ -121,11 +123,11 @@ module _ {L : Type 0} (g : Ghosts L) (first : Cache L) (calls : List (Call × An
     unopened failures.ReadFault config corrupt full = tt
     unopened failures.WriteFault config corrupt full = tt
     unopened failures.Full config corrupt full = absurd (full refl)
-    unopened failures.Corruption config corrupt full = absurd (not-all (most_pages + 1) (only_stable_contents (contents_of s)) row.changes (omega arith) (λ pages. crash-state pages (corrupt refl pages)))
+    unopened failures.Corruption config corrupt full = absurd (not-all (most_pages + 1) (only_stable_contents (contents_of s)) (changes_of row.outs) (omega arith) (λ pages. crash-state pages (corrupt refl pages)))
 
-    pub reopens-unopened : (failure : LogError) (error : Error) → error ≡ error_of (refusal_of failure) → (config : Config) → (failure ≡ failures.Corruption → (pages : List Messages) → g.left_since crashed moment pages) → (failure ≡ failures.Full → ⊥) → ReopensAfter g s calls config (Err error)
+    pub reopens-unopened : (failure : LogError) (error : Error) → error ≡ error_of (refusal_of failure) → (config : Config) → (failure ≡ failures.Corruption → (pages : List Messages) → g.left_since crashed moment pages) → (failure ≡ failures.Full → ⊥) → ReopensAfter g first s calls last config (Err error)
     reopens-unopened failure error is config corrupt full =
-        record { begun = row.changes; t = row.t; steps = row.steps; opens = tt; refused = subst (RefusesReopening config) (sym is) (unopened failure config corrupt full) }
+        record { outs = row.outs; t = row.t; steps = row.steps; opens = tt; refused = subst (RefusesReopening config) (sym is) (unopened failure config corrupt full) }
 
     module _ (log : L) (usable : (g.state log).usable ≡ true) (none : (g.state log).pending ≡ []) (left : g.left_since crashed moment (unplaced_state (g.state log)).stable) (config : Config) where
       abbrev pub pages : List Messages
@@ -136,7 +138,7 @@ module _ {L : Type 0} (g : Ghosts L) (first : Cache L) (calls : List (Call × An
           ap (λ (events : List (Event Entry)). record { stable = pages; pending = map (seen message_in) events; usable = (g.state log).usable }) none
           ∙ ap (only_stable pages) usable
 
-      pub crash : IsLeft (only_stable_contents (contents_of s)) row.changes pages
+      pub crash : IsLeft (only_stable_contents (contents_of s)) (changes_of row.outs) pages
       crash = crash-state pages left
 
       abbrev pub contents : List Content
@@ -160,7 +162,7 @@ module _ {L : Type 0} (g : Ghosts L) (first : Cache L) (calls : List (Call × An
             both = omega (arith, both, length-append (map (page 0) contents) (map (page 1) (missing contents)), length-map contents (page 0));
           }
 
-      of-opening : (result : Result (Cache L) (Error × L)) → Opens g log config (only_stable_contents contents) result → IfOk result (OpensAgain g (AreFlushedThen s row.changes) config) × IfErr result (λ e. RefusesReopening config e.0)
+      of-opening : (result : Result (Cache L) (Error × L)) → Opens g log config (only_stable_contents contents) result → IfOk result (OpensAgain g (AreFlushedThen s (changes_of row.outs)) config) × IfErr result (λ e. RefusesReopening config e.0)
       of-opening (Ok cache) opens = (
         record {
           contents = contents;
@@ -171,29 +173,29 @@ module _ {L : Type 0} (g : Ghosts L) (first : Cache L) (calls : List (Call × An
       )
       of-opening (Err refused) opens = (tt, refuses g log refused.1 config (only_stable_contents contents) refused.0 (none-to-start contents both) opens)
 
-      started : (result : Result (Cache L) (Error × L)) → Started g log config result → IfOk result (OpensAgain g (AreFlushedThen s row.changes) config) × IfErr result (λ e. RefusesReopening config e.0)
+      started : (result : Result (Cache L) (Error × L)) → Started g log config result → IfOk result (OpensAgain g (AreFlushedThen s (changes_of row.outs)) config) × IfErr result (λ e. RefusesReopening config e.0)
       started result start = by (fault_of config) refl
         where
-          by : (fault : Option Why) → fault_of config ≡ fault → IfOk result (OpensAgain g (AreFlushedThen s row.changes) config) × IfErr result (λ e. RefusesReopening config e.0)
+          by : (fault : Option Why) → fault_of config ≡ fault → IfOk result (OpensAgain g (AreFlushedThen s (changes_of row.outs)) config) × IfErr result (λ e. RefusesReopening config e.0)
           by (Some why) is =
-              subst (λ (r : Result (Cache L) (Error × L)). IfOk r (OpensAgain g (AreFlushedThen s row.changes) config) × IfErr r (λ e. RefusesReopening config e.0)) (sym (start.settings why is)) (tt, is)
+              subst (λ (r : Result (Cache L) (Error × L)). IfOk r (OpensAgain g (AreFlushedThen s (changes_of row.outs)) config) × IfErr r (λ e. RefusesReopening config e.0)) (sym (start.settings why is)) (tt, is)
           by None is = of-opening result (start.opens is (only_stable_contents contents) logged)
 
-      pub reopens-opened : (cache : Cache L) (result : Result (Cache L) (Error × L)) → result ≡ Ok cache → Started g log config result → ReopensAfter g s calls config (Ok cache)
+      pub reopens-opened : (cache : Cache L) (result : Result (Cache L) (Error × L)) → result ≡ Ok cache → Started g log config result → ReopensAfter g first s calls last config (Ok cache)
       reopens-opened cache result is start =
-          let of = subst (λ (r : Result (Cache L) (Error × L)). IfOk r (OpensAgain g (AreFlushedThen s row.changes) config)) is (started result start).0 in
-          record { begun = row.changes; t = row.t; steps = row.steps; opens = of; refused = tt }
+          let of = subst (λ (r : Result (Cache L) (Error × L)). IfOk r (OpensAgain g (AreFlushedThen s (changes_of row.outs)) config)) is (started result start).0 in
+          record { outs = row.outs; t = row.t; steps = row.steps; opens = of; refused = tt }
 
-      pub reopens-refused : (error : Error) (after : L) (result : Result (Cache L) (Error × L)) → result ≡ Err (error, after) → Started g log config result → ReopensAfter g s calls config (Err error)
+      pub reopens-refused : (error : Error) (after : L) (result : Result (Cache L) (Error × L)) → result ≡ Err (error, after) → Started g log config result → ReopensAfter g first s calls last config (Err error)
       reopens-refused error after result is start =
           let of = subst (λ (r : Result (Cache L) (Error × L)). IfErr r (λ e. RefusesReopening config e.0)) is (started result start).1 in
-          record { begun = row.changes; t = row.t; steps = row.steps; opens = tt; refused = of }
+          record { outs = row.outs; t = row.t; steps = row.steps; opens = tt; refused = of }
 
 -- with no calls since, what is opened again is what was flushed
-pub flushed-again : {L : Type 0} (g : Ghosts L) (s : State) (config : Config) (result : Result (Cache L) Error) → 2 ≤ length s.pages → ReopensAfter g s [] config result → IfOk result (HasFlushed g s config) × IfErr result (RefusesReopening config)
-flushed-again g s config (Err error) both after = (tt, after.refused)
-flushed-again g s config (Ok cache) both after =
-    let same = same-pages s after.opens.contents (subst (λ (begun : List (Event Update)). AreFlushedThen s begun after.opens.contents) after.steps.0 after.opens.are) in
+pub flushed-again : {L : Type 0} (g : Ghosts L) (first last : Cache L) (s : State) (config : Config) (result : Result (Cache L) Error) → 2 ≤ length s.pages → ReopensAfter g first s [] last config result → IfOk result (HasFlushed g s config) × IfErr result (RefusesReopening config)
+flushed-again g first last s config (Err error) both after = (tt, after.refused)
+flushed-again {L} g first last s config (Ok cache) both after =
+    let same = same-pages s after.opens.contents (subst (λ (outs : List Outcome). AreFlushedThen s (changes_of outs) after.opens.contents) (none-out after.outs after.steps) after.opens.are) in
     let none = none-missing (contents_of s) (omega (arith, both, length-map s.pages (λ (p : StampedPage). p.content))) in (
       record {
         flushed = subst (λ (contents : List Content). IsFlushed g cache (opened config contents)) same after.opens.flushed;
@@ -201,6 +203,10 @@ flushed-again g s config (Ok cache) both after =
       },
       tt,
     )
+  where
+    none-out : (outs : List Outcome) → AreSteps g (Steps g) first s [] outs last after.t → outs ≡ []
+    none-out [] steps = refl
+    none-out (out ∷ outs) steps = absurd steps
 
 -- ---- a cache over an empty log
 
@@ -215,7 +221,7 @@ starts-flushed {L} g log usable none stable config cache result is start = by (f
         ∙ ap (only_stable []) usable
 
     logged : IsLogged (unplaced_state (g.state log)) (only_stable_contents [])
-    logged = subst (λ (state : LogState Message). IsLogged state (only_stable_contents [])) (sym holds) (kept-logged [] [] (record { holds = tt; proper = record { own = λ pid. tt; short = tt; few = omega arith } }) true)
+    logged = subst (λ (state : LogState Message). IsLogged state (only_stable_contents [])) (sym holds) (empty-logged true)
 
     flushed : IsOpened g log config (only_stable_contents []) cache → IsFlushed g cache (opened config [])
     flushed opens =

@@ -8,9 +8,9 @@ use Rattle.sled_log.specs.LogState.{LogState}
 use Rattle.sled_pagecache.proofs.Carrying.{proper-now}
 use Rattle.sled_pagecache.proofs.Counting.{CountsTo, IsSafe, IsSafeCrash, first-at, now-added, rises-first, safe-added, safe-crash, safe-now, safe-wider, start-counts, start-rises, Rises}
 use Rattle.sled_pagecache.proofs.IdSteps.{Passes, call-passes, none-given}
-use Rattle.sled_pagecache.proofs.Staying.{stay-none}
+use Rattle.sled_pagecache.proofs.Reopening.{empty-logged, kept-logged}
 use Rattle.sled_pagecache.specs.Logged.{now}
-use Rattle.sled_pagecache.specs.Openings.{AreRising, Crashed, CrashedIn, Ending, HandedOn, IsEmpty, IsRun, Lasted, Leaves, LeavesUnopened, Opening, Refused, id_in, ids_in, ids_of}
+use Rattle.sled_pagecache.specs.Openings.{AreRising, Crashed, CrashedIn, Ending, HandedOn, IsEmpty, IsRun, KeepIntervals, Lasted, Leaves, LeavesUnopened, Opening, Refused, id_in, ids_in, ids_of}
 use Rattle.sled_pagecache.specs.Reopening.{HoldsCrash}
 use Rattle.sled_pagecache.specs.RowLaws.{left-now, step-stuck}
 use Rattle.sled_pagecache.specs.Rows.{AreMade, CoversId, IsMade}
@@ -50,7 +50,7 @@ module _ {L : Type 0} (g : Ghosts L) (tells : g.tells)
         held = only_stable_contents left.contents;
         logged =
             subst (λ (s : LogState Message). IsLogged s (only_stable_contents left.contents)) (sym crash.holds)
-            (record { stable = left.kept.holds; pending = tt; proper = stay-none crash.pages left.contents left.kept.proper });
+            (kept-logged crash.pages left.contents left.kept true);
         safe = record { rises = tt; above = left.above };
       }
 
@@ -300,23 +300,21 @@ module _ {L : Type 0} (g : Ghosts L) (tells : g.tells)
 
   -- ---- openings one after another
 
-  runs-rise : (bound least : ℕ) (l : L) (openings : List (Opening L)) → IsFound least bound l → IsRun g l least openings → RiseFrom bound (ids_of openings)
-  runs-rise bound least l [] found run = tt
-  runs-rise bound least l (Refused config result left ∷ openings) found (start, leaves, run) = runs-rise bound least left openings (unopened least bound l found config result left start.0 start.1 leaves) run
-  runs-rise bound least l (Lasted config first calls last ending left ∷ openings) found (wide, start, made, leaves, run) =
+  runs-rise : (bound least : ℕ) (l : L) (openings : List (Opening L)) → IsFound least bound l → IsRun g l openings → KeepIntervals least openings → RiseFrom bound (ids_of openings)
+  runs-rise bound least l [] found run wide = tt
+  runs-rise bound least l (Refused config result left ∷ openings) found (start, leaves, run) wide = runs-rise bound least left openings (unopened least bound l found config result left start.0 start.1 leaves) run wide
+  runs-rise bound least l (Lasted config first calls last ending left ∷ openings) found (start, made, leaves, run) (wide, wider) =
       let k = config.idgen_persist_interval in
       let all = calls-give k bound first last calls (inl (begins least bound l found config first start.1 wide)) made in
-      all.rise (ids_of openings) (runs-rise all.bound_then k left openings (ends k all.bound_then last ending left all.stands leaves) run)
+      all.rise (ids_of openings) (runs-rise all.bound_then k left openings (ends k all.bound_then last ending left all.stands leaves) run wider)
 
-  pub given-once : (l : L) (openings : List (Opening L)) → IsEmpty g l → IsRun g l 0 openings → AreRising (ids_of openings)
-  given-once l openings empty run =
+  pub given-once : (l : L) (openings : List (Opening L)) → IsEmpty g l → IsRun g l openings → KeepIntervals 0 openings → AreRising (ids_of openings)
+  given-once l openings empty run wide =
       rising 0 (ids_of openings)
       (runs-rise 0 0 l openings
       (record {
         held = only_stable_contents [];
-        logged =
-            subst (λ (s : LogState Message). IsLogged s (only_stable_contents [])) (sym empty)
-            (record { stable = tt; pending = tt; proper = stay-none [] [] (record { own = λ pid. tt; short = tt; few = omega arith }) });
+        logged = subst (λ (s : LogState Message). IsLogged s (only_stable_contents [])) (sym empty) (empty-logged true);
         safe = record { rises = tt; above = λ interval wide. omega arith };
       })
-      run)
+      run wide)

@@ -1,5 +1,5 @@
 -- A cache that is opened over a crash state is what is opened of the pages after a prefix of the changes.
-use Rattle.sled_pagecache.proofs.Names.{◌≡◌, ◌≤◌, ℕ, Bool, true, List, ◌++◌, take, refl, sym, subst, Option, Some, None, Result, Ok, Err, IfOk, Error, Update, contents_after, Event, Message, Messages, unplaced_state, Ghosts, Why, fault_of, Cache, Logged, IsLogged, Started, Content, AreKept, CrashReopens, only_stable, only_stable_contents, Config}
+use Rattle.sled_pagecache.proofs.Names.{◌≡◌, ◌≤◌, ℕ, Bool, true, List, [], ◌++◌, arith, take, refl, sym, subst, Option, Some, None, Result, Ok, Err, IfOk, Error, Update, contents_after, Event, Message, Messages, unplaced_state, Ghosts, Why, fault_of, Cache, Logged, IsLogged, Started, Content, AreKept, CrashReopens, only_stable, only_stable_contents, Config}
 use Rattle.sled_log.specs.LogState.{LogState}
 use Rattle.sled_pagecache.proofs.Staying.{stay-none}
 use Rattle.sled_pagecache.specs.Logged.{IsLeft}
@@ -9,12 +9,24 @@ use Rattle.sled_pagecache.specs.Reopening.{AreAfterPrefix, CrashReopensTo, Reope
 abbrev pub IsKeptAs : List Messages → (List Content → Type 0) → Type 0
 IsKeptAs pages Are = (contents : List Content) × AreKept pages contents × Are contents
 
+-- what a crash leaves is the pages after a prefix
+pub kept-prefix : (held : Logged) (begun : List (Event Update)) (pages : List Messages) → IsLeft held begun pages → IsKeptAs pages (AreAfterPrefix held begun)
+kept-prefix held begun pages left = (
+  contents_after held.stable (take left.cut (held.pending ++ left.came)),
+  left.is,
+  record { came = left.came; beginning = left.beginning; cut = left.cut; fair = left.fair; is = refl },
+)
+
 pub kept-logged : (pages : List Messages) (contents : List Content) → AreKept pages contents → (usable : Bool) → IsLogged (only_stable pages usable) (only_stable_contents contents)
 kept-logged pages contents kept usable = record {
   stable = kept.holds;
   pending = tt;
   proper = stay-none pages contents kept.proper;
 }
+
+-- a log to which nothing was appended holds no page
+pub empty-logged : (usable : Bool) → IsLogged (only_stable [] usable) (only_stable_contents [])
+empty-logged = kept-logged [] [] (record { holds = tt; proper = record { own = λ pid. tt; short = tt; few = omega arith } })
 
 -- what a crash leaves is a log again that a cache can be opened over
 pub crashed-logged : (held : Logged) (changes : List (Event Update)) (pages : List Messages) (left : IsLeft held changes pages) (usable : Bool) → IsLogged (only_stable pages usable) (only_stable_contents (contents_after held.stable (take left.cut (held.pending ++ left.came))))
@@ -41,8 +53,4 @@ module _ {L : Type 0} (g : Ghosts L) (since_earlier : (log : L) (t u : ℕ) (pag
       reopens Are log crash.pages crash.holds (each crash.pages (since_earlier crashed since crash.at crash.pages crash.later crash.left)) config result started
 
   pub crash-reopens : (crashed : L) (since : ℕ) (held : Logged) (begun : List (Event Update)) → ((pages : List Messages) → g.left_since crashed since pages → IsLeft held begun pages) → CrashReopens g crashed since held begun
-  crash-reopens crashed since held begun each =
-      crash-reopens-to crashed since (AreAfterPrefix held begun)
-      (λ pages since_then.
-      let left = each pages since_then in
-      (contents_after held.stable (take left.cut (held.pending ++ left.came)), left.is, record { came = left.came; beginning = left.beginning; cut = left.cut; fair = left.fair; is = refl }))
+  crash-reopens crashed since held begun each = crash-reopens-to crashed since (AreAfterPrefix held begun) (λ pages left. kept-prefix held begun pages (each pages left))

@@ -469,6 +469,7 @@ module _ {L : Type 0} (g : Ghosts L) (old new : Cache L) (lru : Recency) (result
     blame = record { read = done.blame.read; write = done.blame.write };
     done = done.done;
     refused = done.refused;
+    unnamed = done.unnamed;
     stamps = done.stamps;
     fault = done.fault;
     stuck = λ kept. ((done.stuck kept).0, ap (λ cache. relisted cache lru) (done.stuck kept).1);

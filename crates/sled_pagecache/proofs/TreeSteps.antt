@@ -6,7 +6,7 @@ use Rattle.sled_log.specs.LogState as log
 use Rattle.sled_node.specs.Meta as meta
 use Rattle.sled_node.specs.Meta.{root_of}
 use Rattle.sled_node.specs.Node.{empty_leaf}
-use Rattle.sled_pagecache.specs.Answers.{Keeps, is_write_fault, root_swapped, stamped}
+use Rattle.sled_pagecache.specs.Answers.{is_write_fault, root_swapped}
 use Rattle.sled_pagecache.specs.Rows.{IsMade, AreMade}
 use Rattle.sled_pagecache.specs.State.{StampedPage}
 use Rattle.sled_pagecache.specs.Step.{AddsPage, AreRoots, HoldsRoots, ReusesPage, RootSwap}
@@ -154,15 +154,15 @@ module _ {L : Type 0} (g : Ghosts L) where
 
   -- a node was allocated, and the opening goes on
   pub goes-on : (old mid new : Cache L) (node : WholeNode) (made : ℕ × Token) (result : Result ℕ Error) (Are All : MadeCalls → Type 0)
-      → IsMade g old (Allocate node) (Allocated (Ok made)) mid → Keeps old mid (Ok made) (λ m. stamped old.stamps m.1) → ReadsNothing g old mid → Touches g old (Allocated (Ok made)) mid
+      → IsMade g old (Allocate node) (Allocated (Ok made)) mid → ReadsNothing g old mid → Touches g old (Allocated (Ok made)) mid
       → GoesOn g mid Are result new → ((calls : MadeCalls) → Are calls → All ((Allocate node, Allocated (Ok made)) ∷ calls)) → GoesOn g old All result new
-  goes-on old mid new node made result Are All first keeps unread touches rest all = record {
+  goes-on old mid new node made result Are All first unread touches rest all = record {
     calls = (Allocate node, Allocated (Ok made)) ∷ rest.calls;
     are = all rest.calls rest.are;
     made = (mid, first, rest.made);
-    batch = rest.batch ∙ keeps.batch;
+    batch = rest.batch ∙ first.keeps.batch;
     fault = rest.fault;
-    stamps = rest.stamps ∙ ap (λ stamps. stamps_then stamps rest.calls) keeps.done;
+    stamps = rest.stamps ∙ ap (λ stamps. stamps_then stamps rest.calls) first.keeps.done;
     touched = (mid, touches, rest.touched);
     unread = rest.unread ∙ unread;
     bounded = rest.bounded;
@@ -170,15 +170,15 @@ module _ {L : Type 0} (g : Ghosts L) where
 
   -- or that was refused
   pub ends-with : (old new : Cache L) (node : WholeNode) (e : Error) (All : MadeCalls → Type 0) → old.fault ≡ false
-      → IsMade g old (Allocate node) (Allocated (Err e)) new → Keeps {T = ℕ × Token} old new (Err e) (λ m. stamped old.stamps m.1) → ReadsNothing g old new → Touches g old (Allocated (Err e)) new → IsBounded g new
+      → IsMade g old (Allocate node) (Allocated (Err e)) new → ReadsNothing g old new → Touches g old (Allocated (Err e)) new → IsBounded g new
       → All ((Allocate node, Allocated (Err e)) ∷ []) → GoesOn g old All (Err e) new
-  ends-with old new node e All clear first keeps unread touches bounded all = record {
+  ends-with old new node e All clear first unread touches bounded all = record {
     calls = (Allocate node, Allocated (Err e)) ∷ [];
     are = all;
     made = (new, first, refl);
-    batch = keeps.batch;
-    fault = keeps.fault ∙ ap (λ b. b || is_write_fault {T = ℕ} (Err e)) clear;
-    stamps = keeps.refused;
+    batch = first.keeps.batch;
+    fault = first.keeps.fault ∙ ap (λ b. b || is_write_fault {T = ℕ} (Err e)) clear;
+    stamps = first.keeps.refused;
     touched = (new, touches, refl);
     unread = unread;
     bounded = bounded;
@@ -186,15 +186,15 @@ module _ {L : Type 0} (g : Ghosts L) where
 
   -- the swap of the root was made
   pub swaps-root : (old new : Cache L) (name : Bytes) (root : ℕ) (answer : RootSwap) (result : Result ℕ Error) → old.fault ≡ false
-      → IsMade g old (CasRoot name None (Some root)) (RootSwapped answer) new → Keeps old new answer (root_swapped old.stamps) → ReadsNothing g old new → Touches g old (RootSwapped answer) new → IsBounded g new
+      → IsMade g old (CasRoot name None (Some root)) (RootSwapped answer) new → ReadsNothing g old new → Touches g old (RootSwapped answer) new → IsBounded g new
       → EndsSwap ⊤ name result root answer → is_write_fault answer ≡ is_write_fault result → GoesOn g old (NamesRoot ⊤ name result root) result new
-  swaps-root old new name root answer result clear swapped keeps unread touches bounded ends fault = record {
+  swaps-root old new name root answer result clear swapped unread touches bounded ends fault = record {
     calls = (CasRoot name None (Some root), RootSwapped answer) ∷ [];
     are = (answer, refl, ends);
     made = (new, swapped, refl);
-    batch = keeps.batch;
-    fault = keeps.fault ∙ ap (λ b. b || is_write_fault answer) clear ∙ fault;
-    stamps = by answer keeps.done keeps.refused;
+    batch = swapped.keeps.batch;
+    fault = swapped.keeps.fault ∙ ap (λ b. b || is_write_fault answer) clear ∙ fault;
+    stamps = by answer swapped.keeps.done swapped.keeps.refused;
     touched = (new, touches, refl);
     unread = unread;
     bounded = bounded;

@@ -1,11 +1,22 @@
 -- What is known of a call's answer over any log, whether or not its device tells its bytes.
-use Rattle.std.specs.Prelude.{◌≡◌, ◌==◌, ◌||◌, ℕ, Bool, true, false, List, [], ◌∷◌, ◌++◌, ◌+◌, length, Option, Result, Ok, Err, IfOk, OnErr, IsErrOf, slice_set, slice_index_or, if◌then◌else◌}
+use Rattle.std.specs.Prelude.{⊤, ◌≡◌, ◌==◌, ◌||◌, ℕ, Bool, true, false, List, [], ◌∷◌, ◌++◌, ◌+◌, length, Option, Result, Ok, Err, IfOk, OnErr, IsErrOf, slice_set, slice_index_or, if◌then◌else◌}
+use Rattle.sled_base.specs.Order.{Bytes}
 use Rattle.sled_base.specs.declared.types.Device.TheVariants.{Write}
 use Rattle.sled_base.specs.declared.types.Error.{Error}
-use Rattle.sled_base.specs.declared.types.Error.TheVariants.{Io}
+use Rattle.sled_base.specs.declared.types.Error.TheVariants.{CollectionNotFound, Io}
 use Rattle.sled_pagecache.specs.Cache.{Cache}
 use Rattle.sled_pagecache.specs.Limits.{meta_pid}
 use Rattle.sled_pagecache.specs.Token.{Token}
+
+-- The error owns no name. Only the question for the root of a name is answered by one that does.
+abbrev pub HasNoName : Error → Type 0
+HasNoName (CollectionNotFound name) = ⊥
+HasNoName e = ⊤
+
+-- where the error owns a name, it is this one
+abbrev pub NamesOnly : Bytes → Error → Type 0
+NamesOnly name (CollectionNotFound other) = other ≡ name
+NamesOnly name e = ⊤
 
 -- whether the answer is a write fault
 abbrev pub is_write_fault : {T : Type 0} → Result T Error → Bool
@@ -35,3 +46,9 @@ root_swapped stamps (Err root) = stamps
 abbrev pub swapped : {R : Type 0} → List ℕ → Result Token (Option (Token × R)) → List ℕ
 swapped stamps (Ok made) = slice_set stamps made.pid made.stamp
 swapped stamps (Err back) = stamps
+
+-- A batch is opened or closed: no stamp changes. A write fault is sticky, and with one kept it is the answer.
+pub record KeepsStamps {L : Type 0} (old new : Cache L) (result : Result (Unit {0}) Error) : Type 0 where
+  pub stamps : new.stamps ≡ old.stamps
+  pub fault : new.fault ≡ (old.fault || is_write_fault result)
+  pub stuck : old.fault ≡ true → IsErrOf result (Io Write)

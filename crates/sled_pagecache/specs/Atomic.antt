@@ -1,15 +1,15 @@
 -- What a crash leaves of a batch.
 use Rattle.std.specs.Prelude.{◌≡◌, ◌⊎◌, List, [], ◌∷◌, Ok, ⊤}
 use Rattle.std.specs.List.{AllByRecursion}
-use Rattle.sled_log.specs.Contents.{Content, Update}
-use Rattle.sled_log.specs.Events.{Event}
+use Rattle.sled_log.specs.Contents.{Content}
 use Rattle.sled_log.specs.declared.log.Log.{Ghosts}
 use Rattle.sled_pagecache.specs.Cache.{Cache, IsIn}
 use Rattle.sled_pagecache.specs.Calls.{Steps}
 use Rattle.sled_pagecache.specs.Logged.{Logged}
 use Rattle.sled_pagecache.specs.Reopening.{AreAfterPrefix, CrashReopens, CrashReopensTo}
-use Rattle.sled_pagecache.specs.Rows.{AreSteps, StepInRow}
+use Rattle.sled_pagecache.specs.Rows.{AreSteps, StepInRow, changes_of}
 use Rattle.sled_pagecache.specs.State.{State, contents_of}
+use Rattle.sled_pagecache.specs.Step.{Outcome}
 use Rattle.sled_pagecache.specs.declared.pagecache.call.Answer.{Answer}
 use Rattle.sled_pagecache.specs.declared.pagecache.call.Answer.TheVariants.{Pinned}
 use Rattle.sled_pagecache.specs.declared.pagecache.call.Call.{Call}
@@ -47,8 +47,8 @@ module _ {L : Type 0} (g : Ghosts L) where
     pub held_then : Logged
     pub t : State
     pub is : IsIn g new held_then t
-    pub changes : List (Event Update)
-    pub steps : AreSteps g s calls changes t
+    pub outs : List Outcome
+    pub steps : AreSteps g (Steps g) old s calls outs new t
     pub crash : CrashReopensTo g new.log (g.moment old.log) (λ contents. AreWithout held contents ⊎ AreThoseOf t contents)
 
   -- The same of calls that may stand in part: a crash reopens to the pages after a prefix of what they write.
@@ -56,6 +56,6 @@ module _ {L : Type 0} (g : Ghosts L) where
     pub held_then : Logged
     pub t : State
     pub is : IsIn g new held_then t
-    pub changes : List (Event Update)
-    pub steps : AreSteps g s calls changes t
-    pub crash : CrashReopens g new.log (g.moment old.log) held changes
+    pub outs : List Outcome
+    pub steps : AreSteps g (Steps g) old s calls outs new t
+    pub crash : CrashReopens g new.log (g.moment old.log) held (changes_of outs)

@@ -4,7 +4,7 @@ use Rattle.sled_base.specs.declared.types.Device.TheVariants.{Write}
 use Rattle.sled_base.specs.declared.types.Error.{Error}
 use Rattle.sled_base.specs.declared.types.Error.TheVariants.{Io}
 use Rattle.sled_log.specs.declared.log.Log.{Ghosts}
-use Rattle.sled_pagecache.specs.Answers.{is_write_fault}
+use Rattle.sled_pagecache.specs.Answers.{HasNoName, is_write_fault}
 use Rattle.sled_pagecache.specs.Cache.{Cache}
 use Rattle.sled_pagecache.specs.Calls.{Steps, IsBlamed}
 use Rattle.sled_pagecache.specs.Memory.{KeepsMemory}
@@ -21,6 +21,7 @@ module _ {L : Type 0} (g : Ghosts L) where
     pub blame : IsBlamed g old new result
     pub done : OnOk result ((old.batch ≡ false) × (new.batch ≡ true))
     pub refused : OnErr result (new.batch ≡ old.batch)
+    pub unnamed : IfErr result HasNoName
     pub stamps : new.stamps ≡ old.stamps
     pub fault : new.fault ≡ (old.fault || is_write_fault result)
     pub stuck : old.fault ≡ true → IsErrOf result (Io Write) × (new ≡ old)

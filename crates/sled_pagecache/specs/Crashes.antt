@@ -9,9 +9,11 @@ use Rattle.sled_pagecache.specs.Cache.{Cache, IsIn}
 use Rattle.sled_pagecache.specs.Logged.{Logged}
 use Rattle.sled_pagecache.specs.Opening.{fault_of, opened}
 use Rattle.sled_pagecache.specs.Reopening.{AreAfterPrefix}
-use Rattle.sled_pagecache.specs.Rows.{AreSteps}
+use Rattle.sled_pagecache.specs.Calls.{Steps}
+use Rattle.sled_pagecache.specs.Rows.{AreSteps, changes_of}
 use Rattle.sled_pagecache.specs.Starts.{only_stable_contents}
 use Rattle.sled_pagecache.specs.State.{State, page, contents_of}
+use Rattle.sled_pagecache.specs.Step.{Outcome}
 use Rattle.sled_pagecache.specs.declared.pagecache.call.Answer.{Answer}
 use Rattle.sled_pagecache.specs.declared.pagecache.call.Call.{Call}
 use Rattle.sled_pagecache.specs.declared.pagecache.config.Config.{Config}
@@ -43,13 +45,13 @@ module _ {L : Type 0} (g : Ghosts L) where
     pub are : Are contents
     pub flushed : IsFlushed cache (opened config contents)
 
-  -- These calls are steps from the flushed state, and write these changes. The cache that is opened again has the flushed pages after
-  -- a prefix of the changes.
-  pub record ReopensAfter (s : State) (calls : List (Call × Answer)) (config : Config) (result : Result (Cache L) Error) : Type 0 where
-    pub begun : List (Event Update)
+  -- These calls are steps from the flushed state, each over the very cache that the one before it left. The cache that is opened again has
+  -- the flushed pages after a prefix of what they write.
+  pub record ReopensAfter (first : Cache L) (s : State) (calls : List (Call × Answer)) (last : Cache L) (config : Config) (result : Result (Cache L) Error) : Type 0 where
+    pub outs : List Outcome
     pub t : State
-    pub steps : AreSteps g s calls begun t
-    pub opens : IfOk result (OpensAgain (AreFlushedThen s begun) config)
+    pub steps : AreSteps g (Steps g) first s calls outs last t
+    pub opens : IfOk result (OpensAgain (AreFlushedThen s (changes_of outs)) config)
     pub refused : IfErr result (RefusesReopening config)
 
   -- the cache is what is opened of exactly the flushed pages: each is at stamp 0, and all of them are durable

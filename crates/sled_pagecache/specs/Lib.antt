@@ -15,10 +15,13 @@ pub mod Starts
 pub mod Ids
 pub mod Rows
 pub mod RowLaws
+pub mod MadeLaws
 pub mod Reopening
 pub mod Crashes
 pub mod Atomic
 pub mod Openings
+pub mod History
+pub mod Prefixes
 pub mod StickyLog
 pub mod StickyLogLaws
 pub mod ChainReads
@@ -50,5 +53,6 @@ pub mod Touching
 pub mod Relisting
 pub mod Lending
 pub mod Guard
+pub mod Shapes
 pub mod CounterPages
 pub mod Counted

@@ -49,16 +49,17 @@ module _ {L : Type 0} (g : Ghosts L) where
   Leaves last (CrashedIn call answer) left = (then : Cache L) × IsMade g last call answer then × HoldsCrash g then.log (g.moment last.log) left
   Leaves last HandedOn left = (last.fault ≡ false) × (left ≡ last.log)
 
-  -- A log was opened so often, each time as the time before left it, and no interval of ids was shorter than one before it.
-  abbrev pub IsRun : L → ℕ → List (Opening L) → Type 0
-  IsRun found least [] = ⊤
-  IsRun found least (Refused config result left ∷ openings) = Starts found config result × LeavesUnopened found result left × IsRun left least openings
-  IsRun found least (Lasted config first calls last ending left ∷ openings) =
-      (least ≤ config.idgen_persist_interval)
-      × Starts found config (Ok first)
-      × AreMade g first calls last
-      × Leaves last ending left
-      × IsRun left config.idgen_persist_interval openings
+  -- A log was opened so often, each time as the time before left it.
+  abbrev pub IsRun : L → List (Opening L) → Type 0
+  IsRun found [] = ⊤
+  IsRun found (Refused config result left ∷ openings) = Starts found config result × LeavesUnopened found result left × IsRun left openings
+  IsRun found (Lasted config first calls last ending left ∷ openings) = Starts found config (Ok first) × AreMade g first calls last × Leaves last ending left × IsRun left openings
+
+-- no cache was opened with a shorter interval of ids than one before it, and none with a shorter one than this
+abbrev pub KeepIntervals : {L : Type 0} → ℕ → List (Opening L) → Type 0
+KeepIntervals least [] = ⊤
+KeepIntervals least (Refused config result left ∷ openings) = KeepIntervals least openings
+KeepIntervals least (Lasted config first calls last ending left ∷ openings) = (least ≤ config.idgen_persist_interval) × KeepIntervals config.idgen_persist_interval openings
 
 -- the id that an answer gives, if it gives one
 abbrev pub id_in : Answer → List ℕ

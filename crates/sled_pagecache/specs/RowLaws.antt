@@ -2,7 +2,8 @@
 use Rattle.std.proofs.Common.{◌≡◌, inl, inr, ⊎_elim, ℕ, Bool, true, false, List, [], ◌∷◌, ◌++◌, take, refl, sym, ◌∙◌, ap, subst, arith}
 use Rattle.std.specs.Prelude.{MatchBool, Result}
 use Rattle.std.proofs.lemmas.Bool.{false≢true}
-use Rattle.std.proofs.lemmas.List.{append_assoc, append-nil}
+use Rattle.std.proofs.lemmas.List.{append-nil}
+use Rattle.std.proofs.lemmas.List.Concat.{flat_map-append}
 use Rattle.sled_log.specs.Batches.{IsFair}
 use Rattle.sled_log.specs.Chains.{chains_after}
 use Rattle.sled_log.specs.Contents.{Update, contents_after}
@@ -19,7 +20,7 @@ use Rattle.sled_base.specs.declared.types.Error.{Error}
 use Rattle.sled_pagecache.specs.Cache.{Cache}
 use Rattle.sled_pagecache.specs.Calls.{StepOver, Steps}
 use Rattle.sled_pagecache.specs.Logged.{Logged, IsLogged, AreKept, Adds, IsLeft}
-use Rattle.sled_pagecache.specs.Rows.{AreSteps, IsRow, StepInRow, IsMade, AreMade}
+use Rattle.sled_pagecache.specs.Rows.{changes_of, AreSteps, IsRow, StepInRow, IsMade, AreMade}
 use Rattle.sled_pagecache.specs.State.{State}
 use Rattle.sled_pagecache.specs.Step.{Outcome, Closes, unchanged}
 use Rattle.sled_pagecache.specs.declared.pagecache.call.Answer.{Answer}
@@ -35,7 +36,7 @@ pub adds-none : (held : Logged) → Adds held [] held
 adds-none held = AddsEvents-none contents_after contents_after-append held.stable held.pending refl
 
 adds-then : (held mid new : Logged) (first second : List (Event Update)) → Adds held first mid → Adds mid second new → Adds held (first ++ second) new
-adds-then held mid new first second = AddsEvents-then contents_after contents_after-append held.stable mid.stable new.stable held.pending mid.pending new.pending first second
+adds-then held mid new first second a b = (AddsEvents-then contents_after contents_after-append held.stable mid.stable new.stable held.pending mid.pending new.pending first second a b).0
 
 -- what a crash leaves in the second
 left-behind : (held mid : Logged) (first second : List (Event Update)) (pages : List Messages) → Adds held first mid → IsLeft mid second pages → IsLeft held (first ++ second) pages
@@ -120,49 +121,54 @@ module _ {L : Type 0} (g : Ghosts L) where
   step-stuck cache s call.Cancel (Cancelled answer) out step kept = closes-stuck Cancel s answer out step kept
   step-stuck cache s asked answer out step kept = absurd step
 
-  steps-stuck : (s t : State) (calls : List (Call × Answer)) (changes : List (Event Update)) → AreSteps g s calls changes t → s.fault ≡ true → t.fault ≡ true
-  steps-stuck s t [] changes steps kept = ap (λ u. u.fault) steps.1 ∙ kept
-  steps-stuck s t (made ∷ calls) changes (cache, out, others, step, are, steps) kept =
-      steps-stuck out.state t calls others steps (ap (λ (o : Outcome). o.state.fault) (step-stuck cache s made.0 made.1 out step kept) ∙ kept)
+  module _ (Makes : Cache L → Call → Answer → Cache L → Type 0) where
+    steps-stuck : (old new : Cache L) (s t : State) (calls : List (Call × Answer)) (outs : List Outcome) → AreSteps g Makes old s calls outs new t → s.fault ≡ true → t.fault ≡ true
+    steps-stuck old new s t [] [] steps kept = ap (λ u. u.fault) steps.1 ∙ kept
+    steps-stuck old new s t [] (out ∷ outs) steps kept = absurd steps
+    steps-stuck old new s t (made ∷ calls) [] steps kept = absurd steps
+    steps-stuck old new s t (made ∷ calls) (out ∷ outs) (mid, called, step, is, steps) kept =
+        steps-stuck mid new out.state t calls outs steps (ap (λ (o : Outcome). o.state.fault) (step-stuck old s made.0 made.1 out step kept) ∙ kept)
 
-  -- steps behind others
-  steps-then : (s mid t : State) (calls others : List (Call × Answer)) (changes more : List (Event Update))
-      → AreSteps g s calls changes mid → AreSteps g mid others more t → AreSteps g s (calls ++ others) (changes ++ more) t
-  steps-then s mid t [] others changes more none steps =
-      subst (λ (l : List (Event Update)). AreSteps g s others (l ++ more) t) (sym none.0) (subst (λ from. AreSteps g from others more t) none.1 steps)
-  steps-then s mid t (made ∷ calls) others changes more (cache, out, behind, step, are, steps) later = (
-    cache,
-    out,
-    behind ++ more,
-    step,
-    ap (λ (l : List (Event Update)). l ++ more) are ∙ append_assoc out.changes behind more,
-    steps-then out.state mid t calls others behind more steps later,
-  )
+    -- steps behind others
+    steps-then : (old mid new : Cache L) (s u t : State) (calls others : List (Call × Answer)) (outs more : List Outcome)
+        → AreSteps g Makes old s calls outs mid u → AreSteps g Makes mid u others more new t → AreSteps g Makes old s (calls ++ others) (outs ++ more) new t
+    steps-then old mid new s u t [] others [] more none steps = subst (λ cache. AreSteps g Makes cache s others more new t) none.0 (subst (λ from. AreSteps g Makes mid from others more new t) none.1 steps)
+    steps-then old mid new s u t [] others (out ∷ outs) more first steps = absurd first
+    steps-then old mid new s u t (made ∷ calls) others [] more first steps = absurd first
+    steps-then old mid new s u t (made ∷ calls) others (out ∷ outs) more (next, called, step, is, first) steps =
+        (next, called, step, is, steps-then next mid new out.state u t calls others outs more first steps)
+
+  -- what they write comes behind what the others write
+  changes-then : (outs more : List Outcome) → changes_of (outs ++ more) ≡ changes_of outs ++ changes_of more
+  changes-then outs more = flat_map-append (λ (out : Outcome). out.changes) outs more
 
   -- ---- calls in a row
 
   module _ (old mid new : Cache L) (calls others : List (Call × Answer)) (held : Logged) (s : State) (row : IsRow g old calls mid held s) (next : IsRow g mid others new row.held_then row.t) where
+    abbrev all : List (Event Update)
+    all = changes_of row.outs ++ changes_of next.outs
+
     -- no write fault is kept before calls that leave none
     clear_before : next.t.fault ≡ false → row.t.fault ≡ false
     clear_before free = by row.t.fault refl
       where
         by : (fault : Bool) → row.t.fault ≡ fault → row.t.fault ≡ false
         by false clear = clear
-        by true kept = absurd (false≢true (sym free ∙ steps-stuck row.t next.t others next.changes next.steps kept))
+        by true kept = absurd (false≢true (sym free ∙ steps-stuck (Steps g) mid new row.t next.t others next.outs next.steps kept))
 
-    stop : s.fault ≡ false → CrashesSinceLeave g.moment g.left_since old.log new.log (IsLeft held (row.changes ++ next.changes))
+    stop : s.fault ≡ false → CrashesSinceLeave g.moment g.left_since old.log new.log (IsLeft held all)
     stop free = by row.t.fault refl
       where
-        of_first : (pages : List Messages) → IsLeft held row.changes pages → IsLeft held (row.changes ++ next.changes) pages
-        of_first pages left = left-more held row.changes (row.changes ++ next.changes) pages (next.changes, refl) left
+        of_first : (pages : List Messages) → IsLeft held (changes_of row.outs) pages → IsLeft held all pages
+        of_first pages left = left-more held (changes_of row.outs) all pages (changes_of next.outs, refl) left
 
-        by : (fault : Bool) → row.t.fault ≡ fault → CrashesSinceLeave g.moment g.left_since old.log new.log (IsLeft held (row.changes ++ next.changes))
+        by : (fault : Bool) → row.t.fault ≡ fault → CrashesSinceLeave g.moment g.left_since old.log new.log (IsLeft held all)
         by true kept =
-            subst (λ l. CrashesSinceLeave g.moment g.left_since old.log l (IsLeft held (row.changes ++ next.changes))) (sym (next.stuck kept))
-            (CrashesSinceLeave-weaker g.state g.moment g.left_since g.counts old.log mid.log (IsLeft held row.changes) (IsLeft held (row.changes ++ next.changes)) of_first (row.stop free))
+            subst (λ l. CrashesSinceLeave g.moment g.left_since old.log l (IsLeft held all)) (sym (next.stuck kept))
+            (CrashesSinceLeave-weaker g.state g.moment g.left_since g.counts old.log mid.log (IsLeft held (changes_of row.outs)) (IsLeft held all) of_first (row.stop free))
         by false clear =
-            stops-then g.moment g.left_since old.log mid.log new.log (IsLeft held row.changes) (IsLeft row.held_then next.changes) (IsLeft held (row.changes ++ next.changes)) of_first
-            (λ pages left. left-behind held row.held_then row.changes next.changes pages (row.added clear) left)
+            stops-then g.moment g.left_since old.log mid.log new.log (IsLeft held (changes_of row.outs)) (IsLeft row.held_then (changes_of next.outs)) (IsLeft held all) of_first
+            (λ pages left. left-behind held row.held_then (changes_of row.outs) (changes_of next.outs) pages (row.added clear) left)
             (row.stop free) (next.stop clear)
 
     longer : IsRow g old (calls ++ others) new held s
@@ -170,11 +176,11 @@ module _ {L : Type 0} (g : Ghosts L) where
       held_then = next.held_then;
       t = next.t;
       is = next.is;
-      changes = row.changes ++ next.changes;
-      steps = steps-then s row.t next.t calls others row.changes next.changes row.steps next.steps;
-      added = λ free. adds-then held row.held_then next.held_then row.changes next.changes (row.added (clear_before free)) (next.added free);
-      stop = stop;
-      stuck = λ kept. next.stuck (steps-stuck s row.t calls row.changes row.steps kept) ∙ row.stuck kept;
+      outs = row.outs ++ next.outs;
+      steps = steps-then (Steps g) old mid new s row.t next.t calls others row.outs next.outs row.steps next.steps;
+      added = λ free. subst (λ (l : List (Event Update)). Adds held l next.held_then) (sym (changes-then row.outs next.outs)) (adds-then held row.held_then next.held_then (changes_of row.outs) (changes_of next.outs) (row.added (clear_before free)) (next.added free));
+      stop = λ free. subst (λ (l : List (Event Update)). CrashesSinceLeave g.moment g.left_since old.log new.log (IsLeft held l)) (sym (changes-then row.outs next.outs)) (stop free);
+      stuck = λ kept. next.stuck (steps-stuck (Steps g) old mid s row.t calls row.outs row.steps kept) ∙ row.stuck kept;
     }
 
   -- no call
@@ -185,7 +191,7 @@ module _ {L : Type 0} (g : Ghosts L) where
       held_then = held;
       t = s;
       is = is;
-      changes = [];
+      outs = [];
       steps = (refl, refl);
       added = λ _. adds-none held;
       stop = λ free. CrashesSinceLeave-none g.moment g.left_since cache.log (IsLeft held []) (λ pages left. left-now (log.unplaced_state (g.state cache.log)) held pages (is.known free).logged (only_now cache.log pages is.tells (is.known free).usable left));
@@ -199,14 +205,15 @@ module _ {L : Type 0} (g : Ghosts L) where
     opening = steps.opening;
     from_each = λ held s is.
         let next = steps.from_each held s is in
+        let all = sym (append-nil next.out.changes) in
         record {
           held_then = next.held_then;
           t = next.out.state;
           is = next.is;
-          changes = next.out.changes;
-          steps = (old, next.out, [], next.step, sym (append-nil next.out.changes), (refl, refl));
-          added = next.added;
-          stop = next.stop;
+          outs = next.out ∷ [];
+          steps = (new, steps, next.step, (next.held_then, next.is), (refl, refl));
+          added = λ free. subst (λ (l : List (Event Update)). Adds held l next.held_then) all (next.added free);
+          stop = λ free. subst (λ (l : List (Event Update)). CrashesSinceLeave g.moment g.left_since old.log new.log (IsLeft held l)) all (next.stop free);
           stuck = next.stuck;
         };
   }
@@ -214,17 +221,19 @@ module _ {L : Type 0} (g : Ghosts L) where
   -- a call behind others, with the changes and the state that it leaves
   pub record IsLonger (old new : Cache L) (calls : List (Call × Answer)) (held : Logged) (s : State) (changes : List (Event Update)) (t : State) : Type 0 where
     pub row : IsRow g old calls new held s
-    pub writes : row.changes ≡ changes
+    pub writes : changes_of row.outs ≡ changes
     pub leaves : row.t ≡ t
 
   pub one-longer : (old mid new : Cache L) (calls : List (Call × Answer)) (call : Call) (answer : Answer) (held : Logged) (s : State) (row : IsRow g old calls mid held s) (steps : Steps g mid call answer new)
-      → (let out = (steps.from_each row.held_then row.t row.is).out in IsLonger old new (calls ++ (call, answer) ∷ []) held s (row.changes ++ out.changes) out.state)
+      → (let out = (steps.from_each row.held_then row.t row.is).out in IsLonger old new (calls ++ (call, answer) ∷ []) held s (changes_of row.outs ++ out.changes) out.state)
   unfolding longer row-one
-  one-longer old mid new calls call answer held s row steps = record {
-    row = longer old mid new calls ((call, answer) ∷ []) held s row ((row-one mid new call answer steps).from_each row.held_then row.t row.is);
-    writes = refl;
-    leaves = refl;
-  }
+  one-longer old mid new calls call answer held s row steps =
+      let out = (steps.from_each row.held_then row.t row.is).out in
+      record {
+        row = longer old mid new calls ((call, answer) ∷ []) held s row ((row-one mid new call answer steps).from_each row.held_then row.t row.is);
+        writes = changes-then row.outs (out ∷ []) ∙ ap (λ (l : List (Event Update)). changes_of row.outs ++ l) (append-nil out.changes);
+        leaves = refl;
+      }
 
   -- calls behind others
   pub row-then : (old mid new : Cache L) (calls others : List (Call × Answer)) → StepInRow g old calls mid → StepInRow g mid others new → StepInRow g old (calls ++ others) new

@@ -1,9 +1,10 @@
 -- Calls of the page cache in a row.
-use Rattle.std.specs.Prelude.{◌≡◌, true, false, List, [], ◌∷◌, ◌++◌, Ok, ⊤}
+use Rattle.std.specs.Prelude.{◌≡◌, ◌+◌, true, false, List, [], ◌∷◌, flat_map, Ok, IfOk, OnOk, OnErr, ⊤}
 use Rattle.sled_log.specs.Contents.{Update}
 use Rattle.sled_log.specs.Events.{Event}
 use Rattle.sled_log.specs.LogState as log
 use Rattle.sled_log.specs.declared.log.Log.{Ghosts}
+use Rattle.sled_pagecache.specs.Answers.{Keeps, KeepsStamps, root_swapped, stamped, swapped}
 use Rattle.sled_pagecache.specs.Cache.{Cache, IsIn}
 use Rattle.sled_pagecache.specs.Calls.{IsSameOpening, StepOver, Steps, IsBlamed}
 use Rattle.sled_pagecache.specs.Ids.{IsCovered}
@@ -14,12 +15,22 @@ use Rattle.sled_pagecache.specs.declared.pagecache.call.Answer.{Answer}
 use Rattle.sled_pagecache.specs.declared.pagecache.call.Answer.TheVariants.{Allocated, Got, Linked, Replaced, Freed, GotMeta, GotIdgen, Generated, Flushed, Sized, FoundRoot, RootSwapped, Pinned, Sealed, Cancelled}
 use Rattle.sled_pagecache.specs.declared.pagecache.call.Call.{Call}
 
+-- what calls with these outcomes began to write, in order
+abbrev pub changes_of : List Outcome → List (Event Update)
+changes_of outs = flat_map (λ out. out.changes) outs
+
 module _ {L : Type 0} (g : Ghosts L) where
-  -- The calls, each with its answer, are steps from one state to another, each over some log, and write these changes.
-  abbrev pub AreSteps : State → List (Call × Answer) → List (Event Update) → State → Type 0
-  AreSteps s [] changes t = (changes ≡ []) × (t ≡ s)
-  AreSteps s (made ∷ calls) changes t =
-      (cache : Cache L) × (out : Outcome) × (rest : List (Event Update)) × StepOver g cache s made.0 made.1 out × (changes ≡ out.changes ++ rest) × AreSteps out.state calls rest t
+  -- the cache is in this state, whatever its log holds
+  abbrev pub IsInState : Cache L → State → Type 0
+  IsInState cache s = (held : Logged) × IsIn g cache held s
+
+  -- The calls were made one after another, each of the very cache that the one before it left; `Makes` says what is known of one. Each is a
+  -- step over that cache, from the state that it is in, with the outcome that stands at its place, and leaves a cache in the state of that.
+  abbrev pub AreSteps : (Cache L → Call → Answer → Cache L → Type 0) → Cache L → State → List (Call × Answer) → List Outcome → Cache L → State → Type 0
+  AreSteps Makes old s [] [] new t = (new ≡ old) × (t ≡ s)
+  AreSteps Makes old s (made ∷ calls) (out ∷ outs) new t =
+      (mid : Cache L) × Makes old made.0 made.1 mid × StepOver g old s made.0 made.1 out × IsInState mid out.state × AreSteps Makes mid out.state calls outs new t
+  AreSteps Makes old s calls outs new t = ⊥
 
   -- From this state, over a log that holds this, the calls are steps to another state. What they write is added to the log, and
   -- a crash at any moment of them leaves what the log held and a prefix of that which splits no batch.
@@ -27,10 +38,10 @@ module _ {L : Type 0} (g : Ghosts L) where
     pub held_then : Logged
     pub t : State
     pub is : IsIn g new held_then t
-    pub changes : List (Event Update)
-    pub steps : AreSteps s calls changes t
-    pub added : t.fault ≡ false → Adds held changes held_then
-    pub stop : s.fault ≡ false → log.CrashesSinceLeave g.moment g.left_since old.log new.log (IsLeft held changes)
+    pub outs : List Outcome
+    pub steps : AreSteps (Steps g) old s calls outs new t
+    pub added : t.fault ≡ false → Adds held (changes_of outs) held_then
+    pub stop : s.fault ≡ false → log.CrashesSinceLeave g.moment g.left_since old.log new.log (IsLeft held (changes_of outs))
     pub stuck : s.fault ≡ true → new.log ≡ old.log
 
   -- The calls are steps in a row, in whatever state the cache is.
@@ -67,12 +78,31 @@ module _ {L : Type 0} (g : Ghosts L) where
   CoversId (Generated (Ok id)) new = IsCovered g new id
   CoversId answer new = ⊤
 
+  -- What is known of an answer over any log: what it leaves of the stamps, of the batch and of a write fault.
+  abbrev pub KeepsBehind : Cache L → Answer → Cache L → Type 0
+  KeepsBehind old (Allocated result) new = Keeps old new result (λ made. stamped old.stamps made.1)
+  KeepsBehind old (Got result) new = Keeps old new result (λ _. old.stamps)
+  KeepsBehind old (Linked result) new = Keeps old new result (swapped old.stamps)
+  KeepsBehind old (Replaced result) new = Keeps old new result (swapped old.stamps)
+  KeepsBehind old (Freed result) new = Keeps old new result (swapped old.stamps)
+  KeepsBehind old (GotMeta result) new = Keeps old new result (λ _. old.stamps)
+  KeepsBehind old (FoundRoot result) new = Keeps old new result (λ _. old.stamps)
+  KeepsBehind old (RootSwapped result) new = Keeps old new result (root_swapped old.stamps)
+  KeepsBehind old (GotIdgen result) new = Keeps old new result (λ _. old.stamps)
+  KeepsBehind old (Generated result) new = Keeps old new result (λ _. new.stamps) × IfOk result (λ id. (id ≡ old.next) × (new.next ≡ old.next + 1))
+  KeepsBehind old (Flushed result) new = Keeps old new result (λ _. old.stamps)
+  KeepsBehind old (Sized result) new = Keeps old new result (λ _. old.stamps)
+  KeepsBehind old (Pinned result) new = KeepsStamps old new result × OnOk result (new.batch ≡ true) × OnErr result (new.batch ≡ old.batch)
+  KeepsBehind old (Sealed result) new = KeepsStamps old new result × (new.batch ≡ false)
+  KeepsBehind old (Cancelled result) new = KeepsStamps old new result × (new.batch ≡ false)
+
   -- the call was made of a cache: it is a step, and what its answer reports of the log is so
   pub record IsMade (old : Cache L) (call : Call) (answer : Answer) (new : Cache L) : Type 0 where
     pub step : Steps g old call answer new
     pub bytes : ReportsBytes old answer new
     pub faults : ReportsFaults old answer new
     pub covered : CoversId answer new
+    pub keeps : KeepsBehind old answer new
 
   -- the calls were made one after another, each of the cache that the one before it left
   abbrev pub AreMade : Cache L → List (Call × Answer) → Cache L → Type 0

@@ -71,7 +71,7 @@ pub fn reopen_after_a_crash(
     config: Config,
     clean_every: u64,
 ) -> Result<PageCache<DiskLog<MemDisk>>, Error>
-    ensures { (first : Cache (DiskLog MemDisk ⟦<MemDisk as Disk>⟧)) (calls : List (Call × Answer)) (s : State) → IsFlushed ⟦<DiskLog<MemDisk> as Log>⟧ first s → ⟦<DiskLog<MemDisk> as Log>⟧.moment first.log ≤ n - 1 → StepInRow ⟦<DiskLog<MemDisk> as Log>⟧ first calls cache → ReopensAfter ⟦<DiskLog<MemDisk> as Log>⟧ s calls config result }
+    ensures { (first : Cache (DiskLog MemDisk ⟦<MemDisk as Disk>⟧)) (calls : List (Call × Answer)) (s : State) → IsFlushed ⟦<DiskLog<MemDisk> as Log>⟧ first s → ⟦<DiskLog<MemDisk> as Log>⟧.moment first.log ≤ n - 1 → StepInRow ⟦<DiskLog<MemDisk> as Log>⟧ first calls cache → ReopensAfter ⟦<DiskLog<MemDisk> as Log>⟧ first s calls cache config result }
 {
     let segment_size = config.segment_size as u64;
     let log = cache.crashed_log();

@@ -11,7 +11,7 @@ ghost use Rattle.sled_pagecache.specs.Limits.{meta_pid, counter_pid, batch_manif
 ghost use Rattle.sled_pagecache.specs.Logged.{Logged, IsLogged, IsLeft, now};
 ghost use Rattle.sled_pagecache.specs.Opening.{changes_of_start};
 ghost use Rattle.sled_pagecache.specs.Reopening.{CrashReopens};
-ghost use Rattle.sled_pagecache.specs.Rows.{AreSteps, StepInRow};
+ghost use Rattle.sled_pagecache.specs.Rows.{AreSteps, StepInRow, changes_of};
 ghost use Rattle.sled_pagecache.specs.Starts.{Opens, log_after, only_stable, only_stable_contents};
 ghost use Rattle.sled_pagecache.specs.State.{State};
 ghost use Rattle.sled_pagecache.specs.Step.{Outcome};
@@ -55,6 +55,6 @@ pub fn what_a_crash_leaves_is_logged()
 /// which holds that is the opening of those pages.
 pub fn a_crash_reopens_to_a_prefix<L: Log>()
     ensures of_a_call { (old new : Cache L) (call : Call) (answer : Answer) → Steps L.Log old call answer new → (held : Logged) (s : State) → IsIn L.Log old held s → s.fault ≡ false → (out : Outcome) × StepOver L.Log old s call answer out × CrashReopens L.Log new.log (L.moment old.log) held out.changes }
-    ensures of_calls { (old new : Cache L) (calls : List (Call × Answer)) → StepInRow L.Log old calls new → (held : Logged) (s : State) → IsIn L.Log old held s → s.fault ≡ false → (begun : List (Event Update)) × (t : State) × AreSteps L.Log s calls begun t × CrashReopens L.Log new.log (L.moment old.log) held begun }
+    ensures of_calls { (old new : Cache L) (calls : List (Call × Answer)) → StepInRow L.Log old calls new → (held : Logged) (s : State) → IsIn L.Log old held s → s.fault ≡ false → (outs : List Outcome) × (t : State) × AreSteps L.Log (Steps L.Log) old s calls outs new t × CrashReopens L.Log new.log (L.moment old.log) held (changes_of outs) }
     ensures of_opening { L.tells → (log : L) (config : Config) (held : Logged) (result : Result (Cache L) (Error × L)) → Opens L.Log log config held result → (begun : List (Event Update)) × IsPrefix begun (changes_of_start (now held)) × CrashReopens L.Log (log_after result) (L.moment log) held begun }
 {}

@@ -3,11 +3,11 @@
 //! In reading order:
 //!
 //! - `pagecache`: the cache, its settings, its tokens and its calls
+//! - `openings`: caches that are opened one after another: the pages that each shows, and the ids that they generate
 //! - `rows`: what calls of the page cache in a row do
 //! - `batches`: what a crash leaves of a batch
 //! - `crashes`: crashes of a cache on a disk in memory, each opened again
-//! - `openings`: generated ids, over caches that are opened one after another
-//! - `laws`: what holds of the definitions that the contracts of a page cache cite: crashes first of all
+//! - `laws`: what holds of the definitions that the contracts of a page cache cite, one crash of any cache among it
 #![tactic(auto)]
 
 pub mod batches;
@@ -18,8 +18,8 @@ pub mod pagecache;
 pub mod rows;
 
 pub use pagecache::{
-    Answer, CacheInfo, Call, Config, MetaView, NodeView, Page, PageCache, PageTable, PageView,
-    RecoveryGuard, open_tree, split_fanout,
+    Answer, CacheInfo, Call, Config, Kind, MetaView, NodeView, Page, PageCache, PageShape,
+    PageTable, PageView, RecoveryGuard, Shape, open_tree, split_fanout,
 };
 pub use sled_base::{
     self, BatchManifest, Bug, ConsumeSequence, Device, DiskPtr, Error, IVec, LogKind, MessageKind,

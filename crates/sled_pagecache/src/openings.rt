@@ -1,16 +1,26 @@
-//! What holds of the generated ids of caches that are opened over one log, one after another.
+//! What holds of caches that are opened over one log, one after another.
 
-ghost use Rattle.std.specs.Prelude.{List};
-ghost use Rattle.sled_pagecache.specs.Openings.{Opening, IsEmpty, IsRun, ids_of, AreRising};
+ghost use Rattle.std.specs.Prelude.{List, []};
+ghost use Rattle.sled_pagecache.specs.History.{starting_at};
+ghost use Rattle.sled_pagecache.specs.Openings.{Opening, IsEmpty, IsRun, KeepIntervals, ids_of, AreRising};
+ghost use Rattle.sled_pagecache.specs.Prefixes.{ShowPrefixes};
 
 use sled_log::Log;
 
-/// Each generated id is above every id that was answered before it, so none comes twice, however often the log was opened.
+/// From an empty log, over every list of openings, calls, crashes at any moment and handed-on logs: each opening's cache is what is
+/// opened of the pages after a prefix of the changes that were begun before, which holds all that was flushed and splits no batch, and
+/// its answers are those of the machine from there.
 ///
-/// The log begins empty. A cache is opened over it again and again, each time over what the time before left: what a crash left, at
-/// any moment, inside a call or inside `start` too, and behind a write fault; the log that `into_log` handed on; or the log that a
-/// refused `start` gave back. No config has a shorter interval of ids than one before it. That is all that is asked, of any log that
-/// tells its bytes.
+/// Each crash keeps such a prefix of what came since the one before, and what comes then is added to that. A cache is opened over what the
+/// time before left: what a crash left, inside a call or inside `start` too, and behind a write fault; the log that `into_log` handed on,
+/// where no write failed; or the log that a refused `start` gave back. Nothing but an allocation, the device, the settings, or a log that
+/// has no room for a missing system page refuses an opening. That is all that is asked, of any log that tells its bytes.
+pub fn every_opening_shows_a_prefix<L: Log>()
+    ensures { L.tells → (log : L) (openings : List (Opening L)) → IsEmpty L.Log log → IsRun L.Log log openings → ShowPrefixes L.Log (starting_at []) openings }
+{}
+
+/// From an empty log, over every list of openings as above in which no config has a shorter interval of ids than one before it: each
+/// generated id is above every id that was answered before it. So none comes twice, whatever crashes come between.
 pub fn ids_are_given_once<L: Log>()
-    ensures { L.tells → (log : L) (openings : List (Opening L)) → IsEmpty L.Log log → IsRun L.Log log 0 openings → AreRising (ids_of openings) }
+    ensures { L.tells → (log : L) (openings : List (Opening L)) → IsEmpty L.Log log → IsRun L.Log log openings → KeepIntervals 0 openings → AreRising (ids_of openings) }
 {}

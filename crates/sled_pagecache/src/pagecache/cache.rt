@@ -9,7 +9,7 @@ ghost use Rattle.sled_base.specs.declared.types.Why.{Why};
 ghost use Rattle.sled_log.specs.Batches.{is_open};
 ghost use Rattle.sled_log.specs.Messages.{effect_of_entry};
 ghost use Rattle.sled_log.specs.LogState.{now, unplaced_state};
-ghost use Rattle.sled_pagecache.specs.Answers.{Keeps, stamped, swapped};
+ghost use Rattle.sled_pagecache.specs.Answers.{HasNoName, Keeps, stamped, swapped};
 ghost use Rattle.sled_pagecache.specs.Cache.{IsResident, IsAway, chain_length};
 ghost use Rattle.sled_pagecache.specs.Calls.{Steps, IsBlamed};
 ghost use Rattle.sled_pagecache.specs.Damage.{MeetsDamage, ReportsDamage};
@@ -32,6 +32,7 @@ ghost use Rattle.sled_pagecache.specs.declared.pagecache.call.Call.TheVariants a
 mod batches;
 mod ids;
 mod roots;
+mod shapes;
 
 use super::accesses::Accesses;
 use super::config::{Config, fault_of};
@@ -86,6 +87,8 @@ impl<L: Log> PageCache<L> {
     /// An error leaves the log unchanged but for the missing pages that were added before it, and the log comes back; unless a
     /// write failed, a cache can be opened over it again. A crash meanwhile leaves what the log held and, of the missing pages
     /// that had begun to be added, a prefix.
+    ///
+    /// Over every run of openings: [`every_opening_shows_a_prefix`](crate::openings::every_opening_shows_a_prefix).
     pub fn start(alloc: Global, config: Config, log: L) -> Result<PageCache<L>, (Error, L)>
         requires usable { (L.state log).usable ≡ true }
         requires closed { is_open (L.state log).pending ≡ false }
@@ -93,6 +96,7 @@ impl<L: Log> PageCache<L> {
         ensures opens { fault_of config ≡ None → L.tells → (held : Logged) → IsLogged (unplaced_state (L.state log)) held → Opens L.Log log config held result }
         ensures refused { L.tells → IfErr result (λ e. RefusesOpening config (now effect_of_entry (L.state log)) e.0) }
         ensures blame { IsBlamedOpening L.Log log result }
+        ensures unnamed { IfErr result (λ e. HasNoName e.0) }
         ensures again { IfErr result (λ e. e.0 ≢ Io Write → MayBeOpened L.Log e.1) }
         ensures unread { L.tells → IfOk result (HoldsNoNode L.Log) }
         ensures reads { L.tells → HasRead L.counts log (log_after result) (own_among (length (now effect_of_entry (L.state log)))) result }
@@ -138,6 +142,7 @@ impl<L: Log> PageCache<L> {
         ensures bounded { IsBounded L.Log self.new }
         ensures accesses { IfOk result (λ made. AccessesPage self.old made.0 self.new) }
         ensures leaves { IfErr result (LeavesNodes L.tells self.old self.new) }
+        ensures unnamed { IfErr result HasNoName }
     {
         let made = self.pages.allocate(&mut self.accesses, node);
         settle(&mut self.pages, &mut self.accesses, None);
@@ -187,6 +192,7 @@ impl<L: Log> PageCache<L> {
         ensures accesses { IfOk result (λ swapped. OnOk swapped (AccessesPage self.old pid self.new)) }
         ensures same { IfOk result (λ swapped. OnErr swapped (KeepsMemory self.old self.new)) }
         ensures leaves { IfErr result (LeavesMemory self.old pid self.new L.tells) }
+        ensures unnamed { IfErr result HasNoName }
     {
         let swapped = self.pages.link(&mut self.accesses, pid, old, link);
         let lost = lost_by(&swapped, pid);
@@ -219,6 +225,7 @@ impl<L: Log> PageCache<L> {
         ensures accesses { IfOk result (λ swapped. OnOk swapped (AccessesPage self.old pid self.new)) }
         ensures same { IfOk result (λ swapped. OnErr swapped (KeepsMemory self.old self.new)) }
         ensures leaves { IfErr result (LeavesMemory self.old pid self.new L.tells) }
+        ensures unnamed { IfErr result HasNoName }
     {
         let swapped = self.pages.replace(&mut self.accesses, pid, old, node);
         let lost = lost_by(&swapped, pid);
@@ -251,6 +258,7 @@ impl<L: Log> PageCache<L> {
         ensures accesses { IfOk result (λ swapped. OnOk swapped (AccessesPage self.old pid self.new)) }
         ensures same { IfOk result (λ swapped. OnErr swapped (KeepsMemory self.old self.new)) }
         ensures leaves { IfErr result (LeavesMemory self.old pid self.new L.tells) }
+        ensures unnamed { IfErr result HasNoName }
     {
         let swapped = self.pages.free(&mut self.accesses, pid, old);
         let lost = lost_by(&swapped, pid);
@@ -271,6 +279,7 @@ impl<L: Log> PageCache<L> {
         ensures number { IfOk result (λ n. n ≡ L.to_write self.old.log) }
         ensures bounded { IsBounded L.Log self.new }
         ensures same { KeepsMemory self.old self.new }
+        ensures unnamed { IfErr result HasNoName }
     {
         let flushed = self.pages.flush();
         self.pages.know_sizes();
@@ -282,6 +291,7 @@ impl<L: Log> PageCache<L> {
         ensures step { Steps L.Log self.now SizeOnDisk (Sized result) self.now }
         ensures keeps { Keeps self.now self.now result (λ _. self.now.stamps) }
         ensures size { IfOk result (λ size. size ≡ L.bytes self.now.log) }
+        ensures unnamed { IfErr result HasNoName }
     {
         self.pages.size_on_disk()
     }

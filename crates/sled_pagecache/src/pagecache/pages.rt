@@ -8,7 +8,7 @@ ghost use Rattle.sled_base.specs.declared.types.Why.{Why};
 ghost use Rattle.sled_log.specs.Batches.{is_open};
 ghost use Rattle.sled_log.specs.Messages.{effect_of_entry};
 ghost use Rattle.sled_log.specs.LogState.{now, unplaced_state};
-ghost use Rattle.sled_pagecache.specs.Answers.{Keeps, stamped, swapped};
+ghost use Rattle.sled_pagecache.specs.Answers.{HasNoName, Keeps, stamped, swapped};
 ghost use Rattle.sled_pagecache.specs.Cache.{IsResident, IsAway, chain_length};
 ghost use Rattle.sled_pagecache.specs.Calls.{Steps, IsBlamed};
 ghost use Rattle.sled_pagecache.specs.Damage.{MeetsDamage, ReportsDamage};
@@ -31,6 +31,7 @@ ghost use Rattle.sled_pagecache.specs.declared.pagecache.call.Call.TheVariants a
 mod batches;
 mod ids;
 mod roots;
+mod shapes;
 
 use super::accesses::Accesses;
 use super::add::add_page;
@@ -80,6 +81,7 @@ impl<L: Log> Model for Pages<L> {
 
 impl<L: Log> Pages<L> {
     // Opens the pages that a log holds, and makes the system pages that are missing.
+    #[tactic(auto, using(crate::proofs::Refused::no_name))]
     pub(super) fn start(alloc: Global, config: Config, log: L) -> Result<Pages<L>, (Error, L)>
         requires usable { (L.state log).usable ≡ true }
         requires closed { is_open (L.state log).pending ≡ false }
@@ -87,6 +89,7 @@ impl<L: Log> Pages<L> {
         ensures opens { fault_of config ≡ None → L.tells → (held : Logged) → IsLogged (unplaced_state (L.state log)) held → Opens L.Log log config held result }
         ensures refused { L.tells → IfErr result (λ e. RefusesOpening config (now effect_of_entry (L.state log)) e.0) }
         ensures blame { IsBlamedOpening L.Log log result }
+        ensures unnamed { IfErr result (λ e. HasNoName e.0) }
         ensures again { IfErr result (λ e. e.0 ≢ Io Write → MayBeOpened L.Log e.1) }
         ensures unread { L.tells → IfOk result (HoldsNoNode L.Log) }
         ensures reads { L.tells → HasRead L.counts log (log_after result) (own_among (length (now effect_of_entry (L.state log)))) result }
@@ -127,6 +130,7 @@ impl<L: Log> Pages<L> {
     }
 
     // Puts a node on the free page with the greatest id, or on a new one.
+    #[tactic(auto, using(crate::proofs::Refused::no_name))]
     pub(super) fn allocate(
         &mut self,
         accesses: &mut Accesses,
@@ -140,6 +144,7 @@ impl<L: Log> Pages<L> {
         ensures resident { IfOk result (λ made. IsResident self.new made.0) }
         ensures takes { IfOk result (λ made. TakesNode self.old accesses.old made.0 self.new accesses.new) }
         ensures refused { IfErr result (LosesNone L.tells self.old accesses.old self.new accesses.new) }
+        ensures unnamed { IfErr result HasNoName }
     {
         let stuck = self.sticky_log.fault;
         if stuck {
@@ -163,6 +168,7 @@ impl<L: Log> Pages<L> {
     }
 
     // Applies a link to the node of a page, which is read where it doesn't lie in memory.
+    #[tactic(auto, using(crate::proofs::Refused::no_name))]
     pub(super) fn link(
         &mut self,
         accesses: &mut Accesses,
@@ -185,6 +191,7 @@ impl<L: Log> Pages<L> {
         ensures takes { IfOk result (λ swapped. OnOk swapped (TakesPage self.old accesses.old pid self.new accesses.new)) }
         ensures same { IfOk result (λ swapped. OnErr swapped ((self.new ≡ self.old) × (accesses.new ≡ accesses.old))) }
         ensures refused { IfErr result (LosesAtMost self.old accesses.old pid self.new accesses.new L.tells) }
+        ensures unnamed { IfErr result HasNoName }
     {
         match judge(self.sticky_log.fault, &self.pages, pid, old)? {
             Judgement::Stale(present) => return Ok(Err(Some((present, link)))),
@@ -198,6 +205,7 @@ impl<L: Log> Pages<L> {
     }
 
     // Puts a node on a page in place of what it held.
+    #[tactic(auto, using(crate::proofs::Refused::no_name))]
     pub(super) fn replace(
         &mut self,
         accesses: &mut Accesses,
@@ -216,6 +224,7 @@ impl<L: Log> Pages<L> {
         ensures takes { IfOk result (λ swapped. OnOk swapped (TakesPage self.old accesses.old pid self.new accesses.new)) }
         ensures same { IfOk result (λ swapped. OnErr swapped ((self.new ≡ self.old) × (accesses.new ≡ accesses.old))) }
         ensures refused { IfErr result (LosesAtMost self.old accesses.old pid self.new accesses.new L.tells) }
+        ensures unnamed { IfErr result HasNoName }
     {
         match judge(self.sticky_log.fault, &self.pages, pid, old)? {
             Judgement::Stale(present) => return Ok(Err(Some((present, node)))),
@@ -229,6 +238,7 @@ impl<L: Log> Pages<L> {
     }
 
     // Frees a page.
+    #[tactic(auto, using(crate::proofs::Refused::no_name))]
     pub(super) fn free(
         &mut self,
         accesses: &mut Accesses,
@@ -247,6 +257,7 @@ impl<L: Log> Pages<L> {
         ensures takes { IfOk result (λ swapped. OnOk swapped (TakesPage self.old accesses.old pid self.new accesses.new)) }
         ensures same { IfOk result (λ swapped. OnErr swapped ((self.new ≡ self.old) × (accesses.new ≡ accesses.old))) }
         ensures refused { IfErr result (LosesAtMost self.old accesses.old pid self.new accesses.new L.tells) }
+        ensures unnamed { IfErr result HasNoName }
     {
         match judge(self.sticky_log.fault, &self.pages, pid, old)? {
             Judgement::Stale(present) => return Ok(Err(Some((present, ())))),
@@ -265,6 +276,7 @@ impl<L: Log> Pages<L> {
         Ok(Ok(PageView::new(pid, page.stamp)))
     }
 
+    #[tactic(auto, using(crate::proofs::Refused::no_name))]
     pub(super) fn flush(&mut self) -> Result<usize, Error>
         ensures step { Steps L.Log self.old Flush (Flushed result) self.new }
         ensures blame { IsBlamed L.Log self.old self.new result }
@@ -273,6 +285,7 @@ impl<L: Log> Pages<L> {
         ensures stable { OnOk result ((L.state self.new.log).pending ≡ []) }
         ensures number { IfOk result (λ n. n ≡ L.to_write self.old.log) }
         ensures same { AllStay self.old self.new }
+        ensures unnamed { IfErr result HasNoName }
     {
         if self.sticky_log.fault {
             return Err(Error::Io(Device::Write));
@@ -287,6 +300,7 @@ impl<L: Log> Pages<L> {
         ensures step { Steps L.Log self.now SizeOnDisk (Sized result) self.now }
         ensures keeps { Keeps self.now self.now result (λ _. self.now.stamps) }
         ensures size { IfOk result (λ size. size ≡ L.bytes self.now.log) }
+        ensures unnamed { IfErr result HasNoName }
     {
         if self.sticky_log.fault {
             return Err(Error::Io(Device::Write));

@@ -1,6 +1,7 @@
 //! Opening a tree by its name.
 
-ghost use Rattle.std.specs.Prelude.{◌≡◌, ⊤, false};
+ghost use Rattle.std.specs.Prelude.{◌≡◌, ⊤, false, IfErr};
+ghost use Rattle.sled_pagecache.specs.Answers.{HasNoName};
 ghost use Rattle.sled_pagecache.specs.Memory.{IsBounded};
 ghost use Rattle.sled_pagecache.specs.Reads.{ReadsNothing};
 ghost use Rattle.sled_pagecache.specs.Trees.{IsTreeOpened, KeepsFault, Looks, GoesOn, MakesTree, PutsIndex, NamesRoot};
@@ -24,6 +25,7 @@ pub fn open_tree<L: Log>(cache: &mut PageCache<L>, name: IVec) -> Result<PageId,
     ensures keeps { KeepsFault cache.old cache.new result }
     ensures unread { ReadsNothing L.Log cache.old cache.new }
     ensures bounded { IsBounded L.Log cache.new }
+    ensures unnamed { IfErr result HasNoName }
 {
     cache.know_listed();
     if let Some(root) = find_tree(cache, name.as_slice())? {
@@ -34,7 +36,8 @@ pub fn open_tree<L: Log>(cache: &mut PageCache<L>, name: IVec) -> Result<PageId,
 
 // The root of a name, or none where it may be given one.
 fn find_tree<L: Log>(cache: &PageCache<L>, name: &[u8]) -> Result<Option<PageId>, Error>
-    ensures { Looks L.Log cache.now name.now result }
+    ensures looks { Looks L.Log cache.now name.now result }
+    ensures unnamed { IfErr result HasNoName }
 {
     let view = cache.get_meta()?;
     if let Some(root) = view.meta().get_root(name) {
@@ -47,7 +50,8 @@ fn find_tree<L: Log>(cache: &PageCache<L>, name: &[u8]) -> Result<Option<PageId>
 // Makes a tree of a name that has none.
 fn make_tree<L: Log>(cache: &mut PageCache<L>, name: &[u8]) -> Result<PageId, Error>
     requires { cache.old.fault ≡ false }
-    ensures { GoesOn L.Log cache.old (MakesTree ⊤ name.now result) result cache.new }
+    ensures goes { GoesOn L.Log cache.old (MakesTree ⊤ name.now result) result cache.new }
+    ensures unnamed { IfErr result HasNoName }
 {
     let node = Node::default(cache.alloc());
     let (leaf, _) = cache.allocate(node)?;
@@ -58,7 +62,8 @@ fn make_tree<L: Log>(cache: &mut PageCache<L>, name: &[u8]) -> Result<PageId, Er
 fn put_index<L: Log>(cache: &mut PageCache<L>, name: &[u8], leaf: PageId) -> Result<PageId, Error>
     requires clear { cache.old.fault ≡ false }
     requires bounded { IsBounded L.Log cache.old }
-    ensures { GoesOn L.Log cache.old (PutsIndex ⊤ name.now result leaf) result cache.new }
+    ensures goes { GoesOn L.Log cache.old (PutsIndex ⊤ name.now result leaf) result cache.new }
+    ensures unnamed { IfErr result HasNoName }
 {
     let index = Node::new_root(cache.alloc(), leaf)?;
     let (root, _) = cache.allocate(index)?;
@@ -68,7 +73,8 @@ fn put_index<L: Log>(cache: &mut PageCache<L>, name: &[u8], leaf: PageId) -> Res
 // Gives the name its root.
 fn name_root<L: Log>(cache: &mut PageCache<L>, name: &[u8], root: PageId) -> Result<PageId, Error>
     requires { cache.old.fault ≡ false }
-    ensures { GoesOn L.Log cache.old (NamesRoot ⊤ name.now result root) result cache.new }
+    ensures goes { GoesOn L.Log cache.old (NamesRoot ⊤ name.now result root) result cache.new }
+    ensures unnamed { IfErr result HasNoName }
 {
     match cache.cas_root_in_meta(name, None, Some(root))? {
         Ok(()) => Ok(root),

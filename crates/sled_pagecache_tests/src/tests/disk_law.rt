@@ -53,7 +53,7 @@ fn freed_then_crashed(
     later: u32,
     fill: Option<u8>,
 ) -> Result<Disked, Error>
-    ensures { IfOk result (λ new. (first : CacheModel (DiskLog MemDisk ⟦<MemDisk as Disk>⟧)) × (s : State) × (calls : List (Call × Answer)) × IsFlushed ⟦<DiskLog<MemDisk> as Log>⟧ first s × ReopensAfter ⟦<DiskLog<MemDisk> as Log>⟧ s calls config (Ok new)) }
+    ensures { IfOk result (λ new. (first : CacheModel (DiskLog MemDisk ⟦<MemDisk as Disk>⟧)) × (s : State) × (calls : List (Call × Answer)) × (last : CacheModel (DiskLog MemDisk ⟦<MemDisk as Disk>⟧)) × IsFlushed ⟦<DiskLog<MemDisk> as Log>⟧ first s × ReopensAfter ⟦<DiskLog<MemDisk> as Log>⟧ first s calls last config (Ok new)) }
 {
     let mut cache = start_on_a_new_disk(alloc, 4096, config, 0)?;
     let (pid, token) = cache.allocate(Node::default(alloc))?;

@@ -1,6 +1,7 @@
 use Rattle.sled_pagecache.proofs.Reopening.{crash-reopens}
 use Rattle.sled_pagecache.proofs.Names.{changes_of_start, List, [], append-nil, Result, Ok, Err, Error, Update, Event, IsPrefix, Cache, Logged, CrashReopens, Opens, Config, log_after}
 use Rattle.sled_pagecache.specs.Logged.{now}
+use Rattle.sled_pagecache.specs.Rows.{changes_of}
 use Rattle.sled_pagecache.proofs.laws.a_crash_reopens_to_a_prefix.Goals as goal
 
 pub returns-clause-of_a_call : goal.returns-clause-of_a_call
@@ -11,7 +12,7 @@ returns-clause-of_a_call g c = λ old new call answer steps held s is free.
 pub returns-clause-of_calls : goal.returns-clause-of_calls
 returns-clause-of_calls g c = λ old new calls steps held s is free.
     let row = steps.from_each held s is in
-    (row.changes, row.t, row.steps, crash-reopens g.L.Log (λ log t u pages. g.met.L.Log.since_earlier log t u pages is.tells) new.log (g.L.Log.moment old.log) held row.changes (row.stop free).each)
+    (row.outs, row.t, row.steps, crash-reopens g.L.Log (λ log t u pages. g.met.L.Log.since_earlier log t u pages is.tells) new.log (g.L.Log.moment old.log) held (changes_of row.outs) (row.stop free).each)
 
 pub returns-clause-of_opening : goal.returns-clause-of_opening
 returns-clause-of_opening g c = λ told log config held result opens. by told log config held result opens

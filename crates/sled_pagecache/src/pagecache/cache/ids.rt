@@ -1,7 +1,7 @@
 //! The generated ids of a cache.
 
 ghost use Rattle.std.specs.Prelude.{◌≡◌, false, slice_get, IfOk, IfErr, IsOk, Some, ◌+◌};
-ghost use Rattle.sled_pagecache.specs.Answers.{Keeps};
+ghost use Rattle.sled_pagecache.specs.Answers.{HasNoName, Keeps};
 ghost use Rattle.sled_pagecache.specs.Calls.{Steps, IsBlamed};
 ghost use Rattle.sled_pagecache.specs.Ids.{GivesId, IsCovered};
 ghost use Rattle.sled_pagecache.specs.Limits.{counter_pid};
@@ -24,6 +24,7 @@ impl<L: Log> PageCache<L> {
         ensures keeps { Keeps self.now self.now result (λ _. self.now.stamps) }
         ensures token { IfOk result (λ found. (pid_of found.0 ≡ counter_pid) × (slice_get self.now.stamps counter_pid ≡ Some (stamp_of found.0))) }
         ensures always { self.now.fault ≡ false → IsOk result }
+        ensures unnamed { IfErr result HasNoName }
     {
         self.pages.get_idgen()
     }
@@ -47,6 +48,7 @@ impl<L: Log> PageCache<L> {
         ensures bounded { IsBounded L.Log self.new }
         ensures gives { IfOk result (λ _. GivesId L.Log self.old self.new) }
         ensures leaves { IfErr result (LeavesMemory self.old counter_pid self.new L.tells) }
+        ensures unnamed { IfErr result HasNoName }
     {
         let given = self.pages.generate_id(&mut self.accesses);
         let lost = lost_by(&given, COUNTER_PID);

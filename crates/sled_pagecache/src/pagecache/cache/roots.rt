@@ -1,7 +1,7 @@
 //! The named roots of a cache: which page is the root of each named tree.
 
 ghost use Rattle.std.specs.Prelude.{◌≡◌, false, slice_get, IfOk, IfErr, IsOk, OnOk, OnErr, Some};
-ghost use Rattle.sled_pagecache.specs.Answers.{Keeps, root_swapped};
+ghost use Rattle.sled_pagecache.specs.Answers.{HasNoName, NamesOnly, Keeps, root_swapped};
 ghost use Rattle.sled_pagecache.specs.Calls.{Steps, IsBlamed};
 ghost use Rattle.sled_pagecache.specs.Lending.{told_meta};
 ghost use Rattle.sled_pagecache.specs.Limits.{meta_pid};
@@ -33,6 +33,7 @@ impl<L: Log> PageCache<L> {
     pub fn meta_pid_for_name(&self, name: &[u8]) -> Result<PageId, Error>
         ensures step { Steps L.Log self.now (MetaPidForName name.now) (FoundRoot result) self.now }
         ensures keeps { Keeps self.now self.now result (λ _. self.now.stamps) }
+        ensures named { IfErr result (NamesOnly name.now) }
     {
         self.pages.meta_pid_for_name(name)
     }
@@ -61,6 +62,7 @@ impl<L: Log> PageCache<L> {
         ensures accesses { IfOk result (λ swapped. OnOk swapped (AccessesPage self.old meta_pid self.new)) }
         ensures same { IfOk result (λ swapped. OnErr swapped (KeepsMemory self.old self.new)) }
         ensures leaves { IfErr result (LeavesMemory self.old meta_pid self.new L.tells) }
+        ensures unnamed { IfErr result HasNoName }
     {
         let swapped = self
             .pages

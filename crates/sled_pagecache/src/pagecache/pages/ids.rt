@@ -1,7 +1,7 @@
 //! The calls of generated ids.
 
 ghost use Rattle.std.specs.Prelude.{◌≡◌, false, slice_get, IfOk, IfErr, IsOk, Some, ◌+◌};
-ghost use Rattle.sled_pagecache.specs.Answers.{Keeps};
+ghost use Rattle.sled_pagecache.specs.Answers.{HasNoName, Keeps};
 ghost use Rattle.sled_pagecache.specs.Calls.{Steps, IsBlamed};
 ghost use Rattle.sled_pagecache.specs.Limits.{counter_pid};
 ghost use Rattle.sled_pagecache.specs.Ids.{IsCovered, TakesId};
@@ -26,6 +26,7 @@ impl<L: Log> Pages<L> {
         ensures keeps { Keeps self.now self.now result (λ _. self.now.stamps) }
         ensures token { IfOk result (λ found. (pid_of found.0 ≡ counter_pid) × (slice_get self.now.stamps counter_pid ≡ Some (stamp_of found.0))) }
         ensures always { self.now.fault ≡ false → IsOk result }
+        ensures unnamed { IfErr result HasNoName }
     {
         if self.sticky_log.fault {
             return Err(Error::Io(Device::Write));
@@ -34,6 +35,7 @@ impl<L: Log> Pages<L> {
     }
 
     // The next id. Where it needs a new counter, that and all that is pending are made stable first.
+    #[tactic(auto, using(crate::proofs::Refused::no_name))]
     pub fn generate_id(&mut self, accesses: &mut Accesses) -> Result<u64, Error>
         ensures covered { IfOk result (IsCovered L.Log self.new) }
         ensures step { Steps L.Log self.old GenerateId (Generated result) self.new }
@@ -43,6 +45,7 @@ impl<L: Log> Pages<L> {
         ensures unread { ReadsNothing L.Log self.old self.new }
         ensures takes { IfOk result (λ _. TakesId L.Log self.old accesses.old self.new accesses.new) }
         ensures refused { IfErr result (LosesAtMost self.old accesses.old counter_pid self.new accesses.new L.tells) }
+        ensures unnamed { IfErr result HasNoName }
     {
         if self.sticky_log.fault {
             return Err(Error::Io(Device::Write));

@@ -2,7 +2,7 @@
 
 ghost use Rattle.std.specs.Prelude.{◌≡◌, false, slice_get, IfOk, IfErr, IsOk, OnOk, OnErr, Some};
 ghost use Rattle.sled_log.specs.Messages.{effect_of_entry};
-ghost use Rattle.sled_pagecache.specs.Answers.{Keeps, root_swapped};
+ghost use Rattle.sled_pagecache.specs.Answers.{HasNoName, NamesOnly, Keeps, root_swapped};
 ghost use Rattle.sled_pagecache.specs.Cache.{IsResident};
 ghost use Rattle.sled_pagecache.specs.Calls.{Steps, IsBlamed};
 ghost use Rattle.sled_pagecache.specs.Lending.{told_meta};
@@ -33,9 +33,11 @@ impl<L: Log> Pages<L> {
     }
 
     // The root page of a name.
+    #[tactic(auto, using(crate::proofs::Refused::names_none))]
     pub fn meta_pid_for_name(&self, name: &[u8]) -> Result<PageId, Error>
         ensures step { Steps L.Log self.now (MetaPidForName name.now) (FoundRoot result) self.now }
         ensures keeps { Keeps self.now self.now result (λ _. self.now.stamps) }
+        ensures named { IfErr result (NamesOnly name.now) }
     {
         let view = own_roots(self.sticky_log.fault, &self.pages)?;
         if let Some(root) = view.meta().get_root(name) {
@@ -46,6 +48,7 @@ impl<L: Log> Pages<L> {
     }
 
     // Gives a name another root page, or takes it out, where the root is the old one.
+    #[tactic(auto, using(crate::proofs::Refused::no_name))]
     pub fn cas_root_in_meta(
         &mut self,
         accesses: &mut Accesses,
@@ -61,6 +64,7 @@ impl<L: Log> Pages<L> {
         ensures takes { IfOk result (λ swapped. OnOk swapped (TakesPage self.old accesses.old meta_pid self.new accesses.new)) }
         ensures same { IfOk result (λ swapped. OnErr swapped ((self.new ≡ self.old) × (accesses.new ≡ accesses.old))) }
         ensures refused { IfErr result (LosesAtMost self.old accesses.old meta_pid self.new accesses.new L.tells) }
+        ensures unnamed { IfErr result HasNoName }
     {
         let view = own_roots(self.sticky_log.fault, &self.pages)?;
         match judge_root(view.meta(), name, old, new)? {

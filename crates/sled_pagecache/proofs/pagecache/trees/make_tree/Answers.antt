@@ -5,18 +5,18 @@ use Rattle.sled_pagecache.proofs.TreeSteps.{ends-with, goes-on}
 use Rattle.sled_pagecache.specs.Trees.{MakesTree, PutsIndex}
 use Rattle.sled_pagecache.proofs.pagecache.trees.make_tree.Goals as goal
 
-pub returns-in_err-leaf : goal.returns-in_err-leaf
-returns-in_err-leaf g c =
+pub returns-in_err-leaf-clause-goes : goal.returns-in_err-leaf-clause-goes
+returns-in_err-leaf-clause-goes g c =
     let e = c.in_err-leaf.field-0.0 in
     let done = c.in_err-leaf.ensures in
     rw (refused-is c.from_residual.result _ c.from_residual.ensures.1)
     (ends-with g.L.Log c.args.cache.now c.allocate.new.self empty_leaf e (MakesTree ⊤ c.args.name.now (Err e)) c.requires
-    (record { step = rw c.default-node.ensures at done.step; bytes = tt; faults = done.blame; covered = tt }) done.keeps done.unread done.leaves done.bounded (Err e, [], refl, (refl, refl)))
+    (record { step = rw c.default-node.ensures at done.step; bytes = tt; faults = done.blame; covered = tt; keeps = done.keeps }) done.unread done.leaves done.bounded (Err e, [], refl, (refl, refl)))
 
-pub returns : goal.returns
-returns g c =
+pub returns-clause-goes : goal.returns-clause-goes
+returns-clause-goes g c =
     let made : ℕ × Token = (c.in_ok-leaf.leaf, c.in_ok-leaf.field-0-1) in
     let done = c.in_ok-leaf.ensures in
     let result = c.put_index.result in
     goes-on g.L.Log c.args.cache.now c.allocate.new.self c.put_index.new.cache empty_leaf made result (PutsIndex ⊤ c.args.name.now result made.0) (MakesTree ⊤ c.args.name.now result)
-    (record { step = rw c.default-node.ensures at done.step; bytes = tt; faults = done.blame; covered = tt }) done.keeps done.unread (done.accesses, done.resident) c.put_index.ensures (λ calls are. (Ok made, calls, refl, are))
+    (record { step = rw c.default-node.ensures at done.step; bytes = tt; faults = done.blame; covered = tt; keeps = done.keeps }) done.unread (done.accesses, done.resident) c.put_index.ensures.goes (λ calls are. (Ok made, calls, refl, are))

@@ -3,19 +3,19 @@ use Rattle.sled_pagecache.proofs.Refused.{refused-is}
 use Rattle.sled_pagecache.proofs.TreeSteps.{same-fault, swaps-root}
 use Rattle.sled_pagecache.proofs.pagecache.trees.name_root.Goals as goal
 
-pub returns-in_err-cas_root_in_meta : goal.returns-in_err-cas_root_in_meta
-returns-in_err-cas_root_in_meta g c =
+pub returns-in_err-cas_root_in_meta-clause-goes : goal.returns-in_err-cas_root_in_meta-clause-goes
+returns-in_err-cas_root_in_meta-clause-goes g c =
     let e = c.in_err-cas_root_in_meta.field-0.0 in
     let done = c.in_err-cas_root_in_meta.ensures in
     rw (refused-is c.from_residual.result _ c.from_residual.ensures.1)
-    (swaps-root g.L.Log c.args.cache.now c.cas_root_in_meta.new.self c.args.name.now c.args.root (Err e) (Err e) c.requires (record { step = done.step; bytes = tt; faults = done.blame; covered = tt }) done.keeps done.unread done.leaves done.bounded refl (same-fault (Result (Unit {0}) (Option ℕ)) ℕ e))
+    (swaps-root g.L.Log c.args.cache.now c.cas_root_in_meta.new.self c.args.name.now c.args.root (Err e) (Err e) c.requires (record { step = done.step; bytes = tt; faults = done.blame; covered = tt; keeps = done.keeps }) done.unread done.leaves done.bounded refl (same-fault (Result (Unit {0}) (Option ℕ)) ℕ e))
 
-pub returns-in-Ok : goal.returns-in-Ok
-returns-in-Ok g c =
+pub returns-in-Ok-clause-goes : goal.returns-in-Ok-clause-goes
+returns-in-Ok-clause-goes g c =
     let done = rw c.in-Ok.is at c.in_ok-cas_root_in_meta.ensures in
-    swaps-root g.L.Log c.args.cache.now c.cas_root_in_meta.new.self c.args.name.now c.args.root (Ok (Ok c.in-Ok.field-0)) (Ok c.args.root) c.requires (record { step = done.step; bytes = tt; faults = done.blame; covered = tt }) done.keeps done.unread done.accesses done.bounded refl refl
+    swaps-root g.L.Log c.args.cache.now c.cas_root_in_meta.new.self c.args.name.now c.args.root (Ok (Ok c.in-Ok.field-0)) (Ok c.args.root) c.requires (record { step = done.step; bytes = tt; faults = done.blame; covered = tt; keeps = done.keeps }) done.unread done.accesses done.bounded refl refl
 
-pub returns-in-Err : goal.returns-in-Err
-returns-in-Err g c =
+pub returns-in-Err-clause-goes : goal.returns-in-Err-clause-goes
+returns-in-Err-clause-goes g c =
     let done = rw c.in-Err.is at c.in_ok-cas_root_in_meta.ensures in
-    swaps-root g.L.Log c.args.cache.now c.cas_root_in_meta.new.self c.args.name.now c.args.root (Ok (Err c.in-Err.field-0)) _ c.requires (record { step = done.step; bytes = tt; faults = done.blame; covered = tt }) done.keeps done.unread done.same done.bounded (tt, refl) refl
+    swaps-root g.L.Log c.args.cache.now c.cas_root_in_meta.new.self c.args.name.now c.args.root (Ok (Err c.in-Err.field-0)) _ c.requires (record { step = done.step; bytes = tt; faults = done.blame; covered = tt; keeps = done.keeps }) done.unread done.same done.bounded (tt, refl) refl

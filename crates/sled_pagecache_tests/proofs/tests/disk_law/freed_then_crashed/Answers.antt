@@ -10,11 +10,11 @@ use Rattle.sled_pagecache.specs.declared.pagecache.call.Call.{Call}
 use Rattle.sled_pagecache.specs.declared.pagecache.config.Config.{Config}
 use Rattle.sled_pagecache_tests.proofs.tests.disk_law.freed_then_crashed.Goals as goal
 
-if-opened : {L : Type 0} (g : Ghosts L) (config : Config) (first : Cache L) (s : State) (calls : List (Call × Answer)) (result : Result (Cache L) Error)
-    → IsFlushed g first s → ReopensAfter g s calls config result
-    → IfOk result (λ new. (first : Cache L) × (s : State) × (calls : List (Call × Answer)) × IsFlushed g first s × ReopensAfter g s calls config (Ok new))
-if-opened g config first s calls (Ok new) flushed after = (first, s, calls, flushed, after)
-if-opened g config first s calls (Err e) flushed after = tt
+if-opened : {L : Type 0} (g : Ghosts L) (config : Config) (first last : Cache L) (s : State) (calls : List (Call × Answer)) (result : Result (Cache L) Error)
+    → IsFlushed g first s → ReopensAfter g first s calls last config result
+    → IfOk result (λ new. (first : Cache L) × (s : State) × (calls : List (Call × Answer)) × (last : Cache L) × IsFlushed g first s × ReopensAfter g first s calls last config (Ok new))
+if-opened g config first last s calls (Ok new) flushed after = (first, s, calls, last, flushed, after)
+if-opened g config first last s calls (Err e) flushed after = tt
 
 pub returns : goal.returns
 returns c =
@@ -25,5 +25,5 @@ returns c =
     let clear : c.flush.new.self.fault ≡ false = c.in_ok-flush.ensures.keeps.fault ∙ ap (λ b. b || false) added in
     let flushed = c.a_cache_is_flushed.ensures clear c.in_ok-flush.ensures.stable two.held_then two.out.state two.is in
     let row = c.in_ok-free_in_a_batch.ensures in
-    if-opened _ c.args.config c.flush.new.self two.out.state row.0 c.reopen_after_a_crash.result flushed
+    if-opened _ c.args.config c.flush.new.self c.free_in_a_batch.new.cache two.out.state row.0 c.reopen_after_a_crash.result flushed
     (c.reopen_after_a_crash.ensures c.flush.new.self row.0 two.out.state flushed c.call_behind-n.ensures row.1)

@@ -13,7 +13,7 @@ returns c =
       c.in-Ok.cache,
       last,
       ((refl, search rules), record { settings = opened.settings; opens = λ sound held logged. opened.opens sound tt held logged }),
-      (last, record { step = given.step; bytes = tt; faults = given.blame; covered = given.covered }, refl),
+      (last, record { step = given.step; bytes = tt; faults = given.blame; covered = given.covered; keeps = (given.keeps, given.id) }, refl),
       record {
         at = clock_of last.log;
         later = omega arith;

@@ -33,4 +33,5 @@ returns g c =
       bounded = made.bounded;
       accesses = made.accessed;
       leaves = made.leaves;
+      unnamed = done.unnamed;
     })

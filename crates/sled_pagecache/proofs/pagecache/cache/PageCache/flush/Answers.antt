@@ -25,4 +25,5 @@ returns g c =
       number = done.number;
       bounded = flushed-bounded g.L.Log inside.pages new inside.accesses c.self.invariant done.same done.step.opening.config c.know_sizes.ensures;
       same = flushed-same g.L.Log inside.pages new lru done.same;
+      unnamed = done.unnamed;
     })

@@ -38,4 +38,5 @@ returns g c =
       bounded = made.bounded;
       gives = made.gives;
       leaves = made.leaves;
+      unnamed = done.unnamed;
     })

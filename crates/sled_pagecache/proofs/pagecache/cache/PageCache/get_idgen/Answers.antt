@@ -14,4 +14,5 @@ returns g c =
       keeps = keeps-moved g.L.Log inside.pages inside.pages lru (relisted inside.pages lru) same result (λ _. inside.pages.stamps) done.keeps (on-kept inside.pages inside.pages lru result);
       token = done.token;
       always = done.always;
+      unnamed = done.unnamed;
     })

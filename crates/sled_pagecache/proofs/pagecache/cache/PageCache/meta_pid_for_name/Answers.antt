@@ -12,4 +12,5 @@ returns g c =
     rw (← c.self.view_is) (record {
       step = steps-moved g.L.Log inside.pages inside.pages lru (relisted inside.pages lru) same (MetaPidForName c.args.name.now) (FoundRoot result) done.step;
       keeps = keeps-moved g.L.Log inside.pages inside.pages lru (relisted inside.pages lru) same result (λ _. inside.pages.stamps) done.keeps (on-kept inside.pages inside.pages lru result);
+      named = done.named;
     })

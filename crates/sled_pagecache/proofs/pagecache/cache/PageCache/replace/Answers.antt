@@ -39,4 +39,5 @@ returns g c =
       accesses = made.accessed;
       same = made.same;
       leaves = made.leaves;
+      unnamed = done.unnamed;
     })

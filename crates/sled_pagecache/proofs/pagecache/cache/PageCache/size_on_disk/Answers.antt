@@ -13,4 +13,5 @@ returns g c =
       step = steps-moved g.L.Log inside.pages inside.pages lru (relisted inside.pages lru) same SizeOnDisk (Sized result) done.step;
       keeps = keeps-moved g.L.Log inside.pages inside.pages lru (relisted inside.pages lru) same result (λ _. inside.pages.stamps) done.keeps (on-kept inside.pages inside.pages lru result);
       size = done.size;
+      unnamed = done.unnamed;
     })

@@ -7,7 +7,7 @@ use Rattle.sled_pagecache.proofs.Counted.{added-at, behind-counter, other-at, sp
 use Rattle.sled_pagecache.proofs.InMemory.{loses-nothing, loses-none, stay-view, past-view, free-at, takes-node, adds-node}
 use Rattle.sled_pagecache.proofs.Lookups.{put-back}
 use Rattle.sled_pagecache.proofs.Putting.{blamed}
-use Rattle.sled_pagecache.proofs.Refused.{refused-is}
+use Rattle.sled_pagecache.proofs.Refused.{no_name, refused-is}
 use Rattle.sled_pagecache.proofs.Standing.{beside-long, resident-set, resident-add, one-short}
 use Rattle.sled_pagecache.proofs.Tables.{consistent-same, consistent-put, consistent-new, marks-begun, free-add}
 use Rattle.sled_pagecache.proofs.pagecache.pages.Pages.allocate.Goals as goal
@@ -66,6 +66,7 @@ returns-in_err-pid g c =
         past-view inside.next inside.next inside.config inside.recovered inside.sticky_log inside.sticky_log inside.pages.pages (length inside.pages.pages) (omega arith),
         loses-none g.L.Log.tells _ c.args.accesses.now (length inside.pages.pages) _ c.add_page.new.accesses c.if-stuck.false refusal refused.touched (stay-view inside.next inside.next inside.config inside.recovered inside.sticky_log c.add_page.new.sticky_log inside.pages.pages c.add_page.new.pages.pages refused.left) refused.unasked,
       );
+      unnamed = no_name c.in_err-pid.field-0.0;
     })
 
 pub returns-in_default : goal.returns-in_default
@@ -87,6 +88,7 @@ returns-in_default g c =
       resident = ap (λ (l : List Page). slice_get (resident_in l) c.in_ok-pid.pid) added.is ∙ ap (λ n. slice_get (resident_in (table ++ added.page ∷ [])) n) done.pid ∙ resident-add table added.page c.args.node added.holds;
       takes = adds-node inside.next inside.config inside.recovered inside.sticky_log c.add_page.new.sticky_log table c.add_page.new.pages.pages added.page c.args.node added.holds added.is c.args.accesses.now c.add_page.new.accesses c.in_ok-pid.pid done.pid done.accessed;
       refused = tt;
+      unnamed = tt;
     })
 
 pub returns-then-stuck-clause-refused : goal.returns-then-stuck-clause-refused
@@ -146,6 +148,7 @@ returns-in_err-put_page g c =
         free-at inside.next inside.next inside.config inside.recovered inside.sticky_log inside.sticky_log table pid last.page (last-at _ _ pid last) last.free,
         loses-none g.L.Log.tells _ c.args.accesses.now pid _ c.put_page.new.accesses c.if-stuck.false refusal refused.touched (stay-view inside.next inside.next inside.config inside.recovered inside.sticky_log c.put_page.new.sticky_log table (slice_set table pid after) back) refused.unasked,
       );
+      unnamed = no_name c.in_err-put_page.field-0.0;
     })
 
 pub invariant_of-self-2 : goal.invariant_of-self-2
@@ -184,4 +187,5 @@ returns g c =
       resident = resident-set _ pid after (slice_get_within table pid last.page found) (ap is_resident done.holds);
       takes = takes-node inside.next inside.config inside.recovered inside.sticky_log c.put_page.new.sticky_log table pid last.page after found c.args.accesses.now c.put_page.new.accesses c.args.node done.holds done.accessed;
       refused = tt;
+      unnamed = tt;
     })

@@ -6,7 +6,7 @@ use Rattle.sled_pagecache.proofs.InMemory.{loses-nothing, loses-none, stay-view,
 use Rattle.sled_pagecache.proofs.Judging.{free-swap, judged-by, judged-refused, judged-gone, judged-stale, fresh-within, fresh-at, fresh-answered, keeps-fresh}
 use Rattle.sled_pagecache.proofs.Lookups.{behind-own, put-back}
 use Rattle.sled_pagecache.proofs.Putting.{blamed}
-use Rattle.sled_pagecache.proofs.Refused.{refused-is}
+use Rattle.sled_pagecache.proofs.Refused.{no_name, refused-is}
 use Rattle.sled_pagecache.proofs.Replacing.{swaps-refused, swaps-done}
 use Rattle.sled_pagecache.proofs.Standing.{beside-long, resident-set, one-long, one-short}
 use Rattle.sled_pagecache.proofs.Tables.{consistent-same, consistent-put, marks-begun}
@@ -111,6 +111,7 @@ returns-in_err-free_page g c =
       takes = tt;
       same = tt;
       refused = loses-none g.L.Log.tells _ c.args.accesses.now c.args.pid _ c.free_page.new.accesses fresh.clear refusal refused.touched (stay-view inside.next inside.next inside.config inside.recovered inside.sticky_log c.free_page.new.sticky_log table (slice_set table c.args.pid after) back) refused.unasked;
+      unnamed = no_name c.in_err-free_page.field-0.0;
     })
 
 pub returns : goal.returns
@@ -136,4 +137,5 @@ returns g c =
       takes = takes-page inside.next inside.config inside.recovered inside.sticky_log c.free_page.new.sticky_log table c.args.pid q after fresh.at c.args.accesses.now c.free_page.new.accesses done.accessed;
       same = tt;
       refused = tt;
+      unnamed = tt;
     })

@@ -9,7 +9,7 @@ use Rattle.sled_pagecache.proofs.LinkTables.{refused-consistent, taken-consisten
 use Rattle.sled_pagecache.proofs.LinkTests.{judged-tests, damage-judged, refused-tests, taken-tests, refused-damage, taken-damage}
 use Rattle.sled_pagecache.proofs.Lookups.{behind-own}
 use Rattle.sled_pagecache.proofs.PagingIn.{page-kept-at, page-own-at, stamps-same, reads-pulled}
-use Rattle.sled_pagecache.proofs.Refused.{refused-is}
+use Rattle.sled_pagecache.proofs.Refused.{no_name, refused-is}
 use Rattle.sled_pagecache.specs.declared.pagecache.call.Call.TheVariants as call
 use Rattle.sled_pagecache.proofs.pagecache.pages.Pages.link.Goals as goal
 
@@ -133,6 +133,7 @@ returns-in_err-pull_and_link g c =
       takes = tt;
       same = tt;
       refused = loses-page g.L.Log.tells inside.next inside.config inside.recovered inside.sticky_log c.pull_and_link.new.sticky_log inside.pages.pages c.args.pid q c.pull_and_link.new.page fresh.at c.args.accesses.now c.pull_and_link.new.accesses fresh.clear done.left.1 refusal done.lost done.touched done.unasked;
+      unnamed = no_name c.in_err-pull_and_link.field-0.0;
     })
 
 pub returns : goal.returns
@@ -160,4 +161,5 @@ returns g c =
       takes = takes-page inside.next inside.config inside.recovered inside.sticky_log c.pull_and_link.new.sticky_log inside.pages.pages c.args.pid q c.pull_and_link.new.page fresh.at c.args.accesses.now c.pull_and_link.new.accesses done.accessed;
       same = tt;
       refused = tt;
+      unnamed = tt;
     })

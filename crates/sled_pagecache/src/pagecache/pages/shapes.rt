@@ -1,0 +1,42 @@
+//! The shape of the pages.
+
+ghost use Rattle.std.specs.Prelude.{◌≡◌, IfOk, map};
+ghost use Rattle.sled_pagecache.specs.Shapes.{Shows, shape_of_kept};
+
+use super::Pages;
+use crate::pagecache::pagetable::PageTable;
+use crate::pagecache::shape::{PageShape, Shape, kind_of};
+use sled_base::PageId;
+use sled_log::Log;
+use std::alloc::{AllocError, Global};
+
+impl<L: Log> Pages<L> {
+    // The stamp and the kind of each page, the next id, and whether a write fault is kept.
+    pub fn shape(&self) -> Result<Shape, AllocError>
+        ensures { IfOk result (Shows L.Log self.now) }
+    {
+        let pages = shapes_of(self.alloc, &self.pages)?;
+        Ok(Shape {
+            pages,
+            next: self.next,
+            fault: self.sticky_log.fault,
+        })
+    }
+}
+
+fn shapes_of(alloc: Global, pages: &PageTable) -> Result<Vec<PageShape>, AllocError>
+    ensures { IfOk result (λ shapes. shapes.items ≡ map shape_of_kept pages.now.pages) }
+{
+    let count = pages.len();
+    let mut shapes = Vec::with_capacity(alloc, count)?;
+    for pid in 0..count {
+        let Some(page) = pages.get(pid as PageId) else {
+            unreachable!()
+        };
+        shapes.push(PageShape {
+            stamp: page.stamp,
+            kind: kind_of(&page.kept),
+        })?;
+    }
+    Ok(shapes)
+}
