@@ -1,0 +1,6 @@
+pub mod Unread
+pub mod Trees
+pub mod Replays
+pub mod Replaying
+pub mod Ids
+pub mod Batching

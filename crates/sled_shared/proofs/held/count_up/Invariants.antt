@@ -1,0 +1,13 @@
+-- The shares that were merged, and those that are left, are all of them.
+use Rattle.std.proofs.Common.{◌≡◌, ◌+◌, length, sum}
+use Rattle.std.proofs.Common.{vec_len}
+use Rattle.sled_shared.proofs.held.count_up.Given as goal
+
+abbrev pub invariant-loop-share : goal.invariant-loop-share
+invariant-loop-share g l = record {
+  parts : l.whole.parts + length l.left.items ≡ g.K.Ledger.parts;
+  amount : l.whole.amount + sum l.left.items ≡ sum l.fn.shares.items;
+}
+
+abbrev pub decreases-loop-share : goal.decreases-loop-share
+decreases-loop-share g l = vec_len l.left

@@ -1,0 +1,83 @@
+-- The book of a round, and what makes it legal.
+use Rattle.std.specs.Prelude.{◌≡◌, ℕ, ◌+◌, ◌≤◌, false, ◌∷◌, [], List, ◌++◌, Ok, map, flat_map, ⊤}
+use Rattle.sled_log.specs.Contents.{Update}
+use Rattle.sled_log.specs.Events.{Event}
+use Rattle.sled_pagecache.specs.Shapes.{Shape, shape_of}
+use Rattle.sled_pagecache.specs.State.{State}
+use Rattle.sled_pagecache.specs.Step.{Outcome, Step}
+use Rattle.sled_pagecache.specs.Trees.{MadeCalls}
+use Rattle.sled_pagecache.specs.declared.pagecache.call.Answer.{Answer}
+use Rattle.sled_pagecache.specs.declared.pagecache.call.Answer.TheVariants.{Generated}
+use Rattle.sled_pagecache.specs.declared.pagecache.call.Call.{Call}
+use Rattle.sled_shared.specs.Calls.{Answered, Entry, IsEntry, Reply}
+
+-- how many calls the books before it have, the shape in which it opened, and the calls with their answers
+pub record Book : Type 0 where
+  pub earlier : ℕ
+  pub opening : Shape
+  pub entries : List Entry
+
+abbrev pub book : ℕ → Shape → List Entry → Book
+book earlier opening entries = record { earlier = earlier; opening = opening; entries = entries }
+
+-- The entries are these calls, in order.
+abbrev pub AreEntries : List Entry → MadeCalls → Type 0
+AreEntries [] calls = calls ≡ []
+AreEntries (e ∷ entries) calls = (first rest : MadeCalls) × IsEntry e.call e.answer first × (calls ≡ first ++ rest) × AreEntries entries rest
+
+-- whatever room a log has
+abbrev pub any_room : Event Update → Type 0
+any_room change = ⊤
+
+-- From s a cache over some log may give this answer to the call, and go on to t.
+abbrev pub StepsTo : ℕ → State → Call → Answer → State → Type 0
+StepsTo interval s call answer t = (messages : ℕ → ℕ) × (out : Outcome) × Step messages any_room interval s call answer out × (t ≡ out.state)
+
+-- the same of calls in a row
+abbrev pub RunsCalls : ℕ → State → MadeCalls → State → Type 0
+RunsCalls interval first [] last = last ≡ first
+RunsCalls interval first (made ∷ calls) last = (mid : State) × StepsTo interval first made.0 made.1 mid × RunsCalls interval mid calls last
+
+-- and of entries
+abbrev pub Runs : ℕ → State → List Entry → State → Type 0
+Runs interval first [] last = last ≡ first
+Runs interval first (e ∷ entries) last =
+    (calls : MadeCalls) × (mid : State) × IsEntry e.call e.answer calls × RunsCalls interval first calls mid × Runs interval mid entries last
+
+-- There is a state of the book's opening shape, with no batch open, from which its answers, in order, are those of a cache with such an
+-- interval of ids, and the replay ends in last.
+abbrev pub ReplaysTo : ℕ → Book → State → Type 0
+ReplaysTo interval b last = (first : State) × (shape_of first ≡ b.opening) × (first.batch ≡ false) × Runs interval first b.entries last
+
+abbrev pub IsLegal : Book → Type 0
+IsLegal b = (interval : ℕ) × (last : State) × ReplaysTo interval b last
+
+-- the ids that an entry gives
+abbrev pub ids_given : Reply → List ℕ
+ids_given (Answered (Generated (Ok id))) = id ∷ []
+ids_given answer = []
+
+abbrev pub ids_of : Book → List ℕ
+ids_of b = flat_map (λ e. ids_given e.answer) b.entries
+
+-- rising numbers, none below low, and all below high
+abbrev pub RisesWithin : ℕ → List ℕ → ℕ → Type 0
+RisesWithin low [] high = low ≤ high
+RisesWithin low (id ∷ ids) high = (low ≤ id) × RisesWithin (id + 1) ids high
+
+-- The shape is that of a state. With a write error kept, what the pages hold isn't said.
+pub record IsShapeOf (s : State) (shape : Shape) : Type 0 where
+  pub stamps : map (λ page. page.stamp) shape.pages ≡ map (λ page. page.stamp) s.pages
+  pub next : shape.next ≡ s.next
+  pub fault : shape.fault ≡ s.fault
+  pub is : s.fault ≡ false → shape_of s ≡ shape
+
+-- the first of these books, if there is one, opens as a state is
+abbrev pub OpensAs : State → List Book → Type 0
+OpensAs s [] = ⊤
+OpensAs s (b ∷ books) = IsShapeOf s b.opening
+
+-- The books of one opening: each is legal, and the next one opens in the shape in which it closed.
+abbrev pub AreRounds : ℕ → List Book → Type 0
+AreRounds interval [] = ⊤
+AreRounds interval (b ∷ books) = (last : State) × ReplaysTo interval b last × OpensAs last books × AreRounds interval books

@@ -1,0 +1,109 @@
+-- What is entered of a call, and which calls of the page cache in a row that is, each with its answer.
+use Rattle.std.specs.Prelude.{◌≡◌, ◌⊎◌, ℕ, List, [], ◌∷◌, ◌++◌, Result, Ok, Err, ⊤}
+use Rattle.std.specs.Global.{Vec}
+use Rattle.sled_base.specs.Errors.{error_of}
+use Rattle.sled_base.specs.Order.{Bytes}
+use Rattle.sled_base.specs.declared.types.Error.{Error}
+use Rattle.sled_base.specs.declared.types.Refusal.{Refusal}
+use Rattle.sled_pagecache.specs.Atomic.{with_pin}
+use Rattle.sled_pagecache.specs.Trees.{MadeCalls, AreCallsOf}
+use Rattle.sled_pagecache.specs.declared.pagecache.call.Answer.{Answer}
+use Rattle.sled_pagecache.specs.declared.pagecache.call.Answer.TheVariants.{Allocated, Got, Linked, Replaced, Freed, FoundRoot, RootSwapped, Generated, Flushed, Pinned, Sealed, Cancelled}
+use Rattle.sled_pagecache.specs.declared.pagecache.call.Call.{Call}
+use Rattle.sled_pagecache.specs.declared.pagecache.call.Call.TheVariants as call
+use Rattle.sled_shared.specs.declared.calls.Swap.{Swap}
+use Rattle.sled_shared.specs.declared.calls.Swap.TheVariants as swap
+use Rattle.sled_shared.specs.declared.calls.SwapAnswer.{SwapAnswer}
+use Rattle.sled_shared.specs.declared.calls.SwapAnswer.TheVariants as swapped
+
+-- what was asked: a call of the page cache, or several of them in a row
+pub data Request : Type 0 where
+  Asked : Call → Request
+  OpenTree : Bytes → Request
+  Batch : List Swap → Request
+
+-- What was answered. A batch that failed has the answers before the fault.
+pub data Reply : Type 0 where
+  Answered : Answer → Reply
+  Opened : Result ℕ Error → Reply
+  Batched : Result (List SwapAnswer) (Error × List SwapAnswer) → Reply
+
+pub record Entry : Type 0 where
+  pub call : Request
+  pub answer : Reply
+
+abbrev pub entry : Request → Reply → Entry
+entry call answer = record { call = call; answer = answer }
+
+-- the answer is this refusal, of a batch before any of its swaps
+abbrev pub IsRefusal : Reply → Error → Type 0
+IsRefusal (Answered (Allocated result)) e = result ≡ Err e
+IsRefusal (Answered (Got result)) e = result ≡ Err e
+IsRefusal (Answered (Linked result)) e = result ≡ Err e
+IsRefusal (Answered (Replaced result)) e = result ≡ Err e
+IsRefusal (Answered (Freed result)) e = result ≡ Err e
+IsRefusal (Answered (FoundRoot result)) e = result ≡ Err e
+IsRefusal (Answered (RootSwapped result)) e = result ≡ Err e
+IsRefusal (Answered (Generated result)) e = result ≡ Err e
+IsRefusal (Answered (Flushed result)) e = result ≡ Err e
+IsRefusal (Opened result) e = result ≡ Err e
+IsRefusal (Batched result) e = result ≡ Err (e, [])
+-- nobody asks for another
+IsRefusal answer e = ⊥
+
+-- the call of the cache that a swap of a batch is, and its answer
+abbrev pub call_of : Swap → Call
+call_of (swap.Link old link) = call.Link old link
+call_of (swap.Replace old node) = call.Replace old node
+call_of (swap.Free old) = call.Free old
+
+abbrev pub answer_of : SwapAnswer → Answer
+answer_of (swapped.Link answer) = Linked (Ok answer)
+answer_of (swapped.Replace answer) = Replaced (Ok answer)
+answer_of (swapped.Free answer) = Freed (Ok answer)
+
+-- its answer where it is refused
+abbrev pub refusal_of : Swap → Error → Answer
+refusal_of (swap.Link old link) e = Linked (Err e)
+refusal_of (swap.Replace old node) e = Replaced (Err e)
+refusal_of (swap.Free old) e = Freed (Err e)
+
+-- These calls were made of the swaps: all of them, or those before the one that was refused, and it.
+abbrev pub AreSwaps : List Swap → Result (Unit {0}) Error → List SwapAnswer → MadeCalls → Type 0
+AreSwaps [] (Ok done) [] calls = calls ≡ []
+AreSwaps [] (Ok done) (answer ∷ answers) calls = ⊥
+AreSwaps [] (Err e) answers calls = ⊥
+AreSwaps (one ∷ swaps) (Ok done) [] calls = ⊥
+AreSwaps (one ∷ swaps) (Err e) [] calls = calls ≡ (call_of one, refusal_of one e) ∷ []
+AreSwaps (one ∷ swaps) done (answer ∷ answers) calls = (rest : MadeCalls) × (calls ≡ (call_of one, answer_of answer) ∷ rest) × AreSwaps swaps done answers rest
+
+-- how swaps in a row ended
+abbrev pub answered : Result (Unit {0}) Refusal → Result (Unit {0}) Error
+answered (Ok done) = Ok done
+answered (Err refusal) = Err (error_of refusal)
+
+-- and of a batch of them, with the answers of those that were made
+abbrev pub with_answers : Result (Unit {0}) Error → List SwapAnswer → Result (List SwapAnswer) (Error × List SwapAnswer)
+with_answers (Ok done) answers = Ok answers
+with_answers (Err e) answers = Err (e, answers)
+
+-- a batch's answer, with its list as contracts see one
+abbrev pub batched : Result (Vec SwapAnswer) (Error × Vec SwapAnswer) → Result (List SwapAnswer) (Error × List SwapAnswer)
+batched (Ok answers) = Ok answers.items
+batched (Err (e, answers)) = Err (e, answers.items)
+
+-- The batch is opened, the swaps are made, and it is sealed. Where a swap is refused it is cancelled, and what that answers is passed over.
+abbrev pub IsBatch : List Swap → Result (List SwapAnswer) (Error × List SwapAnswer) → MadeCalls → Type 0
+IsBatch swaps (Ok answers) calls = (inner : MadeCalls) × AreSwaps swaps (Ok tt) answers inner × (calls ≡ with_pin (inner ++ (call.Seal, Sealed (Ok tt)) ∷ []))
+IsBatch swaps (Err (e, answers)) calls =
+    ((answers ≡ []) × (calls ≡ (call.Pin, Pinned (Err e)) ∷ []))
+    ⊎ ((inner : MadeCalls) × AreSwaps swaps (Ok tt) answers inner × (calls ≡ with_pin (inner ++ (call.Seal, Sealed (Err e)) ∷ [])))
+    ⊎ ((inner : MadeCalls) × (closed : Result (Unit {0}) Error) × AreSwaps swaps (Err e) answers inner × (calls ≡ with_pin (inner ++ (call.Cancel, Cancelled closed) ∷ [])))
+
+-- an entry is these calls
+abbrev pub IsEntry : Request → Reply → MadeCalls → Type 0
+IsEntry (Asked asked) (Answered answer) calls = calls ≡ (asked, answer) ∷ []
+IsEntry (OpenTree name) (Opened result) calls = AreCallsOf ⊤ name result calls
+IsEntry (Batch swaps) (Batched result) calls = IsBatch swaps result calls
+-- what was asked gets no other answer
+IsEntry asked answer calls = ⊥

@@ -1,0 +1,101 @@
+-- A page cache with the book of its calls, and what a call does to them.
+use Rattle.std.specs.Prelude.{◌≡◌, ◌==◌, ℕ, ◌+◌, ◌-◌, ◌^◌, ◌<◌, ◌∷◌, [], ◌++◌, ◌||◌, ◌⊎◌, Bool, false, MatchBool, length, nat_le}
+use Rattle.sled_base.specs.declared.types.Error.TheVariants.{Unsupported, OutOfMemory}
+use Rattle.sled_base.specs.declared.types.Why.TheVariants.{BookFull}
+use Rattle.sled_log.specs.declared.log.Log.{Ghosts}
+use Rattle.sled_pagecache.specs.Cache.{Cache, IsIn}
+use Rattle.sled_pagecache.specs.Logged.{Logged}
+use Rattle.sled_pagecache.specs.Rows.{AreMade, StepInRow}
+use Rattle.sled_pagecache.specs.Shapes.{Shows}
+use Rattle.sled_pagecache.specs.State.{State}
+use Rattle.sled_pagecache.specs.Trees.{IsKnown, MadeCalls}
+use Rattle.sled_shared.specs.Book.{Book, book, AreEntries, IsShapeOf, ReplaysTo}
+use Rattle.sled_shared.specs.Calls.{IsEntry, IsRefusal, Reply, Request, entry}
+
+-- what a contract sees of the locked value: the cache, the book, its limit, the shares given out and those left
+pub record Held (L : Type 0) : Type 0 where
+  pub cache : Cache L
+  pub book : Book
+  pub limit : ℕ
+  pub given : ℕ
+  pub left : ℕ
+
+abbrev pub held : {L : Type 0} → Cache L → Book → ℕ → ℕ → ℕ → Held L
+held cache b limit given left = record { cache = cache; book = b; limit = limit; given = given; left = left }
+
+-- how many calls were entered since the opening
+abbrev pub calls_of : Book → ℕ
+calls_of b = b.earlier + length b.entries
+
+module _ {L : Type 0} (g : Ghosts L) (known : Type 0) where
+  -- The book is one of this cache: its calls were made one after another, of a cache that had its opening shape, and left this one.
+  pub record IsBookOf (b : Book) (cache : Cache L) : Type 0 where
+    pub opened : Cache L
+    pub shows : Shows g opened b.opening
+    pub closed : opened.batch ≡ false
+    pub state : known → g.tells → IsKnown g opened
+    pub calls : MadeCalls
+    pub are : AreEntries b.entries calls
+    pub made : AreMade g opened calls cache
+
+  -- What the type keeps. The ledger's total is the number of calls, and the shares given out have all of it, one part each.
+  pub record IsSound (h : Held L) (total parts amount all : ℕ) : Type 0 where
+    pub of : IsBookOf h.book h.cache
+    pub closed : h.cache.batch ≡ false
+    pub counted : total ≡ calls_of h.book
+    pub fits : calls_of h.book < 2 ^ 64
+    pub left : parts ≡ h.left
+    pub idle : amount ≡ 0
+    pub some : 0 < h.left
+    pub whole : h.left + h.given ≡ all
+    pub bounded : all < 2 ^ 64
+
+-- The book is legal by a replay that ends in a state in which the cache is.
+abbrev pub ReplaysIn : {L : Type 0} → Ghosts L → Book → Cache L → Type 0
+ReplaysIn g b cache = (at : Logged) × (last : State) × IsIn g cache at last × ReplaysTo cache.config.idgen_persist_interval b last
+
+-- The same, and the next book opens in that state's shape.
+abbrev pub EndsBefore : {L : Type 0} → Ghosts L → Book → Cache L → Book → Type 0
+EndsBefore g b cache next = (at : Logged) × (last : State) × IsIn g cache at last × ReplaysTo cache.config.idgen_persist_interval b last × IsShapeOf last next.opening
+
+-- the book has no room for a call: it is at its limit, or the number of calls would pass the greatest u64
+abbrev pub is_full : {L : Type 0} → Held L → Bool
+is_full h = nat_le h.limit (length h.book.entries) || (calls_of h.book == 2 ^ 64 - 1)
+
+-- the book with one entry more
+abbrev pub with_entry : Book → Request → Reply → Book
+with_entry b call answer = book b.earlier b.opening (b.entries ++ entry call answer ∷ [])
+
+module _ {L : Type 0} (g : Ghosts L) where
+  -- The call is one entry of the book, and counts in the caller's share. It is calls of the cache, made one after another: steps, in
+  -- whatever state the cache is, and a crash at any moment of them leaves a prefix of what they write. Nothing else changes.
+  pub record IsEntered (old : Held L) (count : ℕ) (call : Request) (answer : Reply) (new : Held L) (count' : ℕ) : Type 0 where
+    pub calls : MadeCalls
+    pub are : IsEntry call answer calls
+    pub made : AreMade g old.cache calls new.cache
+    pub row : StepInRow g old.cache calls new.cache
+    pub entered : new.book ≡ with_entry old.book call answer
+    pub counted : count' ≡ count + 1
+    pub rest : (new.limit ≡ old.limit) × (new.given ≡ old.given) × (new.left ≡ old.left)
+
+  -- The call isn't asked: nothing changes, and it is refused.
+  abbrev pub IsLeftOut : Held L → ℕ → Type 0 → Held L → ℕ → Type 0
+  IsLeftOut old count refused new count' = (new ≡ old) × (count' ≡ count) × refused
+
+  -- Where the book is full, the call is left out. Else it is entered, unless there is no memory for the entry.
+  abbrev pub Serves : Held L → ℕ → Request → Reply → Held L → ℕ → Type 0
+  Serves old count call answer new count' =
+      MatchBool (is_full old)
+      (IsLeftOut old count (IsRefusal answer (Unsupported BookFull)) new count')
+      (IsEntered old count call answer new count' ⊎ IsLeftOut old count (IsRefusal answer OutOfMemory) new count')
+
+-- A new round: the book opens with the cache's shape, behind the calls of the books before it.
+pub record IsNewRound {L : Type 0} (g : Ghosts L) (earlier : ℕ) (cache : Cache L) (b : Book) : Type 0 where
+  pub behind : b.earlier ≡ earlier
+  pub shows : Shows g cache b.opening
+  pub none : b.entries ≡ []
+
+-- What a caller of the shared cache knows of its call: its share counts one more. Only where the book was full, or
+-- memory was wanting, it may count the same.
+abbrev pub Counts : ℕ → Reply → ℕ → Type 0
+Counts count answer count' = (count' ≡ count + 1) ⊎ ((count' ≡ count) × (IsRefusal answer (Unsupported BookFull) ⊎ IsRefusal answer OutOfMemory))

@@ -1,0 +1,115 @@
+//! Copies of what was asked, and of a node that was found: one is given, and one is entered.
+
+ghost use Rattle.std.specs.Prelude.{◌≡◌, IfOk, IsSome};
+ghost use Rattle.sled_pagecache.specs.Rows.{IsMade};
+ghost use Rattle.sled_pagecache.specs.declared.pagecache.call.Answer.TheVariants.{Got};
+ghost use Rattle.sled_pagecache.specs.declared.pagecache.call.Call.TheVariants.{Get};
+ghost use Rattle.sled_shared.specs.Kept.{node_kept};
+
+use crate::entry::{Kept, RootSwap};
+use crate::keeping::{Spare, put};
+use sled_base::{Error, IVec, PageId, Refusal};
+use sled_log::Log;
+use sled_node::{Link, Node};
+use sled_pagecache::{PageCache, PageView};
+use std::alloc::{AllocError, Global};
+
+// The node of a page, copied twice. Where there is no memory for the copies, that is the answer.
+pub(crate) fn get_twice<L: Log>(
+    alloc: Global,
+    cache: &mut PageCache<L>,
+    pid: PageId,
+    spare: &mut Spare,
+) -> (
+    Result<Option<(PageView, Node)>, Error>,
+    Kept<Option<(u64, Box<Node>)>>,
+)
+    requires { IsSome spare.old }
+    ensures same { node_kept pid result.1 ≡ result.0 }
+    ensures made { IsMade L.Log cache.old (Get pid) (Got result.0) cache.new }
+{
+    match cache.get(pid) {
+        Ok(Some(view)) => match two_of(alloc, view.node()) {
+            Ok((node, copy)) => {
+                let token = view.token();
+                (Ok(Some((token, node))), Ok(Some((token.ts(), copy))))
+            }
+            Err(_) => {
+                let kept = put(Refusal::OutOfMemory, spare);
+                (Err(Error::OutOfMemory), Err(kept))
+            }
+        },
+        Ok(None) => (Ok(None), Ok(None)),
+        Err(refusal) => (Err(Error::from(refusal)), Err(put(refusal, spare))),
+    }
+}
+
+// A copy of a node.
+pub(crate) fn copy_node(alloc: Global, node: &Node) -> Result<Box<Node>, AllocError>
+    ensures { IfOk result (λ copy. copy.value ≡ node.now) }
+{
+    let copy = node.clone()?;
+    Ok(Box::new(alloc, copy)?)
+}
+
+// A copy of a node that is to be put on a page, with its token.
+pub(crate) fn copy_replacement(
+    alloc: Global,
+    old: PageView,
+    node: &Node,
+) -> Result<Box<(PageView, Node)>, AllocError>
+    ensures { IfOk result (λ copy. copy.value ≡ (old, node.now)) }
+{
+    let copy = node.clone()?;
+    Ok(Box::new(alloc, (old, copy))?)
+}
+
+// A copy of a link of a page, with its token.
+pub(crate) fn copy_link(
+    alloc: Global,
+    old: PageView,
+    link: &Link,
+) -> Result<Box<(PageView, Link)>, AllocError>
+    ensures { IfOk result (λ copy. copy.value ≡ (old, link.now)) }
+{
+    let copy = link.clone()?;
+    Ok(Box::new(alloc, (old, copy))?)
+}
+
+// A copy of a name.
+pub(crate) fn copy_name(alloc: Global, name: &[u8]) -> Result<Box<IVec>, AllocError>
+    ensures { IfOk result (λ copy. copy.value ≡ name.now) }
+{
+    let copy = IVec::from_slice(alloc, name)?;
+    Ok(Box::new(alloc, copy)?)
+}
+
+// A copy of a name, which shares its bytes where they are many.
+pub(crate) fn share_name(alloc: Global, name: &IVec) -> Result<Box<IVec>, AllocError>
+    ensures { IfOk result (λ copy. copy.value ≡ name.now) }
+{
+    let copy = name.clone()?;
+    Ok(Box::new(alloc, copy)?)
+}
+
+// A copy of the swap of a root.
+pub(crate) fn copy_root_swap(
+    alloc: Global,
+    name: &[u8],
+    old: Option<PageId>,
+    new: Option<PageId>,
+) -> Result<Box<RootSwap>, AllocError>
+    ensures { IfOk result (λ copy. (copy.value.name ≡ name.now) × (copy.value.old ≡ old) × (copy.value.new ≡ new)) }
+{
+    let name = IVec::from_slice(alloc, name)?;
+    Ok(Box::new(alloc, RootSwap { name, old, new })?)
+}
+
+// Two copies of a node.
+fn two_of(alloc: Global, node: &Node) -> Result<(Node, Box<Node>), AllocError>
+    ensures { IfOk result (λ two. (two.0 ≡ node.now) × (two.1.value ≡ node.now)) }
+{
+    let one = node.clone()?;
+    let other = copy_node(alloc, node)?;
+    Ok((one, other))
+}

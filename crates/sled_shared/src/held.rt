@@ -1,0 +1,181 @@
+//! The value under the lock: the cache, with the book of its calls.
+
+ghost use Rattle.std.specs.Prelude.{◌≡◌, ◌+◌, ◌-◌, ◌<◌, true, false, length, IfOk, IfErr, IfSome, IfNone, IsOk, ◌↔◌, sum};
+ghost use Rattle.sled_base.specs.declared.types.Error.TheVariants.{OutOfMemory};
+ghost use Rattle.sled_pagecache.specs.Trees.{IsKnown};
+
+mod calls;
+mod entering;
+
+use crate::book::Book;
+use crate::entry::Entry;
+use crate::keeping::Spare;
+use crate::share::{Share, Tally};
+use sled_base::Error;
+use sled_log::Log;
+use sled_pagecache::{PageCache, Shape};
+use std::alloc::Global;
+use std::marker::Model;
+use std::mem;
+use std::sync::ledger;
+
+/// A page cache with the book of its calls. The book's calls were made one after another, of a cache that had the opening shape, and left
+/// the cache as it is.
+///
+/// Contracts see the cache, the book, the most entries that it may have, and how many shares were given out and are left.
+#[derive(Drop)]
+pub struct Held<L: Log, K: Tally> {
+    alloc: Global,
+    cache: PageCache<L>,
+    earlier: u64,
+    opening: Shape,
+    entries: Vec<Entry>,
+    spare: Spare,
+    limit: usize,
+    total: ledger::Book<K>,
+    rest: ledger::Share<K>,
+    given: u64,
+    left: u64,
+}
+
+impl<L: Log, K: Tally> Model for Held<L, K> {
+    ghost use Rattle.sled_shared.specs.Book.{book};
+    ghost use Rattle.sled_shared.specs.Held.{Held as Seen, held, IsSound};
+
+    ghost Value = { Seen L };
+
+    ghost view = { λ h. held h.cache (book h.earlier h.opening h.entries.items) h.limit h.given h.left };
+
+    ghost invariant = { λ h. IsSound L.Log K.known (held h.cache (book h.earlier h.opening h.entries.items) h.limit h.given h.left) h.total.total h.rest.parts h.rest.amount K.parts };
+}
+
+impl<L: Log, K: Tally> Held<L, K> {
+    ghost use Rattle.sled_shared.specs.Book.{RisesWithin, ids_of};
+    ghost use Rattle.sled_shared.specs.Held.{EndsBefore, IsBookOf, IsNewRound, ReplaysIn, calls_of, held};
+
+    /// Opens the first round over a cache, of which no batch is open. A book has at most `limit` entries. The ledger's parts are the shares
+    /// that there will be, and one more.
+    ///
+    /// `blank` is the ledger's, of so many `parts`. `OutOfMemory` hands the cache back.
+    pub fn over(
+        alloc: Global,
+        cache: PageCache<L>,
+        limit: usize,
+        parts: u64,
+        blank: ledger::Blank,
+    ) -> Result<Held<L, K>, (Error, PageCache<L>)>
+        requires name { blank.name ≡ K.name }
+        requires parts { (blank.parts ≡ parts) × (K.parts ≡ parts) × (0 < parts) }
+        requires closed { cache.batch ≡ false }
+        requires known { K.known → L.tells → IsKnown L.Log cache }
+        ensures ok { IfOk result (λ h. IsNewRound L.Log 0 cache h.book × (h ≡ held cache h.book limit 0 parts)) }
+        ensures err { IfErr result (λ e. (e.0 ≡ OutOfMemory) × (e.1 ≡ cache)) }
+    {
+        let Ok(opening) = cache.shape() else {
+            return Err((Error::OutOfMemory, cache));
+        };
+        let (total, rest) = blank.open::<K>();
+        Ok(Held {
+            alloc,
+            cache,
+            earlier: 0,
+            opening,
+            entries: Vec::new(alloc),
+            spare: None,
+            limit,
+            total,
+            rest,
+            given: 0,
+            left: parts,
+        })
+    }
+
+    /// Whether both system pages were found in the log.
+    pub fn was_recovered(&self) -> bool
+        ensures { result ≡ self.now.cache.recovered }
+    {
+        self.cache.was_recovered()
+    }
+
+    /// A share for one thread more, or none where all were given out: one part stays here.
+    pub fn share(&mut self) -> Option<Share<K>>
+        ensures some { IfSome result (λ s. (s ≡ 0) × (1 < self.old.left) × (self.new ≡ held self.old.cache self.old.book self.old.limit (self.old.given + 1) (self.old.left - 1))) }
+        ensures none { IfNone result ((self.old.left ≡ 1) × (self.new ≡ self.old)) }
+    {
+        if self.left == 1 {
+            return None;
+        }
+        let mark = self.rest.split_off(1, 0);
+        self.left -= 1;
+        self.given += 1;
+        Some(Share { mark, count: 0 })
+    }
+
+    /// Ends a round, and answers its book. The next one begins with the shape in which this one closed, which alone takes memory. A kept write
+    /// error is no hindrance, and `OutOfMemory` changes nothing.
+    pub fn take_book(&mut self) -> Result<Book, Error>
+        ensures book { IfOk result (λ b. (b ≡ self.old.book) × IsNewRound L.Log (calls_of self.old.book) self.old.cache self.new.book × (self.new ≡ held self.old.cache self.new.book self.old.limit self.old.given self.old.left)) }
+        ensures of { IfOk result (λ b. IsBookOf L.Log K.known b self.new.cache) }
+        ensures legal { K.known → L.tells → IfOk result (λ b. EndsBefore L.Log b self.new.cache self.new.book) }
+        ensures ids { K.known → L.tells → IfOk result (λ b. RisesWithin b.opening.next (ids_of b) self.new.book.opening.next) }
+        ensures err { IfErr result (λ e. (e ≡ OutOfMemory) × (self.new ≡ self.old)) }
+    {
+        let shape = self.cache.shape()?;
+        let opening = mem::replace(&mut self.opening, shape);
+        let entries = mem::replace(&mut self.entries, Vec::new(self.alloc));
+        let earlier = self.earlier;
+        self.earlier += entries.len() as u64;
+        Ok(Book::new(earlier, opening, entries))
+    }
+
+    /// Ends the last round, once all shares are back: the cache, the last book, and how many calls were entered in all. Where a share is
+    /// missing all comes back.
+    pub fn close(
+        self,
+        shares: Vec<Share<K>>,
+    ) -> Result<(PageCache<L>, Book, u64), (Held<L, K>, Vec<Share<K>>)>
+        ensures all { IsOk result ↔ (length shares.items ≡ self.given) }
+        ensures ok { IfOk result (λ r. (r.0 ≡ self.cache) × (r.1 ≡ self.book)) }
+        ensures of { IfOk result (λ r. IsBookOf L.Log K.known r.1 r.0) }
+        ensures legal { K.known → L.tells → IfOk result (λ r. ReplaysIn L.Log r.1 r.0) }
+        ensures closed { IfOk result (λ r. r.0.batch ≡ false) }
+        ensures total { IfOk result (λ r. (r.2 ≡ calls_of self.book) × (r.2 ≡ sum shares.items)) }
+        ensures err { IfErr result (λ back. (back.0 ≡ self) × (back.1 ≡ shares)) }
+    {
+        if shares.len() as u64 != self.given {
+            return Err((self, shares));
+        }
+        let Held {
+            alloc: _,
+            cache,
+            earlier,
+            opening,
+            entries,
+            spare: _,
+            limit: _,
+            total,
+            rest,
+            given: _,
+            left: _,
+        } = self;
+        let calls = earlier + entries.len() as u64;
+        count_up(total, rest, shares);
+        Ok((cache, Book::new(earlier, opening, entries), calls))
+    }
+}
+
+// With every share back, the ledger's total is the sum of their counts.
+fn count_up<K: Tally>(total: ledger::Book<K>, rest: ledger::Share<K>, shares: Vec<Share<K>>)
+    requires all { rest.parts + length shares.items ≡ K.parts }
+    requires idle { rest.amount ≡ 0 }
+    ensures { total.total ≡ sum shares.items }
+{
+    let mut total = total;
+    let mut whole = rest;
+    let mut left = shares;
+    while let Some(share) = left.pop() {
+        let Share { mark, count: _ } = share;
+        whole.merge(mark);
+    }
+    total.audit(&mut whole);
+}

@@ -1,0 +1,319 @@
+//! The calls of a held cache: each is one entry of the book.
+//!
+//! In each of them the room of the entry comes first, with copies of what was asked. `BookFull` comes where the book is at its limit, or
+//! where the calls would be more than a `u64` counts, and `OutOfMemory` where there is no room: then the cache isn't asked, nothing is
+//! entered, and nothing changes. What the cache answers is handed on and entered, and the share counts one more.
+
+ghost use Rattle.std.specs.Prelude.{◌≡◌};
+ghost use Rattle.sled_pagecache.specs.Token.{pid_of};
+ghost use Rattle.sled_pagecache.specs.declared.pagecache.call.Answer.TheVariants.{Allocated, Got, Linked, Replaced, Freed, FoundRoot, RootSwapped, Generated, Flushed};
+ghost use Rattle.sled_pagecache.specs.declared.pagecache.call.Call.TheVariants.{Allocate, Get, GenerateId, Flush, MetaPidForName, CasRoot};
+ghost use Rattle.sled_pagecache.specs.declared.pagecache.call.Call.TheVariants as call;
+ghost use Rattle.sled_shared.specs.Calls.{Answered, Asked, Batch, Batched, OpenTree, Opened, batched};
+ghost use Rattle.sled_shared.specs.Held.{Serves};
+
+use super::Held;
+use super::entering::{enter, make_room};
+use crate::batch::{make_batch, prepare};
+use crate::calls::{Swap, SwapAnswer};
+use crate::copies::{
+    copy_link, copy_name, copy_node, copy_replacement, copy_root_swap, get_twice, share_name,
+};
+use crate::entry::Called;
+use crate::keeping::{keep, keep_ending, keep_root};
+use crate::share::{Share, Tally};
+use sled_base::{Error, IVec, PageId};
+use sled_log::Log;
+use sled_node::{Link, Node};
+use sled_pagecache::{PageView, open_tree};
+
+impl<L: Log, K: Tally> Held<L, K> {
+    /// Puts a node on a page, as [`PageCache::allocate`](sled_pagecache::PageCache::allocate).
+    pub fn allocate(&mut self, node: Node, mine: &mut Share<K>) -> Result<(PageId, PageView), Error>
+        ensures { Serves L.Log self.old mine.old (Asked (Allocate node)) (Answered (Allocated result)) self.new mine.new }
+    {
+        make_room(
+            self.alloc,
+            &mut self.entries,
+            &mut self.spare,
+            self.earlier,
+            self.limit,
+        )?;
+        let copy = copy_node(self.alloc, &node)?;
+        let answer = self.cache.allocate(node);
+        let kept = keep(&answer, &mut self.spare);
+        enter(
+            &mut self.entries,
+            &mut self.total,
+            mine,
+            Called::Allocate(copy, kept),
+        );
+        answer
+    }
+
+    /// A page's token and a copy of its node, as [`PageCache::get`](sled_pagecache::PageCache::get) lends them. Where there is no memory
+    /// for the copies, `OutOfMemory` is the answer, and it is entered.
+    pub fn get(
+        &mut self,
+        pid: PageId,
+        mine: &mut Share<K>,
+    ) -> Result<Option<(PageView, Node)>, Error>
+        ensures { Serves L.Log self.old mine.old (Asked (Get pid)) (Answered (Got result)) self.new mine.new }
+    {
+        make_room(
+            self.alloc,
+            &mut self.entries,
+            &mut self.spare,
+            self.earlier,
+            self.limit,
+        )?;
+        let (answer, kept) = get_twice(self.alloc, &mut self.cache, pid, &mut self.spare);
+        enter(
+            &mut self.entries,
+            &mut self.total,
+            mine,
+            Called::Get(pid, kept),
+        );
+        answer
+    }
+
+    /// Applies a link to the node of a page, as [`PageCache::link`](sled_pagecache::PageCache::link).
+    pub fn link(
+        &mut self,
+        pid: PageId,
+        old: PageView,
+        link: Link,
+        mine: &mut Share<K>,
+    ) -> Result<Result<PageView, Option<(PageView, Link)>>, Error>
+        requires { pid_of old ≡ pid }
+        ensures { Serves L.Log self.old mine.old (Asked (call.Link old link)) (Answered (Linked result)) self.new mine.new }
+    {
+        make_room(
+            self.alloc,
+            &mut self.entries,
+            &mut self.spare,
+            self.earlier,
+            self.limit,
+        )?;
+        let copy = copy_link(self.alloc, old, &link)?;
+        let answer = self.cache.link(pid, old, link);
+        let kept = keep_ending(&answer, &mut self.spare);
+        enter(
+            &mut self.entries,
+            &mut self.total,
+            mine,
+            Called::Link(copy, kept),
+        );
+        answer
+    }
+
+    /// Puts a node on a page in place of what it held, as [`PageCache::replace`](sled_pagecache::PageCache::replace).
+    pub fn replace(
+        &mut self,
+        pid: PageId,
+        old: PageView,
+        node: Node,
+        mine: &mut Share<K>,
+    ) -> Result<Result<PageView, Option<(PageView, Node)>>, Error>
+        requires { pid_of old ≡ pid }
+        ensures { Serves L.Log self.old mine.old (Asked (call.Replace old node)) (Answered (Replaced result)) self.new mine.new }
+    {
+        make_room(
+            self.alloc,
+            &mut self.entries,
+            &mut self.spare,
+            self.earlier,
+            self.limit,
+        )?;
+        let copy = copy_replacement(self.alloc, old, &node)?;
+        let answer = self.cache.replace(pid, old, node);
+        let kept = keep_ending(&answer, &mut self.spare);
+        enter(
+            &mut self.entries,
+            &mut self.total,
+            mine,
+            Called::Replace(copy, kept),
+        );
+        answer
+    }
+
+    /// Frees a page, as [`PageCache::free`](sled_pagecache::PageCache::free).
+    pub fn free(
+        &mut self,
+        pid: PageId,
+        old: PageView,
+        mine: &mut Share<K>,
+    ) -> Result<Result<PageView, Option<(PageView, ())>>, Error>
+        requires { pid_of old ≡ pid }
+        ensures { Serves L.Log self.old mine.old (Asked (call.Free old)) (Answered (Freed result)) self.new mine.new }
+    {
+        make_room(
+            self.alloc,
+            &mut self.entries,
+            &mut self.spare,
+            self.earlier,
+            self.limit,
+        )?;
+        let answer = self.cache.free(pid, old);
+        let kept = keep_ending(&answer, &mut self.spare);
+        enter(
+            &mut self.entries,
+            &mut self.total,
+            mine,
+            Called::Free(old, kept),
+        );
+        answer
+    }
+
+    /// The next id, as [`PageCache::generate_id_inner`](sled_pagecache::PageCache::generate_id_inner).
+    pub fn generate_id(&mut self, mine: &mut Share<K>) -> Result<u64, Error>
+        ensures { Serves L.Log self.old mine.old (Asked GenerateId) (Answered (Generated result)) self.new mine.new }
+    {
+        make_room(
+            self.alloc,
+            &mut self.entries,
+            &mut self.spare,
+            self.earlier,
+            self.limit,
+        )?;
+        let answer = self.cache.generate_id_inner();
+        let kept = keep(&answer, &mut self.spare);
+        enter(
+            &mut self.entries,
+            &mut self.total,
+            mine,
+            Called::GenerateId(kept),
+        );
+        answer
+    }
+
+    /// Makes all that is pending stable, as [`PageCache::flush`](sled_pagecache::PageCache::flush).
+    pub fn flush(&mut self, mine: &mut Share<K>) -> Result<usize, Error>
+        ensures { Serves L.Log self.old mine.old (Asked Flush) (Answered (Flushed result)) self.new mine.new }
+    {
+        make_room(
+            self.alloc,
+            &mut self.entries,
+            &mut self.spare,
+            self.earlier,
+            self.limit,
+        )?;
+        let answer = self.cache.flush();
+        let kept = keep(&answer, &mut self.spare);
+        enter(
+            &mut self.entries,
+            &mut self.total,
+            mine,
+            Called::Flush(kept),
+        );
+        answer
+    }
+
+    /// Gives a name another root, as [`PageCache::cas_root_in_meta`](sled_pagecache::PageCache::cas_root_in_meta).
+    pub fn cas_root_in_meta(
+        &mut self,
+        name: &[u8],
+        old: Option<PageId>,
+        new: Option<PageId>,
+        mine: &mut Share<K>,
+    ) -> Result<Result<(), Option<PageId>>, Error>
+        ensures { Serves L.Log self.old mine.old (Asked (CasRoot name.now old new)) (Answered (RootSwapped result)) self.new mine.new }
+    {
+        make_room(
+            self.alloc,
+            &mut self.entries,
+            &mut self.spare,
+            self.earlier,
+            self.limit,
+        )?;
+        let copy = copy_root_swap(self.alloc, name, old, new)?;
+        let answer = self.cache.cas_root_in_meta(name, old, new);
+        let kept = keep(&answer, &mut self.spare);
+        enter(
+            &mut self.entries,
+            &mut self.total,
+            mine,
+            Called::CasRoot(copy, kept),
+        );
+        answer
+    }
+
+    /// The root page of a name, as [`PageCache::meta_pid_for_name`](sled_pagecache::PageCache::meta_pid_for_name).
+    pub fn meta_pid_for_name(&mut self, name: &[u8], mine: &mut Share<K>) -> Result<PageId, Error>
+        ensures { Serves L.Log self.old mine.old (Asked (MetaPidForName name.now)) (Answered (FoundRoot result)) self.new mine.new }
+    {
+        make_room(
+            self.alloc,
+            &mut self.entries,
+            &mut self.spare,
+            self.earlier,
+            self.limit,
+        )?;
+        let copy = copy_name(self.alloc, name)?;
+        let answer = self.cache.meta_pid_for_name(name);
+        let kept = keep_root(&answer, &mut self.spare);
+        enter(
+            &mut self.entries,
+            &mut self.total,
+            mine,
+            Called::MetaPidForName(copy, kept),
+        );
+        answer
+    }
+
+    /// The root page of the tree of this name, which is made where there is none, as [`open_tree`].
+    pub fn open_tree(&mut self, name: IVec, mine: &mut Share<K>) -> Result<PageId, Error>
+        ensures { Serves L.Log self.old mine.old (OpenTree name) (Opened result) self.new mine.new }
+    {
+        make_room(
+            self.alloc,
+            &mut self.entries,
+            &mut self.spare,
+            self.earlier,
+            self.limit,
+        )?;
+        let copy = share_name(self.alloc, &name)?;
+        let answer = open_tree(&mut self.cache, name);
+        let kept = keep(&answer, &mut self.spare);
+        enter(
+            &mut self.entries,
+            &mut self.total,
+            mine,
+            Called::OpenTree(copy, kept),
+        );
+        answer
+    }
+
+    /// Makes swaps in a batch: a crash leaves all of them or nothing. A stale swap is answered, and is no hindrance. Where one is refused
+    /// the batch is cancelled, and the refusal comes with the answers before it, of which a crash may leave a part.
+    pub fn batch(
+        &mut self,
+        swaps: Vec<Swap>,
+        mine: &mut Share<K>,
+    ) -> Result<Vec<SwapAnswer>, (Error, Vec<SwapAnswer>)>
+        ensures { Serves L.Log self.old mine.old (Batch swaps.items) (Batched (batched result)) self.new mine.new }
+    {
+        let alloc = self.alloc;
+        let room = make_room(
+            alloc,
+            &mut self.entries,
+            &mut self.spare,
+            self.earlier,
+            self.limit,
+        );
+        if let Err(e) = room {
+            return Err((e, Vec::new(alloc)));
+        }
+        let Ok(prepared) = prepare(alloc, swaps) else {
+            return Err((Error::OutOfMemory, Vec::new(alloc)));
+        };
+        let (answer, asked, kept) = make_batch(&mut self.cache, prepared, &mut self.spare);
+        enter(
+            &mut self.entries,
+            &mut self.total,
+            mine,
+            Called::Batch(asked, kept),
+        );
+        answer
+    }
+}

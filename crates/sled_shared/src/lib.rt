@@ -1,0 +1,32 @@
+//! One page cache for many threads, with a book of their calls that replays as the history of one thread.
+//!
+//! In reading order:
+//!
+//! - `calls`, `entry`, `book`: the swaps of a batch, what is entered of a call, and the book of a round
+//! - `share`: the shares of the threads, by which entered calls are counted
+//! - `held`: the cache with its book, and its calls
+//! - `handle`: the held cache under the one lock
+//! - `crew`: threads that draw ids
+//! - `law`: what holds of the books of one opening
+//! - `keeping`, `copies`, `batch`: what is kept of an answer, copies of a node, and the making of a batch
+#![tactic(auto)]
+
+mod batch;
+pub mod book;
+pub mod calls;
+mod copies;
+pub mod crew;
+pub mod entry;
+pub mod handle;
+pub mod held;
+mod keeping;
+pub mod law;
+pub mod share;
+
+pub use book::Book;
+pub use calls::{Swap, SwapAnswer};
+pub use crew::{Gate, run_crew};
+pub use entry::{Batch, Called, Ending, Entry, Kept, RootSwap};
+pub use handle::SharedPageCache;
+pub use held::Held;
+pub use share::{Share, Tally};

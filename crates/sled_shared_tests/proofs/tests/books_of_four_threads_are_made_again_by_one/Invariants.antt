@@ -1,0 +1,15 @@
+-- The ledger is that of the blank, and it is known in which state the cache is.
+use Rattle.std.specs.Prelude.{⊤}
+use Rattle.sled_shared_tests.proofs.tests.books_of_four_threads_are_made_again_by_one.Given as goal
+
+abbrev pub ghosts-asked_by_four-K-Ledger : goal.ghosts-asked_by_four-K-Ledger
+ghosts-asked_by_four-K-Ledger g a = record { name = a.blank.name; parts = a.blank.parts }
+
+abbrev pub ghosts-asked_by_four-K-Tally : goal.ghosts-asked_by_four-K-Tally
+ghosts-asked_by_four-K-Tally g a = record { known = ⊤ }
+
+abbrev pub ghosts-replayed-K-Ledger : goal.ghosts-replayed-K-Ledger
+ghosts-replayed-K-Ledger g a = record { name = a.blank.name; parts = a.blank.parts }
+
+abbrev pub ghosts-replayed-K-Tally : goal.ghosts-replayed-K-Tally
+ghosts-replayed-K-Tally g a = record { known = ⊤ }

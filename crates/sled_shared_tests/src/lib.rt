@@ -1,0 +1,23 @@
+//! Tests of the public calls of `sled_shared`.
+//!
+//! - `asking`: calls of a shared cache, each with what it answered as a text
+//! - `entered`: entries of a book as such texts
+//! - `crews`: caches that crews and other threads share
+//! - `corners`: shares that run out, a book without room, and batches of no swaps and of many
+//! - `faults`: a device that fails, and a share that is missing
+//! - `replay`: entries that are made once more
+//! - `rows`: books that are filled, taken and closed, and a batch that is cancelled
+//! - `readme`: the README's example
+#![tactic(auto)]
+
+mod asking;
+mod corners;
+mod crews;
+mod entered;
+mod faults;
+#[cfg(test)]
+mod readme;
+mod replay;
+mod rows;
+#[cfg(test)]
+mod tests;
