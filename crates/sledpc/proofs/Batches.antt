@@ -7,13 +7,14 @@ use Rattle.std.specs.Prelude.{codes}
 use Rattle.sled_base.specs.Order.{Bytes}
 use Rattle.sled_base.specs.declared.types.Error.{Error}
 use Rattle.sled_log.specs.declared.log.Log.{Ghosts}
-use Rattle.sled_pagecache.specs.Batches.{OpensBatch, CancelsBatch}
+use Rattle.sled_pagecache.specs.Batches.{OpensBatch}
 use Rattle.sled_pagecache.specs.Cache.{Cache}
+use Rattle.sled_pagecache.specs.MadeLaws.{pin-made}
 use Rattle.sled_pagecache.specs.RowLaws.{row-one, row-then}
 use Rattle.sled_pagecache.specs.Rows.{IsMade, StepInRow, AreMade}
 use Rattle.sled_pagecache.specs.Trees.{IsKnown}
-use Rattle.sled_pagecache.specs.declared.pagecache.call.Answer.TheVariants.{Pinned, Cancelled}
-use Rattle.sled_pagecache.specs.declared.pagecache.call.Call.TheVariants.{Pin, Cancel}
+use Rattle.sled_pagecache.specs.declared.pagecache.call.Answer.TheVariants.{Cancelled}
+use Rattle.sled_pagecache.specs.declared.pagecache.call.Call.TheVariants.{Cancel}
 use Rattle.sledpc.specs.Commands.{MayMark, mark_word}
 use Rattle.sledpc.specs.declared.script.command.Mark.{Mark}
 use Rattle.sledpc.specs.declared.script.command.Mark.TheVariants as mark
@@ -89,15 +90,9 @@ module _ {L : Type 0} (g : Ghosts L) where
   opened_batch cache after (Ok done) opens = opens.done.1
   opened_batch cache after (Err e) opens = opens.refused
 
-  pub refused_made : (cache after : Cache L) (answer : Result (Unit {0}) Error) → OpensBatch g cache answer after → IsMade g cache Pin (Pinned answer) after
-  refused_made cache after answer opens = record { step = opens.step; bytes = tt; faults = opens.blame; covered = tt }
-
   -- the cache that a guard lends is the one that was opened
   pub is_pinned : (cache held lent : Cache L) → lent ≡ held → OpensBatch g cache (Ok tt) held → IsPinned g cache lent
-  is_pinned cache held lent same opens = subst (IsPinned g cache) (sym same) (record { made = refused_made cache held (Ok tt) opens; batch = opens.done.1 })
-
-  pub cancel_made : (cache after : Cache L) (answer : Result (Unit {0}) Error) → CancelsBatch g cache answer after → IsMade g cache Cancel (Cancelled answer) after
-  cancel_made cache after answer closes = record { step = closes.step; bytes = tt; faults = closes.blame; covered = tt }
+  is_pinned cache held lent same opens = subst (IsPinned g cache) (sym same) (record { made = pin-made g cache held (Ok tt) opens; batch = opens.done.1 })
 
   -- ---- what closes a run of lines
 

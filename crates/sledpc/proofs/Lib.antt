@@ -10,7 +10,6 @@ pub mod Entries
 pub mod Answered
 pub mod Serving
 pub mod Batches
-pub mod Making
 pub mod Encoded
 pub mod Commands
 pub mod Marks

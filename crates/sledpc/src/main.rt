@@ -22,7 +22,7 @@ use std::process::ExitCode;
 fn main(rt: HostRuntime) -> ExitCode {
     let words = words_of(&rt);
     let status = drive(
-        &rt,
+        rt,
         rt.alloc(),
         words.as_ref().map(|words| words.as_slice()),
         &mut rt.reader(),

@@ -1,18 +1,30 @@
 //! The program: its words, its streams and its status.
 
-ghost use Rattle.std.specs.Prelude.{◌≡◌, ◌↔◌, [], true, false, map, IsSome, Some, IfOk};
+ghost use Rattle.std.specs.Prelude.{◌≡◌, ◌↔◌, ℕ, ◌*◌, ◌+◌, ◌≤◌, [], true, false, map, Some, IfOk, IfSome, IfNone};
 ghost use Rattle.std.specs.Option.{option_map};
 ghost use Rattle.std.specs.String.{string_bytes};
+ghost use Rattle.std.specs.Io.KnownBytes.{Appends};
 ghost use Rattle.sled_log.specs.Memory.{state_of, settings_of};
-ghost use Rattle.sledpc.specs.Job.{AskForScript, IsNew};
-ghost use Rattle.sledpc.specs.Settings.{settings, log_settings, status_of, wrong_words};
+ghost use Rattle.sledpc.specs.Job.{AskFor, AskForCrew, AskForJob, EncodeCrew, IsNew, crew_text};
+ghost use Rattle.sledpc.specs.Output.{Writes};
+ghost use Rattle.sledpc.specs.Settings.{settings, log_settings, status_of, ended, wrong_words};
 
+mod crew;
+
+use crate::output::{Unwritten, write_rest};
+use crate::piece::Piece;
 use crate::script::run::{RunError, run};
+use crate::script::words::number_of;
+use crew::draw_ids;
 use sled_disk::{Disk, DiskLog, FileDisk};
 use sled_pagecache::{Config, Error, Log, LogError, MemLog, PageCache};
 use std::alloc::Global;
 use std::fs::{File, Files};
 use std::io::{BufReader, Read, Write};
+use std::marker::Brand;
+use std::sync::Wait;
+use std::sync::ledger::Blank;
+use std::thread::Threads;
 
 /// The script ended with its input.
 const DONE: u8 = 0;
@@ -38,12 +50,20 @@ const BLOB_LIMIT: usize = 512;
 /// A page is moved for so many messages.
 const CLEAN_EVERY: u64 = 16;
 
+/// A crew has at most so many threads.
+const MOST_WORKERS: u64 = 64;
+
+/// Each thread of a crew makes at most so many calls.
+const MOST_CALLS: u64 = 10_000;
+
 /// What the words ask for.
 enum Job<'a> {
     /// `mem`: the script over a new log in memory.
     Memory,
     /// `file PATH`: the script over the log in this file.
     OnFile(&'a str),
+    /// `crew N M`: so many ids in each of so many threads.
+    Crew(u64, u64),
 }
 
 /// Why a job failed.
@@ -60,23 +80,30 @@ enum Fault {
 ///
 /// `words` are those after the program's own path, or none where the system's words are no text. What went wrong is
 /// reported to `faults` in one line. With wrong words nothing is opened, and no stream but `faults` is touched.
-pub fn drive<H: Files<File = File>, R: Read, W: Write, F: Write>(
-    files: &H,
+pub fn drive<
+    H: Files<File = File> + Threads + Wait + Copy + Send + 'static,
+    R: Read,
+    W: Write,
+    F: Write,
+>(
+    rt: H,
     alloc: Global,
     words: Option<&[String]>,
     reader: &mut R,
     writer: &mut W,
     faults: &mut F,
 ) -> u8
-    ensures wrong { (result ≡ wrong_words) ↔ ¬ AskForScript (option_map (λ given. map string_bytes given.now) words.entry) }
+    ensures wrong { (result ≡ wrong_words) ↔ ¬ AskForJob (option_map (λ given. map string_bytes given.now) words.entry) }
+    ensures crew { (workers calls : ℕ) → AskForCrew workers calls (option_map (λ given. map string_bytes given.now) words.entry) → result ≡ ended → Appends (W.contents writer.old) (W.contents writer.new) (crew_text (workers * calls)) }
 {
-    let Some(job) = words.and_then(job_of) else {
+    let Some(job) = asked(words) else {
         let _ = faults.write_all(USAGE.as_bytes());
         return WRONG_WORDS;
     };
     let outcome = match job {
         Job::Memory => serve(alloc, open_memory(alloc), reader, writer),
-        Job::OnFile(path) => serve(alloc, open_file(files, alloc, path), reader, writer),
+        Job::OnFile(path) => serve(alloc, open_file(&rt, alloc, path), reader, writer),
+        Job::Crew(workers, calls) => serve_crew(rt, alloc, workers, calls, writer),
     };
     report(outcome, faults)
 }
@@ -94,13 +121,43 @@ fn report<F: Write>(outcome: Result<(), Fault>, faults: &mut F) -> u8
     }
 }
 
+// What the words ask for, if they are text.
+fn asked(words: Option<&[String]>) -> Option<Job<'_>>
+    ensures some { IfSome result (λ job. AskFor job (option_map (λ given. map string_bytes given.now) words.entry)) }
+    ensures none { IfNone result (¬ AskForJob (option_map (λ given. map string_bytes given.now) words.entry)) }
+{
+    match words {
+        Some(words) => job_of(words),
+        None => None,
+    }
+}
+
 fn job_of(words: &[String]) -> Option<Job<'_>>
-    ensures { IsSome result ↔ AskForScript (Some (map string_bytes words.now)) }
+    ensures some { IfSome result (λ job. AskFor job (Some (map string_bytes words.now))) }
+    ensures none { IfNone result (¬ AskForJob (Some (map string_bytes words.now))) }
 {
     match words {
         [word] if word.as_str() == "mem" => Some(Job::Memory),
         [word, path] if word.as_str() == "file" => Some(Job::OnFile(path.as_str())),
+        [word, workers, calls] if word.as_str() == "crew" => {
+            let (workers, calls) = crew_of(workers.as_bytes(), calls.as_bytes())?;
+            Some(Job::Crew(workers, calls))
+        }
         _ => None,
+    }
+}
+
+// How many threads and calls the words of a crew encode.
+fn crew_of(workers: &[u8], calls: &[u8]) -> Option<(u64, u64)>
+    ensures some { IfSome result (λ crew. EncodeCrew workers.now calls.now crew.0 crew.1) }
+    ensures none { IfNone result ((w c : ℕ) → ¬ EncodeCrew workers.now calls.now w c) }
+{
+    let workers = number_of(workers)?;
+    let calls = number_of(calls)?;
+    if 0 < workers && workers <= MOST_WORKERS && calls <= MOST_CALLS {
+        Some((workers, calls))
+    } else {
+        None
     }
 }
 
@@ -167,6 +224,34 @@ fn serve<L: Log, R: Read, W: Write>(
         return Err(Fault::Run(RunError::Memory));
     };
     run(alloc, &mut cache, &mut input, writer).map_err(Fault::Run)
+}
+
+// Draws ids in threads, and tells how many calls that were.
+fn serve_crew<W: Write, T: Threads + Wait + Copy + Send + 'static>(
+    rt: T,
+    alloc: Global,
+    workers: u64,
+    calls: u64,
+    writer: &mut W,
+) -> Result<(), Fault>
+    requires workers { workers ≤ 64 }
+    requires calls { calls ≤ 10000 }
+    ensures { Writes (W.contents writer.old) (W.contents writer.new) result (crew_text (workers * calls)) }
+{
+    match draw_ids::<Brand, T>(rt, alloc, workers, calls, Blank::new(workers + 1)) {
+        Ok(made) => write_calls(writer, made).map_err(|_| Fault::Run(RunError::Write)),
+        Err(error) => Err(Fault::Opening(error)),
+    }
+}
+
+// Writes how many calls were made.
+fn write_calls<W: Write>(writer: &mut W, made: u64) -> Result<(), Unwritten>
+    ensures { Writes (W.contents writer.old) (W.contents writer.new) result (crew_text made) }
+{
+    let mut piece = Piece::new();
+    piece.put_number(made);
+    piece.put_text(b" calls\n");
+    write_rest(writer, &piece)
 }
 
 #[cfg(test)]

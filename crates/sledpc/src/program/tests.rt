@@ -1,4 +1,5 @@
 mod corners;
+mod crews;
 mod files;
 mod streams;
 
@@ -44,13 +45,11 @@ fn texts(alloc: Global, from: &[&str]) -> Result<Vec<String>, AllocError> {
 
 // Whether the program with these words ends a script with status 0 and no fault; or, where there is one to be reported, with status
 // 1 and that fault.
-fn ends_so<R: Read, W: Write>(
-    rt: &HostRuntime,
-    words: &[&str],
-    input: &mut R,
-    output: &mut W,
-    fault: &str,
-) -> bool {
+fn ends_so<
+    T: Files<File = File> + AllocGlobal + Threads + Wait + Copy + Send + 'static,
+    R: Read,
+    W: Write,
+>(rt: T, words: &[&str], input: &mut R, output: &mut W, fault: &str) -> bool {
     let Ok(words) = texts(rt.alloc(), words) else {
         return false;
     };
@@ -68,7 +67,11 @@ fn ends_so<R: Read, W: Write>(
 }
 
 // Whether the program over a log in memory answers a script so, and ends without a fault.
-fn replies(rt: &HostRuntime, mut script: &[u8], want: &[u8]) -> bool {
+fn replies<T: Files<File = File> + AllocGlobal + Threads + Wait + Copy + Send + 'static>(
+    rt: T,
+    mut script: &[u8],
+    want: &[u8],
+) -> bool {
     let mut output = Vec::new(rt.alloc());
     ends_so(rt, MEM, &mut script, &mut output, "") && output.as_slice() == want
 }
@@ -88,7 +91,10 @@ fn new_script(alloc: Global) -> Script {
 }
 
 // Whether the script is replied to so.
-fn is_replied(rt: &HostRuntime, script: &Script) -> bool {
+fn is_replied<T: Files<File = File> + AllocGlobal + Threads + Wait + Copy + Send + 'static>(
+    rt: T,
+    script: &Script,
+) -> bool {
     replies(rt, &script.asked, &script.wanted)
 }
 
@@ -103,7 +109,11 @@ fn put_long(text: &mut Vec<u8>, digits: usize) -> Result<(), AllocError> {
 }
 
 // Whether a script whose first line has so many digits of a value is answered so.
-fn replies_to_long(rt: &HostRuntime, digits: usize, want: &str) -> bool {
+fn replies_to_long<T: Files<File = File> + AllocGlobal + Threads + Wait + Copy + Send + 'static>(
+    rt: T,
+    digits: usize,
+    want: &str,
+) -> bool {
     let mut script = Vec::new(rt.alloc());
     put_long(&mut script, digits).is_ok() && replies(rt, &script, want.as_bytes())
 }
@@ -142,26 +152,38 @@ fn put_pair_lines(script: &mut Script, pair: (usize, usize)) -> Result<(), Alloc
 }
 
 // Whether a pair whose key and value have so many bytes is replied as it was encoded.
-fn returns_pair(rt: &HostRuntime, key: usize, value: usize) -> bool {
+fn returns_pair<T: Files<File = File> + AllocGlobal + Threads + Wait + Copy + Send + 'static>(
+    rt: T,
+    key: usize,
+    value: usize,
+) -> bool {
     let mut script = new_script(rt.alloc());
     put_pair_lines(&mut script, (key, value)).is_ok() && is_replied(rt, &script)
 }
 
 // Whether these words, or such as are no text, are reported as wrong, and no stream is touched.
-fn are_wrong(rt: &HostRuntime, words: Option<&[String]>) -> bool {
+fn are_wrong<T: Files<File = File> + AllocGlobal + Threads + Wait + Copy + Send + 'static>(
+    rt: T,
+    words: Option<&[String]>,
+) -> bool {
     let mut faults = Vec::new(rt.alloc());
     let status = drive(rt, rt.alloc(), words, &mut Broken, &mut Broken, &mut faults);
     status == 2 && faults.as_slice() == TOLD_USAGE
 }
 
-fn are_wrong_words(rt: &HostRuntime, words: &[&str]) -> bool {
+fn are_wrong_words<T: Files<File = File> + AllocGlobal + Threads + Wait + Copy + Send + 'static>(
+    rt: T,
+    words: &[&str],
+) -> bool {
     match texts(rt.alloc(), words) {
         Ok(words) => are_wrong(rt, Some(words.as_slice())),
         Err(_) => false,
     }
 }
 
-fn answers_unreported(rt: &HostRuntime) -> bool {
+fn answers_unreported<T: Files<File = File> + AllocGlobal + Threads + Wait + Copy + Send + 'static>(
+    rt: T,
+) -> bool {
     let mut input = b"".as_slice();
     let mut output = Vec::new(rt.alloc());
     drive(rt, rt.alloc(), None, &mut input, &mut output, &mut Broken) == 2
@@ -309,7 +331,7 @@ const REPLIES: &[(&str, &str)] = &[
 fn replies_to_lines(rt: HostRuntime) {
     for (script, want) in REPLIES {
         assert!(rt;
-            replies(&rt, script.as_bytes(), want.as_bytes()),
+            replies(rt, script.as_bytes(), want.as_bytes()),
             "at {script}"
         );
     }
@@ -337,13 +359,13 @@ const ENTRIES: &[(usize, usize)] = &[
 fn pairs_of_any_size_are_replied_as_they_were_encoded(rt: HostRuntime) {
     for count in LENGTHS {
         assert!(rt;
-            returns_pair(&rt, *count, 1) && returns_pair(&rt, 1, *count),
+            returns_pair(rt, *count, 1) && returns_pair(rt, 1, *count),
             "with a key or a value of {count} bytes"
         );
     }
     for (key, value) in ENTRIES {
         assert!(rt;
-            returns_pair(&rt, *key, *value),
+            returns_pair(rt, *key, *value),
             "with {key} and {value} bytes"
         );
     }
@@ -352,7 +374,7 @@ fn pairs_of_any_size_are_replied_as_they_were_encoded(rt: HostRuntime) {
 #[test]
 fn a_line_of_65536_bytes_is_read_and_a_longer_one_is_not(rt: HostRuntime) {
     for (digits, want) in [(65_524, "gone\nnone\n"), (65_526, "error line\nnone\n")] {
-        assert!(rt; replies_to_long(&rt, digits, want), "with {digits} digits");
+        assert!(rt; replies_to_long(rt, digits, want), "with {digits} digits");
     }
 }
 
@@ -364,14 +386,31 @@ const WRONG: &[&[&str]] = &[
     &["file", "a", "b"],
     &["files", "a"],
     &["mem", "file"],
-    &["crew", "1", "0"],
+    &["crew"],
+    &["crew", "4"],
+    &["crew", "4", "5", "6"],
+    &["Crew", "4", "5"],
+    &["crew", "0", "5"],
+    &["crew", "65", "1"],
+    &["crew", "1", "10001"],
+    &["crew", "01", "5"],
+    &["crew", "1", "05"],
+    &["crew", "1", "00"],
+    &["crew", "+1", "5"],
+    &["crew", "1", "-1"],
+    &["crew", "", "5"],
+    &["crew", "1", ""],
+    &["crew", "1 ", "5"],
+    &["crew", "four", "5"],
+    &["crew", "18446744073709551617", "5"],
+    &["crew", "1", "18446744073709551616"],
 ];
 
 #[test]
 fn wrong_words_are_reported_and_touch_no_stream(rt: HostRuntime) {
-    assert!(rt; are_wrong(&rt, None));
-    assert!(rt; answers_unreported(&rt));
+    assert!(rt; are_wrong(rt, None));
+    assert!(rt; answers_unreported(rt));
     for words in WRONG {
-        assert!(rt; are_wrong_words(&rt, words));
+        assert!(rt; are_wrong_words(rt, words));
     }
 }

@@ -117,7 +117,12 @@ fn flushed(count: u32, key: u64, value: u64) -> u64 {
         .saturating_add(value)
 }
 
-fn serves_pairs(rt: &HostRuntime, tail: &str, value: &str, count: u32) -> bool {
+fn serves_pairs<T: Files<File = File> + AllocGlobal + Threads + Wait + Copy + Send + 'static>(
+    rt: T,
+    tail: &str,
+    value: &str,
+    count: u32,
+) -> bool {
     let Ok(pairs) = pair_words(rt.alloc(), tail, count) else {
         return false;
     };
@@ -132,7 +137,7 @@ fn serves_pairs(rt: &HostRuntime, tail: &str, value: &str, count: u32) -> bool {
 fn commands_serve_at_each_number_of_pairs(rt: HostRuntime) {
     for (tail, value) in TAILS {
         for count in COUNTS {
-            assert!(rt; serves_pairs(&rt, tail, value, *count), "{count} pairs");
+            assert!(rt; serves_pairs(rt, tail, value, *count), "{count} pairs");
         }
     }
 }
@@ -209,7 +214,9 @@ fn put_numbers(alloc: Global, script: &mut Script) -> Result<(), AllocError> {
     Ok(())
 }
 
-fn serves_numbers(rt: &HostRuntime) -> bool {
+fn serves_numbers<T: Files<File = File> + AllocGlobal + Threads + Wait + Copy + Send + 'static>(
+    rt: T,
+) -> bool {
     let mut script = new_script(rt.alloc());
     put_numbers(rt.alloc(), &mut script).is_ok() && is_replied(rt, &script)
 }
@@ -231,15 +238,18 @@ fn put_stamps(alloc: Global, script: &mut Script, last: u64) -> Result<(), Alloc
 }
 
 // Whether page 2 takes links up to this stamp.
-fn serves_stamps(rt: &HostRuntime, last: u64) -> bool {
+fn serves_stamps<T: Files<File = File> + AllocGlobal + Threads + Wait + Copy + Send + 'static>(
+    rt: T,
+    last: u64,
+) -> bool {
     let mut script = new_script(rt.alloc());
     put_stamps(rt.alloc(), &mut script, last).is_ok() && is_replied(rt, &script)
 }
 
 #[test]
 fn commands_serve_at_each_length_of_their_numbers(rt: HostRuntime) {
-    assert!(rt; serves_numbers(&rt), "pages");
-    assert!(rt; serves_stamps(&rt, 2_290), "stamps");
+    assert!(rt; serves_numbers(rt), "pages");
+    assert!(rt; serves_stamps(rt, 2_290), "stamps");
 }
 
 // ---- generated ids
@@ -272,7 +282,11 @@ fn put_ids(alloc: Global, script: &mut Script, count: u64, bytes: u64) -> Result
     put_numbered(alloc, script, OF_THE_LOG, NOTHING, bytes)
 }
 
-fn serves_ids(rt: &HostRuntime, count: u64, bytes: u64) -> bool {
+fn serves_ids<T: Files<File = File> + AllocGlobal + Threads + Wait + Copy + Send + 'static>(
+    rt: T,
+    count: u64,
+    bytes: u64,
+) -> bool {
     let mut script = new_script(rt.alloc());
     put_ids(rt.alloc(), &mut script, count, bytes).is_ok() && is_replied(rt, &script)
 }
@@ -280,6 +294,6 @@ fn serves_ids(rt: &HostRuntime, count: u64, bytes: u64) -> bool {
 #[test]
 fn ids_rise_by_one_and_each_tenth_is_logged(rt: HostRuntime) {
     for (count, bytes) in IDS {
-        assert!(rt; serves_ids(&rt, *count, *bytes), "{count} ids");
+        assert!(rt; serves_ids(rt, *count, *bytes), "{count} ids");
     }
 }

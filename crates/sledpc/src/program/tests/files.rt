@@ -8,13 +8,22 @@ const CORRUPT: &str = "sledpc: error corruption\n";
 const UNREAD: &str = "sledpc: error read\n";
 
 // Whether the program over this file replies so to a script, and ends without a fault.
-fn answers(rt: &HostRuntime, path: &str, mut script: &[u8], want: &[u8]) -> bool {
+fn answers<T: Files<File = File> + AllocGlobal + Threads + Wait + Copy + Send + 'static>(
+    rt: T,
+    path: &str,
+    mut script: &[u8],
+    want: &[u8],
+) -> bool {
     let mut output = Vec::new(rt.alloc());
     ends_so(rt, &["file", path], &mut script, &mut output, "") && output.as_slice() == want
 }
 
 // Whether the program over this file makes no call, replies nothing and reports this fault.
-fn refuses(rt: &HostRuntime, path: &str, fault: &str) -> bool {
+fn refuses<T: Files<File = File> + AllocGlobal + Threads + Wait + Copy + Send + 'static>(
+    rt: T,
+    path: &str,
+    fault: &str,
+) -> bool {
     let words = &["file", path];
     ends_so(
         rt,
@@ -25,20 +34,30 @@ fn refuses(rt: &HostRuntime, path: &str, fault: &str) -> bool {
     )
 }
 
-fn holds(rt: &HostRuntime, path: &str, bytes: &[u8]) -> bool {
-    match fs::read(rt, path) {
+fn holds<T: Files<File = File> + AllocGlobal + Threads + Wait + Copy + Send + 'static>(
+    rt: T,
+    path: &str,
+    bytes: &[u8],
+) -> bool {
+    match fs::read(&rt, path) {
         Ok(found) => found.as_slice() == bytes,
         Err(_) => false,
     }
 }
 
-fn removes(rt: &HostRuntime, path: &str) -> bool {
-    fs::remove_file(rt, path).is_ok()
+fn removes<T: Files<File = File> + AllocGlobal + Threads + Wait + Copy + Send + 'static>(
+    rt: T,
+    path: &str,
+) -> bool {
+    fs::remove_file(&rt, path).is_ok()
 }
 
 // The path, with no file there that a test left which failed.
-fn fresh<'a>(rt: &HostRuntime, path: &'a str) -> &'a str {
-    let _ = fs::remove_file(rt, path);
+fn fresh<'a, T: Files<File = File> + AllocGlobal + Threads + Wait + Copy + Send + 'static>(
+    rt: T,
+    path: &'a str,
+) -> &'a str {
+    let _ = fs::remove_file(&rt, path);
     path
 }
 
@@ -92,7 +111,11 @@ const RUNS: &[Runs] = &[
 ];
 
 // Whether each run over a file that is not there at first replies so.
-fn runs_so(rt: &HostRuntime, path: &str, runs: Runs) -> bool {
+fn runs_so<T: Files<File = File> + AllocGlobal + Threads + Wait + Copy + Send + 'static>(
+    rt: T,
+    path: &str,
+    runs: Runs,
+) -> bool {
     for (script, want) in runs {
         if !answers(rt, path, script.as_bytes(), want.as_bytes()) {
             return false;
@@ -104,24 +127,29 @@ fn runs_so(rt: &HostRuntime, path: &str, runs: Runs) -> bool {
 #[test]
 fn a_file_holds_what_was_flushed(rt: HostRuntime) {
     for runs in RUNS {
-        assert!(rt; runs_so(&rt, fresh(&rt, "runs"), runs), "at {}", runs[0].0);
+        assert!(rt; runs_so(rt, fresh(rt, "runs"), runs), "at {}", runs[0].0);
     }
     // The path is one word, whatever is in it.
-    let path = fresh(&rt, "a path with = and -- in it");
-    assert!(rt; runs_so(&rt, path, RUNS[0]));
+    let path = fresh(rt, "a path with = and -- in it");
+    assert!(rt; runs_so(rt, path, RUNS[0]));
 }
 
 #[test]
 fn an_empty_file_is_a_new_one(rt: HostRuntime) {
     assert!(rt; fs::write(&rt, "empty", b"".as_slice()).is_ok());
-    assert!(rt; runs_so(&rt, "empty", RUNS[0]));
+    assert!(rt; runs_so(rt, "empty", RUNS[0]));
 }
 
 /// Bytes of a value, and how many the file has behind a run that puts it on a page and flushes nothing: at 4,096 bytes that are pending
 /// they are written.
 const UNFLUSHED: &[(usize, &str)] = &[(4_065, "size 53\n"), (4_066, "size 4158\n")];
 
-fn is_written(rt: &HostRuntime, path: &str, value: usize, want: &str) -> bool {
+fn is_written<T: Files<File = File> + AllocGlobal + Threads + Wait + Copy + Send + 'static>(
+    rt: T,
+    path: &str,
+    value: usize,
+    want: &str,
+) -> bool {
     let mut script = new_script(rt.alloc());
     put_pair_lines(&mut script, (1, value)).is_ok()
         && answers(rt, path, &script.asked, &script.wanted)
@@ -132,8 +160,8 @@ fn is_written(rt: &HostRuntime, path: &str, value: usize, want: &str) -> bool {
 #[test]
 fn pending_bytes_are_written_at_4096(rt: HostRuntime) {
     for (value, want) in UNFLUSHED {
-        let path = fresh(&rt, "unflushed");
-        assert!(rt; is_written(&rt, path, *value, want), "at {value}");
+        let path = fresh(rt, "unflushed");
+        assert!(rt; is_written(rt, path, *value, want), "at {value}");
     }
 }
 
@@ -148,8 +176,12 @@ const NO_LOGS: &[&[u8]] = &[
 ];
 
 // Whether a file of these bytes is refused, and left as it is.
-fn is_corrupt(rt: &HostRuntime, path: &str, bytes: &[u8]) -> bool {
-    fs::write(rt, path, bytes).is_ok()
+fn is_corrupt<T: Files<File = File> + AllocGlobal + Threads + Wait + Copy + Send + 'static>(
+    rt: T,
+    path: &str,
+    bytes: &[u8],
+) -> bool {
+    fs::write(&rt, path, bytes).is_ok()
         && refuses(rt, path, CORRUPT)
         && holds(rt, path, bytes)
         && removes(rt, path)
@@ -158,7 +190,7 @@ fn is_corrupt(rt: &HostRuntime, path: &str, bytes: &[u8]) -> bool {
 #[test]
 fn a_file_that_is_no_log_is_refused_and_left_as_it_is(rt: HostRuntime) {
     for bytes in NO_LOGS {
-        assert!(rt; is_corrupt(&rt, "no log", bytes), "at {bytes:?}");
+        assert!(rt; is_corrupt(rt, "no log", bytes), "at {bytes:?}");
     }
 }
 
@@ -166,8 +198,11 @@ fn a_file_that_is_no_log_is_refused_and_left_as_it_is(rt: HostRuntime) {
 const NO_FILES: &[&str] = &["", ".", "/", "absent/log", "absent/", "log\0", "/dev/null"];
 
 // Whether another that has the file open keeps the program from it.
-fn is_held(rt: &HostRuntime, path: &str) -> bool {
-    match FileDisk::open(rt, path) {
+fn is_held<T: Files<File = File> + AllocGlobal + Threads + Wait + Copy + Send + 'static>(
+    rt: T,
+    path: &str,
+) -> bool {
+    match FileDisk::open(&rt, path) {
         Ok(_holder) => refuses(rt, path, UNREAD) && holds(rt, path, b""),
         Err(_) => false,
     }
@@ -176,9 +211,9 @@ fn is_held(rt: &HostRuntime, path: &str) -> bool {
 #[test]
 fn a_path_of_no_file_is_refused_and_so_is_one_in_use(rt: HostRuntime) {
     for path in NO_FILES {
-        assert!(rt; refuses(&rt, path, UNREAD), "at {path}");
+        assert!(rt; refuses(rt, path, UNREAD), "at {path}");
     }
-    let path = fresh(&rt, "held");
-    assert!(rt; is_held(&rt, path));
-    assert!(rt; runs_so(&rt, path, RUNS[0]));
+    let path = fresh(rt, "held");
+    assert!(rt; is_held(rt, path));
+    assert!(rt; runs_so(rt, path, RUNS[0]));
 }

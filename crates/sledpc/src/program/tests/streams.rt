@@ -55,7 +55,12 @@ impl Write for Barred {
 
 // Whether a script is replied to so, and flushed where bars stand, by a writer with so much room. Where it has too little it
 // takes just what it has room for, and that is reported.
-fn is_taken<R: Read>(rt: &HostRuntime, input: &mut R, room: usize, want: &[u8]) -> bool {
+fn is_taken<T: Files<File = File> + AllocGlobal + Threads + Wait + Copy + Send + 'static, R: Read>(
+    rt: T,
+    input: &mut R,
+    room: usize,
+    want: &[u8],
+) -> bool {
     let mut output = Barred {
         got: Vec::new(rt.alloc()),
         room,
@@ -71,7 +76,12 @@ fn is_taken<R: Read>(rt: &HostRuntime, input: &mut R, room: usize, want: &[u8]) 
 }
 
 // Whether a script that is given in these pieces is replied to so, and flushed where bars stand, by a writer with so much room.
-fn flushes_so(rt: &HostRuntime, pieces: &[&str], room: usize, want: &str) -> bool {
+fn flushes_so<T: Files<File = File> + AllocGlobal + Threads + Wait + Copy + Send + 'static>(
+    rt: T,
+    pieces: &[&str],
+    room: usize,
+    want: &str,
+) -> bool {
     let mut input = Pieces {
         left: pieces,
         is_broken: false,
@@ -81,7 +91,9 @@ fn flushes_so(rt: &HostRuntime, pieces: &[&str], room: usize, want: &str) -> boo
 
 // Whether a script that is given in these pieces, and can't be read behind them, is replied to so, and flushed where bars
 // stand.
-fn flushes_so_before_failing(rt: &HostRuntime, pieces: &[&str], want: &str) -> bool {
+fn flushes_so_before_failing<
+    T: Files<File = File> + AllocGlobal + Threads + Wait + Copy + Send + 'static,
+>(rt: T, pieces: &[&str], want: &str) -> bool {
     let mut input = Pieces {
         left: pieces,
         is_broken: true,
@@ -95,7 +107,11 @@ fn flushes_so_before_failing(rt: &HostRuntime, pieces: &[&str], want: &str) -> b
 }
 
 // Whether a line of so many digits and more, and those around it, are replied to so, and flushed where bars stand.
-fn flushes_around(rt: &HostRuntime, digits: usize, want: &str) -> bool {
+fn flushes_around<T: Files<File = File> + AllocGlobal + Threads + Wait + Copy + Send + 'static>(
+    rt: T,
+    digits: usize,
+    want: &str,
+) -> bool {
     let mut script = Vec::new(rt.alloc());
     let is_put = script.extend_from_slice(b"get 9\n").is_ok()
         && put_long(&mut script, digits).is_ok();
@@ -136,7 +152,10 @@ fn put_large(script: &mut Script) -> Result<(), AllocError> {
 }
 
 // Whether a leaf of 1,000 pairs is replied to twice and then flushed, by a writer with so much room.
-fn takes_large(rt: &HostRuntime, room: usize) -> bool {
+fn takes_large<T: Files<File = File> + AllocGlobal + Threads + Wait + Copy + Send + 'static>(
+    rt: T,
+    room: usize,
+) -> bool {
     let mut script = new_script(rt.alloc());
     let is_put = put_large(&mut script).is_ok();
     is_put && is_taken(rt, &mut script.asked.as_slice(), room, &script.wanted)
@@ -182,10 +201,10 @@ const LONG: &[(usize, &str)] = &[
 #[test]
 fn replies_go_out_before_a_read_that_may_wait(rt: HostRuntime) {
     for (pieces, want) in BEFORE_WAITING {
-        assert!(rt; flushes_so(&rt, pieces, 999, want), "at {want}");
+        assert!(rt; flushes_so(rt, pieces, 999, want), "at {want}");
     }
     for (digits, want) in LONG {
-        assert!(rt; flushes_around(&rt, *digits, want), "with {digits} digits");
+        assert!(rt; flushes_around(rt, *digits, want), "with {digits} digits");
     }
 }
 
@@ -201,7 +220,7 @@ const BEFORE_FAILING: Flushed = &[
 #[test]
 fn replies_go_out_before_a_reader_that_fails(rt: HostRuntime) {
     for (pieces, want) in BEFORE_FAILING {
-        assert!(rt; flushes_so_before_failing(&rt, pieces, want), "at {want}");
+        assert!(rt; flushes_so_before_failing(rt, pieces, want), "at {want}");
     }
 }
 
@@ -226,12 +245,12 @@ fn a_writer_may_refuse_at_each_place(rt: HostRuntime) {
     for (pieces, want, end) in REFUSED {
         for room in 0..*end {
             assert!(rt;
-                flushes_so(&rt, pieces, room, want),
+                flushes_so(rt, pieces, room, want),
                 "with room for {room} bytes"
             );
         }
     }
     for room in ROOMS {
-        assert!(rt; takes_large(&rt, *room), "with room for {room} bytes");
+        assert!(rt; takes_large(rt, *room), "with room for {room} bytes");
     }
 }

@@ -5,7 +5,8 @@ use Rattle.sled_pagecache.specs.Batches.{OpensBatch}
 use Rattle.sledpc.specs.Served.{ServesAll, ServesBatch}
 use Rattle.sledpc.specs.declared.script.command.Mark.TheVariants as mark
 use Rattle.sledpc.specs.declared.script.run.RunError.TheVariants.{Write}
-use Rattle.sledpc.proofs.Batches.{also_of, batch_closed, batch_untold, cancel_made, cancelled_all, closed_all, is_pinned, mark_done, mark_stops, opened_batch, refused_made}
+use Rattle.sledpc.proofs.Batches.{also_of, batch_closed, batch_untold, cancelled_all, closed_all, is_pinned, mark_done, mark_stops, opened_batch}
+use Rattle.sled_pagecache.specs.MadeLaws.{cancel-made, pin-made}
 use Rattle.sledpc.proofs.script.batch.serve_batch.Goals as goal
 
 -- no batch is opened
@@ -19,7 +20,7 @@ returns-in_err-reply_mark-in-Err g c =
     λ input at. rw (told.1, told.2)
     (closed_all g.L.Log c.args.cache.now last input (contents c.args.writer.now) (contents c.reply_mark.new.writer) c.args.piece.now c.reply_mark.new.piece (Err Write) (opens.refused ∙ c.requires)
     (mark_stops g.L.Log g.met.L.Log.only_now c.args.cache.now last mark.Pin (Err c.in-Err.error) input (read c.args.reader.now) (contents c.args.writer.now) (contents c.reply_mark.new.writer) c.args.piece.now c.reply_mark.new.piece at tt
-    (refused_made g.L.Log c.args.cache.now last (Err c.in-Err.error) opens) (opened_batch g.L.Log c.args.cache.now last (Err c.in-Err.error) opens) c.in_err-reply_mark-in-Err.ensures))
+    (pin-made g.L.Log c.args.cache.now last (Err c.in-Err.error) opens) (opened_batch g.L.Log c.args.cache.now last (Err c.in-Err.error) opens) c.in_err-reply_mark-in-Err.ensures))
 
 pub returns-in-Err : goal.returns-in-Err
 returns-in-Err g c =
@@ -29,7 +30,7 @@ returns-in-Err g c =
     let opens : OpensBatch g.L.Log c.args.cache.now (Err c.in-Err.error) last = rw c.in-Err.is at c.pin_log.follows.holds-at-none in
     λ input at. (
       mark_done g.L.Log g.met.L.Log.only_now c.args.cache.now last mark.Pin (Err c.in-Err.error) input (read c.args.reader.now) (contents c.args.writer.now) (contents c.reply_mark.new.writer) c.args.piece.now c.reply_mark.new.piece at tt
-          (refused_made g.L.Log c.args.cache.now last (Err c.in-Err.error) opens) (opened_batch g.L.Log c.args.cache.now last (Err c.in-Err.error) opens) c.in_ok-reply_mark-in-Err.ensures,
+          (pin-made g.L.Log c.args.cache.now last (Err c.in-Err.error) opens) (opened_batch g.L.Log c.args.cache.now last (Err c.in-Err.error) opens) c.in_ok-reply_mark-in-Err.ensures,
       opens.refused ∙ c.requires,
     )
 
@@ -75,7 +76,7 @@ returns-in-Ok-End g c =
     λ input at.
     also_of (λ now. ServesAll g.L.Log c.args.cache.now input (contents c.args.writer.now) (contents c.serve_inside.new.writer) c.args.piece.now c.serve_inside.new.piece (Ok tt) now) last
     (cancelled_all g.L.Log c.args.cache.now c.serve_inside.new.cache last input (contents c.args.writer.now) (contents c.serve_inside.new.writer) c.args.piece.now c.serve_inside.new.piece (Ok tt) c.cancel.result (c.in-Ok-End.ensures.batch ∙ pinned.batch)
-    (cancel_made g.L.Log c.serve_inside.new.cache last c.cancel.result c.cancel.ensures) c.cancel.ensures.closed (rw c.in-Ok-End.field-0-is at c.in-Ok-End.ensures.serves c.args.cache.now input pinned at))
+    (cancel-made g.L.Log c.serve_inside.new.cache last c.cancel.result c.cancel.ensures) c.cancel.ensures.closed (rw c.in-Ok-End.field-0-is at c.in-Ok-End.ensures.serves c.args.cache.now input pinned at))
     (search rules)
 
 pub returns-in-Err-serve_inside : goal.returns-in-Err-serve_inside
@@ -86,5 +87,5 @@ returns-in-Err-serve_inside g c =
     λ input at.
     also_of (λ now. ServesAll g.L.Log c.args.cache.now input (contents c.args.writer.now) (contents c.serve_inside.new.writer) c.args.piece.now c.serve_inside.new.piece (Err c.in-Err-serve_inside.error) now) last
     (cancelled_all g.L.Log c.args.cache.now c.serve_inside.new.cache last input (contents c.args.writer.now) (contents c.serve_inside.new.writer) c.args.piece.now c.serve_inside.new.piece (Err c.in-Err-serve_inside.error) c.cancel-in-Err-serve_inside.result (c.in-Err-serve_inside.ensures.batch ∙ pinned.batch)
-    (cancel_made g.L.Log c.serve_inside.new.cache last c.cancel-in-Err-serve_inside.result c.cancel-in-Err-serve_inside.ensures) c.cancel-in-Err-serve_inside.ensures.closed (c.in-Err-serve_inside.ensures.serves c.args.cache.now input pinned at))
+    (cancel-made g.L.Log c.serve_inside.new.cache last c.cancel-in-Err-serve_inside.result c.cancel-in-Err-serve_inside.ensures) c.cancel-in-Err-serve_inside.ensures.closed (c.in-Err-serve_inside.ensures.serves c.args.cache.now input pinned at))
     (search rules)

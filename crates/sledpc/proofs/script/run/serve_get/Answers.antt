@@ -7,7 +7,7 @@ returns g c = let got = c.get.follows.holds-at-none in
     -- what the cache is once the node has come back
     record {
       answer = Got (lent_answer c.get.result);
-      made = record { step = got.step; bytes = tt; faults = got.blame; covered = tt };
+      made = record { step = got.step; bytes = tt; faults = got.blame; covered = tt; keeps = got.keeps };
       batch = got.keeps.batch;
       written = c.gather_line.ensures;
     }

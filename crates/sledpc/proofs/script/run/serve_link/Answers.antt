@@ -4,7 +4,7 @@ use Rattle.sledpc.proofs.script.run.serve_link.Goals as goal
 pub returns : goal.returns
 returns g c = record {
   answer = Linked c.link-answer.result;
-  made = record { step = c.link-answer.ensures.step; bytes = tt; faults = c.link-answer.ensures.blame; covered = tt };
+  made = record { step = c.link-answer.ensures.step; bytes = tt; faults = c.link-answer.ensures.blame; covered = tt; keeps = c.link-answer.ensures.keeps };
   batch = c.link-answer.ensures.keeps.batch;
   written = c.gather_line.ensures;
 }

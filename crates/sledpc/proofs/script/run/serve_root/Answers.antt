@@ -5,7 +5,7 @@ use Rattle.sledpc.proofs.script.run.serve_root.Goals as goal
 pub returns : goal.returns
 returns g c = record {
   answer = FoundRoot c.meta_pid_for_name-answer.result;
-  made = record { step = rw (← c.as_slice.ensures) c.meta_pid_for_name-answer.ensures.step; bytes = tt; faults = tt; covered = tt };
+  made = record { step = rw (← c.as_slice.ensures) c.meta_pid_for_name-answer.ensures.step; bytes = tt; faults = tt; covered = tt; keeps = c.meta_pid_for_name-answer.ensures.keeps };
   batch = refl;
   written = c.gather_line.ensures;
 }

@@ -1,13 +1,13 @@
 use Rattle.std.proofs.Common.{refl}
 use Rattle.sled_pagecache.specs.declared.pagecache.call.Answer.TheVariants.{Sized}
-use Rattle.sledpc.proofs.Making.{size_tells}
+use Rattle.sled_pagecache.specs.MadeLaws.{size-made}
 use Rattle.sledpc.proofs.script.run.serve_size.Goals as goal
 
 pub returns : goal.returns
 returns g c = let sized = c.size_on_disk-answer.ensures in
     record {
       answer = Sized c.size_on_disk-answer.result;
-      made = record { step = sized.step; bytes = size_tells g.L.Log c.args.cache.now c.size_on_disk-answer.result sized.size; faults = tt; covered = tt };
+      made = size-made g.L.Log c.args.cache.now c.size_on_disk-answer.result sized.step sized.size sized.keeps;
       batch = refl;
       written = c.gather_line.ensures;
     }
