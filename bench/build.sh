@@ -1,6 +1,7 @@
 #!/bin/sh
-# build.sh FOLDER: builds into the folder the programs that measure.sh and measure_file.sh need: `timed`, and the script's peers. It
-# prints the names of the peers that were built, and a line `left out NAME PACKAGE` for each whose package is missing.
+# build.sh FOLDER [threads]: builds into the folder the programs that measure.sh and measure_file.sh need, or measure_threads.sh: `timed`,
+# and the peers of the script, or those of threads. It prints the names of the peers that were built, and a line `left out NAME PACKAGE`
+# for each whose package is missing.
 set -eu
 
 here=$(CDPATH='' cd -- "$(dirname -- "$(readlink -f -- "$0")")" && pwd)
@@ -10,23 +11,36 @@ compile() {
     source=$1
     target=$2
     shift 2
-    g++ -std=c++17 -O2 -Wall -Wextra -Werror "$here/$source" -o "$folder/$target" "$@"
+    g++ -std=c++17 -O2 -pthread -Wall -Wextra -Werror "$here/$source" -o "$folder/$target" "$@"
 }
 
-# peer NAME HEADER PACKAGE LIBRARY
+# peer SOURCE HEADER PACKAGE LIBRARY
 peer() {
+    name=${1##*/}
     if printf '#if !__has_include(<%s>)\n#error\n#endif\n' "$2" | g++ -std=c++17 -E -x c++ - >/dev/null 2>&1; then
-        compile "peers/$1.cpp" "$1" "$4"
-        echo "$1"
+        compile "peers/$1.cpp" "$name" "$4"
+        echo "$name"
     else
-        echo "left out $1 $3"
+        echo "left out $name $3"
     fi
 }
 
 compile timed.cpp timed
-compile peers/plain_map.cpp plain_map
-echo plain_map
-peer lmdb lmdb.h liblmdb-dev -llmdb
-peer sqlite sqlite3.h libsqlite3-dev -lsqlite3
-peer leveldb leveldb/db.h libleveldb-dev -lleveldb
-peer rocksdb rocksdb/db.h librocksdb-dev -lrocksdb
+case ${2:-script} in
+script)
+    compile peers/plain_map.cpp plain_map
+    echo plain_map
+    peer lmdb lmdb.h liblmdb-dev -llmdb
+    peer sqlite sqlite3.h libsqlite3-dev -lsqlite3
+    peer leveldb leveldb/db.h libleveldb-dev -lleveldb
+    peer rocksdb rocksdb/db.h librocksdb-dev -lrocksdb
+    ;;
+threads)
+    compile peers/threads/plain_map.cpp plain_map
+    echo plain_map
+    peer threads/lmdb lmdb.h liblmdb-dev -llmdb
+    peer threads/lmdb_own lmdb.h liblmdb-dev -llmdb
+    peer threads/sqlite sqlite3.h libsqlite3-dev -lsqlite3
+    peer threads/sqlite_own sqlite3.h libsqlite3-dev -lsqlite3
+    ;;
+esac

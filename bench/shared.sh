@@ -1,4 +1,4 @@
-# What measure.sh and measure_file.sh share. Each sets `top`, `count` and `list`, sources this, and then has
+# What measure.sh, measure_file.sh and measure_threads.sh share. Each sets `top`, `count` and `list`, sources this, and then has
 #
 #     start NAME SCRIPT INPUT    runs the program over the file INPUT with `timed`, from nothing kept; $work/out gets its replies,
 #                                and $work/report what `timed` says
@@ -35,10 +35,10 @@ work_in() {
     : >"$work/results"
 }
 
-# Builds the peers into $work. Their names are $peers.
+# build_peers [threads]: builds the peers into $work. Their names are $peers.
 build_peers() {
     load_before=$(load)
-    "$bench/build.sh" "$work" >"$work/built"
+    "$bench/build.sh" "$work" "$@" >"$work/built"
     peers=$(grep -v '^left out ' "$work/built" | tr '\n' ' ')
 }
 

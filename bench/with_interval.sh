@@ -5,9 +5,7 @@ set -eu
 
 top=$(CDPATH='' cd -- "$(dirname -- "$(readlink -f -- "$0")")/.." && pwd)
 interval=$1 file=$2
-copy=$(mktemp -d "${TMPDIR:-/tmp}/interval-XXXXXX")
-trap 'rm -rf "$copy"' EXIT
-trap 'exit 1' HUP INT TERM
+. "$top/bench/copied.sh"
 
 # put_interval FILE FRONT: the number behind the front is the interval
 put_interval() {
@@ -19,18 +17,11 @@ put_interval() {
 }
 
 cp "$top/crates.txt" "$top/HANDLES" "$copy"
-cd "$top"
-for part in crates/*/src crates/*/specs crates/*/proofs; do
-    mkdir -p "$copy/${part%/*}"
-    cp -R "$part" "$copy/$part"
+for crate in "$top"/crates/*; do
+    copy_crate "${crate##*/}"
 done
 put_interval "$copy/crates/sledpc/src/program.rt" 'idgen_persist_interval: '
 put_interval "$copy/crates/sledpc/specs/Settings.antt" 'idgen_persist_interval = '
 
 # Over an empty script the program does nothing.
-cd "$copy/crates/sledpc"
-rt run -- mem </dev/null >"$copy/log" 2>&1 || {
-    tail -n 20 "$copy/log" >&2
-    exit 1
-}
-cp out/sledpc "$file"
+build_copied sledpc "$file" mem

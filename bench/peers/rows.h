@@ -44,6 +44,9 @@ constexpr std::uint64_t roots_id = 0, counter_id = 1;
 
 template <typename Table> class Rows {
   public:
+    // What is given goes to the table.
+    template <typename... Given> explicit Rows(Given &...given) : table(given...) {}
+
     void allocate(std::uint64_t id, std::uint64_t stamp, script::Pairs &&pairs) {
         put_stamp(id, stamp);
         put_pairs(id, pairs);
