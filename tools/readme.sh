@@ -1,8 +1,8 @@
 #!/bin/sh
 # Compares README.md with the code, word for word, and prints what differs:
 #
-# - each block of Rust stands at the head of a file of crates/sledpc/src/tests/readme, which is named as its function is
-#   and has a test behind it, and each of these files has its block;
+# - each block of Rust stands at the head of a file of a folder readme, of crates/sledpc/src/tests or crates/sled_shared_tests/src, which is
+#   named as its function is and has a test behind it, and each of these files has its block;
 # - each session of the program `./sledpc` stands in the run that the gate makes of it: its words in crates/sledpc/args,
 #   its input in crates/sledpc/stdin, and its replies at the same lines of crates/sledpc/stdout; and one over a file in a row of the
 #   tests of the program;
@@ -14,7 +14,7 @@ set -eu
 
 cd "$(CDPATH='' cd -- "$(dirname -- "$0")/.." && pwd)"
 page=README.md
-examples=crates/sledpc/src/tests/readme
+examples='crates/sledpc/src/tests/readme crates/sled_shared_tests/src/readme'
 run=crates/sledpc
 file_runs=crates/sledpc/src/program/tests/files.rt
 work=$(mktemp -d)
@@ -47,9 +47,9 @@ compare_rust() {
     for block in "$work"/*.rust; do
         [ -e "$block" ] || continue
         name=$(sed -n 's/^\(pub \)\{0,1\}fn \([a-z0-9_]*\).*/\2/p' "$block" | head -n 1)
-        file=$examples/$name.rt
+        file=$(find $examples -name "$name.rt")
         if [ -z "$name" ] || [ ! -f "$file" ]; then
-            differ "no file $file has the block that begins so: $(head -n 1 "$block")"
+            differ "no file $name.rt of $examples has the block that begins so: $(head -n 1 "$block")"
             continue
         fi
         : >"$work/$name.has_block"
@@ -60,9 +60,10 @@ compare_rust() {
             cat "$work/diff"
         fi
     done
-    for file in "$examples"/*.rt; do
+    find $examples -name '*.rt' >"$work/examples"
+    while read -r file; do
         [ -e "$work/$(basename "$file" .rt).has_block" ] || differ "no block has $file"
-    done
+    done <"$work/examples"
 }
 
 # Compares one run of the program: $1 is what is printed to it, $2 its words, $3 the file of what it replies.
