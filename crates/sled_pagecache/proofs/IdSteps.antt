@@ -1,5 +1,5 @@
 -- What a call does to the generated ids: no call but that for an id touches the counter or uses an id.
-use Rattle.sled_pagecache.proofs.Names.{CasRoot, FoundRoot, MetaPidForName, RootSwapped, SetsRoot, TellsRoot, AllByRecursion, Allocate, Allocated, Allocates, Answer, Bool, Cache, Call, Change, Content, Counter, Does, Err, Error, Event, Fails, Finds, FindsContent, Flush, Flushed, Flushes, Free, Freed, GenerateId, Generated, Get, GetIdgen, GetMeta, Gets, GetsIdgen, GetsMeta, Ghosts, Got, GotIdgen, GotMeta, HasNoRoom, IsCorruption, IsHindered, IsRefused, Linked, Links, LinksContent, List, LogFull, MatchBool, MatchOption, Node, None, Ok, Option, Outcome, Put, Read, Replace, Replaced, Replaces, Result, Roots, SizeOnDisk, Sized, Sizes, Some, State, StepOver, Swapped, Swaps, SwapsContent, SwapsPage, Token, Unsupported, Update, WholeNode, Write, [], ap, arith, chain_length, cond, contents_after, contents_of, false, false≢true, free_token, greatest_free, inl, inr, is_reserved, later, length, ltb-true, none-some, page_at, refl, same_Some, slice_get, subst, suc, sym, token, true, true≢false, unchanged, ℕ, ⊎_elim, ◌+◌, ◌-◌, ◌==◌, ◌^◌, ◌∙◌, ◌∷◌, ◌≡◌, ◌≢◌, ◌≤◌, ◌⊎◌}
+use Rattle.sled_pagecache.proofs.Names.{CasRoot, FoundRoot, MetaPidForName, RootSwapped, SetsRoot, TellsRoot, AllByRecursion, Allocate, Allocated, Allocates, Answer, Bool, Cache, Call, Change, Content, Counter, Does, Err, Error, Event, Fails, Finds, FindsContent, Flush, Flushed, Flushes, Free, Freed, GenerateId, Generated, Get, GetIdgen, GetMeta, Gets, GetsIdgen, GetsMeta, Ghosts, Got, GotIdgen, GotMeta, HasNoRoom, IsCorruption, IsHindered, IsRefused, Linked, Links, LinksContent, List, LogFull, MatchBool, MatchOption, Node, None, Ok, Option, Outcome, Put, Read, Replace, Replaced, Replaces, Result, Roots, SizeOnDisk, Sized, Sizes, Some, State, StepOver, Swapped, Swaps, SwapsContent, SwapsPage, Token, Unsupported, Update, WholeNode, Write, [], ap, arith, chain_length, cond, contents_after, contents_of, false, false≢true, free_token, greatest_free, inl, inr, is_reserved, later, length, ltb-true, none-some, page_at, refl, same_Some, slice_get, slice_set, stamps_of, subst, suc, sym, token, true, true≢false, unchanged, ℕ, ⊎_elim, ◌+◌, ◌-◌, ◌==◌, ◌^◌, ◌∙◌, ◌∷◌, ◌≡◌, ◌≢◌, ◌≤◌, ◌⊎◌}
 use Rattle.std.specs.Prelude.{nat_lt}
 use Rattle.sled_base.specs.declared.types.Error.TheVariants as error
 use Rattle.sled_log.specs.Contents as content
@@ -8,7 +8,7 @@ use Rattle.sled_base.specs.Order.{Bytes}
 use Rattle.sled_node.specs.Meta as meta
 use Rattle.sled_node.specs.declared.node.link.Link.{Link as NodeLink}
 use Rattle.sled_pagecache.proofs.Counting.{CountsTo, Rises, put-counts, put-rises, spared-counts, spared-rises, start-above}
-use Rattle.sled_pagecache.proofs.Lookups.{map-at}
+use Rattle.sled_pagecache.proofs.Lookups.{map-at, set-at}
 use Rattle.sled_pagecache.specs.Counted.{SparesCounter}
 use Rattle.sled_pagecache.specs.Openings.{id_in}
 use Rattle.sled_pagecache.specs.State.{StampedPage, is_free, page, with_page}
@@ -89,13 +89,20 @@ record IsRead (s : State) (holds : ℕ → ℕ → Type 0) : Type 0 where
   pub stamp : ℕ
   pub counter : ℕ
   pub counts : CountsTo (contents_of s) counter
+  pub stands : (p : StampedPage) × (page_at s 1 ≡ Some p) × (p.stamp ≡ stamp)
   pub is : holds stamp counter
 
 counter-read : (s : State) (holds : ℕ → ℕ → Type 0) → HoldsCounter (page_at s 1) holds → IsRead s holds
 counter-read s holds step = finds (page_at s 1) refl step
   where
     by : (found : StampedPage) (content : Content) → page_at s 1 ≡ Some found → found.content ≡ content → IsCounterAnd content (λ n. holds found.stamp n) → IsRead s holds
-    by found (Counter n) there is h = record { stamp = found.stamp; counter = n; counts = map-at (λ (p : StampedPage). p.content) s.pages 1 found there ∙ ap Some is; is = h }
+    by found (Counter n) there is h = record {
+      stamp = found.stamp;
+      counter = n;
+      counts = map-at (λ (p : StampedPage). p.content) s.pages 1 found there ∙ ap Some is;
+      stands = (found, there, refl);
+      is = h;
+    }
     by found other there is h = absurd h
 
     finds : (found : Option StampedPage) → page_at s 1 ≡ found → HoldsCounter found holds → IsRead s holds
@@ -353,3 +360,27 @@ pub none-given : {L : Type 0} (g : Ghosts L) (cache : Cache L) (s : State) → s
 none-given g cache s kept GenerateId (Generated (Ok id)) out step = split s.fault step (λ _ h. absurd (ok-err id _ h.0)) (λ clear _. absurd (true≢false (sym kept ∙ clear)))
 none-given g cache s kept asked (Generated (Ok id)) out step = absurd step
 none-given g cache s kept asked answer out step = refl
+
+-- an id that leaves every stamp wrote nothing
+pub wrote-none : {L : Type 0} (g : Ghosts L) (cache : Cache L) (s : State) (call : Call) (id : ℕ) (out : Outcome) → StepOver g cache s call (Generated (Ok id)) out → stamps_of out.state ≡ stamps_of s → out.changes ≡ []
+wrote-none g cache s GenerateId id out step same =
+    split s.fault step (λ _ h. absurd (ok-err id _ h.0)) (λ _ h.
+    split (nat_lt (2 ^ 64 - 1) s.next) h (λ _ h. absurd (ok-err id _ h.0)) (λ _ h.
+    let read = counter-read s _ h in
+    split (nat_lt (interval_start interval read.counter) (interval_start interval s.next)) read.is (λ _ h.
+    split s.batch h (λ _ h. absurd (ok-err id _ h.0)) (λ _ h.
+    split (read.stamp == 2 ^ 64 - 1) h (λ _ h. absurd (ok-err id _ h.0)) (λ _ h. rises read.stamp (interval_start interval s.next) read.stands h.1.1)))
+    (λ _ h. ap (λ (o : Outcome). o.changes) h.1)))
+  where
+    interval : ℕ
+    interval = cache.config.idgen_persist_interval
+
+    rises : (stamp start : ℕ) → (p : StampedPage) × (page_at s 1 ≡ Some p) × (p.stamp ≡ stamp) → out.state ≡ with_next_id (with_page s 1 (page (stamp + 1) (Counter start))) → out.changes ≡ []
+    rises stamp start (p, there, is) then =
+        let put = page (stamp + 1) (Counter start) in
+        let before = map-at (λ (q : StampedPage). q.stamp) s.pages 1 p there in
+        let after = map-at (λ (q : StampedPage). q.stamp) (slice_set s.pages 1 put) 1 put (set-at s.pages 1 p put there) in
+        let risen : Some (stamp + 1) ≡ Some p.stamp = sym after ∙ ap (λ (stamps : List ℕ). slice_get stamps 1) (sym (ap stamps_of then) ∙ same) ∙ before in
+        let e = same_Some _ _ risen in
+        absurd (omega (arith, e, is))
+wrote-none g cache s asked id out step same = absurd step

@@ -1,5 +1,5 @@
 -- Why every run of openings shows pages after a prefix of the changes, which holds all that was flushed.
-use Rattle.sled_pagecache.proofs.Names.{Entry, seen, map, message_in, unchanged, Answer, Bool, Cache, Call, Config, Content, Err, Error, Flushed, Ghosts, IsIn, IsLogged, IsStep, List, Logged, Messages, None, Ok, Opens, Option, Result, Some, Started, State, Outcome, Why, LogFull, [], ◌∷◌, ◌++◌, ap, append-nil, arith, changes_of_start, effect_of, false, fault_of, inl, inr, IfErr, log_after, Message, missing, only_stable_contents, opened, refl, subst, sym, true, unplaced_state, ℕ, ◌≡◌, ◌≢◌, ◌≤◌, ◌⊎◌, ⊎_elim, ◌∙◌, true≢false, Update, Event, StepOver, Write, Adds}
+use Rattle.sled_pagecache.proofs.Names.{Entry, seen, map, message_in, unchanged, Answer, Bool, Cache, Call, Config, Content, Err, Error, Flushed, Generated, Ghosts, IsIn, IsLogged, IsStep, List, Logged, Messages, None, Ok, Opens, Option, Result, Some, Started, State, Outcome, Why, LogFull, [], ◌∷◌, ◌++◌, ap, append-nil, arith, changes_of_start, effect_of, false, fault_of, inl, inr, IfErr, log_after, Message, missing, only_stable_contents, opened, refl, subst, sym, true, unplaced_state, ℕ, ◌≡◌, ◌≢◌, ◌≤◌, ◌⊎◌, ⊎_elim, ◌∙◌, true≢false, Update, Event, StepOver, Write, Adds}
 use Rattle.std.specs.Result.{IsErrAnd}
 use Rattle.sled_base.specs.declared.types.Error.TheVariants.{Io, OutOfMemory, Unsupported}
 use Rattle.sled_log.specs.LogState as log
@@ -7,6 +7,7 @@ use Rattle.sled_log.specs.LogState.{LogState, IsPrefix}
 use Rattle.sled_log.specs.Laws.{IsPrefix-all, IsPrefix-none}
 use Rattle.sled_pagecache.proofs.Crashing.{refuses}
 use Rattle.sled_pagecache.proofs.Histories.{SurviveAs, Tells, lacks-some, no-changes, survive-begun, survive-now, survive-part, tells-flushed, tells-made, tells-none, tells-nothing, tells-now}
+use Rattle.sled_pagecache.proofs.IdSteps.{wrote-none}
 use Rattle.sled_pagecache.proofs.Reopening.{empty-logged, kept-logged}
 use Rattle.sled_pagecache.specs.History.{History, Crashes, answered, begins, begun_by_start, behind_call, behind_calls, behind_changes, made, pages_by_now, started, started_by, starting_at}
 use Rattle.sled_pagecache.specs.Logged.{IsLeft, now}
@@ -88,11 +89,29 @@ module _ {L : Type 0} (g : Ghosts L) (tells : g.tells)
       left : (pages : List Messages) → g.left_since new.log (g.moment old.log) pages → SurviveAs (begins one.out.changes h) pages
       left pages since = survive-begun h on.held one.out.changes on.told pages ((one.stop on.clear).each pages since)
 
-      pending : (answer : Answer) → (free : one.out.state.fault ≡ false) → ReportsBytes g old answer new → Tells (answered answer one.out.changes h) one.held_then
-      pending (Flushed (Ok written)) free bytes =
-          tells-flushed (made one.out.changes h) one.held_then (tells-made h on.held one.held_then one.out.changes on.told (one.added free))
-          (no-changes one.held_then.stable (unplaced_state (g.state new.log)).pending one.held_then.pending (ap (λ (l : List (Event Entry)). map (seen message_in) l) bytes.1) (one.is.known free).logged.pending)
-      pending answer free bytes = tells-made h on.held one.held_then one.out.changes on.told (one.added free)
+      all : one.out.state.fault ≡ false → Tells (made one.out.changes h) one.held_then
+      all free = tells-made h on.held one.held_then one.out.changes on.told (one.added free)
+
+      none : one.out.state.fault ≡ false → (g.state new.log).pending ≡ [] → one.held_then.pending ≡ []
+      none free is =
+          no-changes one.held_then.stable (unplaced_state (g.state new.log)).pending one.held_then.pending
+          (ap (λ (l : List (Event Entry)). map (seen message_in) l) is) (one.is.known free).logged.pending
+
+      -- an id, which wrote these changes
+      drawn : one.out.state.fault ≡ false → (id : ℕ) (changes : List (Event Update)) → one.out.changes ≡ changes
+          → StepOver g old s call (Generated (Ok id)) one.out → ReportsBytes g old (Generated (Ok id)) new → Tells (answered (Generated (Ok id)) changes h) one.held_then
+      drawn free id [] is step bytes = subst (λ (l : List (Event Update)). Tells (made l h) one.held_then) is (all free)
+      drawn free id (change ∷ changes) is step (inl stable) =
+          tells-flushed (made (change ∷ changes) h) one.held_then (subst (λ (l : List (Event Update)). Tells (made l h) one.held_then) is (all free)) (none free stable)
+      drawn free id (change ∷ changes) is step (inr next) =
+          let same = one.is.stamps ∙ ap (λ (c : Cache L). c.stamps) next ∙ sym on.is.stamps in
+          let wrote = sym (wrote-none g old s call id one.out step same) ∙ is in
+          absurd cc
+
+      behind : one.out.state.fault ≡ false → (answer : Answer) → StepOver g old s call answer one.out → ReportsBytes g old answer new → Tells (answered answer one.out.changes h) one.held_then
+      behind free (Flushed (Ok written)) step bytes = tells-flushed (made one.out.changes h) one.held_then (all free) (none free bytes.1)
+      behind free (Generated (Ok id)) step bytes = drawn free id one.out.changes refl step bytes
+      behind free answer step bytes = all free
 
       by : (fault : Bool) → one.out.state.fault ≡ fault → Stands (behind_call answer one.out h) new one.out.state
       by true kept =
@@ -109,7 +128,7 @@ module _ {L : Type 0} (g : Ghosts L) (tells : g.tells)
             held = one.held_then;
             is = one.is;
             clear = free;
-            told = subst (λ (b : Bool). Tells (behind_changes b answer one.out.changes h) one.held_then) (sym free) (pending answer free done.bytes);
+            told = subst (λ (b : Bool). Tells (behind_changes b answer one.out.changes h) one.held_then) (sym free) (behind free answer one.step done.bytes);
           })
 
   stuck-goes : (h : History) (old new : Cache L) (s : State) (call : Call) (answer : Answer) → IsStuck h old s → IsMade g old call answer new → Goes h old s call answer new

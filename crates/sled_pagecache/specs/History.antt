@@ -6,7 +6,7 @@ use Rattle.sled_pagecache.specs.Opening.{changes_of_start}
 use Rattle.sled_pagecache.specs.Reopening.{AreAfterPrefix}
 use Rattle.sled_pagecache.specs.Step.{Outcome}
 use Rattle.sled_pagecache.specs.declared.pagecache.call.Answer.{Answer}
-use Rattle.sled_pagecache.specs.declared.pagecache.call.Answer.TheVariants.{Flushed}
+use Rattle.sled_pagecache.specs.declared.pagecache.call.Answer.TheVariants.{Flushed, Generated}
 use Rattle.sled_pagecache.specs.declared.pagecache.call.Call.{Call}
 
 -- The pages as the last crash left them, the changes that were made since, in order, how many of those are flushed, and the changes
@@ -55,9 +55,10 @@ started_by (change ∷ changes) h = all_flushed (made (change ∷ changes) h)
 abbrev pub started : History → History
 started h = started_by (begun_by_start h) h
 
--- A call was answered so and wrote these changes: they are made, and a flush that was done flushes all.
+-- A call was answered so and wrote these changes: they are made. A flush that was done flushes all, and so does an id that wrote a counter.
 abbrev pub answered : Answer → List (Event Update) → History → History
 answered (Flushed (Ok written)) changes h = all_flushed (made changes h)
+answered (Generated (Ok id)) (change ∷ changes) h = all_flushed (made (change ∷ changes) h)
 answered answer changes h = made changes h
 
 -- the same, or with a write fault kept they had begun

@@ -1,5 +1,5 @@
 -- Which calls were made of a cache, by what each says of itself.
-use Rattle.std.proofs.Common.{◌≡◌, ◌+◌, ℕ, [], true, false, Result, Ok, Err}
+use Rattle.std.proofs.Common.{◌≡◌, ◌+◌, ℕ, [], true, false, Result, Ok, Err, inl, inr}
 use Rattle.std.specs.Prelude.{IfOk, OnOk}
 use Rattle.sled_base.specs.declared.types.Error.{Error}
 use Rattle.sled_log.specs.declared.log.Log.{Ghosts}
@@ -7,7 +7,7 @@ use Rattle.sled_pagecache.specs.Answers.{Keeps}
 use Rattle.sled_pagecache.specs.Batches.{CancelsBatch, OpensBatch, SealsBatch}
 use Rattle.sled_pagecache.specs.Cache.{Cache}
 use Rattle.sled_pagecache.specs.Calls.{IsBlamed, Steps}
-use Rattle.sled_pagecache.specs.Ids.{IsCovered}
+use Rattle.sled_pagecache.specs.Ids.{GivesId, IsCovered}
 use Rattle.sled_pagecache.specs.Rows.{CoversId, IsMade, ReportsBytes}
 use Rattle.sled_pagecache.specs.declared.pagecache.call.Answer.TheVariants.{Pinned, Sealed, Cancelled, Generated, Flushed, Sized}
 use Rattle.sled_pagecache.specs.declared.pagecache.call.Call.TheVariants.{Pin, Seal, Cancel, GenerateId, Flush, SizeOnDisk}
@@ -48,9 +48,15 @@ module _ {L : Type 0} (g : Ghosts L) (old new : Cache L) where
   covers (Ok id) h = h
   covers (Err e) h = tt
 
+  leaves : (answer : Result ℕ Error) → IfOk answer (λ _. GivesId g old new) → ReportsBytes g old (Generated answer) new
+  leaves (Ok id) (inl put) = inl put.1
+  leaves (Ok id) (inr next) = inr next
+  leaves (Err e) h = tt
+
   pub id-made : (answer : Result ℕ Error) → Steps g old GenerateId (Generated answer) new → IsBlamed g old new answer → IfOk answer (IsCovered g new) → Keeps old new answer (λ _. new.stamps)
-      → IfOk answer (λ id. (id ≡ old.next) × (new.next ≡ old.next + 1)) → IsMade g old GenerateId (Generated answer) new
-  id-made answer step blame covered keeps next = record { step = step; bytes = tt; faults = blame; covered = covers answer covered; keeps = (keeps, next) }
+      → IfOk answer (λ id. (id ≡ old.next) × (new.next ≡ old.next + 1)) → IfOk answer (λ _. GivesId g old new) → IsMade g old GenerateId (Generated answer) new
+  id-made answer step blame covered keeps next gives =
+      record { step = step; bytes = leaves answer gives; faults = blame; covered = covers answer covered; keeps = (keeps, next) }
 
   reports : (answer : Result ℕ Error) → IfOk answer (λ n. n ≡ g.to_write old.log) → OnOk answer ((g.state new.log).pending ≡ []) → ReportsBytes g old (Flushed answer) new
   reports (Ok written) number stable = (number, stable)

@@ -1,5 +1,5 @@
 -- Calls of the page cache in a row.
-use Rattle.std.specs.Prelude.{◌≡◌, ◌+◌, true, false, List, [], ◌∷◌, flat_map, Ok, IfOk, OnOk, OnErr, ⊤}
+use Rattle.std.specs.Prelude.{◌≡◌, ◌⊎◌, ◌+◌, true, false, List, [], ◌∷◌, flat_map, Ok, IfOk, OnOk, OnErr, ⊤}
 use Rattle.sled_log.specs.Contents.{Update}
 use Rattle.sled_log.specs.Events.{Event}
 use Rattle.sled_log.specs.LogState as log
@@ -49,9 +49,11 @@ module _ {L : Type 0} (g : Ghosts L) where
     pub opening : IsSameOpening old new
     pub from_each : (held : Logged) (s : State) → IsIn g old held s → IsRow old calls new held s
 
-  -- A flush that was made reports how many bytes were to be written, and nothing is pending behind it; a size is that of the log.
+  -- A flush that was made reports how many bytes were to be written, and nothing is pending behind it. Nothing is behind an id either,
+  -- unless that only took the next number. A size is that of the log.
   abbrev pub ReportsBytes : Cache L → Answer → Cache L → Type 0
   ReportsBytes old (Flushed (Ok written)) new = (written ≡ g.to_write old.log) × ((g.state new.log).pending ≡ [])
+  ReportsBytes old (Generated (Ok id)) new = ((g.state new.log).pending ≡ []) ⊎ (new ≡ record old { next = old.next + 1 })
   ReportsBytes old (Sized (Ok bytes)) new = bytes ≡ g.bytes old.log
   ReportsBytes old answer new = ⊤
 

@@ -1,23 +1,34 @@
 //! What holds of caches that are opened over one log, one after another.
 
 ghost use Rattle.std.specs.Prelude.{List, []};
+ghost use Rattle.sled_disk.specs.declared.disk.memory.MemDisk.{MemDisk};
+ghost use Rattle.sled_disk.specs.declared.log.DiskLog.{DiskLog};
 ghost use Rattle.sled_pagecache.specs.History.{starting_at};
 ghost use Rattle.sled_pagecache.specs.Openings.{Opening, IsEmpty, IsRun, KeepIntervals, ids_of, AreRising};
 ghost use Rattle.sled_pagecache.specs.Prefixes.{ShowPrefixes};
 
+use sled_disk::{Disk, DiskLog, MemDisk};
 use sled_log::Log;
 
 /// From an empty log, over every list of openings, calls, crashes at any moment and handed-on logs: each opening's cache is what is
 /// opened of the pages after a prefix of the changes that were begun before, which holds all that was flushed and splits no batch, and
 /// its answers are those of the machine from there.
 ///
-/// Each crash keeps such a prefix of what came since the one before, and what comes then is added to that. A cache is opened over what the
+/// Each crash keeps such a prefix of what came since the one before, and what comes then is added to that. A flush that was made flushes all
+/// that came, and so does an id that wrote a counter. A cache is opened over what the
 /// time before left: what a crash left, inside a call or inside `start` too, and behind a write fault; the log that `into_log` handed on,
 /// where no write failed; or the log that a refused `start` gave back. Nothing but an allocation, the device, the settings, or a log that
 /// has no room for a missing system page refuses an opening. That is all that is asked, of any log that tells its bytes.
 pub fn every_opening_shows_a_prefix<L: Log>()
     ensures { L.tells → (log : L) (openings : List (Opening L)) → IsEmpty L.Log log → IsRun L.Log log openings → ShowPrefixes L.Log (starting_at []) openings }
 {}
+
+/// The same over a log on a disk in memory, which tells its bytes: whatever is torn, and wherever the disk stops.
+pub fn every_opening_of_a_disk_shows_a_prefix()
+    ensures { (log : DiskLog MemDisk ⟦<MemDisk as Disk>⟧) (openings : List (Opening (DiskLog MemDisk ⟦<MemDisk as Disk>⟧))) → IsEmpty ⟦<DiskLog<MemDisk> as Log>⟧ log → IsRun ⟦<DiskLog<MemDisk> as Log>⟧ log openings → ShowPrefixes ⟦<DiskLog<MemDisk> as Log>⟧ (starting_at []) openings }
+{
+    every_opening_shows_a_prefix::<DiskLog<MemDisk>>();
+}
 
 /// From an empty log, over every list of openings as above in which no config has a shorter interval of ids than one before it: each
 /// generated id is above every id that was answered before it. So none comes twice, whatever crashes come between.

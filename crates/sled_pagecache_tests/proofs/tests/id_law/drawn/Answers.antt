@@ -1,6 +1,8 @@
 -- The cache that was opened, the call that it answered, and what the crash left.
 use Rattle.std.proofs.Common.{arith, rules}
 use Rattle.sled_pagecache.proofs.Names.{◌≡◌, List, map, true, ap, subst, refl, Event, seen, state_of, clock_of, might_have_left, Entry, Messages, message_in, unplaced_state, MemLog, only_stable}
+use Rattle.sled_log.specs.contracts.memory.calls.MemLogLog.TheImpl as mem
+use Rattle.sled_pagecache.specs.MadeLaws.{id-made}
 use Rattle.sled_pagecache_tests.proofs.tests.id_law.drawn.Goals as goal
 
 pub returns : goal.returns
@@ -13,7 +15,7 @@ returns c =
       c.in-Ok.cache,
       last,
       ((refl, search rules), record { settings = opened.settings; opens = λ sound held logged. opened.opens sound tt held logged }),
-      (last, record { step = given.step; bytes = tt; faults = given.blame; covered = given.covered; keeps = (given.keeps, given.id) }, refl),
+      (last, id-made mem.ghosts _ last _ given.step given.blame given.covered given.keeps given.id given.gives, refl),
       record {
         at = clock_of last.log;
         later = omega arith;

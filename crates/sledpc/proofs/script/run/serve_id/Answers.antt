@@ -6,7 +6,7 @@ pub returns : goal.returns
 returns g c = let given = c.generate_id_inner-answer.ensures in
     record {
       answer = Generated c.generate_id_inner-answer.result;
-      made = id-made g.L.Log c.args.cache.now c.generate_id_inner-answer.new.self c.generate_id_inner-answer.result given.step given.blame given.covered given.keeps given.id;
+      made = id-made g.L.Log c.args.cache.now c.generate_id_inner-answer.new.self c.generate_id_inner-answer.result given.step given.blame given.covered given.keeps given.id given.gives;
       batch = given.keeps.batch;
       written = c.gather_line.ensures;
     }
