@@ -1,5 +1,5 @@
 -- Allocating a page, as a step of the machine.
-use Rattle.sled_pagecache.proofs.Names.{◌≡◌, ◌≢◌, ◌⊎◌, inl, inr, ⊎_elim, ◌≤◌, ◌<◌, ◌+◌, ◌-◌, ◌^◌, ℕ, zero, suc, Bool, true, false, cond, List, [], ◌∷◌, ◌++◌, length, take, Option, Some, None, Result, Ok, Err, slice_get, slice_set, refl, sym, ◌∙◌, ap, subst, arith, eq-eqb, ne_eqb, false≢true, none-some, same_Some, slice_get-get_or, slice_get_within, Error, Unsupported, Refusal, PagesUsedUp, StampUsedUp, Event, Update, Node, Put, Change, IsUpdate, message_of, Ghosts, WholeNode, RefusesPage, Cache, chain_length, HasNoRoom, StepOver, IsIn, Steps, Went, IsCaused, begun_by, Logged, free_ids, page, State, with_page, free_token, later, greatest_free, Does, Outcome, outcome, unchanged, Allocates, RefusesSwap, IsRoots, IsCounter, AreOwn, IsBeside, IsConsistent, Token, token, Allocated, Allocate, Config, StickyLog, Kept}
+use Rattle.sled_pagecache.proofs.Names.{Recency, ◌≡◌, ◌≢◌, ◌⊎◌, inl, inr, ⊎_elim, ◌≤◌, ◌<◌, ◌+◌, ◌-◌, ◌^◌, ℕ, zero, suc, Bool, true, false, cond, List, [], ◌∷◌, ◌++◌, length, take, Option, Some, None, Result, Ok, Err, slice_get, slice_set, refl, sym, ◌∙◌, ap, subst, arith, eq-eqb, ne_eqb, false≢true, none-some, same_Some, slice_get-get_or, slice_get_within, Error, Unsupported, Refusal, PagesUsedUp, StampUsedUp, Event, Update, Node, Put, Change, IsUpdate, message_of, Ghosts, WholeNode, RefusesPage, Cache, chain_length, HasNoRoom, StepOver, IsIn, Steps, Went, IsCaused, begun_by, Logged, free_ids, page, State, with_page, free_token, later, greatest_free, Does, Outcome, outcome, unchanged, Allocates, RefusesSwap, IsRoots, IsCounter, AreOwn, IsBeside, IsConsistent, Token, token, Allocated, Allocate, Config, StickyLog, Kept}
 use Rattle.sled_pagecache.proofs.ByIds.{at-id}
 use Rattle.sled_base.specs.Errors.{error_of as error_by}
 use Rattle.sled_pagecache.proofs.Putting.{unless-clear, MayPut, may-set, may-add, nothing-appended, put-refused, put-set, put-added}
@@ -108,10 +108,6 @@ pub last-read : (table : List KeptPage) (free : List ℕ) (read : Option ℕ) (p
     → read ≡ slice_get free (length free - 1) → read ≡ Some pid → IsLastFree 0 table (take (length free - 1) free) pid
 last-read table free read pid kept at is = last-free 0 table (take (length free - 1) free) pid (sym kept ∙ ends-with free pid (sym at ∙ is))
 
--- and this is its page
-pub last-same : (table : List KeptPage) (front : List ℕ) (pid : ℕ) (last : IsLastFree 0 table front pid) (q : KeptPage) → slice_get table pid ≡ Some q → last.page ≡ q
-last-same table front pid last q at = same_Some last.page q (sym (last-at table front pid last) ∙ at)
-
 -- it is free no more
 pub taken-last : (table : List KeptPage) (front : List ℕ) (pid : ℕ) (last : IsLastFree 0 table front pid) (changed : KeptPage) → shown.is_free changed.kept ≡ false → front ≡ free_ids 0 (slice_set table pid changed)
 taken-last table front pid last changed full =
@@ -153,10 +149,10 @@ module _ (messages : ℕ → ℕ) (no_room : Event Update → Type 0) (s : State
 
 -- ---- the call, told of the table
 
-module _ {L : Type 0} (g : Ghosts L) (next : ℕ) (config : Config) (recovered : Bool) (before : StickyLog L) (table : List KeptPage) (free : List ℕ) (ready : before.fault ≡ false) (kept : IsConsistent g.tells g.state before table free)
+module _ {L : Type 0} (g : Ghosts L) (next : ℕ) (config : Config) (recovered : Bool) (lru : Recency) (before : StickyLog L) (table : List KeptPage) (free : List ℕ) (ready : before.fault ≡ false) (kept : IsConsistent g.tells g.state before table free)
     (node : WholeNode) (after : StickyLog L) (pages : List KeptPage) (reads : IsUpdate (message_of (Put (Node node))) (Put (Node node))) where
   abbrev cache : StickyLog L → List KeptPage → Cache L
-  cache sticky_log now = view next config recovered sticky_log now
+  cache sticky_log now = view next config recovered lru sticky_log now
 
   abbrev lengths : ℕ → ℕ
   lengths = chain_length g.state (cache before table)
@@ -181,17 +177,17 @@ module _ {L : Type 0} (g : Ghosts L) (next : ℕ) (config : Config) (recovered :
         allocate_adds lengths no_room s node clear (none_in s are) (λ all. room (sym many ∙ all)) answer out (rw many done)
 
     may-new : length table ≢ 2 ^ 37 → (held : Logged) (s : State) → IsIn g (cache before table) held s → s.fault ≡ false → MayPut g before.log held (length table) (Node node)
-    may-new room held s is clear = may-add g next config recovered before table ready beside held s is clear node kept.both (let few = kept.few in omega (arith, few, room))
+    may-new room held s is clear = may-add g next config recovered lru before table ready beside held s is clear node kept.both (let few = kept.few in omega (arith, few, room))
 
     pub adds-refused : pages ≡ table → (refusal : Refusal) → RefusesPage (length table) refusal
-        → (let told : Result ℕ Refusal = Err refusal in Went g.tells g.state g.moment g.left_since g.counts before after (begun_by told (Change (length table) (message_of (Put (Node node))) ∷ [])))
-        → (let told : Result ℕ Refusal = Err refusal in IsCaused g.tells g.state g.moment g.left_since g.counts before after (g.is_full before.log (length (message_of (Put (Node node))).payload)) told)
+        → (let told : Result (Unit {0}) Refusal = Err refusal in Went g.tells g.state g.moment g.left_since g.counts before after (begun_by told (Change (length table) (message_of (Put (Node node))) ∷ [])))
+        → (let told : Result (Unit {0}) Refusal = Err refusal in IsCaused g.tells g.state g.moment g.left_since g.counts before after (g.is_full before.log (length (message_of (Put (Node node))).payload)) told)
         → Steps g (cache before table) (Allocate node) (Allocated (Err (error_by refusal))) (cache after pages)
     adds-refused back refusal (inl (many, is)) =
-        rw is (λ went cause. nothing-appended g next config recovered before table ready beside after (Allocate node) pages back (Allocated (Err (Unsupported PagesUsedUp))) went cause.fault
+        rw is (λ went cause. nothing-appended g next config recovered lru before table ready beside after (Allocate node) pages back (Allocated (Err (Unsupported PagesUsedUp))) went cause.fault
         (λ s clear are. allocate_full lengths no_room s node clear (none_in s are) (known-length s.pages table are ∙ many)))
     adds-refused back refusal (inr (room, of)) =
-        put-refused g next config recovered before table ready beside after (Allocate node) (length table) (Node node) reads (may-new room) ℕ pages back (λ e. Allocated (Err e))
+        put-refused g next config recovered lru before table ready beside after (Allocate node) (length table) (Node node) reads (may-new room) (Unit {0}) pages back (λ e. Allocated (Err e))
         (λ s clear are e out fails. adds room s clear are (Err e) out fails)
         refusal of
 
@@ -200,7 +196,7 @@ module _ {L : Type 0} (g : Ghosts L) (next : ℕ) (config : Config) (recovered :
         → Steps g (cache before table) (Allocate node) (Allocated (Ok (pid, made))) (cache after pages)
     adds-done room went clear_after added first behind pid last made is =
         subst (λ (l : List KeptPage). Steps g (cache before table) (Allocate node) (Allocated (Ok (pid, made))) (cache after l)) (sym behind)
-        (put-added g next config recovered before table ready beside after (Allocate node) (length table) (Node node) reads (may-new room) went clear_after (Allocated (Ok (pid, made))) 1 added first refl
+        (put-added g next config recovered lru before table ready beside after (Allocate node) (length table) (Node node) reads (may-new room) went clear_after (Allocated (Ok (pid, made))) 1 added first refl
         (λ s clear are.
         adds room s clear are (Ok (pid, made)) (outcome (record s { pages = s.pages ++ page 1 (Node node) ∷ [] }) (Change (length table) (Put (Node node)) ∷ []))
         (refl, (last, is ∙ ap (λ n. token n 1) last, refl))))
@@ -214,17 +210,17 @@ module _ {L : Type 0} (g : Ghosts L) (next : ℕ) (config : Config) (recovered :
     there = slice_get_within table pid last.page (last-at table front pid last)
 
     may-reuse : (held : Logged) (s : State) → IsIn g (cache before table) held s → s.fault ≡ false → MayPut g before.log held pid (Node node)
-    may-reuse held s is clear = may-set g next config recovered before table ready beside held s is clear pid (Node node) tt from there
+    may-reuse held s is clear = may-set g next config recovered lru before table ready beside held s is clear pid (Node node) tt from there
 
     pub reuses-refused : pages ≡ table → (refusal : Refusal) → RefusesSwap last.page.stamp refusal
         → (let told : Result (Unit {0}) Refusal = Err refusal in Went g.tells g.state g.moment g.left_since g.counts before after (begun_by told (Change pid (message_of (Put (Node node))) ∷ [])))
         → (let told : Result (Unit {0}) Refusal = Err refusal in IsCaused g.tells g.state g.moment g.left_since g.counts before after (g.is_full before.log (length (message_of (Put (Node node))).payload)) told)
         → Steps g (cache before table) (Allocate node) (Allocated (Err (error_by refusal))) (cache after pages)
     reuses-refused back refusal (inl (greatest, is)) =
-        rw is (λ went cause. nothing-appended g next config recovered before table ready beside after (Allocate node) pages back (Allocated (Err (Unsupported StampUsedUp))) went cause.fault
+        rw is (λ went cause. nothing-appended g next config recovered lru before table ready beside after (Allocate node) pages back (Allocated (Err (Unsupported StampUsedUp))) went cause.fault
         (λ s clear are. allocate_last lengths no_room s node clear (token pid last.page.stamp) (last.greatest s.pages are) greatest))
     reuses-refused back refusal (inr (below, of)) =
-        put-refused g next config recovered before table ready beside after (Allocate node) pid (Node node) reads may-reuse (Unit {0}) pages back (λ e. Allocated (Err e))
+        put-refused g next config recovered lru before table ready beside after (Allocate node) pid (Node node) reads may-reuse (Unit {0}) pages back (λ e. Allocated (Err e))
         (λ s clear are e out fails. allocate_reuses lengths no_room s node clear (token pid last.page.stamp) (last.greatest s.pages are) below (Err e) out fails)
         refusal of
 
@@ -233,7 +229,7 @@ module _ {L : Type 0} (g : Ghosts L) (next : ℕ) (config : Config) (recovered :
         → Steps g (cache before table) (Allocate node) (Allocated (Ok (pid, made))) (cache after pages)
     reuses-done below went clear_after changed risen back made is =
         subst (λ (l : List KeptPage). Steps g (cache before table) (Allocate node) (Allocated (Ok (pid, made))) (cache after l)) (sym back)
-        (put-set g next config recovered before table ready beside after (Allocate node) pid (Node node) reads may-reuse went clear_after (Allocated (Ok (pid, made))) (last.page.stamp + 1) changed risen there
+        (put-set g next config recovered lru before table ready beside after (Allocate node) pid (Node node) reads may-reuse went clear_after (Allocated (Ok (pid, made))) (last.page.stamp + 1) changed risen there
         (λ s clear are.
         allocate_reuses lengths no_room s node clear (token pid last.page.stamp) (last.greatest s.pages are) below (Ok (pid, made))
         (outcome (with_page s pid (page (last.page.stamp + 1) (Node node))) (Change pid (Put (Node node)) ∷ [])) (refl, (refl, is ∙ ap (λ n. token pid n) risen, refl))))

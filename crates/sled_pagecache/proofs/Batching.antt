@@ -1,5 +1,5 @@
 -- Opening and closing a batch, as steps of the machine.
-use Rattle.sled_pagecache.proofs.Names.{◌≡◌, ℕ, AllByRecursion, effect_of_entry, is_open, is_write_fault, Bool, true, false, List, [], ◌∷◌, Result, Ok, Err, refl, sym, ◌∙◌, subst, false≢true, Read, Write, Error, Refusal, LogFull, chains_from, Content, Update, contents_from, Event, Pin, Seal, Cancel, Message, Messages, effect_of, open_after, Ghosts, Cache, IsIn, Steps, StepOver, Went, Went-none, IsCaused, IsOfLog, begun_by, Logged, State, Outcome, outcome, unchanged, Answer, Call, Config, StickyLog, Page, KeepsMemory, HasGrown}
+use Rattle.sled_pagecache.proofs.Names.{Recency, ◌≡◌, ℕ, AllByRecursion, effect_of_entry, is_open, is_write_fault, Bool, true, false, List, [], ◌∷◌, Result, Ok, Err, refl, sym, ◌∙◌, subst, false≢true, Read, Write, Error, Refusal, LogFull, chains_from, Content, Update, contents_from, Event, Pin, Seal, Cancel, Message, Messages, effect_of, open_after, Ghosts, Cache, IsIn, Steps, StepOver, Went, Went-none, IsCaused, IsOfLog, begun_by, Logged, State, Outcome, outcome, unchanged, Answer, Call, Config, StickyLog, Page, KeepsMemory, HasGrown}
 use Rattle.sled_base.specs.Errors.{error_of}
 use Rattle.sled_base.specs.declared.types.Error.TheVariants.{Unsupported, Io, OutOfMemory}
 use Rattle.sled_base.specs.declared.types.Refusal.TheVariants as refusals
@@ -39,9 +39,9 @@ seal-mark = record { is = tt; may = λ _. tt; chains = λ _. refl; contents = λ
 pub cancel-mark : IsMark Cancel Cancel
 cancel-mark = record { is = tt; may = λ _. tt; chains = λ _. refl; contents = λ _. refl }
 
-module _ {L : Type 0} (g : Ghosts L) (next : ℕ) (config : Config) (recovered : Bool) (pages : List Page) where
+module _ {L : Type 0} (g : Ghosts L) (next : ℕ) (config : Config) (recovered : Bool) (lru : Recency) (pages : List Page) where
   abbrev cache : StickyLog L → Cache L
-  cache sticky_log = view next config recovered sticky_log pages
+  cache sticky_log = view next config recovered lru sticky_log pages
 
   keeps : (before after : StickyLog L) → KeepsMemory (cache before) (cache after)
   keeps before after = record { stay = λ pid. record { resident = refl; node = refl }; lru = refl }

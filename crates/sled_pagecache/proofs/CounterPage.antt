@@ -1,5 +1,5 @@
 -- The page of the counter of generated ids, in the table and in the state that the cache is in.
-use Rattle.sled_pagecache.proofs.Names.{AreOwn, Bool, Cache, Config, Content, Counter, GetIdgen, GetsIdgen, Ghosts, GotIdgen, HoldsChain, IsConsistent, IsCounter, IsIn, Kept, List, Logged, Makes, Messages, None, Ok, Option, Some, State, Steps, StickyLog, Token, Went-none, [], ap, arith, effect_of, effect_of_entry, false, holds-made, page, page_at, refl, slice_get, slice_index_or, subst, token, true, unchanged, unplaced, ℕ, ◌∙◌, ◌≡◌, ◌≤◌, length}
+use Rattle.sled_pagecache.proofs.Names.{Recency, AreOwn, Bool, Cache, Config, Content, Counter, GetIdgen, GetsIdgen, Ghosts, GotIdgen, HoldsChain, IsConsistent, IsCounter, IsIn, Kept, List, Logged, Makes, Messages, None, Ok, Option, Some, State, Steps, StickyLog, Token, Went-none, [], ap, arith, effect_of, effect_of_entry, false, holds-made, page, page_at, refl, slice_get, slice_index_or, subst, token, true, unchanged, unplaced, ℕ, ◌∙◌, ◌≡◌, ◌≤◌, length}
 use Rattle.sled_log.specs.LogState as log
 use Rattle.sled_pagecache.proofs.ByIds.{at-id}
 use Rattle.sled_pagecache.proofs.CacheSteps.{steps-went}
@@ -24,9 +24,9 @@ keeps-counter table own both = found (slice_get table 1) refl
     found None at = absurd (let past = past-end table 1 at in omega (arith, past, both))
     found (Some page) at = holds page page.kept at refl (at-id _ table 1 page own at)
 
-module _ {L : Type 0} (g : Ghosts L) (next : ℕ) (config : Config) (recovered : Bool) (sticky_log : StickyLog L) (table : List KeptPage) (free : List ℕ) (c : IsConsistent g.tells g.state sticky_log table free) (ready : sticky_log.fault ≡ false) where
+module _ {L : Type 0} (g : Ghosts L) (next : ℕ) (config : Config) (recovered : Bool) (lru : Recency) (sticky_log : StickyLog L) (table : List KeptPage) (free : List ℕ) (c : IsConsistent g.tells g.state sticky_log table free) (ready : sticky_log.fault ≡ false) where
   abbrev cache : Cache L
-  cache = view next config recovered sticky_log table
+  cache = view next config recovered lru sticky_log table
 
   module _ (q : KeptPage) (n : ℕ) (at : slice_get table 1 ≡ Some q) (holds : q.kept ≡ kept.Counter n) where
     counter-made : g.tells → Makes (unplaced (slice_index_or (log.now effect_of_entry (g.state sticky_log.log)) 1 [])) (Counter n)

@@ -1,5 +1,5 @@
 -- A flush, and the size of the log, as steps of the machine.
-use Rattle.sled_pagecache.proofs.Names.{◌≡◌, ℕ, Bool, true, false, List, [], Ok, Err, refl, ◌∙◌, Write, Messages, effect_of, Ghosts, Cache, IsIn, Steps, Went, Went-none, Logged, State, Flushes, Sizes, outcome, unchanged, Flushed, Sized, Flush, SizeOnDisk, Config, StickyLog, Page}
+use Rattle.sled_pagecache.proofs.Names.{Recency, ◌≡◌, ℕ, Bool, true, false, List, [], Ok, Err, refl, ◌∙◌, Write, Messages, effect_of, Ghosts, Cache, IsIn, Steps, Went, Went-none, Logged, State, Flushes, Sizes, outcome, unchanged, Flushed, Sized, Flush, SizeOnDisk, Config, StickyLog, Page}
 use Rattle.sled_base.specs.declared.types.Error.TheVariants.{Unsupported, Io}
 use Rattle.sled_base.specs.declared.types.Why.TheVariants.{BatchOpen}
 use Rattle.sled_log.specs.LogState as log
@@ -20,9 +20,9 @@ flush_early s clear opened = rw (clear, opened) (refl, refl)
 flush_fails : (s : State) → s.fault ≡ false → s.batch ≡ false → Flushes s (Err (Io Write)) (outcome (record s { fault = true }) [])
 flush_fails s clear closed = rw (clear, closed) (refl, refl)
 
-module _ {L : Type 0} (g : Ghosts L) (next : ℕ) (config : Config) (recovered : Bool) (pages : List Page) (before : StickyLog L) (ready : before.fault ≡ false) where
+module _ {L : Type 0} (g : Ghosts L) (next : ℕ) (config : Config) (recovered : Bool) (lru : Recency) (pages : List Page) (before : StickyLog L) (ready : before.fault ≡ false) where
   abbrev cache : StickyLog L → Cache L
-  cache sticky_log = view next config recovered sticky_log pages
+  cache sticky_log = view next config recovered lru sticky_log pages
 
   -- a size changes nothing
   pub sizes : (n : ℕ) → (g.state before.log).usable ≡ true

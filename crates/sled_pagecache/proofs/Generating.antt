@@ -1,5 +1,5 @@
 -- An id, as a step of the machine, told of the table that the cache keeps.
-use Rattle.sled_pagecache.proofs.Names.{AllByRecursion, AllZip-long, Bool, Cache, Change, Chain, Config, Content, Counter, Does, Err, Error, Event, GenerateId, Generated, Ghosts, HasNoRoom, Hold, Holds, IsBeside, IsCaused, IsConsistent, IsCounter, IsIn, IsKept, IsOfLog, IsProper, IsSized, IsUpdate, List, LogFull, Logged, MatchBool, MayChange, Message, Messages, Ok, Option, Outcome, Put, Read, Refusal, RefusesSwap, Result, Some, StampUsedUp, State, StepOver, Steps, StickyLog, Unsupported, Update, Went, Went-none, Write, [], ap, arith, begun_by, chain_at, chain_length, chains_from, contents_from, effect_of, effect_of_entry, eq-eqb, false, holds-after, inl, inr, is_free, le-ltb, length, length-map, length-set, lt-ltb, map-set, message_of, ne_eqb, outcome, page, page_at, refl, slice_get, slice_get_within, slice_set, stamps_in, subst, sym, true, unchanged, with_page, zip-set, ℕ, ◌+◌, ◌-◌, ◌<◌, ◌==◌, ◌^◌, ◌∙◌, ◌∷◌, ◌≡◌, ◌≢◌, ◌≤◌, AllZip}
+use Rattle.sled_pagecache.proofs.Names.{Recency, AllByRecursion, AllZip-long, Bool, Cache, Change, Chain, Config, Content, Counter, Does, Err, Error, Event, GenerateId, Generated, Ghosts, HasNoRoom, Hold, Holds, IsBeside, IsCaused, IsConsistent, IsCounter, IsIn, IsKept, IsOfLog, IsProper, IsSized, IsUpdate, List, LogFull, Logged, MatchBool, MayChange, Message, Messages, Ok, Option, Outcome, Put, Read, Refusal, RefusesSwap, Result, Some, StampUsedUp, State, StepOver, Steps, StickyLog, Unsupported, Update, Went, Went-none, Write, [], ap, arith, begun_by, chain_at, chain_length, chains_from, contents_from, effect_of, effect_of_entry, eq-eqb, false, holds-after, inl, inr, is_free, le-ltb, length, length-map, length-set, lt-ltb, map-set, message_of, ne_eqb, outcome, page, page_at, refl, slice_get, slice_get_within, slice_set, stamps_in, subst, sym, true, unchanged, with_page, zip-set, ℕ, ◌+◌, ◌-◌, ◌<◌, ◌==◌, ◌^◌, ◌∙◌, ◌∷◌, ◌≡◌, ◌≢◌, ◌≤◌, AllZip}
 use Rattle.std.specs.Prelude.{nat_lt}
 use Rattle.sled_base.specs.Errors.{error_of as error_by}
 use Rattle.sled_base.specs.declared.types.Error.TheVariants as error
@@ -65,10 +65,10 @@ more start from k next n is_start is_from lt = lt-ltb (interval_start k n) (inte
 
 -- ---- the call, told of the table
 
-module _ {L : Type 0} (g : Ghosts L) (next : ℕ) (config : Config) (recovered : Bool) (before : StickyLog L) (table : List KeptPage) (free : List ℕ) (c : IsConsistent g.tells g.state before table free) (ready : before.fault ≡ false)
+module _ {L : Type 0} (g : Ghosts L) (next : ℕ) (config : Config) (recovered : Bool) (lru : Recency) (before : StickyLog L) (table : List KeptPage) (free : List ℕ) (c : IsConsistent g.tells g.state before table free) (ready : before.fault ≡ false)
     (q : KeptPage) (n : ℕ) (at : slice_get table 1 ≡ Some q) (holds : q.kept ≡ kept.Counter n) where
   abbrev cache : ℕ → StickyLog L → List KeptPage → Cache L
-  cache next sticky_log pages = view next config recovered sticky_log pages
+  cache next sticky_log pages = view next config recovered lru sticky_log pages
 
   abbrev k : ℕ
   k = config.idgen_persist_interval
@@ -83,7 +83,7 @@ module _ {L : Type 0} (g : Ghosts L) (next : ℕ) (config : Config) (recovered :
   beside = c.beside ready
 
   there : (held : Logged) (s : State) → IsIn g (cache next before table) held s → s.fault ≡ false → page_at s 1 ≡ Some (page q.stamp (Counter n))
-  there held s is clear = counter-at g next config recovered before table free c ready q n at holds held s is clear
+  there held s is clear = counter-at g next config recovered lru before table free c ready q n at holds held s is clear
 
   abbrev only : Type 0
   only = (l : List Messages) → g.tells → (g.state before.log).usable ≡ true → g.left_since before.log (g.moment before.log) l → log.IsLeft effect_of (log.unplaced_state (g.state before.log)) [] l

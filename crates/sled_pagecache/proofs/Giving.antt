@@ -1,48 +1,77 @@
--- What giving an id makes of memory.
-use Rattle.sled_pagecache.proofs.Names.{Accesses, Cache, Err, Error, Ghosts, IfErr, IfOk, IsBounded, IsSettled, LeavesMemory, LosesAtMost, None, Ok, OnErr, Result, Settles, Some, StaysAt, [], ap, inl, inr, lost_by, refl, relisted, same_Some, subst, sym, true, ℕ, ⊎_elim, ◌+◌, ◌∙◌, ◌≡◌}
-use Rattle.sled_pagecache.proofs.Settling.{loses-bounded, loses-memory, lru-same, pages-same, same-all, settled-same, stay-bounded, takes-bounded, takes-page}
-use Rattle.sled_pagecache.specs.Ids.{GivesId, TakesId}
-use Rattle.sled_pagecache.specs.Touching.{AllStay}
+-- What follows of giving an id where a new counter was put on its page, or was refused, once what the list dropped for it is paged out.
+use Rattle.sled_pagecache.proofs.Names.{◌≡◌, ◌+◌, ◌-◌, ◌^◌, ℕ, Bool, true, false, List, [], Some, None, Result, Ok, Err, slice_get, slice_set, refl, sym, ◌∙◌, ap, subst, arith, inl, error_of, Error, Refusal, Put, Counter, Ghosts, Cache, MakesAppend, RefusesAppend, RefusesSwap, IsBlamed, IsBounded, Keeps, LeavesMemory, Steps, GenerateId, Generated, is_free, stamps_in, Config, StickyLog, Accesses, Page}
+use Rattle.std.specs.Prelude.{nat_lt}
+use Rattle.sled_pagecache.proofs.Answers.{keeps-err, keeps-ok}
+use Rattle.sled_pagecache.proofs.Appending.{after-whole, after-refused}
+use Rattle.sled_pagecache.proofs.CacheSteps.{steps-known}
+use Rattle.sled_pagecache.proofs.Counted.{counted-stable, covered-put}
+use Rattle.sled_pagecache.proofs.Generating.{consistent-counter, id-put, id-refused}
+use Rattle.sled_pagecache.proofs.Lookups.{put-back, set-at}
+use Rattle.sled_pagecache.proofs.Putting.{blamed}
+use Rattle.sled_pagecache.proofs.Standing.{one-short}
+use Rattle.sled_pagecache.proofs.TableNodes.{view}
+use Rattle.sled_pagecache.specs.Counted.{IsWhole}
+use Rattle.sled_pagecache.specs.Evictions.{Evicts, IsSettled}
+use Rattle.sled_pagecache.specs.Ids.{GivesId, IsCovered}
+use Rattle.sled_pagecache.specs.Step.{interval_start}
+use Rattle.sled_pagecache.specs.declared.pagecache.page.Kept.TheVariants as kept
 
-module _ {L : Type 0} (g : Ghosts L) (old mid new : Cache L) (accesses between after : Accesses) (settled : IsSettled g old accesses) (config : mid.config ≡ old.config) where
-  abbrev pub earlier : Cache L
-  earlier = relisted old accesses.lru
+-- What a call answers that put a new counter on its page.
+pub record IdMade {L : Type 0} (g : Ghosts L) (was now : Cache L) (settled : Type 0) (id : ℕ) : Type 0 where
+  pub is : settled
+  pub covered : IsCovered g now id
+  pub step : Steps g was GenerateId (Generated (Ok id)) now
+  pub keeps : let result : Result ℕ Error = Ok id in Keeps was now result (λ _. now.stamps)
+  pub bounded : IsBounded g now
+  pub gives : GivesId g was now
 
-  abbrev pub later : Cache L
-  later = relisted new after.lru
+-- And one that was refused it.
+pub record IdRefused {L : Type 0} (g : Ghosts L) (was now : Cache L) (settled : Type 0) (refusal : Refusal) : Type 0 where
+  pub is : settled
+  pub step : Steps g was GenerateId (Generated (Err (error_of refusal))) now
+  pub blame : let result : Result ℕ Error = Err (error_of refusal) in IsBlamed g was now result
+  pub keeps : let result : Result ℕ Error = Err (error_of refusal) in Keeps was now result (λ _. now.stamps)
+  pub bounded : IsBounded g now
+  pub leaves : LeavesMemory was 1 now g.tells (error_of refusal)
 
-  pub record MakesId (result : Result ℕ Error) : Type 0 where
-    pub bounded : IsBounded g later
-    pub gives : IfOk result (λ _. GivesId g earlier later)
-    pub leaves : IfErr result (LeavesMemory earlier 1 later g.tells)
-    pub stuck : OnErr result (old.fault ≡ true → mid ≡ old → later ≡ earlier)
+module _ {L : Type 0} (g : Ghosts L) {next : ℕ} {config : Config} {recovered : Bool} {before after : StickyLog L} {table pages : List Page} {free : List ℕ} {accesses between then : Accesses}
+    (is : IsSettled g next config recovered before table free accesses) (clear : before.fault ≡ false) (closed : before.batch ≡ false) {q page : Page} (at : slice_get table 1 ≡ Some q) {n : ℕ} (holds : q.kept ≡ kept.Counter n)
+    (below : nat_lt (2 ^ 64 - 1) next ≡ false) (more : nat_lt (interval_start config.idgen_persist_interval n) (interval_start config.idgen_persist_interval next) ≡ true)
+    {start : ℕ} (starts : start ≡ interval_start config.idgen_persist_interval next) where
+  pub id-made : MakesAppend g 1 (Put (Counter start)) before after accesses between q page (kept.Counter start) → (g.state after.log).pending ≡ [] → Evicts between None (slice_set table 1 page) pages then
+      → IdMade g (view next config recovered accesses.lru before table) (view (next + 1) config recovered then.lru after pages) (IsSettled g (next + 1) config recovered after pages free then) next
+  id-made put stable evicts =
+      let k = config.idgen_persist_interval in
+      let made = subst (λ n. MakesAppend g 1 (Put (Counter n)) before after accesses between q page (kept.Counter n)) starts put in
+      let consistent = consistent-counter g before after table free is.whole.consistent clear _ made.went q page at (ap is_free holds) _ made.holds (one-short page made.stamps) made.kept made.sized made.others in
+      let whole : IsWhole g.tells g.state k (next + 1) after (slice_set table 1 page) free = record { consistent = consistent; positive = is.whole.positive; counted = counted-stable g k (next + 1) after (slice_set table 1 page) stable } in
+      let result : Result ℕ Error = Ok next in
+      let then_all = after-whole g is clear at result made refl whole evicts in
+      record {
+        is = then_all.is;
+        covered = λ told held logged. covered-put g k next after (slice_set table 1 page) free consistent is.whole.positive made.fault told page (set-at table 1 q page at) made.holds stable held logged;
+        step = then_all.evicted.steps GenerateId (Generated result)
+            (id-put g next config recovered accesses.lru before table free is.whole.consistent clear q n at holds below more after made.is closed (λ last. let risen = made.stamp.0 in omega (arith, risen, last)) made.went made.fault page made.stamp.1);
+        keeps = subst (λ (l : List ℕ). Keeps (view next config recovered accesses.lru before table) (view (next + 1) config recovered then.lru after pages) result (λ _. l)) (sym then_all.evicted.stamps)
+            (then_all.evicted.keeps (λ _. stamps_in (slice_set table 1 page)) (keeps-ok _ _ (λ _. stamps_in (slice_set table 1 page)) next clear made.fault refl made.went.batch) tt);
+        bounded = then_all.evicted.bounded;
+        gives = inl (then_all.accessed, stable);
+      }
 
-  all-stay : mid ≡ record old { next = old.next + 1 } → AllStay old mid
-  all-stay is pid = subst (λ cache. StaysAt old cache pid) (sym is) (record { resident = refl; node = refl })
-
-  pub makes-id : (result : Result ℕ Error) → Settles g between (lost_by result 1) mid new after
-      → IfOk result (λ _. TakesId g old accesses mid between) → IfErr result (LosesAtMost old accesses 1 mid between g.tells) → MakesId result
-  makes-id (Ok id) settles takes loses =
-      ⊎_elim
-      (λ put. record {
-        bounded = takes-bounded g old mid new accesses between after None settled config settles 1 put.0 refl;
-        gives = inl (
-          takes-page g old mid new accesses between after None settled config settles 1 put.0 refl,
-          subst (λ (l : L). (g.state l).pending ≡ []) (sym (ap (λ (cache : Cache L). cache.log) (settled-same g between None mid new after settles).is)) put.1,
-        );
-        leaves = tt;
-        stuck = tt;
-      })
-      (λ same. record {
-        bounded = stay-bounded g old mid new accesses between after None settled config settles same.1 (all-stay same.0);
-        gives = inr (ap (λ cache. relisted cache after.lru) (pages-same g old mid new accesses between after None settled config settles same.1 ∙ same.0)
-            ∙ ap (relisted (record old { next = old.next + 1 })) (lru-same g old mid new accesses between after None settled config settles same.1));
-        leaves = tt;
-        stuck = tt;
-      }) takes
-  makes-id (Err error) settles takes loses = record {
-    bounded = loses-bounded g old mid new accesses between after (Some 1) settled config settles 1 g.tells error loses (λ other is. sym (same_Some 1 other is)) (inl refl);
-    gives = tt;
-    leaves = loses-memory g old mid new accesses between after (Some 1) settled config settles 1 g.tells error loses (λ other is. sym (same_Some 1 other is)) (inl refl);
-    stuck = λ kept is. same-all g old mid new accesses between after (Some 1) settled config settles (loses.stuck kept) is;
-  }
+  pub id-unmade : {refusal : Refusal} → RefusesAppend g 1 (Put (Counter start)) before after accesses between (RefusesSwap q.stamp) (page ≡ q) refusal → Evicts between (Some 1) (slice_set table 1 page) pages then
+      → IdRefused g (view next config recovered accesses.lru before table) (view next config recovered then.lru after pages) (IsSettled g next config recovered after pages free then) refusal
+  id-unmade {refusal} unput evicts =
+      let refused = subst (λ n. RefusesAppend g 1 (Put (Counter n)) before after accesses between (RefusesSwap q.stamp) (page ≡ q) refusal) starts unput in
+      let result : Result ℕ Error = Err (error_of refusal) in
+      let then_all = after-refused g is clear at result refused refl evicts in
+      let back = put-back table 1 page (at ∙ ap (λ page. Some page) (sym refused.left)) in
+      record {
+        is = then_all.is;
+        step = then_all.evicted.steps GenerateId (Generated result)
+            (steps-known g _ _ _ _ (record { config = refl; recovered = refl }) (λ told.
+            id-refused g next config recovered accesses.lru before table free is.whole.consistent clear q n at holds below more after refused.is closed (slice_set table 1 page) back refusal (refused.refused told) refused.went refused.cause));
+        blame = then_all.evicted.blame (blamed g _ _ _ refusal refused.cause);
+        keeps = then_all.evicted.keeps (λ _. stamps_in pages) (keeps-err _ _ _ (Unit {0}) refusal clear refused.cause.fault (ap stamps_in back) refused.went.batch) then_all.stuck;
+        bounded = then_all.evicted.bounded;
+        leaves = then_all.leaves;
+      }

@@ -1,5 +1,5 @@
 -- What the tests of a swap answer is a step of the machine, for each call that makes them.
-use Rattle.sled_pagecache.proofs.Names.{◌≡◌, ◌<◌, ◌+◌, ℕ, Bool, true, false, List, [], length, Option, Some, None, Ok, Err, slice_get, slice_set, refl, sym, ◌∙◌, ap, subst, ne_eqb, map-set, slice_get_within, MatchBool, Write, Unsupported, Refusal, ReservedId, Content, Free, Put, Node, Messages, effect_of, Ghosts, WholeNode, Keeps, swapped, Cache, chain_length, HasNoRoom, StepOver, Steps, Went-none, Judges, IsJudged, State, page_at, Outcome, unchanged, is_reserved, Swapped, SwapsPage, Swaps, SwapsContent, LinksContent, stamps_in, IsBeside, Token, token, IsAnswered, Answer, Freed, Linked, Replaced, Call, Config, StickyLog, Judgement, Fresh, Stale, Gone, Page}
+use Rattle.sled_pagecache.proofs.Names.{Recency, ◌≡◌, ◌<◌, ◌+◌, ℕ, Bool, true, false, List, [], length, Option, Some, None, Ok, Err, slice_get, slice_set, refl, sym, ◌∙◌, ap, subst, ne_eqb, map-set, slice_get_within, MatchBool, Write, Unsupported, Refusal, ReservedId, Content, Free, Put, Node, Messages, effect_of, Ghosts, WholeNode, Keeps, swapped, Cache, chain_length, HasNoRoom, StepOver, Steps, Went-none, Judges, IsJudged, State, page_at, Outcome, unchanged, is_reserved, Swapped, SwapsPage, Swaps, SwapsContent, LinksContent, stamps_in, IsBeside, Token, token, IsAnswered, Answer, Freed, Linked, Replaced, Call, Config, StickyLog, Judgement, Fresh, Stale, Gone, Page}
 use Rattle.sled_base.specs.Errors.{error_of as error_by}
 use Rattle.sled_base.specs.declared.types.Error.TheVariants.{Io}
 use Rattle.sled_base.specs.declared.types.Refusal.TheVariants as refusals
@@ -29,12 +29,12 @@ module _ {L : Type 0} (g : Ghosts L) (cache : Cache L) (old : Token) where
   pub free-swap : IsSwap g cache old tt (call.Free old) Freed (λ s answer out content. SwapsContent (chain_length g.state cache) (HasNoRoom g cache.log) s old (Put Free) Free answer out)
   free-swap = record { step = λ s answer out h. h }
 
-module _ {L : Type 0} (g : Ghosts L) (next : ℕ) (config : Config) (recovered : Bool) (sticky_log : StickyLog L) (table : List Page) (beside : sticky_log.fault ≡ false → IsBeside g.tells g.state sticky_log.log table)
+module _ {L : Type 0} (g : Ghosts L) (next : ℕ) (config : Config) (recovered : Bool) (lru : Recency) (sticky_log : StickyLog L) (table : List Page) (beside : sticky_log.fault ≡ false → IsBeside g.tells g.state sticky_log.log table)
     (only : (pages : List Messages) → g.tells → (g.state sticky_log.log).usable ≡ true → g.left_since sticky_log.log (g.moment sticky_log.log) pages → log.IsLeft effect_of (log.unplaced_state (g.state sticky_log.log)) [] pages)
     {R : Type 0} (old : Token) (pid : ℕ) (same : old.pid ≡ pid) (rejected : R) (call : Call) (answered : Swapped R → Answer) (goes_on : State → Swapped R → Outcome → Content → Type 0)
-    (swap : IsSwap g (view next config recovered sticky_log table) old rejected call answered goes_on) where
+    (swap : IsSwap g (view next config recovered lru sticky_log table) old rejected call answered goes_on) where
   abbrev cache : Cache L
-  cache = view next config recovered sticky_log table
+  cache = view next config recovered lru sticky_log table
 
   -- what follows the tests that come first
   abbrev tests_then : State → Swapped R → Outcome → Type 0
@@ -42,7 +42,7 @@ module _ {L : Type 0} (g : Ghosts L) (next : ℕ) (config : Config) (recovered :
 
   still : (answer : Swapped R) → sticky_log.fault ≡ false → ((s : State) → s.fault ≡ false → AreKnown s.pages table → StepOver g cache s call (answered answer) (unchanged s)) → Steps g cache call (answered answer) cache
   still answer ready step =
-      nothing-appended g next config recovered sticky_log table ready (beside ready) sticky_log call table refl (answered answer)
+      nothing-appended g next config recovered lru sticky_log table ready (beside ready) sticky_log call table refl (answered answer)
       (Went-none g.tells g.state g.moment g.left_since g.counts sticky_log (beside ready).usable only) ready step
 
   -- a write fault was kept, or the page is the cache's own
@@ -118,14 +118,14 @@ fresh-at fault table pid old judgement q is judges at = fresh-is fault table pid
 
 -- ---- what is known over any log
 
-module _ {L : Type 0} (next : ℕ) (config : Config) (recovered : Bool) (sticky_log : StickyLog L) (table : List Page) (pid : ℕ) (old : Token) (q : Page) (fresh : IsFresh sticky_log.fault table pid old q) where
+module _ {L : Type 0} (next : ℕ) (config : Config) (recovered : Bool) (lru : Recency) (sticky_log : StickyLog L) (table : List Page) (pid : ℕ) (old : Token) (q : Page) (fresh : IsFresh sticky_log.fault table pid old q) where
   -- the token's page was at its stamp
   pub fresh-answered : old.pid ≡ pid → (R : Type 0) (given : R) → (made : Token) → made ≡ token old.pid (old.stamp + 1) → IsAnswered (stamps_in table) old given (Ok made)
   fresh-answered same R given made is = (ap (slice_get (stamps_in table)) same ∙ map-at (λ (p : Page). p.stamp) table pid q fresh.at ∙ ap (λ n. Some n) fresh.stamp, is)
 
   -- and has risen
   pub keeps-fresh : (R : Type 0) (after : StickyLog L) (page : Page) → after.fault ≡ false → after.batch ≡ sticky_log.batch → page.stamp ≡ q.stamp + 1 → (made : Token) → made ≡ token pid (old.stamp + 1)
-      → (let answer : Swapped R = Ok (Ok made) in Keeps (view next config recovered sticky_log table) (view next config recovered after (slice_set table pid page)) answer (swapped (stamps_in table)))
+      → (let answer : Swapped R = Ok (Ok made) in Keeps (view next config recovered lru sticky_log table) (view next config recovered lru after (slice_set table pid page)) answer (swapped (stamps_in table)))
   keeps-fresh R after page free batch raised made is =
-      keeps-ok (view next config recovered sticky_log table) (view next config recovered after (slice_set table pid page)) (swapped {R = R} (stamps_in table)) (Ok made) fresh.clear free
+      keeps-ok (view next config recovered lru sticky_log table) (view next config recovered lru after (slice_set table pid page)) (swapped {R = R} (stamps_in table)) (Ok made) fresh.clear free
       (rw is (map-set (λ (p : Page). p.stamp) table pid page ∙ ap (λ n. slice_set (stamps_in table) pid n) (raised ∙ ap (λ n. n + 1) fresh.stamp))) batch

@@ -1,5 +1,5 @@
 -- A link as a step of the machine.
-use Rattle.sled_pagecache.proofs.Names.{◌≡◌, ◌≢◌, ◌≤◌, ◌<◌, ◌+◌, ◌-◌, ◌^◌, inl, inr, ℕ, Bool, true, false, cond, ltb, List, [], ◌∷◌, ◌++◌, length, Option, Some, Result, Ok, Err, slice_get, slice_set, slice_index_or, refl, sym, ◌∙◌, ap, subst, arith, eq-eqb, get_or-map, ne_eqb, ltb-true, length-map, map-set, same_Some, slice_get_within, get_or_from_slice_get, error_of, LinkRefused, Write, Error, Refusal, ReportableBug, Io, Corruption, OutOfMemory, StampUsedUp, LogFull, chains_from, Content, Free, Node, Update, Put, Link, after_link, contents_from, Event, Change, Entry, Chain, Messages, unplaced, effect_of, effect_of_entry, holds-made, one_content, Makes, Hold, MayChange, now-unplaced, message_of, Ghosts, Accepts, applied, WholeNode, Cache, chain_length, IsIn, HasNoRoom, StepOver, Steps, link_update, chain_at, IsCaused, is_write_fault, RefusesUnappended, RefusesPull, update_by, AppendsLink, TakesLink, RefusesAppended, Logged, HoldsChain, is_free, IsProper, page, State, page_at, with_page, Outcome, outcome, unchanged, is_reserved, Does, Links, LinksNode, LinksContent, stamps_in, IsConsistent, Token, token, Linked, Config, StickyLog}
+use Rattle.sled_pagecache.proofs.Names.{Recency, ◌≡◌, ◌≢◌, ◌≤◌, ◌<◌, ◌+◌, ◌-◌, ◌^◌, inl, inr, ℕ, Bool, true, false, cond, ltb, List, [], ◌∷◌, ◌++◌, length, Option, Some, Result, Ok, Err, slice_get, slice_set, slice_index_or, refl, sym, ◌∙◌, ap, subst, arith, eq-eqb, get_or-map, ne_eqb, ltb-true, length-map, map-set, same_Some, slice_get_within, get_or_from_slice_get, error_of, LinkRefused, Write, Error, Refusal, ReportableBug, Io, Corruption, OutOfMemory, StampUsedUp, LogFull, chains_from, Content, Free, Node, Update, Put, Link, after_link, contents_from, Event, Change, Entry, Chain, Messages, unplaced, effect_of, effect_of_entry, holds-made, one_content, Makes, Hold, MayChange, now-unplaced, message_of, Ghosts, Accepts, applied, WholeNode, Cache, chain_length, IsIn, HasNoRoom, StepOver, Steps, link_update, chain_at, IsCaused, is_write_fault, RefusesUnappended, RefusesPull, update_by, AppendsLink, TakesLink, RefusesAppended, Logged, HoldsChain, is_free, IsProper, page, State, page_at, with_page, Outcome, outcome, unchanged, is_reserved, Does, Links, LinksNode, LinksContent, stamps_in, IsConsistent, Token, token, Linked, Config, StickyLog}
 use Rattle.sled_base.specs.declared.types.Error.TheVariants as error
 use Rattle.sled_base.specs.declared.types.Refusal.TheVariants.{Unsupported}
 use Rattle.sled_log.specs.LogState as log
@@ -77,10 +77,10 @@ module _ (messages : ℕ → ℕ) (no_room : Event Update → Type 0) (s : State
 -- ---- the cache
 
 module _ {L : Type 0} (g : Ghosts L) where
-  module _ (next : ℕ) (config : Config) (recovered : Bool) (before : StickyLog L) (pages : List KeptPage) (free : List ℕ) (pid : ℕ)
+  module _ (next : ℕ) (config : Config) (recovered : Bool) (lru : Recency) (before : StickyLog L) (pages : List KeptPage) (free : List ℕ) (pid : ℕ)
       (c : IsConsistent g.tells g.state before pages free) (ready : before.fault ≡ false) (t : Token) (same : t.pid ≡ pid) (link : NodeLink) where
     abbrev old : Cache L
-    old = view next config recovered before pages
+    old = view next config recovered lru before pages
 
     abbrev chain : Chain
     chain = chain_at (g.state before.log) pid
@@ -110,7 +110,7 @@ module _ {L : Type 0} (g : Ghosts L) where
 
           module _ (after : StickyLog L) (page_then : KeptPage) (is_fresh : q.stamp ≡ t.stamp) where
             abbrev new : Cache L
-            new = view next config recovered after (slice_set pages pid page_then)
+            new = view next config recovered lru after (slice_set pages pid page_then)
 
             module _ (held : Logged) (s : State) (is : IsIn g old held s) (clear : s.fault ≡ false) (node : WholeNode) (made : Makes (unplaced chain) (Node node)) where
               abbrev update : Update
@@ -161,13 +161,13 @@ module _ {L : Type 0} (g : Ghosts L) where
                   → StepOver g old s (call.Link t link) (Linked answer) out
               accepted-step accepts below answer out h =
                   node-step answer out
-                  (accepted lengths no_room s t pid same link node (length q.infos.items) (sym (length-before g next config recovered before before pages free pid q q c ready behind at is.tells)) accepts (λ most. below (is_fresh ∙ most)) answer out h)
+                  (accepted lengths no_room s t pid same link node (length q.infos.items) (sym (length-before g next config recovered lru before before pages free pid q q c ready behind at is.tells)) accepts (λ most. below (is_fresh ∙ most)) answer out h)
 
             -- ---- nothing was told
 
             module _ (stamp : page_then.stamp ≡ q.stamp) (held : Logged) (s : State) (is : IsIn g old held s) (clear : s.fault ≡ false) where
               stamps : new.stamps ≡ old.stamps
-              stamps = stamps-same g next config recovered before after pages free pid q page_then c ready behind at stamp
+              stamps = stamps-same g next config recovered lru before after pages free pid q page_then c ready behind at stamp
 
               unread-leads : (refusal : Refusal) → RefusesPull chain refusal → (let err : Result (Unit {0}) Refusal = Err refusal in after.fault ≡ is_write_fault err)
                   → LeadsTo g old new held s (call.Link t link) (Linked (Err (error_of refusal))) []
@@ -216,7 +216,7 @@ module _ {L : Type 0} (g : Ghosts L) where
                   leads-begun g old new held s is clear (call.Link t link) (Linked (Err (error.Io Write))) refl pid (update_by q link tells.node)
                   tells.is (may held s is clear tells.node made tells.accepts) (stays held s is clear tells.node made tells.accepts)
                   (accepted-step held s is clear tells.node made tells.accepts tells.below (Err (error.Io Write)) (outcome (record s { fault = true }) (Change pid (update_by q link tells.node) ∷ [])) refl)
-                  (stamps-same g next config recovered before after pages free pid q page_then c ready behind at stamp) kept
+                  (stamps-same g next config recovered lru before after pages free pid q page_then c ready behind at stamp) kept
 
               done : page_then.stamp ≡ q.stamp + 1 → after.fault ≡ false
                   → LeadsTo g old new held s (call.Link t link) (Linked (Ok (Ok (token pid (t.stamp + 1))))) (Change pid (message_of (update_by q link tells.node)) ∷ [])

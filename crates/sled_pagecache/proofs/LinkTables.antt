@@ -1,5 +1,5 @@
 -- The table of a cache after a link, and what one sees of it who knows the cache by its model.
-use Rattle.sled_pagecache.proofs.Names.{◌≡◌, ◌≤◌, ◌+◌, ℕ, Bool, true, false, cond, ltb, List, [], ◌∷◌, length, Some, slice_get, slice_set, refl, sym, ◌∙◌, ap, subst, arith, ltb-true, is_open, Change, effect_of_entry, message_of, Ghosts, Cache, chain_length, IsResident, IsAway, chain_at, update_by, TakesLink, WasBegun, IsKept, is_free, is_resident, is_reserved, linked_length, IsFreeOrNode, IsConsistent, Config, StickyLog, Page}
+use Rattle.sled_pagecache.proofs.Names.{Recency, ◌≡◌, ◌≤◌, ◌+◌, ℕ, Bool, true, false, cond, ltb, List, [], ◌∷◌, length, Some, slice_get, slice_set, refl, sym, ◌∙◌, ap, subst, arith, ltb-true, is_open, Change, effect_of_entry, message_of, Ghosts, Cache, chain_length, IsResident, IsAway, chain_at, update_by, TakesLink, WasBegun, IsKept, is_free, is_resident, is_reserved, linked_length, IsFreeOrNode, IsConsistent, Config, StickyLog, Page}
 use Rattle.sled_log.specs.LogState as log
 use Rattle.sled_node.specs.declared.node.link.Link.{Link as NodeLink}
 use Rattle.sled_pagecache.proofs.Lookups.{behind-own}
@@ -39,20 +39,20 @@ module _ {L : Type 0} (g : Ghosts L) (before after : StickyLog L) (pages : List 
       })
       (c.free ∙ sym (free-same 0 pages pid page q at freed))
 
-  module _ (next : ℕ) (config : Config) (recovered : Bool) where
+  module _ (next : ℕ) (config : Config) (recovered : Bool) (lru : Recency) where
     abbrev old : Cache L
-    old = view next config recovered before pages
+    old = view next config recovered lru before pages
 
     abbrev new : Cache L
-    new = view next config recovered after (slice_set pages pid page)
+    new = view next config recovered lru after (slice_set pages pid page)
 
     pub taken-length : g.tells → TakesLink g before pid q link after page → chain_length g.state new pid ≡ linked_length (chain_length g.state old pid)
     taken-length known takes =
-        places-length (chain_at (g.state after.log) pid) page (takes.kept known) ∙ takes.len ∙ ap linked_length (length-before g next config recovered before after pages free pid q page c ready behind at known)
+        places-length (chain_at (g.state after.log) pid) page (takes.kept known) ∙ takes.len ∙ ap linked_length (length-before g next config recovered lru before after pages free pid q page c ready behind at known)
 
     pub taken-resident : TakesLink g before pid q link after page → IsResident new pid
-    taken-resident takes = is-after g next config recovered before after pages free pid q page c ready behind at true (ap is_resident takes.holds)
+    taken-resident takes = is-after g next config recovered lru before after pages free pid q page c ready behind at true (ap is_resident takes.holds)
 
     pub refused-out : (is_resident q.kept ≡ false → is_resident page.kept ≡ false) → IsAway old pid → IsAway new pid
     refused-out out away =
-        is-after g next config recovered before after pages free pid q page c ready behind at false (out (before-is g next config recovered before after pages free pid q page c ready behind at false away))
+        is-after g next config recovered lru before after pages free pid q page c ready behind at false (out (before-is g next config recovered lru before after pages free pid q page c ready behind at false away))

@@ -1,5 +1,5 @@
 -- A link that is tested, and one of a damaged page.
-use Rattle.sled_pagecache.proofs.Names.{◌≡◌, inl, inr, ℕ, Bool, true, false, List, Option, Some, None, Result, Ok, Err, slice_get, slice_set, refl, sym, ◌∙◌, ap, subst, false≢true, option_map, slice_get-map, none-some, same_Some, MatchBool, error_of, LinkRefused, Write, Refusal, ReportableBug, Io, Corruption, OutOfMemory, ReservedId, StampUsedUp, LogFull, is_empty, Node, Chain, unplaced, effect_of_entry, Makes, one_content, Ghosts, Accepts, WholeNode, Cache, IsIn, IsResident, chain_at, ReportsWrong, MeetsDamage, ReportsDamage, Judges, IsJudged, IsTested, TestsFirst, RefusesUnappended, TakesLink, RefusesAppended, Logged, HoldsChain, is_resident, is_free, State, page, page_at, Swapped, is_reserved, RefusesLink, stamps_in, resident_in, IsFreeOrNode, IsConsistent, Token, Config, StickyLog, Judgement, Fresh, Stale, Gone, Kept}
+use Rattle.sled_pagecache.proofs.Names.{Recency, ◌≡◌, inl, inr, ℕ, Bool, true, false, List, Option, Some, None, Result, Ok, Err, slice_get, slice_set, refl, sym, ◌∙◌, ap, subst, false≢true, option_map, slice_get-map, none-some, same_Some, MatchBool, error_of, LinkRefused, Write, Refusal, ReportableBug, Io, Corruption, OutOfMemory, ReservedId, StampUsedUp, LogFull, is_empty, Node, Chain, unplaced, effect_of_entry, Makes, one_content, Ghosts, Accepts, WholeNode, Cache, IsIn, IsResident, chain_at, ReportsWrong, MeetsDamage, ReportsDamage, Judges, IsJudged, IsTested, TestsFirst, RefusesUnappended, TakesLink, RefusesAppended, Logged, HoldsChain, is_resident, is_free, State, page, page_at, Swapped, is_reserved, RefusesLink, stamps_in, resident_in, IsFreeOrNode, IsConsistent, Token, Config, StickyLog, Judgement, Fresh, Stale, Gone, Kept}
 use Rattle.sled_base.specs.declared.types.Refusal.TheVariants.{Unsupported}
 use Rattle.sled_log.specs.LogState as log
 use Rattle.sled_node.specs.declared.node.link.Link.{Link as NodeLink}
@@ -16,10 +16,10 @@ use Rattle.sled_pagecache.specs.declared.pagecache.page.Page.{Page as KeptPage}
 no-stamp : (table : List KeptPage) (pid : ℕ) → slice_get table pid ≡ None → slice_get (stamps_in table) pid ≡ None
 no-stamp table pid none = slice_get-map (λ (q : KeptPage). q.stamp) table pid ∙ ap (option_map (λ (q : KeptPage). q.stamp)) none
 
-module _ {L : Type 0} (g : Ghosts L) (next : ℕ) (config : Config) (recovered : Bool) (before : StickyLog L) (pages : List KeptPage) (free : List ℕ) (pid : ℕ)
+module _ {L : Type 0} (g : Ghosts L) (next : ℕ) (config : Config) (recovered : Bool) (lru : Recency) (before : StickyLog L) (pages : List KeptPage) (free : List ℕ) (pid : ℕ)
     (c : IsConsistent g.tells g.state before pages free) (t : Token) where
   abbrev old : Cache L
-  old = view next config recovered before pages
+  old = view next config recovered lru before pages
 
   abbrev chain : Chain
   chain = chain_at (g.state before.log) pid
@@ -121,12 +121,12 @@ module _ {L : Type 0} (g : Ghosts L) (next : ℕ) (config : Config) (recovered :
 
       pub refused-damage : (refusal : Refusal) → RefusesAppended g before pid q link after refusal → page_then.stamp ≡ q.stamp
           → (g.tells → after.fault ≡ false → log.now effect_of_entry (g.state after.log) ≡ log.now effect_of_entry (g.state before.log))
-          → ReportsDamage g old pid (let answer : Swapped NodeLink = Err (error_of refusal) in answer) (view next config recovered after (slice_set pages pid page_then))
+          → ReportsDamage g old pid (let answer : Swapped NodeLink = Err (error_of refusal) in answer) (view next config recovered lru after (slice_set pages pid page_then))
       refused-damage refusal (inl (went, why)) stamp still = record {
         reported = unappended-wrong refusal why;
         left = record {
           opening = record { config = refl; recovered = refl };
-          stamps = stamps-same g next config recovered before after pages free pid q page_then c fresh.clear fresh.behind fresh.at stamp;
+          stamps = stamps-same g next config recovered lru before after pages free pid q page_then c fresh.clear fresh.behind fresh.at stamp;
           next = refl;
           went = went;
           same = still;

@@ -50,9 +50,10 @@ pub use Rattle.sled_node.specs.Payloads.Nodes.{ReadsNode}
 pub use Rattle.sled_node.specs.Payloads.Roots.{ReadsRoots}
 pub use Rattle.sled_pagecache.specs.Accesses.{IsTouched, WasAccessed, capped}
 pub use Rattle.sled_pagecache.specs.Adding.{HasOneMore, RefusesPage}
+pub use Rattle.sled_pagecache.specs.Appends.{MakesAppend, MakesNewPage, Puts, PutsOnNewPage, RefusesAppend}
 pub use Rattle.sled_pagecache.specs.Answers.{Keeps, root_swapped, stamped, swapped}
 pub use Rattle.sled_pagecache.specs.ByIds.{AllById, FitsId}
-pub use Rattle.sled_pagecache.specs.Cache.{Cache, IsAway, IsIn, IsResident, KnowsLog, chain_length, chain_size, unlisted}
+pub use Rattle.sled_pagecache.specs.Cache.{Cache, IsAway, IsIn, IsResident, KnowsLog, chain_length, chain_size}
 pub use Rattle.sled_pagecache.specs.Calls.{HasNoRoom, IsBlamed, IsSameOpening, IsStep, StepOver, Steps}
 pub use Rattle.sled_pagecache.specs.ChainReads.{IsFoundAs, chain_at, more, place_of}
 pub use Rattle.sled_pagecache.specs.Changes.{link_update}
@@ -64,7 +65,7 @@ pub use Rattle.sled_pagecache.specs.Judging.{IsJudged, Judges}
 pub use Rattle.sled_pagecache.specs.Lending.{IsGot}
 pub use Rattle.sled_pagecache.specs.Limits.{batch_manifest_pid, chunk_length, counter_pid, meta_pid}
 pub use Rattle.sled_pagecache.specs.LinkTests.{IsTested, TestsFirst}
-pub use Rattle.sled_pagecache.specs.LinkedPages.{HadNoRoom, RefusesAppended, RefusesUnappended, TakesLink, AppendsLink, WasBegun, update_by}
+pub use Rattle.sled_pagecache.specs.LinkedPages.{HadNoRoom, MakesLink, RefusesLinkOf, RefusesAppended, RefusesUnappended, TakesLink, AppendsLink, WasBegun, update_by}
 pub use Rattle.sled_pagecache.specs.Loading.{AreFound, AreRead, AreRecovered, IsFoundAt, IsLoaded, IsOpenedWith, IsTable, IsUnread, RefusesOwn, RefusesPages, counter_event, next_id, roots_event, stamps_at_start, events_at_start, events_of_roots}
 pub use Rattle.sled_pagecache.specs.Logged.{Adds, AreKept, IsLogged, Logged}
 pub use Rattle.sled_pagecache.specs.Memory.{AccessesPage, AreListed, AreSized, FindsPage, HasNoNode, HasNode, IsBounded, KeepsMemory, LeavesMemory, LeavesNodes, LeavesOthers, ListsResident, StaysAt}
@@ -72,14 +73,13 @@ pub use Rattle.sled_pagecache.specs.Opening.{changes_of_start, fault_of, first_i
 pub use Rattle.sled_pagecache.specs.PageTables.{TableView, has_room}
 pub use Rattle.sled_pagecache.specs.Pages.{HoldsChain, IsKept, free_ids, freed_at, is_free, is_resident, node_access_size, size_if, size_in, size_linked, access_size}
 pub use Rattle.sled_pagecache.specs.PagesIn.{BringsIn, IsNodeAt, LeavesPages, RefusesReading, sticky_log_of}
-pub use Rattle.sled_pagecache.specs.PagingOut.{IsPagedOut, PagesOut, paged_out}
+pub use Rattle.sled_pagecache.specs.PagingOut.{IsPagedOut, paged_out}
 pub use Rattle.sled_pagecache.specs.Proceeding.{Comes, IsCutShort, LacksRoom, Proceeds, Reaches, TakesNoRoom, is_fault, refusal_in}
 pub use Rattle.sled_pagecache.specs.Proper.{AreRoots, IsProper, IsUsers, StayProper}
 pub use Rattle.sled_pagecache.specs.Pulling.{RefusesPull}
 pub use Rattle.sled_pagecache.specs.Reading.{BeginsFree, IsDamaged, IsFirstWrong, IsFoundWrong, IsWrongAt, Leads, MakesNode, RefusesMessage, RefusesNode, found_message}
 pub use Rattle.sled_pagecache.specs.Reads.{HasRead, ReadsNothing, ReadsPage, own_among}
 pub use Rattle.sled_pagecache.specs.Recovered.{AllFit, BeginsMisfit, IsRecovered, info_at, is_misfit, kept_by}
-pub use Rattle.sled_pagecache.specs.Relisting.{IsSettled, Settles, lost_by, relisted}
 pub use Rattle.sled_pagecache.specs.Reopening.{CrashReopens, Reopens, Started}
 pub use Rattle.sled_pagecache.specs.RowLaws.{made-row, row-none, row-one, row-then}
 pub use Rattle.sled_pagecache.specs.Stamps.{stamps_to}
@@ -90,7 +90,8 @@ pub use Rattle.sled_pagecache.specs.Step.{Allocates, Does, Fails, Finds, FindsCo
 pub use Rattle.sled_pagecache.specs.Swaps.{CanPut, IsLinked, IsRaised, RefusesLink, RefusesSwap, Wrote, content_of, infos_after, linked_length, update_of}
 pub use Rattle.sled_pagecache.specs.Table.{AreOwn, IsBeside, IsConsistent, IsCounter, IsFreeOrNode, IsOwnAt, IsRoots, nodes_in, resident_in, stamps_in}
 pub use Rattle.sled_pagecache.specs.Token.{IsAnswered, Token, pid_of, stamp_of, token}
-pub use Rattle.sled_pagecache.specs.Touching.{AccessesNode, AllStay, FindsNode, IsListedAt, LacksNodes, LosesAtMost, LosesNone, TakesNode, TakesPage}
+pub use Rattle.sled_pagecache.specs.Touching.{AccessesNode, IsListedAt}
+pub use Rattle.sled_pagecache.proofs.Touched.{AllStay, FindsNode, LacksNodes, LosesAtMost, LosesNone, TakesNode, TakesPage}
 pub use Rattle.sled_pagecache.specs.declared.pagecache.accesses.Accesses.{Accesses}
 pub use Rattle.sled_pagecache.specs.declared.pagecache.call.Answer.TheVariants.{Allocated, Flushed, FoundRoot, Freed, Generated, Got, GotIdgen, GotMeta, Linked, Replaced, RootSwapped, Sized}
 pub use Rattle.sled_pagecache.specs.declared.pagecache.call.Answer.{Answer}

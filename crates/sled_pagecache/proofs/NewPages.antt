@@ -50,8 +50,8 @@ module _ {L : Type 0} (tells : Type 0) (state : L → log.LogState Entry) (momen
   -- what was told where no page came
   pub new-page-went : (pid pages : ℕ) → pages ≡ pid
       → (let told : Result CacheInfo Refusal = Err refusal in Went tells state moment left_since counts old new (begun_by told (Change pages (message_of (Put (Node node))) ∷ [])))
-      → (let told : Result ℕ Refusal = Err refusal in Went tells state moment left_since counts old new (begun_by told (Change pid (message_of (Put (Node node))) ∷ [])))
+      → (let told : Result (Unit {0}) Refusal = Err refusal in Went tells state moment left_since counts old new (begun_by told (Change pid (message_of (Put (Node node))) ∷ [])))
   new-page-went pid pages last went =
-      let told : Result ℕ Refusal = Err refusal in
+      let told : Result (Unit {0}) Refusal = Err refusal in
       subst (λ n. Went tells state moment left_since counts old new (begun_by told (Change n (message_of (Put (Node node))) ∷ []))) last
-      (went-handed tells state moment left_since counts is_full old new pages (Put (Node node)) (Put (Node node)) refl refusal CacheInfo ℕ went)
+      (went-handed tells state moment left_since counts is_full old new pages (Put (Node node)) (Put (Node node)) refl refusal CacheInfo (Unit {0}) went)

@@ -1,5 +1,5 @@
 -- Opening a cache over a log.
-use Rattle.sled_pagecache.proofs.Names.{unlisted, Option, ⊎_elim, ◌≡◌, ◌≢◌, ◌≤◌, ◌<◌, ◌^◌, ℕ, zero, suc, Bool, false, List, [], ◌∷◌, ◌++◌, length, map, take, drop, None, Some, Result, Ok, Err, refl, sym, ◌∙◌, ap, subst, arith, drop-nil, take-append_seam, drop-append_seam, length-map, take-append-drop, take-map, drop-map, none-some, AllZip-long, error_of, Read, Write, Error, Refusal, ReportableBug, Io, Corruption, OutOfMemory, LogFull, is_open, open_after, Content, Counter, Roots, Update, Put, contents_after, Event, Change, Pin, Seal, Cancel, seen, holds-after, Message, Entry, Chain, Messages, unplaced, effect_of, effect_of_entry, Holds, Hold, AreEvents, events-take, reads-open, unplaced_state, is_open-unplaced, now-unplaced, message_of, CanWrite, written-update, Ghosts, Cache, IsOpenedWith, counter_event, events_at_start, Logged, IsLogged, fault_of, missing, changes_of_start, opened, is_fault, Comes, LacksRoom, Proceeds, IsProper, StayProper, Starts, IsFit, RefusesOpening, IsHindrance, HasAdded, CrashLeaves, LacksRoomFor, WasFull, Opens, IsBlamedOpening, MayBeOpened, page, contents_of, Config, StickyLog}
+use Rattle.sled_pagecache.proofs.Names.{Recency, Option, ⊎_elim, ◌≡◌, ◌≢◌, ◌≤◌, ◌<◌, ◌^◌, ℕ, zero, suc, Bool, false, List, [], ◌∷◌, ◌++◌, length, map, take, drop, None, Some, Result, Ok, Err, refl, sym, ◌∙◌, ap, subst, arith, drop-nil, take-append_seam, drop-append_seam, length-map, take-append-drop, take-map, drop-map, none-some, AllZip-long, error_of, Read, Write, Error, Refusal, ReportableBug, Io, Corruption, OutOfMemory, LogFull, is_open, open_after, Content, Counter, Roots, Update, Put, contents_after, Event, Change, Pin, Seal, Cancel, seen, holds-after, Message, Entry, Chain, Messages, unplaced, effect_of, effect_of_entry, Holds, Hold, AreEvents, events-take, reads-open, unplaced_state, is_open-unplaced, now-unplaced, message_of, CanWrite, written-update, Ghosts, Cache, IsOpenedWith, counter_event, events_at_start, Logged, IsLogged, fault_of, missing, changes_of_start, opened, is_fault, Comes, LacksRoom, Proceeds, IsProper, StayProper, Starts, IsFit, RefusesOpening, IsHindrance, HasAdded, CrashLeaves, LacksRoomFor, WasFull, Opens, IsBlamedOpening, MayBeOpened, page, contents_of, Config, StickyLog}
 use Rattle.std.specs.List.{slice_get}
 use Rattle.sled_base.specs.declared.types.Error.TheVariants as errors
 use Rattle.sled_base.specs.declared.types.Refusal.TheVariants.{Unsupported}
@@ -218,12 +218,12 @@ module _ {L : Type 0} (g : Ghosts L) (known : g.tells) (config : Config) (old : 
       })
 
   -- a cache was opened
-  pub opens-done : (new : StickyLog L) (stamps : List ℕ) (resident : List Bool) (nodes : List (Option ℕ)) (next : ℕ) (recovered : Bool)
+  pub opens-done : (new : StickyLog L) (stamps : List ℕ) (resident : List Bool) (nodes : List (Option ℕ)) (lru : Recency) (next : ℕ) (recovered : Bool)
       → Proceeds g old new (events_at_start chains) None → is_open (g.state new.log).pending ≡ false → new.batch ≡ false
       → IsOpenedWith config (now held) stamps next recovered
       → (length chains < 2 → (g.state new.log).pending ≡ [])
-      → Opens g old.log config held (Ok (record { stamps = stamps; resident = resident; nodes = nodes; next = next; batch = new.batch; fault = new.fault; config = config; recovered = recovered; lru = unlisted; log = new.log }))
-  opens-done new stamps resident nodes next recovered done closed unopened with_it stable =
+      → Opens g old.log config held (Ok (record { stamps = stamps; resident = resident; nodes = nodes; next = next; batch = new.batch; fault = new.fault; config = config; recovered = recovered; lru = lru; log = new.log }))
+  opens-done new stamps resident nodes lru next recovered done closed unopened with_it stable =
       let went = subst (Comes g old new) events-now done.reaches in
       let unplaced = events-start (now held) in
       let carried = carries g.tells g.state g.moment g.left_since g.counts old new held (events_at_start (now held)) (changes_of_start (now held)) logged unplaced stays went known done.fault in

@@ -1,5 +1,5 @@
 -- A page that is brought into memory: the table beside its log, and what one sees who knows the cache by its model.
-use Rattle.sled_pagecache.proofs.Names.{◌≡◌, ◌≤◌, inr, ℕ, Bool, true, false, List, [], length, Some, Result, Ok, Err, slice_get, slice_set, slice_index_or, refl, sym, ◌∙◌, ap, subst, arith, false≢true, false_from_ne_true, map-set, set-get_or, length-map, get_or_past, none-some, same_Some, slice_get_past, AllZip-long, AllByRecursion, IfErr, OnOk, OnErr, IsOk, Refusal, is_open, open_after, is_empty, is_chain, Event, Message, Chain, effect_of, effect_of_entry, IsSized, Ghosts, Cache, chain_length, IsResident, IsAway, chain_at, more, Went, IsCaused, Went-none, HoldsChain, IsKept, is_free, is_resident, RefusesReading, BringsIn, RefusesPull, IsDamaged, ReadsPage, is_reserved, stamps_in, resident_in, IsFreeOrNode, IsConsistent, Config, StickyLog, Kept, Page}
+use Rattle.sled_pagecache.proofs.Names.{Recency, ◌≡◌, ◌≤◌, inr, ℕ, Bool, true, false, List, [], length, Some, Result, Ok, Err, slice_get, slice_set, slice_index_or, refl, sym, ◌∙◌, ap, subst, arith, false≢true, false_from_ne_true, map-set, set-get_or, length-map, get_or_past, none-some, same_Some, slice_get_past, AllZip-long, AllByRecursion, IfErr, OnOk, OnErr, IsOk, Refusal, is_open, open_after, is_empty, is_chain, Event, Message, Chain, effect_of, effect_of_entry, IsSized, Ghosts, Cache, chain_length, IsResident, IsAway, chain_at, more, Went, IsCaused, Went-none, HoldsChain, IsKept, is_free, is_resident, RefusesReading, BringsIn, RefusesPull, IsDamaged, ReadsPage, is_reserved, stamps_in, resident_in, IsFreeOrNode, IsConsistent, Config, StickyLog, Kept, Page}
 use Rattle.sled_log.specs.LogState as log
 use Rattle.sled_pagecache.proofs.Lookups.{map-at, set-at, put-back, all-at, behind-own, kept-at, own-at}
 use Rattle.sled_pagecache.proofs.ReadCounts.{reads-none, reads-whole, reads-part}
@@ -65,9 +65,9 @@ module _ {L : Type 0} (g : Ghosts L) (before after : StickyLog L) (pages : List 
 
 -- ---- in the words of the model
 
-module _ {L : Type 0} (g : Ghosts L) (next : ℕ) (config : Config) (recovered : Bool) where
+module _ {L : Type 0} (g : Ghosts L) (next : ℕ) (config : Config) (recovered : Bool) (lru : Recency) where
   abbrev cache : StickyLog L → List Page → Cache L
-  cache sticky_log pages = view next config recovered sticky_log pages
+  cache sticky_log pages = view next config recovered lru sticky_log pages
 
   -- no page is there
   pub brings-none : (sticky_log : StickyLog L) (pages : List Page) (free : List ℕ) (pid : ℕ) → IsConsistent g.tells g.state sticky_log pages free → is_reserved pid ≡ false → sticky_log.fault ≡ false → length pages ≤ pid

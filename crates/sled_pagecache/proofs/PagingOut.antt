@@ -1,5 +1,5 @@
 -- A page leaves memory, and its cache stays as it always is.
-use Rattle.sled_pagecache.proofs.Names.{eqb_tells, Contains-append_left, Contains-append_right, Contains-append_cases, Contains, ◌++◌, ◌≡◌, ◌≢◌, ◌⊎◌, ◌≤◌, inl, inr, ℕ, zero, suc, Bool, true, false, List, [], ◌∷◌, length, length-set, ◌^◌, map, Some, None, slice_get, slice_set, refl, sym, ◌∙◌, ap, subst, arith, false≢true, none-some, same_Some, map-set, AllZip, Chain, effect_of_entry, Ghosts, Cache, IsResident, IsAway, HoldsChain, IsKept, place_of, is_free, is_resident, AreOwn, IsRoots, IsCounter, IsFreeOrNode, IsOwnAt, IsConsistent, stamps_in, Config, CacheInfo, StickyLog, Kept, Page, HasNode, HasNoNode, StaysAt, access_size, size_if, paged_out, IsPagedOut, PagesOut}
+use Rattle.sled_pagecache.proofs.Names.{Recency, eqb_tells, ◌≡◌, ◌≢◌, ◌⊎◌, ◌≤◌, inl, inr, ℕ, zero, suc, Bool, true, false, List, [], ◌∷◌, length, length-set, ◌^◌, map, Some, None, slice_get, slice_set, refl, sym, ◌∙◌, ap, subst, false≢true, none-some, same_Some, map-set, AllZip, Chain, effect_of_entry, Ghosts, Cache, IsResident, IsAway, HoldsChain, IsKept, place_of, is_free, is_resident, AreOwn, IsRoots, IsCounter, IsFreeOrNode, IsOwnAt, IsConsistent, stamps_in, Config, CacheInfo, StickyLog, Kept, Page, HasNode, HasNoNode, StaysAt, access_size, size_if, paged_out, IsPagedOut}
 use Rattle.sled_log.specs.LogState as log
 use Rattle.sled_pagecache.proofs.InMemory.{stays-same, stays-then, set-others, set-none}
 use Rattle.sled_pagecache.proofs.ByIds.{at-id, set-by-id}
@@ -103,6 +103,15 @@ consistent-out g sticky_log pages free pid q page is at out = record {
 
 -- ---- the cache
 
+-- The nodes of such pages left memory, and all else but the list of recent use is as it was.
+pub record PagesOut {L : Type 0} (Leaves : ℕ → Type 0) (old new : Cache L) : Type 0 where
+  pub rest : new ≡ record old { resident = new.resident; nodes = new.nodes; lru = new.lru }
+  pub out : (pid : ℕ) → Leaves pid → HasNoNode new pid
+  pub stays : (pid : ℕ) → ¬ Leaves pid → StaysAt old new pid
+  pub nodes : (pid size : ℕ) → HasNode new pid size → HasNode old pid size
+  pub resident : (pid : ℕ) → IsResident new pid → IsResident old pid
+  pub away : (pid : ℕ) → IsAway old pid → IsAway new pid
+
 module _ {L : Type 0} where
   pub out-none : (P : ℕ → Type 0) (cache : Cache L) → ((pid : ℕ) → P pid → HasNoNode cache pid) → PagesOut P cache cache
   out-none P cache none = record {
@@ -118,7 +127,7 @@ module _ {L : Type 0} where
   pub out-then : (P Q R : ℕ → Type 0) (old mid new : Cache L) → ((pid : ℕ) → R pid → P pid ⊎ Q pid) → ((pid : ℕ) → P pid → R pid) → ((pid : ℕ) → Q pid → R pid)
       → PagesOut P old mid → PagesOut Q mid new → PagesOut R old new
   out-then P Q R old mid new split first second one two = record {
-    rest = two.rest ∙ ap (λ (cache : Cache L). record cache { resident = new.resident; nodes = new.nodes }) one.rest;
+    rest = two.rest ∙ ap (λ (cache : Cache L). record cache { resident = new.resident; nodes = new.nodes; lru = new.lru }) one.rest;
     out = λ pid is. by pid (split pid is);
     stays = λ pid isnt. stays-then old mid new pid (one.stays pid (λ is. isnt (first pid is))) (two.stays pid (λ is. isnt (second pid is)));
     nodes = λ pid size has. one.nodes pid size (two.nodes pid size has);
@@ -130,29 +139,30 @@ module _ {L : Type 0} where
       by pid (inl is) size has = one.out pid is size (two.nodes pid size has)
       by pid (inr is) size has = two.out pid is size has
 
-  pub out-one : (pids : List ℕ) (pid : ℕ) (old mid new : Cache L) → PagesOut (Contains pids) old mid → PagesOut (λ other. other ≡ pid) mid new → PagesOut (Contains (pids ++ pid ∷ [])) old new
-  out-one pids pid old mid new =
-      out-then (Contains pids) (λ other. other ≡ pid) (Contains (pids ++ pid ∷ [])) old mid new (λ other within. by other (Contains-append_cases pids (pid ∷ []) other within))
-      (λ other within. Contains-append_left pids (pid ∷ []) other within) (λ other same. Contains-append_right pids (pid ∷ []) other (0, omega arith, sym same))
-    where
-      by : (other : ℕ) → Contains pids other ⊎ Contains (pid ∷ []) other → Contains pids other ⊎ (other ≡ pid)
-      by other (inl within) = inl within
-      by other (inr (zero, lt, is)) = inr (sym is)
-      by other (inr (suc k, lt, is)) = absurd (omega (arith, lt))
+  -- and others are listed
+  pub out-listed : (P : ℕ → Type 0) (old new : Cache L) (lru : Recency) → PagesOut P old new → PagesOut P old (record new { lru = lru })
+  out-listed P old new lru outs = record {
+    rest = ap (λ (cache : Cache L). record cache { lru = lru }) outs.rest;
+    out = outs.out;
+    stays = λ pid isnt. let stays = outs.stays pid isnt in record { resident = stays.resident; node = stays.node };
+    nodes = outs.nodes;
+    resident = outs.resident;
+    away = outs.away;
+  }
 
   -- the node of a page
-  module _ (next : ℕ) (config : Config) (recovered : Bool) (sticky_log : StickyLog L) (pages : List Page) (pid : ℕ) (q page : Page) (at : slice_get pages pid ≡ Some q) (out : IsPagedOut q page) where
+  module _ (next : ℕ) (config : Config) (recovered : Bool) (lru : Recency) (sticky_log : StickyLog L) (pages : List Page) (pid : ℕ) (q page : Page) (at : slice_get pages pid ≡ Some q) (out : IsPagedOut q page) where
     abbrev old : Cache L
-    old = view next config recovered sticky_log pages
+    old = view next config recovered lru sticky_log pages
 
     abbrev new : Cache L
-    new = view next config recovered sticky_log (slice_set pages pid page)
+    new = view next config recovered lru sticky_log (slice_set pages pid page)
 
     others : (other : ℕ) → other ≢ pid → StaysAt old new other
-    others = set-others next next config recovered sticky_log sticky_log pages pid q page at
+    others = set-others next next config recovered lru sticky_log sticky_log pages pid q page at
 
     gone : HasNoNode new pid
-    gone = set-none next next config recovered sticky_log sticky_log pages pid q page at (ap (λ (k : Kept). size_if (access_size page) k) out.kept ∙ no-node-out (access_size page) q.kept)
+    gone = set-none next next config recovered lru sticky_log sticky_log pages pid q page at (ap (λ (k : Kept). size_if (access_size page) k) out.kept ∙ no-node-out (access_size page) q.kept)
 
     new-at : slice_get new.resident pid ≡ Some (is_resident page.kept)
     new-at = map-at (λ (p : Page). is_resident p.kept) (slice_set pages pid page) pid page (set-at pages pid q page at)

@@ -1,5 +1,5 @@
 -- A call that puts a content on one page, as a step of the machine, told of the table that the cache keeps.
-use Rattle.sled_pagecache.proofs.Names.{◌≡◌, ◌≤◌, ◌<◌, ◌^◌, ℕ, Bool, true, false, List, [], ◌∷◌, ◌++◌, length, Result, Err, slice_set, refl, sym, ◌∙◌, ap, subst, arith, eq-eqb, ne_eqb, length-map, map-append, map-set, MatchBool, Read, Write, Error, Unsupported, Refusal, LogFull, chains_from, Node, Update, Put, contents_from, Content, Free, Event, Change, holds-after, effect_of, IsUpdate, MayChange, Hold, message_of, Ghosts, WholeNode, Cache, chain_length, IsIn, HasNoRoom, StepOver, Steps, IsBlamed, Went, IsCaused, IsOfLog, begun_by, Logged, sticky_log_of, IsProper, page, State, with_page, Outcome, outcome, unchanged, IsRefused, UnlessFaulty, Fails, stamps_in, IsBeside, Answer, Call, Config, StickyLog}
+use Rattle.sled_pagecache.proofs.Names.{Recency, ◌≡◌, ◌≤◌, ◌<◌, ◌^◌, ℕ, Bool, true, false, List, [], ◌∷◌, ◌++◌, length, Result, Err, slice_set, refl, sym, ◌∙◌, ap, subst, arith, eq-eqb, ne_eqb, length-map, map-append, map-set, MatchBool, Read, Write, Error, Unsupported, Refusal, LogFull, chains_from, Node, Update, Put, contents_from, Content, Free, Event, Change, holds-after, effect_of, IsUpdate, MayChange, Hold, message_of, Ghosts, WholeNode, Cache, chain_length, IsIn, HasNoRoom, StepOver, Steps, IsBlamed, Went, IsCaused, IsOfLog, begun_by, Logged, sticky_log_of, IsProper, page, State, with_page, Outcome, outcome, unchanged, IsRefused, UnlessFaulty, Fails, stamps_in, IsBeside, Answer, Call, Config, StickyLog}
 use Rattle.sled_base.specs.Errors.{error_of as error_by}
 use Rattle.sled_base.specs.declared.types.Error.TheVariants.{Io, OutOfMemory}
 use Rattle.sled_base.specs.declared.types.Refusal.TheVariants as refusals
@@ -30,9 +30,9 @@ module _ {L : Type 0} (g : Ghosts L) where
       let logged = (is.known clear).logged in
       holds-after (log.unplaced_state (g.state cache.log)).stable held.stable (log.unplaced_state (g.state cache.log)).pending held.pending logged.stable logged.pending
 
-  module _ (next : ℕ) (config : Config) (recovered : Bool) where
+  module _ (next : ℕ) (config : Config) (recovered : Bool) (lru : Recency) where
     abbrev cache : StickyLog L → List KeptPage → Cache L
-    cache sticky_log table = view next config recovered sticky_log table
+    cache sticky_log table = view next config recovered lru sticky_log table
 
     module _ (before : StickyLog L) (table : List KeptPage) (ready : before.fault ≡ false) (beside : IsBeside g.tells g.state before.log table) where
       known : (held : Logged) (s : State) → IsIn g (cache before table) held s → s.fault ≡ false → AreKnown s.pages table

@@ -1,5 +1,5 @@
 -- Putting another content on a page, as a step of the machine.
-use Rattle.sled_pagecache.proofs.Names.{◌≡◌, ◌≢◌, inl, inr, ◌≤◌, ◌<◌, ◌+◌, ◌-◌, ◌^◌, ℕ, Bool, false, List, [], ◌∷◌, length, Some, Result, Ok, Err, slice_get, slice_set, refl, sym, ◌∙◌, ap, eq-eqb, ne_eqb, slice_get_within, Unsupported, Refusal, StampUsedUp, Content, Event, Update, Put, Change, IsUpdate, message_of, Ghosts, Cache, chain_length, HasNoRoom, StepOver, IsIn, Steps, Went, IsCaused, begun_by, Logged, page, State, page_at, with_page, is_reserved, Does, Outcome, outcome, unchanged, Swapped, Swaps, SwapsContent, RefusesSwap, IsBeside, Token, token, Answer, Call, Config, StickyLog}
+use Rattle.sled_pagecache.proofs.Names.{Recency, ◌≡◌, ◌≢◌, inl, inr, ◌≤◌, ◌<◌, ◌+◌, ◌-◌, ◌^◌, ℕ, Bool, false, List, [], ◌∷◌, length, Some, Result, Ok, Err, slice_get, slice_set, refl, sym, ◌∙◌, ap, eq-eqb, ne_eqb, slice_get_within, Unsupported, Refusal, StampUsedUp, Content, Event, Update, Put, Change, IsUpdate, message_of, Ghosts, Cache, chain_length, HasNoRoom, StepOver, IsIn, Steps, Went, IsCaused, begun_by, Logged, page, State, page_at, with_page, is_reserved, Does, Outcome, outcome, unchanged, Swapped, Swaps, SwapsContent, RefusesSwap, IsBeside, Token, token, Answer, Call, Config, StickyLog}
 use Rattle.sled_base.specs.Errors.{error_of as error_by}
 use Rattle.sled_pagecache.proofs.Judging.{IsSwap}
 use Rattle.sled_pagecache.proofs.Lookups.{behind-own}
@@ -29,12 +29,12 @@ module _ (messages : ℕ → ℕ) (no_room : Event Update → Type 0) (s : State
 
 -- ---- the call, told of the table
 
-module _ {L : Type 0} (g : Ghosts L) (next : ℕ) (config : Config) (recovered : Bool) (before : StickyLog L) (table : List KeptPage) (ready : before.fault ≡ false) (beside : IsBeside g.tells g.state before.log table)
+module _ {L : Type 0} (g : Ghosts L) (next : ℕ) (config : Config) (recovered : Bool) (lru : Recency) (before : StickyLog L) (table : List KeptPage) (ready : before.fault ≡ false) (beside : IsBeside g.tells g.state before.log table)
     (old : Token) (pid : ℕ) {R : Type 0} (rejected : R) (content : Content) (put : IsPut content) (call : Call) (answered : Swapped R → Answer)
-    (swap : let cache = view next config recovered before table in IsSwap g cache old rejected call answered (λ s answer out _. SwapsContent (chain_length g.state cache) (HasNoRoom g before.log) s old (Put content) content answer out))
+    (swap : let cache = view next config recovered lru before table in IsSwap g cache old rejected call answered (λ s answer out _. SwapsContent (chain_length g.state cache) (HasNoRoom g before.log) s old (Put content) content answer out))
     (same : old.pid ≡ pid) (pages : List KeptPage) (back : pages ≡ table) where
   abbrev cache : StickyLog L → List KeptPage → Cache L
-  cache sticky_log kept = view next config recovered sticky_log kept
+  cache sticky_log kept = view next config recovered lru sticky_log kept
 
   -- the page is to be changed
   module _ (after : StickyLog L) (free : is_reserved pid ≡ false) (q : KeptPage) (at : slice_get table pid ≡ Some q) (full : kept.is_free q.kept ≡ false) (stamp : q.stamp ≡ old.stamp)
@@ -46,7 +46,7 @@ module _ {L : Type 0} (g : Ghosts L) (next : ℕ) (config : Config) (recovered :
     there = slice_get_within table pid q at
 
     may : (held : Logged) (s : State) → IsIn g (cache before table) held s → s.fault ≡ false → MayPut g before.log held pid content
-    may held s is clear = may-set g next config recovered before table ready beside held s is clear pid content put from there
+    may held s is clear = may-set g next config recovered lru before table ready beside held s is clear pid content put from there
 
     module _ (s : State) (clear : s.fault ≡ false) (are : AreKnown s.pages table) where
       does : q.stamp ≢ 2 ^ 64 - 1 → (answer : Swapped R) (out : Outcome)
@@ -70,9 +70,9 @@ module _ {L : Type 0} (g : Ghosts L) (next : ℕ) (config : Config) (recovered :
         → (let told : Result (Unit {0}) Refusal = Err refusal in IsCaused g.tells g.state g.moment g.left_since g.counts before after (g.is_full before.log (length (message_of (Put content)).payload)) told)
         → Steps g (cache before table) call (answered (Err (error_by refusal))) (cache after pages)
     swaps-refused refusal (inl (last, is)) =
-        rw is (λ went cause. nothing-appended g next config recovered before table ready beside after call pages back (answered (Err (Unsupported StampUsedUp))) went cause.fault (λ s clear are. last-step s clear are last))
+        rw is (λ went cause. nothing-appended g next config recovered lru before table ready beside after call pages back (answered (Err (Unsupported StampUsedUp))) went cause.fault (λ s clear are. last-step s clear are last))
     swaps-refused refusal (inr (below, of)) =
-        put-refused g next config recovered before table ready beside after call pid content reads may (Unit {0}) pages back (λ e. answered (Err e))
+        put-refused g next config recovered lru before table ready beside after call pid content reads may (Unit {0}) pages back (λ e. answered (Err e))
         (λ s clear are e out fails. does s clear are below (Err e) out fails)
         refusal of
 
@@ -80,5 +80,5 @@ module _ {L : Type 0} (g : Ghosts L) (next : ℕ) (config : Config) (recovered :
         → (changed : KeptPage) → changed.stamp ≡ q.stamp + 1 → (made : Token) → made ≡ token pid (old.stamp + 1)
         → Steps g (cache before table) call (answered (Ok (Ok made))) (cache after (slice_set table pid changed))
     swaps-done below went clear_after changed risen made is =
-        put-set g next config recovered before table ready beside after call pid content reads may went clear_after (answered (Ok (Ok made))) (old.stamp + 1) changed (risen ∙ ap (λ n. n + 1) stamp) there
+        put-set g next config recovered lru before table ready beside after call pid content reads may went clear_after (answered (Ok (Ok made))) (old.stamp + 1) changed (risen ∙ ap (λ n. n + 1) stamp) there
         (λ s clear are. does s clear are below (Ok (Ok made)) (outcome (with_page s pid (page (old.stamp + 1) content)) (Change pid (Put content) ∷ [])) (refl, (ap (λ t. Ok t) is, refl)))

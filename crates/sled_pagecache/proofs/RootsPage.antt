@@ -1,5 +1,5 @@
 -- The page of the named roots, in the table and in the state that the cache is in, and the calls of it as steps of the machine.
-use Rattle.sled_pagecache.proofs.Names.{◌≡◌, ◌≢◌, ◌≤◌, ◌+◌, ◌-◌, ◌^◌, ◌⊎◌, inl, inr, ℕ, Bool, true, false, arith, List, [], ◌∷◌, length, Option, Some, None, Result, Ok, Err, refl, sym, ◌∙◌, ap, subst, slice_get, slice_set, slice_index_or, eq-eqb, ne_eqb, map-set, same_Some, Read, Write, Error, Unsupported, Refusal, LogFull, StampUsedUp, Content, Roots, Put, Event, Update, Change, unplaced, effect_of_entry, Makes, holds-made, Messages, effect_of, IsUpdate, message_of, Ghosts, Cache, IsIn, Steps, StepOver, HasNoRoom, chain_length, Went, Went-none, IsCaused, IsOfLog, begun_by, Logged, IsConsistent, HoldsChain, page, State, page_at, with_page, Outcome, outcome, unchanged, Does, RefusesSwap, token, Token, Config, StickyLog, stamps_in, Kept, GotMeta, GetMeta, FoundRoot, MetaPidForName, RootSwapped, CasRoot, PutsRoots, IsRoots, KeepsRoots, AreKeptRoots, Answer, Call}
+use Rattle.sled_pagecache.proofs.Names.{Recency, ◌≡◌, ◌≢◌, ◌≤◌, ◌+◌, ◌-◌, ◌^◌, ◌⊎◌, inl, inr, ℕ, Bool, true, false, arith, List, [], ◌∷◌, length, Option, Some, None, Result, Ok, Err, refl, sym, ◌∙◌, ap, subst, slice_get, slice_set, slice_index_or, eq-eqb, ne_eqb, map-set, same_Some, Read, Write, Error, Unsupported, Refusal, LogFull, StampUsedUp, Content, Roots, Put, Event, Update, Change, unplaced, effect_of_entry, Makes, holds-made, Messages, effect_of, IsUpdate, message_of, Ghosts, Cache, IsIn, Steps, StepOver, HasNoRoom, chain_length, Went, Went-none, IsCaused, IsOfLog, begun_by, Logged, IsConsistent, HoldsChain, page, State, page_at, with_page, Outcome, outcome, unchanged, Does, RefusesSwap, token, Token, Config, StickyLog, stamps_in, Kept, GotMeta, GetMeta, FoundRoot, MetaPidForName, RootSwapped, CasRoot, PutsRoots, IsRoots, KeepsRoots, AreKeptRoots, Answer, Call}
 use Rattle.sled_base.specs.Errors.{error_of as error_by}
 use Rattle.sled_base.specs.Order.{Bytes}
 use Rattle.sled_base.specs.declared.types.Error.TheVariants.{Io, CollectionNotFound, OutOfMemory}
@@ -32,10 +32,10 @@ keeps-roots (q ∷ table) own both = by q.kept refl (own 0)
     by (kept.Roots roots) is here = record { page = q; roots = roots; at = refl; kept = is }
     by k is here = absurd here
 
-module _ {L : Type 0} (g : Ghosts L) (next : ℕ) (config : Config) (recovered : Bool) (before : StickyLog L) (table : List KeptPage) (free : List ℕ) (c : IsConsistent g.tells g.state before table free) (ready : before.fault ≡ false)
+module _ {L : Type 0} (g : Ghosts L) (next : ℕ) (config : Config) (recovered : Bool) (lru : Recency) (before : StickyLog L) (table : List KeptPage) (free : List ℕ) (c : IsConsistent g.tells g.state before table free) (ready : before.fault ≡ false)
     (roots : meta.Roots) (stamp : ℕ) (kept_roots : AreKeptRoots table roots stamp) where
   abbrev cache : StickyLog L → List KeptPage → Cache L
-  cache sticky_log kept = view next config recovered sticky_log kept
+  cache sticky_log kept = view next config recovered lru sticky_log kept
 
   abbrev q : KeptPage
   q = kept_roots.page
@@ -98,7 +98,7 @@ module _ {L : Type 0} (g : Ghosts L) (next : ℕ) (config : Config) (recovered :
 
     may : (held : Logged) (s : State) → IsIn g (cache before table) held s → s.fault ≡ false → MayPut g before.log held 0 content
     may held s is clear =
-        let long = many g next config recovered before table ready (c.beside ready) held s is clear in
+        let long = many g next config recovered lru before table ready (c.beside ready) held s is clear in
         let both = c.both in
         record {
           may = omega arith;
@@ -155,7 +155,7 @@ module _ {L : Type 0} (g : Ghosts L) (next : ℕ) (config : Config) (recovered :
         steps-went g (cache before table) (cache after (slice_set table 0 changed)) before after call (RootSwapped (Ok (Ok tt))) (Change 0 (message_of (Put content)) ∷ []) (record { config = refl; recovered = refl }) refl refl refl ready went
         (λ held s is clear.
         let m = may held s is clear in
-        let long = many g next config recovered before table ready (c.beside ready) held s is clear in
+        let long = many g next config recovered lru before table ready (c.beside ready) held s is clear in
         let both = c.both in
         leads-set g (cache before table) (cache after (slice_set table 0 changed)) held s is clear call (RootSwapped (Ok (Ok tt))) refl 0 (Put content) reads m.may m.proper (stamp + 1) content
         (risen s clear (roots-at held s is clear) below (Ok (Ok tt)) (outcome (with_page s 0 (page (stamp + 1) content)) (change ∷ [])) (refl, (refl, refl)))

@@ -1,5 +1,5 @@
 -- How much of the log the messages of a page take, beside those of its chain.
-use Rattle.sled_pagecache.proofs.Names.{◌≡◌, ◌<◌, ◌^◌, ◌+◌, ℕ, ℤ, false, true, Bool, List, [], ◌∷◌, ◌++◌, map, Option, None, Some, slice_get, refl, sym, ◌∙◌, ap, subst, arith, none-some, same_Some, slice_get-map, option_map, slice_index_or, zero, suc, length, AllZip, AllByRecursion, ◌-◌, sum_by, sum_by-cons, DiskPtr, Chain, Entry, effect_of_entry, said_of, IsSized, Ghosts, chain_size, place_of, IsKept, is_free, IsConsistent, infos_after, Config, CacheInfo, StickyLog, Kept, Page, sum_by_push, head_size, capped, AreSized, size_in, access_size, size_if, node_access_size, size_linked}
+use Rattle.sled_pagecache.proofs.Names.{Recency, ◌≡◌, ◌<◌, ◌^◌, ◌+◌, ℕ, ℤ, false, true, Bool, List, [], ◌∷◌, ◌++◌, map, Option, None, Some, slice_get, refl, sym, ◌∙◌, ap, subst, arith, none-some, same_Some, slice_get-map, option_map, slice_index_or, zero, suc, length, AllZip, AllByRecursion, ◌-◌, sum_by, sum_by-cons, DiskPtr, Chain, Entry, effect_of_entry, said_of, IsSized, Ghosts, chain_size, place_of, IsKept, is_free, IsConsistent, infos_after, Config, CacheInfo, StickyLog, Kept, Page, sum_by_push, head_size, capped, AreSized, size_in, access_size, size_if, node_access_size, size_linked}
 use Rattle.std.specs.Prelude.{nat_lt, min, if◌then◌else◌}
 use Rattle.sled_log.specs.LogState as log
 use Rattle.sled_pagecache.proofs.TableNodes.{view}
@@ -31,9 +31,9 @@ node-full size its (kept.Node node) is = (refl, sym (same_Some size its is))
 node-full size its k is = absurd cc
 
 -- what the messages of a node in memory take is what those of its chain take
-pub sized-view : {L : Type 0} (g : Ghosts L) (next : ℕ) (config : Config) (recovered : Bool) (sticky_log : StickyLog L) (pages : List Page) (free : List ℕ)
-    → IsConsistent g.tells g.state sticky_log pages free → AreSized g (view next config recovered sticky_log pages)
-sized-view g next config recovered sticky_log pages free is told clear pid size has = by (slice_get pages pid) refl
+pub sized-view : {L : Type 0} (g : Ghosts L) (next : ℕ) (config : Config) (recovered : Bool) (lru : Recency) (sticky_log : StickyLog L) (pages : List Page) (free : List ℕ)
+    → IsConsistent g.tells g.state sticky_log pages free → AreSized g (view next config recovered lru sticky_log pages)
+sized-view g next config recovered lru sticky_log pages free is told clear pid size has = by (slice_get pages pid) refl
   where
     chains : List Chain
     chains = log.now effect_of_entry (g.state sticky_log.log)
@@ -45,7 +45,7 @@ sized-view g next config recovered sticky_log pages free is told clear pid size 
     sized-at (chain ∷ chains) (p ∷ pages) zero q zip all at full = page-size chain q (subst (IsKept chain) (same_Some p q at) zip.0) all.0 full
     sized-at (chain ∷ chains) (p ∷ pages) (suc pid) q zip all at full = sized-at chains pages pid q zip.1 all.1 at full
 
-    by : (o : Option Page) → slice_get pages pid ≡ o → size ≡ chain_size g.state (view next config recovered sticky_log pages) pid
+    by : (o : Option Page) → slice_get pages pid ≡ o → size ≡ chain_size g.state (view next config recovered lru sticky_log pages) pid
     by None past = absurd (none-some (Some size) (sym (slice_get-map (λ (p : Page). node_access_size p) pages pid ∙ ap (option_map (λ (p : Page). node_access_size p)) past) ∙ has))
     by (Some q) at =
         let full = node-full (access_size q) size q.kept (same_Some (node_access_size q) (Some size) (sym (slice_get-map (λ (p : Page). node_access_size p) pages pid ∙ ap (option_map (λ (p : Page). node_access_size p)) at) ∙ has)) in

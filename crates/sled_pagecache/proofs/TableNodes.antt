@@ -1,20 +1,20 @@
 -- The node that the table of a cache keeps at an id, in the words of the cache's model.
-use Rattle.sled_pagecache.proofs.Names.{◌≡◌, ◌≤◌, inl, inr, ℕ, Bool, false, List, [], length, Some, None, slice_get, refl, sym, ◌∙◌, ap, subst, arith, false≢true, get_or_past, AllZip-long, Chain, unplaced, effect_of_entry, Makes, one_content, Ghosts, WholeNode, Cache, chain_at, HoldsChain, IsKept, is_resident, IsNodeAt, stamps_in, resident_in, nodes_in, unlisted, IsConsistent, Token, token, Config, StickyLog, Kept, Page, NodeView}
+use Rattle.sled_pagecache.proofs.Names.{Recency, ◌≡◌, ◌≤◌, inl, inr, ℕ, Bool, false, List, [], length, Some, None, slice_get, refl, sym, ◌∙◌, ap, subst, arith, false≢true, get_or_past, AllZip-long, Chain, unplaced, effect_of_entry, Makes, one_content, Ghosts, WholeNode, Cache, chain_at, HoldsChain, IsKept, is_resident, IsNodeAt, IsConsistent, Token, token, Config, StickyLog, Kept, Page, NodeView}
 use Rattle.sled_log.specs.Contents as content
 use Rattle.sled_log.specs.LogState as log
 use Rattle.sled_pagecache.proofs.Lookups.{map-at, kept-at}
 use Rattle.sled_pagecache.proofs.Standing.{node-full}
+use Rattle.sled_pagecache.specs.Evictions.{cache_of}
 use Rattle.sled_pagecache.specs.declared.pagecache.page.Kept.TheVariants as kept
 
--- a cache over a log and a table, of which all else is the same
-abbrev pub view : {L : Type 0} → ℕ → Config → Bool → StickyLog L → List Page → Cache L
-view next config recovered sticky_log pages =
-    record { stamps = stamps_in pages; resident = resident_in pages; nodes = nodes_in pages; next = next; batch = sticky_log.batch; fault = sticky_log.fault; config = config; recovered = recovered; lru = unlisted; log = sticky_log.log }
+-- a cache over a log and a table
+abbrev pub view : {L : Type 0} → ℕ → Config → Bool → Recency → StickyLog L → List Page → Cache L
+view = cache_of
 
-module _ {L : Type 0} (g : Ghosts L) (next : ℕ) (config : Config) (recovered : Bool) (sticky_log : StickyLog L) (pages : List Page) (free : List ℕ) (pid : ℕ)
+module _ {L : Type 0} (g : Ghosts L) (next : ℕ) (config : Config) (recovered : Bool) (lru : Recency) (sticky_log : StickyLog L) (pages : List Page) (free : List ℕ) (pid : ℕ)
     (is : IsConsistent g.tells g.state sticky_log pages free) where
   abbrev cache : Cache L
-  cache = view next config recovered sticky_log pages
+  cache = view next config recovered lru sticky_log pages
 
   abbrev chain : Chain
   chain = chain_at (g.state sticky_log.log) pid

@@ -32,10 +32,6 @@ IsResident cache pid = slice_get cache.resident pid ≡ Some true
 abbrev pub IsAway : {L : Type 0} → Cache L → ℕ → Type 0
 IsAway cache pid = slice_get cache.resident pid ≡ Some false
 
--- no page is listed
-abbrev pub unlisted : Recency
-unlisted = record { capacity = 0; shards = [] }
-
 module _ {L : Type 0} (state : L → log.LogState Entry) where
   -- how many messages make a page
   abbrev pub chain_length : Cache L → ℕ → ℕ

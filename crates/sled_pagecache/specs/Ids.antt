@@ -7,8 +7,6 @@ use Rattle.sled_pagecache.specs.Cache.{Cache}
 use Rattle.sled_pagecache.specs.Limits.{counter_pid}
 use Rattle.sled_pagecache.specs.Logged.{Logged, IsLogged}
 use Rattle.sled_pagecache.specs.Memory.{AccessesPage}
-use Rattle.sled_pagecache.specs.Touching.{TakesPage}
-use Rattle.sled_pagecache.specs.declared.pagecache.accesses.Accesses.{Accesses}
 
 -- The counter stands in these pages, and the id is below it plus one interval.
 abbrev pub IsBelowCounter : ℕ → List Content → ℕ → Type 0
@@ -20,11 +18,5 @@ IsCovered g cache id =
     g.tells → (held : Logged) → IsLogged (unplaced_state (g.state cache.log)) held → IsBelowCounter cache.config.idgen_persist_interval held.stable id
 
 -- An id was given. Either a new counter was put on its page, which was accessed, and all is durable; or nothing changes but the next id.
-abbrev pub TakesId : {L : Type 0} → Ghosts L → Cache L → Accesses → Cache L → Accesses → Type 0
-TakesId g old accesses new then =
-    (TakesPage old accesses counter_pid new then × ((g.state new.log).pending ≡ []))
-    ⊎ ((new ≡ record old { next = old.next + 1 }) × (then ≡ accesses))
-
--- the same behind what the list dropped for it
 abbrev pub GivesId : {L : Type 0} → Ghosts L → Cache L → Cache L → Type 0
 GivesId g old new = (AccessesPage old counter_pid new × ((g.state new.log).pending ≡ [])) ⊎ (new ≡ record old { next = old.next + 1 })

@@ -36,6 +36,7 @@ pub mod Loading
 pub mod Starting
 pub mod Judging
 pub mod Swaps
+pub mod Appends
 pub mod RootSwaps
 pub mod Trees
 pub mod Batches
@@ -49,8 +50,8 @@ pub mod LinkTests
 pub mod LinkedPages
 pub mod Memory
 pub mod PagingOut
+pub mod Evictions
 pub mod Touching
-pub mod Relisting
 pub mod Lending
 pub mod Guard
 pub mod Shapes

@@ -1,5 +1,5 @@
 -- What a link makes of a page, which is read where it doesn't lie in memory.
-use Rattle.std.specs.Prelude.{◌≡◌, ◌≢◌, ◌⊎◌, ◌-◌, ◌^◌, ℕ, Bool, List, [], ◌∷◌, length, slice_set, Some, ⊤}
+use Rattle.std.specs.Prelude.{◌≡◌, ◌≢◌, ◌⊎◌, ◌-◌, ◌^◌, ◌≤◌, ℕ, Bool, true, false, List, [], ◌∷◌, length, slice_set, Some, Result, Ok, Err, ⊤}
 use Rattle.std.specs.List.{AllByRecursion}
 use Rattle.sled_base.specs.declared.types.Bug.TheVariants.{LinkRefused}
 use Rattle.sled_base.specs.declared.types.Device.TheVariants.{Write}
@@ -19,12 +19,15 @@ use Rattle.sled_log.specs.declared.log.Log.{Ghosts}
 use Rattle.sled_node.specs.Links.{Accepts, applied}
 use Rattle.sled_node.specs.Node.{WholeNode}
 use Rattle.sled_node.specs.declared.node.link.Link.{Link as NodeLink}
-use Rattle.sled_pagecache.specs.ChainReads.{chain_at}
-use Rattle.sled_pagecache.specs.StickyLog.{Went}
-use Rattle.sled_pagecache.specs.Pages.{IsKept}
+use Rattle.sled_pagecache.specs.Accesses.{WasAccessed, IsTouched}
+use Rattle.sled_pagecache.specs.ChainReads.{chain_at, more}
+use Rattle.sled_pagecache.specs.StickyLog.{Went, IsCaused, IsOfLog}
+use Rattle.sled_pagecache.specs.Pages.{IsKept, is_free, is_resident, access_size}
 use Rattle.sled_pagecache.specs.Reading.{IsWrongAt}
 use Rattle.sled_pagecache.specs.Changes.{link_update}
-use Rattle.sled_pagecache.specs.Swaps.{IsRaised, linked_length}
+use Rattle.sled_pagecache.specs.Swaps.{IsRaised, RefusesLink, linked_length}
+use Rattle.sled_pagecache.specs.Table.{IsFreeOrNode}
+use Rattle.sled_pagecache.specs.declared.pagecache.accesses.Accesses.{Accesses}
 use Rattle.sled_pagecache.specs.declared.pagecache.sticky_log.StickyLog.{StickyLog}
 use Rattle.sled_pagecache.specs.declared.pagecache.page.Kept.TheVariants as kept
 use Rattle.sled_pagecache.specs.declared.pagecache.page.Page.{Page}
@@ -81,3 +84,36 @@ pub record WasBegun {L : Type 0} (g : Ghosts L) (old new : StickyLog L) : Type 0
   pub came : List (Event Message)
   pub marks : (was : Bool) → open_after was came ≡ was
   pub went : Went g.tells g.state g.moment g.left_since g.counts old new came
+
+module _ {L : Type 0} (g : Ghosts L) (old : StickyLog L) (pid : ℕ) (page : Page) (link : NodeLink) (new : StickyLog L) (accesses then : Accesses) (page_then : Page) where
+  -- A link was made: the page took it and was accessed. It was read where its node didn't lie in memory.
+  pub record MakesLink : Type 0 where
+    pub taken : TakesLink g old pid page link new page_then
+    pub fault : new.fault ≡ false
+    pub unread : is_resident page.kept ≡ true → (g.counts new.log).reads ≡ (g.counts old.log).reads
+    pub reads : is_resident page.kept ≡ false → (g.counts new.log).reads ≡ more (length page.infos.items) (g.counts old.log).reads
+    pub accessed : WasAccessed accesses pid (access_size page_then) then
+
+  -- It was refused. The page stays but that its node may be lost, and what it has read isn't kept; at most it was accessed, and
+  -- only a refusal of the log's may have left it so.
+  pub record RefusesLinkOf (refusal : Refusal) : Type 0 where
+    pub begun : WasBegun g old new
+    pub refused : g.tells → RefusesAppended g old pid page link new refusal
+    pub tested : g.tells → is_resident page.kept ≡ true → RefusesLink page.stamp page.kept link refusal
+    pub cause : let told : Result (Unit {0}) Refusal = Err refusal in IsCaused g.tells g.state g.moment g.left_since g.counts old new (g.tells → HadNoRoom g old pid page link) told
+    pub stamp : page_then.stamp ≡ page.stamp
+    pub infos : page_then.infos.items ≡ page.infos.items
+    pub same : g.tells → new.fault ≡ false → now effect_of_entry (g.state new.log) ≡ now effect_of_entry (g.state old.log)
+    pub still : g.tells → new.fault ≡ false → IsKept (chain_at (g.state old.log) pid) page_then
+    pub free : is_free page_then.kept ≡ is_free page.kept
+    pub own : IsFreeOrNode page.kept → IsFreeOrNode page_then.kept
+    pub unread : is_resident page.kept ≡ true → (g.counts new.log).reads ≡ (g.counts old.log).reads
+    pub kept_out : is_resident page.kept ≡ false → is_resident page_then.kept ≡ false
+    pub at_most : (times : ℕ) × (times ≤ length page.infos.items) × ((g.counts new.log).reads ≡ more times (g.counts old.log).reads)
+    pub touched : IsTouched accesses pid then
+    pub lost : (page_then.kept ≡ page.kept) ⊎ (page_then.kept ≡ kept.Away)
+    pub unasked : g.tells → IsOfLog refusal ⊎ ((page_then.kept ≡ page.kept) × (then ≡ accesses))
+
+  abbrev pub PutsLink : Result (Unit {0}) Refusal → Type 0
+  PutsLink (Ok done) = MakesLink
+  PutsLink (Err refusal) = RefusesLinkOf refusal

@@ -2,12 +2,11 @@
 //!
 //! In reading order, from what is public down:
 //!
-//! - `cache`: the cache: pages, and their accesses; each call is one step of a machine
+//! - `cache`: the cache: each call is one step of a machine
 //! - `guard`: batches, and the guard of one
 //! - `trees`: opening a tree by its name, which is several calls
 //! - `call`, `view`, `config`: the calls and their answers; tokens, and nodes that are lent; the settings
-//! - `accesses`: the accesses to pages, by which pages leave memory
-//! - `pages`: the pages of a cache, which stay in memory until they are paged out
+//! - `accesses`, `evict`: the accesses to pages, and what leaves memory behind one
 //! - `start`, `recovered`, `own`: opening a cache, the pages that its log recovers, and the cache's own pages
 //! - `add`, `judge`, `swap`, `roots`: making a page, what the token of a swap is worth, the swaps, and the swap of a named root
 //! - `ids`: the counter of generated ids
@@ -22,13 +21,13 @@ mod cache;
 mod call;
 mod chain;
 mod config;
+mod evict;
 mod free;
 mod guard;
 mod ids;
 mod judge;
 mod own;
 mod page;
-mod pages;
 mod pagetable;
 mod pull;
 mod reading;

@@ -9,6 +9,7 @@ ghost use Rattle.sled_log.specs.Pages.{IsSized};
 ghost use Rattle.sled_log.specs.Reading.{IsUpdate};
 ghost use Rattle.sled_log.specs.LogState.{now};
 ghost use Rattle.sled_log.specs.Writing.{message_of};
+ghost use Rattle.sled_pagecache.specs.Appends.{PutsOnNewPage};
 ghost use Rattle.sled_pagecache.specs.Accesses.{WasAccessed, IsTouched};
 ghost use Rattle.sled_pagecache.specs.Adding.{HasOneMore, RefusesPage};
 ghost use Rattle.sled_pagecache.specs.ChainReads.{chain_at};
@@ -38,21 +39,8 @@ pub(super) fn add_page<L: Log>(
     requires ready { sticky_log.old.fault ≡ false }
     requires usable { (L.state sticky_log.old.log).usable ≡ true }
     requires there { L.tells → length pages.old.pages ≡ length (now effect_of_entry (L.state sticky_log.old.log)) }
-    ensures pid { IfOk result (λ pid. pid ≡ length pages.old.pages) }
-    ensures page { OnOk result (HasOneMore L.tells pages.old.pages pages.new.pages (chain_at (L.state sticky_log.new.log) (length pages.old.pages)) node) }
-    ensures others { L.tells → OnOk result (now effect_of_entry (L.state sticky_log.new.log) ≡ now effect_of_entry (L.state sticky_log.old.log) ++ chain_at (L.state sticky_log.new.log) (length pages.old.pages) ∷ []) }
-    ensures room { OnOk result (length pages.old.pages ≢ most_pages) }
-    ensures left { OnErr result (pages.new.pages ≡ pages.old.pages) }
-    ensures same { L.tells → OnErr result (sticky_log.new.fault ≡ false → now effect_of_entry (L.state sticky_log.new.log) ≡ now effect_of_entry (L.state sticky_log.old.log)) }
-    ensures refused { L.tells → IfErr result (RefusesPage (length pages.old.pages)) }
-    ensures is { IsUpdate (message_of (contents.Put (contents.Node node))) (contents.Put (contents.Node node)) }
-    ensures went { Went L.tells L.state L.moment L.left_since L.counts sticky_log.old sticky_log.new (begun_by result (Change (length pages.old.pages) (message_of (contents.Put (contents.Node node))) ∷ [])) }
-    ensures cause { IsCaused L.tells L.state L.moment L.left_since L.counts sticky_log.old sticky_log.new (L.is_full sticky_log.old.log (length (message_of (contents.Put (contents.Node node))).payload)) result }
-    ensures reads { (L.counts sticky_log.new.log).reads ≡ (L.counts sticky_log.old.log).reads }
-    ensures sized { L.tells → OnOk result (AllByRecursion IsSized (now effect_of_entry (L.state sticky_log.new.log))) }
-    ensures accessed { OnOk result (IfSome (slice_get pages.new.pages (length pages.old.pages)) (λ page. WasAccessed accesses.old (length pages.old.pages) (access_size page) accesses.new)) }
-    ensures touched { OnErr result (IsTouched accesses.old (length pages.old.pages) accesses.new) }
-    ensures unasked { L.tells → IfErr result (λ refusal. IsOfLog refusal ⊎ (accesses.new ≡ accesses.old)) }
+    ensures { PutsOnNewPage L.Log node sticky_log.old sticky_log.new accesses.old accesses.new
+        pages.old.pages pages.new.pages result }
 {
     // Every node is well-formed.
     let _ = node.data();

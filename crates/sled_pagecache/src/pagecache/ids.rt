@@ -1,23 +1,16 @@
 //! The counter of generated ids, on its page.
 
-ghost use Rattle.std.specs.Prelude.{◌≡◌, ◌≢◌, ◌⊎◌, ◌+◌, ◌<◌, ◌^◌, [], ◌∷◌, false, true, length, map, slice_set, IfErr, OnOk, OnErr};
-ghost use Rattle.std.specs.List.{AllByRecursion};
+ghost use Rattle.std.specs.Prelude.{◌≡◌, ◌<◌, [], false, true, length, OnOk};
 ghost use Rattle.sled_log.specs.Batches.{is_open};
 ghost use Rattle.sled_log.specs.Contents as contents;
-ghost use Rattle.sled_log.specs.Events.{Change};
 ghost use Rattle.sled_log.specs.LogState.{now};
 ghost use Rattle.sled_log.specs.Messages.{effect_of_entry};
-ghost use Rattle.sled_log.specs.Pages.{IsSized};
-ghost use Rattle.sled_log.specs.Reading.{IsUpdate};
 ghost use Rattle.sled_log.specs.Writing.{message_of};
-ghost use Rattle.sled_pagecache.specs.Accesses.{WasAccessed, IsTouched};
-ghost use Rattle.sled_pagecache.specs.ChainReads.{chain_at};
+ghost use Rattle.sled_pagecache.specs.Appends.{Puts};
 ghost use Rattle.sled_pagecache.specs.CounterPages.{IsCounterIn, KeepsCounter};
 ghost use Rattle.sled_pagecache.specs.Limits.{counter_pid};
-ghost use Rattle.sled_pagecache.specs.Pages.{IsKept, access_size};
 ghost use Rattle.sled_pagecache.specs.Step.{interval_start};
-ghost use Rattle.sled_pagecache.specs.StickyLog.{Went, IsCaused, IsOfLog, begun_by};
-ghost use Rattle.sled_pagecache.specs.Swaps.{IsRaised, RefusesSwap, Wrote};
+ghost use Rattle.sled_pagecache.specs.Swaps.{Wrote};
 ghost use Rattle.sled_pagecache.specs.declared.pagecache.page.Kept.TheVariants as kept;
 
 use super::COUNTER_PID;
@@ -67,23 +60,9 @@ pub(super) fn put_counter<L: Log>(
     requires usable { (L.state sticky_log.old.log).usable ≡ true }
     requires closed { is_open (L.state sticky_log.old.log).pending ≡ false }
     requires there { L.tells → counter_pid < length (now effect_of_entry (L.state sticky_log.old.log)) }
-    ensures stamp { OnOk result (IsRaised page.old.stamp page.new.stamp) }
-    ensures holds { OnOk result (page.new.kept ≡ kept.Counter n) }
-    ensures kept { L.tells → OnOk result (IsKept (chain_at (L.state sticky_log.new.log) counter_pid) page.new) }
-    ensures stamps { OnOk result (map (λ info. info.ts) page.new.infos.items ≡ page.new.stamp ∷ []) }
-    ensures others { L.tells → OnOk result (now effect_of_entry (L.state sticky_log.new.log) ≡ slice_set (now effect_of_entry (L.state sticky_log.old.log)) counter_pid (chain_at (L.state sticky_log.new.log) counter_pid)) }
+    ensures put { Puts L.Log counter_pid (kept.Counter n) sticky_log.old sticky_log.new accesses.old accesses.new
+        page.old page.new result }
     ensures stable { OnOk result ((L.state sticky_log.new.log).pending ≡ []) }
-    ensures left { OnErr result (page.new ≡ page.old) }
-    ensures same { L.tells → OnErr result (sticky_log.new.fault ≡ false → now effect_of_entry (L.state sticky_log.new.log) ≡ now effect_of_entry (L.state sticky_log.old.log)) }
-    ensures refused { L.tells → IfErr result (RefusesSwap page.old.stamp) }
-    ensures is { IsUpdate (message_of (contents.Put (contents.Counter n))) (contents.Put (contents.Counter n)) }
-    ensures went { Went L.tells L.state L.moment L.left_since L.counts sticky_log.old sticky_log.new (begun_by result (Change counter_pid (message_of (contents.Put (contents.Counter n))) ∷ [])) }
-    ensures cause { IsCaused L.tells L.state L.moment L.left_since L.counts sticky_log.old sticky_log.new (L.is_full sticky_log.old.log (length (message_of (contents.Put (contents.Counter n))).payload)) result }
-    ensures reads { (L.counts sticky_log.new.log).reads ≡ (L.counts sticky_log.old.log).reads }
-    ensures sized { L.tells → OnOk result (AllByRecursion IsSized (now effect_of_entry (L.state sticky_log.new.log))) }
-    ensures accessed { OnOk result (WasAccessed accesses.old counter_pid (access_size page.new) accesses.new) }
-    ensures touched { OnErr result (IsTouched accesses.old counter_pid accesses.new) }
-    ensures unasked { L.tells → IfErr result (λ refusal. IsOfLog refusal ⊎ (accesses.new ≡ accesses.old)) }
 {
     let payload = n.serialized_size();
     if page.stamp == u64::MAX {

@@ -7,7 +7,7 @@ ghost use Rattle.sled_log.specs.LogState.{now};
 ghost use Rattle.sled_pagecache.specs.Accesses.{WasAccessed, IsTouched};
 ghost use Rattle.sled_pagecache.specs.ChainReads.{chain_at, more};
 ghost use Rattle.sled_pagecache.specs.StickyLog.{Went, IsCaused, IsOfLog};
-ghost use Rattle.sled_pagecache.specs.LinkedPages.{TakesLink, RefusesAppended, HadNoRoom, WasBegun};
+ghost use Rattle.sled_pagecache.specs.LinkedPages.{PutsLink};
 ghost use Rattle.sled_pagecache.specs.Pages.{IsKept, is_free, is_resident, access_size};
 ghost use Rattle.sled_pagecache.specs.Pulling.{RefusesPull};
 ghost use Rattle.sled_pagecache.specs.Swaps.{RefusesLink};
@@ -129,30 +129,18 @@ pub(super) fn pull_and_link<L: Log>(
     requires kept { L.tells → IsKept (chain_at (L.state sticky_log.old.log) pid) page.old }
     requires full { is_free page.old.kept ≡ false }
     requires own { IsFreeOrNode page.old.kept }
-    ensures taken { OnOk result (TakesLink L.Log sticky_log.old pid page.old link.now sticky_log.new page.new) }
-    ensures begun { OnErr result (WasBegun L.Log sticky_log.old sticky_log.new) }
-    ensures refused { L.tells → IfErr result (RefusesAppended L.Log sticky_log.old pid page.old link.now sticky_log.new) }
-    ensures tested { L.tells → is_resident page.old.kept ≡ true → IfErr result (RefusesLink page.old.stamp page.old.kept link.now) }
-    ensures cause { IsCaused L.tells L.state L.moment L.left_since L.counts sticky_log.old sticky_log.new (L.tells → HadNoRoom L.Log sticky_log.old pid page.old link.now) result }
-    ensures left { OnErr result ((page.new.stamp ≡ page.old.stamp) × (page.new.infos.items ≡ page.old.infos.items)) }
-    ensures same { L.tells → OnErr result (sticky_log.new.fault ≡ false → now effect_of_entry (L.state sticky_log.new.log) ≡ now effect_of_entry (L.state sticky_log.old.log)) }
-    ensures still { L.tells → OnErr result (sticky_log.new.fault ≡ false → IsKept (chain_at (L.state sticky_log.old.log) pid) page.new) }
-    ensures free { is_free page.new.kept ≡ is_free page.old.kept }
-    ensures own { IsFreeOrNode page.old.kept → IsFreeOrNode page.new.kept }
-    ensures unread { is_resident page.old.kept ≡ true → (L.counts sticky_log.new.log).reads ≡ (L.counts sticky_log.old.log).reads }
-    ensures reads { is_resident page.old.kept ≡ false → OnOk result ((L.counts sticky_log.new.log).reads ≡ more (length page.old.infos.items) (L.counts sticky_log.old.log).reads) }
-    ensures kept_out { is_resident page.old.kept ≡ false → OnErr result (is_resident page.new.kept ≡ false) }
-    ensures accessed { OnOk result (WasAccessed accesses.old pid (access_size page.new) accesses.new) }
-    ensures touched { OnErr result (IsTouched accesses.old pid accesses.new) }
-    ensures lost { OnErr result ((page.new.kept ≡ page.old.kept) ⊎ (page.new.kept ≡ kept.Away)) }
-    ensures unasked { L.tells → IfErr result (λ refusal. IsOfLog refusal ⊎ ((page.new.kept ≡ page.old.kept) × (accesses.new ≡ accesses.old))) }
-    ensures at_most { OnErr result ((times : ℕ) × (times ≤ length page.old.infos.items) × ((L.counts sticky_log.new.log).reads ≡ more times (L.counts sticky_log.old.log).reads)) }
+    ensures { PutsLink L.Log sticky_log.old pid page.old link.now sticky_log.new accesses.old
+        accesses.new page.new result }
 {
     let was_away = matches!(page.kept, Kept::Away);
     pull(alloc, sticky_log, pid, page)?;
-    let outcome = link_page(alloc, sticky_log, accesses, pid, page, link);
-    if was_away && outcome.is_err() {
-        page.kept = Kept::Away;
+    match link_page(alloc, sticky_log, accesses, pid, page, link) {
+        Ok(()) => Ok(()),
+        Err(refusal) => {
+            if was_away {
+                page.kept = Kept::Away;
+            }
+            Err(refusal)
+        }
     }
-    outcome
 }

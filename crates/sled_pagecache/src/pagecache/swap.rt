@@ -16,6 +16,7 @@ ghost use Rattle.sled_log.specs.LogState.{now};
 ghost use Rattle.sled_log.specs.Writing.{message_of};
 ghost use Rattle.sled_node.specs.Links.{Accepts, applied};
 ghost use Rattle.sled_node.specs.Payloads.Links.{CanWriteLink};
+ghost use Rattle.sled_pagecache.specs.Appends.{Puts};
 ghost use Rattle.sled_pagecache.specs.Accesses.{WasAccessed, IsTouched, capped};
 ghost use Rattle.sled_pagecache.specs.ChainReads.{chain_at};
 ghost use Rattle.sled_pagecache.specs.StickyLog.{Went, IsCaused, IsOfLog, begun_by};
@@ -50,22 +51,8 @@ pub(super) fn put_page<L: Log>(
     requires ready { sticky_log.old.fault ≡ false }
     requires usable { (L.state sticky_log.old.log).usable ≡ true }
     requires there { L.tells → pid < length (now effect_of_entry (L.state sticky_log.old.log)) }
-    ensures stamp { OnOk result (IsRaised page.old.stamp page.new.stamp) }
-    ensures holds { OnOk result (page.new.kept ≡ kept) }
-    ensures kept { L.tells → OnOk result (IsKept (chain_at (L.state sticky_log.new.log) pid) page.new) }
-    ensures stamps { OnOk result (map (λ info. info.ts) page.new.infos.items ≡ page.new.stamp ∷ []) }
-    ensures others { L.tells → OnOk result (now effect_of_entry (L.state sticky_log.new.log) ≡ slice_set (now effect_of_entry (L.state sticky_log.old.log)) pid (chain_at (L.state sticky_log.new.log) pid)) }
-    ensures left { OnErr result (page.new ≡ page.old) }
-    ensures same { L.tells → OnErr result (sticky_log.new.fault ≡ false → now effect_of_entry (L.state sticky_log.new.log) ≡ now effect_of_entry (L.state sticky_log.old.log)) }
-    ensures refused { L.tells → IfErr result (RefusesSwap page.old.stamp) }
-    ensures is { IsUpdate (message_of (contents.Put (content_of kept))) (contents.Put (content_of kept)) }
-    ensures went { Went L.tells L.state L.moment L.left_since L.counts sticky_log.old sticky_log.new (begun_by result (Change pid (message_of (contents.Put (content_of kept))) ∷ [])) }
-    ensures cause { IsCaused L.tells L.state L.moment L.left_since L.counts sticky_log.old sticky_log.new (L.is_full sticky_log.old.log (length (message_of (contents.Put (content_of kept))).payload)) result }
-    ensures reads { (L.counts sticky_log.new.log).reads ≡ (L.counts sticky_log.old.log).reads }
-    ensures sized { L.tells → OnOk result (AllByRecursion IsSized (now effect_of_entry (L.state sticky_log.new.log))) }
-    ensures accessed { OnOk result (WasAccessed accesses.old pid (access_size page.new) accesses.new) }
-    ensures touched { OnErr result (IsTouched accesses.old pid accesses.new) }
-    ensures unasked { L.tells → IfErr result (λ refusal. IsOfLog refusal ⊎ (accesses.new ≡ accesses.old)) }
+    ensures { Puts L.Log pid kept sticky_log.old sticky_log.new accesses.old accesses.new
+        page.old page.new result }
 {
     let payload = payload_size(&kept);
     if page.stamp == u64::MAX {
@@ -95,21 +82,8 @@ pub(super) fn free_page<L: Log>(
     requires there { L.tells → pid < length (now effect_of_entry (L.state sticky_log.old.log)) }
     ensures freed { OnOk result (free.new.ids.keys ≡ insert_key nat_cmp free.old.ids.keys pid) }
     ensures unfreed { OnErr result (free.new.ids.keys ≡ free.old.ids.keys) }
-    ensures stamp { OnOk result (IsRaised page.old.stamp page.new.stamp) }
-    ensures holds { OnOk result (page.new.kept ≡ kept.Free) }
-    ensures kept { L.tells → OnOk result (IsKept (chain_at (L.state sticky_log.new.log) pid) page.new) }
-    ensures stamps { OnOk result (map (λ info. info.ts) page.new.infos.items ≡ page.new.stamp ∷ []) }
-    ensures others { L.tells → OnOk result (now effect_of_entry (L.state sticky_log.new.log) ≡ slice_set (now effect_of_entry (L.state sticky_log.old.log)) pid (chain_at (L.state sticky_log.new.log) pid)) }
-    ensures left { OnErr result (page.new ≡ page.old) }
-    ensures same { L.tells → OnErr result (sticky_log.new.fault ≡ false → now effect_of_entry (L.state sticky_log.new.log) ≡ now effect_of_entry (L.state sticky_log.old.log)) }
-    ensures refused { L.tells → IfErr result (RefusesSwap page.old.stamp) }
-    ensures went { Went L.tells L.state L.moment L.left_since L.counts sticky_log.old sticky_log.new (begun_by result (Change pid (message_of (contents.Put contents.Free)) ∷ [])) }
-    ensures cause { IsCaused L.tells L.state L.moment L.left_since L.counts sticky_log.old sticky_log.new (L.is_full sticky_log.old.log (length (message_of (contents.Put contents.Free)).payload)) result }
-    ensures reads { (L.counts sticky_log.new.log).reads ≡ (L.counts sticky_log.old.log).reads }
-    ensures sized { L.tells → OnOk result (AllByRecursion IsSized (now effect_of_entry (L.state sticky_log.new.log))) }
-    ensures accessed { OnOk result (WasAccessed accesses.old pid (access_size page.new) accesses.new) }
-    ensures touched { OnErr result (IsTouched accesses.old pid accesses.new) }
-    ensures unasked { L.tells → IfErr result (λ refusal. IsOfLog refusal ⊎ (accesses.new ≡ accesses.old)) }
+    ensures put { Puts L.Log pid kept.Free sticky_log.old sticky_log.new accesses.old accesses.new
+        page.old page.new result }
 {
     if page.stamp == u64::MAX {
         return Err(Refusal::Unsupported(Why::StampUsedUp));

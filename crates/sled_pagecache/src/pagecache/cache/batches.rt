@@ -5,7 +5,7 @@ ghost use Rattle.sled_pagecache.specs.Batches.{OpensBatch, SealsBatch, CancelsBa
 ghost use Rattle.sled_pagecache.specs.Memory.{IsBounded};
 
 use super::PageCache;
-use sled_base::Error;
+use sled_base::{Device, Error, Why};
 use sled_log::Log;
 
 impl<L: Log> PageCache<L> {
@@ -13,7 +13,7 @@ impl<L: Log> PageCache<L> {
     pub fn batch_open(&self) -> bool
         ensures { result ≡ self.now.batch }
     {
-        self.pages.batch_open()
+        self.sticky_log.batch
     }
 
     // Opens a batch.
@@ -21,9 +21,15 @@ impl<L: Log> PageCache<L> {
         ensures opens { OpensBatch L.Log self.old result self.new }
         ensures bounded { IsBounded L.Log self.new }
     {
-        let pinned = self.pages.pin();
-        self.pages.know_sizes();
-        pinned
+        if self.sticky_log.fault {
+            return Err(Error::Io(Device::Write));
+        }
+        if self.sticky_log.batch {
+            return Err(Error::Unsupported(Why::BatchOpen));
+        }
+        self.sticky_log.pin()?;
+        self.sticky_log.batch = true;
+        Ok(())
     }
 
     // Closes the batch: a crash leaves all of it or nothing.
@@ -32,9 +38,11 @@ impl<L: Log> PageCache<L> {
         ensures closes { SealsBatch L.Log self.old result self.new }
         ensures bounded { IsBounded L.Log self.new }
     {
-        let sealed = self.pages.seal();
-        self.pages.know_sizes();
-        sealed
+        self.sticky_log.batch = false;
+        if self.sticky_log.fault {
+            return Err(Error::Io(Device::Write));
+        }
+        Ok(self.sticky_log.seal()?)
     }
 
     // Closes the batch: a crash may leave it in part.
@@ -43,8 +51,10 @@ impl<L: Log> PageCache<L> {
         ensures closes { CancelsBatch L.Log self.old result self.new }
         ensures bounded { IsBounded L.Log self.new }
     {
-        let cancelled = self.pages.cancel();
-        self.pages.know_sizes();
-        cancelled
+        self.sticky_log.batch = false;
+        if self.sticky_log.fault {
+            return Err(Error::Io(Device::Write));
+        }
+        Ok(self.sticky_log.cancel()?)
     }
 }

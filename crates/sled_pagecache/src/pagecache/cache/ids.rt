@@ -11,10 +11,12 @@ ghost use Rattle.sled_pagecache.specs.Token.{pid_of, stamp_of};
 ghost use Rattle.sled_pagecache.specs.declared.pagecache.call.Answer.TheVariants.{GotIdgen, Generated};
 ghost use Rattle.sled_pagecache.specs.declared.pagecache.call.Call.TheVariants.{GetIdgen, GenerateId};
 
-use super::{PageCache, lost_by, settle};
+use super::PageCache;
 use crate::pagecache::COUNTER_PID;
+use crate::pagecache::evict::evict;
+use crate::pagecache::ids::{interval_start, own_counter, put_counter};
 use crate::pagecache::view::PageView;
-use sled_base::Error;
+use sled_base::{Device, Error, Why};
 use sled_log::Log;
 
 impl<L: Log> PageCache<L> {
@@ -26,7 +28,10 @@ impl<L: Log> PageCache<L> {
         ensures always { self.now.fault ≡ false → IsOk result }
         ensures unnamed { IfErr result HasNoName }
     {
-        self.pages.get_idgen()
+        if self.sticky_log.fault {
+            return Err(Error::Io(Device::Write));
+        }
+        Ok(own_counter(&self.pages))
     }
 
     /// The next id. Over every run of openings each is given once: [`ids_are_given_once`](crate::openings::ids_are_given_once).
@@ -38,6 +43,7 @@ impl<L: Log> PageCache<L> {
     /// `IdsUsedUp` comes where the next id is above the greatest u64. Where a new counter is needed, `StampUsedUp` comes where the
     /// stamp of its page is the greatest, `LogFull` where the log has no room. These and `OutOfMemory` leave every page and message
     /// unchanged, and use no id. A write error is sticky: every later call answers it, until the log is opened again.
+    #[tactic(auto, using(crate::proofs::Refused::no_name))]
     pub fn generate_id_inner(&mut self) -> Result<u64, Error>
         ensures covered { IfOk result (IsCovered L.Log self.new) }
         ensures step { Steps L.Log self.old GenerateId (Generated result) self.new }
@@ -50,9 +56,35 @@ impl<L: Log> PageCache<L> {
         ensures leaves { IfErr result (LeavesMemory self.old counter_pid self.new L.tells) }
         ensures unnamed { IfErr result HasNoName }
     {
-        let given = self.pages.generate_id(&mut self.accesses);
-        let lost = lost_by(&given, COUNTER_PID);
-        settle(&mut self.pages, &mut self.accesses, lost);
-        given
+        if self.sticky_log.fault {
+            return Err(Error::Io(Device::Write));
+        }
+        if self.next > u64::MAX as u128 {
+            return Err(Error::Unsupported(Why::IdsUsedUp));
+        }
+        let id = self.next as u64;
+        let (_, counter) = own_counter(&self.pages);
+        let interval = self.config.idgen_persist_interval;
+        let start = interval_start(interval, id);
+        if start <= interval_start(interval, counter) {
+            self.next += 1;
+            return Ok(id);
+        }
+        if self.sticky_log.batch {
+            return Err(Error::Unsupported(Why::BatchOpen));
+        }
+        let (log, accesses) = (&mut self.sticky_log, &mut self.accesses);
+        let page = self.pages.get_mut(COUNTER_PID);
+        match put_counter(self.alloc, log, accesses, page, start) {
+            Ok(()) => {
+                self.next += 1;
+                evict(&mut self.pages, &mut self.accesses, None);
+                Ok(id)
+            }
+            Err(refusal) => {
+                evict(&mut self.pages, &mut self.accesses, Some(COUNTER_PID));
+                Err(Error::from(refusal))
+            }
+        }
     }
 }

@@ -10,10 +10,12 @@ ghost use Rattle.sled_pagecache.specs.Reads.{ReadsNothing};
 ghost use Rattle.sled_pagecache.specs.declared.pagecache.call.Answer.TheVariants.{GotMeta, FoundRoot, RootSwapped};
 ghost use Rattle.sled_pagecache.specs.declared.pagecache.call.Call.TheVariants.{GetMeta, MetaPidForName, CasRoot};
 
-use super::{PageCache, lost_by, settle};
+use super::PageCache;
 use crate::pagecache::META_PID;
+use crate::pagecache::evict::evict;
+use crate::pagecache::roots::{judge_root, own_roots, swap_root};
 use crate::pagecache::view::MetaView;
-use sled_base::{Error, PageId, Refusal};
+use sled_base::{Error, IVec, PageId, Refusal};
 use sled_log::Log;
 
 impl<L: Log> PageCache<L> {
@@ -24,18 +26,25 @@ impl<L: Log> PageCache<L> {
         ensures token { IfOk result (λ view. (view.token.pid ≡ meta_pid) × (slice_get self.now.stamps meta_pid ≡ Some view.token.stamp)) }
         ensures always { self.now.fault ≡ false → IsOk result }
     {
-        self.pages.get_meta()
+        let view = own_roots(self.sticky_log.fault, &self.pages)?;
+        Ok(view)
     }
 
     /// The root page of a name. `CollectionNotFound`, with the name, comes where it has none.
     ///
     /// Only the copy of a name in that error takes memory.
+    #[tactic(auto, using(crate::proofs::Refused::names_none))]
     pub fn meta_pid_for_name(&self, name: &[u8]) -> Result<PageId, Error>
         ensures step { Steps L.Log self.now (MetaPidForName name.now) (FoundRoot result) self.now }
         ensures keeps { Keeps self.now self.now result (λ _. self.now.stamps) }
         ensures named { IfErr result (NamesOnly name.now) }
     {
-        self.pages.meta_pid_for_name(name)
+        let view = own_roots(self.sticky_log.fault, &self.pages)?;
+        if let Some(root) = view.meta().get_root(name) {
+            return Ok(root);
+        }
+        let copy = IVec::from_slice(self.alloc, name)?;
+        Err(Error::CollectionNotFound(copy))
     }
 
     /// Gives a name the new root page, or takes the name out where there is none, if its root is the old one, and raises the
@@ -48,6 +57,7 @@ impl<L: Log> PageCache<L> {
     /// answers it, until the log is opened again.
     ///
     /// The whole map is written, and kept as one message.
+    #[tactic(auto, using(crate::proofs::Refused::no_name))]
     pub fn cas_root_in_meta(
         &mut self,
         name: &[u8],
@@ -64,11 +74,22 @@ impl<L: Log> PageCache<L> {
         ensures leaves { IfErr result (LeavesMemory self.old meta_pid self.new L.tells) }
         ensures unnamed { IfErr result HasNoName }
     {
-        let swapped = self
-            .pages
-            .cas_root_in_meta(&mut self.accesses, name, old, new);
-        let lost = lost_by(&swapped, META_PID);
-        settle(&mut self.pages, &mut self.accesses, lost);
-        swapped
+        let view = own_roots(self.sticky_log.fault, &self.pages)?;
+        match judge_root(view.meta(), name, old, new)? {
+            Err(root) => return Ok(Err(root)),
+            Ok(()) => {}
+        }
+        let (log, accesses) = (&mut self.sticky_log, &mut self.accesses);
+        let page = self.pages.get_mut(META_PID);
+        match swap_root(self.alloc, log, accesses, page, name, new) {
+            Ok(()) => {
+                evict(&mut self.pages, &mut self.accesses, None);
+                Ok(Ok(()))
+            }
+            Err(refusal) => {
+                evict(&mut self.pages, &mut self.accesses, Some(META_PID));
+                Err(Error::from(refusal))
+            }
+        }
     }
 }

@@ -1,18 +1,42 @@
 //! The shape of a cache.
 
-ghost use Rattle.std.specs.Prelude.{IfOk};
-ghost use Rattle.sled_pagecache.specs.Shapes.{Shows};
+ghost use Rattle.std.specs.Prelude.{◌≡◌, IfOk, map};
+ghost use Rattle.sled_pagecache.specs.Shapes.{Shows, shape_of_kept};
 
 use super::PageCache;
-use crate::pagecache::shape::Shape;
+use crate::pagecache::pagetable::PageTable;
+use crate::pagecache::shape::{PageShape, Shape, kind_of};
+use sled_base::PageId;
 use sled_log::Log;
-use std::alloc::AllocError;
+use std::alloc::{AllocError, Global};
 
 impl<L: Log> PageCache<L> {
     /// The shape of the cache. Only the list takes memory, and the log isn't called, so it is answered with a write error kept too.
     pub fn shape(&self) -> Result<Shape, AllocError>
         ensures { IfOk result (Shows L.Log self.now) }
     {
-        self.pages.shape()
+        let pages = shapes_of(self.alloc, &self.pages)?;
+        Ok(Shape {
+            pages,
+            next: self.next,
+            fault: self.sticky_log.fault,
+        })
     }
+}
+
+fn shapes_of(alloc: Global, pages: &PageTable) -> Result<Vec<PageShape>, AllocError>
+    ensures { IfOk result (λ shapes. shapes.items ≡ map shape_of_kept pages.now.pages) }
+{
+    let count = pages.len();
+    let mut shapes = Vec::with_capacity(alloc, count)?;
+    for pid in 0..count {
+        let Some(page) = pages.get(pid as PageId) else {
+            unreachable!()
+        };
+        shapes.push(PageShape {
+            stamp: page.stamp,
+            kind: kind_of(&page.kept),
+        })?;
+    }
+    Ok(shapes)
 }

@@ -1,29 +1,46 @@
-use Rattle.sled_pagecache.proofs.Names.{Flush, Flushed, relisted}
-use Rattle.sled_pagecache.proofs.Settling.{same-relisted, flushed-bounded, flushed-same, steps-moved, keeps-moved, on-kept}
+use Rattle.sled_base.specs.declared.types.Error.TheVariants.{Io}
+use Rattle.sled_pagecache.proofs.Names.{◌∙◌, Err, refl, ap, err_from_is_err_and, error_of, Write, Flushed, Flush}
+use Rattle.sled_pagecache.proofs.CacheSteps.{steps-stuck}
+use Rattle.sled_pagecache.proofs.Evicting.{keeps-same}
+use Rattle.sled_pagecache.proofs.Flushing.{flushes, flush_is_refused, flush_is_too_early}
 use Rattle.sled_pagecache.proofs.pagecache.cache.PageCache.flush.Goals as goal
 
-pub invariant_of-self : goal.invariant_of-self
-invariant_of-self g c =
-    let inside = c.self.inside in
-    let done = c.flush-flushed.ensures in
-    record { none = c.self.invariant.none; bounded = flushed-bounded g.L.Log inside.pages c.flush-flushed.new.self inside.accesses c.self.invariant done.same done.step.opening.config c.know_sizes.ensures }
+pub returns-then-self-clause-step : goal.returns-then-self-clause-step
+returns-then-self-clause-step g c = rw (← c.self.view_is) (steps-stuck g.L.Log _ Flush (Flushed (Err (Io Write))) c.if-self.true (λ s kept. rw kept (refl, refl)))
 
-pub returns : goal.returns
-returns g c =
+pub returns-then-self-clause-bounded : goal.returns-then-self-clause-bounded
+returns-then-self-clause-bounded g c = rw (← c.self.view_is) c.self.invariant.bounded
+
+pub returns-then-self-clause-same : goal.returns-then-self-clause-same
+returns-then-self-clause-same g c = keeps-same c.args.self.now
+
+pub returns-then-self-2-clause-step : goal.returns-then-self-2-clause-step
+returns-then-self-2-clause-step g c =
     let inside = c.self.inside in
-    let new = c.flush-flushed.new.self in
-    let result = c.flush-flushed.result in
-    let done = c.flush-flushed.ensures in
-    let lru = inside.accesses.lru in
-    let same = same-relisted new lru in
-    rw (← c.self.view_is) (record {
-      step = steps-moved g.L.Log inside.pages new lru (relisted new lru) same Flush (Flushed result) done.step;
-      blame = record { read = done.blame.read; write = done.blame.write };
-      keeps = keeps-moved g.L.Log inside.pages new lru (relisted new lru) same result (λ _. inside.pages.stamps) done.keeps (on-kept inside.pages new lru result);
-      unread = done.unread;
-      stable = done.stable;
-      number = done.number;
-      bounded = flushed-bounded g.L.Log inside.pages new inside.accesses c.self.invariant done.same done.step.opening.config c.know_sizes.ensures;
-      same = flushed-same g.L.Log inside.pages new lru done.same;
-      unnamed = done.unnamed;
-    })
+    rw (← c.self.view_is)
+    (flush_is_too_early g.L.Log inside.next inside.config inside.recovered inside.accesses.lru inside.pages.pages inside.sticky_log c.if-self.false c.if-self-2.true (c.self.invariant.whole.consistent.beside c.if-self.false).usable (g.met.L.Log.only_now inside.sticky_log.log))
+
+pub returns-then-self-2-clause-bounded : goal.returns-then-self-2-clause-bounded
+returns-then-self-2-clause-bounded g c = rw (← c.self.view_is) c.self.invariant.bounded
+
+pub returns-then-self-2-clause-same : goal.returns-then-self-2-clause-same
+returns-then-self-2-clause-same g c = keeps-same c.args.self.now
+
+pub make_stable-requires-clause-closed : goal.make_stable-requires-clause-closed
+make_stable-requires-clause-closed g c = c.self.invariant.whole.consistent.opened c.if-self.false ∙ c.if-self-2.false
+
+pub returns-in_err-make_stable-clause-step : goal.returns-in_err-make_stable-clause-step
+returns-in_err-make_stable-clause-step g c =
+    let inside = c.self.inside in
+    let refused = c.in_err-make_stable.ensures in
+    let p = err_from_is_err_and c.from_residual.result c.from_residual.ensures.1 in
+    rw (p.1, p.2 ∙ ap error_of refused.only, ← c.self.view_is)
+    (flush_is_refused g.L.Log inside.next inside.config inside.recovered inside.accesses.lru inside.pages.pages inside.sticky_log c.if-self.false c.if-self-2.false c.make_stable.new.self refused.went
+    (refused.cause.fault ∙ rw refused.only refl))
+
+pub returns-clause-step : goal.returns-clause-step
+returns-clause-step g c =
+    let inside = c.self.inside in
+    let done = c.in_ok-make_stable.ensures in
+    rw (← c.self.view_is)
+    (flushes g.L.Log inside.next inside.config inside.recovered inside.accesses.lru inside.pages.pages inside.sticky_log c.if-self.false c.if-self-2.false c.make_stable.new.self done.went _ done.cause.fault)

@@ -1,42 +1,148 @@
-use Rattle.sled_pagecache.proofs.Names.{Cache, GenerateId, Generated, IfOk, Keeps, List, Settles, ap, lost_by, relisted, subst, sym, ℕ, ◌+◌, ◌≡◌}
-use Rattle.sled_pagecache.proofs.Giving.{makes-id}
-use Rattle.sled_pagecache.proofs.Settling.{blamed-moved, keeps-moved, moved-as, settled-same, steps-moved, unread-moved}
-use Rattle.sled_pagecache.specs.Ids.{IsCovered}
+use Rattle.sled_base.specs.declared.types.Error.TheVariants.{Io}
+use Rattle.sled_pagecache.proofs.Names.{Err, GenerateId, Generated, Page, Write, ap, arith, le-ltb, refl, rules, same_Some, sym, ◌+◌, ◌-◌, ◌^◌, ◌∙◌, ◌≡◌}
+use Rattle.sled_pagecache.proofs.CacheSteps.{steps-stuck}
+use Rattle.sled_pagecache.proofs.Counted.{covered-next, whole-next}
+use Rattle.sled_pagecache.proofs.CounterPage.{keeps-counter}
+use Rattle.sled_pagecache.proofs.Evicting.{kept-settled, leaves-same}
+use Rattle.sled_pagecache.proofs.Generating.{few, id-covered, id-too-early, id-used-up, more}
+use Rattle.sled_pagecache.proofs.Giving.{id-made, id-unmade}
+use Rattle.sled_pagecache.proofs.Refused.{no_name}
+use Rattle.sled_pagecache.proofs.Standing.{beside-long}
 use Rattle.sled_pagecache.proofs.pagecache.cache.PageCache.generate_id_inner.Goals as goal
 
-pub invariant_of-self : goal.invariant_of-self
-invariant_of-self g c =
-    let inside = c.self.inside in
-    let done = c.generate_id-given.ensures in
-    let settles : Settles g.L.Log c.generate_id-given.new.accesses (lost_by c.generate_id-given.result 1) c.generate_id-given.new.self c.settle.new.pages c.settle.new.accesses = rw (← c.lost_by-lost.ensures) c.settle.ensures in
-    record {
-      none = c.settle.ensures.none;
-      bounded = (makes-id g.L.Log inside.pages c.generate_id-given.new.self c.settle.new.pages inside.accesses c.generate_id-given.new.accesses c.settle.new.accesses c.self.invariant done.step.opening.config c.generate_id-given.result settles done.takes done.refused).bounded;
-    }
+pub returns-then-self-clause-step : goal.returns-then-self-clause-step
+returns-then-self-clause-step g c = rw (← c.self.view_is) (steps-stuck g.L.Log _ GenerateId (Generated (Err (Io Write))) c.if-self.true (λ s kept. rw kept (refl, refl)))
 
-pub returns : goal.returns
-returns g c =
+pub returns-then-self-clause-bounded : goal.returns-then-self-clause-bounded
+returns-then-self-clause-bounded g c = rw (← c.self.view_is) c.self.invariant.bounded
+
+pub returns-then-self-clause-leaves : goal.returns-then-self-clause-leaves
+returns-then-self-clause-leaves g c = leaves-same c.args.self.now g.L.Log.tells 1 _
+
+pub own_counter-counter-requires : goal.own_counter-counter-requires
+own_counter-counter-requires g c = keeps-counter c.self.inside.pages.pages c.self.invariant.whole.consistent.own c.self.invariant.whole.consistent.both
+
+pub returns-then-self-2-clause-step : goal.returns-then-self-2-clause-step
+returns-then-self-2-clause-step g c =
     let inside = c.self.inside in
-    let mid = c.generate_id-given.new.self in
-    let between = c.generate_id-given.new.accesses in
-    let result = c.generate_id-given.result in
-    let done = c.generate_id-given.ensures in
-    let new = c.settle.new.pages in
-    let after = c.settle.new.accesses in
-    let upper = relisted new after.lru in
-    let settles : Settles g.L.Log between (lost_by result 1) mid new after = rw (← c.lost_by-lost.ensures) c.settle.ensures in
-    let same = settled-same g.L.Log between (lost_by result 1) mid new after settles in
-    let made = makes-id g.L.Log inside.pages mid new inside.accesses between after c.self.invariant done.step.opening.config result settles done.takes done.refused in
+    let kept = keeps-counter inside.pages.pages c.self.invariant.whole.consistent.own c.self.invariant.whole.consistent.both in
+    rw (← c.self.view_is)
+    (id-used-up g.L.Log inside.next inside.config inside.recovered inside.accesses.lru inside.sticky_log inside.pages.pages inside.free.ids.keys c.self.invariant.whole.consistent c.if-self.false kept.0 kept.1 kept.2 kept.3
+    (g.met.L.Log.only_now inside.sticky_log.log) (omega (arith, c.if-self-2.true)))
+
+pub returns-then-self-2-clause-bounded : goal.returns-then-self-2-clause-bounded
+returns-then-self-2-clause-bounded g c = rw (← c.self.view_is) c.self.invariant.bounded
+
+pub returns-then-self-2-clause-leaves : goal.returns-then-self-2-clause-leaves
+returns-then-self-2-clause-leaves g c = leaves-same c.args.self.now g.L.Log.tells 1 _
+
+-- the counter covers the id
+pub invariant_of-self : goal.invariant_of-self
+invariant_of-self g c = kept-settled g.L.Log _ _ _ _ _ _ _ _ _ c.self.invariant (whole-next g.L.Log c.self.invariant.whole)
+
+pub returns-then-start-interval_start-clause-covered : goal.returns-then-start-interval_start-clause-covered
+returns-then-start-interval_start-clause-covered g c =
+    let inside = c.self.inside in
+    let found = c.own_counter-counter.ensures in
+    λ told held logged.
+    covered-next g.L.Log inside.config.idgen_persist_interval inside.next inside.sticky_log inside.pages.pages inside.free.ids.keys c.self.invariant.whole c.if-self.false told found.page c.own_counter-counter.result.1 found.at found.counter
+    (omega (arith, c.interval_start-start.ensures, c.interval_start.ensures, c.if-start-interval_start.true)) held logged
+
+pub returns-then-start-interval_start-clause-step : goal.returns-then-start-interval_start-clause-step
+returns-then-start-interval_start-clause-step g c =
+    let inside = c.self.inside in
+    let found = c.own_counter-counter.ensures in
+    rw (← c.self.view_is)
+    (id-covered g.L.Log inside.next inside.config inside.recovered inside.accesses.lru inside.sticky_log inside.pages.pages inside.free.ids.keys c.self.invariant.whole.consistent c.if-self.false found.page c.own_counter-counter.result.1 found.at found.counter
+    (g.met.L.Log.only_now inside.sticky_log.log) (le-ltb (2 ^ 64 - 1) inside.next (omega (arith, c.if-self-2.false)))
+    (few c.interval_start-start.result c.interval_start.result inside.config.idgen_persist_interval inside.next c.own_counter-counter.result.1 c.interval_start-start.ensures c.interval_start.ensures c.if-start-interval_start.true))
+
+pub returns-then-start-interval_start-clause-bounded : goal.returns-then-start-interval_start-clause-bounded
+returns-then-start-interval_start-clause-bounded g c =
+    (kept-settled g.L.Log _ (c.self.inside.next + 1) _ _ _ _ _ _ _ c.self.invariant (whole-next g.L.Log c.self.invariant.whole)).bounded
+
+-- inside a batch no new counter is made
+pub returns-then-self-3-clause-step : goal.returns-then-self-3-clause-step
+returns-then-self-3-clause-step g c =
+    let inside = c.self.inside in
+    let found = c.own_counter-counter.ensures in
+    rw (← c.self.view_is)
+    (id-too-early g.L.Log inside.next inside.config inside.recovered inside.accesses.lru inside.sticky_log inside.pages.pages inside.free.ids.keys c.self.invariant.whole.consistent c.if-self.false found.page c.own_counter-counter.result.1 found.at found.counter
+    (g.met.L.Log.only_now inside.sticky_log.log) (le-ltb (2 ^ 64 - 1) inside.next (omega (arith, c.if-self-2.false)))
+    (more c.interval_start-start.result c.interval_start.result inside.config.idgen_persist_interval inside.next c.own_counter-counter.result.1 c.interval_start-start.ensures c.interval_start.ensures c.if-start-interval_start.false) c.if-self-3.true)
+
+pub returns-then-self-3-clause-bounded : goal.returns-then-self-3-clause-bounded
+returns-then-self-3-clause-bounded g c = rw (← c.self.view_is) c.self.invariant.bounded
+
+pub returns-then-self-3-clause-leaves : goal.returns-then-self-3-clause-leaves
+returns-then-self-3-clause-leaves g c = leaves-same c.args.self.now g.L.Log.tells 1 _
+
+pub put_counter-requires-clause-closed : goal.put_counter-requires-clause-closed
+put_counter-requires-clause-closed g c = c.self.invariant.whole.consistent.opened c.if-self.false ∙ c.if-self-3.false
+
+pub put_counter-requires-clause-there : goal.put_counter-requires-clause-there
+put_counter-requires-clause-there g c = λ told.
+    let both = c.self.invariant.whole.consistent.both in
+    let long = beside-long g.L.Log.tells g.L.Log.state c.self.inside.sticky_log.log c.self.inside.pages.pages (c.self.invariant.whole.consistent.beside c.if-self.false) told in
+    omega (arith, both, long)
+
+-- a new counter is put on its page
+pub invariant_of-self-in-Ok : goal.invariant_of-self-in-Ok
+invariant_of-self-in-Ok g c =
+    let inside = c.self.inside in
+    let found = c.own_counter-counter.ensures in
+    let same : c.get_mut-page.result.now ≡ found.page = same_Some _ _ (sym c.get_mut-page.ensures.page ∙ found.at) in
+    let below = le-ltb (2 ^ 64 - 1) inside.next (omega (arith, c.if-self-2.false)) in
+    let above = more c.interval_start-start.result c.interval_start.result inside.config.idgen_persist_interval inside.next c.own_counter-counter.result.1 c.interval_start-start.ensures c.interval_start.ensures c.if-start-interval_start.false in
+    (id-made g.L.Log c.self.invariant c.if-self.false c.if-self-3.false c.get_mut-page.ensures.page (ap (λ (p : Page). p.kept) same ∙ found.counter) below above c.interval_start-start.ensures c.in-Ok.ensures.put c.in-Ok.ensures.stable c.evict.ensures).is
+
+pub invariant_of-self-in-Err : goal.invariant_of-self-in-Err
+invariant_of-self-in-Err g c =
+    let inside = c.self.inside in
+    let found = c.own_counter-counter.ensures in
+    let same : c.get_mut-page.result.now ≡ found.page = same_Some _ _ (sym c.get_mut-page.ensures.page ∙ found.at) in
+    let below = le-ltb (2 ^ 64 - 1) inside.next (omega (arith, c.if-self-2.false)) in
+    let above = more c.interval_start-start.result c.interval_start.result inside.config.idgen_persist_interval inside.next c.own_counter-counter.result.1 c.interval_start-start.ensures c.interval_start.ensures c.if-start-interval_start.false in
+    (id-unmade g.L.Log c.self.invariant c.if-self.false c.if-self-3.false c.get_mut-page.ensures.page (ap (λ (p : Page). p.kept) same ∙ found.counter) below above c.interval_start-start.ensures c.in-Err.ensures.put c.evict-in-Err.ensures).is
+
+pub returns-in-Ok : goal.returns-in-Ok
+returns-in-Ok g c =
+    let inside = c.self.inside in
+    let found = c.own_counter-counter.ensures in
+    let same : c.get_mut-page.result.now ≡ found.page = same_Some _ _ (sym c.get_mut-page.ensures.page ∙ found.at) in
+    let below = le-ltb (2 ^ 64 - 1) inside.next (omega (arith, c.if-self-2.false)) in
+    let above = more c.interval_start-start.result c.interval_start.result inside.config.idgen_persist_interval inside.next c.own_counter-counter.result.1 c.interval_start-start.ensures c.interval_start.ensures c.if-start-interval_start.false in
+    let given = id-made g.L.Log c.self.invariant c.if-self.false c.if-self-3.false c.get_mut-page.ensures.page (ap (λ (p : Page). p.kept) same ∙ found.counter) below above c.interval_start-start.ensures c.in-Ok.ensures.put c.in-Ok.ensures.stable c.evict.ensures in
     rw (← c.self.view_is) (record {
-      covered = moved-as mid upper same (λ cache. IfOk result (IsCovered g.L.Log cache)) (λ resident nodes lru. done.covered);
-      step = steps-moved g.L.Log inside.pages mid inside.accesses.lru upper same GenerateId (Generated result) done.step;
-      blame = blamed-moved g.L.Log inside.pages mid inside.accesses.lru upper same result done.blame;
-      keeps = subst (λ (l : List ℕ). Keeps (relisted inside.pages inside.accesses.lru) upper result (λ _. l)) (sym (ap (λ (cache : Cache _). cache.stamps) same.is))
-          (keeps-moved g.L.Log inside.pages mid inside.accesses.lru upper same result (λ _. mid.stamps) done.keeps made.stuck);
-      id = moved-as mid upper same (λ cache. IfOk result (λ id. (id ≡ inside.pages.next) × (cache.next ≡ inside.pages.next + 1))) (λ resident nodes lru. done.id);
-      unread = unread-moved g.L.Log inside.pages mid inside.accesses.lru upper same done.unread;
-      bounded = made.bounded;
-      gives = made.gives;
-      leaves = made.leaves;
-      unnamed = done.unnamed;
+      covered = given.covered;
+      step = given.step;
+      blame = search rules;
+      keeps = given.keeps;
+      id = (refl, refl);
+      unread = c.in-Ok.ensures.put.reads;
+      bounded = given.bounded;
+      gives = given.gives;
+      leaves = tt;
+      unnamed = tt;
+    })
+
+pub returns-in-Err : goal.returns-in-Err
+returns-in-Err g c =
+    let inside = c.self.inside in
+    let found = c.own_counter-counter.ensures in
+    let same : c.get_mut-page.result.now ≡ found.page = same_Some _ _ (sym c.get_mut-page.ensures.page ∙ found.at) in
+    let below = le-ltb (2 ^ 64 - 1) inside.next (omega (arith, c.if-self-2.false)) in
+    let above = more c.interval_start-start.result c.interval_start.result inside.config.idgen_persist_interval inside.next c.own_counter-counter.result.1 c.interval_start-start.ensures c.interval_start.ensures c.if-start-interval_start.false in
+    let refused = id-unmade g.L.Log c.self.invariant c.if-self.false c.if-self-3.false c.get_mut-page.ensures.page (ap (λ (p : Page). p.kept) same ∙ found.counter) below above c.interval_start-start.ensures c.in-Err.ensures.put c.evict-in-Err.ensures in
+    rw (c.from.ensures, ← c.self.view_is) (record {
+      covered = tt;
+      step = refused.step;
+      blame = refused.blame;
+      keeps = refused.keeps;
+      id = tt;
+      unread = c.in-Err.ensures.put.reads;
+      bounded = refused.bounded;
+      gives = tt;
+      leaves = refused.leaves;
+      unnamed = no_name c.in-Err.refusal;
     })

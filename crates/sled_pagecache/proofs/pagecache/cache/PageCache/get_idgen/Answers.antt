@@ -1,18 +1,25 @@
-use Rattle.sled_pagecache.proofs.Names.{GetIdgen, GotIdgen, relisted}
-use Rattle.sled_pagecache.proofs.Settling.{same-relisted, steps-moved, keeps-moved, on-kept}
+use Rattle.sled_base.specs.declared.types.Error.TheVariants.{Io}
+use Rattle.sled_pagecache.proofs.Names.{Err, GetIdgen, GotIdgen, Page, Write, refl}
+use Rattle.sled_pagecache.proofs.CacheSteps.{steps-stuck}
+use Rattle.sled_pagecache.proofs.CounterPage.{gets-idgen, keeps-counter}
+use Rattle.sled_pagecache.proofs.Lookups.{map-at}
 use Rattle.sled_pagecache.proofs.pagecache.cache.PageCache.get_idgen.Goals as goal
 
-pub returns : goal.returns
-returns g c =
+pub returns-then-self-clause-step : goal.returns-then-self-clause-step
+returns-then-self-clause-step g c = rw (← c.self.view_is) (steps-stuck g.L.Log _ GetIdgen (GotIdgen (Err (Io Write))) c.if-self.true (λ s kept. rw kept (refl, refl)))
+
+pub own_counter-requires : goal.own_counter-requires
+own_counter-requires g c = keeps-counter c.self.inside.pages.pages c.self.invariant.whole.consistent.own c.self.invariant.whole.consistent.both
+
+pub returns-clause-step : goal.returns-clause-step
+returns-clause-step g c =
     let inside = c.self.inside in
-    let lru = inside.accesses.lru in
-    let result = c.get_idgen.result in
-    let done = c.get_idgen.ensures in
-    let same = same-relisted inside.pages lru in
-    rw (← c.self.view_is) (record {
-      step = steps-moved g.L.Log inside.pages inside.pages lru (relisted inside.pages lru) same GetIdgen (GotIdgen result) done.step;
-      keeps = keeps-moved g.L.Log inside.pages inside.pages lru (relisted inside.pages lru) same result (λ _. inside.pages.stamps) done.keeps (on-kept inside.pages inside.pages lru result);
-      token = done.token;
-      always = done.always;
-      unnamed = done.unnamed;
-    })
+    let found = c.own_counter.ensures in
+    rw (← c.self.view_is)
+    (gets-idgen g.L.Log inside.next inside.config inside.recovered inside.accesses.lru inside.sticky_log inside.pages.pages inside.free.ids.keys c.self.invariant.whole.consistent c.if-self.false found.page c.own_counter.result.1 found.at found.counter
+    (g.met.L.Log.only_now inside.sticky_log.log) c.own_counter.result.0 found.token)
+
+pub returns-clause-token : goal.returns-clause-token
+returns-clause-token g c =
+    let found = c.own_counter.ensures in
+    rw (← c.self.view_is, found.token) (refl, map-at (λ (p : Page). p.stamp) c.self.inside.pages.pages 1 found.page found.at)

@@ -1,18 +1,22 @@
-use Rattle.sled_pagecache.proofs.Names.{GetMeta, GotMeta, relisted}
-use Rattle.sled_pagecache.proofs.Settling.{same-relisted, steps-moved, keeps-moved, on-kept}
-use Rattle.sled_pagecache.specs.Lending.{told_meta}
+use Rattle.sled_base.specs.declared.types.Error.TheVariants.{Io}
+use Rattle.sled_pagecache.proofs.Names.{Err, refl, ap, Write, GetMeta, GotMeta, token}
+use Rattle.sled_pagecache.proofs.CacheSteps.{steps-stuck}
+use Rattle.sled_pagecache.proofs.Refused.{refused-is}
+use Rattle.sled_pagecache.proofs.RootsPage.{keeps-roots, gets-meta}
 use Rattle.sled_pagecache.proofs.pagecache.cache.PageCache.get_meta.Goals as goal
 
-pub returns : goal.returns
-returns g c =
+pub own_roots-requires : goal.own_roots-requires
+own_roots-requires g c = keeps-roots c.self.inside.pages.pages c.self.invariant.whole.consistent.own c.self.invariant.whole.consistent.both
+
+pub returns-clause-step : goal.returns-clause-step
+returns-clause-step g c =
     let inside = c.self.inside in
-    let lru = inside.accesses.lru in
-    let result = told_meta c.get_meta.result in
-    let done = c.get_meta.ensures in
-    let same = same-relisted inside.pages lru in
-    rw (← c.self.view_is) (record {
-      step = steps-moved g.L.Log inside.pages inside.pages lru (relisted inside.pages lru) same GetMeta (GotMeta result) done.step;
-      keeps = keeps-moved g.L.Log inside.pages inside.pages lru (relisted inside.pages lru) same result (λ _. inside.pages.stamps) done.keeps (on-kept inside.pages inside.pages lru result);
-      token = done.token;
-      always = done.always;
-    })
+    let view = c.in_ok-view.view in
+    let found = c.in_ok-view.ensures in
+    rw (← c.self.view_is)
+    (gets-meta g.L.Log inside.next inside.config inside.recovered inside.accesses.lru inside.sticky_log inside.pages.pages inside.free.ids.keys c.self.invariant.whole.consistent found.0 view.meta.now view.token.stamp found.2 (g.met.L.Log.only_now inside.sticky_log.log) view.token (ap (λ n. token n view.token.stamp) found.1))
+
+pub returns-in_err-view-clause-step : goal.returns-in_err-view-clause-step
+returns-in_err-view-clause-step g c =
+    rw (refused-is c.from_residual.result _ c.from_residual.ensures.1, ← c.self.view_is)
+    (rw c.in_err-view.ensures.1 (steps-stuck g.L.Log _ GetMeta (GotMeta (Err (Io Write))) c.in_err-view.ensures.0 (λ s kept. rw kept (refl, refl))))

@@ -1,16 +1,37 @@
-use Rattle.sled_pagecache.proofs.Names.{MetaPidForName, FoundRoot, relisted}
-use Rattle.sled_pagecache.proofs.Settling.{same-relisted, steps-moved, keeps-moved, on-kept}
+use Rattle.sled_base.specs.declared.types.Error.TheVariants.{Io, CollectionNotFound, OutOfMemory}
+use Rattle.sled_node.specs.Meta.{root_of}
+use Rattle.sled_pagecache.proofs.Names.{err_from_is_err_and, Err, refl, sym, ap, ◌∙◌, inl, inr, Write, FoundRoot, MetaPidForName}
+use Rattle.sled_pagecache.proofs.CacheSteps.{steps-stuck}
+use Rattle.sled_pagecache.proofs.Refused.{refused-is}
+use Rattle.sled_pagecache.proofs.RootsPage.{keeps-roots, finds-root, lacks-root}
 use Rattle.sled_pagecache.proofs.pagecache.cache.PageCache.meta_pid_for_name.Goals as goal
 
-pub returns : goal.returns
-returns g c =
+pub own_roots-requires : goal.own_roots-requires
+own_roots-requires g c = keeps-roots c.self.inside.pages.pages c.self.invariant.whole.consistent.own c.self.invariant.whole.consistent.both
+
+pub returns-in_err-view-clause-step : goal.returns-in_err-view-clause-step
+returns-in_err-view-clause-step g c =
+    rw (refused-is c.from_residual.result _ c.from_residual.ensures.1, ← c.self.view_is)
+    (rw c.in_err-view.ensures.1 (steps-stuck g.L.Log _ (MetaPidForName c.args.name.now) (FoundRoot (Err (Io Write))) c.in_err-view.ensures.0 (λ s kept. rw kept (refl, refl))))
+
+pub returns-in-Some-clause-step : goal.returns-in-Some-clause-step
+returns-in-Some-clause-step g c =
     let inside = c.self.inside in
-    let lru = inside.accesses.lru in
-    let result = c.meta_pid_for_name.result in
-    let done = c.meta_pid_for_name.ensures in
-    let same = same-relisted inside.pages lru in
-    rw (← c.self.view_is) (record {
-      step = steps-moved g.L.Log inside.pages inside.pages lru (relisted inside.pages lru) same (MetaPidForName c.args.name.now) (FoundRoot result) done.step;
-      keeps = keeps-moved g.L.Log inside.pages inside.pages lru (relisted inside.pages lru) same result (λ _. inside.pages.stamps) done.keeps (on-kept inside.pages inside.pages lru result);
-      named = done.named;
-    })
+    let view = c.in_ok-view.view in
+    let found = c.in_ok-view.ensures in
+    rw (← c.self.view_is) (finds-root g.L.Log inside.next inside.config inside.recovered inside.accesses.lru inside.sticky_log inside.pages.pages inside.free.ids.keys c.self.invariant.whole.consistent found.0 view.meta.now view.token.stamp found.2 (g.met.L.Log.only_now inside.sticky_log.log) c.args.name.now c.in-Some.root (ap (root_of c.args.name.now) (sym c.meta.ensures) ∙ sym c.get_root.ensures ∙ c.in-Some.is))
+
+pub returns-in_err-copy-clause-step : goal.returns-in_err-copy-clause-step
+returns-in_err-copy-clause-step g c =
+    let inside = c.self.inside in
+    let view = c.in_ok-view.view in
+    let found = c.in_ok-view.ensures in
+    let p = err_from_is_err_and c.from_residual-in_err-copy.result c.from_residual-in_err-copy.ensures.1 in
+    rw (p.1, p.2, ← c.self.view_is) (lacks-root g.L.Log inside.next inside.config inside.recovered inside.accesses.lru inside.sticky_log inside.pages.pages inside.free.ids.keys c.self.invariant.whole.consistent found.0 view.meta.now view.token.stamp found.2 (g.met.L.Log.only_now inside.sticky_log.log) c.args.name.now OutOfMemory (ap (root_of c.args.name.now) (sym c.meta.ensures) ∙ sym c.get_root.ensures ∙ c.in_default.is) (inr refl))
+
+pub returns-clause-step : goal.returns-clause-step
+returns-clause-step g c =
+    let inside = c.self.inside in
+    let view = c.in_ok-view.view in
+    let found = c.in_ok-view.ensures in
+    rw (← c.self.view_is) (lacks-root g.L.Log inside.next inside.config inside.recovered inside.accesses.lru inside.sticky_log inside.pages.pages inside.free.ids.keys c.self.invariant.whole.consistent found.0 view.meta.now view.token.stamp found.2 (g.met.L.Log.only_now inside.sticky_log.log) c.args.name.now (CollectionNotFound c.in_ok-copy.copy) (ap (root_of c.args.name.now) (sym c.meta.ensures) ∙ sym c.get_root.ensures ∙ c.in_default.is) (inl (ap CollectionNotFound c.in_ok-copy.ensures.ok)))

@@ -1,38 +1,107 @@
-use Rattle.sled_pagecache.proofs.Names.{None, on_err_weaker, relisted}
-use Rattle.sled_pagecache.proofs.Settling.{settled-same, settled-resident, settled-away, makes-found, page-config, brings-moved, reads-moved}
+use Rattle.sled_pagecache.proofs.Names.{on_err_weaker, None, IsOk, ◌≡◌, inr, true, is_resident, false, [], Result, Ok, refl, sym, ◌∙◌, ap, subst, arith, slice_set, Refusal, BringsIn, is_reserved}
+use Rattle.sled_pagecache.proofs.Counted.{behind-counter, other-at, whole-then}
+use Rattle.sled_pagecache.proofs.Evicting.{moves, by-found, still-away, moved-reads, moved-same, keeps-same}
+use Rattle.sled_pagecache.proofs.Settling.{brings-moved}
+use Rattle.sled_pagecache.proofs.InMemory.{past-view, listed-at, finds-node, refused-stay}
+use Rattle.sled_pagecache.proofs.Lookups.{behind-own}
+use Rattle.sled_pagecache.proofs.PagingIn.{page-kept-at, page-own-at, same-consistent, brings-none, brings-pulled, kept_out-pulled, reads-pulled, part-pulled, always-pulled}
 use Rattle.sled_pagecache.proofs.pagecache.cache.PageCache.page_in.Goals as goal
 
-pub page_in-read-requires : goal.page_in-read-requires
-page_in-read-requires g c = record { listed = c.self.invariant.bounded.listed }
+pub pull_and_access-read-requires-clause-kept : goal.pull_and_access-read-requires-clause-kept
+pull_and_access-read-requires-clause-kept g c =
+    let inside = c.self.inside in
+    let q = c.get_mut-page.result.now in
+    let behind : is_reserved c.args.pid ≡ false = sym c.is_reserved.ensures ∙ c.if-is_reserved.false in
+    let at = c.get_mut-page.ensures.page in
+    page-kept-at g.L.Log inside.sticky_log inside.sticky_log inside.pages.pages inside.free.ids.keys c.args.pid q q c.self.invariant.whole.consistent c.if-self.false behind at
 
 pub invariant_of-self : goal.invariant_of-self
 invariant_of-self g c =
     let inside = c.self.inside in
-    let done = c.page_in-read.ensures in
-    record {
-      none = c.settle.ensures.none;
-      bounded = (makes-found g.L.Log inside.pages c.page_in-read.new.self c.settle.new.pages inside.accesses c.page_in-read.new.accesses c.settle.new.accesses c.self.invariant (page-config g.L.Log inside.pages c.page_in-read.new.self c.args.pid c.page_in-read.result done.stuck done.brings) c.args.pid c.page_in-read.result c.settle.ensures done.stuck done.takes done.refused done.left).bounded;
-    }
+    let table = inside.pages.pages in
+    let q = c.get_mut-page.result.now in
+    let behind : is_reserved c.args.pid ≡ false = sym c.is_reserved.ensures ∙ c.if-is_reserved.false in
+    let at = c.get_mut-page.ensures.page in
+    let done = c.pull_and_access-read.ensures in
+    let after = c.pull_and_access-read.new.page in
+    let log = c.pull_and_access-read.new.sticky_log in
+    let between = c.pull_and_access-read.new.accesses in
+    let result = c.pull_and_access-read.result in
+    let own = done.own (page-own-at g.L.Log inside.sticky_log inside.sticky_log table inside.free.ids.keys c.args.pid q q c.self.invariant.whole.consistent c.if-self.false behind at) in
+    let whole =
+    whole-then g.L.Log c.self.invariant.whole c.if-self.false (λ told clear. ([], done.went, tt)) (other-at table c.args.pid after (behind-counter c.args.pid (behind-own c.args.pid behind)))
+    (same-consistent g.L.Log inside.sticky_log log table inside.free.ids.keys c.args.pid q after c.self.invariant.whole.consistent c.if-self.false behind at
+    [] done.went refl done.same (λ known _. done.kept known) done.infos done.free own) in
+    let found = by-found g.L.Log inside.next inside.next inside.config inside.recovered inside.sticky_log log table (slice_set table c.args.pid after) c.evict.new.pages.pages inside.free.ids.keys inside.free.ids.keys inside.accesses between c.evict.new.accesses c.self.invariant whole None c.evict.ensures
+    refl c.args.pid result (λ kept. absurd (let clear = c.if-self.false in cc))
+    (finds-node inside.next inside.config inside.recovered inside.accesses.lru inside.sticky_log log table c.args.pid q after at inside.accesses between result done.accessed done.resident own done.free done.stays done.infos)
+    (refused-stay inside.next inside.config inside.recovered inside.accesses.lru inside.sticky_log log table c.args.pid q after at inside.accesses between result done.err done.infos) done.left in
+    (moves g.L.Log inside.next inside.next inside.config inside.recovered inside.sticky_log log table (slice_set table c.args.pid after) c.evict.new.pages.pages inside.free.ids.keys inside.free.ids.keys inside.accesses between c.evict.new.accesses c.self.invariant whole None c.evict.ensures {T = Unit {0}} (Ok tt)).settled found.bounded
+
+pub returns-then-pid-count-clause-brings : goal.returns-then-pid-count-clause-brings
+returns-then-pid-count-clause-brings g c =
+    let inside = c.self.inside in
+    let ok : Result (Unit {0}) Refusal = Ok tt in
+    λ ready.
+    subst (λ cache. BringsIn g.L.Log cache c.args.pid ok cache) c.self.view_is
+    (brings-none g.L.Log inside.next inside.config inside.recovered inside.accesses.lru inside.sticky_log inside.pages.pages inside.free.ids.keys c.args.pid c.self.invariant.whole.consistent (sym c.is_reserved.ensures ∙ c.if-is_reserved.false) c.if-self.false
+    (omega (arith, c.if-pid-count.true, c.len-count.ensures.number)) (g.met.L.Log.only_now inside.sticky_log.log))
+
+pub returns-then-pid-count-clause-accesses : goal.returns-then-pid-count-clause-accesses
+returns-then-pid-count-clause-accesses g c =
+    let inside = c.self.inside in
+    rw (← c.self.view_is)
+    (inr (keeps-same _, past-view inside.next inside.next inside.config inside.recovered inside.accesses.lru inside.sticky_log inside.sticky_log inside.pages.pages c.args.pid (omega (arith, c.if-pid-count.true, c.len-count.ensures.number))))
+
+pub returns-then-self-clause-same : goal.returns-then-self-clause-same
+returns-then-self-clause-same g c = keeps-same c.args.self.now
+
+pub returns-then-is_reserved-clause-same : goal.returns-then-is_reserved-clause-same
+returns-then-is_reserved-clause-same g c = keeps-same c.args.self.now
+
+pub returns-then-self-clause-bounded : goal.returns-then-self-clause-bounded
+returns-then-self-clause-bounded g c = rw (← c.self.view_is) c.self.invariant.bounded
+
+pub returns-then-is_reserved-clause-bounded : goal.returns-then-is_reserved-clause-bounded
+returns-then-is_reserved-clause-bounded g c = rw (← c.self.view_is) c.self.invariant.bounded
+
+pub returns-then-pid-count-clause-bounded : goal.returns-then-pid-count-clause-bounded
+returns-then-pid-count-clause-bounded g c = rw (← c.self.view_is) c.self.invariant.bounded
 
 pub returns : goal.returns
 returns g c =
     let inside = c.self.inside in
-    let mid = c.page_in-read.new.self in
-    let between = c.page_in-read.new.accesses in
-    let result = c.page_in-read.result in
-    let done = c.page_in-read.ensures in
-    let new = c.settle.new.pages in
-    let after = c.settle.new.accesses in
-    let upper = relisted new after.lru in
-    let same = settled-same g.L.Log between None mid new after c.settle.ensures in
-    let made = makes-found g.L.Log inside.pages mid new inside.accesses between after c.self.invariant (page-config g.L.Log inside.pages mid c.args.pid result done.stuck done.brings) c.args.pid result c.settle.ensures done.stuck done.takes done.refused done.left in
+    let table = inside.pages.pages in
+    let q = c.get_mut-page.result.now in
+    let behind : is_reserved c.args.pid ≡ false = sym c.is_reserved.ensures ∙ c.if-is_reserved.false in
+    let at = c.get_mut-page.ensures.page in
+    let done = c.pull_and_access-read.ensures in
+    let after = c.pull_and_access-read.new.page in
+    let log = c.pull_and_access-read.new.sticky_log in
+    let between = c.pull_and_access-read.new.accesses in
+    let result = c.pull_and_access-read.result in
+    let own = done.own (page-own-at g.L.Log inside.sticky_log inside.sticky_log table inside.free.ids.keys c.args.pid q q c.self.invariant.whole.consistent c.if-self.false behind at) in
+    let whole =
+    whole-then g.L.Log c.self.invariant.whole c.if-self.false (λ told clear. ([], done.went, tt)) (other-at table c.args.pid after (behind-counter c.args.pid (behind-own c.args.pid behind)))
+    (same-consistent g.L.Log inside.sticky_log log table inside.free.ids.keys c.args.pid q after c.self.invariant.whole.consistent c.if-self.false behind at
+    [] done.went refl done.same (λ known _. done.kept known) done.infos done.free own) in
+    let found = by-found g.L.Log inside.next inside.next inside.config inside.recovered inside.sticky_log log table (slice_set table c.args.pid after) c.evict.new.pages.pages inside.free.ids.keys inside.free.ids.keys inside.accesses between c.evict.new.accesses c.self.invariant whole None c.evict.ensures
+    refl c.args.pid result (λ kept. absurd (let clear = c.if-self.false in cc))
+    (finds-node inside.next inside.config inside.recovered inside.accesses.lru inside.sticky_log log table c.args.pid q after at inside.accesses between result done.accessed done.resident own done.free done.stays done.infos)
+    (refused-stay inside.next inside.config inside.recovered inside.accesses.lru inside.sticky_log log table c.args.pid q after at inside.accesses between result done.err done.infos) done.left in
+    let listed = listed-at inside.next inside.config inside.recovered inside.accesses.lru inside.sticky_log inside.sticky_log table c.args.pid q q at inside.accesses inside.accesses c.self.invariant.bounded.listed in
+    let there : is_resident q.kept ≡ true → IsOk result = λ held. done.is_there held listed in
+    let same = moved-same g.L.Log inside.next inside.next inside.config inside.recovered inside.sticky_log log table (slice_set table c.args.pid after) c.evict.new.pages.pages inside.free.ids.keys inside.free.ids.keys inside.accesses between c.evict.new.accesses c.self.invariant whole None c.evict.ensures in
     rw (← c.self.view_is) (record {
-      stuck = made.stuck;
-      brings = λ ready. brings-moved g.L.Log inside.pages mid inside.accesses.lru upper same c.args.pid result made.back (done.brings ready);
-      always = done.always;
-      reads = reads-moved g.L.Log inside.pages mid inside.accesses.lru upper same c.args.pid (settled-resident g.L.Log between None mid new after c.settle.ensures c.args.pid) done.reads;
-      kept_out = on_err_weaker result (λ out away. settled-away g.L.Log between None mid new after c.settle.ensures c.args.pid (out away)) done.kept_out;
-      bounded = made.bounded;
-      accesses = made.accessed;
-      same = made.same;
+      stuck = λ kept. absurd (let clear = c.if-self.false in cc);
+      brings = λ ready. brings-moved g.L.Log _ _ _ same c.args.pid result found.back (brings-pulled g.L.Log inside.next inside.config inside.recovered inside.accesses.lru inside.sticky_log log table inside.free.ids.keys c.args.pid q after c.self.invariant.whole.consistent c.if-self.false behind at
+          result done.same done.stamp done.resident done.err there done.went done.cause done.kept own done.refused);
+      always = λ ready free. always-pulled g.L.Log inside.next inside.config inside.recovered inside.accesses.lru inside.sticky_log log table inside.free.ids.keys c.args.pid q after c.self.invariant.whole.consistent c.if-self.false behind at result there;
+      reads = moved-reads g.L.Log inside.next inside.next inside.config inside.recovered inside.sticky_log log table (slice_set table c.args.pid after) c.evict.new.pages.pages inside.free.ids.keys inside.free.ids.keys inside.accesses between c.evict.new.accesses c.self.invariant whole None c.evict.ensures c.args.pid (reads-pulled g.L.Log inside.next inside.config inside.recovered inside.accesses.lru inside.sticky_log log table inside.free.ids.keys c.args.pid q after c.self.invariant.whole.consistent c.if-self.false behind at
+          result (λ held. ap (λ sticky_log. (g.L.Log.counts sticky_log.log).reads) (done.unread held)) done.reads (part-pulled q after _ result done.err done.at_most));
+      kept_out = on_err_weaker result (λ out away. still-away g.L.Log inside.next inside.next inside.config inside.recovered inside.sticky_log log table (slice_set table c.args.pid after) c.evict.new.pages.pages inside.free.ids.keys inside.free.ids.keys inside.accesses between c.evict.new.accesses c.self.invariant whole None c.evict.ensures c.args.pid (out away)) (kept_out-pulled g.L.Log inside.next inside.config inside.recovered inside.accesses.lru inside.sticky_log log table inside.free.ids.keys c.args.pid q after c.self.invariant.whole.consistent c.if-self.false behind at
+          result done.same done.stamp done.resident done.err there);
+      bounded = found.bounded;
+      accesses = found.accessed;
+      same = found.same;
     })

@@ -1,43 +1,121 @@
-use Rattle.sled_pagecache.proofs.Names.{IfOk, OnOk, ◌≡◌, swapped, chain_length, relisted, lost_by, Settles}
-use Rattle.sled_pagecache.proofs.Settling.{settled-same, makes-swap, moved-as, steps-moved, blamed-moved, unread-moved, keeps-moved}
-use Rattle.sled_pagecache.specs.declared.pagecache.call.Answer.TheVariants as answer
+use Rattle.sled_pagecache.proofs.Names.{err_from_is_err_and, rules, sym, ap, ◌∙◌, refl, arith, slice_get_within, Node, is_free, Replaced, Fresh}
+use Rattle.sled_pagecache.proofs.Appending.{swap-made, swap-refused}
+use Rattle.sled_pagecache.proofs.Evicting.{keeps-same, leaves-same}
+use Rattle.sled_pagecache.proofs.Judging.{replace-swap, judged-by, judged-refused, judged-gone, judged-stale, fresh-within, fresh-at}
+use Rattle.sled_pagecache.proofs.Refused.{no_name, refused-is}
+use Rattle.sled_pagecache.proofs.Standing.{beside-long, one-long}
+use Rattle.sled_pagecache.proofs.Tables.{free-same}
 use Rattle.sled_pagecache.specs.declared.pagecache.call.Call.TheVariants as call
 use Rattle.sled_pagecache.proofs.pagecache.cache.PageCache.replace.Goals as goal
+
+pub returns-in_err-present-clause-step : goal.returns-in_err-present-clause-step
+returns-in_err-present-clause-step g c =
+    rw (refused-is c.from_residual.result _ c.from_residual.ensures.1, ← c.self.view_is)
+    (judged-refused g.L.Log _ _ _ _ _ _ c.self.invariant.whole.consistent.beside (g.met.L.Log.only_now _) c.args.old c.args.pid c.requires c.args.node (call.Replace c.args.old c.args.node) Replaced _ (replace-swap g.L.Log _ c.args.old c.args.node)
+    c.in_err-present.field-0.0 c.in_err-present.ensures)
+
+pub returns-in_err-present-clause-bounded : goal.returns-in_err-present-clause-bounded
+returns-in_err-present-clause-bounded g c = rw (← c.self.view_is) c.self.invariant.bounded
+
+pub returns-in_err-present-clause-leaves : goal.returns-in_err-present-clause-leaves
+returns-in_err-present-clause-leaves g c =
+    let p = err_from_is_err_and c.from_residual.result c.from_residual.ensures.1 in
+    rw (p.1, p.2) (leaves-same c.args.self.now g.L.Log.tells c.args.pid _)
+
+pub returns-in-Stale-clause-step : goal.returns-in-Stale-clause-step
+returns-in-Stale-clause-step g c =
+    rw (← c.self.view_is)
+    (judged-stale g.L.Log _ _ _ _ _ _ c.self.invariant.whole.consistent.beside (g.met.L.Log.only_now _) c.args.old c.args.pid c.requires c.args.node (call.Replace c.args.old c.args.node) Replaced _ (replace-swap g.L.Log _ c.args.old c.args.node)
+    c.in-Stale.present (judged-by c.self.inside.sticky_log.fault c.self.inside.pages.pages c.args.pid c.args.old _ _ c.in-Stale.is c.in_ok-present.ensures))
+
+pub returns-in-Stale-clause-bounded : goal.returns-in-Stale-clause-bounded
+returns-in-Stale-clause-bounded g c = rw (← c.self.view_is) c.self.invariant.bounded
+
+pub returns-in-Stale-clause-same : goal.returns-in-Stale-clause-same
+returns-in-Stale-clause-same g c = keeps-same c.args.self.now
+
+pub returns-in-Gone-clause-step : goal.returns-in-Gone-clause-step
+returns-in-Gone-clause-step g c =
+    rw (← c.self.view_is)
+    (judged-gone g.L.Log _ _ _ _ _ _ c.self.invariant.whole.consistent.beside (g.met.L.Log.only_now _) c.args.old c.args.pid c.requires c.args.node (call.Replace c.args.old c.args.node) Replaced _ (replace-swap g.L.Log _ c.args.old c.args.node)
+    (judged-by c.self.inside.sticky_log.fault c.self.inside.pages.pages c.args.pid c.args.old _ _ c.in-Gone.is c.in_ok-present.ensures))
+
+pub returns-in-Gone-clause-bounded : goal.returns-in-Gone-clause-bounded
+returns-in-Gone-clause-bounded g c = rw (← c.self.view_is) c.self.invariant.bounded
+
+pub returns-in-Gone-clause-same : goal.returns-in-Gone-clause-same
+returns-in-Gone-clause-same g c = keeps-same c.args.self.now
+
+pub get_mut-page-requires : goal.get_mut-page-requires
+get_mut-page-requires g c =
+    let inside = c.self.inside in
+    fresh-within inside.sticky_log.fault inside.pages.pages c.args.pid c.args.old (judged-by inside.sticky_log.fault inside.pages.pages c.args.pid c.args.old c.in_ok-present.field-0 Fresh c.in-Fresh.is c.in_ok-present.ensures)
+
+pub put_page-requires-clause-there : goal.put_page-requires-clause-there
+put_page-requires-clause-there g c = λ told.
+    let inside = c.self.inside in
+    let table = inside.pages.pages in
+    let fresh = fresh-at inside.sticky_log.fault table c.args.pid c.args.old c.in_ok-present.field-0 c.get_mut-page.result.now c.in-Fresh.is c.in_ok-present.ensures c.get_mut-page.ensures.page in
+    let within = slice_get_within table c.args.pid _ fresh.at in
+    let long = beside-long g.L.Log.tells g.L.Log.state inside.sticky_log.log table (c.self.invariant.whole.consistent.beside fresh.clear) told in
+    omega (arith, within, long)
 
 pub invariant_of-self : goal.invariant_of-self
 invariant_of-self g c =
     let inside = c.self.inside in
-    let done = c.replace-swapped.ensures in
-    let settles : Settles g.L.Log c.replace-swapped.new.accesses (lost_by c.replace-swapped.result c.args.pid) c.replace-swapped.new.self c.settle.new.pages c.settle.new.accesses = rw (← c.lost_by-lost.ensures) c.settle.ensures in
-    record {
-      none = c.settle.ensures.none;
-      bounded = (makes-swap g.L.Log inside.pages c.replace-swapped.new.self c.settle.new.pages inside.accesses c.replace-swapped.new.accesses c.settle.new.accesses c.self.invariant done.step.opening.config c.args.pid c.replace-swapped.result settles done.takes done.same done.refused done.resident).bounded;
-    }
+    let table = inside.pages.pages in
+    let fresh = fresh-at inside.sticky_log.fault table c.args.pid c.args.old c.in_ok-present.field-0 c.get_mut-page.result.now c.in-Fresh.is c.in_ok-present.ensures c.get_mut-page.ensures.page in
+    let done = c.in-Ok.ensures in
+    (swap-made g.L.Log c.self.invariant fresh c.requires c.args.node (Node c.args.node) tt (call.Replace c.args.old c.args.node) Replaced (replace-swap g.L.Log _ c.args.old c.args.node) done tt refl
+    (c.self.invariant.whole.consistent.free ∙ sym (free-same 0 table c.args.pid _ _ fresh.at (ap is_free done.holds ∙ sym fresh.full))) c.evict.ensures _ refl).is
 
-pub returns : goal.returns
-returns g c =
+pub invariant_of-self-in-Err : goal.invariant_of-self-in-Err
+invariant_of-self-in-Err g c =
     let inside = c.self.inside in
-    let mid = c.replace-swapped.new.self in
-    let between = c.replace-swapped.new.accesses in
-    let result = c.replace-swapped.result in
-    let done = c.replace-swapped.ensures in
-    let new = c.settle.new.pages in
-    let after = c.settle.new.accesses in
-    let upper = relisted new after.lru in
-    let settles : Settles g.L.Log between (lost_by result c.args.pid) mid new after = rw (← c.lost_by-lost.ensures) c.settle.ensures in
-    let same = settled-same g.L.Log between (lost_by result c.args.pid) mid new after settles in
-    let made = makes-swap g.L.Log inside.pages mid new inside.accesses between after c.self.invariant done.step.opening.config c.args.pid result settles done.takes done.same done.refused done.resident in
+    let fresh = fresh-at inside.sticky_log.fault inside.pages.pages c.args.pid c.args.old c.in_ok-present.field-0 c.get_mut-page.result.now c.in-Fresh.is c.in_ok-present.ensures c.get_mut-page.ensures.page in
+    (swap-refused g.L.Log c.self.invariant fresh c.requires c.args.node (Node c.args.node) tt (call.Replace c.args.old c.args.node) Replaced (replace-swap g.L.Log _ c.args.old c.args.node) c.in-Err.ensures refl c.evict-in-Err.ensures).is
+
+pub returns-in-Ok : goal.returns-in-Ok
+returns-in-Ok g c =
+    let inside = c.self.inside in
+    let table = inside.pages.pages in
+    let fresh = fresh-at inside.sticky_log.fault table c.args.pid c.args.old c.in_ok-present.field-0 c.get_mut-page.result.now c.in-Fresh.is c.in_ok-present.ensures c.get_mut-page.ensures.page in
+    let done = c.in-Ok.ensures in
+    let swap = swap-made g.L.Log c.self.invariant fresh c.requires c.args.node (Node c.args.node) tt (call.Replace c.args.old c.args.node) Replaced (replace-swap g.L.Log _ c.args.old c.args.node) done tt refl
+    (c.self.invariant.whole.consistent.free ∙ sym (free-same 0 table c.args.pid _ _ fresh.at (ap is_free done.holds ∙ sym fresh.full))) c.evict.ensures c.new.result c.new.ensures in
     rw (← c.self.view_is) (record {
-      step = steps-moved g.L.Log inside.pages mid inside.accesses.lru upper same (call.Replace c.args.old c.args.node) (answer.Replaced result) done.step;
-      blame = blamed-moved g.L.Log inside.pages mid inside.accesses.lru upper same result done.blame;
-      keeps = keeps-moved g.L.Log inside.pages mid inside.accesses.lru upper same result (swapped inside.pages.stamps) done.keeps made.stuck;
-      token = done.token;
-      unread = unread-moved g.L.Log inside.pages mid inside.accesses.lru upper same done.unread;
-      length = λ told. moved-as mid upper same (λ cache. IfOk result (λ swapped. OnOk swapped (chain_length g.L.Log.state cache c.args.pid ≡ 1))) (λ resident nodes lru. done.length told);
-      resident = made.resident;
-      bounded = made.bounded;
-      accesses = made.accessed;
-      same = made.same;
-      leaves = made.leaves;
-      unnamed = done.unnamed;
+      step = swap.step;
+      blame = search rules;
+      keeps = swap.keeps;
+      token = swap.token;
+      unread = done.reads;
+      length = λ told. one-long _ c.put_page.new.page (done.kept told) done.stamps;
+      resident = swap.resident;
+      bounded = swap.bounded;
+      accesses = swap.accessed;
+      same = tt;
+      leaves = tt;
+      unnamed = tt;
+    })
+
+-- the log refused it
+pub returns-in-Err : goal.returns-in-Err
+returns-in-Err g c =
+    let inside = c.self.inside in
+    let fresh = fresh-at inside.sticky_log.fault inside.pages.pages c.args.pid c.args.old c.in_ok-present.field-0 c.get_mut-page.result.now c.in-Fresh.is c.in_ok-present.ensures c.get_mut-page.ensures.page in
+    let refused = c.in-Err.ensures in
+    let swap = swap-refused g.L.Log c.self.invariant fresh c.requires c.args.node (Node c.args.node) tt (call.Replace c.args.old c.args.node) Replaced (replace-swap g.L.Log _ c.args.old c.args.node) refused refl c.evict-in-Err.ensures in
+    rw (c.from.ensures, ← c.self.view_is) (record {
+      step = swap.step;
+      blame = swap.blame;
+      keeps = swap.keeps;
+      token = tt;
+      unread = refused.reads;
+      length = λ told. tt;
+      resident = tt;
+      bounded = swap.bounded;
+      accesses = tt;
+      same = tt;
+      leaves = swap.leaves;
+      unnamed = no_name c.in-Err.refusal;
     })

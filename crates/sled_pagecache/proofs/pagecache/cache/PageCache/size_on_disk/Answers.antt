@@ -1,17 +1,14 @@
-use Rattle.sled_pagecache.proofs.Names.{SizeOnDisk, Sized, relisted}
-use Rattle.sled_pagecache.proofs.Settling.{same-relisted, steps-moved, keeps-moved, on-kept}
+use Rattle.sled_base.specs.declared.types.Error.TheVariants.{Io}
+use Rattle.sled_pagecache.proofs.Names.{Err, refl, Write, Sized, SizeOnDisk}
+use Rattle.sled_pagecache.proofs.CacheSteps.{steps-stuck}
+use Rattle.sled_pagecache.proofs.Flushing.{sizes}
 use Rattle.sled_pagecache.proofs.pagecache.cache.PageCache.size_on_disk.Goals as goal
 
-pub returns : goal.returns
-returns g c =
+pub returns-clause-step : goal.returns-clause-step
+returns-clause-step g c =
     let inside = c.self.inside in
-    let lru = inside.accesses.lru in
-    let result = c.size_on_disk.result in
-    let done = c.size_on_disk.ensures in
-    let same = same-relisted inside.pages lru in
-    rw (← c.self.view_is) (record {
-      step = steps-moved g.L.Log inside.pages inside.pages lru (relisted inside.pages lru) same SizeOnDisk (Sized result) done.step;
-      keeps = keeps-moved g.L.Log inside.pages inside.pages lru (relisted inside.pages lru) same result (λ _. inside.pages.stamps) done.keeps (on-kept inside.pages inside.pages lru result);
-      size = done.size;
-      unnamed = done.unnamed;
-    })
+    rw (← c.self.view_is)
+    (sizes g.L.Log inside.next inside.config inside.recovered inside.accesses.lru inside.pages.pages inside.sticky_log c.if-self.false _ (c.self.invariant.whole.consistent.beside c.if-self.false).usable (g.met.L.Log.only_now inside.sticky_log.log))
+
+pub returns-then-self-clause-step : goal.returns-then-self-clause-step
+returns-then-self-clause-step g c = rw (← c.self.view_is) (steps-stuck g.L.Log _ SizeOnDisk (Sized (Err (Io Write))) c.if-self.true (λ s kept. rw kept (refl, refl)))

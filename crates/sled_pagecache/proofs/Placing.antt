@@ -1,0 +1,136 @@
+-- A node that was put on a page that had none, or was refused, once what the list dropped for it is paged out: what an allocation answers.
+use Rattle.sled_pagecache.proofs.Names.{◌≡◌, ◌<◌, ◌+◌, ◌^◌, ℕ, Bool, false, List, [], ◌∷◌, ◌++◌, length, Some, None, Result, Ok, Err, slice_get, slice_set, refl, sym, ◌∙◌, ap, subst, arith, same_Some, error_of, Error, Refusal, Change, message_of, begun_by, Put, Node, Ghosts, WholeNode, Cache, IsResident, HasNoNode, IsBounded, AccessesPage, LeavesNodes, RefusesSwap, RefusesPage, MakesAppend, MakesNewPage, RefusesAppend, Keeps, Steps, IsBlamed, stamped, stamps_in, resident_in, is_free, IsFreeOrNode, IsConsistent, Token, token, pid_of, stamp_of, Allocate, Allocated, Config, StickyLog, Accesses, Page}
+use Rattle.sled_pagecache.proofs.Allocating.{IsLastFree, last-at, taken-last, free-from, adds-refused, adds-done, reuses-refused, reuses-done}
+use Rattle.sled_pagecache.proofs.Answers.{keeps-err, keeps-ok, stamps-added, stamps-reused}
+use Rattle.sled_pagecache.proofs.Appending.{after-made}
+use Rattle.sled_pagecache.proofs.CacheSteps.{steps-known}
+use Rattle.sled_pagecache.proofs.Counted.{added-at, behind-counter, spares-refused, whole-then}
+use Rattle.sled_pagecache.proofs.Evicting.{moves, by-page}
+use Rattle.sled_pagecache.proofs.InMemory.{loses-none, stay-view, past-view, free-at, adds-node}
+use Rattle.sled_pagecache.proofs.Lookups.{put-back}
+use Rattle.sled_pagecache.proofs.Putting.{blamed}
+use Rattle.sled_pagecache.proofs.Standing.{resident-add, one-short}
+use Rattle.sled_pagecache.proofs.TableNodes.{view}
+use Rattle.sled_pagecache.proofs.Tables.{consistent-same, consistent-new, marks-begun, free-add}
+use Rattle.sled_pagecache.specs.Counted.{IsWhole}
+use Rattle.sled_pagecache.specs.Evictions.{Evicts, IsSettled}
+use Rattle.sled_pagecache.specs.declared.pagecache.page.Kept.TheVariants as kept
+
+-- What an allocation answers that was made: this page, with this token.
+pub record PageMade {L : Type 0} (g : Ghosts L) (was now : Cache L) (settled : Type 0) (node : WholeNode) (pid : ℕ) (made : Token) : Type 0 where
+  pub is : settled
+  pub step : Steps g was (Allocate node) (Allocated (Ok (pid, made))) now
+  pub keeps : let result : Result (ℕ × Token) Error = Ok (pid, made) in Keeps was now result (λ made. stamped was.stamps made.1)
+  pub token : (pid_of made ≡ pid) × (slice_get now.stamps pid ≡ Some (stamp_of made))
+  pub bounded : IsBounded g now
+  pub accessed : AccessesPage was pid now
+  pub resident : IsResident now pid
+
+-- And one that was refused.
+pub record PageRefused {L : Type 0} (g : Ghosts L) (was now : Cache L) (settled : Type 0) (node : WholeNode) (refusal : Refusal) : Type 0 where
+  pub is : settled
+  pub step : Steps g was (Allocate node) (Allocated (Err (error_of refusal))) now
+  pub blame : let result : Result (ℕ × Token) Error = Err (error_of refusal) in IsBlamed g was now result
+  pub keeps : let result : Result (ℕ × Token) Error = Err (error_of refusal) in Keeps was now result (λ made. stamped was.stamps made.1)
+  pub bounded : IsBounded g now
+  pub leaves : LeavesNodes g.tells was now (error_of refusal)
+
+module _ {L : Type 0} (g : Ghosts L) {next : ℕ} {config : Config} {recovered : Bool} {before after : StickyLog L} {table changed pages : List Page} {free : List ℕ} {accesses between then : Accesses}
+    (is : IsSettled g next config recovered before table free accesses) (clear : before.fault ≡ false) {node : WholeNode} where
+  -- the pages and the one that was refused, which had no node
+  unplaced : {pid : ℕ} {why : Refusal → Type 0} {stays : Type 0} {refusal : Refusal} → HasNoNode (view next config recovered accesses.lru before table) pid → RefusesAppend g pid (Put (Node node)) before after accesses between why stays refusal → changed ≡ table
+      → Evicts between None changed pages then
+      → Steps g (view next config recovered accesses.lru before table) (Allocate node) (Allocated (Err (error_of refusal))) (view next config recovered accesses.lru after changed)
+      → PageRefused g (view next config recovered accesses.lru before table) (view next config recovered then.lru after pages) (IsSettled g next config recovered after pages free then) node refusal
+  unplaced {pid} {why} {stays} {refusal} none refused back evicts step =
+      let was = view next config recovered accesses.lru before table in
+      let mid = view next config recovered accesses.lru after changed in
+      let told : Result (Unit {0}) Refusal = Err refusal in
+      let whole : IsWhole g.tells g.state config.idgen_persist_interval next after changed free =
+      rw back
+      (whole-then g is.whole clear (spares-refused g (Unit {0}) refusal (Change pid (message_of (Put (Node node))) ∷ []) (refused.went, refused.cause.fault)) refl
+      (consistent-same g.tells g.state before after table free free is.whole.consistent clear g.moment g.left_since g.counts (begun_by told (Change pid (message_of (Put (Node node))) ∷ [])) refused.went
+      (marks-begun told pid (message_of (Put (Node node)))) refused.same)) in
+      let result : Result (ℕ × Token) Error = Err (error_of refusal) in
+      let page = by-page g next next config recovered before after table changed pages free free accesses between then is whole None evicts refl result tt
+      (pid, none, loses-none g.tells was accesses pid mid between clear refusal refused.touched (stay-view next next config recovered accesses.lru before after table changed back) refused.unasked) tt in
+      let move = moves g next next config recovered before after table changed pages free free accesses between then is whole None evicts result in
+      record {
+        is = move.settled page.bounded;
+        step = move.steps (Allocate node) (Allocated result) step;
+        blame = move.blame (blamed g _ _ _ refusal refused.cause);
+        keeps = move.keeps (λ made. stamped (stamps_in table) made.1) (keeps-err _ _ _ (Unit {0}) refusal clear refused.cause.fault (ap stamps_in back) refused.went.batch) page.stuck;
+        bounded = page.bounded;
+        leaves = page.leaves;
+      }
+
+  -- ---- no page is free
+
+  pub added : free ≡ [] → MakesNewPage g node before after accesses between table changed → Evicts between None changed pages then → (pid : ℕ) → pid ≡ length table → (made : Token) → made ≡ token pid 1
+      → PageMade g (view next config recovered accesses.lru before table) (view next config recovered then.lru after pages) (IsSettled g next config recovered after pages free then) node pid made
+  added none done evicts pid last made is_made =
+      let new = done.page in
+      let both = is.whole.consistent.both in
+      let room : length table < 2 ^ 37 = let few = is.whole.consistent.few in let not_all = done.room in omega (arith, few, not_all) in
+      let whole : IsWhole g.tells g.state config.idgen_persist_interval next after changed free =
+      whole-then g is.whole clear (λ told clear. (_, done.went, (behind-counter (length table) both, tt))) (ap (λ (l : List Page). slice_get l 1) new.is ∙ added-at table new.page both)
+      (subst (λ (l : List Page). IsConsistent g.tells g.state after l free) (sym new.is)
+      (consistent-new g.tells g.state before after table free free is.whole.consistent clear
+      g.moment g.left_since g.counts (length table) (message_of (Put (Node node))) done.went new.page (subst IsFreeOrNode (sym new.holds) tt) (one-short new.page new.stamps) new.kept done.sized
+      room done.others (is.whole.consistent.free ∙ sym (free-add 0 table new.page (ap is_free new.holds))))) in
+      let result : Result (ℕ × Token) Error = Ok (pid, made) in
+      let page = by-page g next next config recovered before after table changed pages free free accesses between then is whole None evicts refl result
+      (adds-node next config recovered accesses.lru before after table changed new.page node new.holds new.is accesses between pid last done.accessed) tt
+      (ap (λ (l : List Page). slice_get (resident_in l) pid) new.is ∙ ap (λ n. slice_get (resident_in (table ++ new.page ∷ [])) n) last ∙ resident-add table new.page node new.holds) in
+      let move = moves g next next config recovered before after table changed pages free free accesses between then is whole None evicts result in
+      let stamps = stamps-added table changed new.page made new.is (is_made ∙ ap (λ n. token n 1) last ∙ ap (token (length table)) (sym new.stamp)) in
+      record {
+        is = move.settled page.bounded;
+        step = move.steps (Allocate node) (Allocated result) (steps-known g _ _ _ _ (record { config = refl; recovered = refl }) (λ told. adds-done g next config recovered accesses.lru before table free clear is.whole.consistent node after changed done.is
+            none done.room done.went done.fault new.page new.stamp new.is pid last made is_made));
+        keeps = move.keeps (λ made. stamped (stamps_in table) made.1) (keeps-ok _ _ _ _ clear done.fault stamps.0 done.went.batch) tt;
+        token = (ap pid_of is_made, ap (λ (l : List ℕ). slice_get l pid) move.stamps ∙ ap (slice_get (stamps_in changed)) last ∙ stamps.1);
+        bounded = page.bounded;
+        accessed = page.accessed;
+        resident = page.resident;
+      }
+
+  pub unadded : {refusal : Refusal} → free ≡ [] → RefusesAppend g (length table) (Put (Node node)) before after accesses between (RefusesPage (length table)) (changed ≡ table) refusal → Evicts between None changed pages then
+      → PageRefused g (view next config recovered accesses.lru before table) (view next config recovered then.lru after pages) (IsSettled g next config recovered after pages free then) node refusal
+  unadded {refusal} none refused evicts =
+      unplaced (past-view next next config recovered accesses.lru before before table (length table) (omega arith)) refused refused.left evicts
+      (steps-known g _ _ _ _ (record { config = refl; recovered = refl }) (λ told. adds-refused g next config recovered accesses.lru before table free clear is.whole.consistent node after changed refused.is none refused.left refusal (refused.refused told) refused.went refused.cause))
+
+-- ---- a free page, of which the id is the last
+
+module _ {L : Type 0} (g : Ghosts L) {next : ℕ} {config : Config} {recovered : Bool} {before after : StickyLog L} {table pages : List Page} {free front : List ℕ} {accesses between then : Accesses}
+    (is : IsSettled g next config recovered before table free accesses) (clear : before.fault ≡ false) {node : WholeNode} {pid : ℕ} {q page : Page} (last : IsLastFree 0 table front pid) (at : slice_get table pid ≡ Some q) where
+  pub reused : MakesAppend g pid (Put (Node node)) before after accesses between q page (kept.Node node) → {free_then : List ℕ} → free_then ≡ front → Evicts between None (slice_set table pid page) pages then → (made : Token) → made ≡ token pid page.stamp
+      → PageMade g (view next config recovered accesses.lru before table) (view next config recovered then.lru after pages) (IsSettled g next config recovered after pages free_then then) node pid made
+  reused done {free_then} taken evicts made is_made =
+      let there = last-at table front pid last in
+      let same : last.page ≡ q = same_Some last.page q (sym there ∙ at) in
+      let result : Result (ℕ × Token) Error = Ok (pid, made) in
+      let after_all = after-made g is clear at result done tt refl (free-from table pid last.page is.whole.consistent.own there last.free) (taken ∙ taken-last table front pid last page (ap is_free done.holds)) evicts in
+      let stamp : q.stamp ≡ last.page.stamp = ap (λ (page : Page). page.stamp) (sym same) in
+      let stamps = stamps-reused table pid page last.page made there is_made in
+      record {
+        is = after_all.is;
+        step = after_all.evicted.steps (Allocate node) (Allocated result) (steps-known g _ _ _ _ (record { config = refl; recovered = refl }) (λ told. reuses-done g next config recovered accesses.lru before table free clear is.whole.consistent node after (slice_set table pid page) done.is
+            front pid last (λ greatest. let below = done.stamp.0 in omega (arith, below, greatest, stamp)) done.went done.fault page (done.stamp.1 ∙ ap (λ n. n + 1) stamp) refl made is_made));
+        keeps = after_all.evicted.keeps (λ made. stamped (stamps_in table) made.1) (keeps-ok _ _ _ _ clear done.fault stamps.0 done.went.batch) tt;
+        token = (ap pid_of is_made, ap (λ (l : List ℕ). slice_get l pid) after_all.evicted.stamps ∙ stamps.1);
+        bounded = after_all.evicted.bounded;
+        accessed = after_all.accessed;
+        resident = after_all.resident;
+      }
+
+  pub unreused : {refusal : Refusal} → RefusesAppend g pid (Put (Node node)) before after accesses between (RefusesSwap q.stamp) (page ≡ q) refusal → Evicts between None (slice_set table pid page) pages then
+      → PageRefused g (view next config recovered accesses.lru before table) (view next config recovered then.lru after pages) (IsSettled g next config recovered after pages free then) node refusal
+  unreused {refusal} refused evicts =
+      let there = last-at table front pid last in
+      let same : last.page ≡ q = same_Some last.page q (sym there ∙ at) in
+      let back = put-back table pid page (at ∙ ap (λ page. Some page) (sym refused.left)) in
+      unplaced g is clear (free-at next next config recovered accesses.lru before before table pid last.page there last.free) refused back evicts
+      (steps-known g _ _ _ _ (record { config = refl; recovered = refl }) (λ told. reuses-refused g next config recovered accesses.lru before table free clear is.whole.consistent node after (slice_set table pid page) refused.is front pid last back refusal
+      (subst (λ (page : Page). RefusesSwap page.stamp refusal) (sym same) (refused.refused told)) refused.went refused.cause))

@@ -1,0 +1,108 @@
+-- A link that was made, or refused, once what the list dropped for it is paged out: what it answers.
+use Rattle.sled_pagecache.proofs.Names.{◌≡◌, ◌+◌, ℕ, Bool, List, Some, None, Result, Ok, Err, slice_set, refl, sym, ◌∙◌, ap, error_of, Refusal, Ghosts, Cache, IsResident, IsAway, IsBounded, AccessesPage, LeavesMemory, MeetsDamage, ReportsDamage, ReadsPage, MakesLink, RefusesLinkOf, Keeps, Steps, IsBlamed, TestsFirst, swapped, Swapped, stamps_in, is_free, chain_length, linked_length, IsAnswered, Token, token, Linked, Config, StickyLog, Accesses, Page}
+use Rattle.sled_node.specs.declared.node.link.Link.{Link as NodeLink}
+use Rattle.sled_pagecache.proofs.Answers.{keeps-err}
+use Rattle.sled_pagecache.proofs.CacheSteps.{steps-known}
+use Rattle.sled_pagecache.proofs.Counted.{behind-counter, other-at, spares-link, whole-then}
+use Rattle.sled_pagecache.proofs.Evicting.{moves, by-swap, still-away, moved-damage, moved-reads}
+use Rattle.sled_pagecache.proofs.InMemory.{loses-page, takes-page}
+use Rattle.sled_pagecache.proofs.Judging.{IsFresh, fresh-answered, keeps-fresh}
+use Rattle.sled_pagecache.proofs.LinkSteps.{link-refused, link-taken}
+use Rattle.sled_pagecache.proofs.LinkTables.{refused-consistent, taken-consistent, taken-length, taken-resident, refused-out}
+use Rattle.sled_pagecache.proofs.LinkTests.{refused-tests, taken-tests, refused-damage, taken-damage}
+use Rattle.sled_pagecache.proofs.Lookups.{behind-own}
+use Rattle.sled_pagecache.proofs.PagingIn.{page-own-at, stamps-same, reads-pulled}
+use Rattle.sled_pagecache.proofs.Putting.{blamed}
+use Rattle.sled_pagecache.proofs.TableNodes.{view}
+use Rattle.sled_pagecache.specs.Counted.{IsWhole}
+use Rattle.sled_pagecache.specs.Evictions.{Evicts, IsSettled}
+use Rattle.sled_pagecache.specs.declared.pagecache.call.Call.TheVariants as call
+
+-- What a link answers that was made, with this token.
+pub record LinkMade {L : Type 0} (g : Ghosts L) (was now : Cache L) (settled : Type 0) (pid : ℕ) (old made : Token) (link : NodeLink) : Type 0 where
+  pub is : settled
+  pub tested : let result : Swapped NodeLink = Ok (Ok made) in TestsFirst g was old link result
+  pub step : Steps g was (call.Link old link) (Linked (Ok (Ok made))) now
+  pub keeps : let result : Swapped NodeLink = Ok (Ok made) in Keeps was now result (swapped was.stamps)
+  pub token : IsAnswered was.stamps old link (Ok made)
+  pub damaged : ¬ MeetsDamage g was pid
+  pub reads : ReadsPage g was pid now
+  pub length : g.tells → chain_length g.state now pid ≡ linked_length (chain_length g.state was pid)
+  pub bounded : IsBounded g now
+  pub accessed : AccessesPage was pid now
+  pub resident : IsResident now pid
+
+-- And one that was refused.
+pub record LinkRefused {L : Type 0} (g : Ghosts L) (was now : Cache L) (settled : Type 0) (pid : ℕ) (old : Token) (link : NodeLink) (refusal : Refusal) : Type 0 where
+  pub is : settled
+  pub tested : let result : Swapped NodeLink = Err (error_of refusal) in TestsFirst g was old link result
+  pub step : Steps g was (call.Link old link) (Linked (Err (error_of refusal))) now
+  pub blame : let result : Swapped NodeLink = Err (error_of refusal) in IsBlamed g was now result
+  pub keeps : let result : Swapped NodeLink = Err (error_of refusal) in Keeps was now result (swapped was.stamps)
+  pub damaged : let result : Swapped NodeLink = Err (error_of refusal) in MeetsDamage g was pid → ReportsDamage g was pid result now
+  pub reads : ReadsPage g was pid now
+  pub kept_out : IsAway was pid → IsAway now pid
+  pub bounded : IsBounded g now
+  pub leaves : LeavesMemory was pid now g.tells (error_of refusal)
+
+module _ {L : Type 0} (g : Ghosts L) {next : ℕ} {config : Config} {recovered : Bool} {before after : StickyLog L} {table pages : List Page} {free : List ℕ} {accesses between then : Accesses}
+    (is : IsSettled g next config recovered before table free accesses) {pid : ℕ} {old : Token} {q page : Page} (fresh : IsFresh before.fault table pid old q) (same : old.pid ≡ pid) {link : NodeLink} where
+  pub link-made : MakesLink g before pid q link after accesses between page → Evicts between None (slice_set table pid page) pages then → (made : Token) → made ≡ token pid page.stamp
+      → LinkMade g (view next config recovered accesses.lru before table) (view next config recovered then.lru after pages) (IsSettled g next config recovered after pages free then) pid old made link
+  link-made done evicts made is_made =
+      let changed = slice_set table pid page in
+      let kept = is.whole.consistent in
+      let other = behind-counter pid (behind-own pid fresh.behind) in
+      let whole : IsWhole g.tells g.state config.idgen_persist_interval next after changed free =
+      whole-then g is.whole fresh.clear (λ told clear. (_, done.taken.tells.went, (other, tt))) (other-at table pid page other)
+      (taken-consistent g before after table free pid q page kept fresh.clear fresh.behind fresh.at link done.taken (ap is_free done.taken.holds ∙ sym fresh.full)) in
+      let result : Swapped NodeLink = Ok (Ok made) in
+      let pulled : Result (Unit {0}) Refusal = Ok tt in
+      let swap = by-swap g next next config recovered before after table changed pages free free accesses between then is whole None evicts pid result refl
+      (takes-page next config recovered accesses.lru before after table pid q page fresh.at accesses between done.accessed) tt tt (taken-resident g before after table free pid q page kept fresh.clear fresh.behind fresh.at link next config recovered accesses.lru done.taken) in
+      let move = moves g next next config recovered before after table changed pages free free accesses between then is whole None evicts result in
+      let named : made ≡ token pid (old.stamp + 1) = is_made ∙ ap (token pid) (done.taken.raised.1 ∙ ap (λ n. n + 1) fresh.stamp) in
+      record {
+        is = move.settled swap.bounded;
+        tested = taken-tests g next config recovered accesses.lru before table free pid kept old q fresh link same after page done.taken _;
+        step = move.steps (call.Link old link) (Linked result) (rw named (link-taken g next config recovered accesses.lru before table free pid kept fresh.clear old same link fresh.behind q fresh.at fresh.full after page fresh.stamp done.taken done.fault));
+        keeps = move.keeps (swapped (stamps_in table)) (keeps-fresh next config recovered accesses.lru before table pid old q fresh _ after page done.fault done.taken.tells.went.batch done.taken.raised.1 made named) tt;
+        token = fresh-answered next config recovered accesses.lru before table pid old q fresh same _ link made (named ∙ ap (λ n. token n (old.stamp + 1)) (sym same));
+        damaged = λ meets. taken-damage g next config recovered accesses.lru before table free pid kept old q fresh link meets after page done.taken;
+        reads = moved-reads g next next config recovered before after table changed pages free free accesses between then is whole None evicts pid (reads-pulled g next config recovered accesses.lru before after table free pid q page kept fresh.clear fresh.behind fresh.at pulled done.unread done.reads (λ away. tt));
+        length = λ told. taken-length g before after table free pid q page kept fresh.clear fresh.behind fresh.at link next config recovered accesses.lru told done.taken;
+        bounded = swap.bounded;
+        accessed = swap.accessed;
+        resident = swap.resident;
+      }
+
+  pub link-unmade : {refusal : Refusal} → RefusesLinkOf g before pid q link after accesses between page refusal → Evicts between (Some pid) (slice_set table pid page) pages then
+      → LinkRefused g (view next config recovered accesses.lru before table) (view next config recovered then.lru after pages) (IsSettled g next config recovered after pages free then) pid old link refusal
+  link-unmade {refusal} refused evicts =
+      let changed = slice_set table pid page in
+      let kept = is.whole.consistent in
+      let told : Result (Unit {0}) Refusal = Err refusal in
+      let whole : IsWhole g.tells g.state config.idgen_persist_interval next after changed free =
+      whole-then g is.whole fresh.clear (spares-link g (Unit {0}) pid q link refusal refused.refused refused.cause.fault) (other-at table pid page (behind-counter pid (behind-own pid fresh.behind)))
+      (refused-consistent g before after table free pid q page kept fresh.clear fresh.behind fresh.at link
+      refused.begun refused.same refused.still refused.infos refused.free (refused.own (page-own-at g before before table free pid q q kept fresh.clear fresh.behind fresh.at))) in
+      let result : Swapped NodeLink = Err (error_of refusal) in
+      let swap = by-swap g next next config recovered before after table changed pages free free accesses between then is whole (Some pid) evicts pid result refl tt tt
+      (loses-page g.tells next config recovered accesses.lru before after table pid q page fresh.at accesses between fresh.clear refused.infos refusal refused.lost refused.touched refused.unasked) tt in
+      let move = moves g next next config recovered before after table changed pages free free accesses between then is whole (Some pid) evicts result in
+      let stamps = stamps-same g next config recovered accesses.lru before after table free pid q page kept fresh.clear fresh.behind fresh.at refused.stamp in
+      record {
+        is = move.settled swap.bounded;
+        tested = refused-tests g next config recovered accesses.lru before table free pid kept old q fresh link same refusal refused.tested;
+        step = move.steps (call.Link old link) (Linked result) (steps-known g _ _ _ _ (record { config = refl; recovered = refl }) (λ told. link-refused g next config recovered accesses.lru before table free pid kept fresh.clear old same link fresh.behind q fresh.at fresh.full
+            after page fresh.stamp refusal (refused.refused told) refused.cause refused.stamp));
+        blame = move.blame (blamed g _ _ _ refusal refused.cause);
+        keeps = move.keeps (swapped (stamps_in table)) (keeps-err _ _ _ (Unit {0}) refusal fresh.clear refused.cause.fault stamps refused.begun.went.batch) swap.stuck;
+        damaged = moved-damage g next next config recovered before after table changed pages free free accesses between then is whole (Some pid) evicts pid result
+            (λ meets. refused-damage g next config recovered accesses.lru before table free pid kept old q fresh link meets after page refusal (refused.refused meets.tells) refused.stamp refused.same);
+        reads = moved-reads g next next config recovered before after table changed pages free free accesses between then is whole (Some pid) evicts pid
+            (reads-pulled g next config recovered accesses.lru before after table free pid q page kept fresh.clear fresh.behind fresh.at told refused.unread (λ away. tt) (λ away. (refused.kept_out away, refused.at_most.0, refused.at_most.1, refused.at_most.2)));
+        kept_out = λ away. still-away g next next config recovered before after table changed pages free free accesses between then is whole (Some pid) evicts pid (refused-out g before after table free pid q page kept fresh.clear fresh.behind fresh.at link next config recovered accesses.lru refused.kept_out away);
+        bounded = swap.bounded;
+        leaves = swap.leaves;
+      }

@@ -1,0 +1,290 @@
+//! The pages of a cache: making, reading, changing and freeing one.
+
+ghost use Rattle.std.specs.Prelude.{◌≡◌, ℕ, false, true, length, None, Some, Err, slice_get, IfOk, IfErr, IsOk, OnOk, OnErr, IsErrOf, MatchOption};
+ghost use Rattle.std.specs.Borrow.{sem};
+ghost use Rattle.sled_base.specs.declared.types.Device.TheVariants.{Write};
+ghost use Rattle.sled_base.specs.declared.types.Error.TheVariants.{Unsupported, Io};
+ghost use Rattle.sled_base.specs.declared.types.Refusal.TheVariants as refusal;
+ghost use Rattle.sled_base.specs.declared.types.Why.{Why};
+ghost use Rattle.sled_log.specs.LogState.{now};
+ghost use Rattle.sled_pagecache.specs.Answers.{HasNoName, Keeps, stamped, swapped};
+ghost use Rattle.sled_pagecache.specs.Cache.{IsResident, IsAway, chain_length};
+ghost use Rattle.sled_pagecache.specs.Calls.{Steps, IsBlamed};
+ghost use Rattle.sled_pagecache.specs.Damage.{MeetsDamage, ReportsDamage};
+ghost use Rattle.sled_pagecache.specs.LinkTests.{TestsFirst};
+ghost use Rattle.sled_pagecache.specs.Lending.{IsGot, OnceGivenBack};
+ghost use Rattle.sled_pagecache.specs.Memory.{HasNode, HasNoNode, IsBounded, KeepsMemory, AccessesPage, FindsPage, LeavesMemory, LeavesNodes};
+ghost use Rattle.sled_pagecache.specs.PagesIn.{BringsIn, IsNodeAt};
+ghost use Rattle.sled_pagecache.specs.Reads.{ReadsNothing, ReadsPage};
+ghost use Rattle.sled_pagecache.specs.Step.{is_reserved};
+ghost use Rattle.sled_pagecache.specs.Swaps.{linked_length};
+ghost use Rattle.sled_pagecache.specs.Token.{pid_of, stamp_of, IsAnswered};
+ghost use Rattle.sled_pagecache.specs.declared.pagecache.call.Answer.TheVariants.{Allocated, Linked, Replaced, Freed};
+ghost use Rattle.sled_pagecache.specs.declared.pagecache.call.Call.TheVariants.{Allocate};
+ghost use Rattle.sled_pagecache.specs.declared.pagecache.call.Call.TheVariants as call;
+
+use super::PageCache;
+use crate::pagecache::add::add_page;
+use crate::pagecache::evict::evict;
+use crate::pagecache::judge::{Judgement, is_reserved, judge};
+use crate::pagecache::page::Kept;
+use crate::pagecache::pull::{pull_and_access, pull_and_link};
+use crate::pagecache::swap::{free_page, put_page};
+use crate::pagecache::view::{NodeView, PageView};
+use sled_base::{Device, Error, PageId, Refusal, Why};
+use sled_log::Log;
+use sled_node::{Link, Node};
+
+impl<L: Log> PageCache<L> {
+    /// Puts a node on a page: the free page with the greatest id at its next stamp, or else a new one at stamp 1.
+    ///
+    /// `PagesUsedUp` comes where there are 2^37 pages and none is free, `StampUsedUp` where the stamp of the free page is the
+    /// greatest, `LogFull` where the log has no room. These and `OutOfMemory` leave every page and message
+    /// unchanged. A write error is sticky: every later call answers it, until the log is opened again.
+    #[tactic(auto, using(crate::proofs::Refused::no_name))]
+    pub fn allocate(&mut self, node: Node) -> Result<(PageId, PageView), Error>
+        ensures step { Steps L.Log self.old (Allocate node) (Allocated result) self.new }
+        ensures blame { IsBlamed L.Log self.old self.new result }
+        ensures unread { ReadsNothing L.Log self.old self.new }
+        ensures keeps { Keeps self.old self.new result (λ made. stamped self.old.stamps made.1) }
+        ensures token { IfOk result (λ made. (pid_of made.1 ≡ made.0) × (slice_get self.new.stamps made.0 ≡ Some (stamp_of made.1))) }
+        ensures resident { IfOk result (λ made. IsResident self.new made.0) }
+        ensures bounded { IsBounded L.Log self.new }
+        ensures accesses { IfOk result (λ made. AccessesPage self.old made.0 self.new) }
+        ensures leaves { IfErr result (LeavesNodes L.tells self.old self.new) }
+        ensures unnamed { IfErr result HasNoName }
+    {
+        let stuck = self.sticky_log.fault;
+        if stuck {
+            return Err(Error::Io(Device::Write));
+        }
+        let (log, accesses) = (&mut self.sticky_log, &mut self.accesses);
+        let Some(pid) = self.free.greatest() else {
+            match add_page(self.alloc, log, accesses, &mut self.pages, node) {
+                Ok(pid) => {
+                    evict(&mut self.pages, &mut self.accesses, None);
+                    return Ok((pid, PageView::new(pid, 1)));
+                }
+                Err(refusal) => {
+                    evict(&mut self.pages, &mut self.accesses, None);
+                    return Err(Error::from(refusal));
+                }
+            }
+        };
+        let page = self.pages.get_mut(pid);
+        match put_page(self.alloc, log, accesses, pid, page, Kept::Node(node)) {
+            Ok(()) => {
+                let stamp = page.stamp;
+                self.free.take_greatest();
+                evict(&mut self.pages, &mut self.accesses, None);
+                Ok((pid, PageView::new(pid, stamp)))
+            }
+            Err(refusal) => {
+                evict(&mut self.pages, &mut self.accesses, None);
+                Err(Error::from(refusal))
+            }
+        }
+    }
+
+    /// The node of a page with the page's token, lent. None where the page is absent or free.
+    ///
+    /// A page that doesn't lie in memory is read from the log, by one read for each message that makes it, and then lies there.
+    /// `ReservedId` comes for the cache's own pages, and `Corruption` where the messages of the page make no node, with the pointer
+    /// of the first wrong one. These, `Io` and `OutOfMemory` leave every page unchanged.
+    pub fn get(&mut self, pid: PageId) -> Result<Option<NodeView<'_>>, Refusal>
+        ensures* got { sem 𝓛 (OnceGivenBack L.row L.Log self.entry (IsGot L.Log self.entry.now pid result)) }
+    {
+        self.page_in(pid)?;
+        let found = self.node_at(pid);
+        Ok(found)
+    }
+
+    /// Applies a link to the node of a page that is still at the stamp of the token, and raises the stamp by one.
+    ///
+    /// At another stamp the page's present token comes back with the link; where the page is absent or free, nothing
+    /// does. In this order: `ReservedId` comes for the cache's own pages; a page that doesn't lie in memory is read, and
+    /// `Corruption` comes where its messages make no node, with the pointer of the first wrong one; `LinkRefused` comes where
+    /// the node does not accept the link, `StampUsedUp` where the stamp is the greatest; only then memory is asked for, and
+    /// `LogFull` comes where the log has no room. These, `OutOfMemory` and a read that failed leave every page and message
+    /// unchanged. A write error is sticky: every later call answers it, until the log is opened again.
+    #[tactic(auto, using(crate::proofs::Refused::no_name))]
+    pub fn link(
+        &mut self,
+        pid: PageId,
+        old: PageView,
+        link: Link,
+    ) -> Result<Result<PageView, Option<(PageView, Link)>>, Error>
+        requires { pid_of old ≡ pid }
+        ensures tested { TestsFirst L.Log self.old old link result }
+        ensures step { Steps L.Log self.old (call.Link old link) (Linked result) self.new }
+        ensures blame { IsBlamed L.Log self.old self.new result }
+        ensures keeps { Keeps self.old self.new result (swapped self.old.stamps) }
+        ensures token { IfOk result (IsAnswered self.old.stamps old link) }
+        ensures damaged { MeetsDamage L.Log self.old pid → slice_get self.old.stamps pid ≡ Some (stamp_of old) → ReportsDamage L.Log self.old pid result self.new }
+        ensures reads { ReadsPage L.Log self.old pid self.new }
+        ensures unread { IfOk result (λ swapped. OnErr swapped (ReadsNothing L.Log self.old self.new)) }
+        ensures length { L.tells → IfOk result (λ swapped. OnOk swapped (chain_length L.state self.new pid ≡ linked_length (chain_length L.state self.old pid))) }
+        ensures resident { IfOk result (λ swapped. OnOk swapped (IsResident self.new pid)) }
+        ensures kept_out { OnErr result (IsAway self.old pid → IsAway self.new pid) }
+        ensures bounded { IsBounded L.Log self.new }
+        ensures accesses { IfOk result (λ swapped. OnOk swapped (AccessesPage self.old pid self.new)) }
+        ensures same { IfOk result (λ swapped. OnErr swapped (KeepsMemory self.old self.new)) }
+        ensures leaves { IfErr result (LeavesMemory self.old pid self.new L.tells) }
+        ensures unnamed { IfErr result HasNoName }
+    {
+        match judge(self.sticky_log.fault, &self.pages, pid, old)? {
+            Judgement::Stale(present) => return Ok(Err(Some((present, link)))),
+            Judgement::Gone => return Ok(Err(None)),
+            Judgement::Fresh => {}
+        }
+        let (log, accesses) = (&mut self.sticky_log, &mut self.accesses);
+        let page = self.pages.get_mut(pid);
+        match pull_and_link(self.alloc, log, accesses, pid, page, &link) {
+            Ok(()) => {
+                let stamp = page.stamp;
+                evict(&mut self.pages, &mut self.accesses, None);
+                Ok(Ok(PageView::new(pid, stamp)))
+            }
+            Err(refusal) => {
+                evict(&mut self.pages, &mut self.accesses, Some(pid));
+                Err(Error::from(refusal))
+            }
+        }
+    }
+
+    /// Puts a node on a page that is still at the stamp of the token, in place of what it held, and raises the stamp by
+    /// one.
+    ///
+    /// At another stamp the page's present token comes back with the node; where the page is absent or free, nothing
+    /// does. `ReservedId` comes for the cache's own pages, `StampUsedUp` where the stamp is the greatest, `LogFull` where the
+    /// log has no room. These and `OutOfMemory` leave every page and message unchanged. A write error is sticky: every later call
+    /// answers it, until the log is opened again.
+    #[tactic(auto, using(crate::proofs::Refused::no_name))]
+    pub fn replace(
+        &mut self,
+        pid: PageId,
+        old: PageView,
+        node: Node,
+    ) -> Result<Result<PageView, Option<(PageView, Node)>>, Error>
+        requires { pid_of old ≡ pid }
+        ensures step { Steps L.Log self.old (call.Replace old node) (Replaced result) self.new }
+        ensures blame { IsBlamed L.Log self.old self.new result }
+        ensures keeps { Keeps self.old self.new result (swapped self.old.stamps) }
+        ensures token { IfOk result (IsAnswered self.old.stamps old node) }
+        ensures unread { ReadsNothing L.Log self.old self.new }
+        ensures length { L.tells → IfOk result (λ swapped. OnOk swapped (chain_length L.state self.new pid ≡ 1)) }
+        ensures resident { IfOk result (λ swapped. OnOk swapped (IsResident self.new pid)) }
+        ensures bounded { IsBounded L.Log self.new }
+        ensures accesses { IfOk result (λ swapped. OnOk swapped (AccessesPage self.old pid self.new)) }
+        ensures same { IfOk result (λ swapped. OnErr swapped (KeepsMemory self.old self.new)) }
+        ensures leaves { IfErr result (LeavesMemory self.old pid self.new L.tells) }
+        ensures unnamed { IfErr result HasNoName }
+    {
+        match judge(self.sticky_log.fault, &self.pages, pid, old)? {
+            Judgement::Stale(present) => return Ok(Err(Some((present, node)))),
+            Judgement::Gone => return Ok(Err(None)),
+            Judgement::Fresh => {}
+        }
+        let (log, accesses) = (&mut self.sticky_log, &mut self.accesses);
+        let page = self.pages.get_mut(pid);
+        match put_page(self.alloc, log, accesses, pid, page, Kept::Node(node)) {
+            Ok(()) => {
+                let stamp = page.stamp;
+                evict(&mut self.pages, &mut self.accesses, None);
+                Ok(Ok(PageView::new(pid, stamp)))
+            }
+            Err(refusal) => {
+                evict(&mut self.pages, &mut self.accesses, Some(pid));
+                Err(Error::from(refusal))
+            }
+        }
+    }
+
+    /// Frees a page that is still at the stamp of the token, and raises its stamp by one. The page is absent for every other call, until
+    /// an `allocate` uses it again.
+    ///
+    /// At another stamp the page's present token comes back; where the page is absent or free, nothing does. `ReservedId` comes
+    /// for the cache's own pages, `StampUsedUp` where the stamp is the greatest, `LogFull` where the log has no room. These and
+    /// `OutOfMemory` leave every page and message unchanged. A write error is sticky: every later call answers it, until the log is
+    /// opened again.
+    #[tactic(auto, using(crate::proofs::Refused::no_name))]
+    pub fn free(
+        &mut self,
+        pid: PageId,
+        old: PageView,
+    ) -> Result<Result<PageView, Option<(PageView, ())>>, Error>
+        requires { pid_of old ≡ pid }
+        ensures step { Steps L.Log self.old (call.Free old) (Freed result) self.new }
+        ensures blame { IsBlamed L.Log self.old self.new result }
+        ensures keeps { Keeps self.old self.new result (swapped self.old.stamps) }
+        ensures token { IfOk result (IsAnswered self.old.stamps old tt) }
+        ensures unread { ReadsNothing L.Log self.old self.new }
+        ensures length { L.tells → IfOk result (λ swapped. OnOk swapped (chain_length L.state self.new pid ≡ 1)) }
+        ensures none { IfOk result (λ swapped. OnOk swapped (HasNoNode self.new pid)) }
+        ensures resident { IfOk result (λ swapped. OnOk swapped (IsResident self.new pid)) }
+        ensures bounded { IsBounded L.Log self.new }
+        ensures accesses { IfOk result (λ swapped. OnOk swapped (AccessesPage self.old pid self.new)) }
+        ensures same { IfOk result (λ swapped. OnErr swapped (KeepsMemory self.old self.new)) }
+        ensures leaves { IfErr result (LeavesMemory self.old pid self.new L.tells) }
+        ensures unnamed { IfErr result HasNoName }
+    {
+        match judge(self.sticky_log.fault, &self.pages, pid, old)? {
+            Judgement::Stale(present) => return Ok(Err(Some((present, ())))),
+            Judgement::Gone => return Ok(Err(None)),
+            Judgement::Fresh => {}
+        }
+        let (log, accesses) = (&mut self.sticky_log, &mut self.accesses);
+        let page = self.pages.get_mut(pid);
+        match free_page(self.alloc, log, accesses, &mut self.free, pid, page) {
+            Ok(()) => {
+                let stamp = page.stamp;
+                evict(&mut self.pages, &mut self.accesses, None);
+                Ok(Ok(PageView::new(pid, stamp)))
+            }
+            Err(refusal) => {
+                evict(&mut self.pages, &mut self.accesses, Some(pid));
+                Err(Error::from(refusal))
+            }
+        }
+    }
+
+    // Refuses what can't be read, reads the page from the log where it doesn't lie in memory, and accesses it.
+    fn page_in(&mut self, pid: PageId) -> Result<(), Refusal>
+        ensures stuck { self.old.fault ≡ true → IsErrOf result (refusal.Io Write) × (self.new ≡ self.old) }
+        ensures brings { self.old.fault ≡ false → BringsIn L.Log self.old pid result self.new }
+        ensures always { self.old.fault ≡ false → is_reserved pid ≡ false → IsResident self.old pid → IsOk result }
+        ensures reads { ReadsPage L.Log self.old pid self.new }
+        ensures kept_out { OnErr result (IsAway self.old pid → IsAway self.new pid) }
+        ensures bounded { IsBounded L.Log self.new }
+        ensures accesses { OnOk result (FindsPage self.old pid self.new) }
+        ensures same { OnErr result (KeepsMemory self.old self.new) }
+    {
+        if self.sticky_log.fault {
+            return Err(Refusal::Io(Device::Write));
+        }
+        if is_reserved(pid) {
+            return Err(Refusal::Unsupported(Why::ReservedId));
+        }
+        let count = self.pages.len() as PageId;
+        if pid >= count {
+            return Ok(());
+        }
+        let (log, accesses) = (&mut self.sticky_log, &mut self.accesses);
+        let page = self.pages.get_mut(pid);
+        let read = pull_and_access(self.alloc, log, accesses, pid, page);
+        evict(&mut self.pages, &mut self.accesses, None);
+        read
+    }
+
+    // The node at an id that lies in memory, with the page's token.
+    fn node_at(&self, pid: PageId) -> Option<NodeView<'_>>
+        ensures is { IsNodeAt L.Log self.now pid result }
+        ensures node { MatchOption result (HasNoNode self.now pid) (λ _. (size : ℕ) × HasNode self.now pid size) }
+    {
+        let page = self.pages.get(pid)?;
+        let Kept::Node(node) = &page.kept else {
+            return None;
+        };
+        Some(NodeView::new(node, PageView::new(pid, page.stamp)))
+    }
+}
