@@ -12,12 +12,14 @@ use super::steps::Step::{AddsFrom, Flushes, Gets};
 use super::steps::{Outcome, shows};
 use super::*;
 
-// How a batch ends.
+// How a batch ends: by its guard, or by a call of the cache where no guard is held.
 #[derive(Clone, Copy, Debug, PartialEq, Eq)]
 enum End {
     Sealed,
     Flushed,
     Cancelled,
+    SealedByCall,
+    CancelledByCall,
 }
 
 // Whether pages 2, 3 and 4 are replaced, each at stamp 1.
@@ -38,8 +40,25 @@ fn answered(done: bool) -> Result<(), Error> {
     }
 }
 
+// Whether a batch of three replacements is made with no guard, which ends so.
+fn batch_by_calls(alloc: Global, cache: &mut Faulty, end: End) -> bool {
+    if cache.pin().is_err() {
+        return false;
+    }
+    let done = replaces_three(alloc, cache);
+    let closed = if end == End::SealedByCall {
+        cache.seal()
+    } else {
+        cache.cancel()
+    };
+    closed.is_ok() && done
+}
+
 // Whether a batch of three replacements is made, which ends so.
 fn batch(alloc: Global, cache: &mut Faulty, end: End) -> bool {
+    if end == End::SealedByCall || end == End::CancelledByCall {
+        return batch_by_calls(alloc, cache, end);
+    }
     let Ok(mut guard) = cache.pin_log() else {
         return false;
     };
@@ -116,8 +135,8 @@ fn among(events: usize) -> usize {
 // The same as the list of the events has it: the pin, three replacements, and the mark that closes the batch.
 fn wanted(end: End, events: usize, kept: usize) -> Option<usize> {
     let may_stand = match end {
-        End::Cancelled => kept <= 5,
-        End::Sealed => kept == 0 || kept == 5,
+        End::Cancelled | End::CancelledByCall => kept <= 5,
+        End::Sealed | End::SealedByCall => kept == 0 || kept == 5,
         End::Flushed => kept == 0,
     };
     match (events, end) {
@@ -135,7 +154,13 @@ fn leaves_so(alloc: Global, end: End, events: u8, kept: usize) -> bool {
 
 #[test]
 fn a_crash_leaves_a_batch_whole_or_not_at_all(rt: HostRuntime) {
-    for end in [End::Sealed, End::Flushed, End::Cancelled] {
+    for end in [
+        End::Sealed,
+        End::Flushed,
+        End::Cancelled,
+        End::SealedByCall,
+        End::CancelledByCall,
+    ] {
         for events in 0..6 {
             for kept in 0..7 {
                 assert!(rt;

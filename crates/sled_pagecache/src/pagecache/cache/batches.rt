@@ -1,4 +1,4 @@
-//! Opening and closing a batch of a cache, which its guard does.
+//! Opening and closing a batch of a cache, which its guard does too.
 
 ghost use Rattle.std.specs.Prelude.{◌≡◌, true};
 ghost use Rattle.sled_pagecache.specs.Batches.{OpensBatch, SealsBatch, CancelsBatch};
@@ -16,8 +16,12 @@ impl<L: Log> PageCache<L> {
         self.sticky_log.batch
     }
 
-    // Opens a batch.
-    pub(in crate::pagecache) fn pin(&mut self) -> Result<(), Error>
+    /// Opens a batch, for callers that can't hold a guard across what they do meanwhile. It stays open until `seal` or `cancel`; no
+    /// compiler sees to that, as it does of [`pin_log`](PageCache::pin_log).
+    ///
+    /// `BatchOpen` comes where one is open, `LogFull` where the log has no room for its marks. These and `OutOfMemory` open none, and
+    /// leave every page and message unchanged. A write error is sticky: every later call answers it, until the log is opened again.
+    pub fn pin(&mut self) -> Result<(), Error>
         ensures opens { OpensBatch L.Log self.old result self.new }
         ensures bounded { IsBounded L.Log self.new }
     {
@@ -32,8 +36,11 @@ impl<L: Log> PageCache<L> {
         Ok(())
     }
 
-    // Closes the batch: a crash leaves all of it or nothing.
-    pub(in crate::pagecache) fn seal(&mut self) -> Result<(), Error>
+    /// Closes the open batch: a crash leaves all of it or nothing, and all once a flush has answered Ok.
+    ///
+    /// It allocates nothing, and fails only for a write error, which is sticky. The batch is closed then too; with one kept from before,
+    /// the log isn't called.
+    pub fn seal(&mut self) -> Result<(), Error>
         requires { self.old.batch ≡ true }
         ensures closes { SealsBatch L.Log self.old result self.new }
         ensures bounded { IsBounded L.Log self.new }
@@ -45,8 +52,11 @@ impl<L: Log> PageCache<L> {
         Ok(self.sticky_log.seal()?)
     }
 
-    // Closes the batch: a crash may leave it in part.
-    pub(in crate::pagecache) fn cancel(&mut self) -> Result<(), Error>
+    /// Closes the open batch, of which a crash may leave a part. Its changes stand in the cache: nothing is undone.
+    ///
+    /// It allocates nothing, and fails only for a write error, which is sticky. The batch is closed then too; with one kept from before,
+    /// the log isn't called.
+    pub fn cancel(&mut self) -> Result<(), Error>
         requires { self.old.batch ≡ true }
         ensures closes { CancelsBatch L.Log self.old result self.new }
         ensures bounded { IsBounded L.Log self.new }
