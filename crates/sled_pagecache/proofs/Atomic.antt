@@ -1,5 +1,5 @@
 -- A batch stands whole after a crash, or none of it does.
-use Rattle.sled_pagecache.proofs.Names.{◌≡◌, ◌⊎◌, inl, inr, ◌≤◌, ℕ, Bool, true, false, List, [], ◌∷◌, ◌++◌, take, drop, Result, Ok, Err, refl, sym, ◌∙◌, ap, subst, true≢false, append-nil, take-append-drop, take-nil, AllByRecursion, MatchBool, Error, Event, Pin, Seal, Update, Content, contents_after, is_open, Messages, Message, AreEvents, effect_of, unplaced_state, Ghosts, Cache, IsIn, IsStep, StepOver, Steps, Logged, State, contents_of, Outcome, unchanged, Answer, Call, Flush, Flushed, row-one, row-then}
+use Rattle.sled_pagecache.proofs.Names.{◌≡◌, ◌⊎◌, inl, inr, ◌≤◌, ℕ, Bool, true, false, List, [], ◌∷◌, ◌++◌, take, drop, Result, Ok, Err, refl, sym, ◌∙◌, ap, subst, true≢false, append-nil, take-append-drop, take-nil, AllByRecursion, MatchBool, Error, Event, Pin, Seal, Update, Content, contents_after, is_open, Messages, Message, AreEvents, unplaced_state, Ghosts, Cache, IsIn, IsStep, StepOver, Steps, Logged, State, contents_of, Outcome, unchanged, Answer, Call, Flush, Flushed, row-one, row-then}
 use Rattle.sled_log.specs.LogState as log
 use Rattle.sled_log.specs.ReadingLaws.{contents_after-append}
 use Rattle.sled_pagecache.proofs.BatchCuts.{left-open, left-sealed}
@@ -9,7 +9,7 @@ use Rattle.sled_pagecache.proofs.Unmarked.{IsChange, call-inside}
 use Rattle.sled_pagecache.specs.Atomic.{AreThoseOf, AreWithout, ClosesNone, RunsBatch, StandsInPart, StandsWhole, with_pin}
 use Rattle.sled_pagecache.specs.Logged.{Adds, AreKept, IsLeft, now}
 use Rattle.sled_pagecache.specs.Reopening.{CrashReopensTo}
-use Rattle.sled_pagecache.specs.RowLaws.{IsLonger, left-now, one-longer, step-stuck}
+use Rattle.sled_pagecache.specs.RowLaws.{OnlyNow, IsLonger, left-now, one-longer, step-stuck}
 use Rattle.sled_pagecache.specs.Rows.{AreSteps, IsMade, IsRow, changes_of}
 use Rattle.sled_pagecache.specs.Step.{Closes, Flushes}
 use Rattle.sled_pagecache.specs.declared.pagecache.call.Answer.TheVariants.{Pinned, Sealed, Cancelled}
@@ -194,7 +194,7 @@ module _ {L : Type 0} (g : Ghosts L) where
     flush-ok : (s : State) (n : ℕ) (out : Outcome) → Flushes s (Ok n) out → (s.fault ≡ false) × (out ≡ unchanged s)
     flush-ok s n out step = split s.fault step (λ _ h. absurd (ok-err n _ h.0)) (λ clear h. split s.batch h (λ _ h. absurd (ok-err n _ h.0)) (λ _ h. (clear, h)))
 
-    pub flushed : ((l : L) (pages : List Messages) → g.tells → (g.state l).usable ≡ true → g.left_since l (g.moment l) pages → log.IsLeft effect_of (log.unplaced_state (g.state l)) [] pages)
+    pub flushed : OnlyNow g
         → (old new : Cache L) (n : ℕ) → IsMade g old Flush (Flushed (Ok n)) new → (held : Logged) (s : State) → IsIn g old held s → CrashReopensTo g new.log (g.moment new.log) (AreThoseOf s)
     flushed only_now old new n made held s is =
         let one = made.step.from_each held s is in

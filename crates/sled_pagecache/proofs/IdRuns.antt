@@ -1,9 +1,8 @@
 -- Why no generated id is given twice: what opens over a log, however a cache over it ended, begins above every id that was answered.
-use Rattle.sled_pagecache.proofs.Names.{Answer, Bool, Cache, Call, Config, Content, Err, Error, Generated, Ghosts, IsIn, IsLogged, IsStep, List, Logged, Messages, None, Ok, Opens, Option, Result, Some, Started, State, Why, Write, [], ap, append_assoc, arith, changes_of_start, contents_after, contents_of, effect_of, false, fault_of, first_id, inl, inr, length, log_after, Message, only_stable_contents, opened, refl, slice_index_or, subst, suc, sym, true, true≢false, unplaced_state, zero, ℕ, ⊎_elim, ◌++◌, ◌+◌, ◌<◌, ◌∙◌, ◌∷◌, ◌≡◌, ◌≢◌, ◌≤◌, ◌⊎◌}
+use Rattle.sled_pagecache.proofs.Names.{Answer, Bool, Cache, Call, Config, Content, Err, Error, Generated, Ghosts, IsIn, IsLogged, IsStep, List, Logged, Messages, None, Ok, Opens, Option, Result, Some, Started, State, Why, Write, [], ap, append_assoc, arith, changes_of_start, contents_after, contents_of, false, fault_of, first_id, inl, inr, length, log_after, Message, only_stable_contents, opened, refl, slice_index_or, subst, suc, sym, true, true≢false, unplaced_state, zero, ℕ, ⊎_elim, ◌++◌, ◌+◌, ◌<◌, ◌∙◌, ◌∷◌, ◌≡◌, ◌≢◌, ◌≤◌, ◌⊎◌}
 use Rattle.std.specs.Prelude.{⊤}
 use Rattle.std.specs.Result.{IsErrAnd}
 use Rattle.sled_base.specs.declared.types.Error.TheVariants.{Io, Unsupported}
-use Rattle.sled_log.specs.LogState as log
 use Rattle.sled_log.specs.LogState.{LogState}
 use Rattle.sled_pagecache.proofs.Carrying.{proper-now}
 use Rattle.sled_pagecache.proofs.Counting.{CountsTo, IsSafe, IsSafeCrash, first-at, now-added, rises-first, safe-added, safe-crash, safe-now, safe-wider, start-counts, start-rises, Rises}
@@ -12,7 +11,7 @@ use Rattle.sled_pagecache.proofs.Reopening.{empty-logged, kept-logged}
 use Rattle.sled_pagecache.specs.Logged.{now}
 use Rattle.sled_pagecache.specs.Openings.{AreRising, Crashed, CrashedIn, Ending, HandedOn, IsEmpty, IsRun, KeepIntervals, Lasted, Leaves, LeavesUnopened, Opening, Refused, id_in, ids_in, ids_of}
 use Rattle.sled_pagecache.specs.Reopening.{HoldsCrash}
-use Rattle.sled_pagecache.specs.RowLaws.{left-now, step-stuck}
+use Rattle.sled_pagecache.specs.RowLaws.{OnlyNow, left-now, step-stuck}
 use Rattle.sled_pagecache.specs.Rows.{AreMade, CoversId, IsMade}
 use Rattle.sled_pagecache.specs.Starts.{MayBeOpened}
 
@@ -34,7 +33,7 @@ rising bound (id ∷ ids) rise zero (suc j) d before within = let later = rise-a
 rising bound (id ∷ ids) rise (suc i) (suc j) d before within = rising (id + 1) ids rise.1 i j d (omega (arith, before)) (omega (arith, within))
 
 module _ {L : Type 0} (g : Ghosts L) (tells : g.tells)
-    (only_now : (l : L) (pages : List Messages) → g.tells → (g.state l).usable ≡ true → g.left_since l (g.moment l) pages → log.IsLeft effect_of (unplaced_state (g.state l)) [] pages)
+    (only_now : OnlyNow g)
     (since_earlier : (l : L) (t u : ℕ) (pages : List Messages) → g.tells → t ≤ u → g.left_since l u pages → g.left_since l t pages) where
   -- a log, of which every id so far is below a bound
   record IsFound (least bound : ℕ) (l : L) : Type 0 where

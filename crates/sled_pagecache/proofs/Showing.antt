@@ -1,8 +1,7 @@
 -- Why every run of openings shows pages after a prefix of the changes, which holds all that was flushed.
-use Rattle.sled_pagecache.proofs.Names.{Entry, seen, map, message_in, unchanged, Answer, Bool, Cache, Call, Config, Content, Err, Error, Flushed, Generated, Ghosts, IsIn, IsLogged, IsStep, List, Logged, Messages, None, Ok, Opens, Option, Result, Some, Started, State, Outcome, Why, LogFull, [], ◌∷◌, ◌++◌, ap, append-nil, arith, changes_of_start, effect_of, false, fault_of, inl, inr, IfErr, log_after, Message, missing, only_stable_contents, opened, refl, subst, sym, true, unplaced_state, ℕ, ◌≡◌, ◌≢◌, ◌≤◌, ◌⊎◌, ⊎_elim, ◌∙◌, true≢false, Update, Event, StepOver, Write, Adds}
+use Rattle.sled_pagecache.proofs.Names.{Entry, seen, map, message_in, unchanged, Answer, Bool, Cache, Call, Config, Content, Err, Error, Flushed, Generated, Ghosts, IsIn, IsLogged, IsStep, List, Logged, Messages, None, Ok, Opens, Option, Result, Some, Started, State, Outcome, Why, LogFull, [], ◌∷◌, ◌++◌, ap, append-nil, arith, changes_of_start, false, fault_of, inl, inr, IfErr, log_after, Message, missing, only_stable_contents, opened, refl, subst, sym, true, unplaced_state, ℕ, ◌≡◌, ◌≢◌, ◌≤◌, ◌⊎◌, ⊎_elim, ◌∙◌, true≢false, Update, Event, StepOver, Write, Adds}
 use Rattle.std.specs.Result.{IsErrAnd}
 use Rattle.sled_base.specs.declared.types.Error.TheVariants.{Io, OutOfMemory, Unsupported}
-use Rattle.sled_log.specs.LogState as log
 use Rattle.sled_log.specs.LogState.{LogState, IsPrefix}
 use Rattle.sled_log.specs.Laws.{IsPrefix-all, IsPrefix-none}
 use Rattle.sled_pagecache.proofs.Crashing.{refuses}
@@ -14,12 +13,12 @@ use Rattle.sled_pagecache.specs.Logged.{IsLeft, now}
 use Rattle.sled_pagecache.specs.Openings.{Crashed, CrashedIn, Ending, HandedOn, IsEmpty, IsRun, Lasted, Leaves, LeavesUnopened, Opening, Refused}
 use Rattle.sled_pagecache.specs.Prefixes.{Ends, EndsUnopened, HasPagesOf, IsOpenedOf, RefusesAfter, ShowPrefixes}
 use Rattle.sled_pagecache.specs.Reopening.{HoldsCrash}
-use Rattle.sled_pagecache.specs.RowLaws.{left-now, step-stuck}
+use Rattle.sled_pagecache.specs.RowLaws.{OnlyNow, left-now, step-stuck}
 use Rattle.sled_pagecache.specs.Rows.{AreMade, AreSteps, IsMade, ReportsBytes}
 use Rattle.sled_pagecache.specs.Starts.{IsHindrance, IsOpened, MayBeOpened, has_own}
 
 module _ {L : Type 0} (g : Ghosts L) (tells : g.tells)
-    (only_now : (l : L) (pages : List Messages) → g.tells → (g.state l).usable ≡ true → g.left_since l (g.moment l) pages → log.IsLeft effect_of (unplaced_state (g.state l)) [] pages)
+    (only_now : OnlyNow g)
     (since_earlier : (l : L) (t u : ℕ) (pages : List Messages) → g.tells → t ≤ u → g.left_since l u pages → g.left_since l t pages) where
   record IsFound (h : History) (l : L) : Type 0 where
     pub held : Logged

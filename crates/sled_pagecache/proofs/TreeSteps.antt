@@ -1,13 +1,13 @@
 -- The calls of an opening of a tree, one after another; and that the swap of its root finds no other root.
-use Rattle.sled_pagecache.proofs.Names.{◌≡◌, ◌==◌, ◌⊎◌, inl, inr, ◌≤◌, ◌<◌, ◌+◌, ◌-◌, ◌^◌, ◌||◌, ◌≢◌, ⊤, ℕ, zero, suc, Bool, true, false, cond, List, [], ◌∷◌, ◌++◌, length, Option, Some, None, Result, Ok, Err, slice_get, slice_set, refl, sym, ◌∙◌, ap, subst, arith, MatchBool, MatchOption, none-some, same_Some, IfOk, OnErr, Error, Write, Content, Roots, Ghosts, WholeNode, Cache, chain_length, HasNoRoom, StepOver, page, State, page_at, free_token, later, greatest_free, IsRefused, Outcome, unchanged, Token, token, Allocated, Allocate, GetMeta, GotMeta, CasRoot, RootSwapped, IsBounded, ReadsNothing, SetsRoot, Messages, effect_of, made-row}
+use Rattle.sled_pagecache.proofs.Names.{◌≡◌, ◌==◌, ◌⊎◌, inl, inr, ◌≤◌, ◌<◌, ◌+◌, ◌-◌, ◌^◌, ◌||◌, ◌≢◌, ⊤, ℕ, zero, suc, Bool, true, false, cond, List, [], ◌∷◌, ◌++◌, length, Option, Some, None, Result, Ok, Err, slice_get, slice_set, refl, sym, ◌∙◌, ap, subst, arith, MatchBool, MatchOption, none-some, same_Some, IfOk, OnErr, Error, Write, Content, Roots, Ghosts, WholeNode, Cache, chain_length, HasNoRoom, StepOver, page, State, page_at, free_token, later, greatest_free, IsRefused, Outcome, unchanged, Token, token, Allocated, Allocate, GetMeta, GotMeta, CasRoot, RootSwapped, IsBounded, ReadsNothing, SetsRoot, made-row}
 use Rattle.sled_base.specs.Order.{Bytes}
 use Rattle.sled_base.specs.declared.types.Error.TheVariants.{Io}
-use Rattle.sled_log.specs.LogState as log
 use Rattle.sled_node.specs.Meta as meta
 use Rattle.sled_node.specs.Meta.{root_of}
 use Rattle.sled_node.specs.Node.{empty_leaf}
 use Rattle.sled_pagecache.specs.Answers.{is_write_fault, root_swapped}
 use Rattle.sled_pagecache.specs.Rows.{IsMade, AreMade}
+use Rattle.sled_pagecache.specs.RowLaws.{OnlyNow}
 use Rattle.sled_pagecache.specs.State.{StampedPage}
 use Rattle.sled_pagecache.specs.Step.{AddsPage, AreRoots, HoldsRoots, ReusesPage, RootSwap}
 use Rattle.sled_pagecache.specs.Trees.{MadeCalls, EndsSwap, FindsTree, GoesOn, GoesOnOver, GoesOnWith, IsKnown, IsTreeOpened, Looks, MakesTree, NamesRoot, OpensTree, TellsTree, Touches, index_over, stamps_after, stamps_then}
@@ -235,7 +235,7 @@ same-fault A B (Io Write) = refl
 same-fault A B e = refl
 
 module _ {L : Type 0} (g : Ghosts L) (cache : Cache L) (name : Bytes) where
-  module _ (only_now : (l : L) (pages : List Messages) → g.tells → (g.state l).usable ≡ true → g.left_since l (g.moment l) pages → log.IsLeft effect_of (log.unplaced_state (g.state l)) [] pages) where
+  module _ (only_now : OnlyNow g) where
     -- nothing was made
     pub opens-none : (found : Result (Option ℕ) Error) (result : Result ℕ Error) → Looks g cache name found → OpensTree (¬ IsKnown g cache) name result found [] → IsTreeOpened g cache name result cache
     opens-none found result looks are = record {

@@ -183,8 +183,12 @@ module _ {L : Type 0} (g : Ghosts L) where
       stuck = λ kept. next.stuck (steps-stuck (Steps g) old mid s row.t calls row.outs row.steps kept) ∙ row.stuck kept;
     }
 
+  -- what a crash leaves between two calls, as every log says
+  abbrev pub OnlyNow : Type 0
+  OnlyNow = (l : L) (pages : List Messages) → g.tells → (g.state l).usable ≡ true → g.left_since l (g.moment l) pages → log.IsLeft effect_of (log.unplaced_state (g.state l)) [] pages
+
   -- no call
-  pub row-none : (cache : Cache L) → ((l : L) (pages : List Messages) → g.tells → (g.state l).usable ≡ true → g.left_since l (g.moment l) pages → log.IsLeft effect_of (log.unplaced_state (g.state l)) [] pages) → StepInRow g cache [] cache
+  pub row-none : (cache : Cache L) → OnlyNow → StepInRow g cache [] cache
   row-none cache only_now = record {
     opening = record { config = refl; recovered = refl };
     from_each = λ held s is. record {
@@ -245,11 +249,19 @@ module _ {L : Type 0} (g : Ghosts L) where
   }
 
   -- calls that were made one after another
-  pub made-row : (old new : Cache L) (calls : List (Call × Answer)) → ((l : L) (pages : List Messages) → g.tells → (g.state l).usable ≡ true → g.left_since l (g.moment l) pages → log.IsLeft effect_of (log.unplaced_state (g.state l)) [] pages) → AreMade g old calls new → StepInRow g old calls new
+  pub made-row : (old new : Cache L) (calls : List (Call × Answer)) → OnlyNow → AreMade g old calls new → StepInRow g old calls new
   made-row old new [] only_now same = subst (StepInRow g old []) (sym same) (row-none old only_now)
   made-row old new (made ∷ calls) only_now (mid, first, others) = row-then old mid new (made ∷ []) calls (row-one old mid made.0 made.1 first.step) (made-row mid new calls only_now others)
 
+  -- calls that were made behind others
+  pub made-then : (old mid new : Cache L) (calls others : List (Call × Answer)) → AreMade g old calls mid → AreMade g mid others new → AreMade g old (calls ++ others) new
+  made-then old mid new [] others same made = subst (λ from. AreMade g from others new) same made
+  made-then old mid new (call ∷ calls) others (next, first, rest) made = (next, first, made-then next mid new calls others rest made)
+
   -- one call more was made
   pub made-more : (old mid new : Cache L) (calls : List (Call × Answer)) (call : Call) (answer : Answer) → AreMade g old calls mid → IsMade g mid call answer new → AreMade g old (calls ++ (call, answer) ∷ []) new
-  made-more old mid new [] call answer same last = (new, subst (λ from. IsMade g from call answer new) same last, refl)
-  made-more old mid new (made ∷ calls) call answer (next, first, others) last = (next, first, made-more next mid new calls call answer others last)
+  made-more old mid new calls call answer made last = made-then old mid new calls ((call, answer) ∷ []) made (new, last, refl)
+
+-- what holds of a cache holds of the same one by another name
+pub also-of : {L : Type 0} (P : Cache L → Type 0) (one : Cache L) → P one → {other : Cache L} → one ≡ other → P other
+also-of P one holds same = subst P same holds

@@ -140,7 +140,3 @@ module _ {L : Type 0} (g : Ghosts L) where
       → AreSwaps swaps (Err e) answers inner → AreMade g lent inner mid → CancelsBatch g mid closed new → BatchMade swaps (Err (e, answers)) old new
   batch-cancelled swaps answers inner e closed old pinned lent mid new opens same are made closes =
       (with_pin (inner ++ (Cancel, Cancelled closed) ∷ []), inr (inr (inner, closed, are, refl)), batch-made old pinned lent mid new inner Cancel (Cancelled closed) opens same made (cancel-made g mid new closed closes))
-
--- what holds of a cache holds of one that is the same
-pub also_of : {L : Type 0} (P : Cache L → Type 0) (one : Cache L) → P one → {other : Cache L} → one ≡ other → P other
-also_of P one holds same = subst P same holds

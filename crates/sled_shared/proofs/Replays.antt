@@ -4,11 +4,9 @@ use Rattle.std.proofs.lemmas.Bool.Decides.{nat_tests}
 use Rattle.std.specs.Prelude.{nat_le}
 use Rattle.sled_base.specs.declared.types.Error.TheVariants.{Unsupported, OutOfMemory}
 use Rattle.sled_base.specs.declared.types.Why.TheVariants.{BookFull}
-use Rattle.sled_log.specs.LogState.{IsLeft, unplaced_state}
-use Rattle.sled_log.specs.Messages.{Messages, effect_of}
 use Rattle.sled_log.specs.declared.log.Log.{Ghosts}
 use Rattle.sled_pagecache.specs.Cache.{Cache}
-use Rattle.sled_pagecache.specs.RowLaws.{made-row}
+use Rattle.sled_pagecache.specs.RowLaws.{OnlyNow, made-row, made-then}
 use Rattle.sled_pagecache.specs.Rows.{AreMade, IsMade}
 use Rattle.sled_pagecache.specs.Trees.{MadeCalls}
 use Rattle.sled_pagecache.specs.declared.pagecache.call.Answer.{Answer}
@@ -41,14 +39,6 @@ pub entered_as : {entries before old : List Entry} {e : Entry} {call : Request} 
 entered_as {old = old} {e = e} is same kept = is ∙ ap (λ (l : List Entry). l ++ e ∷ []) same ∙ ap (λ (x : Entry). old ++ x ∷ []) kept
 
 module _ {L : Type 0} (g : Ghosts L) where
-  pub made_then : (old mid new : Cache L) (calls others : MadeCalls) → AreMade g old calls mid → AreMade g mid others new → AreMade g old (calls ++ others) new
-  made_then old mid new [] others same made = subst (λ from. AreMade g from others new) same made
-  made_then old mid new (call ∷ calls) others (next, first, rest) made = (next, first, made_then next mid new calls others rest made)
-
-  -- what a crash leaves between two calls, as every log says
-  abbrev pub OnlyNow : Type 0
-  OnlyNow = (l : L) (pages : List Messages) → g.tells → (g.state l).usable ≡ true → g.left_since l (g.moment l) pages → IsLeft effect_of (unplaced_state (g.state l)) [] pages
-
   one_made : (old new : Cache L) (asked : Call) (answer : Answer) → IsMade g old asked answer new → AreMade g old ((asked, answer) ∷ []) new
   one_made old new asked answer made = (new, made, refl)
 
@@ -63,7 +53,7 @@ module _ {L : Type 0} (g : Ghosts L) where
       state = s.of.state;
       calls = s.of.calls ++ calls;
       are = subst (λ (l : List Entry). AreEntries l (s.of.calls ++ calls)) (sym more) (entries-more h.book.entries s.of.calls call answer calls s.of.are is);
-      made = made_then s.of.opened h.cache cache s.of.calls calls s.of.made made;
+      made = made-then g s.of.opened h.cache cache s.of.calls calls s.of.made made;
     }
 
     pub sound_on : (entries : List Entry) (total' : ℕ) → cache.batch ≡ h.cache.batch → entries ≡ h.book.entries ++ entry call answer ∷ [] → total' ≡ total + 1 → total < 2 ^ 64 - 1
@@ -96,7 +86,7 @@ module _ {L : Type 0} (g : Ghosts L) where
   by-room true B C is a = absurd cc
 
   -- where there is room, a call that was made is entered
-  pub serves_made : OnlyNow → (old : Held L) (count : ℕ) (call : Request) (answer : Reply) (new : Held L) (count' : ℕ) (calls : MadeCalls)
+  pub serves_made : OnlyNow g → (old : Held L) (count : ℕ) (call : Request) (answer : Reply) (new : Held L) (count' : ℕ) (calls : MadeCalls)
       → is_full old ≡ false → IsEntry call answer calls → AreMade g old.cache calls new.cache
       → new.book ≡ with_entry old.book call answer → count' ≡ count + 1 → (new.limit ≡ old.limit) × (new.given ≡ old.given) × (new.left ≡ old.left)
       → Serves g old count call answer new count'
@@ -104,13 +94,13 @@ module _ {L : Type 0} (g : Ghosts L) where
       by-room (is_full old) (IsLeftOut g old count (IsRefusal answer OutOfMemory) new count') (IsLeftOut g old count (IsRefusal answer (Unsupported BookFull)) new count') room
       (record { calls = calls; are = is; made = made; row = made-row g old.cache new.cache calls only_now made; entered = entered; counted = counted; rest = rest })
 
-  pub served : OnlyNow → (old : Held L) (count : ℕ) (call : Request) (answer : Reply) (cache : Cache L) (entries : List Entry) (count' : ℕ) (calls : MadeCalls)
+  pub served : OnlyNow g → (old : Held L) (count : ℕ) (call : Request) (answer : Reply) (cache : Cache L) (entries : List Entry) (count' : ℕ) (calls : MadeCalls)
       → is_full old ≡ false → IsEntry call answer calls → AreMade g old.cache calls cache → entries ≡ old.book.entries ++ entry call answer ∷ [] → count' ≡ count + 1
       → Serves g old count call answer (held cache (book old.book.earlier old.book.opening entries) old.limit old.given old.left) count'
   served only_now old count call answer cache entries count' calls room is made entered counted =
       serves_made only_now old count call answer (held cache (book old.book.earlier old.book.opening entries) old.limit old.given old.left) count' calls room is made (ap (book old.book.earlier old.book.opening) entered) counted (refl, refl, refl)
 
-  pub one_served : OnlyNow → (old : Held L) (count : ℕ) (asked : Call) (answer : Answer) (cache : Cache L) (entries : List Entry) (count' : ℕ)
+  pub one_served : OnlyNow g → (old : Held L) (count : ℕ) (asked : Call) (answer : Answer) (cache : Cache L) (entries : List Entry) (count' : ℕ)
       → is_full old ≡ false → IsMade g old.cache asked answer cache → entries ≡ old.book.entries ++ entry (Asked asked) (Answered answer) ∷ [] → count' ≡ count + 1
       → Serves g old count (Asked asked) (Answered answer) (held cache (book old.book.earlier old.book.opening entries) old.limit old.given old.left) count'
   one_served only_now old count asked answer cache entries count' room made =

@@ -8,7 +8,7 @@ use Rattle.sled_log.specs.Messages.{Messages, effect_of}
 use Rattle.sled_log.specs.LogState.{IsLeft, unplaced_state}
 use Rattle.sled_log.specs.declared.log.Log.{Ghosts}
 use Rattle.sled_pagecache.specs.Cache.{Cache}
-use Rattle.sled_pagecache.specs.RowLaws.{row-none, row-one, row-then}
+use Rattle.sled_pagecache.specs.RowLaws.{OnlyNow, made-then, row-none, row-one, row-then}
 use Rattle.sled_pagecache.specs.Rows.{StepInRow, AreMade}
 use Rattle.sled_pagecache.specs.Step.{RootSwap}
 use Rattle.sled_pagecache.specs.Token.{Token}
@@ -108,20 +108,11 @@ gathered_then (Err Memory) old mid new before between waits text more first seco
 gathered_then (Err Write) old mid new before between waits text more first second = prefix_more old mid new before between text more first second
 
 module _ {L : Type 0} (g : Ghosts L) where
-  -- calls that were made behind others
-  pub made_then : (old mid new : Cache L) (calls others : List (Call × Answer)) → AreMade g old calls mid → AreMade g mid others new → AreMade g old (calls ++ others) new
-  made_then old mid new [] others same made = subst (λ from. AreMade g from others new) same made
-  made_then old mid new (call ∷ calls) others (next, first, rest) made = (next, first, made_then next mid new calls others rest made)
-
   -- a cache that was in a state is in one behind steps in a row
   known_then : (old new : Cache L) (calls : List (Call × Answer)) → StepInRow g old calls new → ¬ IsKnown g new → ¬ IsKnown g old
   known_then old new calls row unknown (held, s, is) = let next = row.from_each held s is in unknown (next.held_then, next.t, next.is)
 
-  -- what a crash leaves between two calls, as every log says
-  abbrev pub OnlyNow : Type 0
-  OnlyNow = (l : L) (pages : List Messages) → g.tells → (g.state l).usable ≡ true → g.left_since l (g.moment l) pages → IsLeft effect_of (unplaced_state (g.state l)) [] pages
-
-  pub none_yet : OnlyNow → (cache : Cache L) (input old : Option Bytes) (before : Bytes) → HasServed g cache input input old old before before cache
+  pub none_yet : OnlyNow g → (cache : Cache L) (input old : Option Bytes) (before : Bytes) → HasServed g cache input input old old before before cache
   none_yet only_now cache input old before = record { served = []; behind = here input; made = refl; row = row-none g cache only_now; batch = refl; written = gathered_none old before }
     where
       here : (input : Option Bytes) → IsBehind (¬ IsKnown g cache) cache.batch input input []
@@ -142,13 +133,13 @@ module _ {L : Type 0} (g : Ghosts L) where
   made_one cache after (Opened calls root) goes = subst (λ made. AreMade g cache made after) (sym (append-nil calls)) goes.0
   made_one cache after (Marked mark result) made = (after, made, refl)
 
-  row_one : OnlyNow → (cache after : Cache L) (one : Served) → Goes g cache one after → StepInRow g cache (calls_of (one ∷ [])) after
+  row_one : OnlyNow g → (cache after : Cache L) (one : Served) → Goes g cache one after → StepInRow g cache (calls_of (one ∷ [])) after
   row_one only_now cache after Nothing same = subst (StepInRow g cache []) (sym same) (row-none g cache only_now)
   row_one only_now cache after (Made call answer) made = row-one g cache after call answer made.step
   row_one only_now cache after (Opened calls root) goes = subst (λ made. StepInRow g cache made after) (sym (append-nil calls)) goes.1
   row_one only_now cache after (Marked mark result) made = row-one g cache after _ _ made.step
 
-  module _ (only_now : OnlyNow) (cache after : Cache L) (one : Served) (input rest old new : Option Bytes) (before waits : Bytes) (at : IsNextFor cache input rest one) (goes : Goes g cache one after) (batch : after.batch ≡ is_open_after cache.batch one) where
+  module _ (only_now : OnlyNow g) (cache after : Cache L) (one : Served) (input rest old new : Option Bytes) (before waits : Bytes) (at : IsNextFor cache input rest one) (goes : Goes g cache one after) (batch : after.batch ≡ is_open_after cache.batch one) where
     pub served_one : Gathered old new before waits (reply_to one ++ 10 ∷ []) → HasServed g cache input rest old new before waits after
     served_one wrote = record {
       served = one ∷ [];
@@ -187,7 +178,7 @@ module _ {L : Type 0} (g : Ghosts L) where
     served_then rest new waits after more = record {
       served = so.served ++ more.served;
       behind = behind_then (¬ IsKnown g cache) (¬ IsKnown g here) (known_then cache here (calls_of so.served) so.row) cache.batch here.batch input middle rest so.served more.served so.batch so.behind more.behind;
-      made = subst (λ calls. AreMade g cache calls after) (sym (calls_then so.served more.served)) (made_then cache here after (calls_of so.served) (calls_of more.served) so.made more.made);
+      made = subst (λ calls. AreMade g cache calls after) (sym (calls_then so.served more.served)) (made-then g cache here after (calls_of so.served) (calls_of more.served) so.made more.made);
       row = subst (λ calls. StepInRow g cache calls after) (sym (calls_then so.served more.served)) (row-then g cache here after (calls_of so.served) (calls_of more.served) so.row more.row);
       batch = more.batch ∙ ap (λ now. is_open_behind now more.served) so.batch ∙ sym (open_then cache.batch so.served more.served);
       written = subst (Gathered old new before waits) (sym (text_then so.served more.served)) (gathered_more old mid new before between waits (text_of so.served) (text_of more.served) so.written more.written);
@@ -197,7 +188,7 @@ module _ {L : Type 0} (g : Ghosts L) where
     lines_then new waits result after more = record {
       served = so.served ++ more.served;
       answers = answers_then (¬ IsKnown g cache) (¬ IsKnown g here) (known_then cache here (calls_of so.served) so.row) cache.batch here.batch input middle result so.served more.served so.batch so.behind more.answers;
-      made = subst (λ calls. AreMade g cache calls after) (sym (calls_then so.served more.served)) (made_then cache here after (calls_of so.served) (calls_of more.served) so.made more.made);
+      made = subst (λ calls. AreMade g cache calls after) (sym (calls_then so.served more.served)) (made-then g cache here after (calls_of so.served) (calls_of more.served) so.made more.made);
       row = subst (λ calls. StepInRow g cache calls after) (sym (calls_then so.served more.served)) (row-then g cache here after (calls_of so.served) (calls_of more.served) so.row more.row);
       batch = more.batch ∙ ap (λ now. is_open_behind now more.served) so.batch ∙ sym (open_then cache.batch so.served more.served);
       written = subst (AreGathered result old new before waits) (sym (text_then so.served more.served)) (gathered_then result old mid new before between waits (text_of so.served) (text_of more.served) so.written more.written);

@@ -10,7 +10,7 @@ use Rattle.sled_log.specs.declared.log.Log.{Ghosts}
 use Rattle.sled_pagecache.specs.Batches.{OpensBatch}
 use Rattle.sled_pagecache.specs.Cache.{Cache}
 use Rattle.sled_pagecache.specs.MadeLaws.{pin-made}
-use Rattle.sled_pagecache.specs.RowLaws.{row-one, row-then}
+use Rattle.sled_pagecache.specs.RowLaws.{OnlyNow, made-then, row-one, row-then}
 use Rattle.sled_pagecache.specs.Rows.{IsMade, StepInRow, AreMade}
 use Rattle.sled_pagecache.specs.Trees.{IsKnown}
 use Rattle.sled_pagecache.specs.declared.pagecache.call.Answer.TheVariants.{Cancelled}
@@ -26,7 +26,7 @@ use Rattle.sledpc.specs.Served.{AreGathered, CancelsOpen, HasServed, IsNext, IsP
 use Rattle.sledpc.specs.declared.script.run.RunError.{RunError}
 use Rattle.sledpc.specs.declared.script.run.RunError.TheVariants.{Read, Write, Memory}
 use Rattle.sledpc.specs.declared.script.run.Stop.TheVariants as stop
-use Rattle.sledpc.proofs.Answered.{IsNextFor, OnlyNow, made_then, served_one, broken_one, served_then, lines_then, batch_then}
+use Rattle.sledpc.proofs.Answered.{IsNextFor, served_one, broken_one, served_then, lines_then, batch_then}
 use Rattle.sledpc.proofs.Gathered.{prefix_more}
 
 -- nothing is behind nothing
@@ -65,10 +65,6 @@ closed_batch : (is_open : Bool) (asked : Mark) (answer : Result (Unit {0}) Error
 closed_batch is_open mark.Pin answer some turns = absurd (false≢true (sym turns ∙ some))
 closed_batch is_open mark.Seal answer some turns = refl
 closed_batch is_open mark.Cancel answer some turns = refl
-
--- what holds of a cache holds of the same one by another name
-pub also_of : {L : Type 0} (P : Cache L → Type 0) (one : Cache L) → P one → {other : Cache L} → one ≡ other → P other
-also_of P one holds same = subst P same holds
 
 module _ {L : Type 0} (g : Ghosts L) where
   marked_next : (cache : Cache L) (input rest : Option Bytes) (asked : Mark) (result : Result (Unit {0}) Error) → IsNext input rest (mark_word asked) → MayMark cache.batch asked → IsNextFor g cache input rest (Marked asked result)
@@ -139,7 +135,7 @@ module _ {L : Type 0} (g : Ghosts L) where
       answers = answers;
       closing = (Cancel, Cancelled answer) ∷ [];
       closes = subst (λ now. AreClosing now ((Cancel, Cancelled answer) ∷ [])) (sym some ∙ batch) (answer, refl);
-      made = made_then g cache left after (calls_of served) ((Cancel, Cancelled answer) ∷ []) made (after, cancelled, refl);
+      made = made-then g cache left after (calls_of served) ((Cancel, Cancelled answer) ∷ []) made (after, cancelled, refl);
       row = row-then g cache left after (calls_of served) ((Cancel, Cancelled answer) ∷ []) row (row-one g left after Cancel (Cancelled answer) cancelled.step);
       closed = none;
       written = written;

@@ -5,6 +5,7 @@ use Rattle.sled_base.specs.Order.{Bytes}
 use Rattle.sled_log.specs.declared.log.Log.{Ghosts}
 use Rattle.sled_pagecache.specs.Cache.{Cache}
 use Rattle.sled_pagecache.specs.Trees.{IsKnown}
+use Rattle.sled_pagecache.specs.RowLaws.{OnlyNow}
 use Rattle.sledpc.specs.Commands.{IsCommand, mark_word}
 use Rattle.sledpc.specs.declared.script.command.Command.{Command}
 use Rattle.sledpc.specs.declared.script.command.Command.TheVariants as command
@@ -21,7 +22,7 @@ use Rattle.sledpc.specs.Settings.{longest_line}
 use Rattle.sledpc.specs.declared.script.run.RunError.{RunError}
 use Rattle.sledpc.specs.declared.script.run.RunError.TheVariants.{Read, Write, Memory}
 use Rattle.sledpc.specs.declared.script.run.Stop.TheVariants as stop
-use Rattle.sledpc.proofs.Answered.{IsNextFor, OnlyNow, served_one, broken_one, served_then, lines_then, flushed, gives_up}
+use Rattle.sledpc.proofs.Answered.{IsNextFor, served_one, broken_one, served_then, lines_then, flushed, gives_up}
 use Rattle.sledpc.proofs.Gathered.{gathered_more, prefix_more}
 use Rattle.sledpc.proofs.LinesOf.{has_line, no_length}
 

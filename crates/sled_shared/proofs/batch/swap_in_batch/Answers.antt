@@ -1,7 +1,8 @@
 use Rattle.std.proofs.Common.{rules, Ok, Err}
 use Rattle.sled_base.specs.Errors.{error_of}
 use Rattle.sled_pagecache.specs.Batches.{OpensBatch}
-use Rattle.sled_shared.proofs.Batching.{BatchMade, also_of, batch-cancelled, batch-sealed, batch-unopened, batch-unsealed, ended-none}
+use Rattle.sled_pagecache.specs.RowLaws.{also-of}
+use Rattle.sled_shared.proofs.Batching.{BatchMade, batch-cancelled, batch-sealed, batch-unopened, batch-unsealed, ended-none}
 use Rattle.sled_shared.proofs.batch.swap_in_batch.Goals as goal
 
 pub returns-in-Err-clause-made : goal.returns-in-Err-clause-made
@@ -17,7 +18,7 @@ returns-in-Ok-seal_batch-clause-made g c =
     let mid = c.swap_all.new.cache in
     let last = c.seal_batch.new.self.0 in
     let (inner, are, made) = c.in-Ok-swap_all.ensures.made in
-    also_of (λ now. BatchMade g.L.Log c.args.copies.items (Ok c.swap_all.new.answers.items) c.args.cache.now now) last
+    also-of (λ now. BatchMade g.L.Log c.args.copies.items (Ok c.swap_all.new.answers.items) c.args.cache.now now) last
     (batch-sealed g.L.Log c.args.copies.items c.swap_all.new.answers.items inner c.args.cache.now pinned lent mid last c.in-Ok.ensures.pinned c.cache.ensures.value are made c.in-Ok-seal_batch.ensures)
     (search rules)
 
@@ -28,7 +29,7 @@ returns-in-Err-seal_batch-clause-made g c =
     let mid = c.swap_all.new.cache in
     let last = c.seal_batch.new.self.0 in
     let (inner, are, made) = c.in-Ok-swap_all.ensures.made in
-    also_of (λ now. BatchMade g.L.Log c.args.copies.items (Err (error_of c.refusal_of-in-Err-seal_batch.result, c.swap_all.new.answers.items)) c.args.cache.now now) last
+    also-of (λ now. BatchMade g.L.Log c.args.copies.items (Err (error_of c.refusal_of-in-Err-seal_batch.result, c.swap_all.new.answers.items)) c.args.cache.now now) last
     (rw c.refusal_of-in-Err-seal_batch.ensures (batch-unsealed g.L.Log c.args.copies.items c.swap_all.new.answers.items inner c.in-Err-seal_batch.e c.args.cache.now pinned lent mid last c.in-Ok.ensures.pinned c.cache.ensures.value are made c.in-Err-seal_batch.ensures))
     (search rules)
 
@@ -39,7 +40,7 @@ returns-in-Err-swap_all-clause-made g c =
     let mid = c.swap_all.new.cache in
     let last = c.cancel.new.self.0 in
     let (inner, are, made) = c.in-Err-swap_all.ensures.made in
-    also_of (λ now. BatchMade g.L.Log c.args.copies.items (Err (error_of c.in-Err-swap_all.refusal, c.swap_all.new.answers.items)) c.args.cache.now now) last
+    also-of (λ now. BatchMade g.L.Log c.args.copies.items (Err (error_of c.in-Err-swap_all.refusal, c.swap_all.new.answers.items)) c.args.cache.now now) last
     (batch-cancelled g.L.Log c.args.copies.items c.swap_all.new.answers.items inner (error_of c.in-Err-swap_all.refusal) c.cancel.result c.args.cache.now pinned lent mid last c.in-Ok.ensures.pinned c.cache.ensures.value are made c.cancel.ensures)
     (search rules)
 

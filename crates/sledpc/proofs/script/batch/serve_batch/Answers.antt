@@ -5,7 +5,8 @@ use Rattle.sled_pagecache.specs.Batches.{OpensBatch}
 use Rattle.sledpc.specs.Served.{ServesAll, ServesBatch}
 use Rattle.sledpc.specs.declared.script.command.Mark.TheVariants as mark
 use Rattle.sledpc.specs.declared.script.run.RunError.TheVariants.{Write}
-use Rattle.sledpc.proofs.Batches.{also_of, batch_closed, batch_untold, cancelled_all, closed_all, is_pinned, mark_done, mark_stops, opened_batch}
+use Rattle.sled_pagecache.specs.RowLaws.{also-of}
+use Rattle.sledpc.proofs.Batches.{batch_closed, batch_untold, cancelled_all, closed_all, is_pinned, mark_done, mark_stops, opened_batch}
 use Rattle.sled_pagecache.specs.MadeLaws.{cancel-made, pin-made}
 use Rattle.sledpc.proofs.script.batch.serve_batch.Goals as goal
 
@@ -48,7 +49,7 @@ returns-in_err-reply_mark-in-Ok-At g c =
     let pinned = is_pinned g.L.Log c.args.cache.now c.in-Ok.guard.cache.now c.cache.result.now c.cache.ensures.value c.in-Ok.ensures.pinned in
     let told = err_from_is_err_and c.from_residual-in_err-reply_mark-in-Ok-At.result c.from_residual-in_err-reply_mark-in-Ok-At.ensures.1 in
     λ input at. rw (told.1, told.2)
-    (also_of (λ now. ServesAll g.L.Log c.args.cache.now input (contents c.args.writer.now) (contents c.reply_mark-in-Ok-At.new.writer) c.args.piece.now c.reply_mark-in-Ok-At.new.piece (Err Write) now) last
+    (also-of (λ now. ServesAll g.L.Log c.args.cache.now input (contents c.args.writer.now) (contents c.reply_mark-in-Ok-At.new.writer) c.args.piece.now c.reply_mark-in-Ok-At.new.piece (Err Write) now) last
     (batch_untold g.L.Log g.met.L.Log.only_now c.args.cache.now c.serve_inside.new.cache last input (read c.serve_inside.new.reader) (contents c.args.writer.now) (contents c.serve_inside.new.writer) (contents c.reply_mark-in-Ok-At.new.writer) c.args.piece.now c.serve_inside.new.piece c.reply_mark-in-Ok-At.new.piece
     c.in-Ok-At.mark c.in-Ok-At.is_followed c.close-closed.result (c.in-Ok-At.ensures.batch ∙ pinned.batch) c.close-closed.ensures.made c.close-closed.ensures.batch (rw c.in-Ok-At.field-0-is at c.in-Ok-At.ensures.serves c.args.cache.now input pinned at) c.in_err-reply_mark-in-Ok-At.ensures)
     (search rules))
@@ -60,7 +61,7 @@ returns-in_ok-reply_mark-in-Ok-At g c =
     let last = c.close-closed.new.guard.0 in
     let pinned = is_pinned g.L.Log c.args.cache.now c.in-Ok.guard.cache.now c.cache.result.now c.cache.ensures.value c.in-Ok.ensures.pinned in
     λ input at.
-    also_of (λ now. ServesBatch g.L.Log c.args.cache.now input (read c.serve_inside.new.reader) (contents c.args.writer.now) (contents c.reply_mark-in-Ok-At.new.writer) c.args.piece.now c.reply_mark-in-Ok-At.new.piece (Ok true) now) last (
+    also-of (λ now. ServesBatch g.L.Log c.args.cache.now input (read c.serve_inside.new.reader) (contents c.args.writer.now) (contents c.reply_mark-in-Ok-At.new.writer) c.args.piece.now c.reply_mark-in-Ok-At.new.piece (Ok true) now) last (
       batch_closed g.L.Log g.met.L.Log.only_now c.args.cache.now c.serve_inside.new.cache last input (read c.serve_inside.new.reader) (contents c.args.writer.now) (contents c.serve_inside.new.writer) (contents c.reply_mark-in-Ok-At.new.writer) c.args.piece.now c.serve_inside.new.piece c.reply_mark-in-Ok-At.new.piece
           c.in-Ok-At.mark c.in-Ok-At.is_followed c.close-closed.result (c.in-Ok-At.ensures.batch ∙ pinned.batch) c.close-closed.ensures.made c.close-closed.ensures.batch (rw c.in-Ok-At.field-0-is at c.in-Ok-At.ensures.serves c.args.cache.now input pinned at) c.in_ok-reply_mark-in-Ok-At.ensures,
       c.close-closed.ensures.batch,
@@ -74,7 +75,7 @@ returns-in-Ok-End g c =
     let last = c.cancel.new.self.0 in
     let pinned = is_pinned g.L.Log c.args.cache.now c.in-Ok.guard.cache.now c.cache.result.now c.cache.ensures.value c.in-Ok.ensures.pinned in
     λ input at.
-    also_of (λ now. ServesAll g.L.Log c.args.cache.now input (contents c.args.writer.now) (contents c.serve_inside.new.writer) c.args.piece.now c.serve_inside.new.piece (Ok tt) now) last
+    also-of (λ now. ServesAll g.L.Log c.args.cache.now input (contents c.args.writer.now) (contents c.serve_inside.new.writer) c.args.piece.now c.serve_inside.new.piece (Ok tt) now) last
     (cancelled_all g.L.Log c.args.cache.now c.serve_inside.new.cache last input (contents c.args.writer.now) (contents c.serve_inside.new.writer) c.args.piece.now c.serve_inside.new.piece (Ok tt) c.cancel.result (c.in-Ok-End.ensures.batch ∙ pinned.batch)
     (cancel-made g.L.Log c.serve_inside.new.cache last c.cancel.result c.cancel.ensures) c.cancel.ensures.closed (rw c.in-Ok-End.field-0-is at c.in-Ok-End.ensures.serves c.args.cache.now input pinned at))
     (search rules)
@@ -85,7 +86,7 @@ returns-in-Err-serve_inside g c =
     let last = c.cancel-in-Err-serve_inside.new.self.0 in
     let pinned = is_pinned g.L.Log c.args.cache.now c.in-Ok.guard.cache.now c.cache.result.now c.cache.ensures.value c.in-Ok.ensures.pinned in
     λ input at.
-    also_of (λ now. ServesAll g.L.Log c.args.cache.now input (contents c.args.writer.now) (contents c.serve_inside.new.writer) c.args.piece.now c.serve_inside.new.piece (Err c.in-Err-serve_inside.error) now) last
+    also-of (λ now. ServesAll g.L.Log c.args.cache.now input (contents c.args.writer.now) (contents c.serve_inside.new.writer) c.args.piece.now c.serve_inside.new.piece (Err c.in-Err-serve_inside.error) now) last
     (cancelled_all g.L.Log c.args.cache.now c.serve_inside.new.cache last input (contents c.args.writer.now) (contents c.serve_inside.new.writer) c.args.piece.now c.serve_inside.new.piece (Err c.in-Err-serve_inside.error) c.cancel-in-Err-serve_inside.result (c.in-Err-serve_inside.ensures.batch ∙ pinned.batch)
     (cancel-made g.L.Log c.serve_inside.new.cache last c.cancel-in-Err-serve_inside.result c.cancel-in-Err-serve_inside.ensures) c.cancel-in-Err-serve_inside.ensures.closed (c.in-Err-serve_inside.ensures.serves c.args.cache.now input pinned at))
     (search rules)
