@@ -148,15 +148,6 @@ module _ (clock later stable : ℕ) (items : List LogItem) (le : clock ≤ later
       ∙ map-append event_of (drop stable items) (e ∷ [])
       ∙ ap (λ (l : List (Event Entry)). l ++ event_of e ∷ []) (sym (pending_events clock stable items order))
 
-  -- a new item adds its event
-  pub adds-push : (e : LogItem) → is_waiting later e ≡ true → Adds effect_of_entry (state_at clock items) (event_of e ∷ []) (state_at later (items ++ e ∷ []))
-  adds-push e waits = record {
-    cut = 0;
-    fair = IsFair-none _;
-    stable = stable-push e waits;
-    pending = pending-push e waits;
-  }
-
 map-settled : (moment : ℕ) (xs : List LogItem) → map event_of (map (settled_at moment) xs) ≡ map event_of xs
 map-settled moment xs = map-map_same event_of (settled_at moment) (λ x. refl) xs
 
@@ -221,42 +212,6 @@ module _ (clock later stable : ℕ) (items : List LogItem) (lt : clock < later) 
             ∙ ap (chains_after effect_of_entry old.stable) (sym is ∙ sym (take_all (length events) events (omega arith)));
         pending = pending-settled ∙ sym (drop_all (length events) events (omega arith));
       }
-
--- what a stop at a moment of a call leaves, where nothing but the end of the call is a new moment
-pub stops : {L : Type 0} (clock_of : L → ℕ) (items_of : L → List LogItem) (old new : L) (events : List (Event Entry))
-    → clock_of old ≤ clock_of new
-    → clock_of new ≤ clock_of old + 1
-    → ((moment : ℕ) → moment ≤ clock_of old → state_at moment (items_of new) ≡ state_at moment (items_of old))
-    → Adds effect_of_entry (state_at (clock_of old) (items_of old)) events (state_at (clock_of new) (items_of new))
-    → CrashesSinceLeave clock_of (λ log t pages. WasLeft (clock_of log) (items_of log) t pages) old new (IsLeft effect_of (unplaced_state (state_at (clock_of old) (items_of old))) (unplaced_events events))
-stops {L} clock_of items_of old new events later most same adds =
-    let before : LogState Message = unplaced_state (state_at (clock_of old) (items_of old)) in
-    let after : LogState Message = unplaced_state (state_at (clock_of new) (items_of new)) in
-    let comes : List (Event Message) = unplaced_events events in
-    let P : List Messages → Type 0 = IsLeft effect_of before comes in
-    let of_new : (at : ℕ) (c : List Messages) → at ≡ clock_of new → IsLeft effect_of (unplaced_state (state_at at (items_of new))) [] c → P c = λ at c is left.
-    subst (λ (l : List (Event Message)). IsLeft effect_of before l c) (append-nil comes)
-    (IsLeft-behind effect_of before after comes [] c (Adds-unplaced (state_at (clock_of old) (items_of old)) (state_at (clock_of new) (items_of new)) events adds) (subst (λ m. IsLeft effect_of (unplaced_state (state_at m (items_of new))) [] c) is left)) in
-    let of_old : (at : ℕ) (c : List Messages) → at ≤ clock_of old → IsLeft effect_of (unplaced_state (state_at at (items_of new))) [] c → IsLeft effect_of (unplaced_state (state_at at (items_of old))) [] c = λ at c le left.
-    subst (λ (s : LogState Entry). IsLeft effect_of (unplaced_state s) [] c) (same at le) left in
-    record {
-      later = later;
-      each = λ c left.
-          let from = left.from in
-          let to = left.to in
-          ⊎_elim (λ lt. of_new left.at c (omega arith) left.left)
-          (λ le. IsLeft-more effect_of before [] comes c (subst (λ m. IsLeft effect_of (unplaced_state (state_at m (items_of old))) [] c) (omega arith) (of_old left.at c le left.left)))
-          (cases_lt (clock_of old) left.at);
-      before = λ t c le left.
-          let from = left.from in
-          let to = left.to in
-          ⊎_elim (λ lt. inr (of_new left.at c (omega arith) left.left))
-          (λ le. inl (record { at = left.at; from = from; to = le; left = of_old left.at c le left.left }))
-          (cases_lt (clock_of old) left.at);
-      kept = λ t c le left.
-          let to = left.to in
-          record { at = left.at; from = left.from; to = omega arith; left = subst (λ (s : LogState Entry). IsLeft effect_of (unplaced_state s) [] c) (sym (same left.at to)) left.left };
-    }
 
 log_size-settled : (moment : ℕ) (xs : List LogItem) → log_size (map (settled_at moment) xs) ≡ log_size xs
 log_size-settled moment xs =

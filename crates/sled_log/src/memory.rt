@@ -1,15 +1,16 @@
 //! The log in memory.
 
-ghost use Rattle.std.specs.Prelude.{◌≡◌, ◌+◌, ◌≤◌, ◌<◌, ◌↔◌, [], ◌∷◌, ◌++◌, length, take, drop, map, true, false, IsTrue, vec_len, vec_capacity};
+ghost use Rattle.std.specs.Prelude.{⊤, ◌≡◌, ◌+◌, ◌≤◌, ◌<◌, ◌↔◌, [], ◌∷◌, ◌++◌, length, take, drop, map, true, false, IsTrue, IsOk, IfErr, vec_len, vec_capacity};
 ghost use Rattle.sled_log.specs.Batches.{is_open, open_after, IsFair};
-ghost use Rattle.sled_log.specs.Calls.{one_more};
+ghost use Rattle.sled_log.specs.Calls.{Called, one_more};
 ghost use Rattle.sled_log.specs.Chains.{chains_after};
 ghost use Rattle.sled_log.specs.Items.{event_of, event_of_mark, size_of_mark, log_size, IsInOrder, are_placed};
 ghost use Rattle.sled_log.specs.Limits.{size_limit};
-ghost use Rattle.sled_log.specs.Messages.{effect_of, effect_of_entry};
-ghost use Rattle.sled_log.specs.LogState.{LogState, Adds, IsLeft, CrashesSinceLeave, unplaced_state};
+ghost use Rattle.sled_log.specs.Messages.{effect_of_entry};
+ghost use Rattle.sled_log.specs.LogState.{LogState, unplaced_state};
 ghost use Rattle.sled_log.specs.Stored.{are_within, kept_items, kept_mark};
 ghost use Rattle.sled_log.specs.UnplacedLaws.{unplaced_events};
+ghost use Rattle.sled_log.specs.declared.log.LogError.TheVariants.{Memory};
 
 mod calls;
 mod cuts;
@@ -18,10 +19,12 @@ mod item;
 mod keeping;
 mod pages;
 
+use crate::LogError;
 use cuts::is_fair_cut;
 use finding::behind;
 use item::{LogItem, Mark, NEVER};
-use keeping::{keep_first, push};
+use keeping::{keep_first, push, room_for};
+use sled_base::growth::reserve;
 use std::alloc::Global;
 
 /// A log in memory. Each item keeps when it came and when it became durable, so the crash states of each moment are known
@@ -58,7 +61,7 @@ pub struct MemLog {
 }
 
 impl MemLog {
-    ghost use Rattle.sled_log.specs.Memory.{kept_in, state_of, clock_of, might_have_left, counts_of, settings_of, size_of, stable_size_of, kept_size_of, Remembers};
+    ghost use Rattle.sled_log.specs.Memory.{kept_in, state_of, clock_of, might_have_left, counts_of, settings_of, size_of, stable_size_of, kept_size_of, MovesNothing, Remembers};
 
     /// An empty log. It allocates nothing.
     ///
@@ -136,21 +139,19 @@ impl MemLog {
         }
     }
 
-    // Adds an item with its payload, for which there is room. `batch` says whether a batch is open then.
-    fn add(&mut self, mark: Mark, payload: &[u8], batch: bool)
-        requires room { vec_len self.old.items < vec_capacity self.old.items }
-        requires more_room { batch ≡ true → vec_len self.old.items + 1 < vec_capacity self.old.items }
-        requires payload_room { vec_len self.old.bytes + length payload.now ≤ vec_capacity self.old.bytes }
+    // Adds an item with its payload. `batch` says whether a batch is open then, for whose closing mark it keeps room. So a mark
+    // that closes one is never refused.
+    fn add(&mut self, mark: Mark, payload: &[u8], batch: bool) -> Result<(), LogError>
         requires fits { self.old.size + size_of_mark (kept_mark self.old.blob_limit self.old.size payload.now mark) < size_limit }
         requires batch { batch ≡ open_after self.old.batch (event_of_mark (kept_mark self.old.blob_limit self.old.size payload.now mark) ∷ []) }
-        ensures adds { Adds effect_of_entry (state_of self.old) (event_of_mark (kept_mark self.old.blob_limit self.old.size payload.now mark) ∷ []) (state_of self.new) }
-        ensures stop { CrashesSinceLeave clock_of might_have_left self.old self.new (IsLeft effect_of (unplaced_state (state_of self.old)) (unplaced_events (event_of_mark (kept_mark self.old.blob_limit self.old.size payload.now mark) ∷ []))) }
-        ensures reads { self.new.reads ≡ self.old.reads }
-        ensures settings { settings_of self.new ≡ settings_of self.old }
-        ensures stable { (state_of self.new).stable ≡ (state_of self.old).stable }
-        ensures pending { (state_of self.new).pending ≡ (state_of self.old).pending ++ event_of_mark (kept_mark self.old.blob_limit self.old.size payload.now mark) ∷ [] }
+        ensures called { Called ⊤ state_of clock_of might_have_left counts_of self.old self.new self.old.reads (λ _. event_of_mark (kept_mark self.old.blob_limit self.old.size payload.now mark) ∷ []) (unplaced_events (event_of_mark (kept_mark self.old.blob_limit self.old.size payload.now mark) ∷ [])) result }
+        ensures moves { MovesNothing self.old self.new (λ _. event_of_mark (kept_mark self.old.blob_limit self.old.size payload.now mark) ∷ []) result }
         ensures past { Remembers self.old self.new }
+        ensures only { IfErr result (λ e. e ≡ Memory) }
+        ensures always { is_open (state_of self.old).pending ≡ true → batch ≡ false → payload.now ≡ [] → IsOk result }
     {
+        reserve(&mut self.items, room_for(batch))?;
+        reserve(&mut self.bytes, payload.len())?;
         self.clock += 1;
         self.size += mark.size(payload);
         self.batch = batch;
@@ -162,6 +163,7 @@ impl MemLog {
             settled: NEVER,
         };
         push(&mut self.items, &mut self.bytes, item, payload);
+        Ok(())
     }
 
     // Counts a read.

@@ -6,7 +6,7 @@ ghost use Rattle.sled_log.specs.Batches.{is_open};
 ghost use Rattle.sled_log.specs.Calls.{Called, one_more};
 ghost use Rattle.sled_log.specs.Chains.{is_chain};
 ghost use Rattle.sled_log.specs.Events.{Change, Pin, Seal, Cancel};
-ghost use Rattle.sled_log.specs.Items.{state_at, WasLeft, left_now, left_earlier, stable_left, pointer_at};
+ghost use Rattle.sled_log.specs.Items.{left_now, left_earlier, stable_left, pointer_at};
 ghost use Rattle.sled_log.specs.Limits.{head_size, size_limit};
 ghost use Rattle.sled_log.specs.Messages.{effect_of_entry, message, placed};
 ghost use Rattle.sled_log.specs.Pages.{IsPageState, IsSized, IsAt, IsRead};
@@ -18,7 +18,6 @@ use super::item::{HEAD, Mark};
 use super::keeping::settle_from;
 use super::pages::{apply, said_at};
 use crate::{Log, LogError, PageState};
-use sled_base::growth::reserve;
 use sled_base::{DiskPtr, Lsn, MessageKind, PageId};
 
 const MAX_SIZE: u64 = i64::MAX as u64;
@@ -28,19 +27,19 @@ impl Log for MemLog {
 
     ghost tells = { ⊤ };
 
-    ghost state = { λ log. state_at log.clock (kept_in log) };
+    ghost state = { state_of };
 
-    ghost moment = { λ log. log.clock };
+    ghost moment = { clock_of };
 
-    ghost left_since = { λ log t pages. WasLeft log.clock (kept_in log) t pages };
+    ghost left_since = { might_have_left };
 
-    ghost counts = { λ log. record { reads = log.reads; failed_reads = 0; write_faults = 0 } };
+    ghost counts = { counts_of };
 
-    ghost bytes = { λ log. size_of log };
+    ghost bytes = { size_of };
 
     ghost stable_bytes = { λ log. pos (stable_size_of log) };
 
-    ghost to_write = { λ log. pending_size_of log };
+    ghost to_write = { pending_size_of };
 
     ghost is_full = { λ log n. size_limit ≤ size_of log + head_size + n };
 
@@ -73,10 +72,8 @@ impl Log for MemLog {
         if room < HEAD || room - HEAD < len {
             return Err(LogError::Full);
         }
-        reserve(&mut self.items, 2)?;
-        reserve(&mut self.bytes, payload.len())?;
         let said = said_at(self.blob_limit, self.size, HEAD + len);
-        self.add(Mark::Change { kind, pid }, payload, self.batch);
+        self.add(Mark::Change { kind, pid }, payload, self.batch)?;
         Ok(said)
     }
 
@@ -127,9 +124,7 @@ impl Log for MemLog {
         ensures only { IfErr result (λ e. e ≡ Memory) }
         ensures past { Remembers self.old self.new }
     {
-        reserve(&mut self.items, 2)?;
-        self.add(Mark::Pin, &[], true);
-        Ok(())
+        self.add(Mark::Pin, &[], true)
     }
 
     // It is never refused.
@@ -140,8 +135,7 @@ impl Log for MemLog {
         ensures always { IsOk result }
         ensures past { Remembers self.old self.new }
     {
-        self.add(Mark::Seal, &[], false);
-        Ok(())
+        self.add(Mark::Seal, &[], false)
     }
 
     // It is never refused.
@@ -152,8 +146,7 @@ impl Log for MemLog {
         ensures always { IsOk result }
         ensures past { Remembers self.old self.new }
     {
-        self.add(Mark::Cancel, &[], false);
-        Ok(())
+        self.add(Mark::Cancel, &[], false)
     }
 
     fn recover(&mut self) -> Result<Vec<PageState>, LogError>

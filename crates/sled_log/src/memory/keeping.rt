@@ -1,9 +1,18 @@
 // How the items of the log in memory are added and become stable, and what a crash does to them.
 
-ghost use Rattle.std.specs.Prelude.{◌≡◌, ◌≤◌, ◌<◌, ◌+◌, [], ◌∷◌, ◌++◌, length, take, map, vec_len, vec_capacity};
+ghost use Rattle.std.specs.Prelude.{◌≡◌, ◌≤◌, ◌<◌, ◌+◌, [], ◌∷◌, ◌++◌, length, take, map, true, false, vec_len, vec_capacity};
 ghost use Rattle.sled_log.specs.Stored.{settles_at, settle_all, restarts};
 
 use super::item::LogItem;
+
+// How many items there has to be room for, where one is added: behind one that leaves a batch open comes its closing mark.
+pub(super) fn room_for(batch: bool) -> usize
+    ensures one { 1 ≤ result }
+    ensures open { batch ≡ true → 2 ≤ result }
+    ensures closed { batch ≡ false → result ≡ 1 }
+{
+    if batch { 2 } else { 1 }
+}
 
 // Adds an item behind the others, and its payload behind theirs. There is room.
 pub(super) fn push(items: &mut Vec<LogItem>, bytes: &mut Vec<u8>, item: LogItem, payload: &[u8])

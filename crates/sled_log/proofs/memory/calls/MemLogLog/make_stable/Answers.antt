@@ -77,7 +77,7 @@ pub returns-then-self-len-clause-called : goal.returns-then-self-len-clause-call
 returns-then-self-len-clause-called c =
     let self = c.args.self.now in
     let is = settled_is self c.settle_from.new.items.items (let many = c.if-self-len.true in let one = c.len.ensures in let ok = self.items.ok in omega arith) c.settle_from.ensures in
-    called_settled _ self _ refl is c.requires.closed refl
+    called_settled self _ refl is _ c.requires.closed refl
 
 pub returns-then-self-len-clause-past : goal.returns-then-self-len-clause-past
 returns-then-self-len-clause-past c =

@@ -33,7 +33,7 @@ is-ok : (c : goal.After-ok_or) → c.ok_or.result ≡ Ok (found c).0
 is-ok c = c.ok_or.ensures.value ∙ ap (λ (o : Option (MessageKind × Vec ℕ)). ok_or {E = LogError} o Corruption) (found c).1
 
 pub returns-clause-called : goal.returns-clause-called
-returns-clause-called c = rw (is-ok c) (called_same _ c.args.self.now _ _ c.count_read.ensures.clock c.count_read.ensures.kept c.count_read.ensures.reads)
+returns-clause-called c = rw (is-ok c) (called_same c.args.self.now _ c.count_read.ensures.clock c.count_read.ensures.kept _ _ c.count_read.ensures.reads)
 
 pub returns-clause-found : goal.returns-clause-found
 returns-clause-found c = rw (is-ok c) (λ k d lt at.

@@ -20,7 +20,7 @@ use Rattle.sled_log.proofs.memory.calls.MemLogLog.recover.Goals as goal
 pub returns-in_err-apply-clause-called : goal.returns-in_err-apply-clause-called
 returns-in_err-apply-clause-called c =
     let p = err_from_is_err_and c.from_residual.result c.from_residual.ensures.1 in
-    rw (p.1, p.2) (called_memory c.args.self.now c.args.self.now _ _ [] refl refl refl)
+    rw (p.1, p.2) (called_memory c.args.self.now c.args.self.now refl refl _ _ [] refl)
 
 pub loop-item-preserved : goal.loop-item-preserved
 loop-item-preserved c =
