@@ -18,25 +18,13 @@ abbrev pub Shows : List Chain → List PageState → Type 0
 Shows chains pages = AllZip IsPageState chains pages
 
 -- a new chain
-begun-shows : (chains : List Chain) (pages : List PageState) (id : ℕ) (entry : Entry) (page : PageState) → Shows chains pages → IsPageState (entry ∷ []) page
-    → Shows (begun effect_of_entry chains id entry) (cond (id == length pages) (pages ++ page ∷ []) (slice_set pages id page))
-begun-shows chains pages id entry page h r =
-    subst (λ n. Shows (begun effect_of_entry chains id entry) (cond (id == n) (pages ++ page ∷ []) (slice_set pages id page))) (sym (AllZip-long IsPageState chains pages h))
-    (by (id == length chains))
+pub begun-shows : (kind : LogKind) (chains : List Chain) (pages : List PageState) (id : ℕ) (entry : Entry) (page : PageState) → changed effect_of_entry kind chains id entry ≡ begun effect_of_entry chains id entry
+    → Shows chains pages → IsPageState (entry ∷ []) page → Shows (changed effect_of_entry kind chains id entry) (cond (id == length pages) (pages ++ page ∷ []) (slice_set pages id page))
+begun-shows kind chains pages id entry page is h r = rw (is, AllZip-long IsPageState chains pages h) (by (id == length chains))
   where
     by : (b : Bool) → Shows (cond b (chains ++ (entry ∷ []) ∷ []) (slice_set chains id (entry ∷ []))) (cond b (pages ++ page ∷ []) (slice_set pages id page))
     by true = zip-append IsPageState chains pages ((entry ∷ []) ∷ []) (page ∷ []) h (r, tt)
     by false = zip-set IsPageState id chains pages (entry ∷ []) page h r
-
-pub freed-shows : (kind : LogKind) (chains : List Chain) (pages : List PageState) (id : ℕ) (entry : Entry) (page : PageState) → kinds.Free ≡ kind → Shows chains pages → IsPageState (entry ∷ []) page
-    → Shows (changed effect_of_entry kind chains id entry) (cond (id == length pages) (pages ++ page ∷ []) (slice_set pages id page))
-freed-shows kind chains pages id entry page is h r =
-    subst (λ k. Shows (changed effect_of_entry k chains id entry) (cond (id == length pages) (pages ++ page ∷ []) (slice_set pages id page))) is (begun-shows chains pages id entry page h r)
-
-pub replaced-shows : (kind : LogKind) (chains : List Chain) (pages : List PageState) (id : ℕ) (entry : Entry) (page : PageState) → kinds.Replace ≡ kind → Shows chains pages → IsPageState (entry ∷ []) page
-    → Shows (changed effect_of_entry kind chains id entry) (cond (id == length pages) (pages ++ page ∷ []) (slice_set pages id page))
-replaced-shows kind chains pages id entry page is h r =
-    subst (λ k. Shows (changed effect_of_entry k chains id entry) (cond (id == length pages) (pages ++ page ∷ []) (slice_set pages id page))) is (begun-shows chains pages id entry page h r)
 
 -- a link on a page that is there
 pub linked-shows : (kind : LogKind) (chains : List Chain) (pages : List PageState) (id : ℕ) (entry : Entry) (page : PageState) → kinds.Link ≡ kind → Shows chains pages

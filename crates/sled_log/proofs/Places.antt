@@ -9,21 +9,27 @@ use Rattle.sled_log.specs.Kept.{KeptChange as Change}
 use Rattle.sled_log.specs.Kept.{LogItem}
 use Rattle.sled_log.specs.Kept as kept
 use Rattle.sled_log.specs.Limits.{head_size}
-use Rattle.sled_log.specs.Items.{size_of_mark, log_size, stands_at, is_placed, are_placed, settled_at, all_settled, restarted}
+use Rattle.sled_log.specs.Items.{size_of_mark, log_size, stands_at, is_placed, are_placed, settled_at, all_settled}
 
 log_size-cons : (item : LogItem) (items : List LogItem) → log_size (item ∷ items) ≡ size_of_mark item.mark + log_size items
 log_size-cons item items = sum_by-cons (λ (item : LogItem). size_of_mark item.mark) item items
+
+-- what is known of the first item
+first-placed : (from : ℕ) (x : LogItem) (items : List LogItem) → are_placed from (x ∷ items) ≡ true
+    → (is_placed from x ≡ true) × (stands_at from x.mark ≡ true) × (x.end ≡ from + size_of_mark x.mark) × (are_placed x.end items ≡ true)
+first-placed from x items all =
+    let a = and_parts (is_placed from x) (are_placed x.end items) all in
+    let b = and_parts (stands_at from x.mark) (x.end == from + size_of_mark x.mark) a.0 in
+    (a.0, b.0, eqb-true x.end (from + size_of_mark x.mark) b.1, a.1)
 
 -- an item at the end of all others
 pub placed-push : (from : ℕ) (items : List LogItem) (item : LogItem) → are_placed from items ≡ true → is_placed (from + log_size items) item ≡ true → are_placed from (items ++ item ∷ []) ≡ true
 placed-push from [] item all last = and_from (is_placed from item) true (subst (λ n. is_placed n item ≡ true) (let e : from + 0 ≡ from = omega arith in e) last) refl
 placed-push from (x ∷ items) item all last =
-    let a = and_parts (is_placed from x) (are_placed x.end items) all in
-    let b = and_parts (stands_at from x.mark) (x.end == from + size_of_mark x.mark) a.0 in
-    let end = eqb-true x.end (from + size_of_mark x.mark) b.1 in
+    let a = first-placed from x items all in
     let size = log_size-cons x items in
     and_from (is_placed from x) (are_placed x.end (items ++ item ∷ [])) a.0
-    (placed-push x.end items item a.1 (subst (λ n. is_placed n item ≡ true) (let e : from + log_size (x ∷ items) ≡ x.end + log_size items = omega arith in e) last))
+    (placed-push x.end items item a.3 (subst (λ n. is_placed n item ≡ true) (let e : from + log_size (x ∷ items) ≡ x.end + log_size items = omega arith in e) last))
 
 pub placed-take : (from n : ℕ) (items : List LogItem) → are_placed from items ≡ true → are_placed from (take n items) ≡ true
 placed-take from zero items all = refl
@@ -32,20 +38,13 @@ placed-take from (suc n) (x ∷ items) all =
     let a = and_parts (is_placed from x) (are_placed x.end items) all in
     and_from (is_placed from x) (are_placed x.end (take n items)) a.0 (placed-take x.end n items a.1)
 
-pub placed-restarted : (from : ℕ) (items : List LogItem) → are_placed from items ≡ true → are_placed from (map restarted items) ≡ true
-placed-restarted from [] all = refl
-placed-restarted from (x ∷ items) all =
-    let a = and_parts (is_placed from x) (are_placed x.end items) all in
-    and_from (is_placed from x) (are_placed x.end (map restarted items)) a.0 (placed-restarted x.end items a.1)
-
-placed-map_settled : (moment from : ℕ) (items : List LogItem) → are_placed from items ≡ true → are_placed from (map (settled_at moment) items) ≡ true
-placed-map_settled moment from [] all = refl
-placed-map_settled moment from (x ∷ items) all =
-    let a = and_parts (is_placed from x) (are_placed x.end items) all in
-    and_from (is_placed from x) (are_placed x.end (map (settled_at moment) items)) a.0 (placed-map_settled moment x.end items a.1)
+-- items that change stand where they did, where their marks and ends stay
+pub placed-map : (change : LogItem → LogItem) → ((x : LogItem) → ((change x).mark ≡ x.mark) × ((change x).end ≡ x.end)) → (from : ℕ) (items : List LogItem) → are_placed from items ≡ true → are_placed from (map change items) ≡ true
+placed-map change same from [] all = refl
+placed-map change same from (x ∷ items) all = rw ((same x).0, (same x).1) (let a = and_parts (is_placed from x) (are_placed x.end items) all in and_from (is_placed from x) (are_placed x.end (map change items)) a.0 (placed-map change same x.end items a.1))
 
 pub placed-settled : (moment stable from : ℕ) (items : List LogItem) → are_placed from items ≡ true → are_placed from (all_settled moment stable items) ≡ true
-placed-settled moment zero from items all = placed-map_settled moment from items all
+placed-settled moment zero from items all = placed-map (settled_at moment) (λ x. (refl, refl)) from items all
 placed-settled moment (suc stable) from [] all = refl
 placed-settled moment (suc stable) from (x ∷ items) all =
     let a = and_parts (is_placed from x) (are_placed x.end items) all in
@@ -55,17 +54,8 @@ placed-settled moment (suc stable) from (x ∷ items) all =
 
 ends-from : (from : ℕ) (items : List LogItem) → are_placed from items ≡ true → (j : ℕ) (d : LogItem) → j < length items → from ≤ (get_or items j d).end
 ends-from from [] all j d lt = absurd (omega (arith, lt))
-ends-from from (x ∷ items) all zero d lt =
-    let a = and_parts (is_placed from x) (are_placed x.end items) all in
-    let b = and_parts (stands_at from x.mark) (x.end == from + size_of_mark x.mark) a.0 in
-    let end = eqb-true x.end (from + size_of_mark x.mark) b.1 in
-    omega (arith, end)
-ends-from from (x ∷ items) all (suc j) d lt =
-    let a = and_parts (is_placed from x) (are_placed x.end items) all in
-    let b = and_parts (stands_at from x.mark) (x.end == from + size_of_mark x.mark) a.0 in
-    let end = eqb-true x.end (from + size_of_mark x.mark) b.1 in
-    let rest = ends-from x.end items a.1 j d (omega (arith, lt)) in
-    omega (arith, end, rest)
+ends-from from (x ∷ items) all zero d lt = omega (arith, (first-placed from x items all).2)
+ends-from from (x ∷ items) all (suc j) d lt = let a = first-placed from x items all in let rest = ends-from x.end items a.3 j d (omega arith) in omega (arith, a.2, rest)
 
 pub ends-rise : (from : ℕ) (items : List LogItem) → are_placed from items ≡ true → IsNonDecreasingBy (λ item. item.end) items
 ends-rise from [] all i j d le lt = absurd (omega (arith, lt))
@@ -79,21 +69,17 @@ pub change-ends : (from : ℕ) (items : List LogItem) → are_placed from items 
     → (from ≤ offset_of change.pointer) × (offset_of change.pointer < item.end) × ((j : ℕ) (d : LogItem) → j < i → (get_or items j d).end ≤ offset_of change.pointer)
 change-ends from [] all i item change is mark = absurd cc
 change-ends from (x ∷ items) all zero item change is mark =
-    let a = and_parts (is_placed from x) (are_placed x.end items) all in
-    let b = and_parts (stands_at from x.mark) (x.end == from + size_of_mark x.mark) a.0 in
+    let a = first-placed from x items all in
     let same : x ≡ item = cc in
     let marked : x.mark ≡ kept.Change change = ap (λ (y : LogItem). y.mark) same ∙ mark in
-    let end = eqb-true x.end (from + size_of_mark x.mark) b.1 in
     let size : size_of_mark x.mark ≡ head_size + length change.payload = ap size_of_mark marked in
-    let stands : offset_of change.pointer ≡ from = eqb-true (offset_of change.pointer) from (sym (ap (stands_at from) marked) ∙ b.0) in
+    let stands : offset_of change.pointer ≡ from = eqb-true (offset_of change.pointer) from (sym (ap (stands_at from) marked) ∙ a.1) in
     let ends : item.end ≡ x.end = ap (λ (y : LogItem). y.end) (sym same) in
-    (omega (arith, stands), omega (arith, stands, size, end, ends), λ j d lt. absurd (omega (arith, lt)))
+    (omega (arith, stands), omega (arith, stands, size, a.2, ends), λ j d lt. absurd (omega (arith, lt)))
 change-ends from (x ∷ items) all (suc i) item change is mark =
-    let a = and_parts (is_placed from x) (are_placed x.end items) all in
-    let b = and_parts (stands_at from x.mark) (x.end == from + size_of_mark x.mark) a.0 in
-    let end = eqb-true x.end (from + size_of_mark x.mark) b.1 in
-    let rest = change-ends x.end items a.1 i item change is mark in
-    (omega (arith, end, rest.0), rest.1, before rest.0 rest.2)
+    let a = first-placed from x items all in
+    let rest = change-ends x.end items a.3 i item change is mark in
+    (omega (arith, a.2, rest.0), rest.1, before rest.0 rest.2)
   where
     before : x.end ≤ offset_of change.pointer → ((j : ℕ) (d : LogItem) → j < i → (get_or items j d).end ≤ offset_of change.pointer) → (j : ℕ) (d : LogItem) → j < suc i → (get_or (x ∷ items) j d).end ≤ offset_of change.pointer
     before first others zero d lt = first

@@ -1,13 +1,15 @@
 -- What the log in memory keeps, by its items and their buffer.
-use Rattle.std.proofs.Common.{◌≡◌, ◌≤◌, ◌<◌, ◌+◌, ◌-◌, ℕ, Bool, zero, suc, true, false, cond, ◌==◌, nat_le, Option, Some, None, List, [], ◌∷◌, ◌++◌, length, take, drop, map, get_or, refl, sym, ◌∙◌, ap, subst, arith, pos}
+use Rattle.std.proofs.Common.{◌≡◌, ◌≤◌, ◌<◌, ◌+◌, ◌-◌, ℕ, Bool, zero, suc, true, false, cond, ◌==◌, nat_le, Option, Some, None, List, [], ◌∷◌, ◌++◌, length, take, drop, map, set, get_or, refl, sym, ◌∙◌, ap, subst, arith, pos}
 use Rattle.std.specs.List.{slice_get}
 use Rattle.std.specs.List.Sorted.{IsNonDecreasingBy}
 use Rattle.std.proofs.lemmas.Bool.{and_parts, and_from, leb-true, le-leb, eqb-true, eq-eqb}
-use Rattle.std.proofs.lemmas.List.{length-drop, length-take-le, take-append-le, drop-append-le, take-append-drop, take_all, drop-map}
+use Rattle.std.proofs.lemmas.List.{length-drop, length-take-le, take-append-le, drop-append-le, take-append-drop, take_all, drop-map, get_or_default}
+use Rattle.std.proofs.lemmas.List.Edits.{map_over_more}
 use Rattle.std.proofs.Math.Seq.{drop-append_seam}
 use Rattle.std.proofs.lemmas.List.Sums.{sum_by-cons}
 use Rattle.sled_base.specs.Pointers.{offset_of}
 use Rattle.sled_base.specs.declared.kinds.MessageKind.{MessageKind}
+use Rattle.sled_base.specs.declared.kinds.MessageKind.TheVariants.{Corrupted}
 use Rattle.sled_base.specs.declared.types.DiskPtr.TheVariants.{Inline, Blob}
 use Rattle.sled_log.specs.declared.memory.item.LogItem.{LogItem as StoredItem}
 use Rattle.sled_log.specs.declared.memory.item.Mark.{Mark as StoredMark}
@@ -18,6 +20,15 @@ use Rattle.sled_log.specs.Kept.{KeptChange, LogItem}
 use Rattle.sled_log.specs.Kept as kept
 use Rattle.sled_log.specs.Messages.{Entry}
 use Rattle.sled_log.specs.Stored.{never, moment_of, part, kept_mark, kept_item, kept_from, are_within, last_of, place_after, start_after, bare_event_of, bare_event, settles_at, restarts, settle_all}
+
+-- where no item stands that one asks for
+abbrev pub no_item : StoredItem
+no_item = record { mark = stored.Change Corrupted 0; end = 0; payload_end = 0; came = 0; settled = 0 }
+
+-- one item more that a loop changes in its place
+pub over_more : (f : StoredItem → StoredItem) (old items : List StoredItem) (i : ℕ) → i < length old → i < length items → items ≡ map f (take i old) ++ drop i old
+    → set items i (f (get_or items i no_item)) ≡ map f (take (i + 1) old) ++ drop (i + 1) old
+over_more f old items i lt within is = let x : StoredItem = get_or items i no_item in map_over_more f old items i x lt is (get_or_default items i no_item x within)
 
 -- ---- payloads lie in the buffer
 

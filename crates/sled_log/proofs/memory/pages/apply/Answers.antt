@@ -3,12 +3,12 @@ use Rattle.std.proofs.lemmas.Result.{on_ok_weaker}
 use Rattle.sled_base.specs.Kinds.{log_kind_of}
 use Rattle.sled_base.specs.declared.types.DiskPtr.{DiskPtr}
 use Rattle.sled_base.specs.declared.types.page_state.PageState.{PageState}
-use Rattle.sled_log.specs.Chains.{is_freeing, chains_from}
+use Rattle.sled_log.specs.Chains.{is_freeing, changed, chains_from}
 use Rattle.sled_log.specs.Events.{Change}
 use Rattle.sled_log.specs.Messages.{effect_of_entry}
 use Rattle.sled_log.specs.Pages.{IsPageState}
 use Rattle.sled_log.specs.ZipLaws.{zip-at}
-use Rattle.sled_log.proofs.PageStates.{Shows, freed-shows, replaced-shows, linked-shows, absent-shows}
+use Rattle.sled_log.proofs.PageStates.{Shows, begun-shows, linked-shows, absent-shows}
 use Rattle.sled_log.proofs.memory.pages.apply.Goals as goal
 
 pub returns-in-Free : goal.returns-in-Free
@@ -17,7 +17,7 @@ returns-in-Free c =
     (λ is chains entry kind said h.
     let frees = c.in-Free.ensures ∙ ap log_kind_of (sym kind) in
     subst (λ (l : List PageState). Shows (chains_from effect_of_entry chains (Change c.args.pid entry)) l) (sym is)
-    (freed-shows _ chains c.args.pages.now.items c.args.pid entry _ frees h (rw c.freed.ensures (ap is_freeing (sym frees), ap (λ (s : ℤ × DiskPtr × ℕ). (s.0, s.1) ∷ []) said))))
+    (begun-shows _ chains c.args.pages.now.items c.args.pid entry _ (ap (λ k. changed effect_of_entry k chains c.args.pid entry) (sym frees)) h (rw c.freed.ensures (ap is_freeing (sym frees), ap (λ (s : ℤ × DiskPtr × ℕ). (s.0, s.1) ∷ []) said))))
     c.put.ensures
 
 pub returns-in-Replace : goal.returns-in-Replace
@@ -26,7 +26,7 @@ returns-in-Replace c =
     (λ is chains entry kind said h.
     let replaces = c.in-Replace.ensures ∙ ap log_kind_of (sym kind) in
     subst (λ (l : List PageState). Shows (chains_from effect_of_entry chains (Change c.args.pid entry)) l) (sym is)
-    (replaced-shows _ chains c.args.pages.now.items c.args.pid entry _ replaces h (ap is_freeing (sym replaces), rw c.new.ensures.items (ap (λ (s : ℤ × DiskPtr × ℕ). s ∷ []) said))))
+    (begun-shows _ chains c.args.pages.now.items c.args.pid entry _ (ap (λ k. changed effect_of_entry k chains c.args.pid entry) (sym replaces)) h (ap is_freeing (sym replaces), rw c.new.ensures.items (ap (λ (s : ℤ × DiskPtr × ℕ). s ∷ []) said))))
     c.put-in-Replace.ensures
 
 pub returns-in_ok-link-in-Link : goal.returns-in_ok-link-in-Link

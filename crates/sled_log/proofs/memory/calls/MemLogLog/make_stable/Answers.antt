@@ -9,7 +9,7 @@ use Rattle.sled_log.specs.Memory.{kept_in}
 use Rattle.sled_log.specs.Stored.{never, are_within, settle_all, kept_items}
 use Rattle.sled_log.specs.declared.memory.MemLog.{MemLog}
 use Rattle.sled_log.specs.declared.memory.item.LogItem.{LogItem as StoredItem}
-use Rattle.sled_log.proofs.MemCalls.{called_settled, remembers_settled}
+use Rattle.sled_log.proofs.MemCalls.{batch-says, called_settled, remembers_settled}
 use Rattle.sled_log.proofs.Moments.{pending_events, order-settled, length-all_settled, log_size-all_settled, pending-settled}
 use Rattle.sled_log.proofs.Places.{placed-settled}
 use Rattle.sled_log.proofs.Stored.{kept-length, kept-settle_all, within-settle_all}
@@ -49,7 +49,7 @@ invariant_of-self c =
     let same = length-all_settled (self.clock + 1) self.stable (kept_in self) in
     let before = kept-length self.blob_limit self.bytes.items 0 0 self.items.items in
     let after = kept-length self.blob_limit self.bytes.items 0 0 stored in
-    let closed : self.batch ≡ false = self.batch_is ∙ ap is_open (sym (pending_events self.clock self.stable (kept_in self) self.in_order)) ∙ c.requires.closed in
+    let closed : self.batch ≡ false = batch-says self ∙ c.requires.closed in
     let order = order-settled self.clock (self.clock + 1) self.stable (kept_in self) (omega arith) self.in_order in
     let all : c.len-self.result ≡ length (kept_in self) = omega (arith, two, ok_then, long, same, after) in
     let sized : self.size ≡ log_size kept = self.sized ∙ sym (log_size-all_settled (self.clock + 1) self.stable (kept_in self)) ∙ ap log_size (sym is) in
@@ -67,32 +67,19 @@ invariant_of-self c =
       room = λ open'. absurd (true≢false (sym open' ∙ closed));
     }
 
-pub returns-then-self-len-clause-stable : goal.returns-then-self-len-clause-stable
-returns-then-self-len-clause-stable c =
+pub returns-then-self-len : goal.returns-then-self-len
+returns-then-self-len c =
     let self = c.args.self.now in
     let is = settled_is self c.settle_from.new.items.items (let many = c.if-self-len.true in let one = c.len.ensures in let ok = self.items.ok in omega arith) c.settle_from.ensures in
-    ap (λ (l : List LogItem). (state_at (self.clock + 1) l).pending) is ∙ pending-settled self.clock (self.clock + 1) self.stable (kept_in self) (omega arith) self.in_order
-
-pub returns-then-self-len-clause-called : goal.returns-then-self-len-clause-called
-returns-then-self-len-clause-called c =
-    let self = c.args.self.now in
-    let is = settled_is self c.settle_from.new.items.items (let many = c.if-self-len.true in let one = c.len.ensures in let ok = self.items.ok in omega arith) c.settle_from.ensures in
-    called_settled self _ refl is _ c.requires.closed refl
-
-pub returns-then-self-len-clause-past : goal.returns-then-self-len-clause-past
-returns-then-self-len-clause-past c =
-    let self = c.args.self.now in
-    let is = settled_is self c.settle_from.new.items.items (let many = c.if-self-len.true in let one = c.len.ensures in let ok = self.items.ok in omega arith) c.settle_from.ensures in
-    remembers_settled self _ refl is
-
-pub returns-then-self-len-clause-size : goal.returns-then-self-len-clause-size
-returns-then-self-len-clause-size c =
-    let self = c.args.self.now in
-    let is = settled_is self c.settle_from.new.items.items (let many = c.if-self-len.true in let one = c.len.ensures in let ok = self.items.ok in omega arith) c.settle_from.ensures in
-    ap log_size is ∙ log_size-all_settled (self.clock + 1) self.stable (kept_in self)
-
-pub returns-then-self-len-clause-number : goal.returns-then-self-len-clause-number
-returns-then-self-len-clause-number c = let pending = pending_size c.args.self.now in omega (arith, pending)
+    record {
+      called = called_settled self _ refl is _ c.requires.closed refl;
+      stable = ap (λ (l : List LogItem). (state_at (self.clock + 1) l).pending) is ∙ pending-settled self.clock (self.clock + 1) self.stable (kept_in self) (omega arith) self.in_order;
+      number = let pending = pending_size self in omega arith;
+      size = ap log_size is ∙ log_size-all_settled (self.clock + 1) self.stable (kept_in self);
+      settings = refl;
+      always = refl;
+      past = remembers_settled self _ refl is;
+    }
 
 pub returns-else-self-len-clause-number : goal.returns-else-self-len-clause-number
 returns-else-self-len-clause-number c = let pending = pending_size c.args.self.now in omega (arith, pending)

@@ -1,19 +1,18 @@
 use Rattle.std.proofs.Common.{◌+◌, ℕ, List, [], ◌∷◌, map, drop, get_or, refl, sym, ◌∙◌, ap, subst}
 use Rattle.std.proofs.lemmas.List.{drop_all, drop_more}
 use Rattle.std.proofs.lemmas.Result.{err_from_is_err_and}
-use Rattle.sled_base.specs.declared.kinds.MessageKind.TheVariants.{Corrupted}
 use Rattle.sled_base.specs.declared.types.page_state.PageState.{PageState}
 use Rattle.sled_log.specs.Items.{event_of}
 use Rattle.sled_log.specs.Memory.{kept_in}
 use Rattle.sled_log.specs.Messages.{Chain, effect_of_entry}
 use Rattle.sled_log.specs.ShapeLaws.{AreChains, chains-are}
 use Rattle.sled_log.specs.declared.memory.item.LogItem.{LogItem as StoredItem}
-use Rattle.sled_log.specs.declared.memory.item.Mark.TheVariants as stored
 use Rattle.sled_log.proofs.MemCalls.{called_memory}
 use Rattle.sled_log.proofs.Moments.{now_is}
 use Rattle.sled_log.proofs.PageStates.{Shows}
 use Rattle.sled_log.proofs.Recovering.{IsRecovering, recovers-mark, recovers-change}
 use Rattle.sled_log.proofs.Sizes.{chains-sized}
+use Rattle.sled_log.proofs.Stored.{no_item}
 use Rattle.sled_log.proofs.memory.calls.MemLogLog.recover.Goals.{in-Change+in_ok-apply, in_default}
 use Rattle.sled_log.proofs.memory.calls.MemLogLog.recover.Goals as goal
 
@@ -30,10 +29,9 @@ loop-item-preserved c =
     let items : List StoredItem = self.items.items in
     let i = c.loop-item.item-index in
     let from : List StoredItem = c.deref-item-items.result.now in
-    let none : StoredItem = record { mark = stored.Change Corrupted 0; end = 0; payload_end = 0; came = 0; settled = 0 } in
-    let x : StoredItem = get_or from i none in
+    let x : StoredItem = get_or from i no_item in
     let so_far : IsRecovering limit bytes items c.loop-item.place (x ∷ drop (i + 1) from) c.loop-item.pages.items =
-    subst (λ (rest : List StoredItem). IsRecovering limit bytes items c.loop-item.place rest c.loop-item.pages.items) (drop_more from i none c.loop-item-test.true) c.loop-item.invariant in
+    subst (λ (rest : List StoredItem). IsRecovering limit bytes items c.loop-item.place rest c.loop-item.pages.items) (drop_more from i no_item c.loop-item-test.true) c.loop-item.invariant in
     elim c.match-item.branch [
       | in-Change+in_ok-apply w ↦
           subst (λ (l : List PageState). IsRecovering limit bytes items x.end (drop (i + 1) from) l) (sym (ap (λ p. p.items) w.pages-is))
