@@ -1,12 +1,9 @@
 -- Lists of events, computed: where a stop may cut them, and what it leaves.
-use Rattle.std.proofs.Common.{◌≡◌, ◌⊎◌, inl, inr, ℕ, zero, suc, true, false, List, [], ◌∷◌, ◌++◌, take, drop, refl, arith}
-use Rattle.std.proofs.lemmas.Bool.{false≢true}
+use Rattle.sled_log.proofs.Names.{◌≡◌, ◌⊎◌, inl, inr, ℕ, zero, suc, true, false, List, [], ◌∷◌, ◌++◌, take, drop, refl, arith, false≢true, is_open, is_cancelled, IsFair, Event, Change, Pin, Seal, Cancel}
 use Rattle.sled_node.specs.Links.{applied}
 use Rattle.sled_node.specs.Node.{WholeNode}
 use Rattle.sled_node.specs.declared.node.link.Link.{Link as NodeLink}
-use Rattle.sled_log.specs.Batches.{is_open, is_cancelled, IsFair}
 use Rattle.sled_log.specs.Contents.{Content, Free, Counter, Roots, Node, Update, Put, Link, contents_after}
-use Rattle.sled_log.specs.Events.{Event, Change, Pin, Seal, Cancel}
 
 module _ (a b c d : Content) where
   -- four pages, and a batch that replaces the last two

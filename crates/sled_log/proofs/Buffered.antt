@@ -1,17 +1,5 @@
 -- A log with a buffer over the log in memory: a stop leaves what was stable, and nothing of what is pending.
-use Rattle.std.proofs.Common.{◌≡◌, inl, inr, ⊎_elim, ◌≤◌, ℕ, Result, Ok, Err, List, [], ◌++◌, refl, sym, ◌∙◌, ap, subst, arith}
-use Rattle.std.specs.Prelude.{⊤}
-use Rattle.std.proofs.lemmas.Bool.{cases_lt}
-use Rattle.sled_log.specs.Calls.{Called, begun_by}
-use Rattle.sled_log.specs.Events.{Event}
-use Rattle.sled_log.specs.Laws.{IsFair-none, IsPrefix-all, IsPrefix-none}
-use Rattle.sled_log.specs.Memory.{state_of, clock_of, might_have_left, counts_of, was_at, Remembers}
-use Rattle.sled_log.specs.Messages.{Entry, Message, Messages, effect_of, effect_of_entry}
-use Rattle.sled_log.specs.LogState.{LogState, Adds, IsLeft, CrashesSinceLeave, unplaced_state}
-use Rattle.sled_log.specs.UnplacedLaws.{unplaced_events, Adds-unplaced}
-use Rattle.sled_log.specs.declared.log.LogError.{LogError}
-use Rattle.sled_log.specs.declared.log.LogError.TheVariants.{Memory, Full, ReadFault, WriteFault, Corruption}
-use Rattle.sled_log.specs.declared.memory.MemLog.{MemLog}
+use Rattle.sled_log.proofs.Names.{◌≡◌, inl, inr, ⊎_elim, ◌≤◌, ℕ, Result, Ok, Err, List, [], ◌++◌, refl, sym, ◌∙◌, ap, subst, arith, ⊤, cases_lt, Called, begun_by, Event, IsFair-none, IsPrefix-all, IsPrefix-none, state_of, clock_of, might_have_left, counts_of, was_at, Remembers, Entry, Message, Messages, effect_of, effect_of_entry, LogState, Adds, IsLeft, CrashesSinceLeave, unplaced_state, unplaced_events, Adds-unplaced, LogError, Memory, Full, ReadFault, WriteFault, Corruption, MemLog}
 
 -- the stable chains at a moment, without their places
 abbrev pub stable_at : ℕ → MemLog → List Messages

@@ -1,13 +1,6 @@
 -- The calls of a list, one after another.
-use Rattle.std.proofs.Common.{◌≡◌, ◌<◌, ◌+◌, ℕ, Bool, true, List, [], ◌∷◌, ◌++◌, length, take, drop, get_or, sym, ◌∙◌, ap, add-one}
-use Rattle.std.proofs.lemmas.Bool.{and_parts}
+use Rattle.sled_log.proofs.Names.{◌≡◌, ◌<◌, ◌+◌, ℕ, Bool, true, List, [], ◌∷◌, ◌++◌, length, take, drop, get_or, sym, ◌∙◌, ap, add-one, and_parts, append-nil, take-append-drop, take_more, drop-cons, Event, chains_after, Message, Messages, effect_of, events_of, events_of_all, can_make, leaves_open, can_make_all}
 use Rattle.std.proofs.lemmas.Grind.{flat_map-append}
-use Rattle.std.proofs.lemmas.List.{append-nil, take-append-drop, take_more}
-use Rattle.std.proofs.Math.Seq.{drop-cons}
-use Rattle.sled_log.specs.Events.{Event}
-use Rattle.sled_log.specs.Chains.{chains_after}
-use Rattle.sled_log.specs.Messages.{Message, Messages, effect_of}
-use Rattle.sled_log.specs.Runs.{events_of, events_of_all, can_make, leaves_open, can_make_all}
 use Rattle.sled_log.specs.declared.runs.LogCall.{LogCall}
 
 module _ (calls : List LogCall) (i : ℕ) (call : LogCall) (lt : i < length calls) (is : call ≡ get_or calls i call) where

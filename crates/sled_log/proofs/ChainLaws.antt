@@ -1,10 +1,6 @@
 -- What holds of everything that a log is told holds of everything in its chains.
-use Rattle.std.proofs.Common.{ℕ, zero, suc, Bool, true, false, cond, ◌==◌, List, [], ◌∷◌, ◌++◌, length, set, get_or, slice_set, slice_index_or}
-use Rattle.std.specs.List.{AllByRecursion}
-use Rattle.sled_base.specs.declared.kinds.LogKind.{LogKind}
+use Rattle.sled_log.proofs.Names.{ℕ, zero, suc, Bool, true, false, cond, ◌==◌, List, [], ◌∷◌, ◌++◌, length, set, get_or, slice_set, slice_index_or, AllByRecursion, LogKind, is_empty, linked, begun, changed, chains_from, chains_after, Event, Change, Pin, Seal, Cancel}
 use Rattle.sled_base.specs.declared.kinds.LogKind.TheVariants as kinds
-use Rattle.sled_log.specs.Chains.{is_empty, linked, begun, changed, chains_from, chains_after}
-use Rattle.sled_log.specs.Events.{Event, Change, Pin, Seal, Cancel}
 
 module _ {X : Type 0} (P : X → Type 0) where
   pub all-append : (xs ys : List X) → AllByRecursion P xs → AllByRecursion P ys → AllByRecursion P (xs ++ ys)

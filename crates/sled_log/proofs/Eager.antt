@@ -1,18 +1,5 @@
 -- A call of the log in memory, behind which all is made stable that may be, is the same call.
-use Rattle.std.proofs.Common.{◌≡◌, ℕ, false, Result, Ok, Err, List, [], refl, sym, ◌∙◌, ap, subst, arith}
-use Rattle.std.specs.Prelude.{⊤}
-use Rattle.std.proofs.lemmas.List.{append-nil}
-use Rattle.sled_log.specs.Batches.{is_open}
-use Rattle.sled_log.specs.Calls.{Called, HasCause, begun_by, is_write_fault}
-use Rattle.sled_log.specs.Events.{Event}
-use Rattle.sled_log.specs.Laws.{Adds-then, CrashesSinceLeave-then, is_open-Adds}
-use Rattle.sled_log.specs.Memory.{state_of, clock_of, might_have_left, counts_of}
-use Rattle.sled_log.specs.Messages.{Entry, Message, effect_of, effect_of_entry}
-use Rattle.sled_log.specs.LogState.{Adds, IsLeft, CrashesSinceLeave, unplaced_state}
-use Rattle.sled_log.specs.UnplacedLaws.{unplaced_events, Adds-unplaced}
-use Rattle.sled_log.specs.declared.log.LogError.{LogError}
-use Rattle.sled_log.specs.declared.log.LogError.TheVariants.{Memory, Full, ReadFault, WriteFault, Corruption}
-use Rattle.sled_log.specs.declared.memory.MemLog.{MemLog}
+use Rattle.sled_log.proofs.Names.{◌≡◌, ℕ, false, Result, Ok, Err, List, [], refl, sym, ◌∙◌, ap, subst, arith, ⊤, append-nil, is_open, Called, HasCause, begun_by, is_write_fault, Event, Adds-then, CrashesSinceLeave-then, is_open-Adds, state_of, clock_of, might_have_left, counts_of, Entry, Message, effect_of, effect_of_entry, Adds, IsLeft, CrashesSinceLeave, unplaced_state, unplaced_events, Adds-unplaced, LogError, Memory, Full, ReadFault, WriteFault, Corruption, MemLog}
 
 -- a call from `old` to `mid`, behind which something becomes stable
 module _ (old mid new : MemLog)

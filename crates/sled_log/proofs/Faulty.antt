@@ -1,21 +1,5 @@
 -- A log in memory of which one read and one other call fail.
-use Rattle.std.proofs.Common.{◌≡◌, inl, inr, ⊎_elim, ◌≤◌, ◌+◌, ◌==◌, ℕ, Bool, true, false, cond, Result, Err, List, [], refl, sym, ◌∙◌, ap, subst, arith}
-use Rattle.std.proofs.lemmas.Bool.{eqb-true, true≢false}
-use Rattle.std.proofs.lemmas.Result.{IfOk-weaker, on_err_weaker}
-use Rattle.std.specs.Prelude.{⊤}
-use Rattle.sled_log.specs.Batches.{is_open}
-use Rattle.sled_log.specs.Calls.{Counts, Called, HasGrown, begun_by, one_more}
-use Rattle.sled_log.specs.Events.{Event}
-use Rattle.sled_log.specs.Items.{left_now}
-use Rattle.sled_log.specs.Laws.{Adds-none, IsLeft-more, CrashesSinceLeave-none}
-use Rattle.sled_log.specs.Memory.{kept_in, state_of, clock_of, might_have_left, counts_of}
-use Rattle.sled_log.specs.Messages.{Entry, Message, Messages, effect_of, effect_of_entry}
-use Rattle.sled_log.specs.Limits.{most_count}
-use Rattle.sled_log.specs.RunLaws.{CrashesSinceLeave-weaker, Called-stop}
-use Rattle.sled_log.specs.LogState.{LogState, Adds, IsLeft, CrashesSinceLeave, unplaced_state}
-use Rattle.sled_log.specs.declared.log.LogError.{LogError}
-use Rattle.sled_log.specs.declared.log.LogError.TheVariants.{ReadFault, WriteFault}
-use Rattle.sled_log.specs.declared.memory.MemLog.{MemLog}
+use Rattle.sled_log.proofs.Names.{◌≡◌, inl, inr, ⊎_elim, ◌≤◌, ◌+◌, ◌==◌, ℕ, Bool, true, false, cond, Result, Err, List, [], refl, sym, ◌∙◌, ap, subst, arith, eqb-true, true≢false, IfOk-weaker, on_err_weaker, ⊤, is_open, Counts, Called, HasGrown, begun_by, one_more, Event, left_now, Adds-none, IsLeft-more, CrashesSinceLeave-none, kept_in, state_of, clock_of, might_have_left, counts_of, Entry, Message, Messages, effect_of, effect_of_entry, most_count, CrashesSinceLeave-weaker, Called-stop, LogState, Adds, IsLeft, CrashesSinceLeave, unplaced_state, LogError, ReadFault, WriteFault, MemLog}
 
 -- the log in memory, which may be called or not
 abbrev pub state_over : MemLog → Bool → LogState Entry

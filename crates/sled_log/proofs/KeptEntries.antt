@@ -1,20 +1,6 @@
 -- Each entry of a chain is kept by an item.
-use Rattle.std.proofs.Common.{◌≡◌, ◌<◌, ℕ, ℤ, zero, suc, Option, Some, IsSomeAnd, List, [], ◌∷◌, length, map, refl, sym, ◌∙◌, ap, subst, slice_index_or}
-use Rattle.std.proofs.lemmas.List.Elements.{All-from_recursion}
-use Rattle.std.specs.Global.{Vec}
-use Rattle.std.specs.List.{slice_get, AllByRecursion}
-use Rattle.sled_base.specs.declared.kinds.MessageKind.{MessageKind}
-use Rattle.sled_base.specs.declared.types.DiskPtr.{DiskPtr}
+use Rattle.sled_log.proofs.Names.{◌≡◌, ◌<◌, ℕ, ℤ, zero, suc, Option, Some, IsSomeAnd, List, [], ◌∷◌, length, map, refl, sym, ◌∙◌, ap, subst, slice_index_or, All-from_recursion, Vec, slice_get, AllByRecursion, MessageKind, DiskPtr, chains_after, Event, entry_of, event_of_mark, event_of, state_at, IsInOrder, Entry, Chain, effect_of_entry, IsAt, IsRead, now, KeptChange, LogItem, Mark}
 use Rattle.sled_log.proofs.ChainLaws.{Says, AllIn, chains-all, all-get}
-use Rattle.sled_log.specs.Chains.{chains_after}
-use Rattle.sled_log.specs.Events.{Event}
-use Rattle.sled_log.specs.Items.{entry_of, event_of_mark, event_of, state_at, IsInOrder}
-use Rattle.sled_log.specs.Messages.{Entry, Chain, effect_of_entry}
-use Rattle.sled_log.specs.Pages.{IsAt, IsRead}
-use Rattle.sled_log.specs.LogState.{now}
-use Rattle.sled_log.specs.Kept.{KeptChange}
-use Rattle.sled_log.specs.Kept.{LogItem}
-use Rattle.sled_log.specs.Kept.{Mark}
 use Rattle.sled_log.specs.Kept as kept
 use Rattle.sled_log.proofs.Moments.{now_is}
 

@@ -1,3 +1,4 @@
+pub mod Names
 pub mod ChainLaws
 pub mod SizeLaws
 pub mod Filters

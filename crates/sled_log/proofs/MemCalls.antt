@@ -1,21 +1,5 @@
 -- What a call of the log in memory does, for each way in which it ends.
-use Rattle.std.proofs.Common.{◌≡◌, inl, inr, ⊎_elim, ◌≤◌, ◌<◌, ◌+◌, ℕ, false, Result, Ok, Err, List, [], ◌++◌, refl, sym, ◌∙◌, ap, subst, arith}
-use Rattle.std.specs.Prelude.{⊤}
-use Rattle.std.proofs.lemmas.Bool.{cases_lt}
-use Rattle.std.proofs.lemmas.List.{append-nil}
-use Rattle.sled_log.specs.Batches.{is_open}
-use Rattle.sled_log.specs.Calls.{Called}
-use Rattle.sled_log.specs.Events.{Event}
-use Rattle.sled_log.specs.Items.{state_at, all_settled}
-use Rattle.sled_log.specs.Laws.{Adds-none, IsLeft-behind, IsLeft-more}
-use Rattle.sled_log.specs.Memory.{kept_in, state_of, clock_of, was_at, might_have_left, counts_of, Remembers}
-use Rattle.sled_log.specs.Messages.{Entry, Message, Messages, effect_of, effect_of_entry}
-use Rattle.sled_log.specs.LogState.{LogState, Adds, IsLeft, CrashesSinceLeave, unplaced_state}
-use Rattle.sled_log.specs.UnplacedLaws.{unplaced_events, Adds-unplaced, opened-Adds}
-use Rattle.sled_log.specs.declared.log.LogError.{LogError}
-use Rattle.sled_log.specs.declared.log.LogError.TheVariants.{Memory}
-use Rattle.sled_log.specs.declared.memory.MemLog.{MemLog}
-use Rattle.sled_log.specs.Kept.{LogItem}
+use Rattle.sled_log.proofs.Names.{◌≡◌, inl, inr, ⊎_elim, ◌≤◌, ◌<◌, ◌+◌, ℕ, false, Result, Ok, Err, List, [], ◌++◌, refl, sym, ◌∙◌, ap, subst, arith, ⊤, cases_lt, append-nil, is_open, Called, Event, state_at, all_settled, Adds-none, IsLeft-behind, IsLeft-more, kept_in, state_of, clock_of, was_at, might_have_left, counts_of, Remembers, Entry, Message, Messages, effect_of, effect_of_entry, LogState, Adds, IsLeft, CrashesSinceLeave, unplaced_state, unplaced_events, Adds-unplaced, opened-Adds, LogError, Memory, MemLog, LogItem}
 use Rattle.sled_log.proofs.Moments.{pending_events, adds-settled, state_at-settled}
 
 -- the log knows whether a batch is open

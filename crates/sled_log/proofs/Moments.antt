@@ -1,22 +1,6 @@
 -- Items that are in order, and what the log was at each moment.
-use Rattle.std.proofs.Common.{◌≡◌, inl, inr, ⊎_elim, ◌≤◌, ◌<◌, ◌+◌, ℕ, Bool, true, false, not, ◌&&◌, cond, nat_le, Option, Some, None, is_none, List, [], ◌∷◌, ◌++◌, length, take, drop, map, sum, refl, sym, ◌∙◌, ap, subst, arith}
-use Rattle.std.specs.List.{filter, list_all}
-use Rattle.std.proofs.lemmas.Bool.{cases_lt, and_parts, and_from, and_left, and_right, leb-true, le-leb, lt-leb, false≢true, not_from_true}
-use Rattle.std.proofs.lemmas.List.{append-nil, length-append, length-map, map-append, take-append-drop, take-append-le, drop-append-le, take_all, drop_all, take-map}
-use Rattle.std.proofs.Math.Seq.{take-add}
-use Rattle.std.proofs.lemmas.List.Elements.{filter-append}
+use Rattle.sled_log.proofs.Names.{◌≡◌, inl, inr, ⊎_elim, ◌≤◌, ◌<◌, ◌+◌, ℕ, Bool, true, false, not, ◌&&◌, cond, nat_le, Option, Some, None, is_none, List, [], ◌∷◌, ◌++◌, length, take, drop, map, sum, refl, sym, ◌∙◌, ap, subst, arith, filter, list_all, cases_lt, and_parts, and_from, and_left, and_right, leb-true, le-leb, lt-leb, false≢true, not_from_true, append-nil, length-append, length-map, map-append, take-append-drop, take-append-le, drop-append-le, take_all, drop_all, take-map, take-add, filter-append, sum_by-append, sum_by-take-drop, sum-map, LogItem, is_open, IsFair, chains_after, Event, event_of, size_of_mark, log_size, was_by, was_stable, was_pending, is_waiting, settled_at, all_settled, restarted, state_at, IsInOrder, WasLeft, chains_after-append, IsFair-none, IsLeft-behind, IsLeft-cut, IsLeft-more, Entry, Chain, Message, Messages, unplaced, message_in, effect_of, effect_of_entry, IsLeft-seen, LogState, now, Adds, IsLeft, CrashesSinceLeave, unplaced_state, unplaced_events, Adds-unplaced}
 use Rattle.std.proofs.lemmas.List.Folds.{list_all-append}
-use Rattle.std.proofs.lemmas.List.Sums.{sum_by-append, sum_by-take-drop, sum-map}
-use Rattle.sled_log.specs.Kept.{LogItem}
-use Rattle.sled_log.specs.Batches.{is_open, IsFair}
-use Rattle.sled_log.specs.Chains.{chains_after}
-use Rattle.sled_log.specs.Events.{Event}
-use Rattle.sled_log.specs.Items.{event_of, size_of_mark, log_size, was_by, was_stable, was_pending, is_waiting, settled_at, all_settled, restarted, state_at, IsInOrder, WasLeft}
-use Rattle.sled_log.specs.Laws.{chains_after-append, IsFair-none, IsLeft-behind, IsLeft-cut, IsLeft-more}
-use Rattle.sled_log.specs.Messages.{Entry, Chain, Message, Messages, unplaced, message_in, effect_of, effect_of_entry}
-use Rattle.sled_log.specs.SeenLaws.{IsLeft-seen}
-use Rattle.sled_log.specs.LogState.{LogState, now, Adds, IsLeft, CrashesSinceLeave, unplaced_state}
-use Rattle.sled_log.specs.UnplacedLaws.{unplaced_events, Adds-unplaced}
 use Rattle.sled_log.proofs.Filters.{list_all-weaker, filter-all, filter-none, filter-map_same, map-map_same}
 
 was_by-later : (clock later : ℕ) (at : Option ℕ) → clock ≤ later → was_by clock at ≡ true → was_by later at ≡ true

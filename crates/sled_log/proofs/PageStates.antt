@@ -1,18 +1,7 @@
 -- The pages that a log answers, while chains grow.
-use Rattle.std.proofs.Common.{◌≡◌, ◌≤◌, ◌<◌, ◌+◌, ℕ, Bool, true, false, cond, ◌==◌, List, [], ◌∷◌, ◌++◌, length, map, take, get_or, sym, ◌∙◌, ap, subst, arith, slice_set, slice_index_or, set}
-use Rattle.std.specs.List.{AllZip}
-use Rattle.std.proofs.lemmas.List.{map-append, set_past, take_more}
+use Rattle.sled_log.proofs.Names.{◌≡◌, ◌≤◌, ◌<◌, ◌+◌, ℕ, Bool, true, false, cond, ◌==◌, List, [], ◌∷◌, ◌++◌, length, map, take, get_or, sym, ◌∙◌, ap, subst, arith, slice_set, slice_index_or, set, AllZip, map-append, set_past, take_more, LogKind, linked, begun, changed, chains_from, chains_after, event_of, chains_after-append, Entry, Chain, effect_of_entry, IsPageState, zip-append, zip-set, LogItem, PageState}
 use Rattle.std.proofs.lemmas.Slice.Zip.{AllZip-long}
-use Rattle.sled_base.specs.declared.kinds.LogKind.{LogKind}
 use Rattle.sled_base.specs.declared.kinds.LogKind.TheVariants as kinds
-use Rattle.sled_log.specs.Chains.{linked, begun, changed, chains_from, chains_after}
-use Rattle.sled_log.specs.Items.{event_of}
-use Rattle.sled_log.specs.Laws.{chains_after-append}
-use Rattle.sled_log.specs.Messages.{Entry, Chain, effect_of_entry}
-use Rattle.sled_log.specs.Pages.{IsPageState}
-use Rattle.sled_log.specs.ZipLaws.{zip-append, zip-set}
-use Rattle.sled_log.specs.Kept.{LogItem}
-use Rattle.sled_base.specs.declared.types.page_state.PageState.{PageState}
 
 abbrev pub Shows : List Chain → List PageState → Type 0
 Shows chains pages = AllZip IsPageState chains pages

@@ -1,15 +1,7 @@
 -- Where the items of the log in memory stand.
-use Rattle.std.proofs.Common.{◌≡◌, ◌≤◌, ◌<◌, ◌+◌, ℕ, zero, suc, true, ◌==◌, Some, List, [], ◌∷◌, ◌++◌, length, take, map, get_or, refl, sym, ◌∙◌, ap, subst, arith}
-use Rattle.std.specs.List.{slice_get}
-use Rattle.std.specs.List.Sorted.{IsNonDecreasingBy}
-use Rattle.std.proofs.lemmas.Bool.{and_parts, and_from, eqb-true}
-use Rattle.std.proofs.lemmas.List.Sums.{sum_by-cons}
-use Rattle.sled_base.specs.Pointers.{offset_of}
+use Rattle.sled_log.proofs.Names.{◌≡◌, ◌≤◌, ◌<◌, ◌+◌, ℕ, zero, suc, true, ◌==◌, Some, List, [], ◌∷◌, ◌++◌, length, take, map, get_or, refl, sym, ◌∙◌, ap, subst, arith, slice_get, IsNonDecreasingBy, and_parts, and_from, eqb-true, sum_by-cons, offset_of, LogItem, head_size, size_of_mark, log_size, stands_at, is_placed, are_placed, settled_at, all_settled}
 use Rattle.sled_log.specs.Kept.{KeptChange as Change}
-use Rattle.sled_log.specs.Kept.{LogItem}
 use Rattle.sled_log.specs.Kept as kept
-use Rattle.sled_log.specs.Limits.{head_size}
-use Rattle.sled_log.specs.Items.{size_of_mark, log_size, stands_at, is_placed, are_placed, settled_at, all_settled}
 
 log_size-cons : (item : LogItem) (items : List LogItem) → log_size (item ∷ items) ≡ size_of_mark item.mark + log_size items
 log_size-cons item items = sum_by-cons (λ (item : LogItem). size_of_mark item.mark) item items

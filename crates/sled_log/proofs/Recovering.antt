@@ -1,20 +1,5 @@
 -- What recovery has made of the items so far.
-use Rattle.std.proofs.Common.{◌≡◌, ◌+◌, ◌-◌, ℕ, true, List, [], ◌∷◌, length, map, refl, sym, ◌∙◌, ap, subst, arith, pos, ℤ}
-use Rattle.std.proofs.lemmas.Bool.{and_parts, eqb-true}
-use Rattle.std.proofs.lemmas.List.Sums.{sum_by-cons}
-use Rattle.sled_base.specs.declared.kinds.MessageKind.{MessageKind}
-use Rattle.sled_base.specs.declared.types.DiskPtr.{DiskPtr}
-use Rattle.sled_base.specs.declared.types.page_state.PageState.{PageState}
-use Rattle.sled_log.specs.Chains.{chains_from, chains_after}
-use Rattle.sled_log.specs.Events.{Change}
-use Rattle.sled_log.specs.Limits.{head_size}
-use Rattle.sled_log.specs.Items.{pointer_at, entry_of, event_of_mark, event_of, size_of_mark, log_size, stands_at, are_placed}
-use Rattle.sled_log.specs.Kept.{Mark, LogItem}
-use Rattle.sled_log.specs.Messages.{Entry, Chain, effect_of_entry}
-use Rattle.sled_log.specs.Pages.{said_of}
-use Rattle.sled_log.specs.Stored.{part, kept_mark, kept_item, kept_from, kept_items}
-use Rattle.sled_log.specs.declared.memory.item.LogItem.{LogItem as StoredItem}
-use Rattle.sled_log.specs.declared.memory.item.Mark.{Mark as StoredMark}
+use Rattle.sled_log.proofs.Names.{◌≡◌, ◌+◌, ◌-◌, ℕ, true, List, [], ◌∷◌, length, map, refl, sym, ◌∙◌, ap, subst, arith, pos, ℤ, and_parts, eqb-true, sum_by-cons, MessageKind, DiskPtr, PageState, chains_from, chains_after, Change, head_size, pointer_at, entry_of, event_of_mark, event_of, size_of_mark, log_size, stands_at, are_placed, Mark, LogItem, Entry, Chain, effect_of_entry, said_of, part, kept_mark, kept_item, kept_from, kept_items, StoredItem, StoredMark}
 use Rattle.sled_log.specs.declared.memory.item.Mark.TheVariants as stored
 use Rattle.sled_log.proofs.PageStates.{Shows}
 

@@ -1,11 +1,6 @@
 -- The log sizes of what a log is told bound those of its chains.
-use Rattle.std.proofs.Common.{◌≤◌, ◌<◌, ◌+◌, ℕ, zero, suc, Bool, true, false, cond, ◌==◌, List, [], ◌∷◌, ◌++◌, length, set, get_or, slice_set, slice_index_or, arith}
-use Rattle.std.specs.List.{AllByRecursion, sum_by}
-use Rattle.std.proofs.lemmas.List.Sums.{sum_by-cons, sum_by-append}
-use Rattle.sled_base.specs.declared.kinds.LogKind.{LogKind}
+use Rattle.sled_log.proofs.Names.{◌≤◌, ◌<◌, ◌+◌, ℕ, zero, suc, Bool, true, false, cond, ◌==◌, List, [], ◌∷◌, ◌++◌, length, set, get_or, slice_set, slice_index_or, arith, AllByRecursion, sum_by, sum_by-cons, sum_by-append, LogKind, is_empty, linked, begun, changed, chains_from, chains_after, Event, Change, Pin, Seal, Cancel}
 use Rattle.sled_base.specs.declared.kinds.LogKind.TheVariants as kinds
-use Rattle.sled_log.specs.Chains.{is_empty, linked, begun, changed, chains_from, chains_after}
-use Rattle.sled_log.specs.Events.{Event, Change, Pin, Seal, Cancel}
 
 module _ {E : Type 0} (effect : E → LogKind) (size : E → ℕ) where
   -- of a chain, of all chains, and of events

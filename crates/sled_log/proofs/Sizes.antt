@@ -1,20 +1,8 @@
 -- The log sizes of the chains of the log in memory.
-use Rattle.std.proofs.Common.{◌≡◌, ◌<◌, ℕ, List, [], ◌∷◌, map, refl, sym, subst, arith}
-use Rattle.std.specs.List.{AllByRecursion}
-use Rattle.std.proofs.lemmas.List.Sums.{sum_by-cons}
+use Rattle.sled_log.proofs.Names.{◌≡◌, ◌<◌, ℕ, List, [], ◌∷◌, map, refl, sym, subst, arith, AllByRecursion, sum_by-cons, chains_after, event_of_mark, event_of, size_of_mark, log_size, state_at, size_limit, kept_in, Entry, Chain, effect_of_entry, IsSized, now, MemLog, LogItem, Mark}
 use Rattle.sled_log.proofs.ChainLaws.{Says, chains-all}
-use Rattle.sled_log.specs.Chains.{chains_after}
-use Rattle.sled_log.specs.Items.{event_of_mark, event_of, size_of_mark, log_size, state_at}
-use Rattle.sled_log.specs.Limits.{size_limit}
-use Rattle.sled_log.specs.Memory.{kept_in}
-use Rattle.sled_log.specs.Messages.{Entry, Chain, effect_of_entry}
 use Rattle.sled_log.specs.Messages as messages
-use Rattle.sled_log.specs.Pages.{IsSized}
 use Rattle.sled_log.proofs.SizeLaws.{chain_size, chains_size, event_size, events_size, chains_after-size, each-below}
-use Rattle.sled_log.specs.LogState.{now}
-use Rattle.sled_log.specs.declared.memory.MemLog.{MemLog}
-use Rattle.sled_log.specs.Kept.{LogItem}
-use Rattle.sled_log.specs.Kept.{Mark}
 use Rattle.sled_log.specs.Kept as kept
 use Rattle.sled_log.proofs.Moments.{now_is}
 

@@ -1,25 +1,9 @@
 -- What the log in memory keeps, by its items and their buffer.
-use Rattle.std.proofs.Common.{◌≡◌, ◌≤◌, ◌<◌, ◌+◌, ◌-◌, ℕ, Bool, zero, suc, true, false, cond, ◌==◌, nat_le, Option, Some, None, List, [], ◌∷◌, ◌++◌, length, take, drop, map, set, get_or, refl, sym, ◌∙◌, ap, subst, arith, pos}
-use Rattle.std.specs.List.{slice_get}
-use Rattle.std.specs.List.Sorted.{IsNonDecreasingBy}
-use Rattle.std.proofs.lemmas.Bool.{and_parts, and_from, leb-true, le-leb, eqb-true, eq-eqb}
-use Rattle.std.proofs.lemmas.List.{length-drop, length-take-le, take-append-le, drop-append-le, take-append-drop, take_all, drop-map, get_or_default}
+use Rattle.sled_log.proofs.Names.{◌≡◌, ◌≤◌, ◌<◌, ◌+◌, ◌-◌, ℕ, Bool, zero, suc, true, false, cond, ◌==◌, nat_le, Option, Some, None, List, [], ◌∷◌, ◌++◌, length, take, drop, map, set, get_or, refl, sym, ◌∙◌, ap, subst, arith, pos, slice_get, IsNonDecreasingBy, and_parts, and_from, leb-true, le-leb, eqb-true, eq-eqb, length-drop, length-take-le, take-append-le, drop-append-le, take-append-drop, take_all, drop-map, get_or_default, drop-append_seam, sum_by-cons, offset_of, MessageKind, Corrupted, StoredItem, StoredMark, Event, seen, event_of_mark, event_of, size_of_mark, log_size, stands_at, are_placed, settled_at, all_settled, restarted, pointer_at, KeptChange, LogItem, Entry, never, moment_of, part, kept_mark, kept_item, kept_from, are_within, last_of, place_after, start_after, bare_event_of, bare_event, settles_at, restarts, settle_all}
 use Rattle.std.proofs.lemmas.List.Edits.{map_over_more}
-use Rattle.std.proofs.Math.Seq.{drop-append_seam}
-use Rattle.std.proofs.lemmas.List.Sums.{sum_by-cons}
-use Rattle.sled_base.specs.Pointers.{offset_of}
-use Rattle.sled_base.specs.declared.kinds.MessageKind.{MessageKind}
-use Rattle.sled_base.specs.declared.kinds.MessageKind.TheVariants.{Corrupted}
 use Rattle.sled_base.specs.declared.types.DiskPtr.TheVariants.{Inline, Blob}
-use Rattle.sled_log.specs.declared.memory.item.LogItem.{LogItem as StoredItem}
-use Rattle.sled_log.specs.declared.memory.item.Mark.{Mark as StoredMark}
 use Rattle.sled_log.specs.declared.memory.item.Mark.TheVariants as stored
-use Rattle.sled_log.specs.Events.{Event, seen}
-use Rattle.sled_log.specs.Items.{event_of_mark, event_of, size_of_mark, log_size, stands_at, are_placed, settled_at, all_settled, restarted, pointer_at}
-use Rattle.sled_log.specs.Kept.{KeptChange, LogItem}
 use Rattle.sled_log.specs.Kept as kept
-use Rattle.sled_log.specs.Messages.{Entry}
-use Rattle.sled_log.specs.Stored.{never, moment_of, part, kept_mark, kept_item, kept_from, are_within, last_of, place_after, start_after, bare_event_of, bare_event, settles_at, restarts, settle_all}
 
 -- where no item stands that one asks for
 abbrev pub no_item : StoredItem

@@ -1,4 +1,4 @@
-use Rattle.sled_log.specs.ReadingLaws.{one_content}
+use Rattle.sled_log.proofs.Names.{one_content}
 use Rattle.sled_log.proofs.laws.a_page_holds_one_content.Goals as goal
 
 pub returns : goal.returns

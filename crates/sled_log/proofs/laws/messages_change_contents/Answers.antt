@@ -1,4 +1,4 @@
-use Rattle.sled_log.specs.HoldingLaws.{holds-after}
+use Rattle.sled_log.proofs.Names.{holds-after}
 use Rattle.sled_log.proofs.laws.messages_change_contents.Goals as goal
 
 pub returns : goal.returns

@@ -1,8 +1,4 @@
-use Rattle.std.proofs.Common.{[], ap}
-use Rattle.std.proofs.lemmas.Result.{err_from_is_err_and}
-use Rattle.sled_log.specs.RunLaws.{append-events, call-stop, call-added, tells-call}
-use Rattle.sled_log.specs.Runs.{events_of}
-use Rattle.sled_log.specs.UnplacedLaws.{Adds-unplaced}
+use Rattle.sled_log.proofs.Names.{[], ap, err_from_is_err_and, append-events, call-stop, call-added, tells-call, events_of, Adds-unplaced}
 use Rattle.sled_log.proofs.runs.make_call.Goals as goal
 
 pub returns-in_err-append-in-Append-clause-stop : goal.returns-in_err-append-in-Append-clause-stop

@@ -1,13 +1,4 @@
-use Rattle.std.proofs.Common.{◌+◌, List, [], ◌++◌, take, drop, ◌∙◌, ap, subst}
-use Rattle.std.proofs.lemmas.List.{append-nil}
-use Rattle.std.proofs.lemmas.Result.{err_from_is_err_and}
-use Rattle.sled_log.specs.Batches.{is_open}
-use Rattle.sled_log.specs.Events.{Event}
-use Rattle.sled_log.specs.Laws.{Adds-then, IsLeft-more}
-use Rattle.sled_log.specs.Messages.{Message, Messages, effect_of}
-use Rattle.sled_log.specs.RunLaws.{Ran, Ran-stop, Ran-more, CrashesSinceLeave-weaker, open-call, now-call}
-use Rattle.sled_log.specs.Runs.{events_of, events_of_all, can_make_all, leaves_open}
-use Rattle.sled_log.specs.LogState.{now, Adds, IsLeft, unplaced_state}
+use Rattle.sled_log.proofs.Names.{◌+◌, List, [], ◌++◌, take, drop, ◌∙◌, ap, subst, append-nil, err_from_is_err_and, is_open, Event, Adds-then, IsLeft-more, Message, Messages, effect_of, Ran, Ran-stop, Ran-more, CrashesSinceLeave-weaker, open-call, now-call, events_of, events_of_all, can_make_all, leaves_open, now, Adds, IsLeft, unplaced_state}
 use Rattle.sled_log.proofs.CallLists.{events-more, can-next, events-split}
 use Rattle.sled_log.proofs.runs.make_calls.Goals as goal
 

@@ -1,9 +1,4 @@
-use Rattle.std.proofs.Common.{◌≡◌, true, drop, take}
-use Rattle.sled_log.specs.Batches.{is_open}
-use Rattle.sled_log.specs.Messages.{effect_of}
-use Rattle.sled_log.specs.RunLaws.{Ran}
-use Rattle.sled_log.specs.Runs.{events_of_all, can_make_all}
-use Rattle.sled_log.specs.LogState.{now, unplaced_state}
+use Rattle.sled_log.proofs.Names.{◌≡◌, true, drop, take, is_open, effect_of, Ran, events_of_all, can_make_all, now, unplaced_state}
 use Rattle.sled_log.proofs.runs.make_calls.Given as goal
 
 -- what the calls so far have made, and that the others can be made

@@ -1,4 +1,4 @@
-use Rattle.sled_log.specs.Laws.{CrashesSinceLeave-then}
+use Rattle.sled_log.proofs.Names.{CrashesSinceLeave-then}
 use Rattle.sled_log.proofs.runs.parts_make_the_whole.Goals as goal
 
 pub returns : goal.returns

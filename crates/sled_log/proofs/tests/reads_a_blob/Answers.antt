@@ -1,14 +1,4 @@
-use Rattle.std.proofs.Common.{◌≡◌, pos, List, [], ◌∷◌, ◌++◌, refl, sym, ◌∙◌, ap, subst, slice_index_or, arith}
-use Rattle.std.specs.List.{Any}
-use Rattle.sled_base.specs.Kinds.{log_kind_of}
-use Rattle.sled_base.specs.declared.kinds.MessageKind.{MessageKind}
-use Rattle.sled_base.specs.declared.kinds.MessageKind.TheVariants.{InlineNode}
-use Rattle.sled_log.specs.Chains.{changed, chains_after}
-use Rattle.sled_log.specs.Events.{Event, Change}
-use Rattle.sled_log.specs.Memory.{state_of}
-use Rattle.sled_log.specs.Messages.{Entry, Chain, effect_of_entry}
-use Rattle.sled_log.specs.Pages.{IsAt}
-use Rattle.sled_log.specs.LogState.{LogState, now}
+use Rattle.sled_log.proofs.Names.{◌≡◌, pos, List, [], ◌∷◌, ◌++◌, refl, sym, ◌∙◌, ap, subst, slice_index_or, arith, Any, log_kind_of, MessageKind, InlineNode, changed, chains_after, Event, Change, state_of, Entry, Chain, effect_of_entry, IsAt, LogState, now}
 use Rattle.sled_log.proofs.tests.reads_a_blob.Goals as goal
 
 -- the one message that the log holds

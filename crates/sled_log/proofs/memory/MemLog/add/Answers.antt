@@ -1,18 +1,4 @@
-use Rattle.std.proofs.Common.{◌≡◌, ◌+◌, ◌≤◌, ℕ, true, false, None, List, [], ◌∷◌, ◌++◌, length, take, drop, map, refl, sym, ◌∙◌, ap, subst, arith}
-use Rattle.std.proofs.lemmas.Bool.{le-leb, and_from, eq-eqb, false≢true}
-use Rattle.std.proofs.lemmas.List.{length-append, take-append-le, drop-append-le, map-append}
-use Rattle.std.proofs.lemmas.List.Sums.{sum_by-append}
-use Rattle.std.proofs.lemmas.Result.{err_from_is_err_and}
-use Rattle.sled_log.specs.Batches.{is_open, open_after}
-use Rattle.sled_log.specs.Items.{event_of, event_of_mark, size_of_mark, is_waiting, log_size, stands_at, is_placed, are_placed, state_at, IsInOrder}
-use Rattle.sled_log.specs.Laws.{open_after-append, IsFair-none}
-use Rattle.sled_log.specs.Messages.{effect_of_entry}
-use Rattle.sled_log.specs.LogState.{Adds}
-use Rattle.sled_log.specs.Kept.{Mark, LogItem}
-use Rattle.sled_log.specs.Memory.{kept_in, state_of}
-use Rattle.sled_log.specs.Stored.{never, are_within, kept_mark, kept_items}
-use Rattle.sled_log.specs.declared.memory.MemLog.{MemLog}
-use Rattle.sled_log.specs.declared.memory.item.LogItem.{LogItem as StoredItem}
+use Rattle.sled_log.proofs.Names.{◌≡◌, ◌+◌, ◌≤◌, ℕ, true, false, None, List, [], ◌∷◌, ◌++◌, length, take, drop, map, refl, sym, ◌∙◌, ap, subst, arith, le-leb, and_from, eq-eqb, false≢true, length-append, take-append-le, drop-append-le, map-append, sum_by-append, err_from_is_err_and, is_open, open_after, event_of, event_of_mark, size_of_mark, is_waiting, log_size, stands_at, is_placed, are_placed, state_at, IsInOrder, open_after-append, IsFair-none, effect_of_entry, Adds, Mark, LogItem, kept_in, state_of, never, are_within, kept_mark, kept_items, MemLog, StoredItem}
 use Rattle.sled_log.proofs.MemCalls.{batch-says, called_ok, called_memory}
 use Rattle.sled_log.proofs.Stored.{kept-add, within-push, stands-at}
 use Rattle.sled_log.proofs.Moments.{order-push, stable-push, pending-push, state_at-push}

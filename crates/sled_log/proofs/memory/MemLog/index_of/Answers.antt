@@ -1,10 +1,5 @@
-use Rattle.std.proofs.Common.{⊎_elim, ◌<◌, ℕ, List, length, leb, get_or, sym, ap, subst, arith, rules}
-use Rattle.std.specs.List.Sorted.{IsNonDecreasingBy}
-use Rattle.std.proofs.lemmas.Bool.{cases_lt, leb-true, leb-false}
+use Rattle.sled_log.proofs.Names.{⊎_elim, ◌<◌, ℕ, List, length, leb, get_or, sym, ap, subst, arith, rules, IsNonDecreasingBy, cases_lt, leb-true, leb-false, get_or_from_slice_get, slice_get_within, KeptItem, kept_in}
 use Rattle.std.proofs.lemmas.List.Sorted.{IsPartitionPoint-from_clause, IsPartitionedBy-leb}
-use Rattle.std.proofs.lemmas.Option.{get_or_from_slice_get, slice_get_within}
-use Rattle.sled_log.specs.Kept.{LogItem as KeptItem}
-use Rattle.sled_log.specs.Memory.{kept_in}
 use Rattle.sled_log.specs.declared.memory.item.LogItem.{LogItem}
 use Rattle.sled_log.proofs.Places.{ends-rise, change-ends}
 use Rattle.sled_log.proofs.Stored.{kept-length, kept-end, stored-rise, finds}

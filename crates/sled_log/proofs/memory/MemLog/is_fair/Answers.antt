@@ -1,11 +1,4 @@
-use Rattle.std.proofs.Common.{◌≡◌, ◌-◌, List, length, take, drop, map, sym, ◌∙◌, ap, subst}
-use Rattle.std.proofs.lemmas.List.{take_rest}
-use Rattle.sled_base.specs.declared.kinds.MessageKind.{MessageKind}
-use Rattle.sled_log.specs.Batches.{IsFair}
-use Rattle.sled_log.specs.Events.{Event, seen}
-use Rattle.sled_log.specs.Memory.{kept_in, state_of}
-use Rattle.sled_log.specs.SeenLaws.{IsFair-seen, IsFair-unseen}
-use Rattle.sled_log.specs.Stored.{bare_event}
+use Rattle.sled_log.proofs.Names.{◌≡◌, ◌-◌, List, length, take, drop, map, sym, ◌∙◌, ap, subst, take_rest, MessageKind, IsFair, Event, seen, kept_in, state_of, IsFair-seen, IsFair-unseen, bare_event}
 use Rattle.sled_log.specs.declared.memory.item.LogItem.{LogItem}
 use Rattle.sled_log.proofs.Moments.{pending_events}
 use Rattle.sled_log.proofs.Stored.{kind_of, bare-drop}

@@ -1,10 +1,4 @@
-use Rattle.std.proofs.Common.{◌≡◌, ◌≤◌, ℕ, Some, List, length, take, get_or, refl, sym, ◌∙◌, ap, arith}
-use Rattle.std.specs.List.{slice_get}
-use Rattle.std.proofs.lemmas.Option.{get_or_from_slice_get, slice_get_within, slice_get_read}
-use Rattle.sled_base.specs.Pointers.{offset_of}
-use Rattle.sled_base.specs.declared.kinds.MessageKind.{MessageKind}
-use Rattle.sled_log.specs.Messages.{kind_at}
-use Rattle.sled_log.specs.Stored.{start_after, part}
+use Rattle.sled_log.proofs.Names.{◌≡◌, ◌≤◌, ℕ, Some, List, length, take, get_or, refl, sym, ◌∙◌, ap, arith, slice_get, get_or_from_slice_get, slice_get_within, slice_get_read, offset_of, MessageKind, kind_at, start_after, part}
 use Rattle.sled_log.specs.declared.memory.item.LogItem.{LogItem}
 use Rattle.sled_log.specs.declared.memory.item.Mark.TheVariants.{Change}
 use Rattle.sled_log.proofs.Stored.{finds, within-get}

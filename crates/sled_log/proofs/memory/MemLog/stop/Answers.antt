@@ -1,13 +1,4 @@
-use Rattle.std.proofs.Common.{◌≡◌, ◌+◌, ℕ, List, length, take, drop, map, refl, sym, ◌∙◌, ap, subst, arith, true}
-use Rattle.std.proofs.lemmas.Bool.{false≢true}
-use Rattle.std.proofs.lemmas.List.{length-map, length-drop, take_all, drop_all}
-use Rattle.sled_log.specs.Batches.{is_open}
-use Rattle.sled_log.specs.Items.{event_of, log_size, restarted, state_at, IsInOrder, are_placed}
-use Rattle.sled_log.specs.Kept.{LogItem}
-use Rattle.sled_log.specs.Memory.{kept_in}
-use Rattle.sled_log.specs.Stored.{place_after, start_after, are_within, restarts, kept_items}
-use Rattle.sled_log.specs.declared.memory.MemLog.{MemLog}
-use Rattle.sled_log.specs.declared.memory.item.LogItem.{LogItem as StoredItem}
+use Rattle.sled_log.proofs.Names.{◌≡◌, ◌+◌, ℕ, List, length, take, drop, map, refl, sym, ◌∙◌, ap, subst, arith, true, false≢true, length-map, length-drop, take_all, drop_all, is_open, event_of, log_size, restarted, state_at, IsInOrder, are_placed, LogItem, kept_in, place_after, start_after, are_within, restarts, kept_items, MemLog, StoredItem}
 use Rattle.sled_log.proofs.Moments.{pending_events, size-restarted, log_size-restarted, left-stopped, order-restarted, pending-restarted, stable-restarted}
 use Rattle.sled_log.proofs.Places.{placed-take, placed-map}
 use Rattle.sled_log.proofs.Stored.{kept-length, kept-stopped, placed-after}

@@ -1,6 +1,4 @@
-use Rattle.std.proofs.Common.{◌≡◌, drop, map}
-use Rattle.sled_log.specs.Batches.{is_cancelled}
-use Rattle.sled_log.specs.Stored.{bare_event}
+use Rattle.sled_log.proofs.Names.{◌≡◌, drop, map, is_cancelled, bare_event}
 use Rattle.sled_log.proofs.memory.cuts.cancels.Given as goal
 
 -- what is left says what all say

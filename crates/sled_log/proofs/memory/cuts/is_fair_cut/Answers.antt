@@ -1,8 +1,4 @@
-use Rattle.std.proofs.Common.{◌≡◌, true, false, not, take, drop, map, sym, ◌∙◌, ap, arith}
-use Rattle.std.proofs.lemmas.List.{take-map, drop-map, length-map, take_rest}
-use Rattle.std.proofs.lemmas.Bool.{true≢false}
-use Rattle.sled_log.specs.Batches.{is_open, is_cancelled}
-use Rattle.sled_log.specs.Stored.{bare_event}
+use Rattle.sled_log.proofs.Names.{◌≡◌, true, false, not, take, drop, map, sym, ◌∙◌, ap, arith, take-map, drop-map, length-map, take_rest, true≢false, is_open, is_cancelled, bare_event}
 use Rattle.sled_log.proofs.memory.cuts.is_fair_cut.Goals as goal
 
 pub returns-then-not-leaves_open : goal.returns-then-not-leaves_open

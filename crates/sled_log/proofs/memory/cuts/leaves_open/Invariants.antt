@@ -1,6 +1,4 @@
-use Rattle.std.proofs.Common.{◌≡◌, drop, map}
-use Rattle.sled_log.specs.Batches.{is_open, open_after}
-use Rattle.sled_log.specs.Stored.{bare_event}
+use Rattle.sled_log.proofs.Names.{◌≡◌, drop, map, is_open, open_after, bare_event}
 use Rattle.sled_log.proofs.memory.cuts.leaves_open.Given as goal
 
 -- from what is known so far, what is left leads to the answer

@@ -1,4 +1,4 @@
-use Rattle.std.proofs.Common.{option_copied, sym, ◌∙◌, ap}
+use Rattle.sled_log.proofs.Names.{option_copied, sym, ◌∙◌, ap}
 use Rattle.sled_log.specs.declared.memory.item.LogItem.{LogItem}
 use Rattle.sled_log.proofs.Stored.{last-says}
 use Rattle.sled_log.proofs.memory.finding.behind.Goals as goal

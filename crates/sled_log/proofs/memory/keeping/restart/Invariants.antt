@@ -1,5 +1,4 @@
-use Rattle.std.proofs.Common.{◌≡◌, ◌++◌, drop, take, map}
-use Rattle.sled_log.specs.Stored.{restarts}
+use Rattle.sled_log.proofs.Names.{◌≡◌, ◌++◌, drop, take, map, restarts}
 use Rattle.sled_log.proofs.memory.keeping.restart.Given as goal
 
 -- the items so far are restarts, and the others are as they were

@@ -1,5 +1,4 @@
-use Rattle.std.proofs.Common.{arith}
-use Rattle.sled_log.specs.Stored.{settles_at}
+use Rattle.sled_log.proofs.Names.{arith, settles_at}
 use Rattle.sled_log.proofs.Stored.{over_more}
 use Rattle.sled_log.proofs.memory.keeping.settle.Goals as goal
 

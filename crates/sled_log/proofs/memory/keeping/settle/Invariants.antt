@@ -1,5 +1,4 @@
-use Rattle.std.proofs.Common.{◌≡◌, ◌++◌, drop, take, map}
-use Rattle.sled_log.specs.Stored.{settles_at}
+use Rattle.sled_log.proofs.Names.{◌≡◌, ◌++◌, drop, take, map, settles_at}
 use Rattle.sled_log.proofs.memory.keeping.settle.Given as goal
 
 -- the items so far are settled, and the others are as they were

@@ -1,13 +1,4 @@
-use Rattle.std.proofs.Common.{ℤ, ℕ, [], ◌∷◌, List, sym, ◌∙◌, ap, subst, arith, slice_index_or}
-use Rattle.std.proofs.lemmas.Result.{on_ok_weaker}
-use Rattle.sled_base.specs.Kinds.{log_kind_of}
-use Rattle.sled_base.specs.declared.types.DiskPtr.{DiskPtr}
-use Rattle.sled_base.specs.declared.types.page_state.PageState.{PageState}
-use Rattle.sled_log.specs.Chains.{is_freeing, changed, chains_from}
-use Rattle.sled_log.specs.Events.{Change}
-use Rattle.sled_log.specs.Messages.{effect_of_entry}
-use Rattle.sled_log.specs.Pages.{IsPageState}
-use Rattle.sled_log.specs.ZipLaws.{zip-at}
+use Rattle.sled_log.proofs.Names.{ℤ, ℕ, [], ◌∷◌, List, sym, ◌∙◌, ap, subst, arith, slice_index_or, on_ok_weaker, log_kind_of, DiskPtr, PageState, is_freeing, changed, chains_from, Change, effect_of_entry, IsPageState, zip-at}
 use Rattle.sled_log.proofs.PageStates.{Shows, begun-shows, linked-shows, absent-shows}
 use Rattle.sled_log.proofs.memory.pages.apply.Goals as goal
 

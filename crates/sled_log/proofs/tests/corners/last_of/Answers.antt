@@ -1,11 +1,6 @@
 -- The last message of a page is one of its chain, whose places the page says.
-use Rattle.std.proofs.Common.{rules, ◌≡◌, ℕ, zero, suc, ℤ, ◌+◌, ◌-◌, ◌<◌, SFits, w64, List, [], ◌∷◌, length, map, get_or, refl, sym, ap, subst, ◌∙◌, arith}
-use Rattle.std.specs.List.{Any}
-use Rattle.std.proofs.lemmas.Int.{to_z-of_z}
-use Rattle.sled_base.specs.declared.types.DiskPtr.{DiskPtr}
+use Rattle.sled_log.proofs.Names.{rules, ◌≡◌, ℕ, zero, suc, ℤ, ◌+◌, ◌-◌, ◌<◌, SFits, w64, List, [], ◌∷◌, length, map, get_or, refl, sym, ap, subst, ◌∙◌, arith, Any, to_z-of_z, DiskPtr, Entry, Chain, IsAt, IsPageState, said_of}
 use Rattle.sled_base.specs.declared.types.page_state.PageState.TheVariants.{Present}
-use Rattle.sled_log.specs.Messages.{Entry, Chain}
-use Rattle.sled_log.specs.Pages.{IsAt, IsPageState, said_of}
 use Rattle.sled_log.proofs.tests.corners.last_of.Goals as goal
 
 -- what is said of a chain is said of one of its messages

@@ -1,14 +1,5 @@
 -- The last message of a recovered page is one of the page's chain.
-use Rattle.std.proofs.Common.{rules, ◌≡◌, SFits, w64, to_z, of_z, List, [], length, slice_index_or, refl, sym, ap, subst, ◌∙◌, arith}
-use Rattle.std.specs.List.{Any, AllZip}
-use Rattle.std.proofs.lemmas.Int.{to_z-of_z}
-use Rattle.sled_base.specs.declared.types.page_state.PageState.{PageState}
-use Rattle.sled_log.specs.Laws.{now-Adds}
-use Rattle.sled_log.specs.LogState.{now}
-use Rattle.sled_log.specs.Memory.{state_of}
-use Rattle.sled_log.specs.Messages.{Chain, effect_of_entry}
-use Rattle.sled_log.specs.Pages.{IsAt, IsPageState}
-use Rattle.sled_log.specs.ZipLaws.{zip-at}
+use Rattle.sled_log.proofs.Names.{rules, ◌≡◌, SFits, w64, to_z, of_z, List, [], length, slice_index_or, refl, sym, ap, subst, ◌∙◌, arith, Any, AllZip, to_z-of_z, PageState, now-Adds, now, state_of, Chain, effect_of_entry, IsAt, IsPageState, zip-at}
 use Rattle.sled_log.proofs.tests.corners.read_last.Goals as goal
 
 pub read-requires : goal.read-requires

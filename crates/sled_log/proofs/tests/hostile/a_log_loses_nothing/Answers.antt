@@ -1,9 +1,4 @@
-use Rattle.std.proofs.Common.{◌≡◌, ◌+◌, ℕ, zero, suc, List, [], ◌∷◌, ◌++◌, take, map, refl, sym, ◌∙◌, ap, arith}
-use Rattle.sled_log.specs.Chains.{chains_after}
-use Rattle.sled_log.specs.Events.{Event, seen}
-use Rattle.sled_log.specs.Items.{left_now}
-use Rattle.sled_log.specs.Memory.{kept_in, state_of}
-use Rattle.sled_log.specs.Messages.{Message, Entry, unplaced, effect_of}
+use Rattle.sled_log.proofs.Names.{◌≡◌, ◌+◌, ℕ, zero, suc, List, [], ◌∷◌, ◌++◌, take, map, refl, sym, ◌∙◌, ap, arith, chains_after, Event, seen, left_now, kept_in, state_of, Message, Entry, unplaced, effect_of}
 use Rattle.sled_log.proofs.tests.hostile.a_log_loses_nothing.Goals as goal
 
 came-none : (came rest : List (Event Message)) → came ++ rest ≡ [] → came ≡ []

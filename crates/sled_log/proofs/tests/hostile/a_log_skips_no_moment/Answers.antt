@@ -1,9 +1,4 @@
-use Rattle.std.proofs.Common.{◌≡◌, inr, ⊎_elim, ℕ, zero, suc, List, [], ◌∷◌, ◌++◌, take, refl, ◌∙◌, ap, subst, arith}
-use Rattle.sled_log.specs.Chains.{chains_after}
-use Rattle.sled_log.specs.Events.{Event}
-use Rattle.sled_log.specs.Items.{WasLeft}
-use Rattle.sled_log.specs.Messages.{Message, Messages, effect_of}
-use Rattle.sled_log.specs.Kept.{LogItem}
+use Rattle.sled_log.proofs.Names.{◌≡◌, inr, ⊎_elim, ℕ, zero, suc, List, [], ◌∷◌, ◌++◌, take, refl, ◌∙◌, ap, subst, arith, chains_after, Event, WasLeft, Message, Messages, effect_of, LogItem}
 use Rattle.sled_log.proofs.tests.hostile.a_log_skips_no_moment.Goals as goal
 
 came-none : (came rest : List (Event Message)) → came ++ rest ≡ [] → came ≡ []

@@ -1,5 +1,4 @@
-use Rattle.std.proofs.lemmas.Result.{on_ok_weaker}
-use Rattle.sled_log.specs.Walks.{stands-on, stands-still}
+use Rattle.sled_log.proofs.Names.{on_ok_weaker, stands-on, stands-still}
 use Rattle.sled_log.proofs.tests.walks.reopen.Goals as goal
 
 pub returns-in-Ok : goal.returns-in-Ok

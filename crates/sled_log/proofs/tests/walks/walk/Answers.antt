@@ -1,10 +1,4 @@
-use Rattle.std.proofs.Common.{rules, ◌≡◌, ℤ, SFits, w64, not, nat_lt, nat_le, List, [], ◌∷◌, length, slice_index_or, refl, sym, ap, subst, arith}
-use Rattle.std.proofs.lemmas.Int.{to_z-of_z}
-use Rattle.std.specs.List.{Any}
-use Rattle.sled_log.specs.Chains.{is_empty}
-use Rattle.sled_log.specs.Messages.{Entry, Chain, effect_of_entry}
-use Rattle.sled_log.specs.Pages.{IsAt}
-use Rattle.sled_log.specs.Walks.{stands-on}
+use Rattle.sled_log.proofs.Names.{rules, ◌≡◌, ℤ, SFits, w64, not, nat_lt, nat_le, List, [], ◌∷◌, length, slice_index_or, refl, sym, ap, subst, arith, to_z-of_z, Any, is_empty, Entry, Chain, effect_of_entry, IsAt, stands-on}
 use Rattle.sled_log.proofs.tests.walks.walk.Goals as goal
 
 -- the node's message is one of its page

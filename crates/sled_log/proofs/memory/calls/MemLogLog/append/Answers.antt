@@ -1,8 +1,4 @@
-use Rattle.std.proofs.Common.{[], ◌∷◌, refl, sym, ap, subst, arith}
-use Rattle.sled_log.specs.Events.{Change}
-use Rattle.sled_log.specs.LogState.{Adds}
-use Rattle.sled_log.specs.Memory.{state_of}
-use Rattle.sled_log.specs.Messages.{message, placed, effect_of_entry}
+use Rattle.sled_log.proofs.Names.{[], ◌∷◌, refl, sym, ap, subst, arith, Change, Adds, state_of, message, placed, effect_of_entry}
 use Rattle.sled_log.proofs.MemCalls.{called_ok}
 use Rattle.sled_log.proofs.Sizes.{chains-sized}
 use Rattle.sled_log.proofs.memory.calls.MemLogLog.append.Goals as goal

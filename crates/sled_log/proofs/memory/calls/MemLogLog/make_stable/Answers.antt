@@ -1,14 +1,4 @@
-use Rattle.std.proofs.Common.{◌≡◌, ◌≤◌, ◌+◌, ◌<◌, false, List, length, take, drop, map, refl, sym, ◌∙◌, ap, subst, arith}
-use Rattle.std.proofs.lemmas.Bool.{true≢false}
-use Rattle.std.proofs.lemmas.List.{take_all, drop_all}
-use Rattle.std.proofs.lemmas.List.Sums.{sum_by-take-drop}
-use Rattle.sled_log.specs.Batches.{is_open}
-use Rattle.sled_log.specs.Items.{event_of, size_of_mark, log_size, all_settled, state_at, IsInOrder, are_placed}
-use Rattle.sled_log.specs.Kept.{LogItem}
-use Rattle.sled_log.specs.Memory.{kept_in}
-use Rattle.sled_log.specs.Stored.{never, are_within, settle_all, kept_items}
-use Rattle.sled_log.specs.declared.memory.MemLog.{MemLog}
-use Rattle.sled_log.specs.declared.memory.item.LogItem.{LogItem as StoredItem}
+use Rattle.sled_log.proofs.Names.{◌≡◌, ◌≤◌, ◌+◌, ◌<◌, false, List, length, take, drop, map, refl, sym, ◌∙◌, ap, subst, arith, true≢false, take_all, drop_all, sum_by-take-drop, is_open, event_of, size_of_mark, log_size, all_settled, state_at, IsInOrder, are_placed, LogItem, kept_in, never, are_within, settle_all, kept_items, MemLog, StoredItem}
 use Rattle.sled_log.proofs.MemCalls.{batch-says, called_settled, remembers_settled}
 use Rattle.sled_log.proofs.Moments.{pending_events, order-settled, length-all_settled, log_size-all_settled, pending-settled}
 use Rattle.sled_log.proofs.Places.{placed-settled}

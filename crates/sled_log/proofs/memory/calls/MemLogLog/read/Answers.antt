@@ -1,14 +1,5 @@
-use Rattle.std.proofs.Common.{◌≡◌, ℕ, Option, Some, None, Ok, IsSomeAnd, List, [], refl, ◌∙◌, ap, subst, slice_index_or}
-use Rattle.std.specs.Global.{Vec}
+use Rattle.sled_log.proofs.Names.{◌≡◌, ℕ, Option, Some, None, Ok, IsSomeAnd, List, [], refl, ◌∙◌, ap, subst, slice_index_or, Vec, MessageKind, LogItem, kept_in, state_of, Entry, effect_of_entry, IsRead, now, LogError, Corruption}
 use Rattle.std.specs.Option.{ok_or}
-use Rattle.sled_base.specs.declared.kinds.MessageKind.{MessageKind}
-use Rattle.sled_log.specs.Kept.{LogItem}
-use Rattle.sled_log.specs.Memory.{kept_in, state_of}
-use Rattle.sled_log.specs.Messages.{Entry, effect_of_entry}
-use Rattle.sled_log.specs.Pages.{IsRead}
-use Rattle.sled_log.specs.LogState.{now}
-use Rattle.sled_log.specs.declared.log.LogError.{LogError}
-use Rattle.sled_log.specs.declared.log.LogError.TheVariants.{Corruption}
 use Rattle.sled_log.proofs.KeptEntries.{IsKept, Finds, now-kept, finds-entry}
 use Rattle.sled_log.proofs.MemCalls.{called_same}
 use Rattle.sled_log.proofs.memory.calls.MemLogLog.read.Goals as goal

@@ -1,12 +1,5 @@
-use Rattle.std.proofs.Common.{◌+◌, ℕ, List, [], ◌∷◌, map, drop, get_or, refl, sym, ◌∙◌, ap, subst}
-use Rattle.std.proofs.lemmas.List.{drop_all, drop_more}
-use Rattle.std.proofs.lemmas.Result.{err_from_is_err_and}
-use Rattle.sled_base.specs.declared.types.page_state.PageState.{PageState}
-use Rattle.sled_log.specs.Items.{event_of}
-use Rattle.sled_log.specs.Memory.{kept_in}
-use Rattle.sled_log.specs.Messages.{Chain, effect_of_entry}
+use Rattle.sled_log.proofs.Names.{◌+◌, ℕ, List, [], ◌∷◌, map, drop, get_or, refl, sym, ◌∙◌, ap, subst, drop_all, drop_more, err_from_is_err_and, PageState, event_of, kept_in, Chain, effect_of_entry, StoredItem}
 use Rattle.sled_log.specs.ShapeLaws.{AreChains, chains-are}
-use Rattle.sled_log.specs.declared.memory.item.LogItem.{LogItem as StoredItem}
 use Rattle.sled_log.proofs.MemCalls.{called_memory}
 use Rattle.sled_log.proofs.Moments.{now_is}
 use Rattle.sled_log.proofs.PageStates.{Shows}

@@ -1,4 +1,4 @@
-use Rattle.std.proofs.Common.{drop}
+use Rattle.sled_log.proofs.Names.{drop}
 use Rattle.sled_log.proofs.Recovering.{IsRecovering}
 use Rattle.sled_log.proofs.memory.calls.MemLogLog.recover.Given as goal
 

@@ -1,5 +1,5 @@
 -- Only the device may change, and what was read lies within the log.
-use Rattle.std.proofs.Common.{◌-◌, ◌≡◌, ◌≤◌}
+use Rattle.sled_log.proofs.Names.{◌-◌, ◌≡◌, ◌≤◌}
 use Rattle.sled_log.proofs.tests.blind.BlindLogLog.recover.Given as goal
 
 abbrev pub invariant-loop-at : goal.invariant-loop-at

@@ -1,4 +1,4 @@
-use Rattle.std.proofs.Common.{refl}
+use Rattle.sled_log.proofs.Names.{refl}
 use Rattle.sled_log.proofs.Buffered.{called_buffered}
 use Rattle.sled_log.proofs.tests.buffered.BufferedLogLog.append.Goals as goal
 

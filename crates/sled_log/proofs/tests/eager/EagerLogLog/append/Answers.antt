@@ -1,10 +1,4 @@
-use Rattle.std.proofs.Common.{List, [], refl, sym, subst}
-use Rattle.std.specs.List.{AllByRecursion}
-use Rattle.std.specs.Prelude.{OnOk}
-use Rattle.sled_log.specs.Laws.{now-Adds}
-use Rattle.sled_log.specs.Memory.{state_of}
-use Rattle.sled_log.specs.Messages.{Chain, effect_of_entry}
-use Rattle.sled_log.specs.Pages.{IsSized}
+use Rattle.sled_log.proofs.Names.{List, [], refl, sym, subst, AllByRecursion, OnOk, now-Adds, state_of, Chain, effect_of_entry, IsSized}
 use Rattle.sled_log.specs.declared.tests.eager.EagerLog.{EagerLog}
 use Rattle.sled_log.proofs.Eager.{called_eager}
 use Rattle.sled_log.proofs.tests.eager.EagerLogLog.append.Goals as goal

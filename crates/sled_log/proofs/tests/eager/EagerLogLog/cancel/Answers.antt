@@ -1,4 +1,4 @@
-use Rattle.std.proofs.Common.{refl}
+use Rattle.sled_log.proofs.Names.{refl}
 use Rattle.sled_log.specs.declared.tests.eager.EagerLog.{EagerLog}
 use Rattle.sled_log.proofs.Eager.{called_eager}
 use Rattle.sled_log.proofs.tests.eager.EagerLogLog.cancel.Goals as goal

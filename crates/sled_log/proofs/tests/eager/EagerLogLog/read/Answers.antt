@@ -1,5 +1,4 @@
-use Rattle.std.proofs.Common.{◌≤◌, ◌+◌, ℕ, refl, subst}
-use Rattle.sled_log.specs.Limits.{head_size, size_limit}
+use Rattle.sled_log.proofs.Names.{◌≤◌, ◌+◌, ℕ, refl, subst, head_size, size_limit}
 use Rattle.sled_log.specs.declared.tests.eager.EagerLog.{EagerLog}
 use Rattle.sled_log.proofs.Eager.{called_eager}
 use Rattle.sled_log.proofs.tests.eager.EagerLogLog.read.Goals as goal

@@ -1,4 +1,4 @@
-use Rattle.std.proofs.Common.{◌==◌, arith}
+use Rattle.sled_log.proofs.Names.{◌==◌, arith}
 use Rattle.sled_log.specs.declared.tests.faulty.FaultyLog.{FaultyLog}
 use Rattle.sled_log.proofs.Faulty.{called_over}
 use Rattle.sled_log.proofs.tests.faulty.FaultyLogLog.read.Goals as goal

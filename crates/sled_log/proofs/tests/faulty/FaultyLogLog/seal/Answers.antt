@@ -1,6 +1,4 @@
-use Rattle.std.proofs.Common.{◌==◌, refl, ◌∙◌, ap, arith}
-use Rattle.std.proofs.lemmas.Bool.{eqb-true}
-use Rattle.sled_log.specs.Calls.{one_more}
+use Rattle.sled_log.proofs.Names.{◌==◌, refl, ◌∙◌, ap, arith, eqb-true, one_more}
 use Rattle.sled_log.specs.declared.tests.faulty.FaultyLog.{FaultyLog}
 use Rattle.sled_log.proofs.Faulty.{called_unwritten, called_behind, called_over}
 use Rattle.sled_log.proofs.tests.faulty.FaultyLogLog.seal.Goals as goal
