@@ -1,5 +1,6 @@
 -- A log with a buffer over the log in memory: a stop leaves what was stable, and nothing of what is pending.
 use Rattle.sled_log.proofs.Names.{◌≡◌, inl, inr, ⊎_elim, ◌≤◌, ℕ, Result, Ok, Err, List, [], ◌++◌, refl, sym, ◌∙◌, ap, subst, arith, ⊤, cases_lt, Called, begun_by, Event, IsFair-none, IsPrefix-all, IsPrefix-none, state_of, clock_of, might_have_left, counts_of, was_at, Remembers, Entry, Message, Messages, effect_of, effect_of_entry, LogState, Adds, IsLeft, CrashesSinceLeave, unplaced_state, unplaced_events, Adds-unplaced, LogError, Memory, Full, ReadFault, WriteFault, Corruption, MemLog}
+use Rattle.sled_log.proofs.MemCalls.{stops}
 
 -- the stable chains at a moment, without their places
 abbrev pub stable_at : ℕ → MemLog → List Messages
@@ -32,35 +33,6 @@ module _ {T : Type 0} (old new : MemLog) (count : ℕ) (events : T → List (Eve
 stable_before : (state : LogState Message) (begun : List (Event Message)) → IsLeft effect_of state begun state.stable
 stable_before state begun = record { came = []; beginning = IsPrefix-none begun; cut = 0; fair = IsFair-none (state.pending ++ []); is = refl }
 
--- A stop at any moment of a call leaves what was stable before it, or what is stable after it.
-stable_stops : {L : Type 0} (log_of : L → MemLog) (old new : L) (P : List Messages → Type 0)
-    → P (stable_at (clock_of (log_of old)) (log_of old))
-    → P (stable_at (clock_of (log_of new)) (log_of new))
-    → Remembers (log_of old) (log_of new)
-    → CrashesSinceLeave (λ log. clock_of (log_of log)) (λ log t pages. might_have_kept (log_of log) t pages) old new P
-stable_stops {L} log_of old new P before after past =
-    let later = past.later in
-    let one = past.one in
-    let is_before : (at : ℕ) (pages : List Messages) → at ≤ clock_of (log_of old) → pages ≡ stable_at at (log_of new) → pages ≡ stable_at at (log_of old) = λ at pages le is.
-    is ∙ ap (λ (state : LogState Entry). (unplaced_state state).stable) (past.past at le) in
-    let is_after : (at : ℕ) (pages : List Messages) → at ≡ clock_of (log_of new) → pages ≡ stable_at at (log_of new) → P pages = λ at pages now is.
-    subst P (sym (is ∙ ap (λ moment. stable_at moment (log_of new)) now)) after in
-    record {
-      later = later;
-      each = λ pages left.
-          let from = left.1 in
-          let to = left.2 in
-          ⊎_elim (λ lt. is_after left.0 pages (omega arith) left.3)
-          (λ le. subst P (sym (is_before left.0 pages le left.3 ∙ ap (λ moment. stable_at moment (log_of old)) (let now : left.0 ≡ clock_of (log_of old) = omega arith in now))) before)
-          (cases_lt (clock_of (log_of old)) left.0);
-      before = λ t pages le left.
-          let to = left.2 in
-          ⊎_elim (λ lt. inr (is_after left.0 pages (omega arith) left.3)) (λ le. inl (left.0, left.1, le, is_before left.0 pages le left.3)) (cases_lt (clock_of (log_of old)) left.0);
-      kept = λ t pages le left.
-          let to = left.2 in
-          (left.0, left.1, omega arith, left.3 ∙ ap (λ (state : LogState Entry). (unplaced_state state).stable) (sym (past.past left.0 to)));
-    }
-
 -- What a call of the log in memory does, it does of a log with a buffer over it.
 pub called_buffered : {L T : Type 0} (log_of : L → MemLog) (old new : L) (count : ℕ) (events : T → List (Event Entry)) (begun : List (Event Message)) (result : Result T LogError)
     → ((answer : T) → unplaced_events (events answer) ≡ begun)
@@ -70,14 +42,16 @@ pub called_buffered : {L T : Type 0} (log_of : L → MemLog) (old new : L) (coun
 called_buffered {L} {T} log_of old new count events begun result tells called past =
     let begins = begun_by result begun in
     let before = unplaced_state (state_of (log_of old)) in
+    let P = IsLeft effect_of before begins in
     let after = stable_called (log_of old) (log_of new) count events begun tells result called in
+    let stop = stops (λ state pages. pages ≡ (unplaced_state state).stable) (log_of old) (log_of new) P (λ pages is. subst P (sym is) (stable_before before begins)) (λ pages is. subst P (sym is) after) past in
     record {
       added = called.added;
       refused = called.refused;
       usable = called.usable;
       opened = called.opened;
       sound = called.sound;
-      stop = λ _. stable_stops log_of old new (IsLeft effect_of before begins) (stable_before before begins) after past;
+      stop = λ _. record { later = stop.later; each = stop.each; before = stop.before; kept = stop.kept };
       cause = called.cause;
       reads = called.reads;
     }

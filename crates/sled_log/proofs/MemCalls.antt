@@ -1,5 +1,5 @@
 -- What a call of the log in memory does, for each way in which it ends.
-use Rattle.sled_log.proofs.Names.{◌≡◌, inl, inr, ⊎_elim, ◌≤◌, ◌<◌, ◌+◌, ℕ, false, Result, Ok, Err, List, [], ◌++◌, refl, sym, ◌∙◌, ap, subst, arith, ⊤, cases_lt, append-nil, is_open, Called, Event, state_at, all_settled, Adds-none, IsLeft-behind, IsLeft-more, kept_in, state_of, clock_of, was_at, might_have_left, counts_of, Remembers, Entry, Message, Messages, effect_of, effect_of_entry, LogState, Adds, IsLeft, CrashesSinceLeave, unplaced_state, unplaced_events, Adds-unplaced, opened-Adds, LogError, Memory, MemLog, LogItem}
+use Rattle.sled_log.proofs.Names.{◌≡◌, inl, inr, ⊎_elim, ◌≤◌, ◌<◌, ◌+◌, ℕ, false, Result, Ok, Err, List, [], refl, sym, ◌∙◌, ap, subst, arith, ⊤, cases_lt, append-nil, is_open, Called, Event, state_at, all_settled, Adds-none, IsLeft-behind, IsLeft-more, kept_in, state_of, clock_of, was_at, might_have_left, counts_of, Remembers, Entry, Message, Messages, effect_of, effect_of_entry, LogState, Adds, IsLeft, CrashesSinceLeave, unplaced_state, unplaced_events, Adds-unplaced, opened-Adds, LogError, Memory, MemLog}
 use Rattle.sled_log.proofs.Moments.{pending_events, adds-settled, state_at-settled}
 
 -- the log knows whether a batch is open

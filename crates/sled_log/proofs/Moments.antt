@@ -1,5 +1,5 @@
 -- Items that are in order, and what the log was at each moment.
-use Rattle.sled_log.proofs.Names.{◌≡◌, inl, inr, ⊎_elim, ◌≤◌, ◌<◌, ◌+◌, ℕ, Bool, true, false, not, ◌&&◌, cond, nat_le, Option, Some, None, is_none, List, [], ◌∷◌, ◌++◌, length, take, drop, map, sum, refl, sym, ◌∙◌, ap, subst, arith, filter, list_all, cases_lt, and_parts, and_from, and_left, and_right, leb-true, le-leb, lt-leb, false≢true, not_from_true, append-nil, length-append, length-map, map-append, take-append-drop, take-append-le, drop-append-le, take_all, drop_all, take-map, take-add, filter-append, sum_by-append, sum_by-take-drop, sum-map, LogItem, is_open, IsFair, chains_after, Event, event_of, size_of_mark, log_size, was_by, was_stable, was_pending, is_waiting, settled_at, all_settled, restarted, state_at, IsInOrder, WasLeft, chains_after-append, IsFair-none, IsLeft-behind, IsLeft-cut, IsLeft-more, Entry, Chain, Message, Messages, unplaced, message_in, effect_of, effect_of_entry, IsLeft-seen, LogState, now, Adds, IsLeft, CrashesSinceLeave, unplaced_state, unplaced_events, Adds-unplaced}
+use Rattle.sled_log.proofs.Names.{◌≡◌, ◌≤◌, ◌<◌, ◌+◌, ℕ, Bool, true, false, not, ◌&&◌, cond, nat_le, Option, Some, None, is_none, List, [], ◌∷◌, ◌++◌, length, take, drop, map, sum, refl, sym, ◌∙◌, ap, arith, filter, list_all, and_parts, and_from, and_left, and_right, leb-true, le-leb, lt-leb, false≢true, not_from_true, append-nil, length-append, length-map, map-append, take-append-drop, take-append-le, drop-append-le, take_all, drop_all, take-map, take-add, filter-append, sum_by-append, sum_by-take-drop, sum-map, LogItem, is_open, IsFair, chains_after, Event, event_of, size_of_mark, log_size, was_by, was_stable, was_pending, is_waiting, settled_at, all_settled, restarted, state_at, IsInOrder, WasLeft, chains_after-append, IsLeft-cut, Entry, Chain, Message, Messages, unplaced, message_in, effect_of, effect_of_entry, IsLeft-seen, LogState, now, Adds, IsLeft}
 use Rattle.std.proofs.lemmas.List.Folds.{list_all-append}
 use Rattle.sled_log.proofs.Filters.{list_all-weaker, filter-all, filter-none, filter-map_same, map-map_same}
 
@@ -261,3 +261,13 @@ left-stopped clock n items chains fair is = record {
   to = omega arith;
   left = IsLeft-seen effect_of_entry effect_of message_in (λ entry. refl) (state_at clock items) [] chains (IsLeft-cut effect_of_entry (state_at clock items) n chains fair is);
 }
+
+-- where nothing is pending, and nothing began, a crash leaves what is stable
+pub left-stable : (state : LogState Message) (pages : List Messages) → state.pending ≡ [] → IsLeft effect_of state [] pages → pages ≡ state.stable
+left-stable state pages none left =
+    let after : List (Event Message) → List Messages = λ l. chains_after effect_of state.stable (take left.cut l) in
+    left.is ∙ ap after (ap (λ l. l ++ left.came) none ∙ came-none left.came left.beginning.0 left.beginning.1) ∙ ap (chains_after effect_of state.stable) (take_all left.cut [] (omega arith))
+  where
+    came-none : (came rest : List (Event Message)) → came ++ rest ≡ [] → came ≡ []
+    came-none [] rest is = refl
+    came-none (x ∷ came) rest is = absurd (let no : x ∷ (came ++ rest) ≡ [] → _ = λ h. cc in no is)

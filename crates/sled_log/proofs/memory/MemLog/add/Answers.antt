@@ -1,4 +1,4 @@
-use Rattle.sled_log.proofs.Names.{◌≡◌, ◌+◌, ◌≤◌, ℕ, true, false, None, List, [], ◌∷◌, ◌++◌, length, take, drop, map, refl, sym, ◌∙◌, ap, subst, arith, le-leb, and_from, eq-eqb, false≢true, length-append, take-append-le, drop-append-le, map-append, sum_by-append, err_from_is_err_and, is_open, open_after, event_of, event_of_mark, size_of_mark, is_waiting, log_size, stands_at, is_placed, are_placed, state_at, IsInOrder, open_after-append, IsFair-none, effect_of_entry, Adds, Mark, LogItem, kept_in, state_of, never, are_within, kept_mark, kept_items, MemLog, StoredItem}
+use Rattle.sled_log.proofs.Names.{◌≡◌, ◌+◌, ◌≤◌, ℕ, true, false, None, List, [], ◌∷◌, ◌++◌, length, take, drop, map, refl, sym, ◌∙◌, ap, subst, arith, le-leb, and_from, eq-eqb, false≢true, length-append, take-append-le, drop-append-le, map-append, sum_by-append, err_from_is_err_and, is_open, open_after, event_of, event_of_mark, size_of_mark, is_waiting, log_size, stands_at, is_placed, are_placed, state_at, IsInOrder, open_after-append, IsFair-none, effect_of_entry, Adds, Mark, LogItem, kept_in, state_of, never, are_within, kept_mark, kept_items, StoredItem}
 use Rattle.sled_log.proofs.MemCalls.{batch-says, called_ok, called_memory}
 use Rattle.sled_log.proofs.Stored.{kept-add, within-push, stands-at}
 use Rattle.sled_log.proofs.Moments.{order-push, stable-push, pending-push, state_at-push}

@@ -30,28 +30,18 @@ look-requires-clause-known g c =
     let fits : SFits w64 c.in_ok-lsn.lsn = search rules in
     λ told. known _ _ _ _ _ (sym (to_z-of_z w64 c.in_ok-lsn.lsn fits)) (s5.holds told)
 
-pub seal-requires-clause-usable : goal.seal-requires-clause-usable
-seal-requires-clause-usable g c =
+pub seal-requires : goal.seal-requires
+seal-requires g c =
     let s1 = stands-on _ c.requires.empty c.in_ok-counter.ensures.called in
     let s2 = stands-on _ s1 c.in_ok-first.ensures.called in
     let s3 = stands-on _ s2 c.in_ok-pin.ensures.called in
     let s4 = stands-on _ s3 c.in_ok-lsn.ensures.called in
     let s5 = stands-on _ s4 c.in_ok-link.ensures.called in
     let s6 = c.in_ok-read.ensures.stands _ _ s5 in
-    s6.usable
+    record { usable = s6.usable; opened = s6.opened }
 
-pub seal-requires-clause-opened : goal.seal-requires-clause-opened
-seal-requires-clause-opened g c =
-    let s1 = stands-on _ c.requires.empty c.in_ok-counter.ensures.called in
-    let s2 = stands-on _ s1 c.in_ok-first.ensures.called in
-    let s3 = stands-on _ s2 c.in_ok-pin.ensures.called in
-    let s4 = stands-on _ s3 c.in_ok-lsn.ensures.called in
-    let s5 = stands-on _ s4 c.in_ok-link.ensures.called in
-    let s6 = c.in_ok-read.ensures.stands _ _ s5 in
-    s6.opened
-
-pub pin-requires-2-clause-usable : goal.pin-requires-2-clause-usable
-pin-requires-2-clause-usable g c =
+pub pin-requires-2 : goal.pin-requires-2
+pin-requires-2 g c =
     let s1 = stands-on _ c.requires.empty c.in_ok-counter.ensures.called in
     let s2 = stands-on _ s1 c.in_ok-first.ensures.called in
     let s3 = stands-on _ s2 c.in_ok-pin.ensures.called in
@@ -60,19 +50,7 @@ pin-requires-2-clause-usable g c =
     let s6 = c.in_ok-read.ensures.stands _ _ s5 in
     let s7 = stands-on _ s6 c.in_ok-seal.ensures.called in
     let s8 = c.in_ok-sealed.ensures.stands _ _ s7 in
-    s8.usable
-
-pub pin-requires-2-clause-closed : goal.pin-requires-2-clause-closed
-pin-requires-2-clause-closed g c =
-    let s1 = stands-on _ c.requires.empty c.in_ok-counter.ensures.called in
-    let s2 = stands-on _ s1 c.in_ok-first.ensures.called in
-    let s3 = stands-on _ s2 c.in_ok-pin.ensures.called in
-    let s4 = stands-on _ s3 c.in_ok-lsn.ensures.called in
-    let s5 = stands-on _ s4 c.in_ok-link.ensures.called in
-    let s6 = c.in_ok-read.ensures.stands _ _ s5 in
-    let s7 = stands-on _ s6 c.in_ok-seal.ensures.called in
-    let s8 = c.in_ok-sealed.ensures.stands _ _ s7 in
-    s8.opened
+    record { usable = s8.usable; closed = s8.opened }
 
 pub append-requires-4-clause-can : goal.append-requires-4-clause-can
 append-requires-4-clause-can g c =

@@ -1,12 +1,10 @@
 use Rattle.sled_log.proofs.Names.{List, [], refl, sym, subst, AllByRecursion, OnOk, now-Adds, state_of, Chain, effect_of_entry, IsSized}
 use Rattle.sled_log.specs.declared.tests.eager.EagerLog.{EagerLog}
-use Rattle.sled_log.proofs.Eager.{called_eager}
+use Rattle.sled_log.proofs.Eager.{called_settled}
 use Rattle.sled_log.proofs.tests.eager.EagerLogLog.append.Goals as goal
 
 pub returns-clause-called : goal.returns-clause-called
-returns-clause-called c =
-    let settled = c.settle.ensures in
-    called_eager (λ (log : EagerLog). log.log) c.args.self.now _ _ _ _ _ _ settled.adds settled.stop settled.counts (λ said. refl) c.append-said.ensures.called
+returns-clause-called c = called_settled (λ (log : EagerLog). log.log) c.args.self.now _ _ c.settle.ensures.adds c.settle.ensures.stop c.settle.ensures.counts _ _ _ _ (λ said. refl) c.append-said.ensures.called
 
 -- what became stable behind the call changed no page
 pub returns-clause-sized : goal.returns-clause-sized

@@ -1,9 +1,7 @@
 use Rattle.sled_log.proofs.Names.{refl}
 use Rattle.sled_log.specs.declared.tests.eager.EagerLog.{EagerLog}
-use Rattle.sled_log.proofs.Eager.{called_eager}
+use Rattle.sled_log.proofs.Eager.{called_settled}
 use Rattle.sled_log.proofs.tests.eager.EagerLogLog.cancel.Goals as goal
 
 pub returns-clause-called : goal.returns-clause-called
-returns-clause-called c =
-    let settled = c.settle.ensures in
-    called_eager (λ (log : EagerLog). log.log) c.args.self.now _ _ _ _ _ _ settled.adds settled.stop settled.counts (λ said. refl) c.cancel-cancelled.ensures.called
+returns-clause-called c = called_settled (λ (log : EagerLog). log.log) c.args.self.now _ _ c.settle.ensures.adds c.settle.ensures.stop c.settle.ensures.counts _ _ _ _ (λ said. refl) c.cancel-cancelled.ensures.called

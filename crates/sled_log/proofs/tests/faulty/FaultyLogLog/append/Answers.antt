@@ -1,19 +1,13 @@
-use Rattle.sled_log.proofs.Names.{◌==◌, refl, ◌∙◌, ap, arith, eqb-true, one_more}
+use Rattle.sled_log.proofs.Names.{refl, arith}
 use Rattle.sled_log.specs.declared.tests.faulty.FaultyLog.{FaultyLog}
 use Rattle.sled_log.proofs.Faulty.{called_unwritten, called_behind, called_over}
 use Rattle.sled_log.proofs.tests.faulty.FaultyLogLog.append.Goals as goal
 
 pub returns-then-not-self-clause-called : goal.returns-then-not-self-clause-called
-returns-then-not-self-clause-called c =
-    let none = eqb-true c.args.self.now.write_faults 0 c.requires.usable in
-    called_unwritten (λ (log : FaultyLog). log.log) (λ log. log.write_faults == 0) _ c.args.self.now _ _ _ _ refl (ap (λ n. n == 0) (c.one_more-self.ensures ∙ ap one_more none)) refl c.one_more-self.ensures refl
+returns-then-not-self-clause-called c = called_unwritten (λ (log : FaultyLog). log.log) _ c.args.self.now _ _ _ _ c.requires.usable refl c.one_more-self.ensures refl refl
 
 pub returns-then-fails-2-clause-called : goal.returns-then-fails-2-clause-called
-returns-then-fails-2-clause-called c =
-    let none = eqb-true c.args.self.now.write_faults 0 c.requires.usable in
-    called_behind (λ (log : FaultyLog). log.log) (λ log. log.write_faults == 0) _ c.args.self.now _ _ _ _ _ _ c.append-said.result c.append-said.ensures.called
-    (ap (λ n. n == 0) (c.one_more-self-then-fails-2.ensures ∙ ap one_more none)) refl c.one_more-self-then-fails-2.ensures refl
+returns-then-fails-2-clause-called c = called_behind (λ (log : FaultyLog). log.log) _ c.args.self.now _ _ _ _ c.requires.usable refl c.one_more-self-then-fails-2.ensures refl _ _ c.append-said.result c.append-said.ensures.called
 
 pub returns-clause-called : goal.returns-clause-called
-returns-clause-called c =
-    called_over (λ (log : FaultyLog). log.log) (λ log. log.write_faults == 0) _ c.args.self.now _ _ _ _ _ c.append-said.result c.requires.usable c.append-said.ensures.called (omega arith) (omega arith) refl
+returns-clause-called c = called_over (λ (log : FaultyLog). log.log) _ c.args.self.now _ _ _ _ _ c.append-said.result c.requires.usable c.append-said.ensures.called (omega arith) (omega arith) refl
