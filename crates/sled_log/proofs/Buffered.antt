@@ -1,5 +1,5 @@
 -- A log with a buffer over the log in memory: a stop leaves what was stable, and nothing of what is pending.
-use Rattle.sled_log.proofs.Names.{◌≡◌, inl, inr, ⊎_elim, ◌≤◌, ℕ, Result, Ok, Err, List, [], ◌++◌, refl, sym, ◌∙◌, ap, subst, arith, ⊤, cases_lt, Called, begun_by, Event, IsFair-none, IsPrefix-all, IsPrefix-none, state_of, clock_of, might_have_left, counts_of, was_at, Remembers, Entry, Message, Messages, effect_of, effect_of_entry, LogState, Adds, IsLeft, CrashesSinceLeave, unplaced_state, unplaced_events, Adds-unplaced, LogError, Memory, Full, ReadFault, WriteFault, Corruption, MemLog}
+use Rattle.sled_log.proofs.Names.{◌≡◌, ⊎_elim, ◌≤◌, ℕ, Result, Ok, Err, List, [], ◌++◌, refl, sym, subst, arith, ⊤, Called, begun_by, Event, IsFair-none, IsPrefix-all, IsPrefix-none, state_of, clock_of, might_have_left, counts_of, was_at, Remembers, Entry, Message, Messages, effect_of, effect_of_entry, LogState, Adds, IsLeft, unplaced_state, unplaced_events, Adds-unplaced, LogError, Memory, Full, ReadFault, WriteFault, Corruption, MemLog}
 use Rattle.sled_log.proofs.MemCalls.{stops}
 
 -- the stable chains at a moment, without their places

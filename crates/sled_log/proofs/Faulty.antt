@@ -1,5 +1,5 @@
 -- A log in memory of which one read and one other call fail.
-use Rattle.sled_log.proofs.Names.{◌≡◌, inl, inr, ⊎_elim, ◌≤◌, ◌+◌, ◌==◌, ℕ, Bool, true, false, cond, Result, Err, List, [], refl, sym, ◌∙◌, ap, subst, arith, eqb-true, true≢false, IfOk-weaker, on_err_weaker, ⊤, is_open, Counts, Called, HasGrown, begun_by, one_more, Event, left_now, Adds-none, IsLeft-more, CrashesSinceLeave-none, kept_in, state_of, clock_of, might_have_left, counts_of, Entry, Message, Messages, effect_of, effect_of_entry, most_count, CrashesSinceLeave-weaker, Called-stop, LogState, Adds, IsLeft, CrashesSinceLeave, unplaced_state, LogError, ReadFault, WriteFault, MemLog}
+use Rattle.sled_log.proofs.Names.{◌≡◌, inl, inr, ⊎_elim, ◌≤◌, ◌+◌, ◌==◌, ℕ, Bool, true, false, cond, Result, Err, List, [], refl, sym, ◌∙◌, ap, subst, arith, eqb-true, true≢false, ⊤, Counts, Called, HasGrown, begun_by, one_more, Event, left_now, IsLeft-more, CrashesSinceLeave-none, kept_in, state_of, clock_of, might_have_left, counts_of, Entry, Message, effect_of, most_count, Called-stop, LogState, IsLeft, CrashesSinceLeave, unplaced_state, LogError, WriteFault, MemLog}
 
 -- the log in memory, which may be called or not
 abbrev pub state_over : MemLog → Bool → LogState Entry

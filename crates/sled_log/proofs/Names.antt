@@ -40,7 +40,7 @@ pub use Rattle.std.proofs.lemmas.List.{append-nil, drop-append-le, drop-map, dro
 pub use Rattle.std.proofs.lemmas.List.Elements.{All-from_recursion, filter-append}
 pub use Rattle.std.proofs.lemmas.List.Sums.{sum-map, sum_by-append, sum_by-cons, sum_by-take-drop}
 pub use Rattle.std.proofs.lemmas.Option.{get_or_from_slice_get, slice_get_read, slice_get_within}
-pub use Rattle.std.proofs.lemmas.Result.{IfOk-weaker, err_from_is_err_and, on_err_weaker, on_ok_weaker}
+pub use Rattle.std.proofs.lemmas.Result.{err_from_is_err_and, on_ok_weaker}
 pub use Rattle.std.specs.Global.{Vec}
 pub use Rattle.std.specs.List.{AllByRecursion, AllZip, Any, filter, list_all, slice_get, sum_by}
 pub use Rattle.std.specs.List.Sorted.{IsNonDecreasingBy}

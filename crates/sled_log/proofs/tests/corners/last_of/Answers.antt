@@ -1,5 +1,5 @@
 -- The last message of a page is one of its chain, whose places the page says.
-use Rattle.sled_log.proofs.Names.{rules, ◌≡◌, ℕ, zero, suc, ℤ, ◌+◌, ◌-◌, ◌<◌, SFits, w64, List, [], ◌∷◌, length, map, get_or, refl, sym, ap, subst, ◌∙◌, arith, Any, to_z-of_z, DiskPtr, Entry, Chain, IsAt, IsPageState, said_of}
+use Rattle.sled_log.proofs.Names.{rules, ◌≡◌, ℕ, zero, suc, ℤ, ◌-◌, ◌<◌, SFits, w64, List, [], ◌∷◌, length, map, get_or, refl, sym, ap, subst, ◌∙◌, arith, Any, to_z-of_z, DiskPtr, Chain, IsAt, IsPageState, said_of}
 use Rattle.sled_base.specs.declared.types.page_state.PageState.TheVariants.{Present}
 use Rattle.sled_log.proofs.tests.corners.last_of.Goals as goal
 
