@@ -1,5 +1,5 @@
 -- A log in memory of which one read and one other call fail.
-use Rattle.sled_log.proofs.Names.{◌≡◌, inl, inr, ⊎_elim, ◌≤◌, ◌+◌, ◌==◌, ℕ, Bool, true, false, cond, Result, Err, List, [], refl, sym, ◌∙◌, ap, subst, arith, eqb-true, true≢false, ⊤, Counts, Called, HasGrown, begun_by, one_more, Event, left_now, IsLeft-more, CrashesSinceLeave-none, kept_in, state_of, clock_of, might_have_left, counts_of, Entry, Message, effect_of, most_count, Called-stop, LogState, IsLeft, CrashesSinceLeave, unplaced_state, LogError, WriteFault, MemLog}
+use Rattle.sled_log.proofs.Names.{Adds, Adds-none, effect_of_entry, is_open, ReadFault, ◌≡◌, inl, inr, ⊎_elim, ◌≤◌, ◌+◌, ◌==◌, ℕ, Bool, true, false, cond, Result, Err, List, [], refl, sym, ◌∙◌, ap, subst, arith, eqb-true, true≢false, ⊤, Counts, Called, HasGrown, begun_by, one_more, Event, left_now, IsLeft-more, CrashesSinceLeave-none, kept_in, state_of, clock_of, might_have_left, counts_of, Entry, Message, effect_of, most_count, Called-stop, LogState, IsLeft, CrashesSinceLeave, unplaced_state, LogError, WriteFault, MemLog}
 
 -- the log in memory, which may be called or not
 abbrev pub state_over : MemLog → Bool → LogState Entry
@@ -61,6 +61,28 @@ module _ {L : Type 0} (log_of : L → MemLog) (counts : L → Counts) (old new :
       let P = IsLeft effect_of (unplaced_state (state_of before)) begun in
       let stop = CrashesSinceLeave-none clock_of might_have_left before P (λ pages now. IsLeft-more effect_of (unplaced_state (state_of before)) [] begun pages (left_now before.clock (kept_in before) pages now)) in
       leaves begun (subst (λ l. CrashesSinceLeave clock_of might_have_left before l P) (sym same) stop)
+
+  -- a read that fails reads nothing of it
+  pub called_unread : {T : Type 0} (own : ℕ) (events : T → List (Event Entry)) (begun : List (Event Message)) → log_of new ≡ log_of old → may new ≡ true → (counts new).failed_reads ≡ one_more (counts old).failed_reads
+      → (counts new).write_faults ≡ (counts old).write_faults → (counts new).reads ≡ own → (let result : Result T LogError = Err ReadFault in CalledOver own events begun result)
+  called_unread own events begun same usable failed faults reads =
+      let before = log_of old in
+      let none : Adds effect_of_entry (state_of before) [] (state_of (log_of new)) = subst (λ l. Adds effect_of_entry (state_of before) [] (state_of l)) (sym same) (Adds-none effect_of_entry (state_of before)) in
+      record {
+        added = λ _. tt;
+        refused = λ _ _. none;
+        usable = usable;
+        opened = λ _. ap (λ l. is_open (state_of l).pending) same;
+        sound = λ _ is. cc;
+        stop = λ _. left-same [] same;
+        cause = record {
+          failed_reads = subst (λ n. (counts old).failed_reads ≤ n) (sym failed) (not_less (counts old).failed_reads);
+          write_faults = omega (arith, faults);
+          read = λ _. subst (HasGrown (counts old).failed_reads) (sym failed) (grows (counts old).failed_reads);
+          write = λ is. cc;
+        };
+        reads = reads;
+      }
 
   module _ {T : Type 0} (own : ℕ) (events : T → List (Event Entry)) (begun : List (Event Message))
       (usable : may old ≡ true) (failed : (counts new).failed_reads ≡ (counts old).failed_reads) (faults : (counts new).write_faults ≡ one_more (counts old).write_faults) (reads : (counts new).reads ≡ own) where
