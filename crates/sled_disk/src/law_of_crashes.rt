@@ -22,15 +22,27 @@ pub fn a_log_on_a_disk_in_memory_tells()
 
 /// What is known of a log at rest.
 pub fn a_log_at_rest<L: Log>(_log: &L)
-    ensures keeps { L.tells → (L.state _log.now).usable ≡ true → L.left_since _log.now (L.moment _log.now) (unplaced_state (L.state _log.now)).stable }
-    ensures only { (pages : List Messages) → L.tells → (L.state _log.now).usable ≡ true → L.left_since _log.now (L.moment _log.now) pages → IsLeft effect_of (unplaced_state (L.state _log.now)) [] pages }
-    ensures earlier { (t u : ℕ) (pages : List Messages) → L.tells → t ≤ u → L.left_since _log.now u pages → L.left_since _log.now t pages }
+    ensures keeps { L.tells → (L.state _log.now).usable ≡ true
+        → L.left_since _log.now (L.moment _log.now) (unplaced_state (L.state _log.now)).stable }
+    ensures only { (pages : List Messages)
+        → L.tells
+        → (L.state _log.now).usable ≡ true
+        → L.left_since _log.now (L.moment _log.now) pages
+        → IsLeft effect_of (unplaced_state (L.state _log.now)) [] pages }
+    ensures earlier { (t u : ℕ) (pages : List Messages) → L.tells → t ≤ u
+        → L.left_since _log.now u pages → L.left_since _log.now t pages }
 {}
 
 /// The same of a log on a disk in memory, with no premise on its bytes.
 pub fn a_disk_log_at_rest(log: &DiskLog<MemDisk>)
-    ensures keeps { (⟦<DiskLog<MemDisk> as Log>⟧.state log.now).usable ≡ true → ⟦<DiskLog<MemDisk> as Log>⟧.left_since log.now (⟦<DiskLog<MemDisk> as Log>⟧.moment log.now) (unplaced_state (⟦<DiskLog<MemDisk> as Log>⟧.state log.now)).stable }
-    ensures only { (pages : List Messages) → (⟦<DiskLog<MemDisk> as Log>⟧.state log.now).usable ≡ true → ⟦<DiskLog<MemDisk> as Log>⟧.left_since log.now (⟦<DiskLog<MemDisk> as Log>⟧.moment log.now) pages → IsLeft effect_of (unplaced_state (⟦<DiskLog<MemDisk> as Log>⟧.state log.now)) [] pages }
+    ensures keeps { (⟦<DiskLog<MemDisk> as Log>⟧.state log.now).usable ≡ true
+        → ⟦<DiskLog<MemDisk> as Log>⟧.left_since log.now (⟦<DiskLog<MemDisk> as Log>⟧.moment
+        log.now) (unplaced_state (⟦<DiskLog<MemDisk> as Log>⟧.state log.now)).stable }
+    ensures only { (pages : List Messages)
+        → (⟦<DiskLog<MemDisk> as Log>⟧.state log.now).usable ≡ true
+        → ⟦<DiskLog<MemDisk> as Log>⟧.left_since log.now
+        (⟦<DiskLog<MemDisk> as Log>⟧.moment log.now) pages
+        → IsLeft effect_of (unplaced_state (⟦<DiskLog<MemDisk> as Log>⟧.state log.now)) [] pages }
 {
     a_log_at_rest(log);
 }
@@ -48,11 +60,15 @@ pub fn reopen_after_a_crash(
 ) -> Result<DiskLog<MemDisk>, (LogError, MemDisk)>
     ensures usable { IfOk result (λ new. (⟦<DiskLog<MemDisk> as Log>⟧.state new).usable ≡ true) }
     ensures pending { IfOk result (λ new. (⟦<DiskLog<MemDisk> as Log>⟧.state new).pending ≡ []) }
-    ensures left { IfOk result (λ new. ⟦<DiskLog<MemDisk> as Log>⟧.left_since log (min (n - 1) (clock_of log.disk)) (unplaced_state (⟦<DiskLog<MemDisk> as Log>⟧.state new)).stable) }
-    ensures sound { IfErr result (λ e. e.0 ≡ Corruption → (pages : List Messages) → ⟦<DiskLog<MemDisk> as Log>⟧.left_since log (min (n - 1) (clock_of log.disk)) pages) }
+    ensures left { IfOk result (λ new. ⟦<DiskLog<MemDisk> as Log>⟧.left_since log (min (n - 1)
+        (clock_of log.disk)) (unplaced_state (⟦<DiskLog<MemDisk> as Log>⟧.state new)).stable) }
+    ensures sound { IfErr result (λ e. e.0 ≡ Corruption → (pages : List Messages)
+        → ⟦<DiskLog<MemDisk> as Log>⟧.left_since log (min (n - 1) (clock_of log.disk)) pages) }
     ensures not_full { IfErr result (λ e. e.0 ≡ Full → ⊥) }
-    ensures read_fault { IfErr result (λ e. e.0 ≡ ReadFault → HasGrown 0 (counts_of e.1).failed_reads) }
-    ensures write_fault { IfErr result (λ e. e.0 ≡ WriteFault → HasGrown 0 (counts_of e.1).write_faults) }
+    ensures read_fault { IfErr result (λ e. e.0 ≡ ReadFault
+        → HasGrown 0 (counts_of e.1).failed_reads) }
+    ensures write_fault { IfErr result (λ e. e.0 ≡ WriteFault
+        → HasGrown 0 (counts_of e.1).write_faults) }
 {
     let left = log.into_disk().stop(n, fill);
     DiskLog::open(alloc, left, segment_size, clean_every)
@@ -72,13 +88,19 @@ pub fn what_was_flushed_is_there(
 ) -> Result<DiskLog<MemDisk>, (LogError, MemDisk)>
     requires usable { (⟦<DiskLog<MemDisk> as Log>⟧.state log).usable ≡ true }
     requires flushed { (⟦<DiskLog<MemDisk> as Log>⟧.state log).pending ≡ [] }
-    requires can { IsTrue (can_make_all (now effect_of (unplaced_state (⟦<DiskLog<MemDisk> as Log>⟧.state log))) (is_open (⟦<DiskLog<MemDisk> as Log>⟧.state log).pending) calls.now) }
+    requires can { IsTrue
+        (can_make_all (now effect_of (unplaced_state (⟦<DiskLog<MemDisk> as Log>⟧.state log)))
+        (is_open (⟦<DiskLog<MemDisk> as Log>⟧.state log).pending) calls.now) }
     requires since { clock_of log.disk ≤ n - 1 }
-    ensures prefix { IfOk result (λ new. IsLeft effect_of (unplaced_state (⟦<DiskLog<MemDisk> as Log>⟧.state log)) (events_of_all calls.now) (unplaced_state (⟦<DiskLog<MemDisk> as Log>⟧.state new)).stable) }
+    ensures prefix { IfOk result
+        (λ new. IsLeft effect_of (unplaced_state (⟦<DiskLog<MemDisk> as Log>⟧.state log))
+        (events_of_all calls.now) (unplaced_state (⟦<DiskLog<MemDisk> as Log>⟧.state new)).stable) }
     ensures sound { IfErr result (λ e. e.0 ≡ Corruption → ⊥) }
     ensures not_full { IfErr result (λ e. e.0 ≡ Full → ⊥) }
-    ensures read_fault { IfErr result (λ e. e.0 ≡ ReadFault → HasGrown 0 (counts_of e.1).failed_reads) }
-    ensures write_fault { IfErr result (λ e. e.0 ≡ WriteFault → HasGrown 0 (counts_of e.1).write_faults) }
+    ensures read_fault { IfErr result (λ e. e.0 ≡ ReadFault
+        → HasGrown 0 (counts_of e.1).failed_reads) }
+    ensures write_fault { IfErr result (λ e. e.0 ≡ WriteFault
+        → HasGrown 0 (counts_of e.1).write_faults) }
 {
     let _whatever_they_answer = make_calls(&mut log, calls);
     reopen_after_a_crash(alloc, log, n, fill, segment_size, clean_every)

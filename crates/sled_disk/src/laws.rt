@@ -8,15 +8,25 @@ ghost use Rattle.sled_disk.specs.Format.{Describes, DescribesTo, Frame, body, ev
 
 /// A file describes one list of events.
 pub fn a_file_has_one_meaning()
-    ensures { (bytes : List ℕ) (events others : List (Event Entry)) → Describes bytes events → Describes bytes others → events ≡ others }
+    ensures { (bytes : List ℕ) (events others : List (Event Entry)) → Describes bytes events
+        → Describes bytes others → events ≡ others }
 {}
 
 /// Whatever bytes stand behind the closed gate, the file describes the same events, and its gate stands at the same place.
 pub fn bytes_behind_the_gate_say_nothing()
-    ensures { (gate : ℕ) (bytes other : List ℕ) (events : List (Event Entry)) → DescribesTo gate bytes events → take (gate + 1) other ≡ take (gate + 1) bytes → DescribesTo gate other events }
+    ensures { (gate : ℕ) (bytes other : List ℕ) (events : List (Event Entry))
+        → DescribesTo gate bytes events
+        → take (gate + 1) other ≡ take (gate + 1) bytes
+        → DescribesTo gate other events }
 {}
 
 /// A frame that was written behind the closed gate, which was opened, adds exactly its events.
 pub fn a_frame_adds_its_events()
-    ensures { (gate : ℕ) (bytes : List ℕ) (events : List (Event Entry)) (frame : Frame) (after : List ℕ) → DescribesTo gate bytes events → MayFollow gate events frame → IsWritten gate bytes frame after → DescribesTo (gate + (9 + length (body frame.records))) after (events ++ events_at entry_at (gate + 9) frame.records) }
+    ensures { (gate : ℕ) (bytes : List ℕ) (events : List (Event Entry)) (frame : Frame)
+        (after : List ℕ)
+        → DescribesTo gate bytes events
+        → MayFollow gate events frame
+        → IsWritten gate bytes frame after
+        → DescribesTo (gate + (9 + length (body frame.records))) after
+        (events ++ events_at entry_at (gate + 9) frame.records) }
 {}

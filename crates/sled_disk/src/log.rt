@@ -68,11 +68,14 @@ impl<D: Disk> DiskLog<D> {
     /// Memory: nothing was done. WriteFault: the device failed to write or to sync, and the first nine bytes may be any. So may they be
     /// after a crash during this call: a file whose `create` did not answer Ok has no log in it, and may be made anew.
     pub fn create(disk: &mut D) -> Result<(), LogError>
-        ensures bytes { D.tells → OnOk result (D.seen disk.new ≡ overlaid (D.seen disk.old) 0 (opening ++ 0 ∷ [])) }
+        ensures bytes { D.tells
+            → OnOk result (D.seen disk.new ≡ overlaid (D.seen disk.old) 0 (opening ++ 0 ∷ [])) }
         ensures empty { D.tells → OnOk result (Describes (D.seen disk.new) []) }
         ensures durable { D.tells → OnOk result (Only (D.seen disk.new) (D.may_leave disk.new)) }
-        ensures any_moment { D.tells → BytesLeft D.moment D.left_since disk.old disk.new (IsTornOf (D.may_leave disk.old) 0 9) }
-        ensures memory { IsErrOf result Memory → Rests D.tells D.seen D.may_leave D.moment D.left_since disk.old disk.new }
+        ensures any_moment { D.tells → BytesLeft D.moment D.left_since disk.old disk.new
+            (IsTornOf (D.may_leave disk.old) 0 9) }
+        ensures memory { IsErrOf result Memory
+            → Rests D.tells D.seen D.may_leave D.moment D.left_since disk.old disk.new }
         ensures only { IfErr result (λ e. (e ≡ Memory) ⊎ (e ≡ WriteFault)) }
         ensures cause { HasCause (D.counts disk.old) (D.counts disk.new) result }
         ensures reads { (D.counts disk.new).reads ≡ (D.counts disk.old).reads }
@@ -97,19 +100,27 @@ impl<D: Disk> DiskLog<D> {
         segment_size: u64,
         clean_every: u64,
     ) -> Result<Self, (LogError, D)>
-        ensures opened { D.tells → IfOk result (λ log. IsLogOf (D.seen disk) (⟦<Self as Log>⟧.state log)) }
-        ensures durable { D.tells → IfOk result (λ log. Only (D.seen log.disk) (D.may_leave log.disk)) }
+        ensures opened { D.tells
+            → IfOk result (λ log. IsLogOf (D.seen disk) (⟦<Self as Log>⟧.state log)) }
+        ensures durable { D.tells
+            → IfOk result (λ log. Only (D.seen log.disk) (D.may_leave log.disk)) }
         ensures usable { IfOk result (λ log. (⟦<Self as Log>⟧.state log).usable ≡ true) }
         ensures none { IfOk result (λ log. (⟦<Self as Log>⟧.state log).pending ≡ []) }
         ensures reads { IfOk result (λ log. (⟦<Self as Log>⟧.counts log).reads ≡ 0) }
-        ensures settings { IfOk result (λ log. (log.segment_size ≡ segment_size) × (log.clean_every ≡ clean_every)) }
-        ensures rests { IfOk result (λ log. Rests D.tells D.seen D.may_leave D.moment D.left_since disk log.disk) }
-        ensures corrupt { D.tells → IfErr result (λ e. e.0 ≡ Corruption → (events : List (Event Entry)) → Describes (D.seen disk) events → ⊥) }
-        ensures left { IfErr result (λ e. LeavesTheSame D.tells D.may_leave D.moment D.left_since disk e.1) }
+        ensures settings { IfOk result (λ log. (log.segment_size ≡ segment_size)
+            × (log.clean_every ≡ clean_every)) }
+        ensures rests { IfOk result
+            (λ log. Rests D.tells D.seen D.may_leave D.moment D.left_since disk log.disk) }
+        ensures corrupt { D.tells → IfErr result (λ e. e.0 ≡ Corruption
+            → (events : List (Event Entry)) → Describes (D.seen disk) events → ⊥) }
+        ensures left { IfErr result
+            (λ e. LeavesTheSame D.tells D.may_leave D.moment D.left_since disk e.1) }
         ensures seen { D.tells → IfErr result (λ e. e.0 ≢ WriteFault → D.seen e.1 ≡ D.seen disk) }
         ensures not_full { IfErr result (λ e. e.0 ≢ Full) }
-        ensures read_fault { IfErr result (λ e. e.0 ≡ ReadFault → HasGrown (D.counts disk).failed_reads (D.counts e.1).failed_reads) }
-        ensures write_fault { IfErr result (λ e. e.0 ≡ WriteFault → HasGrown (D.counts disk).write_faults (D.counts e.1).write_faults) }
+        ensures read_fault { IfErr result (λ e. e.0 ≡ ReadFault
+            → HasGrown (D.counts disk).failed_reads (D.counts e.1).failed_reads) }
+        ensures write_fault { IfErr result (λ e. e.0 ≡ WriteFault
+            → HasGrown (D.counts disk).write_faults (D.counts e.1).write_faults) }
     {
         if let Err(e) = disk.sync() {
             return Err((e, disk));
@@ -139,19 +150,26 @@ impl<D: Disk> DiskLog<D> {
     ) -> Result<Self, (LogError, Reader, D)>
         requires goes_on { D.tells → GoesOn (D.seen disk) reader }
         requires synced { D.tells → Only (D.seen disk) (D.may_leave disk) }
-        ensures opened { D.tells → IfOk result (λ log. IsLogOf (D.seen disk) (⟦<Self as Log>⟧.state log)) }
-        ensures durable { D.tells → IfOk result (λ log. Only (D.seen log.disk) (D.may_leave log.disk)) }
+        ensures opened { D.tells
+            → IfOk result (λ log. IsLogOf (D.seen disk) (⟦<Self as Log>⟧.state log)) }
+        ensures durable { D.tells
+            → IfOk result (λ log. Only (D.seen log.disk) (D.may_leave log.disk)) }
         ensures usable { IfOk result (λ log. (⟦<Self as Log>⟧.state log).usable ≡ true) }
         ensures none { IfOk result (λ log. (⟦<Self as Log>⟧.state log).pending ≡ []) }
         ensures reads { IfOk result (λ log. (⟦<Self as Log>⟧.counts log).reads ≡ 0) }
-        ensures settings { IfOk result (λ log. (log.segment_size ≡ segment_size) × (log.clean_every ≡ clean_every)) }
-        ensures rests { IfOk result (λ log. Rests D.tells D.seen D.may_leave D.moment D.left_since disk log.disk) }
+        ensures settings { IfOk result (λ log. (log.segment_size ≡ segment_size)
+            × (log.clean_every ≡ clean_every)) }
+        ensures rests { IfOk result
+            (λ log. Rests D.tells D.seen D.may_leave D.moment D.left_since disk log.disk) }
         ensures goes_on { D.tells → IfErr result (λ e. GoesOn (D.seen e.2) e.1) }
         ensures synced { D.tells → IfErr result (λ e. Only (D.seen e.2) (D.may_leave e.2)) }
-        ensures only_read { IfErr result (λ e. Rests D.tells D.seen D.may_leave D.moment D.left_since disk e.2) }
-        ensures corrupt { D.tells → IfErr result (λ e. e.0 ≡ Corruption → (events : List (Event Entry)) → Describes (D.seen disk) events → ⊥) }
+        ensures only_read { IfErr result
+            (λ e. Rests D.tells D.seen D.may_leave D.moment D.left_since disk e.2) }
+        ensures corrupt { D.tells → IfErr result (λ e. e.0 ≡ Corruption
+            → (events : List (Event Entry)) → Describes (D.seen disk) events → ⊥) }
         ensures only { IfErr result (λ e. (e.0 ≡ Memory) ⊎ (e.0 ≡ ReadFault) ⊎ (e.0 ≡ Corruption)) }
-        ensures read_fault { IfErr result (λ e. e.0 ≡ ReadFault → HasGrown (D.counts disk).failed_reads (D.counts e.2).failed_reads) }
+        ensures read_fault { IfErr result (λ e. e.0 ≡ ReadFault
+            → HasGrown (D.counts disk).failed_reads (D.counts e.2).failed_reads) }
     {
         let gate = match reader.read(&mut disk) {
             Ok(gate) => gate,

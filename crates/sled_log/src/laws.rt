@@ -13,7 +13,9 @@ ghost use Rattle.sled_log.specs.UnplacedLaws.{unplaced_events};
 /// Folding chains and folding contents agree: the contents of the chains after events are those of the chains before
 /// them, after the events.
 pub fn chains_fold_to_contents()
-    ensures { (chains : List (List Update)) (events : List (Event Update)) → map content_of (chains_after effect_of_update chains events) ≡ contents_after (map content_of chains) events }
+    ensures { (chains : List (List Update)) (events : List (Event Update))
+        → map content_of (chains_after effect_of_update chains events)
+        ≡ contents_after (map content_of chains) events }
 {}
 
 /// A message is one change of its page at most: its payload reads no two.
@@ -33,16 +35,28 @@ pub fn a_page_holds_one_content()
 
 /// Pages hold, after messages, the contents after the changes that these are.
 pub fn messages_change_contents()
-    ensures { (pages : List Messages) (contents : List Content) (messages : List (Event Message)) (events : List (Event Update)) → Hold pages contents → AreEvents contents messages events → Hold (chains_after effect_of pages messages) (contents_after contents events) }
+    ensures { (pages : List Messages) (contents : List Content) (messages : List (Event Message))
+        (events : List (Event Update))
+        → Hold pages contents
+        → AreEvents contents messages events
+        → Hold (chains_after effect_of pages messages) (contents_after contents events) }
 {}
 
 /// Whoever knows nothing of places sees a log add the same.
 pub fn places_are_forgotten()
-    ensures { (old new : LogState Entry) (events : List (Event Entry)) → Adds effect_of_entry old events new → Adds effect_of (unplaced_state old) (unplaced_events events) (unplaced_state new) }
+    ensures { (old new : LogState Entry) (events : List (Event Entry))
+        → Adds effect_of_entry old events new
+        → Adds effect_of (unplaced_state old) (unplaced_events events) (unplaced_state new) }
 {}
 
 /// What a crash leaves holds the durable contents, and then a prefix of the pending changes and of those that had begun,
 /// which splits no batch.
 pub fn crashes_leave_contents()
-    ensures { (old : LogState Message) (begun : List (Event Message)) (pages : List Messages) (stable : List Content) (pending events : List (Event Update)) → Hold old.stable stable → AreEvents stable old.pending pending → AreEvents (contents_after stable pending) begun events → IsLeft effect_of old begun pages → AreLeft stable pending events pages }
+    ensures { (old : LogState Message) (begun : List (Event Message)) (pages : List Messages)
+        (stable : List Content) (pending events : List (Event Update))
+        → Hold old.stable stable
+        → AreEvents stable old.pending pending
+        → AreEvents (contents_after stable pending) begun events
+        → IsLeft effect_of old begun pages
+        → AreLeft stable pending events pages }
 {}

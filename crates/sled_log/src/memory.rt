@@ -71,7 +71,8 @@ impl MemLog {
         ensures settings { settings_of result ≡ (blob_limit, clean_every) }
         ensures size { size_of result ≡ 0 }
         ensures moment { clock_of result ≡ 0 }
-        ensures counts { counts_of result ≡ record { reads = 0; failed_reads = 0; write_faults = 0 } }
+        ensures counts { counts_of result
+            ≡ record { reads = 0; failed_reads = 0; write_faults = 0 } }
     {
         MemLog {
             alloc,
@@ -98,12 +99,15 @@ impl MemLog {
     /// A crash now that keeps `n` of the pending events: the log that it leaves, which is new and has counted nothing.
     pub fn stop(self, n: usize) -> MemLog
         requires { IsFair (state_of self).pending n }
-        ensures left { might_have_left self (clock_of self) (unplaced_state (state_of result)).stable }
-        ensures stable { (state_of result).stable ≡ chains_after effect_of_entry (state_of self).stable (take n (state_of self).pending) }
+        ensures left { might_have_left self (clock_of self)
+            (unplaced_state (state_of result)).stable }
+        ensures stable { (state_of result).stable
+            ≡ chains_after effect_of_entry (state_of self).stable (take n (state_of self).pending) }
         ensures pending { (state_of result).pending ≡ [] }
         ensures size { size_of result ≡ kept_size_of self n }
         ensures durable { stable_size_of result ≡ kept_size_of self n }
-        ensures counts { counts_of result ≡ record { reads = 0; failed_reads = 0; write_faults = 0 } }
+        ensures counts { counts_of result
+            ≡ record { reads = 0; failed_reads = 0; write_faults = 0 } }
         ensures moment { clock_of result ≡ 0 }
         ensures settings { settings_of result ≡ settings_of self }
     {

@@ -25,7 +25,13 @@ pub enum LogCall {
 /// What crashes leave of two parts of a call, the second from the state that the first left, is what they leave of the
 /// whole: what was durable, and a prefix of what was pending and of what both parts began, which splits no batch.
 pub fn parts_make_the_whole<L: Log>()
-    ensures { (old mid new : L) (before after : LogState Message) (first second : List (Event Message)) → Adds effect_of before first after → CrashesSinceLeave L.moment L.left_since old mid (IsLeft effect_of before first) → CrashesSinceLeave L.moment L.left_since mid new (IsLeft effect_of after second) → CrashesSinceLeave L.moment L.left_since old new (IsLeft effect_of before (first ++ second)) }
+    ensures { (old mid new : L) (before after : LogState Message)
+        (first second : List (Event Message))
+        → Adds effect_of before first after
+        → CrashesSinceLeave L.moment L.left_since old mid (IsLeft effect_of before first)
+        → CrashesSinceLeave L.moment L.left_since mid new (IsLeft effect_of after second)
+        → CrashesSinceLeave L.moment L.left_since old new
+        (IsLeft effect_of before (first ++ second)) }
 {}
 
 /// Makes one call.
@@ -61,11 +67,16 @@ fn make_call<L: Log>(log: &mut L, call: &LogCall) -> Result<(), LogError>
 pub fn make_calls<L: Log>(log: &mut L, calls: &[LogCall]) -> Result<(), LogError>
     requires tells { L.tells }
     requires usable { (L.state log.old).usable ≡ true }
-    requires can { IsTrue (can_make_all (now effect_of (unplaced_state (L.state log.old))) (is_open (L.state log.old).pending) calls.now) }
-    ensures added { OnOk result (Adds effect_of (unplaced_state (L.state log.old)) (events_of_all calls.now) (unplaced_state (L.state log.new))) }
-    ensures refused { OnErr result (is_write_fault result ≡ false → (made : ℕ) × (made < length calls.now) × Adds effect_of (unplaced_state (L.state log.old)) (events_of_all (take made calls.now)) (unplaced_state (L.state log.new))) }
+    requires can { IsTrue (can_make_all (now effect_of (unplaced_state (L.state log.old)))
+        (is_open (L.state log.old).pending) calls.now) }
+    ensures added { OnOk result (Adds effect_of (unplaced_state (L.state log.old))
+        (events_of_all calls.now) (unplaced_state (L.state log.new))) }
+    ensures refused { OnErr result (is_write_fault result ≡ false
+        → (made : ℕ) × (made < length calls.now) × Adds effect_of (unplaced_state (L.state log.old))
+        (events_of_all (take made calls.now)) (unplaced_state (L.state log.new))) }
     ensures usable { (L.state log.new).usable ≡ not (is_write_fault result) }
-    ensures stop { CrashesSinceLeave L.moment L.left_since log.old log.new (IsLeft effect_of (unplaced_state (L.state log.old)) (events_of_all calls.now)) }
+    ensures stop { CrashesSinceLeave L.moment L.left_since log.old log.new
+        (IsLeft effect_of (unplaced_state (L.state log.old)) (events_of_all calls.now)) }
     ensures cause { HasCause (L.counts log.old) (L.counts log.new) result }
     ensures sound { IsErrOf result Corruption → ⊥ }
 {

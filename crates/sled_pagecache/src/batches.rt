@@ -22,8 +22,31 @@ use sled_log::Log;
 /// From the sealing on a crash reopens to that or to all of it, whatever the sealing answered. Once a flush has answered Ok, a crash
 /// reopens to all. A batch that is cancelled may stand in part.
 pub fn a_batch_stands_whole_or_not_at_all<L: Log>()
-    ensures unsealed { (old new : Cache L) (calls : List (Call × Answer)) → RunsBatch L.Log old calls new → (held : Logged) (s : State) → IsIn L.Log old held s → s.fault ≡ false → CrashReopensTo L.Log new.log (L.moment old.log) (AreWithout held) }
-    ensures sealed { (old mid new : Cache L) (calls : List (Call × Answer)) (result : Result (Unit {0}) Error) → RunsBatch L.Log old calls mid → Steps L.Log mid Seal (Sealed result) new → (held : Logged) (s : State) → IsIn L.Log old held s → s.fault ≡ false → StandsWhole L.Log old (with_pin calls ++ (Seal, Sealed result) ∷ []) new held s }
-    ensures flushed { (old new : Cache L) (n : ℕ) → IsMade L.Log old Flush (Flushed (Ok n)) new → (held : Logged) (s : State) → IsIn L.Log old held s → CrashReopensTo L.Log new.log (L.moment new.log) (AreThoseOf s) }
-    ensures cancelled { (old mid new : Cache L) (calls : List (Call × Answer)) (result : Result (Unit {0}) Error) → RunsBatch L.Log old calls mid → Steps L.Log mid Cancel (Cancelled result) new → (held : Logged) (s : State) → IsIn L.Log old held s → s.fault ≡ false → StandsInPart L.Log old (with_pin calls ++ (Cancel, Cancelled result) ∷ []) new held s }
+    ensures unsealed { (old new : Cache L) (calls : List (Call × Answer))
+        → RunsBatch L.Log old calls new
+        → (held : Logged) (s : State)
+        → IsIn L.Log old held s
+        → s.fault ≡ false
+        → CrashReopensTo L.Log new.log (L.moment old.log) (AreWithout held) }
+    ensures sealed { (old mid new : Cache L) (calls : List (Call × Answer))
+        (result : Result (Unit {0}) Error)
+        → RunsBatch L.Log old calls mid
+        → Steps L.Log mid Seal (Sealed result) new
+        → (held : Logged) (s : State)
+        → IsIn L.Log old held s
+        → s.fault ≡ false
+        → StandsWhole L.Log old (with_pin calls ++ (Seal, Sealed result) ∷ []) new held s }
+    ensures flushed { (old new : Cache L) (n : ℕ)
+        → IsMade L.Log old Flush (Flushed (Ok n)) new
+        → (held : Logged) (s : State)
+        → IsIn L.Log old held s
+        → CrashReopensTo L.Log new.log (L.moment new.log) (AreThoseOf s) }
+    ensures cancelled { (old mid new : Cache L) (calls : List (Call × Answer))
+        (result : Result (Unit {0}) Error)
+        → RunsBatch L.Log old calls mid
+        → Steps L.Log mid Cancel (Cancelled result) new
+        → (held : Logged) (s : State)
+        → IsIn L.Log old held s
+        → s.fault ≡ false
+        → StandsInPart L.Log old (with_pin calls ++ (Cancel, Cancelled result) ∷ []) new held s }
 {}

@@ -21,7 +21,8 @@ use std::alloc::Global;
 
 /// A cache of which nothing is pending, and that keeps no write fault, is flushed, in whatever state it is.
 pub fn a_cache_is_flushed<L: Log>(cache: &PageCache<L>)
-    ensures { cache.now.fault ≡ false → (L.state cache.now.log).pending ≡ [] → (held : Logged) (s : State) → IsIn L.Log cache.now held s → IsFlushed L.Log cache.now s }
+    ensures { cache.now.fault ≡ false → (L.state cache.now.log).pending ≡ []
+        → (held : Logged) (s : State) → IsIn L.Log cache.now held s → IsFlushed L.Log cache.now s }
 {
     cache.know_own();
 }
@@ -34,7 +35,8 @@ pub fn start_on_a_new_disk(
     config: Config,
     clean_every: u64,
 ) -> Result<PageCache<DiskLog<MemDisk>>, Error>
-    ensures { IfOk result (λ cache. IsFlushed ⟦<DiskLog<MemDisk> as Log>⟧ cache (opened config [])) }
+    ensures { IfOk result
+        (λ cache. IsFlushed ⟦<DiskLog<MemDisk> as Log>⟧ cache (opened config [])) }
 {
     let segment_size = config.segment_size as u64;
     let mut disk = MemDisk::new(alloc, limit)?;
@@ -71,7 +73,12 @@ pub fn reopen_after_a_crash(
     config: Config,
     clean_every: u64,
 ) -> Result<PageCache<DiskLog<MemDisk>>, Error>
-    ensures { (first : Cache (DiskLog MemDisk ⟦<MemDisk as Disk>⟧)) (calls : List (Call × Answer)) (s : State) → IsFlushed ⟦<DiskLog<MemDisk> as Log>⟧ first s → ⟦<DiskLog<MemDisk> as Log>⟧.moment first.log ≤ n - 1 → StepInRow ⟦<DiskLog<MemDisk> as Log>⟧ first calls cache → ReopensAfter ⟦<DiskLog<MemDisk> as Log>⟧ first s calls cache config result }
+    ensures { (first : Cache (DiskLog MemDisk ⟦<MemDisk as Disk>⟧)) (calls : List (Call × Answer))
+        (s : State)
+        → IsFlushed ⟦<DiskLog<MemDisk> as Log>⟧ first s
+        → ⟦<DiskLog<MemDisk> as Log>⟧.moment first.log ≤ n - 1
+        → StepInRow ⟦<DiskLog<MemDisk> as Log>⟧ first calls cache
+        → ReopensAfter ⟦<DiskLog<MemDisk> as Log>⟧ first s calls cache config result }
 {
     let segment_size = config.segment_size as u64;
     let log = cache.crashed_log();
@@ -96,7 +103,11 @@ pub fn what_was_flushed_is_there(
 ) -> Result<PageCache<DiskLog<MemDisk>>, Error>
     requires clear { cache.fault ≡ false }
     requires flushed { (⟦<DiskLog<MemDisk> as Log>⟧.state cache.log).pending ≡ [] }
-    ensures { (held : Logged) (s : State) → IsIn ⟦<DiskLog<MemDisk> as Log>⟧ cache held s → ⟦<DiskLog<MemDisk> as Log>⟧.moment cache.log ≤ n - 1 → IfOk result (HasFlushed ⟦<DiskLog<MemDisk> as Log>⟧ s config) × IfErr result (RefusesReopening config) }
+    ensures { (held : Logged) (s : State)
+        → IsIn ⟦<DiskLog<MemDisk> as Log>⟧ cache held s
+        → ⟦<DiskLog<MemDisk> as Log>⟧.moment cache.log ≤ n - 1
+        → IfOk result (HasFlushed ⟦<DiskLog<MemDisk> as Log>⟧ s config)
+        × IfErr result (RefusesReopening config) }
 {
     calls_in_a_row_are_steps::<DiskLog<MemDisk>>();
     a_cache_is_flushed(&cache);

@@ -44,7 +44,10 @@ pub fn an_empty_log_is_logged()
 
 /// What a crash leaves is a log again that a cache can be opened over, and holds the contents that the crash left.
 pub fn what_a_crash_leaves_is_logged()
-    ensures { (held : Logged) (changes : List (Event Update)) (pages : List Messages) (left : IsLeft held changes pages) (usable : Bool) → IsLogged (only_stable pages usable) (only_stable_contents (contents_after held.stable (take left.cut (held.pending ++ left.came)))) }
+    ensures { (held : Logged) (changes : List (Event Update)) (pages : List Messages)
+        (left : IsLeft held changes pages) (usable : Bool)
+        → IsLogged (only_stable pages usable) (only_stable_contents
+        (contents_after held.stable (take left.cut (held.pending ++ left.came)))) }
 {}
 
 /// A crash at any moment, inside a call too, reopens to the pages after a prefix of the changes begun, which holds all that was
@@ -54,7 +57,23 @@ pub fn what_a_crash_leaves_is_logged()
 /// what a log may have lost then is any of its crash states, behind a write error too; and a cache that `start` opens over a log
 /// which holds that is the opening of those pages.
 pub fn a_crash_reopens_to_a_prefix<L: Log>()
-    ensures of_a_call { (old new : Cache L) (call : Call) (answer : Answer) → Steps L.Log old call answer new → (held : Logged) (s : State) → IsIn L.Log old held s → s.fault ≡ false → (out : Outcome) × StepOver L.Log old s call answer out × CrashReopens L.Log new.log (L.moment old.log) held out.changes }
-    ensures of_calls { (old new : Cache L) (calls : List (Call × Answer)) → StepInRow L.Log old calls new → (held : Logged) (s : State) → IsIn L.Log old held s → s.fault ≡ false → (outs : List Outcome) × (t : State) × AreSteps L.Log (Steps L.Log) old s calls outs new t × CrashReopens L.Log new.log (L.moment old.log) held (changes_of outs) }
-    ensures of_opening { L.tells → (log : L) (config : Config) (held : Logged) (result : Result (Cache L) (Error × L)) → Opens L.Log log config held result → (begun : List (Event Update)) × IsPrefix begun (changes_of_start (now held)) × CrashReopens L.Log (log_after result) (L.moment log) held begun }
+    ensures of_a_call { (old new : Cache L) (call : Call) (answer : Answer)
+        → Steps L.Log old call answer new
+        → (held : Logged) (s : State)
+        → IsIn L.Log old held s
+        → s.fault ≡ false
+        → (out : Outcome) × StepOver L.Log old s call answer out
+        × CrashReopens L.Log new.log (L.moment old.log) held out.changes }
+    ensures of_calls { (old new : Cache L) (calls : List (Call × Answer))
+        → StepInRow L.Log old calls new
+        → (held : Logged) (s : State)
+        → IsIn L.Log old held s
+        → s.fault ≡ false
+        → (outs : List Outcome) × (t : State) × AreSteps L.Log (Steps L.Log) old s calls outs new t
+        × CrashReopens L.Log new.log (L.moment old.log) held (changes_of outs) }
+    ensures of_opening { L.tells
+        → (log : L) (config : Config) (held : Logged) (result : Result (Cache L) (Error × L))
+        → Opens L.Log log config held result
+        → (begun : List (Event Update)) × IsPrefix begun (changes_of_start (now held))
+        × CrashReopens L.Log (log_after result) (L.moment log) held begun }
 {}

@@ -20,12 +20,17 @@ use sled_log::Log;
 /// where no write failed; or the log that a refused `start` gave back. Nothing but an allocation, the device, the settings, or a log that
 /// has no room for a missing system page refuses an opening. That is all that is asked, of any log that tells its bytes.
 pub fn every_opening_shows_a_prefix<L: Log>()
-    ensures { L.tells → (log : L) (openings : List (Opening L)) → IsEmpty L.Log log → IsRun L.Log log openings → ShowPrefixes L.Log (starting_at []) openings }
+    ensures { L.tells → (log : L) (openings : List (Opening L)) → IsEmpty L.Log log
+        → IsRun L.Log log openings → ShowPrefixes L.Log (starting_at []) openings }
 {}
 
 /// The same over a log on a disk in memory, which tells its bytes: whatever is torn, and wherever the disk stops.
 pub fn every_opening_of_a_disk_shows_a_prefix()
-    ensures { (log : DiskLog MemDisk ⟦<MemDisk as Disk>⟧) (openings : List (Opening (DiskLog MemDisk ⟦<MemDisk as Disk>⟧))) → IsEmpty ⟦<DiskLog<MemDisk> as Log>⟧ log → IsRun ⟦<DiskLog<MemDisk> as Log>⟧ log openings → ShowPrefixes ⟦<DiskLog<MemDisk> as Log>⟧ (starting_at []) openings }
+    ensures { (log : DiskLog MemDisk ⟦<MemDisk as Disk>⟧)
+        (openings : List (Opening (DiskLog MemDisk ⟦<MemDisk as Disk>⟧)))
+        → IsEmpty ⟦<DiskLog<MemDisk> as Log>⟧ log
+        → IsRun ⟦<DiskLog<MemDisk> as Log>⟧ log openings
+        → ShowPrefixes ⟦<DiskLog<MemDisk> as Log>⟧ (starting_at []) openings }
 {
     every_opening_shows_a_prefix::<DiskLog<MemDisk>>();
 }
@@ -33,5 +38,6 @@ pub fn every_opening_of_a_disk_shows_a_prefix()
 /// From an empty log, over every list of openings as above in which no config has a shorter interval of ids than one before it: each
 /// generated id is above every id that was answered before it. So none comes twice, whatever crashes come between.
 pub fn ids_are_given_once<L: Log>()
-    ensures { L.tells → (log : L) (openings : List (Opening L)) → IsEmpty L.Log log → IsRun L.Log log openings → KeepIntervals 0 openings → AreRising (ids_of openings) }
+    ensures { L.tells → (log : L) (openings : List (Opening L)) → IsEmpty L.Log log
+        → IsRun L.Log log openings → KeepIntervals 0 openings → AreRising (ids_of openings) }
 {}

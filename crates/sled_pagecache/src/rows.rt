@@ -15,7 +15,10 @@ use sled_log::Log;
 /// what all of them write, which splits no batch.
 pub fn calls_in_a_row_are_steps<L: Log>()
     ensures none { (cache : Cache L) → StepInRow L.Log cache [] cache }
-    ensures one { (old new : Cache L) (call : Call) (answer : Answer) → Steps L.Log old call answer new → StepInRow L.Log old ((call, answer) ∷ []) new }
-    ensures then { (old mid new : Cache L) (calls others : List (Call × Answer)) → StepInRow L.Log old calls mid → StepInRow L.Log mid others new → StepInRow L.Log old (calls ++ others) new }
-    ensures made { (old new : Cache L) (calls : List (Call × Answer)) → AreMade L.Log old calls new → StepInRow L.Log old calls new }
+    ensures one { (old new : Cache L) (call : Call) (answer : Answer)
+        → Steps L.Log old call answer new → StepInRow L.Log old ((call, answer) ∷ []) new }
+    ensures then { (old mid new : Cache L) (calls others : List (Call × Answer)) → StepInRow L.Log
+        old calls mid → StepInRow L.Log mid others new → StepInRow L.Log old (calls ++ others) new }
+    ensures made { (old new : Cache L) (calls : List (Call × Answer)) → AreMade L.Log old calls new
+        → StepInRow L.Log old calls new }
 {}

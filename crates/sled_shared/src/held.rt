@@ -68,7 +68,8 @@ impl<L: Log, K: Tally> Held<L, K> {
         requires parts { (blank.parts ≡ parts) × (K.parts ≡ parts) × (0 < parts) }
         requires closed { cache.batch ≡ false }
         requires known { K.known → L.tells → IsKnown L.Log cache }
-        ensures ok { IfOk result (λ h. IsNewRound L.Log 0 cache h.book × (h ≡ held cache h.book limit 0 parts)) }
+        ensures ok { IfOk result (λ h. IsNewRound L.Log 0 cache h.book
+            × (h ≡ held cache h.book limit 0 parts)) }
         ensures err { IfErr result (λ e. (e.0 ≡ OutOfMemory) × (e.1 ≡ cache)) }
     {
         let Ok(opening) = cache.shape() else {
@@ -99,7 +100,8 @@ impl<L: Log, K: Tally> Held<L, K> {
 
     /// A share for one thread more, or none where all were given out: one part stays here.
     pub fn share(&mut self) -> Option<Share<K>>
-        ensures some { IfSome result (λ s. (s ≡ 0) × (1 < self.old.left) × (self.new ≡ held self.old.cache self.old.book self.old.limit (self.old.given + 1) (self.old.left - 1))) }
+        ensures some { IfSome result (λ s. (s ≡ 0) × (1 < self.old.left) × (self.new ≡ held
+            self.old.cache self.old.book self.old.limit (self.old.given + 1) (self.old.left - 1))) }
         ensures none { IfNone result ((self.old.left ≡ 1) × (self.new ≡ self.old)) }
     {
         if self.left == 1 {
@@ -114,10 +116,14 @@ impl<L: Log, K: Tally> Held<L, K> {
     /// Ends a round, and answers its book. The next one begins with the shape in which this one closed, which alone takes memory. A kept write
     /// error is no hindrance, and `OutOfMemory` changes nothing.
     pub fn take_book(&mut self) -> Result<Book, Error>
-        ensures book { IfOk result (λ b. (b ≡ self.old.book) × IsNewRound L.Log (calls_of self.old.book) self.old.cache self.new.book × (self.new ≡ held self.old.cache self.new.book self.old.limit self.old.given self.old.left)) }
+        ensures book { IfOk result (λ b. (b ≡ self.old.book)
+            × IsNewRound L.Log (calls_of self.old.book) self.old.cache self.new.book × (self.new
+            ≡ held self.old.cache self.new.book self.old.limit self.old.given self.old.left)) }
         ensures of { IfOk result (λ b. IsBookOf L.Log K.known b self.new.cache) }
-        ensures legal { K.known → L.tells → IfOk result (λ b. EndsBefore L.Log b self.new.cache self.new.book) }
-        ensures ids { K.known → L.tells → IfOk result (λ b. RisesWithin b.opening.next (ids_of b) self.new.book.opening.next) }
+        ensures legal { K.known → L.tells
+            → IfOk result (λ b. EndsBefore L.Log b self.new.cache self.new.book) }
+        ensures ids { K.known → L.tells
+            → IfOk result (λ b. RisesWithin b.opening.next (ids_of b) self.new.book.opening.next) }
         ensures err { IfErr result (λ e. (e ≡ OutOfMemory) × (self.new ≡ self.old)) }
     {
         let shape = self.cache.shape()?;

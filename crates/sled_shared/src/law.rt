@@ -10,16 +10,22 @@ use sled_log::Log;
 
 /// The book of a cache of which the state was known as it opened replays, and the replay ends in a state in which the cache is.
 pub fn a_book_replays<L: Log, K: Tally>()
-    ensures { (b : Book) (cache : Cache L) → IsBookOf L.Log K.known b cache → K.known → L.tells → ReplaysIn L.Log b cache }
+    ensures { (b : Book) (cache : Cache L) → IsBookOf L.Log K.known b cache → K.known → L.tells
+        → ReplaysIn L.Log b cache }
 {}
 
 /// No id is answered twice: in the books of one opening each id is below all later ones, whichever threads drew them.
 pub fn ids_never_repeat()
-    ensures { (interval : ℕ) (books : List Book) → AreRounds interval books → AllPairs (λ a b. a < b) (flat_map ids_of books) }
+    ensures { (interval : ℕ) (books : List Book) → AreRounds interval books
+        → AllPairs (λ a b. a < b) (flat_map ids_of books) }
 {}
 
 /// The books that are taken of a held cache one after another, and the last one, are those of one opening.
 pub fn books_are_rounds<L: Log>()
-    ensures last { (b : Book) (cache : Cache L) → ReplaysIn L.Log b cache → AreRounds cache.config.idgen_persist_interval (b ∷ []) }
-    ensures then { (b next : Book) (books : List Book) (cache : Cache L) → EndsBefore L.Log b cache next → AreRounds cache.config.idgen_persist_interval (next ∷ books) → AreRounds cache.config.idgen_persist_interval (b ∷ next ∷ books) }
+    ensures last { (b : Book) (cache : Cache L) → ReplaysIn L.Log b cache
+        → AreRounds cache.config.idgen_persist_interval (b ∷ []) }
+    ensures then { (b next : Book) (books : List Book) (cache : Cache L)
+        → EndsBefore L.Log b cache next
+        → AreRounds cache.config.idgen_persist_interval (next ∷ books)
+        → AreRounds cache.config.idgen_persist_interval (b ∷ next ∷ books) }
 {}

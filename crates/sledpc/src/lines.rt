@@ -46,9 +46,12 @@ enum Ended {
 /// At [`ReadError::Memory`] an allocation failed for bytes that the reader still has. At [`ReadError::Read`] the input was not
 /// read behind what was kept.
 pub fn read_line<R: BufRead>(reader: &mut R, kept: &mut Vec<u8>) -> Result<Line, ReadError>
-    ensures reads { ReadsLine (R.remaining reader.old) (R.remaining reader.new) result kept.new.items }
-    ensures whole { (is_followed : Bool) → result ≡ Ok (Line.Whole is_followed) → length kept.new.items ≤ longest_line }
-    ensures unread { IfErr result (λ e. IsUnreadLine e (R.remaining reader.old) (R.remaining reader.new) kept.new.items) }
+    ensures reads { ReadsLine (R.remaining reader.old) (R.remaining reader.new) result
+        kept.new.items }
+    ensures whole { (is_followed : Bool) → result ≡ Ok (Line.Whole is_followed)
+        → length kept.new.items ≤ longest_line }
+    ensures unread { IfErr result
+        (λ e. IsUnreadLine e (R.remaining reader.old) (R.remaining reader.new) kept.new.items) }
     ensures few { length kept.new.items ≤ longest_line + 1 }
 {
     kept.clear();

@@ -38,7 +38,8 @@ pub fn write_text<W: Write>(writer: &mut W, text: &[u8]) -> Result<(), Unwritten
 
 /// Writes the text that was gathered, and lets go of it.
 pub fn write_out<W: Write>(writer: &mut W, piece: &mut Piece) -> Result<(), Unwritten>
-    ensures gathers { Gathers (W.contents writer.old) (W.contents writer.new) piece.old piece.new result [] }
+    ensures gathers { Gathers (W.contents writer.old) (W.contents writer.new) piece.old piece.new
+        result [] }
     ensures empty { OnOk result (piece.new ≡ []) }
 {
     write_text(writer, piece.as_slice())?;
@@ -71,7 +72,8 @@ pub fn flush<W: Write>(writer: &mut W) -> Result<(), Unwritten>
 /// Makes room for so many bytes: where the piece lacks it, the text that was gathered is written.
 pub fn make_room<W: Write>(writer: &mut W, piece: &mut Piece, count: usize) -> Result<(), Unwritten>
     requires { count ≤ piece_room }
-    ensures gathers { Gathers (W.contents writer.old) (W.contents writer.new) piece.old piece.new result [] }
+    ensures gathers { Gathers (W.contents writer.old) (W.contents writer.new) piece.old piece.new
+        result [] }
     ensures room { OnOk result (length piece.new + count ≤ piece_room) }
 {
     if piece.has_room(count) {
@@ -87,7 +89,8 @@ pub fn gather_text<W: Write>(
     text: &[u8],
 ) -> Result<(), Unwritten>
     requires { length text.now ≤ piece_room }
-    ensures { Gathers (W.contents writer.old) (W.contents writer.new) piece.old piece.new result text.now }
+    ensures { Gathers (W.contents writer.old) (W.contents writer.new) piece.old piece.new result
+        text.now }
 {
     make_room(writer, piece, text.len())?;
     piece.put_text(text);
@@ -100,7 +103,8 @@ pub fn gather_number<W: Write>(
     piece: &mut Piece,
     number: u64,
 ) -> Result<(), Unwritten>
-    ensures { Gathers (W.contents writer.old) (W.contents writer.new) piece.old piece.new result (decimal number) }
+    ensures { Gathers (W.contents writer.old) (W.contents writer.new) piece.old piece.new result
+        (decimal number) }
 {
     make_room(writer, piece, 20)?;
     piece.put_number(number);
@@ -113,7 +117,8 @@ pub fn gather_bytes_word<W: Write>(
     piece: &mut Piece,
     bytes: &[u8],
 ) -> Result<(), Unwritten>
-    ensures { Gathers (W.contents writer.old) (W.contents writer.new) piece.old piece.new result (bytes_word bytes.now) }
+    ensures { Gathers (W.contents writer.old) (W.contents writer.new) piece.old piece.new result
+        (bytes_word bytes.now) }
 {
     if bytes.is_empty() {
         return gather_text(writer, piece, b"-");

@@ -93,8 +93,12 @@ pub fn drive<
     writer: &mut W,
     faults: &mut F,
 ) -> u8
-    ensures wrong { (result ≡ wrong_words) ↔ ¬ AskForJob (option_map (λ given. map string_bytes given.now) words.entry) }
-    ensures crew { (workers calls : ℕ) → AskForCrew workers calls (option_map (λ given. map string_bytes given.now) words.entry) → result ≡ ended → Appends (W.contents writer.old) (W.contents writer.new) (crew_text (workers * calls)) }
+    ensures wrong { (result ≡ wrong_words)
+        ↔ ¬ AskForJob (option_map (λ given. map string_bytes given.now) words.entry) }
+    ensures crew { (workers calls : ℕ)
+        → AskForCrew workers calls (option_map (λ given. map string_bytes given.now) words.entry)
+        → result ≡ ended
+        → Appends (W.contents writer.old) (W.contents writer.new) (crew_text (workers * calls)) }
 {
     let Some(job) = asked(words) else {
         let _ = faults.write_all(USAGE.as_bytes());

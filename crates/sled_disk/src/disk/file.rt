@@ -34,7 +34,8 @@ impl FileDisk {
     ///
     /// ReadFault: the file can't be opened for reading and writing, is none (a folder, a device), or is open elsewhere.
     pub fn open<R: Files<File = File>>(files: &R, path: &str) -> Result<FileDisk, LogError>
-        ensures counts { IfOk result (λ disk. ⟦<Self as Disk>⟧.counts disk ≡ record { reads = 0; failed_reads = 0; write_faults = 0 }) }
+        ensures counts { IfOk result (λ disk. ⟦<Self as Disk>⟧.counts disk
+            ≡ record { reads = 0; failed_reads = 0; write_faults = 0 }) }
         ensures only { IfErr result (λ e. e ≡ ReadFault) }
     {
         let opened = OpenOptions::new()

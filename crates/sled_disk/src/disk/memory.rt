@@ -53,7 +53,8 @@ impl MemDisk {
     pub fn new(alloc: Global, limit: usize) -> Result<MemDisk, AllocError>
         ensures bytes { IfOk result (λ disk. bytes_of disk ≡ []) }
         ensures moment { IfOk result (λ disk. clock_of disk ≡ 0) }
-        ensures counts { IfOk result (λ disk. counts_of disk ≡ record { reads = 0; failed_reads = 0; write_faults = 0 }) }
+        ensures counts { IfOk result
+            (λ disk. counts_of disk ≡ record { reads = 0; failed_reads = 0; write_faults = 0 }) }
         ensures room { IfOk result (λ disk. room_of disk ≡ (limit, limit)) }
         ensures faults { IfOk result (λ disk. faults_of disk ≡ (0, 0)) }
     {
@@ -110,7 +111,8 @@ impl MemDisk {
         ensures left { might_have_left self (min (n - 1) (clock_of self)) (bytes_of result) }
         ensures moment { clock_of result ≡ 0 }
         ensures faults { faults_of result ≡ (0, 0) }
-        ensures counts { counts_of result ≡ record { reads = 0; failed_reads = 0; write_faults = 0 } }
+        ensures counts { counts_of result
+            ≡ record { reads = 0; failed_reads = 0; write_faults = 0 } }
         ensures room { room_of result ≡ room_of self }
     {
         let MemDisk {

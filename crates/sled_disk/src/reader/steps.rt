@@ -46,7 +46,8 @@ impl Reader {
     /// kept, and the call can be made again.
     pub fn begin<D: Disk>(alloc: Global, disk: &mut D) -> Result<Reader, LogError>
         ensures goes_on { D.tells → IfOk result (λ reader. GoesOn (D.seen disk.new) reader) }
-        ensures corrupt { D.tells → IsErrOf result Corruption → (events : List (Event Entry)) → Describes (D.seen disk.old) events → ⊥ }
+        ensures corrupt { D.tells → IsErrOf result Corruption → (events : List (Event Entry))
+            → Describes (D.seen disk.old) events → ⊥ }
         ensures only { IfErr result (λ e. (e ≡ Memory) ⊎ (e ≡ ReadFault) ⊎ (e ≡ Corruption)) }
         ensures rests { Rests D.tells D.seen D.may_leave D.moment D.left_since disk.old disk.new }
         ensures faults { ReadFaults (D.counts disk.old) (D.counts disk.new) result }
@@ -152,11 +153,14 @@ impl Reader {
         ensures goes_on { D.tells → GoesOn (D.seen disk.new) self.new }
         ensures kept { self.old.at ≤ self.new.at }
         ensures small { IfOk result (λ gate. gate < 2 ^ 63) }
-        ensures read { D.tells → IfOk result (λ gate. AreRead (D.seen disk.old) gate (chains_of self.new.pages.items)) }
-        ensures holds { D.tells → IfOk result (λ gate. Holds (D.seen disk.old) gate (chains_of self.new.pages.items)) }
+        ensures read { D.tells → IfOk result
+            (λ gate. AreRead (D.seen disk.old) gate (chains_of self.new.pages.items)) }
+        ensures holds { D.tells
+            → IfOk result (λ gate. Holds (D.seen disk.old) gate (chains_of self.new.pages.items)) }
         ensures heads { OnOk result (AllByRecursion AreHeads (chains_of self.new.pages.items)) }
         ensures ends { IfOk result (λ gate. AllEndBy gate (chains_of self.new.pages.items)) }
-        ensures corrupt { D.tells → IsErrOf result Corruption → (events : List (Event Entry)) → Describes (D.seen disk.old) events → ⊥ }
+        ensures corrupt { D.tells → IsErrOf result Corruption → (events : List (Event Entry))
+            → Describes (D.seen disk.old) events → ⊥ }
         ensures only { IfErr result (λ e. (e ≡ Memory) ⊎ (e ≡ ReadFault) ⊎ (e ≡ Corruption)) }
         ensures rests { Rests D.tells D.seen D.may_leave D.moment D.left_since disk.old disk.new }
         ensures faults { ReadFaults (D.counts disk.old) (D.counts disk.new) result }

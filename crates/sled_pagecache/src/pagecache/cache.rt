@@ -89,14 +89,18 @@ impl<L: Log> PageCache<L> {
     pub fn start(alloc: Global, config: Config, log: L) -> Result<PageCache<L>, (Error, L)>
         requires usable { (L.state log).usable ≡ true }
         requires closed { is_open (L.state log).pending ≡ false }
-        ensures settings { (why : Why) → fault_of config ≡ Some why → result ≡ Err (Unsupported why, log) }
-        ensures opens { fault_of config ≡ None → L.tells → (held : Logged) → IsLogged (unplaced_state (L.state log)) held → Opens L.Log log config held result }
-        ensures refused { L.tells → IfErr result (λ e. RefusesOpening config (now effect_of_entry (L.state log)) e.0) }
+        ensures settings { (why : Why) → fault_of config ≡ Some why
+            → result ≡ Err (Unsupported why, log) }
+        ensures opens { fault_of config ≡ None → L.tells → (held : Logged)
+            → IsLogged (unplaced_state (L.state log)) held → Opens L.Log log config held result }
+        ensures refused { L.tells
+            → IfErr result (λ e. RefusesOpening config (now effect_of_entry (L.state log)) e.0) }
         ensures blame { IsBlamedOpening L.Log log result }
         ensures unnamed { IfErr result (λ e. HasNoName e.0) }
         ensures again { IfErr result (λ e. e.0 ≢ Io Write → MayBeOpened L.Log e.1) }
         ensures unread { L.tells → IfOk result (HoldsNoNode L.Log) }
-        ensures reads { L.tells → HasRead L.counts log (log_after result) (own_among (length (now effect_of_entry (L.state log)))) result }
+        ensures reads { L.tells → HasRead L.counts log (log_after result)
+            (own_among (length (now effect_of_entry (L.state log)))) result }
         ensures bounded { IfOk result (IsBounded L.Log) }
         ensures listed { IfOk result ListsResident }
         ensures closed { IfOk result (λ cache. cache.batch ≡ false) }

@@ -27,7 +27,8 @@ impl<L: Log> PageCache<L> {
     /// leave every page and message unchanged. A write error is sticky: every later call answers it, until the log is opened again.
     pub fn pin_log(&mut self) -> Result<RecoveryGuard<'_, L>, Error>
         ensures* refused { sem 𝓛 (RestsIfRefused L.row L.Log self.entry result) }
-        ensures same_reference { IfOk result (λ guard. (lent guard).ghost_name ≡ self.entry.ghost_name) }
+        ensures same_reference { IfOk result
+            (λ guard. (lent guard).ghost_name ≡ self.entry.ghost_name) }
         ensures pinned { IfOk result (λ guard. OpensBatch L.Log self.old (Ok tt) (lent guard).now) }
     {
         self.pin()?;
@@ -74,9 +75,12 @@ impl<'a, L: Log> RecoveryGuard<'a, L> {
     /// The changes are a function of the cache, in which `?` is free: `let done = change(guard.cache()); guard.settle(done)`.
     pub fn settle<T: Drop>(self, outcome: Result<T, Error>) -> Result<T, Error>
         requires { (lent self).now.batch ≡ true }
-        ensures sealed { IfOk outcome (λ x. IfOk result (λ y. (y ≡ x) × SealsBatch L.Log (lent self.entry).now (Ok tt) self.exit.0.now)) }
-        ensures stuck { OnOk outcome (IfErr result (λ e. (let failed : Result (Unit {0}) Error = Err e in SealsBatch L.Log (lent self.entry).now failed self.exit.0.now))) }
-        ensures cancelled { OnErr outcome ((result ≡ outcome) × ((r : Result (Unit {0}) Error) × CancelsBatch L.Log (lent self.entry).now r self.exit.0.now)) }
+        ensures sealed { IfOk outcome (λ x. IfOk result (λ y. (y ≡ x)
+            × SealsBatch L.Log (lent self.entry).now (Ok tt) self.exit.0.now)) }
+        ensures stuck { OnOk outcome (IfErr result (λ e. (let failed : Result (Unit {0}) Error = Err
+            e in SealsBatch L.Log (lent self.entry).now failed self.exit.0.now))) }
+        ensures cancelled { OnErr outcome ((result ≡ outcome) × ((r : Result (Unit {0}) Error)
+            × CancelsBatch L.Log (lent self.entry).now r self.exit.0.now)) }
     {
         match outcome {
             Ok(x) => match self.seal_batch() {

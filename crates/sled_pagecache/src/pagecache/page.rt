@@ -58,7 +58,8 @@ impl Page {
 
     /// How much of the log these messages take up together, in bytes, or `u64::MAX` where it is no less.
     pub fn log_size(&self) -> u64
-        ensures { sum_by (λ info. info.log_size) self.now.infos.items < 2 ^ 64 → result ≡ sum_by (λ info. info.log_size) self.now.infos.items }
+        ensures { sum_by (λ info. info.log_size) self.now.infos.items < 2 ^ 64
+            → result ≡ sum_by (λ info. info.log_size) self.now.infos.items }
     {
         total_size(&self.infos)
     }

@@ -30,7 +30,8 @@ use sled_pagecache::{PageView, open_tree};
 impl<L: Log, K: Tally> Held<L, K> {
     /// Puts a node on a page, as [`PageCache::allocate`](sled_pagecache::PageCache::allocate).
     pub fn allocate(&mut self, node: Node, mine: &mut Share<K>) -> Result<(PageId, PageView), Error>
-        ensures { Serves L.Log self.old mine.old (Asked (Allocate node)) (Answered (Allocated result)) self.new mine.new }
+        ensures { Serves L.Log self.old mine.old (Asked (Allocate node))
+            (Answered (Allocated result)) self.new mine.new }
     {
         make_room(
             self.alloc,
@@ -58,7 +59,8 @@ impl<L: Log, K: Tally> Held<L, K> {
         pid: PageId,
         mine: &mut Share<K>,
     ) -> Result<Option<(PageView, Node)>, Error>
-        ensures { Serves L.Log self.old mine.old (Asked (Get pid)) (Answered (Got result)) self.new mine.new }
+        ensures { Serves L.Log self.old mine.old (Asked (Get pid)) (Answered (Got result)) self.new
+            mine.new }
     {
         make_room(
             self.alloc,
@@ -86,7 +88,8 @@ impl<L: Log, K: Tally> Held<L, K> {
         mine: &mut Share<K>,
     ) -> Result<Result<PageView, Option<(PageView, Link)>>, Error>
         requires { pid_of old ≡ pid }
-        ensures { Serves L.Log self.old mine.old (Asked (call.Link old link)) (Answered (Linked result)) self.new mine.new }
+        ensures { Serves L.Log self.old mine.old (Asked (call.Link old link))
+            (Answered (Linked result)) self.new mine.new }
     {
         make_room(
             self.alloc,
@@ -116,7 +119,8 @@ impl<L: Log, K: Tally> Held<L, K> {
         mine: &mut Share<K>,
     ) -> Result<Result<PageView, Option<(PageView, Node)>>, Error>
         requires { pid_of old ≡ pid }
-        ensures { Serves L.Log self.old mine.old (Asked (call.Replace old node)) (Answered (Replaced result)) self.new mine.new }
+        ensures { Serves L.Log self.old mine.old (Asked (call.Replace old node))
+            (Answered (Replaced result)) self.new mine.new }
     {
         make_room(
             self.alloc,
@@ -145,7 +149,8 @@ impl<L: Log, K: Tally> Held<L, K> {
         mine: &mut Share<K>,
     ) -> Result<Result<PageView, Option<(PageView, ())>>, Error>
         requires { pid_of old ≡ pid }
-        ensures { Serves L.Log self.old mine.old (Asked (call.Free old)) (Answered (Freed result)) self.new mine.new }
+        ensures { Serves L.Log self.old mine.old (Asked (call.Free old)) (Answered (Freed result))
+            self.new mine.new }
     {
         make_room(
             self.alloc,
@@ -167,7 +172,8 @@ impl<L: Log, K: Tally> Held<L, K> {
 
     /// The next id, as [`PageCache::generate_id_inner`](sled_pagecache::PageCache::generate_id_inner).
     pub fn generate_id(&mut self, mine: &mut Share<K>) -> Result<u64, Error>
-        ensures { Serves L.Log self.old mine.old (Asked GenerateId) (Answered (Generated result)) self.new mine.new }
+        ensures { Serves L.Log self.old mine.old (Asked GenerateId) (Answered (Generated result))
+            self.new mine.new }
     {
         make_room(
             self.alloc,
@@ -189,7 +195,8 @@ impl<L: Log, K: Tally> Held<L, K> {
 
     /// Makes all that is pending stable, as [`PageCache::flush`](sled_pagecache::PageCache::flush).
     pub fn flush(&mut self, mine: &mut Share<K>) -> Result<usize, Error>
-        ensures { Serves L.Log self.old mine.old (Asked Flush) (Answered (Flushed result)) self.new mine.new }
+        ensures { Serves L.Log self.old mine.old (Asked Flush) (Answered (Flushed result)) self.new
+            mine.new }
     {
         make_room(
             self.alloc,
@@ -217,7 +224,8 @@ impl<L: Log, K: Tally> Held<L, K> {
         new: Option<PageId>,
         mine: &mut Share<K>,
     ) -> Result<Result<(), Option<PageId>>, Error>
-        ensures { Serves L.Log self.old mine.old (Asked (CasRoot name.now old new)) (Answered (RootSwapped result)) self.new mine.new }
+        ensures { Serves L.Log self.old mine.old (Asked (CasRoot name.now old new))
+            (Answered (RootSwapped result)) self.new mine.new }
     {
         make_room(
             self.alloc,
@@ -240,7 +248,8 @@ impl<L: Log, K: Tally> Held<L, K> {
 
     /// The root page of a name, as [`PageCache::meta_pid_for_name`](sled_pagecache::PageCache::meta_pid_for_name).
     pub fn meta_pid_for_name(&mut self, name: &[u8], mine: &mut Share<K>) -> Result<PageId, Error>
-        ensures { Serves L.Log self.old mine.old (Asked (MetaPidForName name.now)) (Answered (FoundRoot result)) self.new mine.new }
+        ensures { Serves L.Log self.old mine.old (Asked (MetaPidForName name.now))
+            (Answered (FoundRoot result)) self.new mine.new }
     {
         make_room(
             self.alloc,
@@ -291,7 +300,8 @@ impl<L: Log, K: Tally> Held<L, K> {
         swaps: Vec<Swap>,
         mine: &mut Share<K>,
     ) -> Result<Vec<SwapAnswer>, (Error, Vec<SwapAnswer>)>
-        ensures { Serves L.Log self.old mine.old (Batch swaps.items) (Batched (batched result)) self.new mine.new }
+        ensures { Serves L.Log self.old mine.old (Batch swaps.items) (Batched (batched result))
+            self.new mine.new }
     {
         let alloc = self.alloc;
         let room = make_room(

@@ -31,7 +31,9 @@ pub fn serve_batch<L: Log, R: BufRead, W: Write>(
     piece: &mut Piece,
 ) -> Result<bool, RunError>
     requires { cache.old.batch ≡ false }
-    ensures { (input : Option Bytes) → IsNext input (R.remaining reader.old) (codes "pin") → ServesBatch L.Log cache.old input (R.remaining reader.new) (W.contents writer.old) (W.contents writer.new) piece.old piece.new result cache.new }
+    ensures { (input : Option Bytes) → IsNext input (R.remaining reader.old) (codes "pin")
+        → ServesBatch L.Log cache.old input (R.remaining reader.new) (W.contents writer.old)
+        (W.contents writer.new) piece.old piece.new result cache.new }
 {
     let mut guard = match cache.pin_log() {
         Ok(guard) => guard,

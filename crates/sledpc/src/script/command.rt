@@ -58,7 +58,8 @@ pub fn mark_of(line: &[u8]) -> Option<Mark>
 pub fn tree_to_open(alloc: Global, line: &[u8]) -> Result<Option<IVec>, AllocError>
     requires { length line.now ≤ longest_line }
     ensures some { IfOk result (λ found. IfSome found (EncodesOpen line.now)) }
-    ensures none { IfOk result (λ found. IfNone found ((name : Bytes) → ¬ EncodesOpen line.now name)) }
+    ensures none { IfOk result
+        (λ found. IfNone found ((name : Bytes) → ¬ EncodesOpen line.now name)) }
 {
     let (word, arguments) = first_word(line);
     if word == b"open".as_slice() {
@@ -93,7 +94,8 @@ pub fn leaf_to_add(alloc: Global, line: &[u8]) -> Result<Option<Node>, AllocErro
 /// The link that a line `set ID STAMP KEY VALUE` or `del ID STAMP KEY` asks for, behind its token, or none where it is no such line.
 pub fn link_to_make(alloc: Global, line: &[u8]) -> Result<Option<(PageView, Link)>, AllocError>
     requires { length line.now ≤ longest_line }
-    ensures { IfOk result (λ found. IfSome found (λ made. Encodes line.now (calls.Link made.0 made.1))) }
+    ensures { IfOk result
+        (λ found. IfSome found (λ made. Encodes line.now (calls.Link made.0 made.1))) }
 {
     match line {
         [b's', b'e', b't', b' ', arguments @ ..] => set_behind(alloc, Some(arguments)),

@@ -38,7 +38,8 @@ pub fn gather_line<W: Write>(
     piece: &mut Piece,
     lent: LentAnswer<'_>,
 ) -> Result<(), Unwritten>
-    ensures { Gathers (W.contents writer.old) (W.contents writer.new) piece.old piece.new result (reply_of (answer_of lent.entry) ++ 10 ∷ []) }
+    ensures { Gathers (W.contents writer.old) (W.contents writer.new) piece.old piece.new result
+        (reply_of (answer_of lent.entry) ++ 10 ∷ []) }
 {
     match lent {
         LentAnswer::Allocated(Ok((pid, token))) => gather_page(writer, piece, *pid, token.ts()),
@@ -96,7 +97,8 @@ pub fn gather_tree<W: Write>(
     piece: &mut Piece,
     root: &Result<PageId, Error>,
 ) -> Result<(), Unwritten>
-    ensures { Gathers (W.contents writer.old) (W.contents writer.new) piece.old piece.new result (reply_of_tree root.now ++ 10 ∷ []) }
+    ensures { Gathers (W.contents writer.old) (W.contents writer.new) piece.old piece.new result
+        (reply_of_tree root.now ++ 10 ∷ []) }
 {
     match root {
         Ok(root) => gather_labelled(writer, piece, b"page ", *root),
@@ -110,7 +112,8 @@ pub fn gather_mark<W: Write>(
     piece: &mut Piece,
     answer: &Result<(), Error>,
 ) -> Result<(), Unwritten>
-    ensures { Gathers (W.contents writer.old) (W.contents writer.new) piece.old piece.new result (reply_of_mark answer.now ++ 10 ∷ []) }
+    ensures { Gathers (W.contents writer.old) (W.contents writer.new) piece.old piece.new result
+        (reply_of_mark answer.now ++ 10 ∷ []) }
 {
     match answer {
         Ok(()) => gather_text(writer, piece, b"ok\n"),

@@ -95,7 +95,8 @@ pub fn run<L: Log, R: BufRead, W: Write>(
     writer: &mut W,
 ) -> Result<(), RunError>
     requires { cache.old.batch ≡ false }
-    ensures { Serves L.Log cache.old (R.remaining reader.old) (W.contents writer.old) (W.contents writer.new) result cache.new }
+    ensures { Serves L.Log cache.old (R.remaining reader.old) (W.contents writer.old)
+        (W.contents writer.new) result cache.new }
 {
     let mut piece = Piece::new();
     match serve_lines(alloc, cache, reader, writer, &mut piece) {
@@ -146,7 +147,8 @@ pub fn serve_until<L: Log, R: BufRead, W: Write>(
     writer: &mut W,
     piece: &mut Piece,
 ) -> Result<Stop, RunError>
-    ensures serves { ServesUntil L.Log cache.old (R.remaining reader.old) (R.remaining reader.new) (W.contents writer.old) (W.contents writer.new) piece.old piece.new result cache.new }
+    ensures serves { ServesUntil L.Log cache.old (R.remaining reader.old) (R.remaining reader.new)
+        (W.contents writer.old) (W.contents writer.new) piece.old piece.new result cache.new }
     ensures batch { cache.new.batch ≡ cache.old.batch }
 {
     let mut line = Vec::new(alloc);
@@ -175,7 +177,8 @@ pub fn flush_unless<W: Write>(
     writer: &mut W,
     piece: &mut Piece,
 ) -> Result<(), Unwritten>
-    ensures { Gathers (W.contents writer.old) (W.contents writer.new) piece.old piece.new result [] }
+    ensures { Gathers (W.contents writer.old) (W.contents writer.new) piece.old piece.new result
+        [] }
 {
     if is_followed {
         return Ok(());

@@ -99,7 +99,8 @@ fn decode(word: &[u8], bytes: &mut [u8]) -> bool
 pub fn bytes_of(alloc: Global, word: &[u8]) -> Result<Option<IVec>, AllocError>
     ensures some { IfOk result (λ found. IfSome found (λ bytes. word.now ≡ bytes_word bytes)) }
     ensures bytes { IfOk result (λ found. IfSome found AreBytes) }
-    ensures none { IfOk result (λ found. IfNone found ((bytes : Bytes) → AreBytes bytes → word.now ≢ bytes_word bytes)) }
+    ensures none { IfOk result
+        (λ found. IfNone found ((bytes : Bytes) → AreBytes bytes → word.now ≢ bytes_word bytes)) }
 {
     if word == b"-".as_slice() {
         return Ok(Some(IVec::from_slice(alloc, &[])?));
@@ -127,7 +128,8 @@ pub fn bytes_of(alloc: Global, word: &[u8]) -> Result<Option<IVec>, AllocError>
 pub fn pair_of(alloc: Global, word: &[u8]) -> Result<Option<(IVec, IVec)>, AllocError>
     ensures some { IfOk result (λ found. IfSome found (λ pair. word.now ≡ pair_word pair)) }
     ensures bytes { IfOk result (λ found. IfSome found IsPairOfBytes) }
-    ensures none { IfOk result (λ found. IfNone found ((pair : Bytes × Bytes) → IsPairOfBytes pair → word.now ≢ pair_word pair)) }
+    ensures none { IfOk result (λ found. IfNone found ((pair : Bytes × Bytes) → IsPairOfBytes pair
+        → word.now ≢ pair_word pair)) }
 {
     let (key, rest) = cut_at(word, b'=');
     let Some(value) = rest else {
@@ -147,9 +149,11 @@ pub fn pairs_of(
     alloc: Global,
     words: Option<&[u8]>,
 ) -> Result<Option<Vec<(IVec, IVec)>>, AllocError>
-    ensures some { IfOk result (λ found. IfSome found (λ pairs. EncodePairs (option_map (λ rest. rest.now) words.entry) pairs.items)) }
+    ensures some { IfOk result (λ found. IfSome found
+        (λ pairs. EncodePairs (option_map (λ rest. rest.now) words.entry) pairs.items)) }
     ensures bytes { IfOk result (λ found. IfSome found (λ pairs. ArePairs pairs.items)) }
-    ensures none { IfOk result (λ found. IfNone found ((pairs : List (Bytes × Bytes)) → ArePairs pairs → ¬ EncodePairs (option_map (λ rest. rest.now) words.entry) pairs)) }
+    ensures none { IfOk result (λ found. IfNone found ((pairs : List (Bytes × Bytes))
+        → ArePairs pairs → ¬ EncodePairs (option_map (λ rest. rest.now) words.entry) pairs)) }
 {
     let mut pairs = Vec::new(alloc);
     let mut left = words;

@@ -24,7 +24,8 @@ impl<L: Log> PageCache<L> {
     pub fn get_idgen(&self) -> Result<(PageView, u64), Error>
         ensures step { Steps L.Log self.now GetIdgen (GotIdgen result) self.now }
         ensures keeps { Keeps self.now self.now result (λ _. self.now.stamps) }
-        ensures token { IfOk result (λ found. (pid_of found.0 ≡ counter_pid) × (slice_get self.now.stamps counter_pid ≡ Some (stamp_of found.0))) }
+        ensures token { IfOk result (λ found. (pid_of found.0 ≡ counter_pid)
+            × (slice_get self.now.stamps counter_pid ≡ Some (stamp_of found.0))) }
         ensures always { self.now.fault ≡ false → IsOk result }
         ensures unnamed { IfErr result HasNoName }
     {
@@ -49,7 +50,8 @@ impl<L: Log> PageCache<L> {
         ensures step { Steps L.Log self.old GenerateId (Generated result) self.new }
         ensures blame { IsBlamed L.Log self.old self.new result }
         ensures keeps { Keeps self.old self.new result (λ _. self.new.stamps) }
-        ensures id { IfOk result (λ id. (id ≡ self.old.next) × (self.new.next ≡ self.old.next + 1)) }
+        ensures id { IfOk result (λ id. (id ≡ self.old.next)
+            × (self.new.next ≡ self.old.next + 1)) }
         ensures unread { ReadsNothing L.Log self.old self.new }
         ensures bounded { IsBounded L.Log self.new }
         ensures gives { IfOk result (λ _. GivesId L.Log self.old self.new) }

@@ -47,7 +47,8 @@ impl<L: Log> PageCache<L> {
         ensures blame { IsBlamed L.Log self.old self.new result }
         ensures unread { ReadsNothing L.Log self.old self.new }
         ensures keeps { Keeps self.old self.new result (λ made. stamped self.old.stamps made.1) }
-        ensures token { IfOk result (λ made. (pid_of made.1 ≡ made.0) × (slice_get self.new.stamps made.0 ≡ Some (stamp_of made.1))) }
+        ensures token { IfOk result (λ made. (pid_of made.1 ≡ made.0)
+            × (slice_get self.new.stamps made.0 ≡ Some (stamp_of made.1))) }
         ensures resident { IfOk result (λ made. IsResident self.new made.0) }
         ensures bounded { IsBounded L.Log self.new }
         ensures accesses { IfOk result (λ made. AccessesPage self.old made.0 self.new) }
@@ -120,14 +121,18 @@ impl<L: Log> PageCache<L> {
         ensures blame { IsBlamed L.Log self.old self.new result }
         ensures keeps { Keeps self.old self.new result (swapped self.old.stamps) }
         ensures token { IfOk result (IsAnswered self.old.stamps old link) }
-        ensures damaged { MeetsDamage L.Log self.old pid → slice_get self.old.stamps pid ≡ Some (stamp_of old) → ReportsDamage L.Log self.old pid result self.new }
+        ensures damaged { MeetsDamage L.Log self.old pid → slice_get self.old.stamps pid
+            ≡ Some (stamp_of old) → ReportsDamage L.Log self.old pid result self.new }
         ensures reads { ReadsPage L.Log self.old pid self.new }
-        ensures unread { IfOk result (λ swapped. OnErr swapped (ReadsNothing L.Log self.old self.new)) }
-        ensures length { L.tells → IfOk result (λ swapped. OnOk swapped (chain_length L.state self.new pid ≡ linked_length (chain_length L.state self.old pid))) }
+        ensures unread { IfOk result
+            (λ swapped. OnErr swapped (ReadsNothing L.Log self.old self.new)) }
+        ensures length { L.tells → IfOk result (λ swapped. OnOk swapped (chain_length L.state
+            self.new pid ≡ linked_length (chain_length L.state self.old pid))) }
         ensures resident { IfOk result (λ swapped. OnOk swapped (IsResident self.new pid)) }
         ensures kept_out { OnErr result (IsAway self.old pid → IsAway self.new pid) }
         ensures bounded { IsBounded L.Log self.new }
-        ensures accesses { IfOk result (λ swapped. OnOk swapped (AccessesPage self.old pid self.new)) }
+        ensures accesses { IfOk result
+            (λ swapped. OnOk swapped (AccessesPage self.old pid self.new)) }
         ensures same { IfOk result (λ swapped. OnErr swapped (KeepsMemory self.old self.new)) }
         ensures leaves { IfErr result (LeavesMemory self.old pid self.new L.tells) }
         ensures unnamed { IfErr result HasNoName }
@@ -172,10 +177,12 @@ impl<L: Log> PageCache<L> {
         ensures keeps { Keeps self.old self.new result (swapped self.old.stamps) }
         ensures token { IfOk result (IsAnswered self.old.stamps old node) }
         ensures unread { ReadsNothing L.Log self.old self.new }
-        ensures length { L.tells → IfOk result (λ swapped. OnOk swapped (chain_length L.state self.new pid ≡ 1)) }
+        ensures length { L.tells
+            → IfOk result (λ swapped. OnOk swapped (chain_length L.state self.new pid ≡ 1)) }
         ensures resident { IfOk result (λ swapped. OnOk swapped (IsResident self.new pid)) }
         ensures bounded { IsBounded L.Log self.new }
-        ensures accesses { IfOk result (λ swapped. OnOk swapped (AccessesPage self.old pid self.new)) }
+        ensures accesses { IfOk result
+            (λ swapped. OnOk swapped (AccessesPage self.old pid self.new)) }
         ensures same { IfOk result (λ swapped. OnErr swapped (KeepsMemory self.old self.new)) }
         ensures leaves { IfErr result (LeavesMemory self.old pid self.new L.tells) }
         ensures unnamed { IfErr result HasNoName }
@@ -219,11 +226,13 @@ impl<L: Log> PageCache<L> {
         ensures keeps { Keeps self.old self.new result (swapped self.old.stamps) }
         ensures token { IfOk result (IsAnswered self.old.stamps old tt) }
         ensures unread { ReadsNothing L.Log self.old self.new }
-        ensures length { L.tells → IfOk result (λ swapped. OnOk swapped (chain_length L.state self.new pid ≡ 1)) }
+        ensures length { L.tells
+            → IfOk result (λ swapped. OnOk swapped (chain_length L.state self.new pid ≡ 1)) }
         ensures none { IfOk result (λ swapped. OnOk swapped (HasNoNode self.new pid)) }
         ensures resident { IfOk result (λ swapped. OnOk swapped (IsResident self.new pid)) }
         ensures bounded { IsBounded L.Log self.new }
-        ensures accesses { IfOk result (λ swapped. OnOk swapped (AccessesPage self.old pid self.new)) }
+        ensures accesses { IfOk result
+            (λ swapped. OnOk swapped (AccessesPage self.old pid self.new)) }
         ensures same { IfOk result (λ swapped. OnErr swapped (KeepsMemory self.old self.new)) }
         ensures leaves { IfErr result (LeavesMemory self.old pid self.new L.tells) }
         ensures unnamed { IfErr result HasNoName }

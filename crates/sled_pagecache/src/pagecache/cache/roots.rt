@@ -23,7 +23,8 @@ impl<L: Log> PageCache<L> {
     pub fn get_meta(&self) -> Result<MetaView<'_>, Refusal>
         ensures step { Steps L.Log self.now GetMeta (GotMeta (told_meta result)) self.now }
         ensures keeps { Keeps self.now self.now (told_meta result) (λ _. self.now.stamps) }
-        ensures token { IfOk result (λ view. (view.token.pid ≡ meta_pid) × (slice_get self.now.stamps meta_pid ≡ Some view.token.stamp)) }
+        ensures token { IfOk result (λ view. (view.token.pid ≡ meta_pid)
+            × (slice_get self.now.stamps meta_pid ≡ Some view.token.stamp)) }
         ensures always { self.now.fault ≡ false → IsOk result }
     {
         let view = own_roots(self.sticky_log.fault, &self.pages)?;
@@ -64,12 +65,14 @@ impl<L: Log> PageCache<L> {
         old: Option<PageId>,
         new: Option<PageId>,
     ) -> Result<Result<(), Option<PageId>>, Error>
-        ensures step { Steps L.Log self.old (CasRoot name.now old new) (RootSwapped result) self.new }
+        ensures step { Steps L.Log self.old (CasRoot name.now old new) (RootSwapped result)
+            self.new }
         ensures blame { IsBlamed L.Log self.old self.new result }
         ensures keeps { Keeps self.old self.new result (root_swapped self.old.stamps) }
         ensures unread { ReadsNothing L.Log self.old self.new }
         ensures bounded { IsBounded L.Log self.new }
-        ensures accesses { IfOk result (λ swapped. OnOk swapped (AccessesPage self.old meta_pid self.new)) }
+        ensures accesses { IfOk result
+            (λ swapped. OnOk swapped (AccessesPage self.old meta_pid self.new)) }
         ensures same { IfOk result (λ swapped. OnErr swapped (KeepsMemory self.old self.new)) }
         ensures leaves { IfErr result (LeavesMemory self.old meta_pid self.new L.tells) }
         ensures unnamed { IfErr result HasNoName }
