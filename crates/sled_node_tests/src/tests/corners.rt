@@ -1,5 +1,6 @@
-// Each call of a node at the corners: none to 1,000 pairs, short and long keys and values, pages of each length, and prefixes that
-// stay, that become longer in a part, and that become shorter again where the parts are merged.
+// Each call of a node at the corners: none to 2,000 pairs, short and long keys and values, pages of each length, and prefixes that
+// stay, that become longer in a part, and that become shorter again where the parts are merged. The payload of the largest leaves has
+// more than 2^17 bytes.
 
 use super::children::{next, split};
 use super::leaf::push;
@@ -10,7 +11,7 @@ use super::parts::{is_over, node_over};
 use super::serialization::is_node_written;
 use super::*;
 
-const COUNTS: &[u32] = &[0, 1, 2, 3, 16, 17, 1_000];
+const COUNTS: &[u32] = &[0, 1, 2, 3, 16, 17, 1_000, 2_000];
 
 // What stands at the end of each key, and as each value: nothing, or more than is kept in place.
 const TAILS: &[&[u8]] = &[b"", b"xxxxxxxxxxxxxxxxxxxxxxxxxxxxxx"];

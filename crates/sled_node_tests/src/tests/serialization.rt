@@ -93,9 +93,41 @@ fn are_links_written(alloc: Global) -> bool {
     is_set_written(alloc, SET) && is_del_written(alloc, DEL) && are_marks_written(alloc)
 }
 
+// What stands before a value of so many bytes in a link that sets it, whose payload has 2^17 + 1 bytes then.
+const LONG_SET: (&[u8], usize) = (&[0, 1, 1, 250, 250, 255, 1], 131_066);
+
+// These bytes, and so many bytes 2 behind them.
+fn before_twos(alloc: Global, front: &[u8], len: usize) -> Result<Vec<u8>, AllocError> {
+    let mut bytes = Vec::from_slice(alloc, front)?;
+    for _ in 0..len {
+        bytes.push(2)?;
+    }
+    Ok(bytes)
+}
+
+// Whether the bytes are read as a link that sets this value.
+fn sets_value(alloc: Global, bytes: &[u8], value: &[u8]) -> bool {
+    match (
+        IVec::from_slice(alloc, &[1]),
+        IVec::from_slice(alloc, value),
+    ) {
+        (Ok(key), Ok(value)) => is_read(alloc, bytes, &Link::Set(key, value)),
+        _ => false,
+    }
+}
+
+fn is_long_set_read(alloc: Global) -> bool {
+    let (front, len) = LONG_SET;
+    match before_twos(alloc, front, len) {
+        Ok(bytes) => sets_value(alloc, &bytes, bytes.get(front.len()..).unwrap_or(&[])),
+        Err(_) => false,
+    }
+}
+
 #[test]
 fn links(rt: HostRuntime) {
     assert!(rt; are_links_written(rt.alloc()));
+    assert!(rt; is_long_set_read(rt.alloc()));
 }
 
 // Whether a leaf is read from the input, whose last byte is left, and written as the bytes.

@@ -1,9 +1,10 @@
-// Each call of a root map with none to 1,000 names, short and long ones, and with roots of each length.
+// Each call of a root map with none to 4,097 names, short and long ones, and with roots of each length. The payload of the most and
+// longest has more than 2^17 bytes.
 
 use super::*;
 use sled_node::ConsumeSequence;
 
-const COUNTS: &[u32] = &[0, 1, 2, 3, 16, 17, 1_000];
+const COUNTS: &[u32] = &[0, 1, 2, 3, 16, 17, 1_000, 4_097];
 
 // What stands at the end of each name: nothing, or more than is kept in place.
 const TAILS: &[&[u8]] = &[b"", b"xxxxxxxxxxxxxxxxxxxxxxxxxxxxxx"];
