@@ -32,8 +32,8 @@ fn are_accessed(alloc: Global, capacity: u64, accesses: Accesses) -> Result<bool
 
 // ---- each number of pages
 
-// A page of the first shard that isn't among the others.
-const LAST: PageId = 256 * 1_000;
+// A page of the first shard that isn't among the others, and comes behind 2^16 places.
+const LAST: PageId = 256 * 65_537;
 
 // Whether so many pages stay as they come, when they come again, and when they are larger.
 fn all_stay(lru: &mut Lru, count: u64, stride: u64) -> Result<bool, AllocError> {

@@ -215,6 +215,11 @@ const TEXTS: Rows = &[
     ("2,288 bytes", Value::Sixes(2288), &[249, 0, 0]),
     ("67,823 bytes", Value::Sixes(67823), &[249, 255, 255]),
     ("67,824 bytes", Value::Sixes(67824), &[250, 240, 8, 1]),
+    (
+        "131,069 bytes, which make 2^17 + 1",
+        Value::Sixes(131_069),
+        &[250, 253, 255, 1],
+    ),
 ];
 
 // What is read but never written. A value above 240 has a longer encoding too.
