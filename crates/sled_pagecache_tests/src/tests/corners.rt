@@ -1,4 +1,4 @@
-// Each call of the cache on leaves and indexes of none to 1,000 pairs, over all keys and under a prefix, with short and long keys and
+// Each call of the cache on leaves and indexes of none to 2,000 pairs, over all keys and under a prefix, with short and long keys and
 // values, whose payloads are blobs or not; and on pages by the lengths of their ids.
 
 use super::calls::{adds, flushes, links, replaces};
@@ -9,7 +9,7 @@ use super::steps::Step::{Adds, AddsFrom, Frees, Gets, Links, Replaces, Takes};
 use super::steps::{PAIR, shown, shows};
 use super::*;
 
-const COUNTS: &[u32] = &[0, 1, 2, 3, 16, 17, 1_000];
+const COUNTS: &[u32] = &[0, 1, 2, 3, 16, 17, 1_000, 2_000];
 
 // What stands at the end of each key, and as each value: nothing, or more than is kept in place.
 const NOTHING: &[u8] = b"";

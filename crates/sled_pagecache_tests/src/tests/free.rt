@@ -138,33 +138,38 @@ fn freed_pages_are_absent_and_used_again(rt: HostRuntime) {
     assert_eq!(rt; first_wrong(rt.alloc(), SCRIPTS), None);
 }
 
-// Whether 1,000 pages are freed in a scattered order, and used again from the greatest to the least.
-fn frees_many(alloc: Global, cache: &mut Cache) -> bool {
-    for n in 0..1000 {
-        if frees(cache, 2 + n * 501 % 1000, 1) != At(2) {
+// Whether so many pages are freed, each so many places behind the one before, and used again from the greatest to the least.
+fn frees_many(alloc: Global, cache: &mut Cache, count: u32, stride: u32) -> bool {
+    for n in 0..count {
+        let place = n.wrapping_mul(stride) % count;
+        if frees(cache, 2 + u64::from(place), 1) != At(2) {
             return false;
         }
     }
-    for n in 0..1000 {
-        if !shows(alloc, cache, &Adds(1001 - n, 3)) {
+    for n in 0..count {
+        if !shows(alloc, cache, &Adds(1 + u64::from(count - n), 3)) {
             return false;
         }
     }
     true
 }
 
-fn uses_many(alloc: Global) -> bool {
+fn uses_many(alloc: Global, count: u32, stride: u32) -> bool {
     match started(alloc, 512) {
         Some(mut cache) => {
-            shows(alloc, &mut cache, &AddsFrom(2, 1002)) && frees_many(alloc, &mut cache)
+            shows(alloc, &mut cache, &AddsFrom(2, 2 + u64::from(count)))
+                && frees_many(alloc, &mut cache, count, stride)
         }
         None => false,
     }
 }
 
+// In a scattered order, and the least first.
 #[test]
-fn a_thousand_pages_are_used_from_the_greatest_on(rt: HostRuntime) {
-    assert!(rt; uses_many(rt.alloc()));
+fn many_pages_are_used_from_the_greatest_on(rt: HostRuntime) {
+    for (count, stride) in [(1_000, 501), (1_025, 1)] {
+        assert!(rt; uses_many(rt.alloc(), count, stride), "{count} pages");
+    }
 }
 
 const FULL: Outcome = Refused(Why::LogFull);

@@ -6,32 +6,67 @@ ghost use Rattle.sled_pagecache.specs.Limits.{most_pages};
 use super::*;
 use sled_pagecache::{CacheInfo, Page, PageTable, split_fanout};
 
-// ---- a page of two messages, and a free one
+// ---- a page of some messages, and a free one
 
-const FIRST: CacheInfo = CacheInfo {
-    ts: 0,
-    lsn: 0,
-    pointer: DiskPtr::Inline(0),
-    log_size: 25,
-};
+/// Where a message is: its lsn, the pointer to it, and its log size.
+type Place = (Lsn, DiskPtr, u64);
 
-const SECOND: CacheInfo = CacheInfo {
-    ts: 0,
-    lsn: 25,
-    pointer: DiskPtr::Blob(25, 25),
-    log_size: 22,
-};
+/// The messages of a page, how many bytes of the log they take, and the lsn of the last.
+type Chain<'a> = (&'a [Place], u64, Lsn);
 
-fn two_messages(alloc: Global) -> Result<PageState, AllocError> {
-    Ok(PageState::Present {
-        base: (0, DiskPtr::Inline(0), 25),
-        frags: Vec::from_array(alloc, [(25, DiskPtr::Blob(25, 25), 22)])?,
-    })
+const CHAINS: &[Chain<'static>] = &[
+    (&[FIRST], 25, 0),
+    (&[FIRST, SECOND], 47, 25),
+    (
+        &[FIRST, SECOND, (47, DiskPtr::Inline(47), 131_090)],
+        131_137,
+        47,
+    ),
+    (
+        &[
+            FIRST,
+            SECOND,
+            (47, DiskPtr::Inline(47), 18),
+            (65, DiskPtr::Inline(65), 18),
+            (99, DiskPtr::Blob(99, 7), 40),
+            (139, DiskPtr::Inline(139), 18),
+            (200, DiskPtr::Inline(200), 18),
+            (218, DiskPtr::Inline(218), 18),
+            (236, DiskPtr::Blob(236, 236), 1_000),
+            (1_236, DiskPtr::Inline(1_236), 22),
+        ],
+        1_199,
+        1_236,
+    ),
+];
+
+const FIRST: Place = (0, DiskPtr::Inline(0), 25);
+
+const SECOND: Place = (25, DiskPtr::Blob(25, 25), 22);
+
+fn state_of(alloc: Global, places: &[Place]) -> Option<PageState> {
+    let (base, rest) = places.split_first()?;
+    let frags = Vec::from_slice(alloc, rest).ok()?;
+    Some(PageState::Present { base: *base, frags })
 }
 
-// Whether the page has this chain, of so many bytes, and ends at this lsn.
-fn has_chain(page: &Page, chain: &[CacheInfo], bytes: u64, last: Lsn, is_free: bool) -> bool {
-    page.cache_infos() == chain
+// Whether the entries are of these places, each without a stamp.
+fn are_at(infos: &[CacheInfo], places: &[Place]) -> bool {
+    for (info, (lsn, pointer, log_size)) in infos.iter().zip(places) {
+        let is_so = info.ts == 0
+            && info.lsn == *lsn
+            && info.pointer == *pointer
+            && info.log_size == *log_size;
+        if !is_so {
+            return false;
+        }
+    }
+    infos.len() == places.len()
+}
+
+// Whether the page has this chain, or is free with it.
+fn has_chain(page: &Page, (places, bytes, last): Chain<'_>, is_free: bool) -> bool {
+    are_at(page.cache_infos(), places)
         && page.log_size() == bytes
         && page.last_lsn() == last
         && page.is_free() == is_free
@@ -52,48 +87,35 @@ fn is_said_again(alloc: Global, page: &Page, state: &PageState) -> bool {
     }
 }
 
-// Whether the page of two messages has their chain, and a copy of it is said by them again.
-fn is_chained(alloc: Global, state: &PageState) -> bool {
+// Whether the page of this state has the chain, and a copy of it is said by the state again.
+fn is_chained(alloc: Global, state: &PageState, chain: Chain<'_>, is_free: bool) -> bool {
     match Page::from_state(alloc, state) {
-        Ok(page) => {
-            has_chain(&page, &[FIRST, SECOND], 47, 25, false) && is_said_again(alloc, &page, state)
-        }
+        Ok(page) => has_chain(&page, chain, is_free) && is_said_again(alloc, &page, state),
         Err(_) => false,
     }
 }
 
-// Whether the free page has the chain of its one message, which is at this lsn, and a copy of it is said so again.
-fn is_freed(alloc: Global, lsn: u32) -> bool {
-    let freed = CacheInfo {
-        ts: 0,
-        lsn: Lsn::from(lsn),
-        pointer: DiskPtr::Inline(u64::from(lsn)),
-        log_size: 17,
-    };
-    let state = PageState::Free(freed.lsn, freed.pointer);
-    match Page::from_state(alloc, &state) {
-        Ok(page) => {
-            has_chain(&page, &[freed], 17, freed.lsn, true) && is_said_again(alloc, &page, &state)
-        }
-        Err(_) => false,
-    }
-}
-
-fn two_are_chained(alloc: Global) -> bool {
-    match two_messages(alloc) {
-        Ok(state) => is_chained(alloc, &state),
-        Err(_) => false,
+fn are_chained(alloc: Global, chain: Chain<'_>) -> bool {
+    match state_of(alloc, chain.0) {
+        Some(state) => is_chained(alloc, &state, chain, false),
+        None => false,
     }
 }
 
 #[test]
 fn a_page_reports_its_chain_and_is_said_by_it(rt: HostRuntime) {
-    assert!(rt; two_are_chained(rt.alloc()), "a page of two messages");
-    assert!(rt; is_freed(rt.alloc(), 9), "a free page");
-    assert!(rt;
-        is_freed(rt.alloc(), 0),
-        "a free page at the begin of the log"
-    );
+    for chain in CHAINS {
+        assert!(rt;
+            are_chained(rt.alloc(), *chain),
+            "{} messages",
+            chain.0.len()
+        );
+    }
+    for lsn in [0, 9] {
+        let place = (lsn, DiskPtr::Inline(lsn as u64), 17);
+        let state = PageState::Free(lsn, place.1);
+        assert!(rt; is_chained(rt.alloc(), &state, (&[place], 17, lsn), true));
+    }
 }
 
 // ---- a table of free pages, each with the lsn of its id
@@ -115,7 +137,7 @@ fn put_in(table: &mut PageTable, pid: PageId, page: Page) -> Result<(), AllocErr
 }
 
 // A table of so many pages.
-fn table_of(alloc: Global, count: u64) -> Result<PageTable, AllocError>
+pub(super) fn table_of(alloc: Global, count: u64) -> Result<PageTable, AllocError>
     requires { count ≤ most_pages }
     ensures { IfOk result (λ table. length table.pages ≡ count) }
 {
@@ -127,7 +149,7 @@ fn table_of(alloc: Global, count: u64) -> Result<PageTable, AllocError>
 }
 
 // The lsn of the page at an id, if there is one.
-fn lsn_at(table: &PageTable, pid: PageId) -> Option<Lsn> {
+pub(super) fn lsn_at(table: &PageTable, pid: PageId) -> Option<Lsn> {
     table.get(pid).map(|page| page.last_lsn())
 }
 

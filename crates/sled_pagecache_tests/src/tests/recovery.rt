@@ -1,11 +1,12 @@
 // Caches that are opened over a log that another wrote.
 
 use super::scripts::{Script, first_wrong, first_wrong_at, walks};
-use super::steps::Change::Set;
+use super::steps::Change::{Del, Set};
 use super::steps::Outcome::{At, Stale};
-use super::steps::Sight::{Absent, Empty, Pair};
+use super::steps::Sight::{Absent, Empty, Holds, Pair};
 use super::steps::Step::{
-    Adds, Crashes, Flushes, Gets, Links, LinksFrom, Reads, Recovered, Reopens, Takes, Writes,
+    Adds, AddsFrom, Crashes, Flushes, Frees, Gets, Links, LinksFrom, Prints, Reads, Recovered,
+    Reopens, Takes, Writes,
 };
 use super::steps::{Change, PAIR, Step, shown};
 use super::*;
@@ -18,6 +19,9 @@ const LINKS: Step = Links(2, 1, PAIR, At(2));
 const HELD: Step = Gets(2, Pair(0, b"b", b"v"));
 
 const OTHER: Change = Set(b"c", b"w");
+
+// The value of a link whose payload has 2^17 + 1 bytes. The ninth link behind it writes the node, whose payload has 11 more.
+const LONG: &[u8] = &[7; 131_066];
 
 const SCRIPTS: &[Script] = &[
     (
@@ -67,6 +71,51 @@ const SCRIPTS: &[Script] = &[
             Takes(82),
             Links(2, 1, OTHER, Stale(2)),
             Takes(82),
+        ],
+    ),
+    (
+        "4,097 pages are found again",
+        &[
+            AddsFrom(2, 4_097),
+            Flushes,
+            Reopens,
+            Prints("PageCache { max: 4097 free: [] }\n"),
+            Gets(4_096, Empty(0)),
+            Gets(4_097, Absent),
+            Adds(4_097, 1),
+        ],
+    ),
+    (
+        "three free pages are found again",
+        &[
+            AddsFrom(2, 6),
+            Frees(3, 1, At(2)),
+            Frees(5, 1, At(2)),
+            Frees(2, 1, At(2)),
+            Flushes,
+            Reopens,
+            Prints("PageCache { max: 6 free: [5, 3, 2] }\n"),
+            Gets(4, Empty(0)),
+            Adds(5, 1),
+            Adds(3, 1),
+            Adds(2, 1),
+            Adds(6, 1),
+        ],
+    ),
+    (
+        "a link and a node of more than 2^17 bytes are read whole",
+        &[
+            ADDS,
+            Links(2, 1, Set(b"c", LONG), At(2)),
+            Takes(60 + 17 + 131_073),
+            Gets(2, Pair(2, b"c", LONG)),
+            LinksFrom(2, 2, 9),
+            Takes(131_150 + 8 * 22 + 17 + 131_084),
+            Flushes,
+            Reopens,
+            Gets(2, Holds(0, 2)),
+            Links(2, 0, Del(b"b"), At(1)),
+            Gets(2, Pair(1, b"c", LONG)),
         ],
     ),
 ];

@@ -9,7 +9,7 @@ use super::steps::Outcome::{At, Done, Faulty, Id, Refused};
 use super::steps::Sight::{Absent, Empty, Leads};
 use super::steps::Step;
 use super::steps::Step::{
-    Adds, Crashes, Finds, Flushes, Frees, Gets, Has, Lacks, Opens, Swaps, Takes,
+    Adds, AddsFrom, Crashes, Finds, Flushes, Frees, Gets, Has, Lacks, Opens, Swaps, Takes,
 };
 use super::*;
 
@@ -71,6 +71,24 @@ const SCRIPTS: &[Script] = &[
             Gets(3, Empty(3)),
             Opens(b"u", Id(6)),
             Gets(6, Leads(1, 5)),
+        ],
+    ),
+    (
+        "leaves whose ids take one byte and three",
+        &[
+            AddsFrom(2, 16),
+            Opens(b"t", Id(17)),
+            Gets(17, Leads(1, 16)),
+            AddsFrom(18, 2_288),
+            Opens(b"u", Id(2_289)),
+            Gets(2_289, Leads(1, 2_288)),
+            Flushes,
+            Crashes(0),
+            Opens(b"t", Id(17)),
+            Gets(17, Leads(0, 16)),
+            Opens(b"u", Id(2_289)),
+            Gets(2_289, Leads(0, 2_288)),
+            Has(2, 0),
         ],
     ),
     (
