@@ -135,11 +135,11 @@ fn finds_long(alloc: Global, count: usize, want: Line) -> Result<bool, AllocErro
     )
 }
 
-// Whether a writer with so much room takes just these of five bytes, without an error where it takes all.
-fn takes_of_five(alloc: Global, room: usize, want: &str) -> bool {
+// Whether a writer with so much room takes as much of the text, a byte a write, without an error where it takes all.
+fn takes_of(alloc: Global, text: &[u8], room: usize) -> bool {
     let mut writer = slow_writer(alloc, room);
-    let wrote = write_text(&mut writer, b"abcde").is_ok();
-    wrote == (room >= 5) && writer.got.as_slice() == want.as_bytes()
+    let wrote = write_text(&mut writer, text).is_ok();
+    wrote == (room >= text.len()) && writer.got.as_slice() == &text[..room.min(text.len())]
 }
 
 // Whether the numbers and byte strings, with a space behind each, are written as this text.
@@ -305,8 +305,13 @@ fn reads_long_lines(rt: HostRuntime) -> Result<(), Fail> {
 
 #[test]
 fn writes_a_prefix_before_an_error(rt: HostRuntime) {
-    for (room, want) in [(3, "abc"), (5, "abcde")] {
-        assert!(rt; takes_of_five(rt.alloc(), room, want), "of {room}");
+    for (text, room) in [
+        (b"abcde".as_slice(), 3),
+        (b"abcde", 5),
+        (&[b'x'; 257], 256),
+        (&[b'x'; 257], 257),
+    ] {
+        assert!(rt; takes_of(rt.alloc(), text, room), "of {room}");
     }
 }
 

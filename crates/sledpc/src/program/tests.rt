@@ -253,6 +253,16 @@ const REPLIES: &[(&str, &str)] = &[
         "id\nid\nid\nid\nid\nid\nid\nid\nid\npin\nid\nid\nid\nseal\nid\n",
         "id 0\nid 1\nid 2\nid 3\nid 4\nid 5\nid 6\nid 7\nid 8\nok\nid 9\nerror unsupported 8\nerror unsupported 8\nok\nid 10\n",
     ),
+    // Names of 23 bytes, which differ in the last.
+    (
+        "open 6161616161616161616161616161616161616161616162\nopen 6161616161616161616161616161616161616161616163\nopen 6161616161616161616161616161616161616161616162\nroot 6161616161616161616161616161616161616161616162\nroot 6161616161616161616161616161616161616161616163\nsize\ncas 6161616161616161616161616161616161616161616162 3 2\nroot 6161616161616161616161616161616161616161616162\ncas 6161616161616161616161616161616161616161616162 3 -\ncas 6161616161616161616161616161616161616161616162 2 -\nroot 6161616161616161616161616161616161616161616162\nroot 6161616161616161616161616161616161616161616163\ncas 6161616161616161616161616161616161616161616162 - 3\nopen 6161616161616161616161616161616161616161616162\nsize\n",
+        "page 3\npage 5\npage 3\npage 3\npage 5\nsize 248\nok\npage 2\nis 2\nok\nnone\npage 5\nok\npage 3\nsize 424\n",
+    ),
+    // A batch of 17 links.
+    (
+        "alloc\npin\nset 2 1 61 62\nset 2 2 62 62\nset 2 3 63 62\nset 2 4 64 62\nset 2 5 65 62\nset 2 6 66 62\nset 2 7 67 62\nset 2 8 68 62\nset 2 9 69 62\nset 2 10 6a 62\nset 2 11 6b 62\nset 2 12 6c 62\nset 2 13 6d 62\nset 2 14 6e 62\nset 2 15 6f 62\nset 2 16 70 62\nset 2 17 71 62\nseal\nget 2\n",
+        "page 2 1\nok\nok 2\nok 3\nok 4\nok 5\nok 6\nok 7\nok 8\nok 9\nok 10\nok 11\nok 12\nok 13\nok 14\nok 15\nok 16\nok 17\nok 18\nok\nleaf 18 61=62 62=62 63=62 64=62 65=62 66=62 67=62 68=62 69=62 6a=62 6b=62 6c=62 6d=62 6e=62 6f=62 70=62 71=62\n",
+    ),
     // The input ends inside a batch, behind a line of it and behind the one that opens it.
     ("pin\nalloc\nget 2", "ok\npage 2 1\nleaf 1\n"),
     ("pin", "ok\n"),
@@ -340,7 +350,7 @@ fn replies_to_lines(rt: HostRuntime) {
 /// Lengths of a key or a value, beside one byte.
 const LENGTHS: &[usize] = &[0, 1, 21, 22, 23, 24, 25, 30, 31, 79, 80, 81, 160, 161, 200];
 
-/// Lengths of a key and a value: entries at the room of a piece.
+/// Lengths of a key and a value: entries at the room of a piece, and those of the longest lines.
 const ENTRIES: &[(usize, usize)] = &[
     (0, 0),
     (77, 1),
@@ -353,6 +363,8 @@ const ENTRIES: &[(usize, usize)] = &[
     (40, 39),
     (80, 80),
     (200, 200),
+    (0, 32_764),
+    (32_764, 0),
 ];
 
 #[test]
