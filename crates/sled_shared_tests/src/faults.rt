@@ -2,8 +2,8 @@
 
 ghost use Rattle.std.specs.Prelude.{◌≡◌, ◌<◌, false, IfOk};
 
-use sled_pagecache::{Config, Disk, DiskLog, Error, MemDisk, Node, PageCache};
-use sled_shared::{Book, Held, Share, Tally};
+use sled_pagecache::{Config, Disk, DiskLog, Error, MemDisk, Node, PageCache, PageView};
+use sled_shared::{Book, Held, Share, Swap, Tally};
 use std::alloc::{AllocError, Global};
 use std::fmt::Debug;
 use std::sync::ledger::Blank;
@@ -14,7 +14,7 @@ type Disked = DiskLog<MemDisk>;
 /// system pages.
 const FAILS: u64 = 6;
 
-const CONFIG: Config = Config {
+pub const CONFIG: Config = Config {
     cache_capacity: 1_048_576,
     idgen_persist_interval: 10,
     segment_size: 4096,
@@ -53,6 +53,44 @@ pub fn kept_error<K: Tally>(alloc: Global, blank: Blank, parts: u64) -> Option<V
     all.then_some(texts)
 }
 
+/// The same of a cache that met the write error before it was shared: what a page and a batch of one swap answer, and what the books are.
+pub fn kept_before<K: Tally>(alloc: Global, blank: Blank, parts: u64) -> Option<Vec<String>>
+    requires name { blank.name ≡ K.name }
+    requires parts { (blank.parts ≡ parts) × (K.parts ≡ parts) × (0 < parts) }
+    requires known { ¬ K.known }
+{
+    let mut cache = failing_cache(alloc).ok()?;
+    let mut texts = Vec::new(alloc);
+    let is_met = add(alloc, &mut texts, &cache.allocate(Node::default(alloc)))
+        && add(alloc, &mut texts, &cache.flush());
+    if cache.batch_open() {
+        return None;
+    }
+    let mut held = Held::<Disked, K>::over(alloc, cache, 3, parts, blank).ok()?;
+    let mut share = held.share()?;
+    let all = is_met
+        && ask_behind(alloc, &mut held, &mut share, &mut texts)
+        && close(alloc, held, share, &mut texts);
+    all.then_some(texts)
+}
+
+// Asks for a page and for a batch of one swap, and takes the book. Whether there was memory for the texts.
+fn ask_behind<K: Tally>(
+    alloc: Global,
+    held: &mut Held<Disked, K>,
+    share: &mut Share<K>,
+    texts: &mut Vec<String>,
+) -> bool {
+    let mut swaps = Vec::new(alloc);
+    if swaps.push(Swap::Free(PageView::new(2, 1))).is_err() {
+        return false;
+    }
+    let mut all = add(alloc, texts, &held.allocate(Node::default(alloc), share));
+    all &= add(alloc, texts, &held.batch(swaps, share));
+    all &= add_book(alloc, texts, &held.take_book());
+    all
+}
+
 // Fills a book, takes it, makes one call more, and takes that book. Whether there was memory for the texts.
 fn ask<K: Tally>(
     alloc: Global,
@@ -70,7 +108,7 @@ fn ask<K: Tally>(
     all
 }
 
-fn add<T: Debug>(alloc: Global, texts: &mut Vec<String>, answer: &T) -> bool {
+pub fn add<T: Debug>(alloc: Global, texts: &mut Vec<String>, answer: &T) -> bool {
     put(texts, format!(in alloc; "{answer:?}"))
 }
 

@@ -5,6 +5,7 @@
 //! - `crews`: caches that crews and other threads share
 //! - `corners`: shares that run out, a book without room, and batches of no swaps and of many
 //! - `faults`: a device that fails, and a share that is missing
+//! - `poor`: a log without room, and a damaged page
 //! - `replay`: entries that are made once more
 //! - `rows`: books that are filled, taken and closed, and a batch that is cancelled
 //! - `readme`: the README's example
@@ -15,6 +16,7 @@ mod corners;
 mod crews;
 mod entered;
 mod faults;
+mod poor;
 #[cfg(test)]
 mod readme;
 mod replay;

@@ -1,7 +1,8 @@
 use crate::corners::{batches, closings, without_room};
 use crate::crews::{asked_by_four, crew_of};
 use crate::entered::{add_entries, texts_of};
-use crate::faults::kept_error;
+use crate::faults::{kept_before, kept_error};
+use crate::poor::poor;
 use crate::replay::replayed;
 use crate::rows::{FULL, answers_in_a_row, are, batch_rows, end_so, rows};
 use std::marker::Brand;
@@ -97,6 +98,39 @@ const KEPT: &[&str] = &[
 fn a_full_book_is_told_before_a_kept_error(rt: HostRuntime) {
     let texts = kept_error::<Brand>(rt.alloc(), Blank::new(2), 2);
     assert!(rt; texts.is_some_and(|texts| are(&texts, KEPT)));
+}
+
+/// A page and the flush that meets the error, before the cache is shared; a page and a batch behind it; their book; and the closing.
+const KEPT_BEFORE: &[&str] = &[
+    "Ok((2, PageView { pid: 2, stamp: 1 }))",
+    "Err(Io(Write))",
+    "Err(Io(Write))",
+    "Err((Io(Write), []))",
+    "0 [PageShape { stamp: 1, kind: Roots }, PageShape { stamp: 1, kind: Counter }, PageShape { stamp: 1, kind: Node }] true 2",
+    "2",
+    "2 [PageShape { stamp: 1, kind: Roots }, PageShape { stamp: 1, kind: Counter }, PageShape { stamp: 1, kind: Node }] true 0",
+];
+
+#[test]
+fn a_cache_with_a_kept_error_is_shared(rt: HostRuntime) {
+    let texts = kept_before::<Brand>(rt.alloc(), Blank::new(2), 2);
+    assert!(rt; texts.is_some_and(|texts| are(&texts, KEPT_BEFORE)));
+}
+
+/// A batch whose second swap is refused, a page, and a get; and the ends of their entries.
+const POOR: &[&str] = &[
+    "Err((Corruption(Some(Inline(2))), [Replace(Ok(PageView { pid: 3, stamp: 1 }))]))",
+    "Err(Unsupported(LogFull))",
+    "Err(Corruption(Some(Inline(2))))",
+    ": [Made] Err(Corruption(Some(Inline(2))))",
+    ": Err(Unsupported(LogFull))",
+    "get 2: Err(Corruption(Some(Inline(2))))",
+];
+
+#[test]
+fn a_full_log_and_a_damaged_page_are_entered(rt: HostRuntime) {
+    let texts = poor::<Brand>(rt.alloc(), Blank::new(2), 2);
+    assert!(rt; texts.is_some_and(|texts| end_so(&texts, POOR)));
 }
 
 #[test]
