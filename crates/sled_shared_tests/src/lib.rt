@@ -9,17 +9,27 @@
 //! - `replay`: entries that are made once more
 //! - `rows`: books that are filled, taken and closed, and a batch that is cancelled
 //! - `readme`: the README's example
+//!
+//! They are compiled with the tests alone, so that each is proved once.
 #![tactic(auto)]
 
+#[cfg(test)]
 mod asking;
+#[cfg(test)]
 mod corners;
+#[cfg(test)]
 mod crews;
+#[cfg(test)]
 mod entered;
+#[cfg(test)]
 mod faults;
+#[cfg(test)]
 mod poor;
 #[cfg(test)]
 mod readme;
+#[cfg(test)]
 mod replay;
+#[cfg(test)]
 mod rows;
 #[cfg(test)]
 mod tests;
