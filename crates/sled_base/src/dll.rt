@@ -113,7 +113,8 @@ impl DoublyLinkedList {
     ///
     /// It allocates nothing.
     pub fn pop_tail(&mut self) -> Option<PageId>
-        ensures some { IfSome result (λ item. (slot : Slot) × (self.old ≡ self.new ++ listed slot item ∷ [])) }
+        ensures some { IfSome result (λ item. (slot : Slot)
+            × (self.old ≡ self.new ++ listed slot item ∷ [])) }
         ensures none { IfNone result ((self.old ≡ []) × (self.new ≡ [])) }
     {
         let slot = self.links.last()?;
@@ -124,7 +125,8 @@ impl DoublyLinkedList {
     ///
     /// It allocates nothing.
     pub fn pop_head(&mut self) -> Option<PageId>
-        ensures some { IfSome result (λ item. (slot : Slot) × (self.old ≡ listed slot item ∷ self.new)) }
+        ensures some { IfSome result (λ item. (slot : Slot)
+            × (self.old ≡ listed slot item ∷ self.new)) }
         ensures none { IfNone result ((self.old ≡ []) × (self.new ≡ [])) }
     {
         let slot = self.links.first()?;
@@ -152,7 +154,8 @@ impl DoublyLinkedList {
     /// The slot of the item before that of the slot, on the side of the head, or None where that is the first.
     pub fn before(&self, slot: Slot) -> Option<Slot>
         requires { Contains (slots self.now) slot }
-        ensures { (front back : List Listed) (item : ℕ) → self.now ≡ front ++ listed slot item ∷ back → result ≡ last_slot front }
+        ensures { (front back : List Listed) (item : ℕ)
+            → self.now ≡ front ++ listed slot item ∷ back → result ≡ last_slot front }
     {
         self.links.link(slot).before.get()
     }
@@ -168,7 +171,8 @@ impl DoublyLinkedList {
     /// The item of the slot.
     pub fn item(&self, slot: Slot) -> PageId
         requires { Contains (slots self.now) slot }
-        ensures { (front back : List Listed) (item : ℕ) → self.now ≡ front ++ listed slot item ∷ back → result ≡ item }
+        ensures { (front back : List Listed) (item : ℕ)
+            → self.now ≡ front ++ listed slot item ∷ back → result ≡ item }
     {
         self.links.link(slot).item
     }

@@ -159,7 +159,8 @@ impl IVec {
         f: F,
     ) -> Result<R, AllocError>
         requires { FnOnceTakesAtMut F.FnOnce f self.old }
-        ensures written { IfOk result (λ answer. FnOnceReturnsAtMut F.FnOnce f self.old answer self.new) }
+        ensures written { IfOk result
+            (λ answer. FnOnceReturnsAtMut F.FnOnce f self.old answer self.new) }
         ensures length { length self.new ≡ length self.old }
         ensures few { length self.old ≤ inline_limit → IsOk result }
         ensures stays { OnErr result (self.new ≡ self.old) }

@@ -60,7 +60,8 @@ impl Short {
     /// What `f` answers, which is lent the bytes to write.
     pub(crate) fn write_with<R, F: FnOnce(&mut [u8]) -> R>(&mut self, f: F) -> R
         requires { FnOnceTakesAtMut F.FnOnce f (short_bytes self.old) }
-        ensures written { FnOnceReturnsAtMut F.FnOnce f (short_bytes self.old) result (short_bytes self.new) }
+        ensures written { FnOnceReturnsAtMut F.FnOnce f (short_bytes self.old) result
+            (short_bytes self.new) }
         ensures length { length (short_bytes self.new) ≡ length (short_bytes self.old) }
     {
         write_front(&mut self.bytes, self.len as usize, f)
@@ -110,7 +111,8 @@ impl Part {
         f: F,
     ) -> Result<R, AllocError>
         requires { FnOnceTakesAtMut F.FnOnce f (part_bytes self.old) }
-        ensures written { IfOk result (λ answer. FnOnceReturnsAtMut F.FnOnce f (part_bytes self.old) answer (part_bytes self.new)) }
+        ensures written { IfOk result (λ answer. FnOnceReturnsAtMut F.FnOnce f (part_bytes self.old)
+            answer (part_bytes self.new)) }
         ensures length { length (part_bytes self.new) ≡ length (part_bytes self.old) }
         ensures stays { OnErr result (part_bytes self.new ≡ part_bytes self.old) }
     {
@@ -144,7 +146,8 @@ impl Part {
 fn write_front<R, F: FnOnce(&mut [u8]) -> R>(bytes: &mut [u8; CUTOFF], len: usize, f: F) -> R
     requires within { len ≤ inline_limit }
     requires callable { FnOnceTakesAtMut F.FnOnce f (take len bytes.old) }
-    ensures written { FnOnceReturnsAtMut F.FnOnce f (take len bytes.old) result (take len bytes.new) }
+    ensures written { FnOnceReturnsAtMut F.FnOnce f (take len bytes.old) result
+        (take len bytes.new) }
     ensures length { length (take len bytes.new) ≡ length (take len bytes.old) }
 {
     f(&mut bytes[..len])
@@ -159,7 +162,8 @@ fn write_part<R, F: FnOnce(&mut [u8]) -> R>(
 ) -> Result<R, AllocError>
     requires within { offset + len ≤ length (arc_value base.old).items }
     requires callable { FnOnceTakesAtMut F.FnOnce f (bytes_at base.old offset len) }
-    ensures written { IfOk result (λ answer. FnOnceReturnsAtMut F.FnOnce f (bytes_at base.old offset len) answer (bytes_at base.new offset len)) }
+    ensures written { IfOk result (λ answer. FnOnceReturnsAtMut F.FnOnce f
+        (bytes_at base.old offset len) answer (bytes_at base.new offset len)) }
     ensures length { length (arc_value base.new).items ≡ length (arc_value base.old).items }
     ensures stays { OnErr result ((arc_value base.new).items ≡ (arc_value base.old).items) }
 {

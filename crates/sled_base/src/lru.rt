@@ -43,7 +43,8 @@ impl Lru {
     ///
     /// `CapacityTooSmall` is the error of a capacity below 256. Any other has one error, `OutOfMemory`.
     pub fn new(alloc: Global, capacity: u64) -> Result<Lru, Error>
-        ensures too_small { capacity < shard_count → result ≡ Err (Error.Unsupported Why.CapacityTooSmall) }
+        ensures too_small { capacity < shard_count
+            → result ≡ Err (Error.Unsupported Why.CapacityTooSmall) }
         ensures refused { shard_count ≤ capacity → IfErr result (λ e. e ≡ Error.OutOfMemory) }
         ensures empty { IfOk result (IsUnused capacity) }
         ensures sound { IfOk result IsSound }
@@ -65,7 +66,8 @@ impl Lru {
     /// shard unchanged. An access of a page that is listed with its present rounded size allocates nothing.
     pub fn accessed(&mut self, id: PageId, size: u64) -> Result<Vec<PageId>, AllocError>
         requires { size ≤ 2 ^ 63 }
-        ensures accessed { IfOk result (λ gone. IsAccessed id (rounded size) self.old self.new gone.items) }
+        ensures accessed { IfOk result
+            (λ gone. IsAccessed id (rounded size) self.old self.new gone.items) }
         ensures err { OnErr result (self.new ≡ self.old) }
         ensures always { IsListed id (rounded size) self.old → IsOk result }
         ensures sound { IsSound self.new }

@@ -1,10 +1,10 @@
 -- The log in memory as the definitions of a log see it.
-use Rattle.std.specs.Prelude.{◌≡◌, ℕ, ◌+◌, ◌≤◌, List, ◌++◌, take, drop, Result, IfOk, OnErr}
-use Rattle.sled_log.specs.Calls.{Counts}
+use Rattle.std.specs.Prelude.{◌≡◌, ℕ, ◌+◌, ◌≤◌, List, ◌++◌, take, drop, Result, IfOk, OnErr, ⊤}
+use Rattle.sled_log.specs.Calls.{Called, Counts}
 use Rattle.sled_log.specs.Events.{Event}
 use Rattle.sled_log.specs.Items.{state_at, WasLeft, log_size}
 use Rattle.sled_log.specs.Kept.{LogItem}
-use Rattle.sled_log.specs.Messages.{Entry, Messages}
+use Rattle.sled_log.specs.Messages.{Entry, Message, Messages}
 use Rattle.sled_log.specs.LogState.{LogState}
 use Rattle.sled_log.specs.Stored.{kept_items}
 use Rattle.sled_log.specs.declared.log.LogError.{LogError}
@@ -51,6 +51,10 @@ kept_size_of log n = log_size (take (log.stable + n) (kept_in log))
 -- no device fails
 abbrev pub counts_of : MemLog → Counts
 counts_of log = record { reads = log.reads; failed_reads = 0; write_faults = 0 }
+
+-- what a call does that reads no message
+abbrev pub CalledHere : {T : Type 0} → MemLog → MemLog → (T → List (Event Entry)) → List (Event Message) → Result T LogError → Type 0
+CalledHere old new events begun result = Called ⊤ state_of clock_of might_have_left counts_of old new (counts_of old).reads events begun result
 
 abbrev pub settings_of : MemLog → ℕ × ℕ
 settings_of log = (log.blob_limit, log.clean_every)

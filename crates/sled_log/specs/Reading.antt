@@ -1,5 +1,5 @@
 -- Which change of a page a message is: the one that its payload reads.
-use Rattle.std.specs.Prelude.{◌≡◌, ◌<◌, ◌≤◌, ℕ, false, List, [], ◌∷◌, ◌++◌, length, take, slice_get, Some}
+use Rattle.std.specs.Prelude.{◌≡◌, ◌<◌, ◌≤◌, ℕ, false, List, [], ◌∷◌, length, slice_get, Some}
 use Rattle.std.specs.List.{AllZip}
 use Rattle.sled_base.specs.Payloads.Numbers.{ReadsU64}
 use Rattle.sled_base.specs.declared.kinds.MessageKind.{MessageKind}

@@ -122,11 +122,16 @@ pub trait Log: Drop {
         payload: &[u8],
     ) -> Result<(Lsn, DiskPtr, u64), LogError>
         requires usable { (state self.old).usable ≡ true }
-        requires can { tells → can_append effect_of_entry (now effect_of_entry (state self.old)) pid kind ≡ true }
-        ensures called { Called tells state moment left_since counts self.old self.new (counts self.old).reads (λ said. Change pid (placed (message kind payload.now) said) ∷ []) (Change pid (message kind payload.now) ∷ []) result }
-        ensures size { IfOk result (λ said. (said.2 ≡ head_size + length payload.now) × (said.2 < size_limit)) }
+        requires can { tells
+            → can_append effect_of_entry (now effect_of_entry (state self.old)) pid kind ≡ true }
+        ensures called { Called tells state moment left_since counts self.old self.new
+            (counts self.old).reads (λ said. Change pid (placed (message kind payload.now) said)
+            ∷ []) (Change pid (message kind payload.now) ∷ []) result }
+        ensures size { IfOk result (λ said. (said.2 ≡ head_size + length payload.now)
+            × (said.2 < size_limit)) }
         ensures full { IsErrOf result Full → is_full self.old (length payload.now) }
-        ensures sized { tells → OnOk result (AllByRecursion IsSized (now effect_of_entry (state self.new))) };
+        ensures sized { tells
+            → OnOk result (AllByRecursion IsSized (now effect_of_entry (state self.new))) };
 
     /// Reads a message of a page by its place, which is one of the page's chain: its kind, or the kind of its blob, and its
     /// payload. It adds nothing, and takes up no room of the log.
@@ -137,9 +142,13 @@ pub trait Log: Drop {
         pointer: DiskPtr,
     ) -> Result<(MessageKind, Vec<u8>), LogError>
         requires usable { (state self.old).usable ≡ true }
-        requires known { tells → Any (IsAt lsn pointer) (slice_index_or (now effect_of_entry (state self.old)) pid []) }
-        ensures called { Called tells state moment left_since counts self.old self.new (one_more (counts self.old).reads) (λ _. []) [] result }
-        ensures found { tells → IfOk result (λ found. All (λ entry. IsAt lsn pointer entry → IsRead entry found) (slice_index_or (now effect_of_entry (state self.old)) pid [])) }
+        requires known { tells → Any (IsAt lsn pointer)
+            (slice_index_or (now effect_of_entry (state self.old)) pid []) }
+        ensures called { Called tells state moment left_since counts self.old self.new
+            (one_more (counts self.old).reads) (λ _. []) [] result }
+        ensures found { tells
+            → IfOk result (λ found. All (λ entry. IsAt lsn pointer entry → IsRead entry found)
+            (slice_index_or (now effect_of_entry (state self.old)) pid [])) }
         ensures room { (n : ℕ) → is_full self.new n → is_full self.old n }
         ensures not_full { IsErrOf result Full → ⊥ };
 
@@ -147,7 +156,8 @@ pub trait Log: Drop {
     fn make_stable(&mut self) -> Result<usize, LogError>
         requires usable { (state self.old).usable ≡ true }
         requires closed { is_open (state self.old).pending ≡ false }
-        ensures called { Called tells state moment left_since counts self.old self.new (counts self.old).reads (λ _. []) [] result }
+        ensures called { Called tells state moment left_since counts self.old self.new
+            (counts self.old).reads (λ _. []) [] result }
         ensures stable { OnOk result ((state self.new).pending ≡ []) }
         ensures number { IfOk result (λ n. n ≡ to_write self.old) }
         ensures only { IfErr result (λ e. e ≡ WriteFault) };
@@ -156,30 +166,38 @@ pub trait Log: Drop {
     fn pin(&mut self) -> Result<(), LogError>
         requires usable { (state self.old).usable ≡ true }
         requires closed { is_open (state self.old).pending ≡ false }
-        ensures called { Called tells state moment left_since counts self.old self.new (counts self.old).reads (λ _. Pin ∷ []) (Pin ∷ []) result }
+        ensures called { Called tells state moment left_since counts self.old self.new
+            (counts self.old).reads (λ _. Pin ∷ []) (Pin ∷ []) result }
         ensures full { IsErrOf result Full → is_full_for_batch self.old };
 
     /// Closes the batch: a crash leaves all of it or nothing. It allocates nothing.
     fn seal(&mut self) -> Result<(), LogError>
         requires usable { (state self.old).usable ≡ true }
         requires opened { is_open (state self.old).pending ≡ true }
-        ensures called { Called tells state moment left_since counts self.old self.new (counts self.old).reads (λ _. Seal ∷ []) (Seal ∷ []) result }
+        ensures called { Called tells state moment left_since counts self.old self.new
+            (counts self.old).reads (λ _. Seal ∷ []) (Seal ∷ []) result }
         ensures only { IfErr result (λ e. e ≡ WriteFault) };
 
     /// Closes the batch: a crash may leave a part of it. It allocates nothing.
     fn cancel(&mut self) -> Result<(), LogError>
         requires usable { (state self.old).usable ≡ true }
         requires opened { is_open (state self.old).pending ≡ true }
-        ensures called { Called tells state moment left_since counts self.old self.new (counts self.old).reads (λ _. Cancel ∷ []) (Cancel ∷ []) result }
+        ensures called { Called tells state moment left_since counts self.old self.new
+            (counts self.old).reads (λ _. Cancel ∷ []) (Cancel ∷ []) result }
         ensures only { IfErr result (λ e. e ≡ WriteFault) };
 
     /// The pages, by id, with the places of their chains. It adds nothing, and takes up no room.
     fn recover(&mut self) -> Result<Vec<PageState>, LogError>
         requires usable { (state self.old).usable ≡ true }
-        ensures called { Called tells state moment left_since counts self.old self.new (counts self.old).reads (λ _. []) [] result }
-        ensures pages { tells → IfOk result (λ pages. AllZip IsPageState (now effect_of_entry (state self.old)) pages.items) }
-        ensures sized { tells → OnOk result (AllByRecursion IsSized (now effect_of_entry (state self.old))) }
-        ensures chains { tells → OnOk result (AllByRecursion (λ chain. is_chain effect_of_entry chain ≡ true) (now effect_of_entry (state self.old))) }
+        ensures called { Called tells state moment left_since counts self.old self.new
+            (counts self.old).reads (λ _. []) [] result }
+        ensures pages { tells → IfOk result
+            (λ pages. AllZip IsPageState (now effect_of_entry (state self.old)) pages.items) }
+        ensures sized { tells
+            → OnOk result (AllByRecursion IsSized (now effect_of_entry (state self.old))) }
+        ensures chains { tells
+            → OnOk result (AllByRecursion (λ chain. is_chain effect_of_entry chain ≡ true)
+            (now effect_of_entry (state self.old))) }
         ensures room { (n : ℕ) → is_full self.new n → is_full self.old n }
         ensures not_full { IsErrOf result Full → ⊥ };
 

@@ -2,7 +2,7 @@
 
 ghost use Rattle.std.specs.Prelude.{⊤, ◌≡◌, ◌+◌, ◌≤◌, ◌<◌, ◌↔◌, [], ◌∷◌, ◌++◌, length, take, drop, map, true, false, IsTrue, IsOk, IfErr, vec_len, vec_capacity};
 ghost use Rattle.sled_log.specs.Batches.{is_open, open_after, IsFair};
-ghost use Rattle.sled_log.specs.Calls.{Called, one_more};
+ghost use Rattle.sled_log.specs.Calls.{one_more};
 ghost use Rattle.sled_log.specs.Chains.{chains_after};
 ghost use Rattle.sled_log.specs.Items.{event_of, event_of_mark, size_of_mark, log_size, IsInOrder, are_placed};
 ghost use Rattle.sled_log.specs.Limits.{size_limit};
@@ -61,7 +61,7 @@ pub struct MemLog {
 }
 
 impl MemLog {
-    ghost use Rattle.sled_log.specs.Memory.{kept_in, state_of, clock_of, might_have_left, counts_of, settings_of, size_of, stable_size_of, kept_size_of, MovesNothing, Remembers};
+    ghost use Rattle.sled_log.specs.Memory.{kept_in, state_of, clock_of, might_have_left, counts_of, settings_of, size_of, stable_size_of, kept_size_of, CalledHere, MovesNothing, Remembers};
 
     /// An empty log. It allocates nothing.
     ///
@@ -146,13 +146,21 @@ impl MemLog {
     // Adds an item with its payload. `batch` says whether a batch is open then, for whose closing mark it keeps room. So a mark
     // that closes one is never refused.
     fn add(&mut self, mark: Mark, payload: &[u8], batch: bool) -> Result<(), LogError>
-        requires fits { self.old.size + size_of_mark (kept_mark self.old.blob_limit self.old.size payload.now mark) < size_limit }
-        requires batch { batch ≡ open_after self.old.batch (event_of_mark (kept_mark self.old.blob_limit self.old.size payload.now mark) ∷ []) }
-        ensures called { Called ⊤ state_of clock_of might_have_left counts_of self.old self.new self.old.reads (λ _. event_of_mark (kept_mark self.old.blob_limit self.old.size payload.now mark) ∷ []) (unplaced_events (event_of_mark (kept_mark self.old.blob_limit self.old.size payload.now mark) ∷ [])) result }
-        ensures moves { MovesNothing self.old self.new (λ _. event_of_mark (kept_mark self.old.blob_limit self.old.size payload.now mark) ∷ []) result }
+        requires fits { self.old.size + size_of_mark
+            (kept_mark self.old.blob_limit self.old.size payload.now mark) < size_limit }
+        requires batch { batch ≡ open_after self.old.batch
+            (event_of_mark (kept_mark self.old.blob_limit self.old.size payload.now mark) ∷ []) }
+        ensures called { CalledHere self.old self.new
+            (λ _. event_of_mark
+            (kept_mark self.old.blob_limit self.old.size payload.now mark) ∷ [])
+            (unplaced_events (event_of_mark
+            (kept_mark self.old.blob_limit self.old.size payload.now mark) ∷ [])) result }
+        ensures moves { MovesNothing self.old self.new (λ _. event_of_mark
+            (kept_mark self.old.blob_limit self.old.size payload.now mark) ∷ []) result }
         ensures past { Remembers self.old self.new }
         ensures only { IfErr result (λ e. e ≡ Memory) }
-        ensures always { is_open (state_of self.old).pending ≡ true → batch ≡ false → payload.now ≡ [] → IsOk result }
+        ensures always { is_open (state_of self.old).pending ≡ true → batch ≡ false
+            → payload.now ≡ [] → IsOk result }
     {
         reserve(&mut self.items, room_for(batch))?;
         reserve(&mut self.bytes, payload.len())?;

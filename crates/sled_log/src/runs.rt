@@ -38,11 +38,15 @@ pub fn parts_make_the_whole<L: Log>()
 fn make_call<L: Log>(log: &mut L, call: &LogCall) -> Result<(), LogError>
     requires tells { L.tells }
     requires usable { (L.state log.old).usable ≡ true }
-    requires can { IsTrue (can_make (now effect_of (unplaced_state (L.state log.old))) (is_open (L.state log.old).pending) call.now) }
-    ensures added { OnOk result (Adds effect_of (unplaced_state (L.state log.old)) (events_of call.now) (unplaced_state (L.state log.new))) }
-    ensures refused { OnErr result (is_write_fault result ≡ false → Adds effect_of (unplaced_state (L.state log.old)) [] (unplaced_state (L.state log.new))) }
+    requires can { IsTrue (can_make (now effect_of (unplaced_state (L.state log.old)))
+        (is_open (L.state log.old).pending) call.now) }
+    ensures added { OnOk result (Adds effect_of (unplaced_state (L.state log.old))
+        (events_of call.now) (unplaced_state (L.state log.new))) }
+    ensures refused { OnErr result (is_write_fault result ≡ false
+        → Adds effect_of (unplaced_state (L.state log.old)) [] (unplaced_state (L.state log.new))) }
     ensures usable { (L.state log.new).usable ≡ not (is_write_fault result) }
-    ensures stop { CrashesSinceLeave L.moment L.left_since log.old log.new (IsLeft effect_of (unplaced_state (L.state log.old)) (events_of call.now)) }
+    ensures stop { CrashesSinceLeave L.moment L.left_since log.old log.new
+        (IsLeft effect_of (unplaced_state (L.state log.old)) (events_of call.now)) }
     ensures cause { HasCause (L.counts log.old) (L.counts log.new) result }
     ensures sound { IsErrOf result Corruption → ⊥ }
 {

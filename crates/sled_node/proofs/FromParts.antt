@@ -1,5 +1,5 @@
 -- The node of stored pairs within its bounds is well-formed.
-use Rattle.std.proofs.Common.{ℕ, ◌-◌, ◌≤◌, Bool, List, [], ◌∷◌, ◌++◌, map, take, Option, sym, ◌∙◌, arith}
+use Rattle.std.proofs.Common.{ℕ, ◌-◌, ◌<◌, ◌≤◌, ◌^◌, Bool, true, false, List, [], ◌∷◌, ◌++◌, map, take, Option, sym, ◌∙◌, arith}
 use Rattle.std.specs.Prelude.{IfSome}
 use Rattle.std.specs.List.{AllByRecursion}
 use Rattle.std.proofs.lemmas.List.{length-map}
@@ -8,7 +8,7 @@ use Rattle.sled_base.specs.OrderLaws.{under_one_front}
 use Rattle.sled_node.specs.Limits.{bytes_limit, prefix_limit}
 use Rattle.sled_node.specs.declared.node.data.Data.{Data}
 use Rattle.sled_node.specs.declared.node.data.Data.TheVariants.{Leaf, Index}
-use Rattle.sled_node.specs.Pairs.{IsWithinLimit, IsAscending}
+use Rattle.sled_node.specs.Pairs.{IsWithinLimit, IsAscending, HasPairs}
 use Rattle.sled_node.specs.Node.{Item, Value, Child, WholeNode, whole, IsInRange, IsWellFormed, IsPage, ItemFits}
 use Rattle.sled_node.specs.Parts.{node_of, AreBounds, IsStoredWithin, AreStoredWithin, HasStored}
 use Rattle.sled_node.proofs.NodeEdits.{made}
@@ -52,39 +52,31 @@ module _ (p : ℕ) (next child : Option ℕ) (capped : Bool) (lo hi : Bytes) (by
   abbrev parts_node : Data → WholeNode
   parts_node parts = node_of p next child capped lo hi parts
 
+  abbrev made_node : {V : Type 0} → Bool → (V → Item) → List (Bytes × V) → WholeNode
+  made_node index make pairs = record { prefix_len = p; lo = lo; hi = hi; next = next; child = child; capped = capped; is_index = index; pairs = map (made (take p lo) make) pairs }
+
+  pairs_formed : IfSome next IsPage × IfSome child IsPage → {V : Type 0} (index : Bool) (make : V → Item) (fits : V → Type 0) → ((item : V) → fits item → ItemFits index (make item)) → (pairs : List (Bytes × V)) → HasPairs fits pairs
+      → AllByRecursion (λ pair. IsStoredWithin (rest p lo) (rest p hi) (bytes_limit - p) pair.0) pairs → IsWellFormed (made_node index make pairs)
+  pairs_formed pages index make fits so pairs has within =
+      let n = made_node index make pairs in
+      let whole = made (take p lo) make in
+      record {
+        range = bounds.range;
+        prefix_byte = byte;
+        prefix_open = bounds.prefix_open;
+        prefix_common = bounds.prefix_common;
+        ascending = ascending_under (take p lo) make pairs has.ascending;
+        in_range = all_map (λ pair. IsInRange n pair.0) whole (λ pair h. whole_in_range n bounds byte pair.0 h) pairs within;
+        few = omega (arith, has.few, length-map pairs whole);
+        bounds = bounds.bounds;
+        keys = all_map (λ pair. IsWithinLimit pair.0) whole (λ pair h. whole_fits n bounds byte pair.0 h) pairs within;
+        items = all_map (λ pair. ItemFits index pair.1) whole (λ pair h. so pair.1 h) pairs has.items;
+        pages = pages;
+      }
+
   pub parts_formed : IfSome next IsPage × IfSome child IsPage → (parts : Data) → HasStored parts → AreStoredWithin (rest p lo) (rest p hi) (bytes_limit - p) parts → IsWellFormed (parts_node parts)
-  parts_formed pages (Leaf pairs) has within =
-      let n = parts_node (Leaf pairs) in
-      let make = made (take p lo) (λ v. Value v) in
-      record {
-        range = bounds.range;
-        prefix_byte = byte;
-        prefix_open = bounds.prefix_open;
-        prefix_common = bounds.prefix_common;
-        ascending = ascending_under (take p lo) (λ v. Value v) pairs has.ascending;
-        in_range = all_map (λ pair. IsInRange n pair.0) make (λ pair h. whole_in_range n bounds byte pair.0 h) pairs within;
-        few = omega (arith, has.few, length-map pairs make);
-        bounds = bounds.bounds;
-        keys = all_map (λ pair. IsWithinLimit pair.0) make (λ pair h. whole_fits n bounds byte pair.0 h) pairs within;
-        items = all_map (λ pair. ItemFits n.is_index pair.1) make (λ pair h. h) pairs has.items;
-        pages = pages;
-      }
-  parts_formed pages (Index pairs) has within =
-      let n = parts_node (Index pairs) in
-      let make = made (take p lo) (λ page. Child page) in
-      record {
-        range = bounds.range;
-        prefix_byte = byte;
-        prefix_open = bounds.prefix_open;
-        prefix_common = bounds.prefix_common;
-        ascending = ascending_under (take p lo) (λ page. Child page) pairs has.ascending;
-        in_range = all_map (λ pair. IsInRange n pair.0) make (λ pair h. whole_in_range n bounds byte pair.0 h) pairs within;
-        few = omega (arith, has.few, length-map pairs make);
-        bounds = bounds.bounds;
-        keys = all_map (λ pair. IsWithinLimit pair.0) make (λ pair h. whole_fits n bounds byte pair.0 h) pairs within;
-        items = all_map (λ pair. ItemFits n.is_index pair.1) make (λ pair h. h) pairs has.items;
-        pages = pages;
-      }
+  parts_formed pages (Leaf pairs) has within = pairs_formed pages false (λ v. Value v) IsWithinLimit (λ v fits. fits) pairs has within
+  parts_formed pages (Index pairs) has within = pairs_formed pages true (λ page. Child page) (λ page. page < 2 ^ 64) (λ page fits. fits) pairs has within
 
   pub parts_within : (parts : Data) → IsWellFormed (parts_node parts) → AreStoredWithin (rest p lo) (rest p hi) (bytes_limit - p) parts
   parts_within (Leaf pairs) formed = let n = parts_node (Leaf pairs) in all_back (λ pair. IsInRange n pair.0) (λ pair. IsWithinLimit pair.0) (made (take p lo) (λ v. Value v)) (λ pair inside fits. stored_within n bounds byte pair.0 inside fits) pairs formed.in_range formed.keys

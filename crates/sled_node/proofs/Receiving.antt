@@ -1,9 +1,13 @@
 -- A node that has taken in its right neighbour is well-formed.
-use Rattle.std.proofs.Common.{◌≡◌, ℕ, Bool, [], ◌∷◌, ◌++◌, take, Option, refl, sym, ap, subst, ◌∙◌, arith}
+use Rattle.std.proofs.Common.{◌≡◌, [], ◌∷◌, ◌++◌, take, refl, sym, ap, subst, ◌∙◌, arith}
 use Rattle.std.specs.List.{AllByRecursion}
 use Rattle.std.proofs.lemmas.List.{length-append}
 use Rattle.sled_base.specs.Order.{Bytes, IsBelow}
 use Rattle.sled_base.specs.OrderLaws.{below_trans}
+use Rattle.std.specs.Option.{option_map}
+use Rattle.std.specs.Int.NonZero.{non_zero_u64_get}
+use Rattle.sled_node.specs.declared.node.Node.TheInside.{Inside}
+use Rattle.sled_node.specs.contracts.node.Node.{the_view}
 use Rattle.sled_node.specs.declared.node.data.Data.{Data}
 use Rattle.sled_node.specs.Pairs.{IsWithinLimit}
 use Rattle.sled_node.specs.Node.{WholeNode, IsInRange, IsWellFormed, ItemFits}
@@ -59,35 +63,33 @@ module _ (l r : WholeNode) (left : IsWellFormed l) (right : IsWellFormed r) (can
 
 -- ---- stored keys
 
-module _ (p q : ℕ) (next_l next_r child_l child_r : Option ℕ) (capped_l capped_r : Bool) (lo mid low hi : Bytes) (left right : Data) where
-  abbrev left_node : WholeNode
-  left_node = node_of p next_l child_l capped_l lo mid left
+module _ (l r : Inside) where
+  abbrev left : Data
+  left = restored_data (take l.prefix_len l.lo) (own_prefix l.lo r.hi) l.contents
 
-  abbrev right_node : WholeNode
-  right_node = node_of q next_r child_r capped_r low hi right
+  abbrev right : Data
+  right = restored_data (take r.prefix_len r.lo) (own_prefix l.lo r.hi) r.contents
 
-  abbrev own : ℕ
-  own = own_prefix lo hi
+  abbrev joined : WholeNode
+  joined = node_of (own_prefix l.lo r.hi) (option_map non_zero_u64_get r.next) (option_map non_zero_u64_get l.merging_child) l.merging l.lo r.hi (joined_data left right)
 
-  abbrev joined : Data
-  joined = joined_data (restored_data (take p lo) own left) (restored_data (take q low) own right)
-
-  module _ (left_formed : IsWellFormed left_node) (right_formed : IsWellFormed right_node) (can : CanReceive left_node right_node) where
-    joined_pairs : pairs_under (take own lo) joined ≡ pairs_under (take p lo) left ++ pairs_under (take q low) right
+  module _ (left_formed : IsWellFormed (the_view l)) (right_formed : IsWellFormed (the_view r)) (can : CanReceive (the_view l) (the_view r)) where
+    joined_pairs : joined.pairs ≡ (the_view l).pairs ++ (the_view r).pairs
     joined_pairs =
-        let share = all_parts _ (pairs_under (take p lo) left) (pairs_under (take q low) right) (share_own (merged left_node right_node) (merged_formed left_node right_node left_formed right_formed can)) in
-        let kinds = restored_kind (take p lo) own left ∙ can.kind ∙ sym (restored_kind (take q low) own right) in
-        joined_under own lo (restored_data (take p lo) own left) (restored_data (take q low) own right) kinds
-        ∙ ap (λ ps. ps ++ pairs_under (take own lo) (restored_data (take q low) own right)) (restored_under own lo (take p lo) left share.0)
-        ∙ ap (λ ps. pairs_under (take p lo) left ++ ps) (restored_under own lo (take q low) right share.1)
+        let own = own_prefix l.lo r.hi in
+        let share = all_parts _ (the_view l).pairs (the_view r).pairs (share_own (merged (the_view l) (the_view r)) (merged_formed (the_view l) (the_view r) left_formed right_formed can)) in
+        let kinds = restored_kind (take l.prefix_len l.lo) own l.contents ∙ can.kind ∙ sym (restored_kind (take r.prefix_len r.lo) own r.contents) in
+        joined_under own l.lo left right kinds
+        ∙ ap (λ ps. ps ++ pairs_under (take own l.lo) right) (restored_under own l.lo (take l.prefix_len l.lo) l.contents share.0)
+        ∙ ap (λ ps. (the_view l).pairs ++ ps) (restored_under own l.lo (take r.prefix_len r.lo) r.contents share.1)
 
-    pub joined_node : node_of own next_r child_l capped_l lo hi joined ≡ merged left_node right_node
+    pub joined_node : joined ≡ merged (the_view l) (the_view r)
     joined_node =
-        let kind : is_index joined ≡ is_index left = joined_kind (restored_data (take p lo) own left) (restored_data (take q low) own right) ∙ restored_kind (take p lo) own left in
-        (λ i. record (merged left_node right_node) { is_index = kind i; pairs = joined_pairs i })
+        let kind : is_index (joined_data left right) ≡ is_index l.contents = joined_kind left right ∙ restored_kind (take l.prefix_len l.lo) (own_prefix l.lo r.hi) l.contents in
+        (λ i. record (merged (the_view l) (the_view r)) { is_index = kind i; pairs = joined_pairs i })
 
-    pub joined_formed : IsWellFormed (node_of own next_r child_l capped_l lo hi joined)
-    joined_formed = subst IsWellFormed (sym joined_node) (merged_formed left_node right_node left_formed right_formed can)
+    pub joined_formed : IsWellFormed joined
+    joined_formed = subst IsWellFormed (sym joined_node) (merged_formed (the_view l) (the_view r) left_formed right_formed can)
 
-    pub joined_stored : HasStored joined
-    joined_stored = stored_from own next_r child_l capped_l lo hi joined joined_formed
+    pub joined_stored : HasStored (joined_data left right)
+    joined_stored = stored_from (own_prefix l.lo r.hi) (option_map non_zero_u64_get r.next) (option_map non_zero_u64_get l.merging_child) l.merging l.lo r.hi (joined_data left right) joined_formed

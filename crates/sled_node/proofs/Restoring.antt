@@ -1,13 +1,13 @@
 -- Stored keys that come to lack other first bytes, on whole keys.
-use Rattle.std.proofs.Common.{◌≡◌, ℕ, Bool, true, false, List, [], ◌∷◌, ◌++◌, map, take, Option, refl, sym, ◌∙◌, arith}
+use Rattle.std.proofs.Common.{◌≡◌, ℕ, ◌<◌, ◌^◌, Bool, true, false, List, [], ◌∷◌, ◌++◌, map, take, Option, refl, sym, ◌∙◌, arith}
 use Rattle.std.specs.List.{AllByRecursion}
 use Rattle.std.proofs.lemmas.List.{length-map, length-append, map-append}
 use Rattle.sled_base.specs.Order.{Bytes, IsBelow}
 use Rattle.sled_base.specs.OrderLaws.{under_one_front}
 use Rattle.sled_node.specs.declared.node.data.Data.{Data}
 use Rattle.sled_node.specs.declared.node.data.Data.TheVariants.{Leaf, Index}
-use Rattle.sled_node.specs.Pairs.{IsWithinLimit, IsAscending}
-use Rattle.sled_node.specs.Node.{Item, Value, Child, IsWellFormed, ItemFits}
+use Rattle.sled_node.specs.Pairs.{IsWithinLimit, IsAscending, HasPairs}
+use Rattle.sled_node.specs.Node.{Item, Value, Child, WholeNode, IsWellFormed, ItemFits}
 use Rattle.sled_node.specs.Parts.{is_index, pairs_under, node_of, HasStored}
 use Rattle.sled_node.specs.Restoring.{restored_data, joined_data}
 use Rattle.sled_node.proofs.NodeEdits.{made}
@@ -33,25 +33,22 @@ ascending_back front make (pair ∷ pairs) ascending =
 short_back : (front key : Bytes) → IsWithinLimit (front ++ key) → IsWithinLimit key
 short_back front key short = omega (arith, short, length-append front key)
 
+stored_back : {V : Type 0} (front : Bytes) (make : V → Item) (pairs : List (Bytes × V)) (Fits : Item → Type 0) (fits : V → Type 0) → ((item : V) → Fits (make item) → fits item) → HasPairs Fits (map (made front make) pairs) → HasPairs fits pairs
+stored_back front make pairs Fits fits so has = record {
+  few = omega (arith, has.few, length-map pairs (made front make));
+  ascending = ascending_back front make pairs has.ascending;
+  keys = all_unmap (λ pair. IsWithinLimit pair.0) (made front make) (λ pair short. short_back front pair.0 short) pairs has.keys;
+  items = all_unmap (λ pair. Fits pair.1) (made front make) (λ pair fits. so pair.1 fits) pairs has.items;
+}
+
+whole_pairs : (n : WholeNode) → IsWellFormed n → HasPairs (ItemFits n.is_index) n.pairs
+whole_pairs n formed = record { few = formed.few; ascending = formed.ascending; keys = formed.keys; items = formed.items }
+
 pub stored_from : (p : ℕ) (next child : Option ℕ) (capped : Bool) (lo hi : Bytes) (parts : Data) → IsWellFormed (node_of p next child capped lo hi parts) → HasStored parts
 stored_from p next child capped lo hi (Leaf pairs) formed =
-    let front = take p lo in
-    let make : Bytes → Item = λ v. Value v in
-    record {
-      few = omega (arith, formed.few, length-map pairs (made front make));
-      ascending = ascending_back front make pairs formed.ascending;
-      keys = all_unmap (λ pair. IsWithinLimit pair.0) (made front make) (λ pair short. short_back front pair.0 short) pairs formed.keys;
-      items = all_unmap (λ pair. ItemFits false pair.1) (made front make) (λ pair fits. fits) pairs formed.items;
-    }
+    stored_back (take p lo) (λ v. Value v) pairs (ItemFits false) IsWithinLimit (λ v fits. fits) (whole_pairs (node_of p next child capped lo hi (Leaf pairs)) formed)
 stored_from p next child capped lo hi (Index pairs) formed =
-    let front = take p lo in
-    let make : ℕ → Item = λ page. Child page in
-    record {
-      few = omega (arith, formed.few, length-map pairs (made front make));
-      ascending = ascending_back front make pairs formed.ascending;
-      keys = all_unmap (λ pair. IsWithinLimit pair.0) (made front make) (λ pair short. short_back front pair.0 short) pairs formed.keys;
-      items = all_unmap (λ pair. ItemFits true pair.1) (made front make) (λ pair fits. fits) pairs formed.items;
-    }
+    stored_back (take p lo) (λ page. Child page) pairs (ItemFits true) (λ page. page < 2 ^ 64) (λ page fits. fits) (whole_pairs (node_of p next child capped lo hi (Index pairs)) formed)
 
 -- ---- the same whole keys
 

@@ -113,7 +113,7 @@ module _ (pairs : List (Bytes × Item)) (count : ℕ) (p q : Bytes × Item) (lef
   parts_next index s parts = rw (greatest_is, least_is) parts
 
 -- two stored keys that are next to each other, in a well-formed node
-module _ (n : WholeNode) (formed : IsWellFormed n) (count : ℕ) (left right : Bytes) (p q : Item) (left_at : slice_get n.pairs (count - 1) ≡ Some (whole n left, p)) (right_at : slice_get n.pairs count ≡ Some (whole n right, q)) (some : 1 ≤ count) where
+module _ (n : WholeNode) (formed : IsWellFormed n) (count : ℕ) (left right : Bytes) {p q : Item} (left_at : slice_get n.pairs (count - 1) ≡ Some (whole n left, p)) (right_at : slice_get n.pairs count ≡ Some (whole n right, q)) (some : 1 ≤ count) where
   whole_below : IsBelow (whole n left) (whole n right)
   whole_below = next_below n.pairs count (whole n left, p) (whole n right, q) left_at right_at some formed.ascending
 

@@ -1,5 +1,5 @@
 -- How a node is split in two, and how it is merged with its right neighbour.
-use Rattle.std.specs.Prelude.{◌≡◌, ◌≢◌, ℕ, ◌+◌, ◌/◌, ◌≤◌, ◌==◌, min, Bool, true, false, List, [], ◌∷◌, ◌++◌, length, Option, Some, None, if◌then◌else◌}
+use Rattle.std.specs.Prelude.{◌≡◌, ◌≢◌, ℕ, ◌+◌, ◌/◌, ◌≤◌, ◌==◌, min, Bool, true, false, List, [], ◌∷◌, ◌++◌, length, take, drop, Option, Some, None, if◌then◌else◌}
 use Rattle.sled_base.specs.Order.{Bytes, IsBelow, IsAtMost}
 use Rattle.sled_node.specs.Node.{Item, WholeNode}
 use Rattle.sled_node.specs.Limits.{pairs_limit, prefix_limit}
@@ -40,6 +40,13 @@ abbrev pub SeparatesAt : Bool → Option Bytes → Option Bytes → Bytes → Ty
 SeparatesAt index (Some left) (Some right) s = Separates index left right s
 SeparatesAt index None right s = ⊥
 SeparatesAt index (Some left) None s = ⊥
+
+-- a node of three pairs or more is split behind so many pairs, at s
+pub record IsSplitPlace (n : WholeNode) (count : ℕ) (s : Bytes) : Type 0 where
+  pub many : 3 ≤ length n.pairs
+  -- the left has half of the pairs, and one more
+  pub half : count ≡ length n.pairs / 2 + 1
+  pub separates : SeparatesAt n.is_index (greatest (take count n.pairs)) (least (drop count n.pairs)) s
 
 -- l and r are the parts of n
 pub record Splits (n l r : WholeNode) : Type 0 where

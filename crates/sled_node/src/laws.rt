@@ -17,7 +17,8 @@ pub fn constants_are_the_numbers()
 
 /// A root map reads back the name that was set.
 pub fn a_set_name_is_read_back()
-    ensures { (name : Bytes) (root : ℕ) (roots : Roots) → root_of name (with_root name root roots) ≡ Some root }
+    ensures { (name : Bytes) (root : ℕ) (roots : Roots)
+        → root_of name (with_root name root roots) ≡ Some root }
 {}
 
 /// A root map lacks the name that was taken out.
@@ -27,6 +28,8 @@ pub fn a_name_taken_out_is_missing()
 
 /// Setting a name, or taking it out, leaves the roots of the others.
 pub fn other_names_are_left()
-    ensures set { (name other : Bytes) (root : ℕ) (roots : Roots) → other ≢ name → root_of other (with_root name root roots) ≡ root_of other roots }
-    ensures taken_out { (name other : Bytes) (roots : Roots) → other ≢ name → root_of other (without_root name roots) ≡ root_of other roots }
+    ensures set { (name other : Bytes) (root : ℕ) (roots : Roots) → other ≢ name
+        → root_of other (with_root name root roots) ≡ root_of other roots }
+    ensures taken_out { (name other : Bytes) (roots : Roots) → other ≢ name
+        → root_of other (without_root name roots) ≡ root_of other roots }
 {}

@@ -127,7 +127,8 @@ impl Meta {
         root: Option<PageId>,
     ) -> Result<Vec<u8>, AllocError>
         requires { IfSome root (λ _. IsWithinLimit name.now) }
-        ensures { IfOk result (λ bytes. bytes.items ≡ written_roots (changed_roots name.now root self.now)) }
+        ensures { IfOk result
+            (λ bytes. bytes.items ≡ written_roots (changed_roots name.now root self.now)) }
     {
         serialize_changed(self.alloc, self.roots(), name, root)
     }

@@ -31,7 +31,7 @@ pub use data::{Data, Index, Item};
 pub use leaf::Leaf;
 pub use link::Link;
 use pairs::is_below;
-use parts::{are_bounds, are_stored_within, know_page};
+use parts::{are_bounds, are_stored_within, know_page, rest_of};
 use sled_base::IVec;
 use std::alloc::{AllocError, Global};
 use std::marker::Model;
@@ -100,14 +100,17 @@ impl Node {
         hi: IVec,
         contents: Data,
     ) -> Option<Node>
-        ensures { SomeIff result (IsWellFormed (node_of prefix_len (option_map non_zero_u64_get next) (option_map non_zero_u64_get merging_child) merging lo hi contents)) (node_of prefix_len (option_map non_zero_u64_get next) (option_map non_zero_u64_get merging_child) merging lo hi contents) }
+        ensures { SomeIff result
+            (IsWellFormed (node_of prefix_len (option_map non_zero_u64_get next)
+            (option_map non_zero_u64_get merging_child) merging lo hi contents))
+            (node_of prefix_len (option_map non_zero_u64_get next)
+            (option_map non_zero_u64_get merging_child) merging lo hi contents) }
     {
         let skipped = prefix_len as usize;
-        if !are_bounds(skipped, lo.as_slice(), hi.as_slice()) {
+        if !are_bounds(skipped, &lo, &hi) {
             return None;
         }
-        let low = &lo.as_slice()[skipped..];
-        let high = &hi.as_slice()[skipped..];
+        let (low, high) = (rest_of(&lo, skipped), rest_of(&hi, skipped));
         if !are_stored_within(&contents, low, high, MAX_BYTES - skipped) {
             return None;
         }
@@ -194,7 +197,8 @@ impl Node {
     /// The first pair is at place 0, and the keys ascend.
     pub fn pair(&self, i: usize) -> (&[u8], Item<'_>)
         requires { i < length self.now.pairs }
-        ensures { slice_get self.now.pairs i ≡ Some (whole self.now result.0.now, item_of result.1) }
+        ensures { slice_get self.now.pairs i
+            ≡ Some (whole self.now result.0.now, item_of result.1) }
     {
         match &self.contents {
             Data::Leaf(leaf) => {

@@ -37,6 +37,13 @@ behind tag input r s left right = cc
 pub first : (input : List ℕ) (tag : ℕ) (rest : List ℕ) → input ≡ tag ∷ rest → get_or input 0 5 ≡ tag
 first input tag rest is = ap (λ bytes. get_or bytes 0 5) is
 
+-- a value behind its tag, which is read with one rest
+pub one_tagged : {V W : Type 0} {reads : List ℕ → W → List ℕ → Type 0} {written : W → List ℕ} {can_write : W → Type 0} {can_follow : W → List ℕ → Type 0} {n : ℕ} → IsGrammar reads written can_write can_follow n → (make : W → V) (tag : ℕ) (input : List ℕ) (v w : W) (r s : List ℕ)
+    → ((parts : List ℕ) × (input ≡ tag ∷ parts) × reads parts v r) → ((parts : List ℕ) × (input ≡ tag ∷ parts) × reads parts w s) → (make v ≡ make w) × (r ≡ s)
+one_tagged {V} {W} {reads} grammar make tag input v w r s (parts, is, left) (others, also, right) =
+    let read = grammar.one_reading parts v w r s left (subst (λ text. reads text w s) (sym (behind tag input parts others is also)) right) in
+    (ap make read.0, read.1)
+
 -- only the values that have a property
 module _ {V : Type 0} {reads : List ℕ → V → List ℕ → Type 0} {written : V → List ℕ} {can_write : V → Type 0} {can_follow : V → List ℕ → Type 0} {n : ℕ} where
   pub Only-grammar : (Has Can : V → Type 0) → ((v : V) → Can v → can_write v × Has v) → IsGrammar reads written can_write can_follow n

@@ -60,11 +60,13 @@ impl Shard {
     pub fn accessed(&mut self, place: u64, size: u64) -> Result<Vec<u64>, AllocError>
         requires near { place < 2 ^ 56 }
         requires room { total self.old.listings + size < 2 ^ 128 }
-        ensures used { IfOk result (λ gone. IsUsed self.old.capacity place size self.old.listings self.new.listings gone.items) }
+        ensures used { IfOk result (λ gone. IsUsed self.old.capacity place size
+            self.old.listings self.new.listings gone.items) }
         ensures capacity { self.new.capacity ≡ self.old.capacity }
         ensures near { IfOk result (λ gone. All (λ place. place < 2 ^ 56) gone.items) }
         ensures err { OnErr result (self.new ≡ self.old) }
-        ensures always { Contains self.old.listings (listing place size) → IsWithin self.old.capacity self.old.listings → IsOk result }
+        ensures always { Contains self.old.listings (listing place size)
+            → IsWithin self.old.capacity self.old.listings → IsOk result }
     {
         let count = self.leaving(place, size);
         let mut gone = Vec::with_capacity(self.allocator(), count)?;
@@ -108,7 +110,10 @@ impl Shard {
     fn put_first(&mut self, place: u64, size: u64) -> Result<(), AllocError>
         requires near { place < 2 ^ 56 }
         requires room { total self.old.listings + size < 2 ^ 128 }
-        ensures ok { OnOk result (self.new ≡ record { capacity = self.old.capacity; listings = listing place size ∷ others place self.old.listings }) }
+        ensures ok { OnOk result (self.new ≡ record {
+          capacity = self.old.capacity;
+          listings = listing place size ∷ others place self.old.listings;
+        }) }
         ensures err { OnErr result (self.new ≡ self.old) }
         ensures always { (x : ℕ) → Contains self.old.listings (listing place x) → IsOk result }
     {
@@ -163,7 +168,8 @@ fn size_at(entries: &[OptionalEntry], place: u64) -> u64
 fn make_room(entries: &mut Vec<OptionalEntry>, index: usize) -> Result<(), AllocError>
     requires { index < 2 ^ 56 }
     ensures ok { OnOk result (index < vec_len entries.new) }
-    ensures same { (place : ℕ) → entry_at entries.new.items place ≡ entry_at entries.old.items place }
+    ensures same { (place : ℕ)
+        → entry_at entries.new.items place ≡ entry_at entries.old.items place }
     ensures always { index < vec_len entries.old → IsOk result }
     ensures few { length entries.old.items ≤ 2 ^ 56 → length entries.new.items ≤ 2 ^ 56 }
 {

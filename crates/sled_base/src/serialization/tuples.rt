@@ -14,7 +14,8 @@ pub fn write_both<A: Serialize, B: Serialize>(first: &A, second: &B, out: &mut [
     requires can_write_second { B.can_write second.now }
     requires room { length (A.written first.now ++ B.written second.now) ≤ length out.old }
     ensures size { result ≡ length (A.written first.now ++ B.written second.now) }
-    ensures bytes { out.new ≡ (A.written first.now ++ B.written second.now) ++ drop (length (A.written first.now ++ B.written second.now)) out.old }
+    ensures bytes { out.new ≡ (A.written first.now ++ B.written second.now)
+        ++ drop (length (A.written first.now ++ B.written second.now)) out.old }
 {
     let end = first.serialize_into(out);
     end + second.serialize_into(&mut out[end..])
@@ -25,7 +26,8 @@ pub fn write_at<T: Serialize>(value: &T, out: &mut [u8], start: usize) -> usize
     requires can_write { T.can_write value.now }
     requires room { start + length (T.written value.now) ≤ length out.old }
     ensures size { result ≡ start + length (T.written value.now) }
-    ensures bytes { out.new ≡ (take start out.old ++ T.written value.now) ++ drop (start + length (T.written value.now)) out.old }
+    ensures bytes { out.new ≡ (take start out.old ++ T.written value.now)
+        ++ drop (start + length (T.written value.now)) out.old }
 {
     start + value.serialize_into(&mut out[start..])
 }
@@ -40,9 +42,13 @@ pub fn write_three<A: Serialize, B: Serialize, C: Serialize>(
     requires can_write_first { A.can_write first.now }
     requires can_write_second { B.can_write second.now }
     requires can_write_third { C.can_write third.now }
-    requires room { length (A.written first.now ++ (B.written second.now ++ C.written third.now)) ≤ length out.old }
-    ensures size { result ≡ length (A.written first.now ++ (B.written second.now ++ C.written third.now)) }
-    ensures bytes { out.new ≡ (A.written first.now ++ (B.written second.now ++ C.written third.now)) ++ drop (length (A.written first.now ++ (B.written second.now ++ C.written third.now))) out.old }
+    requires room { length (A.written first.now ++ (B.written second.now ++ C.written third.now))
+        ≤ length out.old }
+    ensures size { result
+        ≡ length (A.written first.now ++ (B.written second.now ++ C.written third.now)) }
+    ensures bytes { out.new ≡ (A.written first.now ++ (B.written second.now ++ C.written third.now))
+        ++ drop (length (A.written first.now ++ (B.written second.now ++ C.written third.now)))
+        out.old }
 {
     let end = first.serialize_into(out);
     end + write_both(second, third, &mut out[end..])
@@ -59,9 +65,15 @@ pub fn write_three_at<A: Serialize, B: Serialize, C: Serialize>(
     requires can_write_first { A.can_write first.now }
     requires can_write_second { B.can_write second.now }
     requires can_write_third { C.can_write third.now }
-    requires room { start + length (A.written first.now ++ (B.written second.now ++ C.written third.now)) ≤ length out.old }
-    ensures size { result ≡ start + length (A.written first.now ++ (B.written second.now ++ C.written third.now)) }
-    ensures bytes { out.new ≡ (take start out.old ++ (A.written first.now ++ (B.written second.now ++ C.written third.now))) ++ drop (start + length (A.written first.now ++ (B.written second.now ++ C.written third.now))) out.old }
+    requires room { start
+        + length (A.written first.now ++ (B.written second.now ++ C.written third.now))
+        ≤ length out.old }
+    ensures size { result
+        ≡ start + length (A.written first.now ++ (B.written second.now ++ C.written third.now)) }
+    ensures bytes { out.new ≡ (take start out.old
+        ++ (A.written first.now ++ (B.written second.now ++ C.written third.now)))
+        ++ drop (start
+        + length (A.written first.now ++ (B.written second.now ++ C.written third.now))) out.old }
 {
     start + write_three(first, second, third, &mut out[start..])
 }
@@ -75,8 +87,10 @@ pub fn size_of_three<A: Serialize, B: Serialize, C: Serialize>(
     requires can_write_first { A.can_write first.now }
     requires can_write_second { B.can_write second.now }
     requires can_write_third { C.can_write third.now }
-    requires fits { length (A.written first.now ++ (B.written second.now ++ C.written third.now)) < 2 ^ 64 }
-    ensures { result ≡ length (A.written first.now ++ (B.written second.now ++ C.written third.now)) }
+    requires fits { length (A.written first.now ++ (B.written second.now ++ C.written third.now))
+        < 2 ^ 64 }
+    ensures { result
+        ≡ length (A.written first.now ++ (B.written second.now ++ C.written third.now)) }
 {
     first.serialized_size() + second.serialized_size() + third.serialized_size()
 }

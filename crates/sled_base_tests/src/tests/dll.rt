@@ -7,6 +7,8 @@ use std::test::Fail;
 enum Step {
     Head(PageId),
     Tail(PageId),
+    // Pushes the items 0, 1 and so on to the tail, so many.
+    Tails(PageId),
     // Pushes the item to the tail, where it gets this slot.
     TailAt(PageId, usize),
     Promote(usize),
@@ -33,6 +35,11 @@ fn is_done(
     match step {
         Step::Head(item) => slots.push(list.push_head(*item)?)?,
         Step::Tail(item) => slots.push(list.push_tail(*item)?)?,
+        Step::Tails(count) => {
+            for item in 0..*count {
+                slots.push(list.push_tail(item)?)?;
+            }
+        }
         Step::TailAt(item, place) => {
             let slot = list.push_tail(*item)?;
             return Ok(slots.get(*place) == Some(&slot));
@@ -214,51 +221,27 @@ const STEPS: &[(&str, Case)] = &[
     ),
     (
         "the only item is promoted",
-        Case::Steps(&[Step::Tail(0), Step::Promote(0)], &[0]),
+        Case::Steps(&[Step::Tails(1), Step::Promote(0)], &[0]),
     ),
     (
         "the first of two items is promoted",
-        Case::Steps(&[Step::Tail(0), Step::Tail(1), Step::Promote(0)], &[0, 1]),
+        Case::Steps(&[Step::Tails(2), Step::Promote(0)], &[0, 1]),
     ),
     (
         "the last of two items is promoted",
-        Case::Steps(&[Step::Tail(0), Step::Tail(1), Step::Promote(1)], &[1, 0]),
+        Case::Steps(&[Step::Tails(2), Step::Promote(1)], &[1, 0]),
     ),
     (
         "the first of three items is promoted",
-        Case::Steps(
-            &[
-                Step::Tail(0),
-                Step::Tail(1),
-                Step::Tail(2),
-                Step::Promote(0),
-            ],
-            &[0, 1, 2],
-        ),
+        Case::Steps(&[Step::Tails(3), Step::Promote(0)], &[0, 1, 2]),
     ),
     (
         "the second of three items is promoted",
-        Case::Steps(
-            &[
-                Step::Tail(0),
-                Step::Tail(1),
-                Step::Tail(2),
-                Step::Promote(1),
-            ],
-            &[1, 0, 2],
-        ),
+        Case::Steps(&[Step::Tails(3), Step::Promote(1)], &[1, 0, 2]),
     ),
     (
         "the last of three items is promoted",
-        Case::Steps(
-            &[
-                Step::Tail(0),
-                Step::Tail(1),
-                Step::Tail(2),
-                Step::Promote(2),
-            ],
-            &[2, 0, 1],
-        ),
+        Case::Steps(&[Step::Tails(3), Step::Promote(2)], &[2, 0, 1]),
     ),
     (
         "a promoted item is popped last",
@@ -280,9 +263,7 @@ const STEPS: &[(&str, Case)] = &[
         "a slot is live until its item is popped",
         Case::Steps(
             &[
-                Step::Tail(0),
-                Step::Tail(1),
-                Step::Tail(2),
+                Step::Tails(3),
                 Step::PopTail(Some(2)),
                 Step::PopHead(Some(0)),
                 Step::Live(0, false),
@@ -298,7 +279,7 @@ const STEPS: &[(&str, Case)] = &[
     ),
     (
         "a list is walked from its tail",
-        Case::Steps(&[Step::Tail(0), Step::Tail(1), Step::Tail(2)], &[0, 1, 2]),
+        Case::Steps(&[Step::Tails(3)], &[0, 1, 2]),
     ),
 ];
 

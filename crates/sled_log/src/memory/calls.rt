@@ -23,7 +23,7 @@ use sled_base::{DiskPtr, Lsn, MessageKind, PageId};
 const MAX_SIZE: u64 = i64::MAX as u64;
 
 impl Log for MemLog {
-    ghost use Rattle.sled_log.specs.Memory.{kept_in, state_of, clock_of, might_have_left, counts_of, size_of, stable_size_of, pending_size_of, settings_of, MovesNothing, Remembers};
+    ghost use Rattle.sled_log.specs.Memory.{kept_in, state_of, clock_of, might_have_left, counts_of, size_of, stable_size_of, pending_size_of, settings_of, CalledHere, MovesNothing, Remembers};
 
     ghost tells = { ⊤ };
 
@@ -58,13 +58,20 @@ impl Log for MemLog {
         pid: PageId,
         payload: &[u8],
     ) -> Result<(Lsn, DiskPtr, u64), LogError>
-        ensures called { Called ⊤ state_of clock_of might_have_left counts_of self.old self.new (counts_of self.old).reads (λ said. Change pid (placed (message kind payload.now) said) ∷ []) (Change pid (message kind payload.now) ∷ []) result }
-        ensures size { IfOk result (λ said. (said.2 ≡ head_size + length payload.now) × (said.2 < size_limit)) }
-        ensures sized { OnOk result (AllByRecursion IsSized (now effect_of_entry (state_of self.new))) }
+        ensures called { CalledHere self.old self.new
+            (λ said. Change pid (placed (message kind payload.now) said) ∷ [])
+            (Change pid (message kind payload.now) ∷ []) result }
+        ensures size { IfOk result (λ said. (said.2 ≡ head_size + length payload.now)
+            × (said.2 < size_limit)) }
+        ensures sized { OnOk result
+            (AllByRecursion IsSized (now effect_of_entry (state_of self.new))) }
         ensures lsn { IfOk result (λ said. said.0 ≡ pos (size_of self.old)) }
-        ensures pointer { IfOk result (λ said. said.1 ≡ pointer_at (settings_of self.old).0 (size_of self.old) payload.now) }
-        ensures moves { MovesNothing self.old self.new (λ said. Change pid (placed (message kind payload.now) said) ∷ []) result }
-        ensures full { IsErrOf result Full ↔ (size_limit ≤ size_of self.old + head_size + length payload.now) }
+        ensures pointer { IfOk result
+            (λ said. said.1 ≡ pointer_at (settings_of self.old).0 (size_of self.old) payload.now) }
+        ensures moves { MovesNothing self.old self.new
+            (λ said. Change pid (placed (message kind payload.now) said) ∷ []) result }
+        ensures full { IsErrOf result Full
+            ↔ (size_limit ≤ size_of self.old + head_size + length payload.now) }
         ensures past { Remembers self.old self.new }
     {
         let len = payload.len() as u64;
@@ -83,10 +90,15 @@ impl Log for MemLog {
         lsn: Lsn,
         pointer: DiskPtr,
     ) -> Result<(MessageKind, Vec<u8>), LogError>
-        requires known { Any (IsAt lsn pointer) (slice_index_or (now effect_of_entry (state_of self.old)) pid []) }
-        ensures called { Called ⊤ state_of clock_of might_have_left counts_of self.old self.new (one_more (counts_of self.old).reads) (λ _. []) [] result }
-        ensures found { IfOk result (λ found. All (λ entry. IsAt lsn pointer entry → IsRead entry found) (slice_index_or (now effect_of_entry (state_of self.old)) pid [])) }
-        ensures room { (n : ℕ) → size_limit ≤ size_of self.new + head_size + n → size_limit ≤ size_of self.old + head_size + n }
+        requires known { Any (IsAt lsn pointer)
+            (slice_index_or (now effect_of_entry (state_of self.old)) pid []) }
+        ensures called { Called ⊤ state_of clock_of might_have_left counts_of self.old self.new
+            (one_more (counts_of self.old).reads) (λ _. []) [] result }
+        ensures found { IfOk result
+            (λ found. All (λ entry. IsAt lsn pointer entry → IsRead entry found)
+            (slice_index_or (now effect_of_entry (state_of self.old)) pid [])) }
+        ensures room { (n : ℕ) → size_limit ≤ size_of self.new + head_size + n
+            → size_limit ≤ size_of self.old + head_size + n }
         ensures moves { MovesNothing self.old self.new (λ _. []) result }
         ensures only { IfErr result (λ e. e ≡ Memory) }
         ensures past { Remembers self.old self.new }
@@ -98,7 +110,7 @@ impl Log for MemLog {
     // It is never refused.
     fn make_stable(&mut self) -> Result<usize, LogError>
         requires closed { is_open (state_of self.old).pending ≡ false }
-        ensures called { Called ⊤ state_of clock_of might_have_left counts_of self.old self.new (counts_of self.old).reads (λ _. []) [] result }
+        ensures called { CalledHere self.old self.new (λ _. []) [] result }
         ensures stable { OnOk result ((state_of self.new).pending ≡ []) }
         ensures number { IfOk result (λ n. n ≡ pending_size_of self.old) }
         ensures size { size_of self.new ≡ size_of self.old }
@@ -119,7 +131,7 @@ impl Log for MemLog {
     // It is never Full.
     fn pin(&mut self) -> Result<(), LogError>
         requires closed { is_open (state_of self.old).pending ≡ false }
-        ensures called { Called ⊤ state_of clock_of might_have_left counts_of self.old self.new (counts_of self.old).reads (λ _. Pin ∷ []) (Pin ∷ []) result }
+        ensures called { CalledHere self.old self.new (λ _. Pin ∷ []) (Pin ∷ []) result }
         ensures moves { MovesNothing self.old self.new (λ _. Pin ∷ []) result }
         ensures only { IfErr result (λ e. e ≡ Memory) }
         ensures past { Remembers self.old self.new }
@@ -130,7 +142,7 @@ impl Log for MemLog {
     // It is never refused.
     fn seal(&mut self) -> Result<(), LogError>
         requires opened { is_open (state_of self.old).pending ≡ true }
-        ensures called { Called ⊤ state_of clock_of might_have_left counts_of self.old self.new (counts_of self.old).reads (λ _. Seal ∷ []) (Seal ∷ []) result }
+        ensures called { CalledHere self.old self.new (λ _. Seal ∷ []) (Seal ∷ []) result }
         ensures moves { MovesNothing self.old self.new (λ _. Seal ∷ []) result }
         ensures always { IsOk result }
         ensures past { Remembers self.old self.new }
@@ -141,7 +153,7 @@ impl Log for MemLog {
     // It is never refused.
     fn cancel(&mut self) -> Result<(), LogError>
         requires opened { is_open (state_of self.old).pending ≡ true }
-        ensures called { Called ⊤ state_of clock_of might_have_left counts_of self.old self.new (counts_of self.old).reads (λ _. Cancel ∷ []) (Cancel ∷ []) result }
+        ensures called { CalledHere self.old self.new (λ _. Cancel ∷ []) (Cancel ∷ []) result }
         ensures moves { MovesNothing self.old self.new (λ _. Cancel ∷ []) result }
         ensures always { IsOk result }
         ensures past { Remembers self.old self.new }
@@ -150,12 +162,17 @@ impl Log for MemLog {
     }
 
     fn recover(&mut self) -> Result<Vec<PageState>, LogError>
-        ensures called { Called ⊤ state_of clock_of might_have_left counts_of self.old self.new (counts_of self.old).reads (λ _. []) [] result }
-        ensures pages { IfOk result (λ pages. AllZip IsPageState (now effect_of_entry (state_of self.old)) pages.items) }
-        ensures sized { OnOk result (AllByRecursion IsSized (now effect_of_entry (state_of self.old))) }
-        ensures chains { OnOk result (AllByRecursion (λ chain. is_chain effect_of_entry chain ≡ true) (now effect_of_entry (state_of self.old))) }
+        ensures called { CalledHere self.old self.new (λ _. []) [] result }
+        ensures pages { IfOk result
+            (λ pages. AllZip IsPageState (now effect_of_entry (state_of self.old)) pages.items) }
+        ensures sized { OnOk result
+            (AllByRecursion IsSized (now effect_of_entry (state_of self.old))) }
+        ensures chains { OnOk result
+            (AllByRecursion (λ chain. is_chain effect_of_entry chain ≡ true)
+            (now effect_of_entry (state_of self.old))) }
         ensures moves { MovesNothing self.old self.new (λ _. []) result }
-        ensures room { (n : ℕ) → size_limit ≤ size_of self.new + head_size + n → size_limit ≤ size_of self.old + head_size + n }
+        ensures room { (n : ℕ) → size_limit ≤ size_of self.new + head_size + n
+            → size_limit ≤ size_of self.old + head_size + n }
         ensures only { IfErr result (λ e. e ≡ Memory) }
         ensures past { Remembers self.old self.new }
     {

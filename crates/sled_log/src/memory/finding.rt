@@ -42,7 +42,11 @@ impl MemLog {
 
     // Where the message at that place stands among the items, if there is one.
     fn index_of(&self, place: LogOffset) -> usize
-        ensures { (i : ℕ) (item : KeptItem) (change : KeptChange) → slice_get (kept_in self.now) i ≡ Some item → item.mark ≡ kept.Change change → offset_of change.pointer ≡ place → result ≡ i }
+        ensures { (i : ℕ) (item : KeptItem) (change : KeptChange)
+            → slice_get (kept_in self.now) i ≡ Some item
+            → item.mark ≡ kept.Change change
+            → offset_of change.pointer ≡ place
+            → result ≡ i }
     {
         self.items.partition_point(|item| item.end <= place)
     }
@@ -52,7 +56,9 @@ impl MemLog {
         &self,
         pointer: DiskPtr,
     ) -> Result<Option<(MessageKind, Vec<u8>)>, AllocError>
-        ensures { IfOk result (λ found. (i : ℕ) (item : KeptItem) (change : KeptChange) → slice_get (kept_in self.now) i ≡ Some item → item.mark ≡ kept.Change change → change.pointer ≡ pointer → IsSomeAnd found (IsRead (entry_of change))) }
+        ensures { IfOk result (λ found. (i : ℕ) (item : KeptItem) (change : KeptChange)
+            → slice_get (kept_in self.now) i ≡ Some item → item.mark ≡ kept.Change change
+            → change.pointer ≡ pointer → IsSomeAnd found (IsRead (entry_of change))) }
     {
         let at = self.index_of(pointer.lid());
         let Some(item) = self.items.get(at) else {

@@ -36,8 +36,10 @@ pub(super) struct LogItem {
 impl Mark {
     // Its log size, with that payload.
     pub(super) fn size(self, payload: &[u8]) -> u64
-        requires { (limit place : ℕ) → size_of_mark (kept_mark limit place payload.now self) < size_limit }
-        ensures { (limit place : ℕ) → result ≡ size_of_mark (kept_mark limit place payload.now self) }
+        requires { (limit place : ℕ)
+            → size_of_mark (kept_mark limit place payload.now self) < size_limit }
+        ensures { (limit place : ℕ)
+            → result ≡ size_of_mark (kept_mark limit place payload.now self) }
     {
         match self {
             Mark::Change { .. } => HEAD + payload.len() as u64,

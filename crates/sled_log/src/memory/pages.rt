@@ -20,7 +20,8 @@ use std::alloc::{AllocError, Global};
 pub(super) fn said_at(limit: usize, place: LogOffset, log_size: u64) -> (Lsn, DiskPtr, u64)
     requires place { place < size_limit }
     requires size { head_size ≤ log_size }
-    ensures { (payload : List ℕ) → log_size ≡ head_size + length payload → result ≡ (pos place, pointer_at limit place payload, log_size) }
+    ensures { (payload : List ℕ) → log_size ≡ head_size + length payload
+        → result ≡ (pos place, pointer_at limit place payload, log_size) }
 {
     let pointer = if log_size - HEAD <= limit as u64 {
         DiskPtr::Inline(place)
@@ -40,7 +41,8 @@ fn freed(said: (Lsn, DiskPtr, u64)) -> PageState
 
 // Puts a page in its place, or behind all others.
 fn put(pages: &mut Vec<PageState>, pid: PageId, page: PageState) -> Result<(), AllocError>
-    ensures { OnOk result (pages.new.items ≡ (if pid == length pages.old.items then pages.old.items ++ page ∷ [] else slice_set pages.old.items pid page)) }
+    ensures { OnOk result (pages.new.items ≡ (if pid == length pages.old.items
+        then pages.old.items ++ page ∷ [] else slice_set pages.old.items pid page)) }
 {
     let at = pid as usize;
     if at == pages.len() {
@@ -53,7 +55,8 @@ fn put(pages: &mut Vec<PageState>, pid: PageId, page: PageState) -> Result<(), A
 
 // Adds a link to a page that has a content.
 fn link(page: &mut PageState, said: (Lsn, DiskPtr, u64)) -> Result<(), AllocError>
-    ensures { OnOk result ((chain : Chain) (entry : Entry) → said_of entry ≡ said → IsPageState chain page.old → IsPageState (linked effect_of_entry chain entry) page.new) }
+    ensures { OnOk result ((chain : Chain) (entry : Entry) → said_of entry ≡ said
+        → IsPageState chain page.old → IsPageState (linked effect_of_entry chain entry) page.new) }
 {
     if let PageState::Present { frags, .. } = page {
         frags.push(said)?;
@@ -69,7 +72,9 @@ pub(super) fn apply(
     kind: MessageKind,
     said: (Lsn, DiskPtr, u64),
 ) -> Result<(), AllocError>
-    ensures { OnOk result ((chains : List Chain) (entry : Entry) → entry.message.kind ≡ kind → said_of entry ≡ said → AllZip IsPageState chains pages.old.items → AllZip IsPageState (chains_from effect_of_entry chains (events.Change pid entry)) pages.new.items) }
+    ensures { OnOk result ((chains : List Chain) (entry : Entry) → entry.message.kind ≡ kind
+        → said_of entry ≡ said → AllZip IsPageState chains pages.old.items → AllZip IsPageState
+        (chains_from effect_of_entry chains (events.Change pid entry)) pages.new.items) }
 {
     match LogKind::from(kind) {
         LogKind::Free => put(pages, pid, freed(said)),

@@ -34,7 +34,8 @@ impl EagerLog {
 // Makes all that is pending stable, unless a batch is open.
 fn settle(log: &mut MemLog)
     ensures adds { Adds effect_of_entry (state_of log.old) [] (state_of log.new) }
-    ensures stop { CrashesSinceLeave clock_of might_have_left log.old log.new (IsLeft effect_of (unplaced_state (state_of log.old)) []) }
+    ensures stop { CrashesSinceLeave clock_of might_have_left log.old log.new
+        (IsLeft effect_of (unplaced_state (state_of log.old)) []) }
     ensures counts { counts_of log.new ≡ counts_of log.old }
     ensures size { size_of log.new ≡ size_of log.old }
     ensures stable { is_open (state_of log.new).pending ≡ false → (state_of log.new).pending ≡ [] }

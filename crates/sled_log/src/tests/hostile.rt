@@ -10,10 +10,16 @@ use super::*;
 // A log whose odd moments nobody looks at, and that leaves anything then.
 fn a_log_skips_no_moment(log: &MemLog)
     requires empty { kept_in log.now ≡ [] }
-    ensures { ((t u : ℕ) (pages : List Messages) → t ≤ u → left_skipping log.now u pages → left_skipping log.now t pages) → ⊥ }
+    ensures { ((t u : ℕ) (pages : List Messages) → t ≤ u → left_skipping log.now u pages
+        → left_skipping log.now t pages) → ⊥ }
 {}
 
 // A log that leaves nothing behind a write fault, whatever was stable.
 fn a_log_loses_nothing(log: &MemLog)
-    ensures { (chain : Chain) (chains : List Chain) → (state_of log.now).stable ≡ chain ∷ chains → (state_of log.now).pending ≡ [] → ((t u : ℕ) (pages : List Messages) → t ≤ u → left_losing log.now u pages → left_losing log.now t pages) → ⊥ }
+    ensures { (chain : Chain) (chains : List Chain)
+        → (state_of log.now).stable ≡ chain ∷ chains
+        → (state_of log.now).pending ≡ []
+        → ((t u : ℕ) (pages : List Messages) → t ≤ u → left_losing log.now u pages
+        → left_losing log.now t pages)
+        → ⊥ }
 {}

@@ -1,6 +1,7 @@
 // All calls of a log in a row, and what they answer.
 
-ghost use Rattle.std.specs.Prelude.{◌≡◌, ◌≢◌, [], Bool, List, true, false, slice_index_or, OnOk};
+ghost use Rattle.std.specs.Prelude.{◌≡◌, ◌≢◌, [], Bool, List, true, false, length, nat_lt, slice_index_or, OnOk};
+ghost use Rattle.sled_log.specs.Batches.{is_open};
 ghost use Rattle.std.specs.List.{Any};
 ghost use Rattle.sled_log.specs.Messages.{Chain, effect_of_entry};
 ghost use Rattle.sled_log.specs.Pages.{IsAt};
@@ -69,8 +70,10 @@ fn fault(e: LogError) -> Result<Answer, LogError>
 // Reads a message.
 fn look<L: Log>(log: &mut L, pid: PageId, lsn: Lsn, pointer: DiskPtr) -> Result<Answer, LogError>
     requires usable { (L.state log.old).usable ≡ true }
-    requires known { L.tells → Any (IsAt lsn pointer) (slice_index_or (now effect_of_entry (L.state log.old)) pid []) }
-    ensures stands { OnOk result ((batch : Bool) (chains : List Chain) → Stands L.tells L.state log.old batch chains → Stands L.tells L.state log.new batch chains) }
+    requires known { L.tells
+        → Any (IsAt lsn pointer) (slice_index_or (now effect_of_entry (L.state log.old)) pid []) }
+    ensures stands { OnOk result ((batch : Bool) (chains : List Chain) → Stands L.tells L.state
+        log.old batch chains → Stands L.tells L.state log.new batch chains) }
 {
     match log.read(pid, lsn, pointer) {
         Ok((kind, payload)) => Ok(Answer::Read(kind, payload.len())),
@@ -81,7 +84,8 @@ fn look<L: Log>(log: &mut L, pid: PageId, lsn: Lsn, pointer: DiskPtr) -> Result<
 // Recovers the pages.
 fn reopen<L: Log>(log: &mut L) -> Result<Answer, LogError>
     requires usable { (L.state log.old).usable ≡ true }
-    ensures stands { OnOk result ((batch : Bool) (chains : List Chain) → Stands L.tells L.state log.old batch chains → Stands L.tells L.state log.new batch chains) }
+    ensures stands { OnOk result ((batch : Bool) (chains : List Chain) → Stands L.tells L.state
+        log.old batch chains → Stands L.tells L.state log.new batch chains) }
 {
     match log.recover() {
         Ok(pages) => Ok(shape_of(&pages)),
@@ -93,6 +97,16 @@ fn reopen<L: Log>(log: &mut L) -> Result<Answer, LogError>
 // frees the page again is cancelled.
 pub(super) fn walk<L: Log>(log: &mut L, seen: &mut Vec<Answer>) -> Result<(), LogError>
     requires empty { Stands L.tells L.state log.old false [] }
+{
+    seal_batch(log, seen)?;
+    cancel_batch(log, seen)
+}
+
+fn seal_batch<L: Log>(log: &mut L, seen: &mut Vec<Answer>) -> Result<(), LogError>
+    requires empty { Stands L.tells L.state log.old false [] }
+    ensures { OnOk result (((L.state log.new).usable ≡ true)
+        × (is_open (L.state log.new).pending ≡ false)
+        × (L.tells → nat_lt 1 (length (now effect_of_entry (L.state log.new))) ≡ true)) }
 {
     let counter = log.append(MessageKind::Counter, 0, &COUNTER)?;
     seen.push(Answer::Placed(counter.0, counter.1, counter.2))?;
@@ -110,6 +124,14 @@ pub(super) fn walk<L: Log>(log: &mut L, seen: &mut Vec<Answer>) -> Result<(), Lo
     seen.push(Answer::Done)?;
     let sealed = reopen(log)?;
     seen.push(sealed)?;
+    Ok(())
+}
+
+fn cancel_batch<L: Log>(log: &mut L, seen: &mut Vec<Answer>) -> Result<(), LogError>
+    requires usable { (L.state log.old).usable ≡ true }
+    requires closed { is_open (L.state log.old).pending ≡ false }
+    requires pages { L.tells → nat_lt 1 (length (now effect_of_entry (L.state log.old))) ≡ true }
+{
     log.pin()?;
     seen.push(Answer::Done)?;
     let freed = log.append(MessageKind::Free, 1, &ROOTS)?;

@@ -5,6 +5,7 @@ use Rattle.std.proofs.lemmas.List.{length-append, length-take-le}
 use Rattle.std.specs.declared.num.NonZeroU64.{NonZeroU64}
 use Rattle.std.specs.Int.NonZero.{non_zero_u64_get}
 use Rattle.std.specs.Option.{option_map}
+use Rattle.sled_node.specs.declared.node.Node.TheInside.{Inside}
 use Rattle.sled_node.specs.Node.{WholeNode, IsPage, IsWellFormed}
 use Rattle.sled_node.specs.Parts.{HasStored}
 use Rattle.sled_base.specs.Payloads.Reading.{ReadsNoValue, AsksNever, ReadsTriple, AsksTriple}
@@ -16,6 +17,10 @@ use Rattle.sled_node.specs.Payloads.Nodes.{NodeParts, ReadsParts, AsksNode, node
 use Rattle.sled_node.specs.Payloads.NodeLaws.{number_of_page, stored_again, formed_stored, one_parts}
 use Rattle.sled_node.proofs.WholeKeys.{prefix_within}
 use Rattle.sled_node.proofs.Payloads.Sizes.{number_size, string_size}
+
+-- what a node is written of
+abbrev pub parts_of : Inside → NodeParts
+parts_of n = ((n.next, n.merging_child, n.merging), (n.prefix_len, n.lo, n.hi), n.contents)
 
 module _ (parts : NodeParts) where
   abbrev pub written_head : List ℕ

@@ -1,13 +1,13 @@
 -- The laws of the encoding of a node's pairs.
 use Rattle.std.specs.Prelude.{◌≡◌, ℕ, ◌+◌, ◌<◌, ◌≤◌, ◌^◌, List, ◌++◌, length, refl}
-use Rattle.std.proofs.Common.{get_or, sym, ap, subst, arith}
+use Rattle.std.proofs.Common.{get_or, ap, arith}
 use Rattle.sled_base.specs.Order.{Bytes}
 use Rattle.sled_node.specs.declared.node.data.Data.{Data}
 use Rattle.sled_node.specs.declared.node.data.Data.TheVariants.{Leaf, Index}
 use Rattle.sled_node.specs.Pairs.{IsWithinLimit, HasPairs}
 use Rattle.sled_node.specs.Parts.{HasStored}
 use Rattle.sled_base.specs.Payloads.Reading.{IsGrammar}
-use Rattle.sled_base.specs.Payloads.ReadingLaws.{Only-grammar, behind, first}
+use Rattle.sled_base.specs.Payloads.ReadingLaws.{Only-grammar, one_tagged, first}
 use Rattle.sled_base.specs.Payloads.Numbers.{written_u64}
 use Rattle.sled_base.specs.Payloads.NumberLaws.{U64-grammar}
 use Rattle.sled_base.specs.Payloads.ByteStrings.{written_bytes, CanWriteBytes}
@@ -18,7 +18,7 @@ use Rattle.sled_node.specs.Payloads.Data.{ReadsLeaf, ReadsIndex, ReadsData, writ
 
 -- ---- a leaf, and an index
 
-short_can_write : (bytes : Bytes) → IsWithinLimit bytes → CanWriteBytes bytes
+pub short_can_write : (bytes : Bytes) → IsWithinLimit bytes → CanWriteBytes bytes
 short_can_write bytes short = omega arith
 
 pub leaf_can_write : (pairs : List (Bytes × Bytes)) → HasPairs IsWithinLimit pairs → CanWritePairs CanWriteBytes pairs
@@ -45,14 +45,8 @@ tag_is input (Leaf pairs) rest found = first input 0 found.0 found.1
 tag_is input (Index pairs) rest found = first input 1 found.0 found.1
 
 one_data : (input : List ℕ) (v w : Data) (r s : List ℕ) → ReadsData input v r → ReadsData input w s → (v ≡ w) × (r ≡ s)
-one_data input (Leaf ps) (Leaf qs) r s (parts, is, left) (others, also, right) =
-    let same = behind 0 input parts others is also in
-    let read = Leaf-grammar.one_reading parts ps qs r s left (subst (λ text. ReadsLeaf text qs s) (sym same) right) in
-    (ap (λ pairs. Leaf pairs) read.0, read.1)
-one_data input (Index ps) (Index qs) r s (parts, is, left) (others, also, right) =
-    let same = behind 1 input parts others is also in
-    let read = Index-grammar.one_reading parts ps qs r s left (subst (λ text. ReadsIndex text qs s) (sym same) right) in
-    (ap (λ pairs. Index pairs) read.0, read.1)
+one_data input (Leaf ps) (Leaf qs) r s left right = one_tagged Leaf-grammar (λ pairs. Leaf pairs) 0 input ps qs r s left right
+one_data input (Index ps) (Index qs) r s left right = one_tagged Index-grammar (λ pairs. Index pairs) 1 input ps qs r s left right
 one_data input v w r s left right =
     let one = tag_is input v r left in
     let other = tag_is input w s right in

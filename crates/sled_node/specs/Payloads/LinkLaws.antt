@@ -1,13 +1,11 @@
 -- The laws of the encoding of links.
 use Rattle.std.specs.Prelude.{◌≡◌, ℕ, ◌+◌, ◌≤◌, List, ◌++◌, length, refl}
-use Rattle.std.proofs.Common.{get_or, sym, ap, subst, arith}
+use Rattle.std.proofs.Common.{get_or, ap, arith}
 use Rattle.sled_node.specs.declared.node.link.Link.{Link}
 use Rattle.sled_node.specs.declared.node.link.Link.TheVariants.{Set, Del, ParentMergeIntention, ParentMergeConfirm, ChildMergeCap}
-use Rattle.sled_base.specs.Payloads.Reading.{ReadsPair, IsGrammar}
-use Rattle.sled_base.specs.Payloads.ReadingLaws.{Pair-grammar, behind, first}
-use Rattle.sled_base.specs.Payloads.Numbers.{ReadsU64}
+use Rattle.sled_base.specs.Payloads.Reading.{IsGrammar}
+use Rattle.sled_base.specs.Payloads.ReadingLaws.{Pair-grammar, one_tagged, behind, first}
 use Rattle.sled_base.specs.Payloads.NumberLaws.{U64-grammar}
-use Rattle.sled_node.specs.Payloads.ShortStrings.{ReadsShort}
 use Rattle.sled_node.specs.Payloads.ShortStringLaws.{Short-grammar}
 use Rattle.sled_node.specs.Payloads.Links.{ReadsLink, written_link, CanWriteLink}
 
@@ -27,18 +25,9 @@ tag_is input ParentMergeConfirm rest is = first input 3 rest is
 tag_is input ChildMergeCap rest is = first input 4 rest is
 
 one_link : (input : List ℕ) (v w : Link) (r s : List ℕ) → ReadsLink input v r → ReadsLink input w s → (v ≡ w) × (r ≡ s)
-one_link input (Set k v) (Set l w) r s (parts, is, left) (others, also, right) =
-    let same = behind 0 input parts others is also in
-    let read = (Pair-grammar Short-grammar Short-grammar).one_reading parts (k, v) (l, w) r s left (subst (λ text. ReadsPair ReadsShort ReadsShort text (l, w) s) (sym same) right) in
-    (ap (λ (p : List ℕ × List ℕ). Set p.0 p.1) read.0, read.1)
-one_link input (Del k) (Del l) r s (parts, is, left) (others, also, right) =
-    let same = behind 1 input parts others is also in
-    let read = Short-grammar.one_reading parts k l r s left (subst (λ text. ReadsShort text l s) (sym same) right) in
-    (ap (λ key. Del key) read.0, read.1)
-one_link input (ParentMergeIntention m) (ParentMergeIntention n) r s (parts, is, left) (others, also, right) =
-    let same = behind 2 input parts others is also in
-    let read = U64-grammar.one_reading parts m n r s left (subst (λ text. ReadsU64 text n s) (sym same) right) in
-    (ap (λ page. ParentMergeIntention page) read.0, read.1)
+one_link input (Set k v) (Set l w) r s left right = one_tagged (Pair-grammar Short-grammar Short-grammar) (λ (p : List ℕ × List ℕ). Set p.0 p.1) 0 input (k, v) (l, w) r s left right
+one_link input (Del k) (Del l) r s left right = one_tagged Short-grammar (λ key. Del key) 1 input k l r s left right
+one_link input (ParentMergeIntention m) (ParentMergeIntention n) r s left right = one_tagged U64-grammar (λ page. ParentMergeIntention page) 2 input m n r s left right
 one_link input ParentMergeConfirm ParentMergeConfirm r s left right = (refl, behind 3 input r s left right)
 one_link input ChildMergeCap ChildMergeCap r s left right = (refl, behind 4 input r s left right)
 one_link input v w r s left right =

@@ -20,7 +20,8 @@ pub fn serialize_changed(
 ) -> Result<Vec<u8>, AllocError>
     requires map { IsRootMap (named_pages roots.now) }
     requires name { IfSome root (λ _. IsWithinLimit name.now) }
-    ensures { IfOk result (λ bytes. bytes.items ≡ written_roots (changed_roots name.now root (named_pages roots.now))) }
+    ensures { IfOk result (λ bytes. bytes.items
+        ≡ written_roots (changed_roots name.now root (named_pages roots.now))) }
 {
     let mut bytes = Vec::new(alloc);
     push_side(&mut bytes, roots, name, false)?;
@@ -39,7 +40,8 @@ fn push_side(
     above: bool,
 ) -> Result<(), AllocError>
     requires { length (written_roots (named_pages roots.now)) < 2 ^ 57 }
-    ensures { OnOk result (bytes.new.items ≡ bytes.old.items ++ written_roots (filter (λ pair. is_on_side above name.now pair.0) (named_pages roots.now))) }
+    ensures { OnOk result (bytes.new.items ≡ bytes.old.items ++ written_roots
+        (filter (λ pair. is_on_side above name.now pair.0) (named_pages roots.now))) }
 {
     for (key, root) in roots {
         if is_on_side(above, name, key) {

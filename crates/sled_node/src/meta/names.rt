@@ -23,7 +23,8 @@ pub fn put_page(
 ) -> Result<Option<PageId>, AllocError>
     requires ascending { IsAscending (named_pages pages.old) }
     ensures former { IfOk result (λ former. former ≡ root_of name.items (named_pages pages.old)) }
-    ensures ok { OnOk result (named_pages pages.new ≡ with_root name.items page (named_pages pages.old)) }
+    ensures ok { OnOk result
+        (named_pages pages.new ≡ with_root name.items page (named_pages pages.old)) }
     ensures err { OnErr result (named_pages pages.new ≡ named_pages pages.old) }
     ensures there { root_of name.items (named_pages pages.old) ≢ None → IsOk result }
 {

@@ -46,7 +46,8 @@ impl Serialize for Meta {
     fn serialize_into(&self, out: &mut [u8]) -> usize
         requires { length (written_roots self.now) ≤ length out.old }
         ensures size { result ≡ length (written_roots self.now) }
-        ensures bytes { out.new ≡ written_roots self.now ++ drop (length (written_roots self.now)) out.old }
+        ensures bytes { out.new ≡ written_roots self.now
+            ++ drop (length (written_roots self.now)) out.old }
     {
         write_roots(self.roots(), out)
     }
@@ -93,7 +94,8 @@ pub fn root_size(name: &[u8], root: PageId) -> u64
 fn write_roots(roots: &BTreeMap<Vec<u8>, PageId>, out: &mut [u8]) -> usize
     requires { length (written_roots (named_pages roots.now)) ≤ length out.old }
     ensures size { result ≡ length (written_roots (named_pages roots.now)) }
-    ensures bytes { out.new ≡ written_roots (named_pages roots.now) ++ drop (length (written_roots (named_pages roots.now))) out.old }
+    ensures bytes { out.new ≡ written_roots (named_pages roots.now)
+        ++ drop (length (written_roots (named_pages roots.now))) out.old }
 {
     let mut end = 0;
     for (name, root) in roots {
@@ -106,7 +108,8 @@ fn write_roots(roots: &BTreeMap<Vec<u8>, PageId>, out: &mut [u8]) -> usize
 pub fn write_root(name: &[u8], root: PageId, out: &mut [u8], start: usize) -> usize
     requires room { start + length (written_root (name.now, root)) ≤ length out.old }
     ensures size { result ≡ start + length (written_root (name.now, root)) }
-    ensures bytes { out.new ≡ (take start out.old ++ written_root (name.now, root)) ++ drop (start + length (written_root (name.now, root))) out.old }
+    ensures bytes { out.new ≡ (take start out.old ++ written_root (name.now, root))
+        ++ drop (start + length (written_root (name.now, root))) out.old }
 {
     start + write_pair(name, root, &mut out[start..])
 }
@@ -115,7 +118,8 @@ pub fn write_root(name: &[u8], root: PageId, out: &mut [u8], start: usize) -> us
 fn write_pair(name: &[u8], root: PageId, out: &mut [u8]) -> usize
     requires room { length (written_root (name.now, root)) ≤ length out.old }
     ensures size { result ≡ length (written_root (name.now, root)) }
-    ensures bytes { out.new ≡ written_root (name.now, root) ++ drop (length (written_root (name.now, root))) out.old }
+    ensures bytes { out.new ≡ written_root (name.now, root)
+        ++ drop (length (written_root (name.now, root))) out.old }
 {
     let end = write_name(name, out);
     end + root.serialize_into(&mut out[end..])
@@ -125,7 +129,8 @@ fn write_pair(name: &[u8], root: PageId, out: &mut [u8]) -> usize
 fn write_name(name: &[u8], out: &mut [u8]) -> usize
     requires room { length (written_bytes name.now) ≤ length out.old }
     ensures size { result ≡ length (written_bytes name.now) }
-    ensures bytes { out.new ≡ written_bytes name.now ++ drop (length (written_bytes name.now)) out.old }
+    ensures bytes { out.new ≡ written_bytes name.now
+        ++ drop (length (written_bytes name.now)) out.old }
 {
     let start = (name.len() as u64).serialize_into(out);
     let end = start + name.len();

@@ -32,7 +32,8 @@ impl Node {
     ) -> Result<Node, AllocError>
         requires some { at ≢ [] }
         requires limit { IsWithinLimit at }
-        ensures { IfOk result (λ root. root ≡ index_of (([], Child left) ∷ (at, Child right) ∷ [])) }
+        ensures { IfOk result
+            (λ root. root ≡ index_of (([], Child left) ∷ (at, Child right) ∷ [])) }
     {
         let pairs = vec![in alloc; (IVec::default(), left), (at, right)]?;
         Ok(index_over_all(pairs))
@@ -87,7 +88,8 @@ impl Node {
     pub fn parent_split(&mut self, at: &[u8], to: PageId) -> Result<bool, AllocError>
         requires { AcceptsChild self.old at.now }
         ensures new { IfOk result (λ is_new. IsTrue is_new ↔ (HasKey self.old.pairs at.now → ⊥)) }
-        ensures value { IfOk result (λ is_new. self.new ≡ inserted is_new (with_child at.now to self.old) self.old) }
+        ensures value { IfOk result
+            (λ is_new. self.new ≡ inserted is_new (with_child at.now to self.old) self.old) }
         ensures there { HasKey self.old.pairs at.now → IsOk result }
         ensures err { OnErr result (self.new ≡ self.old) }
     {

@@ -62,7 +62,8 @@ impl Index {
         pairs: Vec<(IVec, PageId)>,
     ) -> Result<Option<Index>, AllocError>
         ensures taken { IsOk result }
-        ensures value { IfOk result (λ index. SomeIff index (HasPairs (λ page. page < 2 ^ 64) pairs.items) pairs.items) }
+        ensures value { IfOk result
+            (λ index. SomeIff index (HasPairs (λ page. page < 2 ^ 64) pairs.items) pairs.items) }
     {
         know_pages(&pairs);
         if pairs.len() > MAX_PAIRS || !are_ascending(&pairs) || !are_short(&pairs) {
@@ -129,7 +130,8 @@ impl Index {
         requires limit { IsWithinLimit key.now }
         requires room { (length self.old < pairs_limit) ⊎ HasKey self.old key.now }
         ensures new { IfOk result (λ is_new. IsTrue is_new ↔ (HasKey self.old key.now → ⊥)) }
-        ensures value { IfOk result (λ is_new. self.new ≡ inserted is_new (set_pair key.now page self.old) self.old) }
+        ensures value { IfOk result
+            (λ is_new. self.new ≡ inserted is_new (set_pair key.now page self.old) self.old) }
         ensures there { HasKey self.old key.now → IsOk result }
         ensures err { OnErr result (self.new ≡ self.old) }
     {
@@ -188,7 +190,8 @@ fn remove_from(pairs: &mut Vec<(IVec, PageId)>, page: PageId)
 fn insert_in(pairs: &mut Vec<(IVec, PageId)>, key: &[u8], page: PageId) -> Result<bool, AllocError>
     requires { IsAscending pairs.old.items }
     ensures new { IfOk result (λ is_new. IsTrue is_new ↔ (HasKey pairs.old.items key.now → ⊥)) }
-    ensures value { IfOk result (λ is_new. pairs.new.items ≡ inserted is_new (set_pair key.now page pairs.old.items) pairs.old.items) }
+    ensures value { IfOk result (λ is_new. pairs.new.items
+        ≡ inserted is_new (set_pair key.now page pairs.old.items) pairs.old.items) }
     ensures there { HasKey pairs.old.items key.now → IsOk result }
     ensures err { OnErr result (pairs.new.items ≡ pairs.old.items) }
 {

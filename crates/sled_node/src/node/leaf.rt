@@ -1,6 +1,6 @@
 //! Leaves: stored keys and values.
 
-ghost use Rattle.std.specs.Prelude.{◌≡◌, ◌↔◌, ◌<◌, ◌≤◌, ◌^◌, [], length, Some, IsTrue, IfOk, IsOk, OnOk, OnErr, nat_eq, slice_get};
+ghost use Rattle.std.specs.Prelude.{◌≡◌, ◌↔◌, ◌<◌, ◌≤◌, ◌^◌, [], length, Some, IsTrue, IfOk, OnOk, OnErr, nat_eq, slice_get};
 ghost use Rattle.std.specs.Option.{SomeIff};
 ghost use Rattle.std.specs.List.{AllByRecursion};
 ghost use Rattle.std.specs.Cmp.{partial_equiv_from_equiv};
@@ -44,20 +44,26 @@ impl Leaf {
 
     /// A leaf of these pairs, or none where a key isn't above the one before it, a key or a value is longer than
     /// [`MAX_BYTES`], or there are more than [`MAX_PAIRS`].
-    ///
-    /// It allocates nothing, so it answers no error.
+    /// An error means that an allocation failed.
     pub fn from_pairs(_alloc: Global, pairs: Vec<(IVec, IVec)>) -> Result<Option<Leaf>, AllocError>
-        ensures taken { IsOk result }
-        ensures value { IfOk result (λ leaf. SomeIff leaf (HasPairs IsWithinLimit pairs.items) pairs.items) }
+        ensures value { IfOk result
+            (λ leaf. SomeIff leaf (HasPairs IsWithinLimit pairs.items) pairs.items) }
+    {
+        Ok(Leaf::check_pairs(pairs))
+    }
+
+    // The same, where no memory is to be asked for.
+    pub(super) fn check_pairs(pairs: Vec<(IVec, IVec)>) -> Option<Leaf>
+        ensures { SomeIff result (HasPairs IsWithinLimit pairs.items) pairs.items }
     {
         if pairs.len() > MAX_PAIRS
             || !are_ascending(&pairs)
             || !are_short(&pairs)
             || !have_short_values(&pairs)
         {
-            return Ok(None);
+            return None;
         }
-        Ok(Some(Leaf { pairs }))
+        Some(Leaf { pairs })
     }
 
     /// How many pairs there are.

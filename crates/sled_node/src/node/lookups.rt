@@ -69,7 +69,8 @@ impl Node {
     // The stored pairs of a leaf.
     pub(super) fn leaf_pairs(&self) -> &[(IVec, IVec)]
         requires leaf { self.now.is_index ≡ false }
-        ensures value { self.now.pairs ≡ pairs_under (take self.now.prefix_len self.now.lo) (Stored result.now) }
+        ensures value { self.now.pairs
+            ≡ pairs_under (take self.now.prefix_len self.now.lo) (Stored result.now) }
         ensures ascending { IsAscending result.now }
         ensures well_formed { IsWellFormed self.now }
     {
@@ -101,7 +102,8 @@ impl Node {
 fn place_under(pairs: &[(IVec, IVec)], prefix: &[u8], key: &[u8]) -> Result<usize, usize>
     requires { IsAscending pairs.now }
     ensures found { IfOk result (StandsAt (pairs_under prefix.now (Stored pairs.now)) key.now) }
-    ensures same { IfOk result (HoldsAt (λ pair. pair.0 ≡ key.now) (pairs_under prefix.now (Stored pairs.now))) }
+    ensures same { IfOk result
+        (HoldsAt (λ pair. pair.0 ≡ key.now) (pairs_under prefix.now (Stored pairs.now))) }
     ensures missing { IfErr result (IsGap (pairs_under prefix.now (Stored pairs.now)) key.now) }
 {
     match key.strip_prefix(prefix) {

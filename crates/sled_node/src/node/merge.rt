@@ -30,9 +30,9 @@ impl Node {
         requires { CanReceive self.now right.now }
         ensures { IfOk result (λ node. node ≡ merged self.now right.now) }
     {
+        let prefix_len = own_prefix(&self.lo, &right.hi);
         let lo = self.lo.clone()?;
         let hi = right.hi.clone()?;
-        let prefix_len = own_prefix(lo.as_slice(), hi.as_slice());
         let contents = self.contents.joined(
             self.prefix(),
             &right.contents,
@@ -61,8 +61,10 @@ impl Data {
         skipped: usize,
     ) -> Result<Data, AllocError>
         requires kinds { is_index self.now ≡ is_index right.now }
-        requires stored { HasStored (joined_data (restored_data prefix.now skipped self.now) (restored_data right_prefix.now skipped right.now)) }
-        ensures { IfOk result (λ parts. parts ≡ joined_data (restored_data prefix.now skipped self.now) (restored_data right_prefix.now skipped right.now)) }
+        requires stored { HasStored (joined_data (restored_data prefix.now skipped self.now)
+            (restored_data right_prefix.now skipped right.now)) }
+        ensures { IfOk result (λ parts. parts ≡ joined_data (restored_data prefix.now skipped
+            self.now) (restored_data right_prefix.now skipped right.now)) }
     {
         match (self, right) {
             (Data::Leaf(left), Data::Leaf(right)) => {
@@ -90,7 +92,8 @@ fn joined_pairs<V: Drop>(
     right_prefix: &[u8],
     skipped: usize,
 ) -> Result<Vec<(IVec, V)>, AllocError>
-    ensures { IfOk result (λ pairs. pairs.items ≡ restored prefix.now skipped left.items ++ restored right_prefix.now skipped right.items) }
+    ensures { IfOk result (λ pairs. pairs.items ≡ restored prefix.now skipped left.items
+        ++ restored right_prefix.now skipped right.items) }
 {
     store_without(&mut left, prefix, skipped)?;
     store_without(&mut right, right_prefix, skipped)?;

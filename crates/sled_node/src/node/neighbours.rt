@@ -18,7 +18,8 @@ impl Node {
     /// out of its range. An error means that the copy could not be allocated.
     pub fn successor(&self, bound: &Bound<IVec>) -> Result<Option<(IVec, IVec)>, AllocError>
         requires leaf { self.now.is_index ≡ false }
-        ensures least { IfOk result (λ found. IfSome found (IsLeast (IsBehind bound.now) self.now)) }
+        ensures least { IfOk result
+            (λ found. IfSome found (IsLeast (IsBehind bound.now) self.now)) }
         ensures none { IfOk result (λ found. IfNone found (HasNone (IsBehind bound.now) self.now)) }
     {
         let first = self.first_behind(bound);
@@ -34,7 +35,8 @@ impl Node {
     /// out of its range. An error means that the copy could not be allocated.
     pub fn predecessor(&self, bound: &Bound<IVec>) -> Result<Option<(IVec, IVec)>, AllocError>
         requires leaf { self.now.is_index ≡ false }
-        ensures greatest { IfOk result (λ found. IfSome found (IsGreatest (IsBefore bound.now) self.now)) }
+        ensures greatest { IfOk result
+            (λ found. IfSome found (IsGreatest (IsBefore bound.now) self.now)) }
         ensures none { IfOk result (λ found. IfNone found (HasNone (IsBefore bound.now) self.now)) }
     {
         let end = self.end_before(bound);
@@ -47,7 +49,8 @@ impl Node {
     // The place of a leaf's first pair behind the bound, or the number of pairs.
     fn first_behind(&self, bound: &Bound<IVec>) -> usize
         requires leaf { self.now.is_index ≡ false }
-        ensures { IsCount (λ key. IsBehind bound.now key → ⊥) (IsBehind bound.now) self.now.pairs result }
+        ensures { IsCount (λ key. IsBehind bound.now key
+            → ⊥) (IsBehind bound.now) self.now.pairs result }
     {
         match bound {
             Bound::Included(key) => self.count_below(key.as_slice()),
@@ -59,7 +62,8 @@ impl Node {
     // The place after a leaf's last pair before the bound, or 0.
     fn end_before(&self, bound: &Bound<IVec>) -> usize
         requires leaf { self.now.is_index ≡ false }
-        ensures { IsCount (IsBefore bound.now) (λ key. IsBefore bound.now key → ⊥) self.now.pairs result }
+        ensures { IsCount (IsBefore bound.now) (λ key. IsBefore bound.now key
+            → ⊥) self.now.pairs result }
     {
         match bound {
             Bound::Included(key) => self.count_up_to(key.as_slice()),
@@ -71,7 +75,8 @@ impl Node {
     // How many pairs of a leaf have a whole key below this one.
     fn count_below(&self, key: &[u8]) -> usize
         requires leaf { self.now.is_index ≡ false }
-        ensures { IsCount (λ other. IsBelow other key.now) (λ other. IsAtMost key.now other) self.now.pairs result }
+        ensures { IsCount (λ other. IsBelow other key.now)
+            (λ other. IsAtMost key.now other) self.now.pairs result }
     {
         match self.place_of_whole_key(key) {
             Ok(at) => at,
@@ -82,7 +87,8 @@ impl Node {
     // How many pairs of a leaf have a whole key that is at most this one.
     fn count_up_to(&self, key: &[u8]) -> usize
         requires leaf { self.now.is_index ≡ false }
-        ensures { IsCount (λ other. IsAtMost other key.now) (λ other. IsBelow key.now other) self.now.pairs result }
+        ensures { IsCount (λ other. IsAtMost other key.now)
+            (λ other. IsBelow key.now other) self.now.pairs result }
     {
         match self.place_of_whole_key(key) {
             Ok(at) => at + 1,

@@ -1,6 +1,6 @@
 //! Whether parts make a well-formed node.
 
-ghost use Rattle.std.specs.Prelude.{◌≡◌, ◌↔◌, ◌≤◌, length, take, IsTrue, IfSome};
+ghost use Rattle.std.specs.Prelude.{◌≡◌, ◌↔◌, ◌≤◌, ◌-◌, length, take, drop, IsTrue, IfSome};
 ghost use Rattle.std.specs.List.{AllByRecursion};
 ghost use Rattle.std.specs.Option.{option_map};
 ghost use Rattle.std.specs.Int.NonZero.{non_zero_u64_get};
@@ -13,9 +13,10 @@ use sled_base::IVec;
 use std::num::NonZeroU64;
 
 /// Whether a node may have these bounds, and stored keys that lack this many bytes.
-pub fn are_bounds(skipped: usize, lo: &[u8], hi: &[u8]) -> bool
+pub fn are_bounds(skipped: usize, lo: &IVec, hi: &IVec) -> bool
     ensures { IsTrue result ↔ AreBounds skipped lo.now hi.now }
 {
+    let (lo, hi) = (lo.as_slice(), hi.as_slice());
     if lo.len() > MAX_BYTES || hi.len() > MAX_BYTES {
         return false;
     }
@@ -23,6 +24,14 @@ pub fn are_bounds(skipped: usize, lo: &[u8], hi: &[u8]) -> bool
         return skipped == 0;
     }
     is_below(lo, hi) && have_common(skipped, lo, hi)
+}
+
+/// The bytes of a bound behind those that stored keys lack.
+pub fn rest_of(bound: &IVec, skipped: usize) -> &[u8]
+    requires { skipped ≤ length bound.now }
+    ensures { result.now ≡ take (length bound.now - skipped) (drop skipped bound.now) }
+{
+    &bound.as_slice()[skipped..]
 }
 
 /// Whether the keys that are stored are within the rest of the bounds, and no longer than `most`.
@@ -47,14 +56,16 @@ pub fn know_page(page: Option<NonZeroU64>)
 
 // Whether both have this many bytes, and the same ones.
 fn have_common(count: usize, left: &[u8], right: &[u8]) -> bool
-    ensures { IsTrue result ↔ ((count ≤ length left.now) × (count ≤ length right.now) × (take count left.now ≡ take count right.now)) }
+    ensures { IsTrue result ↔ ((count ≤ length left.now) × (count ≤ length right.now)
+        × (take count left.now ≡ take count right.now)) }
 {
     count <= left.len() && count <= right.len() && left[..count] == right[..count]
 }
 
 // Whether each key is within the bounds and no longer than `most`.
 fn are_within<V>(pairs: &[(IVec, V)], lo: &[u8], hi: &[u8], most: usize) -> bool
-    ensures { IsTrue result ↔ AllByRecursion (λ pair. IsStoredWithin lo.now hi.now most pair.0) pairs.now }
+    ensures { IsTrue result
+        ↔ AllByRecursion (λ pair. IsStoredWithin lo.now hi.now most pair.0) pairs.now }
 {
     for pair in pairs {
         if !is_within(pair.0.as_slice(), lo, hi, most) {

@@ -48,7 +48,8 @@ impl Serialize for Data {
     fn serialize_into(&self, out: &mut [u8]) -> usize
         requires { length (written_data self.now) ≤ length out.old }
         ensures size { result ≡ length (written_data self.now) }
-        ensures bytes { out.new ≡ written_data self.now ++ drop (length (written_data self.now)) out.old }
+        ensures bytes { out.new ≡ written_data self.now
+            ++ drop (length (written_data self.now)) out.old }
     {
         match self {
             Data::Leaf(leaf) => {
@@ -104,7 +105,8 @@ fn size_of_index(index: &Index) -> u64
 fn write_leaf(leaf: &Leaf, out: &mut [u8]) -> usize
     requires { length (written_pairs written_bytes leaf.now) ≤ length out.old }
     ensures size { result ≡ length (written_pairs written_bytes leaf.now) }
-    ensures bytes { out.new ≡ written_pairs written_bytes leaf.now ++ drop (length (written_pairs written_bytes leaf.now)) out.old }
+    ensures bytes { out.new ≡ written_pairs written_bytes leaf.now
+        ++ drop (length (written_pairs written_bytes leaf.now)) out.old }
 {
     write_pairs(leaf.pairs(), out)
 }
@@ -113,7 +115,8 @@ fn write_leaf(leaf: &Leaf, out: &mut [u8]) -> usize
 fn write_index(index: &Index, out: &mut [u8]) -> usize
     requires { length (written_pairs written_u64 index.now) ≤ length out.old }
     ensures size { result ≡ length (written_pairs written_u64 index.now) }
-    ensures bytes { out.new ≡ written_pairs written_u64 index.now ++ drop (length (written_pairs written_u64 index.now)) out.old }
+    ensures bytes { out.new ≡ written_pairs written_u64 index.now
+        ++ drop (length (written_pairs written_u64 index.now)) out.old }
 {
     write_pairs(index.pairs(), out)
 }
@@ -126,7 +129,7 @@ fn read_leaf(alloc: Global, input: &mut &[u8]) -> Result<Leaf, Error>
 {
     let mut rest = *input;
     let pairs = read_pairs::<IVec>(alloc, &mut rest)?;
-    match Leaf::from_pairs(alloc, pairs)? {
+    match Leaf::check_pairs(pairs) {
         Some(leaf) => {
             *input = rest;
             Ok(leaf)
@@ -174,6 +177,7 @@ impl Serialize for Node {
 
     ghost takes = { some_taken Node-grammar };
 
+    #[tactic(auto, using(crate::proofs::Payloads::Nodes::can_write_page, crate::specs::Payloads::DataLaws::short_can_write))]
     fn serialized_size(&self) -> u64
         ensures { result ≡ length (written_node self.now) }
     {
@@ -182,10 +186,12 @@ impl Serialize for Node {
         head + bounds + self.contents.serialized_size()
     }
 
+    #[tactic(auto, using(crate::proofs::Payloads::Nodes::can_write_page, crate::specs::Payloads::DataLaws::short_can_write))]
     fn serialize_into(&self, out: &mut [u8]) -> usize
         requires { length (written_node self.now) ≤ length out.old }
         ensures size { result ≡ length (written_node self.now) }
-        ensures bytes { out.new ≡ written_node self.now ++ drop (length (written_node self.now)) out.old }
+        ensures bytes { out.new ≡ written_node self.now
+            ++ drop (length (written_node self.now)) out.old }
     {
         let start = write_three(&self.next, &self.merging_child, &self.merging, out);
         let end = write_three_at(&self.prefix_len, &self.lo, &self.hi, out, start);

@@ -2,7 +2,7 @@
 
 ghost use Rattle.std.specs.Prelude.{◌≡◌, ◌+◌, ◌/◌, ◌<◌, ◌≤◌, take, drop, length, IfOk, OnOk};
 ghost use Rattle.sled_node.specs.Parts.{HasStored};
-ghost use Rattle.sled_node.specs.Splitting.{least, greatest, SeparatesAt, Splits, MergeBack};
+ghost use Rattle.sled_node.specs.Splitting.{least, greatest, SeparatesAt, IsSplitPlace, Splits, MergeBack};
 ghost use Rattle.sled_node.specs.Restoring.{restored, restored_data, first_data, later_data, data_len};
 
 use super::stored::{common_len, own_prefix, store_without};
@@ -30,9 +30,7 @@ impl Node {
 
     // The parts that meet at the separator, of which the left has so many pairs.
     fn split_at(self, count: usize, separator: IVec) -> Result<(Node, Node), AllocError>
-        requires many { 3 ≤ length self.pairs }
-        requires half { count ≡ length self.pairs / 2 + 1 }
-        requires separates { SeparatesAt self.is_index (greatest (take count self.pairs)) (least (drop count self.pairs)) separator }
+        requires { IsSplitPlace self count separator }
         ensures parts { IfOk result (λ parts. Splits self parts.0 parts.1) }
         ensures merge { IfOk result (λ parts. MergeBack self parts.0 parts.1) }
     {
@@ -45,9 +43,9 @@ impl Node {
             hi,
             contents,
         } = self;
+        let left_len = own_prefix(&lo, &separator);
+        let right_len = own_prefix(&separator, &hi);
         let low = separator.clone()?;
-        let left_len = own_prefix(lo.as_slice(), separator.as_slice());
-        let right_len = own_prefix(low.as_slice(), hi.as_slice());
         let prefix = &lo.as_slice()[..prefix_len as usize];
         let (left, right) = contents.split(count, prefix, left_len as usize, right_len as usize)?;
         let left = Node {
@@ -76,7 +74,8 @@ impl Node {
     fn separator(&self, count: usize) -> Result<IVec, AllocError>
         requires some { 1 ≤ count }
         requires others { count < length self.now.pairs }
-        ensures { IfOk result (λ s. SeparatesAt self.now.is_index (greatest (take count self.now.pairs)) (least (drop count self.now.pairs)) s) }
+        ensures { IfOk result (λ s. SeparatesAt self.now.is_index
+            (greatest (take count self.now.pairs)) (least (drop count self.now.pairs)) s) }
     {
         let alloc = self.contents.allocator();
         let prefix = self.prefix();
@@ -103,9 +102,12 @@ impl Data {
     ) -> Result<(Data, Data), AllocError>
         requires within { count ≤ data_len self }
         requires left { HasStored (restored_data prefix.now left_skipped (first_data count self)) }
-        requires right { HasStored (restored_data prefix.now right_skipped (later_data count self)) }
-        ensures left { IfOk result (λ parts. parts.0 ≡ restored_data prefix.now left_skipped (first_data count self)) }
-        ensures right { IfOk result (λ parts. parts.1 ≡ restored_data prefix.now right_skipped (later_data count self)) }
+        requires right { HasStored
+            (restored_data prefix.now right_skipped (later_data count self)) }
+        ensures left { IfOk result
+            (λ parts. parts.0 ≡ restored_data prefix.now left_skipped (first_data count self)) }
+        ensures right { IfOk result
+            (λ parts. parts.1 ≡ restored_data prefix.now right_skipped (later_data count self)) }
     {
         match self {
             Data::Leaf(leaf) => {
@@ -133,8 +135,10 @@ fn split_pairs<V: Drop>(
     right_skipped: usize,
 ) -> Result<Vec<(IVec, V)>, AllocError>
     requires { count ≤ length pairs.old.items }
-    ensures left { OnOk result (pairs.new.items ≡ restored prefix.now left_skipped (take count pairs.old.items)) }
-    ensures right { IfOk result (λ right. right.items ≡ restored prefix.now right_skipped (drop count pairs.old.items)) }
+    ensures left { OnOk result
+        (pairs.new.items ≡ restored prefix.now left_skipped (take count pairs.old.items)) }
+    ensures right { IfOk result
+        (λ right. right.items ≡ restored prefix.now right_skipped (drop count pairs.old.items)) }
 {
     let mut right = pairs.split_off(count)?;
     store_without(pairs, prefix, left_skipped)?;

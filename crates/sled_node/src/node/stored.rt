@@ -22,10 +22,10 @@ pub fn common_len(left: &[u8], right: &[u8]) -> usize
 }
 
 /// How many bytes stored keys lack between these bounds: those that the bounds have in common, up to 255.
-pub fn own_prefix(lo: &[u8], hi: &[u8]) -> u8
+pub fn own_prefix(lo: &IVec, hi: &IVec) -> u8
     ensures { result ≡ own_prefix lo.now hi.now }
 {
-    common_len(lo, hi).min(u8::MAX as usize) as u8
+    common_len(lo.as_slice(), hi.as_slice()).min(u8::MAX as usize) as u8
 }
 
 /// Makes each stored key lack `skipped` bytes in place of those of `front`.

@@ -87,8 +87,10 @@ impl Serialize for Link {
 
 // Reads the key and the value of a link.
 fn read_two(alloc: Global, input: &mut &[u8]) -> Result<(IVec, IVec), Error>
-    ensures read { IfOk result (λ pair. ReadsPair ReadsShort ReadsShort input.old.now pair input.new.now) }
-    ensures refused { IfErr result (IsRefusal (AsksPair AsksShort ReadsShort AsksShort) (ReadsPair ReadsShort ReadsShort) input.old.now) }
+    ensures read { IfOk result
+        (λ pair. ReadsPair ReadsShort ReadsShort input.old.now pair input.new.now) }
+    ensures refused { IfErr result (IsRefusal (AsksPair AsksShort ReadsShort AsksShort)
+        (ReadsPair ReadsShort ReadsShort) input.old.now) }
     ensures stays { OnErr result (input.new ≡ input.old) }
 {
     let mut rest = *input;

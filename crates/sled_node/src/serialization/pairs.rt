@@ -21,7 +21,8 @@ const MOST_PAIRS: u64 = MAX_PAIRS as u64;
 // Reads the count, all keys, and then all items.
 pub fn read_pairs<V: Serialize>(alloc: Global, input: &mut &[u8]) -> Result<Vec<(IVec, V)>, Error>
     requires { 1 ≤ V.least_size }
-    ensures read { IfOk result (λ pairs. ReadsPairs V.reads input.old.now pairs.items input.new.now) }
+    ensures read { IfOk result
+        (λ pairs. ReadsPairs V.reads input.old.now pairs.items input.new.now) }
     ensures refused { IfErr result (IsRefusal AsksPairs (ReadsPairs V.reads) input.old.now) }
     ensures stays { OnErr result (input.new ≡ input.old) }
 {
@@ -74,8 +75,10 @@ fn read_both<V: Serialize>(
 ) -> Result<Vec<(IVec, V)>, Error>
     requires judged { 2 * count ≤ length keys.now }
     requires behind { IsBehindKeys count keys.now items.old.now }
-    ensures read { IfOk result (λ pairs. ReadsBoth V.reads count keys.now items.old.now pairs.items items.new.now) }
-    ensures refused { IfErr result (IsRefusal (λ _. 1 ≤ count) (ReadsBoth V.reads count keys.now) items.old.now) }
+    ensures read { IfOk result
+        (λ pairs. ReadsBoth V.reads count keys.now items.old.now pairs.items items.new.now) }
+    ensures refused { IfErr result
+        (IsRefusal (λ _. 1 ≤ count) (ReadsBoth V.reads count keys.now) items.old.now) }
     ensures stays { OnErr result (items.new ≡ items.old) }
 {
     let mut pairs = room_for(alloc, count, keys)?;
@@ -118,7 +121,8 @@ pub fn write_pairs<V: Serialize>(pairs: &[(IVec, V)], out: &mut [u8]) -> usize
     requires can_write { CanWritePairs V.can_write pairs.now }
     requires room { length (written_pairs V.written pairs.now) ≤ length out.old }
     ensures size { result ≡ length (written_pairs V.written pairs.now) }
-    ensures bytes { out.new ≡ written_pairs V.written pairs.now ++ drop (length (written_pairs V.written pairs.now)) out.old }
+    ensures bytes { out.new ≡ written_pairs V.written pairs.now
+        ++ drop (length (written_pairs V.written pairs.now)) out.old }
 {
     let start = (pairs.len() as u64).serialize_into(out);
     write_behind(pairs, out, start)
@@ -128,9 +132,13 @@ pub fn write_pairs<V: Serialize>(pairs: &[(IVec, V)], out: &mut [u8]) -> usize
 fn write_behind<V: Serialize>(pairs: &[(IVec, V)], out: &mut [u8], start: usize) -> usize
     requires keys { AllByRecursion CanWriteBytes (keys_of pairs.now) }
     requires items { AllByRecursion V.can_write (items_of pairs.now) }
-    requires room { start + length (flat_map written_bytes (keys_of pairs.now) ++ flat_map V.written (items_of pairs.now)) ≤ length out.old }
-    ensures size { result ≡ start + length (flat_map written_bytes (keys_of pairs.now) ++ flat_map V.written (items_of pairs.now)) }
-    ensures bytes { out.new ≡ (take start out.old ++ (flat_map written_bytes (keys_of pairs.now) ++ flat_map V.written (items_of pairs.now))) ++ drop (start + length (flat_map written_bytes (keys_of pairs.now) ++ flat_map V.written (items_of pairs.now))) out.old }
+    requires room { start + length (flat_map written_bytes (keys_of pairs.now)
+        ++ flat_map V.written (items_of pairs.now)) ≤ length out.old }
+    ensures size { result ≡ start + length
+        (flat_map written_bytes (keys_of pairs.now) ++ flat_map V.written (items_of pairs.now)) }
+    ensures bytes { out.new ≡ (take start out.old ++ (flat_map written_bytes (keys_of pairs.now)
+        ++ flat_map V.written (items_of pairs.now))) ++ drop (start + length (flat_map written_bytes
+        (keys_of pairs.now) ++ flat_map V.written (items_of pairs.now))) out.old }
 {
     start + write_keys_and_items(pairs, &mut out[start..])
 }
@@ -138,9 +146,13 @@ fn write_behind<V: Serialize>(pairs: &[(IVec, V)], out: &mut [u8], start: usize)
 fn write_keys_and_items<V: Serialize>(pairs: &[(IVec, V)], out: &mut [u8]) -> usize
     requires keys { AllByRecursion CanWriteBytes (keys_of pairs.now) }
     requires items { AllByRecursion V.can_write (items_of pairs.now) }
-    requires room { length (flat_map written_bytes (keys_of pairs.now) ++ flat_map V.written (items_of pairs.now)) ≤ length out.old }
-    ensures size { result ≡ length (flat_map written_bytes (keys_of pairs.now) ++ flat_map V.written (items_of pairs.now)) }
-    ensures bytes { out.new ≡ (flat_map written_bytes (keys_of pairs.now) ++ flat_map V.written (items_of pairs.now)) ++ drop (length (flat_map written_bytes (keys_of pairs.now) ++ flat_map V.written (items_of pairs.now))) out.old }
+    requires room { length (flat_map written_bytes (keys_of pairs.now)
+        ++ flat_map V.written (items_of pairs.now)) ≤ length out.old }
+    ensures size { result ≡ length
+        (flat_map written_bytes (keys_of pairs.now) ++ flat_map V.written (items_of pairs.now)) }
+    ensures bytes { out.new ≡ (flat_map written_bytes (keys_of pairs.now) ++ flat_map V.written
+        (items_of pairs.now)) ++ drop (length (flat_map written_bytes (keys_of pairs.now)
+        ++ flat_map V.written (items_of pairs.now))) out.old }
 {
     let end = write_keys(pairs, out);
     end + write_items(pairs, &mut out[end..])
@@ -151,7 +163,8 @@ fn write_keys<V>(pairs: &[(IVec, V)], out: &mut [u8]) -> usize
     requires can_write { AllByRecursion CanWriteBytes (keys_of pairs.now) }
     requires room { length (flat_map written_bytes (keys_of pairs.now)) ≤ length out.old }
     ensures size { result ≡ length (flat_map written_bytes (keys_of pairs.now)) }
-    ensures bytes { out.new ≡ flat_map written_bytes (keys_of pairs.now) ++ drop (length (flat_map written_bytes (keys_of pairs.now))) out.old }
+    ensures bytes { out.new ≡ flat_map written_bytes (keys_of pairs.now)
+        ++ drop (length (flat_map written_bytes (keys_of pairs.now))) out.old }
 {
     let mut end = 0;
     for pair in pairs {
@@ -165,7 +178,8 @@ fn write_items<V: Serialize>(pairs: &[(IVec, V)], out: &mut [u8]) -> usize
     requires can_write { AllByRecursion V.can_write (items_of pairs.now) }
     requires room { length (flat_map V.written (items_of pairs.now)) ≤ length out.old }
     ensures size { result ≡ length (flat_map V.written (items_of pairs.now)) }
-    ensures bytes { out.new ≡ flat_map V.written (items_of pairs.now) ++ drop (length (flat_map V.written (items_of pairs.now))) out.old }
+    ensures bytes { out.new ≡ flat_map V.written (items_of pairs.now)
+        ++ drop (length (flat_map V.written (items_of pairs.now))) out.old }
 {
     let mut end = 0;
     for pair in pairs {

@@ -3,7 +3,6 @@
 // more than 2^17 bytes.
 
 use super::children::{next, split};
-use super::leaf::push;
 use super::links::applies;
 use super::lookups::is_found;
 use super::neighbours::nearest;
@@ -79,44 +78,32 @@ fn there(i: u32) -> u64 {
 }
 
 // Pages of each length.
-fn page_at(i: u32) -> u64 {
+fn page_at(i: usize) -> u64 {
     1 << (i % 64)
 }
 
-fn leaf_in(
-    alloc: Global,
-    shape: &Shape,
-    tail: &[u8],
-    count: u32,
-) -> Result<Option<Leaf>, AllocError> {
-    let mut pairs = Vec::new(alloc);
+// So many keys as they are stored.
+fn keys_in(alloc: Global, shape: &Shape, tail: &[u8], count: u32) -> Result<Vec<IVec>, AllocError> {
+    let mut keys = Vec::new(alloc);
     for i in 0..count {
         let key = key_at(shape, tail, there(i));
-        push(alloc, &mut pairs, stored(shape, &key), tail)?;
+        keys.push(bytes(alloc, stored(shape, &key))?)?;
+    }
+    Ok(keys)
+}
+
+fn leaf_in(alloc: Global, keys: Vec<IVec>, value: &[u8]) -> Result<Option<Leaf>, AllocError> {
+    let mut pairs = Vec::new(alloc);
+    for key in keys {
+        pairs.push((key, bytes(alloc, value)?))?;
     }
     Leaf::from_pairs(alloc, pairs)
 }
 
-pub(super) fn push_child(
-    alloc: Global,
-    pairs: &mut Vec<(IVec, PageId)>,
-    key: &[u8],
-    page: PageId,
-) -> Result<(), AllocError> {
-    pairs.push((bytes(alloc, key)?, page))?;
-    Ok(())
-}
-
-fn index_in(
-    alloc: Global,
-    shape: &Shape,
-    tail: &[u8],
-    count: u32,
-) -> Result<Option<Index>, AllocError> {
+fn index_in(alloc: Global, keys: Vec<IVec>) -> Result<Option<Index>, AllocError> {
     let mut pairs = Vec::new(alloc);
-    for i in 0..count {
-        let key = key_at(shape, tail, there(i));
-        push_child(alloc, &mut pairs, stored(shape, &key), page_at(i))?;
+    for (i, key) in keys.into_iter().enumerate() {
+        pairs.push((key, page_at(i)))?;
     }
     Index::from_pairs(alloc, pairs)
 }
@@ -129,10 +116,11 @@ pub(super) fn filled(
     tail: &[u8],
     count: u32,
 ) -> Option<Node> {
+    let keys = keys_in(alloc, shape, tail, count).ok()?;
     let contents = if is_index {
-        Data::Index(index_in(alloc, shape, tail, count).ok()??)
+        Data::Index(index_in(alloc, keys).ok()??)
     } else {
-        Data::Leaf(leaf_in(alloc, shape, tail, count).ok()??)
+        Data::Leaf(leaf_in(alloc, keys, tail).ok()??)
     };
     let range = [shape.lo, shape.hi];
     node_over(alloc, shape.prefix_len, range, 0, contents).ok()?
@@ -285,7 +273,7 @@ fn leads(
 fn is_led(index: &Node, shape: &Shape, tail: &[u8], count: u32) -> bool {
     let mut is_so = leads(index, shape, tail, 0, None);
     for i in 0..count {
-        let child = Some((i as usize, page_at(i)));
+        let child = Some((i as usize, page_at(i as usize)));
         is_so = is_so
             && leads(index, shape, tail, there(i), child)
             && leads(index, shape, tail, there(i).saturating_add(1), child);

@@ -1,7 +1,6 @@
 ghost use Rattle.std.specs.Prelude.{◌<◌, ◌^◌, length};
 ghost use Rattle.sled_node.specs.Payloads.Links.{written_link, CanWriteLink};
 
-use super::corners::push_child;
 use super::*;
 
 // Whether the bytes are the encoding that was written, of the size that was answered, and they are read as the value.
@@ -147,8 +146,8 @@ fn is_empty_leaf_written(alloc: Global) -> bool {
 // An index of these two keys, to the pages 2 and 241, or none where they don't rise.
 fn index_of(alloc: Global, left: &[u8], right: &[u8]) -> Result<Option<Index>, AllocError> {
     let mut pairs = Vec::new(alloc);
-    push_child(alloc, &mut pairs, left, 2)?;
-    push_child(alloc, &mut pairs, right, 241)?;
+    pairs.push((bytes(alloc, left)?, 2))?;
+    pairs.push((bytes(alloc, right)?, 241))?;
     Index::from_pairs(alloc, pairs)
 }
 

@@ -1,4 +1,4 @@
-use Rattle.sled_log.proofs.Names.{◌≡◌, ◌+◌, ℕ, List, length, take, drop, map, refl, sym, ◌∙◌, ap, subst, arith, true, false≢true, length-map, length-drop, take_all, drop_all, is_open, event_of, log_size, restarted, state_at, IsInOrder, are_placed, LogItem, kept_in, place_after, start_after, are_within, restarts, kept_items, MemLog}
+use Rattle.sled_log.proofs.Names.{◌≡◌, ◌+◌, ℕ, List, length, take, drop, map, refl, sym, ◌∙◌, ap, subst, arith, true, false≢true, length-map, length-drop, take_all, drop_all, is_open, event_of, log_size, restarted, state_at, IsInOrder, are_placed, LogItem, kept_in, place_after, start_after, are_within, restarts, kept_items}
 use Rattle.sled_log.proofs.Moments.{pending_events, size-restarted, log_size-restarted, left-stopped, order-restarted, pending-restarted, stable-restarted}
 use Rattle.sled_log.proofs.Places.{placed-take, placed-map}
 use Rattle.sled_log.proofs.Stored.{kept-length, kept-stopped, placed-after}

@@ -1,5 +1,5 @@
 -- The last message of a recovered page is one of the page's chain.
-use Rattle.sled_log.proofs.Names.{rules, ◌≡◌, SFits, w64, to_z, of_z, List, [], slice_index_or, sym, ap, subst, Any, AllZip, to_z-of_z, PageState, now-Adds, now, state_of, Chain, effect_of_entry, IsAt, IsPageState, zip-at}
+use Rattle.sled_log.proofs.Names.{rules, ◌≡◌, SFits, w64, to_z, of_z, List, [], slice_index_or, sym, subst, Any, AllZip, to_z-of_z, PageState, now-Adds, now, state_of, Chain, effect_of_entry, IsAt, IsPageState, zip-at}
 use Rattle.sled_log.proofs.tests.corners.read_last.Goals as goal
 
 pub read-requires : goal.read-requires

@@ -18,5 +18,5 @@ returns-in_err-pairs-clause-refused c =
 -- where the pairs that are read don't keep what they have to
 pub returns-in-None-clause-refused : goal.returns-in-None-clause-refused
 returns-in-None-clause-refused c =
-    let none = rw c.in-None.is at c.in_ok-leaf.ensures in
-    only_others (ReadsPairs ReadsBytes) (HasPairs IsWithinLimit) (Pairs-grammar Bytes-grammar) c.args.input.now.now c.in_ok-pairs.pairs.items c.read_pairs.new.input.now c.in_ok-pairs.ensures.read none.value
+    let none = rw c.in-None.is at c.check_pairs.ensures in
+    only_others (ReadsPairs ReadsBytes) (HasPairs IsWithinLimit) (Pairs-grammar Bytes-grammar) c.args.input.now.now c.in_ok-pairs.pairs.items c.read_pairs.new.input.now c.in_ok-pairs.ensures.read none
