@@ -60,55 +60,44 @@ pending-chains chains place (marks.Cancel ∷ ms) rs h = pending-chains chains p
 pub body-more : (place : ℕ) (r : Record) (rs : List Record) → (place + size r) + length (body rs) ≡ place + length (body (r ∷ rs))
 body-more place r rs = omega (arith, length-append (record_bytes r) (body rs), record_bytes-length r)
 
+-- a mark more, with the record whose events it adds
+pub mark-more : (mark : Mark) (adds : ℕ → List (Event Entry)) (r : Record) → ((place : ℕ) → pending_events place (mark ∷ []) (r ∷ []) ≡ adds place) → (place : ℕ) (ms : List Mark) (rs : List Record) → count ms ≡ length rs → pending_events place (ms ++ mark ∷ []) (rs ++ r ∷ []) ≡ pending_events place ms rs ++ adds (place + length (body rs))
+mark-more mark adds r alone place [] [] h = alone place ∙ ap adds (omega arith)
+mark-more mark adds r alone place [] (first ∷ rs) h = absurd (omega (arith, h))
+mark-more mark adds r alone place (marks.Change ∷ ms) [] h = absurd (omega (arith, h))
+mark-more mark adds r alone place (marks.Change ∷ ms) (first ∷ rs) h =
+    ap (λ (l : List (Event Entry)). event_at entry_at place first ++ l) (mark-more mark adds r alone (place + size first) ms rs (omega (arith, h)) ∙ ap (λ n. pending_events (place + size first) ms rs ++ adds n) (body-more place first rs))
+    ∙ sym (append_assoc (event_at entry_at place first) (pending_events (place + size first) ms rs) (adds (place + length (body (first ∷ rs)))))
+mark-more mark adds r alone place (marks.Pin ∷ ms) [] h = absurd (omega (arith, h))
+mark-more mark adds r alone place (marks.Pin ∷ ms) (first ∷ rs) h =
+    ap (λ (l : List (Event Entry)). Pin ∷ (event_at entry_at place first ++ l)) (mark-more mark adds r alone (place + size first) ms rs (omega (arith, h)) ∙ ap (λ n. pending_events (place + size first) ms rs ++ adds n) (body-more place first rs))
+    ∙ ap (λ (l : List (Event Entry)). Pin ∷ l) (sym (append_assoc (event_at entry_at place first) (pending_events (place + size first) ms rs) (adds (place + length (body (first ∷ rs))))))
+mark-more mark adds r alone place (marks.Seal ∷ ms) rs h = ap (λ (l : List (Event Entry)). Seal ∷ l) (mark-more mark adds r alone place ms rs h)
+mark-more mark adds r alone place (marks.Cancel ∷ ms) rs h = ap (λ (l : List (Event Entry)). Cancel ∷ l) (mark-more mark adds r alone place ms rs h)
+
 pub change-more : (place : ℕ) (ms : List Mark) (rs : List Record) (r : Record) → count ms ≡ length rs → pending_events place (ms ++ marks.Change ∷ []) (rs ++ r ∷ []) ≡ pending_events place ms rs ++ event_at entry_at (place + length (body rs)) r
-change-more place [] [] r h = append-nil (event_at entry_at place r) ∙ ap (λ n. event_at entry_at n r) (omega arith)
-change-more place [] (first ∷ rs) r h = absurd (omega (arith, h))
-change-more place (marks.Change ∷ ms) [] r h = absurd (omega (arith, h))
-change-more place (marks.Change ∷ ms) (first ∷ rs) r h =
-    ap (λ (l : List (Event Entry)). event_at entry_at place first ++ l) (change-more (place + size first) ms rs r (omega (arith, h)) ∙ ap (λ n. pending_events (place + size first) ms rs ++ event_at entry_at n r) (body-more place first rs))
-    ∙ sym (append_assoc (event_at entry_at place first) (pending_events (place + size first) ms rs) (event_at entry_at (place + length (body (first ∷ rs))) r))
-change-more place (marks.Pin ∷ ms) [] r h = absurd (omega (arith, h))
-change-more place (marks.Pin ∷ ms) (first ∷ rs) r h =
-    ap (λ (l : List (Event Entry)). Pin ∷ (event_at entry_at place first ++ l)) (change-more (place + size first) ms rs r (omega (arith, h)) ∙ ap (λ n. pending_events (place + size first) ms rs ++ event_at entry_at n r) (body-more place first rs))
-    ∙ ap (λ (l : List (Event Entry)). Pin ∷ l) (sym (append_assoc (event_at entry_at place first) (pending_events (place + size first) ms rs) (event_at entry_at (place + length (body (first ∷ rs))) r)))
-change-more place (marks.Seal ∷ ms) rs r h = ap (λ (l : List (Event Entry)). Seal ∷ l) (change-more place ms rs r h)
-change-more place (marks.Cancel ∷ ms) rs r h = ap (λ (l : List (Event Entry)). Cancel ∷ l) (change-more place ms rs r h)
+change-more place ms rs r h = mark-more marks.Change (λ n. event_at entry_at n r) r (λ n. append-nil (event_at entry_at n r)) place ms rs h
 
 pub pin-more : (place : ℕ) (ms : List Mark) (rs : List Record) (r : Record) → count ms ≡ length rs → pending_events place (ms ++ marks.Pin ∷ []) (rs ++ r ∷ []) ≡ pending_events place ms rs ++ Pin ∷ event_at entry_at (place + length (body rs)) r
-pin-more place [] [] r h = ap (λ (l : List (Event Entry)). Pin ∷ l) (append-nil (event_at entry_at place r) ∙ ap (λ n. event_at entry_at n r) (omega arith))
-pin-more place [] (first ∷ rs) r h = absurd (omega (arith, h))
-pin-more place (marks.Change ∷ ms) [] r h = absurd (omega (arith, h))
-pin-more place (marks.Change ∷ ms) (first ∷ rs) r h =
-    ap (λ (l : List (Event Entry)). event_at entry_at place first ++ l) (pin-more (place + size first) ms rs r (omega (arith, h)) ∙ ap (λ n. pending_events (place + size first) ms rs ++ Pin ∷ event_at entry_at n r) (body-more place first rs))
-    ∙ sym (append_assoc (event_at entry_at place first) (pending_events (place + size first) ms rs) (Pin ∷ event_at entry_at (place + length (body (first ∷ rs))) r))
-pin-more place (marks.Pin ∷ ms) [] r h = absurd (omega (arith, h))
-pin-more place (marks.Pin ∷ ms) (first ∷ rs) r h =
-    ap (λ (l : List (Event Entry)). Pin ∷ (event_at entry_at place first ++ l)) (pin-more (place + size first) ms rs r (omega (arith, h)) ∙ ap (λ n. pending_events (place + size first) ms rs ++ Pin ∷ event_at entry_at n r) (body-more place first rs))
-    ∙ ap (λ (l : List (Event Entry)). Pin ∷ l) (sym (append_assoc (event_at entry_at place first) (pending_events (place + size first) ms rs) (Pin ∷ event_at entry_at (place + length (body (first ∷ rs))) r)))
-pin-more place (marks.Seal ∷ ms) rs r h = ap (λ (l : List (Event Entry)). Seal ∷ l) (pin-more place ms rs r h)
-pin-more place (marks.Cancel ∷ ms) rs r h = ap (λ (l : List (Event Entry)). Cancel ∷ l) (pin-more place ms rs r h)
+pin-more place ms rs r h = mark-more marks.Pin (λ n. Pin ∷ event_at entry_at n r) r (λ n. ap (λ (l : List (Event Entry)). Pin ∷ l) (append-nil (event_at entry_at n r))) place ms rs h
+
+-- a mark more that has no record
+pub end-more : (mark : Mark) (end : Event Entry) → ((place : ℕ) (rs : List Record) → pending_events place (mark ∷ []) rs ≡ end ∷ []) → (place : ℕ) (ms : List Mark) (rs : List Record) → pending_events place (ms ++ mark ∷ []) rs ≡ pending_events place ms rs ++ end ∷ []
+end-more mark end alone place [] rs = alone place rs
+end-more mark end alone place (marks.Change ∷ ms) [] = end-more mark end alone place ms []
+end-more mark end alone place (marks.Change ∷ ms) (r ∷ rs) =
+    ap (λ (l : List (Event Entry)). event_at entry_at place r ++ l) (end-more mark end alone (place + size r) ms rs) ∙ sym (append_assoc (event_at entry_at place r) (pending_events (place + size r) ms rs) (end ∷ []))
+end-more mark end alone place (marks.Pin ∷ ms) [] = ap (λ (l : List (Event Entry)). Pin ∷ l) (end-more mark end alone place ms [])
+end-more mark end alone place (marks.Pin ∷ ms) (r ∷ rs) =
+    ap (λ (l : List (Event Entry)). Pin ∷ l) (ap (λ (l : List (Event Entry)). event_at entry_at place r ++ l) (end-more mark end alone (place + size r) ms rs) ∙ sym (append_assoc (event_at entry_at place r) (pending_events (place + size r) ms rs) (end ∷ [])))
+end-more mark end alone place (marks.Seal ∷ ms) rs = ap (λ (l : List (Event Entry)). Seal ∷ l) (end-more mark end alone place ms rs)
+end-more mark end alone place (marks.Cancel ∷ ms) rs = ap (λ (l : List (Event Entry)). Cancel ∷ l) (end-more mark end alone place ms rs)
 
 pub seal-more : (place : ℕ) (ms : List Mark) (rs : List Record) → pending_events place (ms ++ marks.Seal ∷ []) rs ≡ pending_events place ms rs ++ Seal ∷ []
-seal-more place [] rs = refl
-seal-more place (marks.Change ∷ ms) [] = seal-more place ms []
-seal-more place (marks.Change ∷ ms) (r ∷ rs) =
-    ap (λ (l : List (Event Entry)). event_at entry_at place r ++ l) (seal-more (place + size r) ms rs) ∙ sym (append_assoc (event_at entry_at place r) (pending_events (place + size r) ms rs) (Seal ∷ []))
-seal-more place (marks.Pin ∷ ms) [] = ap (λ (l : List (Event Entry)). Pin ∷ l) (seal-more place ms [])
-seal-more place (marks.Pin ∷ ms) (r ∷ rs) =
-    ap (λ (l : List (Event Entry)). Pin ∷ l) (ap (λ (l : List (Event Entry)). event_at entry_at place r ++ l) (seal-more (place + size r) ms rs) ∙ sym (append_assoc (event_at entry_at place r) (pending_events (place + size r) ms rs) (Seal ∷ [])))
-seal-more place (marks.Seal ∷ ms) rs = ap (λ (l : List (Event Entry)). Seal ∷ l) (seal-more place ms rs)
-seal-more place (marks.Cancel ∷ ms) rs = ap (λ (l : List (Event Entry)). Cancel ∷ l) (seal-more place ms rs)
+seal-more = end-more marks.Seal Seal (λ place rs. refl)
 
 pub cancel-more : (place : ℕ) (ms : List Mark) (rs : List Record) → pending_events place (ms ++ marks.Cancel ∷ []) rs ≡ pending_events place ms rs ++ Cancel ∷ []
-cancel-more place [] rs = refl
-cancel-more place (marks.Change ∷ ms) [] = cancel-more place ms []
-cancel-more place (marks.Change ∷ ms) (r ∷ rs) =
-    ap (λ (l : List (Event Entry)). event_at entry_at place r ++ l) (cancel-more (place + size r) ms rs) ∙ sym (append_assoc (event_at entry_at place r) (pending_events (place + size r) ms rs) (Cancel ∷ []))
-cancel-more place (marks.Pin ∷ ms) [] = ap (λ (l : List (Event Entry)). Pin ∷ l) (cancel-more place ms [])
-cancel-more place (marks.Pin ∷ ms) (r ∷ rs) =
-    ap (λ (l : List (Event Entry)). Pin ∷ l) (ap (λ (l : List (Event Entry)). event_at entry_at place r ++ l) (cancel-more (place + size r) ms rs) ∙ sym (append_assoc (event_at entry_at place r) (pending_events (place + size r) ms rs) (Cancel ∷ [])))
-cancel-more place (marks.Seal ∷ ms) rs = ap (λ (l : List (Event Entry)). Seal ∷ l) (cancel-more place ms rs)
-cancel-more place (marks.Cancel ∷ ms) rs = ap (λ (l : List (Event Entry)). Cancel ∷ l) (cancel-more place ms rs)
+cancel-more = end-more marks.Cancel Cancel (λ place rs. refl)
 
 pub open_by-more : (was : Bool) (ms : List Mark) (m : Mark) → open_by was (ms ++ m ∷ []) ≡ open_by (open_by was ms) (m ∷ [])
 open_by-more was [] m = refl

@@ -55,7 +55,8 @@ pub trait Disk: Drop {
     /// Reads the bytes at a place. A read past the end fails.
     fn read_at(&mut self, at: u64, into: &mut [u8]) -> Result<(), LogError>
         ensures within { tells → OnOk result (at + length into.old ≤ length (seen self.old)) }
-        ensures bytes { tells → OnOk result (into.new ≡ take (length into.old) (drop at (seen self.old))) }
+        ensures bytes { tells
+            → OnOk result (into.new ≡ take (length into.old) (drop at (seen self.old))) }
         ensures length { length into.new ≡ length into.old }
         ensures seen { tells → seen self.new ≡ seen self.old }
         ensures stop { tells → LeavesNoMore (may_leave self.old) (may_leave self.new) }
@@ -78,8 +79,10 @@ pub trait Disk: Drop {
     /// fails. A write that begins past the end fails.
     fn write_at(&mut self, at: u64, bytes: &[u8]) -> Result<(), LogError>
         ensures within { tells → OnOk result (at ≤ length (seen self.old)) }
-        ensures written { tells → OnOk result (seen self.new ≡ overlaid (seen self.old) at bytes.now) }
-        ensures stop { tells → Follows (Torn at (length bytes.now)) (may_leave self.old) (may_leave self.new) }
+        ensures written { tells
+            → OnOk result (seen self.new ≡ overlaid (seen self.old) at bytes.now) }
+        ensures stop { tells
+            → Follows (Torn at (length bytes.now)) (may_leave self.old) (may_leave self.new) }
         ensures time { tells → Elapses moment left_since may_leave self.old self.new }
         ensures only { IfErr result (λ e. e ≡ WriteFault) }
         ensures cause { HasCause (counts self.old) (counts self.new) result }

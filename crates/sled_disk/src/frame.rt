@@ -44,7 +44,8 @@ pub(crate) fn put_front(buffer: &mut [u8], number: u64)
 // Puts a record at the end, for which there is room.
 pub(crate) fn push_record(buffer: &mut Vec<u8>, kind: u8, page: PageId, payload: &[u8])
     requires { vec_len buffer.old + 17 + length payload.now ≤ vec_capacity buffer.old }
-    ensures items { buffer.new.items ≡ buffer.old.items ++ record_bytes (record { kind = kind; id = page; payload = payload.now }) }
+    ensures items { buffer.new.items ≡ buffer.old.items
+        ++ record_bytes (record { kind = kind; id = page; payload = payload.now }) }
     ensures len { vec_len buffer.new ≡ vec_len buffer.old + 17 + length payload.now }
     ensures capacity { vec_capacity buffer.old ≤ vec_capacity buffer.new }
     ensures are_bytes { IsBytes buffer.old.items → IsBytes buffer.new.items }
@@ -108,9 +109,11 @@ pub(crate) fn write_frame<D: Disk>(disk: &mut D, gate: u64, frame: &[u8]) -> Res
     requires small { gate + 1 < 18446744073709551616 }
     requires closed { D.tells → IsClosed gate (D.seen disk.old) }
     requires durable { D.tells → Only (D.seen disk.old) (D.may_leave disk.old) }
-    ensures written { D.tells → OnOk result (IsWhole gate frame.now (D.seen disk.old) (D.seen disk.new)) }
+    ensures written { D.tells
+        → OnOk result (IsWhole gate frame.now (D.seen disk.old) (D.seen disk.new)) }
     ensures durable { D.tells → OnOk result (Only (D.seen disk.new) (D.may_leave disk.new)) }
-    ensures stop { D.tells → BytesLeft D.moment D.left_since disk.old disk.new (IsShutOrOpened gate frame.now (D.seen disk.old)) }
+    ensures stop { D.tells → BytesLeft D.moment D.left_since disk.old disk.new
+        (IsShutOrOpened gate frame.now (D.seen disk.old)) }
     ensures only { IfErr result (λ e. e ≡ WriteFault) }
     ensures cause { HasCause (D.counts disk.old) (D.counts disk.new) result }
     ensures reads { (D.counts disk.new).reads ≡ (D.counts disk.old).reads }

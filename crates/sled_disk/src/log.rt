@@ -208,18 +208,22 @@ impl<D: Disk> DiskLog<D> {
     fn make_room(&mut self, len: usize) -> Result<(), LogError>
         requires usable { self.old.usable ≡ true }
         requires not_full { IsFullFor self.old.next len → ⊥ }
-        ensures rests { Rests D.tells D.seen D.may_leave D.moment D.left_since self.old.disk self.new.disk }
+        ensures rests { Rests D.tells D.seen D.may_leave D.moment D.left_since self.old.disk
+            self.new.disk }
         ensures counts { D.counts self.new.disk ≡ D.counts self.old.disk }
         ensures usable { self.new.usable ≡ true }
         ensures reads { self.new.reads ≡ self.old.reads }
-        ensures settings { (self.new.segment_size ≡ self.old.segment_size) × (self.new.clean_every ≡ self.old.clean_every) }
+        ensures settings { (self.new.segment_size ≡ self.old.segment_size)
+            × (self.new.clean_every ≡ self.old.clean_every) }
         ensures pages { self.new.pages.items ≡ self.old.pages.items }
         ensures gate { self.new.next.gate ≡ self.old.next.gate }
         ensures buffer { self.new.next.buffer.items ≡ self.old.next.buffer.items }
         ensures marks { self.new.next.marks.items ≡ self.old.next.marks.items }
         ensures batch { self.new.next.batch ≡ self.old.next.batch }
-        ensures room { OnOk result (vec_len self.new.next.buffer + 18 + len ≤ vec_capacity self.new.next.buffer) }
-        ensures mark_room { OnOk result (vec_len self.new.next.marks + 2 ≤ vec_capacity self.new.next.marks) }
+        ensures room { OnOk result
+            (vec_len self.new.next.buffer + 18 + len ≤ vec_capacity self.new.next.buffer) }
+        ensures mark_room { OnOk result
+            (vec_len self.new.next.marks + 2 ≤ vec_capacity self.new.next.marks) }
         ensures only { IfErr result (λ e. e ≡ Memory) }
     {
         self.next.make_room(len)?;
@@ -229,24 +233,32 @@ impl<D: Disk> DiskLog<D> {
     // Adds a record of a page to what is pending, and answers where it will stand.
     fn add(&mut self, kind: MessageKind, pid: PageId, payload: &[u8]) -> Result<u64, LogError>
         requires usable { self.old.usable ≡ true }
-        requires can { D.tells → can_append effect_of_entry (now effect_of_entry (state_of (D.seen self.old.disk) self.old.next self.old.usable)) pid kind ≡ true }
-        ensures rests { Rests D.tells D.seen D.may_leave D.moment D.left_since self.old.disk self.new.disk }
+        requires can { D.tells → can_append effect_of_entry (now effect_of_entry
+            (state_of (D.seen self.old.disk) self.old.next self.old.usable)) pid kind ≡ true }
+        ensures rests { Rests D.tells D.seen D.may_leave D.moment D.left_since self.old.disk
+            self.new.disk }
         ensures counts { D.counts self.new.disk ≡ D.counts self.old.disk }
         ensures usable { self.new.usable ≡ true }
         ensures reads { self.new.reads ≡ self.old.reads }
         ensures gate { self.new.next.gate ≡ self.old.next.gate }
         ensures batch { self.new.next.batch ≡ self.old.next.batch }
-        ensures added { D.tells → OnOk result (pending_of self.new.next ≡ pending_of self.old.next ++ Change pid (placed (message kind payload.now) (said_of self.old.next payload.now)) ∷ []) }
-        ensures written { D.tells → OnOk result (events_of self.new.next ≡ events_with self.old.next kind pid payload.now) }
+        ensures added { D.tells
+            → OnOk result (pending_of self.new.next ≡ pending_of self.old.next ++ Change pid
+            (placed (message kind payload.now) (said_of self.old.next payload.now)) ∷ []) }
+        ensures written { D.tells → OnOk result
+            (events_of self.new.next ≡ events_with self.old.next kind pid payload.now) }
         ensures kept { OnErr result (pending_of self.new.next ≡ pending_of self.old.next) }
-        ensures settings { (self.new.segment_size ≡ self.old.segment_size) × (self.new.clean_every ≡ self.old.clean_every) }
+        ensures settings { (self.new.segment_size ≡ self.old.segment_size)
+            × (self.new.clean_every ≡ self.old.clean_every) }
         ensures some { OnOk result (8 < length self.new.next.buffer.items) }
-        ensures len { OnOk result (length self.new.next.buffer.items ≡ length self.old.next.buffer.items + 17 + length payload.now) }
+        ensures len { OnOk result (length self.new.next.buffer.items
+            ≡ length self.old.next.buffer.items + 17 + length payload.now) }
         ensures mark { OnOk result (0 < length self.new.next.marks.items) }
         ensures place { IfOk result (λ place. place ≡ place_of self.old.next) }
         ensures small { IfOk result (λ place. place + 17 + length payload.now < 2 ^ 63) }
         ensures full { IsErrOf result Full ↔ IsFullFor self.old.next (length payload.now) }
-        ensures sound { can_append effect_of_head (chains_of self.old.pages.items) pid kind ≡ true → IsErrOf result Corruption → ⊥ }
+        ensures sound { can_append effect_of_head (chains_of self.old.pages.items) pid kind ≡ true
+            → IsErrOf result Corruption → ⊥ }
         ensures only { IfErr result (λ e. (e ≡ Memory) ⊎ (e ≡ Full) ⊎ (e ≡ Corruption)) }
     {
         if self.next.is_full(payload.len()) {
@@ -268,11 +280,14 @@ impl<D: Disk> DiskLog<D> {
         requires some { 8 < length self.old.next.buffer.items }
         ensures usable { self.new.usable ≡ is_ok result }
         ensures reads { self.new.reads ≡ self.old.reads }
-        ensures settings { (self.new.segment_size ≡ self.old.segment_size) × (self.new.clean_every ≡ self.old.clean_every) }
+        ensures settings { (self.new.segment_size ≡ self.old.segment_size)
+            × (self.new.clean_every ≡ self.old.clean_every) }
         ensures none { self.new.next.marks.items ≡ [] }
         ensures batch { self.new.next.batch ≡ false }
-        ensures stable { D.tells → OnOk result (events_in (D.seen self.new.disk) ≡ events_in (D.seen self.old.disk) ++ events_of self.old.next) }
-        ensures any_moment { D.tells → BytesLeft D.moment D.left_since self.old.disk self.new.disk (IsBeforeOrAfter (events_in (D.seen self.old.disk)) (events_of self.old.next)) }
+        ensures stable { D.tells → OnOk result (events_in (D.seen self.new.disk)
+            ≡ events_in (D.seen self.old.disk) ++ events_of self.old.next) }
+        ensures any_moment { D.tells → BytesLeft D.moment D.left_since self.old.disk self.new.disk
+            (IsBeforeOrAfter (events_in (D.seen self.old.disk)) (events_of self.old.next)) }
         ensures only { IfErr result (λ e. e ≡ WriteFault) }
         ensures cause { HasCause (D.counts self.old.disk) (D.counts self.new.disk) result }
     {

@@ -134,7 +134,8 @@ impl NextFrame {
         ensures batch { self.new.batch ≡ self.old.batch }
         ensures batch_place { self.new.batch_place ≡ self.old.batch_place }
         ensures last_place { self.new.last_place ≡ self.old.last_place }
-        ensures room { OnOk result (vec_len self.new.buffer + 18 + len ≤ vec_capacity self.new.buffer) }
+        ensures room { OnOk result
+            (vec_len self.new.buffer + 18 + len ≤ vec_capacity self.new.buffer) }
         ensures mark_room { OnOk result (vec_len self.new.marks + 2 ≤ vec_capacity self.new.marks) }
     {
         self.buffer.reserve(18 + len)?;
@@ -144,12 +145,16 @@ impl NextFrame {
     // Adds the record of a page, for which there is room.
     pub(crate) fn push(&mut self, kind: u8, page: PageId, payload: &[u8])
         requires not_full { IsFull self.old.gate self.old.buffer.items (length payload.now) → ⊥ }
-        requires room { vec_len self.old.buffer + 18 + length payload.now ≤ vec_capacity self.old.buffer }
+        requires room { vec_len self.old.buffer + 18 + length payload.now
+            ≤ vec_capacity self.old.buffer }
         requires mark_room { vec_len self.old.marks + 2 ≤ vec_capacity self.old.marks }
         ensures gate { self.new.gate ≡ self.old.gate }
-        ensures buffer { self.new.buffer.items ≡ self.old.buffer.items ++ record_bytes (record { kind = kind; id = page; payload = payload.now }) }
-        ensures len { length self.new.buffer.items ≡ length self.old.buffer.items + 17 + length payload.now }
-        ensures records { records_behind self.new.buffer.items ≡ records_behind self.old.buffer.items ++ record { kind = kind; id = page; payload = payload.now } ∷ [] }
+        ensures buffer { self.new.buffer.items ≡ self.old.buffer.items
+            ++ record_bytes (record { kind = kind; id = page; payload = payload.now }) }
+        ensures len { length self.new.buffer.items
+            ≡ length self.old.buffer.items + 17 + length payload.now }
+        ensures records { records_behind self.new.buffer.items ≡ records_behind
+            self.old.buffer.items ++ record { kind = kind; id = page; payload = payload.now } ∷ [] }
         ensures marks { self.new.marks.items ≡ self.old.marks.items ++ Change ∷ [] }
         ensures batch { self.new.batch ≡ self.old.batch }
     {
@@ -166,7 +171,8 @@ impl NextFrame {
         requires mark_room { vec_len self.old.marks + 2 ≤ vec_capacity self.old.marks }
         ensures gate { self.new.gate ≡ self.old.gate }
         ensures len { length self.new.buffer.items ≡ length self.old.buffer.items + 25 }
-        ensures records { records_behind self.new.buffer.items ≡ records_behind self.old.buffer.items ++ begun_record ∷ [] }
+        ensures records { records_behind self.new.buffer.items
+            ≡ records_behind self.old.buffer.items ++ begun_record ∷ [] }
         ensures marks { self.new.marks.items ≡ self.old.marks.items ++ Pin ∷ [] }
         ensures batch { self.new.batch ≡ true }
     {
@@ -181,7 +187,8 @@ impl NextFrame {
     pub(crate) fn seal(&mut self)
         requires opened { self.old.batch ≡ true }
         ensures gate { self.new.gate ≡ self.old.gate }
-        ensures records { records_behind self.new.buffer.items ≡ sealed_in (self.old.gate + 9) self.old.batch_place self.old.last_place (records_behind self.old.buffer.items) }
+        ensures records { records_behind self.new.buffer.items ≡ sealed_in (self.old.gate + 9)
+            self.old.batch_place self.old.last_place (records_behind self.old.buffer.items) }
         ensures marks { self.new.marks.items ≡ self.old.marks.items ++ Seal ∷ [] }
         ensures len { length self.new.buffer.items ≡ length self.old.buffer.items }
         ensures last { self.old.last_place < 2 ^ 64 }
@@ -208,7 +215,8 @@ impl NextFrame {
     // The payload of a record that begins so many bytes from the front of the buffer.
     pub(crate) fn payload(&self, alloc: Global, at: u64, len: u64) -> Result<Vec<u8>, AllocError>
         requires { at + 17 + len ≤ length self.now.buffer.items }
-        ensures { IfOk result (λ bytes. bytes.items ≡ take len (drop (at + 17) self.now.buffer.items)) }
+        ensures { IfOk result
+            (λ bytes. bytes.items ≡ take len (drop (at + 17) self.now.buffer.items)) }
     {
         let from = at as usize + 17;
         self.buffer[from..from + len as usize].to_vec(alloc)
@@ -220,14 +228,17 @@ impl NextFrame {
         requires some { 8 < length self.old.buffer.items }
         requires closed { D.tells → IsClosed self.old.gate (D.seen disk.old) }
         requires durable { D.tells → Only (D.seen disk.old) (D.may_leave disk.old) }
-        ensures gate { OnOk result (self.new.gate ≡ self.old.gate + 1 + length self.old.buffer.items) }
+        ensures gate { OnOk result
+            (self.new.gate ≡ self.old.gate + 1 + length self.old.buffer.items) }
         ensures err { OnErr result (self.new.gate ≡ self.old.gate) }
         ensures none { self.new.marks.items ≡ [] }
         ensures buffer { length self.new.buffer.items ≡ 8 }
         ensures batch { self.new.batch ≡ false }
-        ensures written { D.tells → OnOk result (IsWhole self.old.gate (frame_in self.old.buffer.items) (D.seen disk.old) (D.seen disk.new)) }
+        ensures written { D.tells → OnOk result (IsWhole self.old.gate
+            (frame_in self.old.buffer.items) (D.seen disk.old) (D.seen disk.new)) }
         ensures durable { D.tells → OnOk result (Only (D.seen disk.new) (D.may_leave disk.new)) }
-        ensures stop { D.tells → BytesLeft D.moment D.left_since disk.old disk.new (IsShutOrOpened self.old.gate (frame_in self.old.buffer.items) (D.seen disk.old)) }
+        ensures stop { D.tells → BytesLeft D.moment D.left_since disk.old disk.new
+            (IsShutOrOpened self.old.gate (frame_in self.old.buffer.items) (D.seen disk.old)) }
         ensures only { IfErr result (λ e. e ≡ WriteFault) }
         ensures cause { HasCause (D.counts disk.old) (D.counts disk.new) result }
         ensures reads { (D.counts disk.new).reads ≡ (D.counts disk.old).reads }

@@ -42,7 +42,8 @@ fn restart(chain: &mut Vec<Head>, head: Head) -> Result<(), AllocError>
 
 // Begins a page behind all others.
 fn begin(alloc: Global, pages: &mut Vec<Vec<Head>>, head: Head) -> Result<(), AllocError>
-    ensures made { OnOk result (chains_of pages.new.items ≡ chains_of pages.old.items ++ (head ∷ []) ∷ []) }
+    ensures made { OnOk result
+        (chains_of pages.new.items ≡ chains_of pages.old.items ++ (head ∷ []) ∷ []) }
     ensures kept { OnErr result (chains_of pages.new.items ≡ chains_of pages.old.items) }
 {
     reserve(pages, 1)?;
@@ -60,7 +61,8 @@ fn put(
     head: Head,
 ) -> Result<(), AllocError>
     requires { page ≤ length pages.old.items }
-    ensures made { OnOk result (chains_of pages.new.items ≡ begun effect_of_head (chains_of pages.old.items) page head) }
+    ensures made { OnOk result
+        (chains_of pages.new.items ≡ begun effect_of_head (chains_of pages.old.items) page head) }
     ensures kept { OnErr result (chains_of pages.new.items ≡ chains_of pages.old.items) }
 {
     let at = page as usize;
@@ -83,7 +85,10 @@ fn has_content(chain: &[Head]) -> bool
 // Adds a link to a page that has a content.
 fn link(pages: &mut Vec<Vec<Head>>, page: PageId, head: Head) -> Result<(), LogError>
     ensures kept { OnErr result (chains_of pages.new.items ≡ chains_of pages.old.items) }
-    ensures made { Made result (chains_of pages.new.items) (if is_empty effect_of_head (slice_index_or (chains_of pages.old.items) page []) then None else Some (slice_set (chains_of pages.old.items) page (slice_index_or (chains_of pages.old.items) page [] ++ head ∷ []))) }
+    ensures made { Made result (chains_of pages.new.items)
+        (if is_empty effect_of_head (slice_index_or (chains_of pages.old.items) page []) then None
+        else Some (slice_set (chains_of pages.old.items) page
+        (slice_index_or (chains_of pages.old.items) page [] ++ head ∷ []))) }
 {
     let at = page as usize;
     if at >= pages.len() {
@@ -105,7 +110,8 @@ pub(crate) fn take_head(
     head: Head,
 ) -> Result<(), LogError>
     ensures kept { OnErr result (chains_of pages.new.items ≡ chains_of pages.old.items) }
-    ensures made { Made result (chains_of pages.new.items) (step_head (chains_of pages.old.items) page head) }
+    ensures made { Made result (chains_of pages.new.items)
+        (step_head (chains_of pages.old.items) page head) }
 {
     let pages_are = pages.len() as u64;
     match LogKind::from(head.kind) {

@@ -44,7 +44,8 @@ pub(crate) fn head_in(bytes: &[u8]) -> (RawHead, u64)
 
 // Whether a record with a payload of that length has the page id and the length of a batch's mark.
 pub(crate) fn is_mark(raw: RawHead, len: u64) -> bool
-    ensures is { (payload : List ℕ) → length payload ≡ len → result ≡ is_mark (raw_record raw payload) }
+    ensures is { (payload : List ℕ) → length payload ≡ len
+        → result ≡ is_mark (raw_record raw payload) }
     ensures len { result ≡ true → len ≡ 8 }
 {
     raw.kind == 3 && raw.page == u64::MAX - 666 && len == 8

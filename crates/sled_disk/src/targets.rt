@@ -43,7 +43,8 @@ impl Targets {
 
     /// Names a place. An error means out of memory, and leaves the places unchanged.
     pub(crate) fn push(&mut self, target: u64) -> Result<(), AllocError>
-        ensures named { OnOk result ((test : ℕ → Bool) → list_all test self.new ≡ (test target && list_all test self.old)) }
+        ensures named { OnOk result ((test : ℕ → Bool)
+            → list_all test self.new ≡ (test target && list_all test self.old)) }
         ensures kept { OnErr result (self.new ≡ self.old) }
     {
         self.heap.push(Reverse(target))?;
@@ -52,9 +53,11 @@ impl Targets {
 
     /// Takes away what names a place that is reached now, and says whether all others are behind it.
     pub(crate) fn reach(&mut self, at: u64) -> bool
-        ensures reached { (test : ℕ → Bool) → test at ≡ true → list_all test self.new ≡ list_all test self.old }
+        ensures reached { (test : ℕ → Bool) → test at ≡ true
+            → list_all test self.new ≡ list_all test self.old }
         ensures behind { result ≡ true → AllByRecursion (λ target. at < target) self.new }
-        ensures missed { result ≡ false → (test : ℕ → Bool) → ((target : ℕ) → target < at → test target ≡ false) → list_all test self.new ≡ false }
+        ensures missed { result ≡ false → (test : ℕ → Bool)
+            → ((target : ℕ) → target < at → test target ≡ false) → list_all test self.new ≡ false }
     {
         while let Some(Reverse(target)) = self.heap.peek() {
             if *target != at {

@@ -16,6 +16,7 @@ mod id_law;
 mod ids;
 mod many_names;
 mod memory;
+mod no_memory;
 mod opening_law;
 mod openings;
 mod pages;

@@ -37,7 +37,8 @@ pub(super) fn overlay(bytes: &mut Vec<u8>, at: usize, more: &[u8])
 pub(super) fn overlay_filled(bytes: &mut Vec<u8>, at: usize, more: &[u8], byte: u8)
     requires within { at ≤ vec_len bytes.old }
     requires room { at + length more.now ≤ vec_capacity bytes.old }
-    ensures items { bytes.new.items ≡ overlaid bytes.old.items at (replicate (length more.now) byte) }
+    ensures items { bytes.new.items
+        ≡ overlaid bytes.old.items at (replicate (length more.now) byte) }
     ensures capacity { vec_capacity bytes.old ≤ vec_capacity bytes.new }
 {
     overlay(bytes, at, more);
@@ -68,7 +69,9 @@ pub(super) fn replay(
     requires long { length left.old.items ≡ length seen.old.items }
     requires seen_room { length_after (length seen.old.items) call ≤ vec_capacity seen.old }
     requires left_room { length_after (length seen.old.items) call ≤ vec_capacity left.old }
-    ensures replayed { (image : Image) → IsReplayed fill image seen.old.items left.old.items → IsReplayed fill (after_call image (call_in written.now call)) seen.new.items left.new.items }
+    ensures replayed { (image : Image) → IsReplayed fill image seen.old.items left.old.items
+        → IsReplayed fill (after_call image (call_in written.now call)) seen.new.items
+        left.new.items }
     ensures length { length seen.new.items ≡ length_after (length seen.old.items) call }
     ensures long { length left.new.items ≡ length seen.new.items }
     ensures seen_capacity { vec_capacity seen.old ≤ vec_capacity seen.new }

@@ -155,7 +155,8 @@ impl MemDisk {
         ensures bytes { bytes_of self.new ≡ overlaid (bytes_of self.old) at bytes.now }
         ensures start { self.new.start.items ≡ self.old.start.items }
         ensures calls { calls_of self.new ≡ calls_of self.old ++ Write at bytes.now ∷ [] }
-        ensures room { room_of self.new ≡ (self.old.bytes_left - length bytes.now, self.old.calls_left - 1) }
+        ensures room { room_of self.new
+            ≡ (self.old.bytes_left - length bytes.now, self.old.calls_left - 1) }
         ensures faults { faults_of self.new ≡ faults_of self.old }
         ensures counts { counts_of self.new ≡ counts_of self.old }
     {
@@ -246,7 +247,8 @@ impl Disk for MemDisk {
     fn read_at(&mut self, at: u64, into: &mut [u8]) -> Result<(), LogError>
         ensures ok { is_ok result ≡ can_read self.old at (length into.old) }
         ensures within { OnOk result (at + length into.old ≤ length (bytes_of self.old)) }
-        ensures bytes { OnOk result (into.new ≡ take (length into.old) (drop at (bytes_of self.old))) }
+        ensures bytes { OnOk result
+            (into.new ≡ take (length into.old) (drop at (bytes_of self.old))) }
         ensures length { length into.new ≡ length into.old }
         ensures seen { bytes_of self.new ≡ bytes_of self.old }
         ensures stop { LeavesNoMore (may_leave_of self.old) (may_leave_of self.new) }
@@ -281,12 +283,17 @@ impl Disk for MemDisk {
     fn write_at(&mut self, at: u64, bytes: &[u8]) -> Result<(), LogError>
         ensures ok { is_ok result ≡ can_write self.old at (length bytes.now) }
         ensures within { OnOk result (at ≤ length (bytes_of self.old)) }
-        ensures written { OnOk result (bytes_of self.new ≡ overlaid (bytes_of self.old) at bytes.now) }
-        ensures tears { OnOk result (LeavesEach (Torn at (length bytes.now)) (may_leave_of self.old) (may_leave_of self.new)) }
-        ensures stop { Follows (Torn at (length bytes.now)) (may_leave_of self.old) (may_leave_of self.new) }
+        ensures written { OnOk result
+            (bytes_of self.new ≡ overlaid (bytes_of self.old) at bytes.now) }
+        ensures tears { OnOk result (LeavesEach (Torn at (length bytes.now)) (may_leave_of self.old)
+            (may_leave_of self.new)) }
+        ensures stop { Follows (Torn at (length bytes.now)) (may_leave_of self.old)
+            (may_leave_of self.new) }
         ensures time { Elapses clock_of might_have_left may_leave_of self.old self.new }
-        ensures room { OnOk result (room_of self.new ≡ (self.old.bytes_left - length bytes.now, self.old.calls_left - 1)) }
-        ensures kept { OnErr result ((image_now self.new ≡ image_now self.old) × (room_of self.new ≡ room_of self.old)) }
+        ensures room { OnOk result
+            (room_of self.new ≡ (self.old.bytes_left - length bytes.now, self.old.calls_left - 1)) }
+        ensures kept { OnErr result ((image_now self.new ≡ image_now self.old)
+            × (room_of self.new ≡ room_of self.old)) }
         ensures faults { faults_of self.new ≡ (self.old.read_to_fail, self.old.write_to_fail - 1) }
         ensures only { IfErr result (λ e. e ≡ WriteFault) }
         ensures cause { HasCause (counts_of self.old) (counts_of self.new) result }
@@ -308,8 +315,10 @@ impl Disk for MemDisk {
         ensures seen { bytes_of self.new ≡ bytes_of self.old }
         ensures stop { LeavesNoMore (may_leave_of self.old) (may_leave_of self.new) }
         ensures time { Elapses clock_of might_have_left may_leave_of self.old self.new }
-        ensures room { OnOk result (room_of self.new ≡ (self.old.bytes_left, self.old.calls_left - 1)) }
-        ensures kept { OnErr result ((image_now self.new ≡ image_now self.old) × (room_of self.new ≡ room_of self.old)) }
+        ensures room { OnOk result
+            (room_of self.new ≡ (self.old.bytes_left, self.old.calls_left - 1)) }
+        ensures kept { OnErr result ((image_now self.new ≡ image_now self.old)
+            × (room_of self.new ≡ room_of self.old)) }
         ensures faults { faults_of self.new ≡ (self.old.read_to_fail, self.old.write_to_fail - 1) }
         ensures only { IfErr result (λ e. e ≡ WriteFault) }
         ensures cause { HasCause (counts_of self.old) (counts_of self.new) result }

@@ -71,15 +71,26 @@ impl<D: Disk> Log for DiskLog<D> {
         payload: &[u8],
     ) -> Result<(Lsn, DiskPtr, u64), LogError>
         requires usable { (⟦<Self as Log>⟧.state self.old).usable ≡ true }
-        requires can { D.tells → can_append effect_of_entry (now effect_of_entry (⟦<Self as Log>⟧.state self.old)) pid kind ≡ true }
-        ensures called { Called D.tells ⟦<Self as Log>⟧.state ⟦<Self as Log>⟧.moment ⟦<Self as Log>⟧.left_since ⟦<Self as Log>⟧.counts self.old self.new self.old.reads (λ said. Change pid (placed (message kind payload.now) said) ∷ []) (Change pid (message kind payload.now) ∷ []) result }
-        ensures any_moment { D.tells → BytesLeft D.moment D.left_since self.old.disk self.new.disk (IsBeforeOrAfter (events_in (D.seen self.old.disk)) (events_with self.old.next kind pid payload.now)) }
-        ensures size { IfOk result (λ said. (said.2 ≡ head_size + length payload.now) × (said.2 < size_limit)) }
-        ensures sized { D.tells → OnOk result (AllByRecursion IsSized (now effect_of_entry (⟦<Self as Log>⟧.state self.new))) }
+        requires can { D.tells → can_append effect_of_entry
+            (now effect_of_entry (⟦<Self as Log>⟧.state self.old)) pid kind ≡ true }
+        ensures called { Called D.tells ⟦<Self as Log>⟧.state ⟦<Self as Log>⟧.moment
+            ⟦<Self as Log>⟧.left_since ⟦<Self as Log>⟧.counts self.old self.new self.old.reads
+            (λ said. Change pid (placed (message kind payload.now) said) ∷ [])
+            (Change pid (message kind payload.now) ∷ []) result }
+        ensures any_moment { D.tells
+            → BytesLeft D.moment D.left_since self.old.disk self.new.disk (IsBeforeOrAfter
+            (events_in (D.seen self.old.disk)) (events_with self.old.next kind pid payload.now)) }
+        ensures size { IfOk result (λ said. (said.2 ≡ head_size + length payload.now)
+            × (said.2 < size_limit)) }
+        ensures sized { D.tells → OnOk result
+            (AllByRecursion IsSized (now effect_of_entry (⟦<Self as Log>⟧.state self.new))) }
         ensures full { IsErrOf result Full ↔ IsFullFor self.old.next (length payload.now) }
-        ensures sound { can_append effect_of_head (chains_of self.old.pages.items) pid kind ≡ true → IsErrOf result Corruption → ⊥ }
-        ensures written { OnOk result (IsDue self.old.segment_size self.old.next (length payload.now) ↔ (⟦<Self as Log>⟧.to_write self.new ≡ 0)) }
-        ensures settings { (self.new.segment_size ≡ self.old.segment_size) × (self.new.clean_every ≡ self.old.clean_every) }
+        ensures sound { can_append effect_of_head (chains_of self.old.pages.items) pid kind ≡ true
+            → IsErrOf result Corruption → ⊥ }
+        ensures written { OnOk result (IsDue self.old.segment_size self.old.next
+            (length payload.now) ↔ (⟦<Self as Log>⟧.to_write self.new ≡ 0)) }
+        ensures settings { (self.new.segment_size ≡ self.old.segment_size)
+            × (self.new.clean_every ≡ self.old.clean_every) }
         ensures said { IfOk result (λ said. said ≡ said_of self.old.next payload.now) }
     {
         let place = self.add(kind, pid, payload)?;
@@ -99,15 +110,24 @@ impl<D: Disk> Log for DiskLog<D> {
         pointer: DiskPtr,
     ) -> Result<(MessageKind, Vec<u8>), LogError>
         requires usable { (⟦<Self as Log>⟧.state self.old).usable ≡ true }
-        requires known { D.tells → Any (IsAt lsn pointer) (slice_index_or (now effect_of_entry (⟦<Self as Log>⟧.state self.old)) pid []) }
-        ensures called { Called D.tells ⟦<Self as Log>⟧.state ⟦<Self as Log>⟧.moment ⟦<Self as Log>⟧.left_since ⟦<Self as Log>⟧.counts self.old self.new (one_more self.old.reads) (λ _. []) [] result }
-        ensures found { D.tells → IfOk result (λ found. All (λ entry. IsAt lsn pointer entry → IsRead entry found) (slice_index_or (now effect_of_entry (⟦<Self as Log>⟧.state self.old)) pid [])) }
-        ensures settings { (self.new.segment_size ≡ self.old.segment_size) × (self.new.clean_every ≡ self.old.clean_every) }
+        requires known { D.tells → Any (IsAt lsn pointer)
+            (slice_index_or (now effect_of_entry (⟦<Self as Log>⟧.state self.old)) pid []) }
+        ensures called { Called D.tells ⟦<Self as Log>⟧.state ⟦<Self as Log>⟧.moment
+            ⟦<Self as Log>⟧.left_since ⟦<Self as Log>⟧.counts self.old self.new
+            (one_more self.old.reads) (λ _. []) [] result }
+        ensures found { D.tells
+            → IfOk result (λ found. All (λ entry. IsAt lsn pointer entry → IsRead entry found)
+            (slice_index_or (now effect_of_entry (⟦<Self as Log>⟧.state self.old)) pid [])) }
+        ensures settings { (self.new.segment_size ≡ self.old.segment_size)
+            × (self.new.clean_every ≡ self.old.clean_every) }
         ensures room { (n : ℕ) → IsFullFor self.new.next n → IsFullFor self.old.next n }
         ensures not_full { IsErrOf result Full → ⊥ }
-        ensures rests { Rests D.tells D.seen D.may_leave D.moment D.left_since self.old.disk self.new.disk }
-        ensures memory { (at : ℕ) → pointer ≡ Inline at → self.old.next.gate < at → self.new.disk ≡ self.old.disk }
-        ensures sound { Any (λ head. pointer ≡ Inline head.place) (slice_index_or (chains_of self.old.pages.items) pid []) → IsErrOf result Corruption → ⊥ }
+        ensures rests { Rests D.tells D.seen D.may_leave D.moment D.left_since self.old.disk
+            self.new.disk }
+        ensures memory { (at : ℕ) → pointer ≡ Inline at → self.old.next.gate < at
+            → self.new.disk ≡ self.old.disk }
+        ensures sound { Any (λ head. pointer ≡ Inline head.place) (slice_index_or
+            (chains_of self.old.pages.items) pid []) → IsErrOf result Corruption → ⊥ }
     {
         count(&mut self.reads);
         let DiskPtr::Inline(at) = pointer else {
@@ -124,12 +144,16 @@ impl<D: Disk> Log for DiskLog<D> {
     fn make_stable(&mut self) -> Result<usize, LogError>
         requires usable { (⟦<Self as Log>⟧.state self.old).usable ≡ true }
         requires closed { is_open (⟦<Self as Log>⟧.state self.old).pending ≡ false }
-        ensures called { Called D.tells ⟦<Self as Log>⟧.state ⟦<Self as Log>⟧.moment ⟦<Self as Log>⟧.left_since ⟦<Self as Log>⟧.counts self.old self.new self.old.reads (λ _. []) [] result }
+        ensures called { Called D.tells ⟦<Self as Log>⟧.state ⟦<Self as Log>⟧.moment
+            ⟦<Self as Log>⟧.left_since ⟦<Self as Log>⟧.counts self.old self.new self.old.reads
+            (λ _. []) [] result }
         ensures stable { OnOk result ((⟦<Self as Log>⟧.state self.new).pending ≡ []) }
-        ensures settings { (self.new.segment_size ≡ self.old.segment_size) × (self.new.clean_every ≡ self.old.clean_every) }
+        ensures settings { (self.new.segment_size ≡ self.old.segment_size)
+            × (self.new.clean_every ≡ self.old.clean_every) }
         ensures number { IfOk result (λ n. n ≡ ⟦<Self as Log>⟧.to_write self.old) }
         ensures only { IfErr result (λ e. e ≡ WriteFault) }
-        ensures any_moment { D.tells → BytesLeft D.moment D.left_since self.old.disk self.new.disk (IsBeforeOrAfter (events_in (D.seen self.old.disk)) (events_of self.old.next)) }
+        ensures any_moment { D.tells → BytesLeft D.moment D.left_since self.old.disk self.new.disk
+            (IsBeforeOrAfter (events_in (D.seen self.old.disk)) (events_of self.old.next)) }
     {
         let bytes = self.next.to_write();
         if bytes == 0 {
@@ -143,9 +167,13 @@ impl<D: Disk> Log for DiskLog<D> {
     fn pin(&mut self) -> Result<(), LogError>
         requires usable { (⟦<Self as Log>⟧.state self.old).usable ≡ true }
         requires closed { is_open (⟦<Self as Log>⟧.state self.old).pending ≡ false }
-        ensures called { Called D.tells ⟦<Self as Log>⟧.state ⟦<Self as Log>⟧.moment ⟦<Self as Log>⟧.left_since ⟦<Self as Log>⟧.counts self.old self.new self.old.reads (λ _. Pin ∷ []) (Pin ∷ []) result }
-        ensures settings { (self.new.segment_size ≡ self.old.segment_size) × (self.new.clean_every ≡ self.old.clean_every) }
-        ensures rests { Rests D.tells D.seen D.may_leave D.moment D.left_since self.old.disk self.new.disk }
+        ensures called { Called D.tells ⟦<Self as Log>⟧.state ⟦<Self as Log>⟧.moment
+            ⟦<Self as Log>⟧.left_since ⟦<Self as Log>⟧.counts self.old self.new self.old.reads
+            (λ _. Pin ∷ []) (Pin ∷ []) result }
+        ensures settings { (self.new.segment_size ≡ self.old.segment_size)
+            × (self.new.clean_every ≡ self.old.clean_every) }
+        ensures rests { Rests D.tells D.seen D.may_leave D.moment D.left_since self.old.disk
+            self.new.disk }
         ensures full { IsErrOf result Full ↔ IsFullFor self.old.next 8 }
         ensures refusals { IfErr result (λ e. (e ≡ Memory) ⊎ (e ≡ Full)) }
     {
@@ -161,9 +189,12 @@ impl<D: Disk> Log for DiskLog<D> {
     fn seal(&mut self) -> Result<(), LogError>
         requires usable { (⟦<Self as Log>⟧.state self.old).usable ≡ true }
         requires opened { is_open (⟦<Self as Log>⟧.state self.old).pending ≡ true }
-        ensures called { Called D.tells ⟦<Self as Log>⟧.state ⟦<Self as Log>⟧.moment ⟦<Self as Log>⟧.left_since ⟦<Self as Log>⟧.counts self.old self.new self.old.reads (λ _. Seal ∷ []) (Seal ∷ []) result }
+        ensures called { Called D.tells ⟦<Self as Log>⟧.state ⟦<Self as Log>⟧.moment
+            ⟦<Self as Log>⟧.left_since ⟦<Self as Log>⟧.counts self.old self.new self.old.reads
+            (λ _. Seal ∷ []) (Seal ∷ []) result }
         ensures disk { self.new.disk ≡ self.old.disk }
-        ensures settings { (self.new.segment_size ≡ self.old.segment_size) × (self.new.clean_every ≡ self.old.clean_every) }
+        ensures settings { (self.new.segment_size ≡ self.old.segment_size)
+            × (self.new.clean_every ≡ self.old.clean_every) }
         ensures ok { IsOk result }
     {
         self.next.seal();
@@ -174,9 +205,12 @@ impl<D: Disk> Log for DiskLog<D> {
     fn cancel(&mut self) -> Result<(), LogError>
         requires usable { (⟦<Self as Log>⟧.state self.old).usable ≡ true }
         requires opened { is_open (⟦<Self as Log>⟧.state self.old).pending ≡ true }
-        ensures called { Called D.tells ⟦<Self as Log>⟧.state ⟦<Self as Log>⟧.moment ⟦<Self as Log>⟧.left_since ⟦<Self as Log>⟧.counts self.old self.new self.old.reads (λ _. Cancel ∷ []) (Cancel ∷ []) result }
+        ensures called { Called D.tells ⟦<Self as Log>⟧.state ⟦<Self as Log>⟧.moment
+            ⟦<Self as Log>⟧.left_since ⟦<Self as Log>⟧.counts self.old self.new self.old.reads
+            (λ _. Cancel ∷ []) (Cancel ∷ []) result }
         ensures disk { self.new.disk ≡ self.old.disk }
-        ensures settings { (self.new.segment_size ≡ self.old.segment_size) × (self.new.clean_every ≡ self.old.clean_every) }
+        ensures settings { (self.new.segment_size ≡ self.old.segment_size)
+            × (self.new.clean_every ≡ self.old.clean_every) }
         ensures ok { IsOk result }
     {
         self.next.cancel();
@@ -186,12 +220,18 @@ impl<D: Disk> Log for DiskLog<D> {
     // It fails for memory alone, whatever the disk gives.
     fn recover(&mut self) -> Result<Vec<PageState>, LogError>
         requires usable { (⟦<Self as Log>⟧.state self.old).usable ≡ true }
-        ensures called { Called D.tells ⟦<Self as Log>⟧.state ⟦<Self as Log>⟧.moment ⟦<Self as Log>⟧.left_since ⟦<Self as Log>⟧.counts self.old self.new self.old.reads (λ _. []) [] result }
-        ensures pages { D.tells → IfOk result (λ pages. AllZip IsPageState (now effect_of_entry (⟦<Self as Log>⟧.state self.old)) pages.items) }
-        ensures sized { D.tells → OnOk result (AllByRecursion IsSized (now effect_of_entry (⟦<Self as Log>⟧.state self.old))) }
-        ensures chains { D.tells → OnOk result (AllByRecursion (λ chain. is_chain effect_of_entry chain ≡ true) (now effect_of_entry (⟦<Self as Log>⟧.state self.old))) }
+        ensures called { Called D.tells ⟦<Self as Log>⟧.state ⟦<Self as Log>⟧.moment
+            ⟦<Self as Log>⟧.left_since ⟦<Self as Log>⟧.counts self.old self.new self.old.reads
+            (λ _. []) [] result }
+        ensures pages { D.tells → IfOk result (λ pages. AllZip IsPageState
+            (now effect_of_entry (⟦<Self as Log>⟧.state self.old)) pages.items) }
+        ensures sized { D.tells → OnOk result
+            (AllByRecursion IsSized (now effect_of_entry (⟦<Self as Log>⟧.state self.old))) }
+        ensures chains { D.tells → OnOk result (AllByRecursion (λ chain. is_chain effect_of_entry
+            chain ≡ true) (now effect_of_entry (⟦<Self as Log>⟧.state self.old))) }
         ensures disk { self.new.disk ≡ self.old.disk }
-        ensures settings { (self.new.segment_size ≡ self.old.segment_size) × (self.new.clean_every ≡ self.old.clean_every) }
+        ensures settings { (self.new.segment_size ≡ self.old.segment_size)
+            × (self.new.clean_every ≡ self.old.clean_every) }
         ensures room { (n : ℕ) → IsFullFor self.new.next n → IsFullFor self.old.next n }
         ensures only { IfErr result (λ e. e ≡ Memory) }
     {

@@ -31,8 +31,10 @@ fn head_at(chain: &[Head], at: LogOffset) -> Option<Head>
 
 // The head of the record of a page at a place.
 pub(crate) fn find(pages: &[Vec<Head>], pid: PageId, at: LogOffset) -> Option<Head>
-    ensures some { IfSome result (λ head. IsHeadOf at head (slice_index_or (chains_of pages.now) pid [])) }
-    ensures none { IfNone result (AllByRecursion (λ head. head.place ≢ at) (slice_index_or (chains_of pages.now) pid [])) }
+    ensures some { IfSome result
+        (λ head. IsHeadOf at head (slice_index_or (chains_of pages.now) pid [])) }
+    ensures none { IfNone result
+        (AllByRecursion (λ head. head.place ≢ at) (slice_index_or (chains_of pages.now) pid [])) }
 {
     if pid >= pages.len() as u64 {
         return None;
@@ -42,7 +44,8 @@ pub(crate) fn find(pages: &[Vec<Head>], pid: PageId, at: LogOffset) -> Option<He
 
 // So many bytes at a place of a disk.
 fn bytes_on<D: Disk>(alloc: Global, disk: &mut D, at: u64, len: usize) -> Result<Vec<u8>, LogError>
-    ensures bytes { D.tells → IfOk result (λ bytes. bytes.items ≡ take len (drop at (D.seen disk.old))) }
+    ensures bytes { D.tells
+        → IfOk result (λ bytes. bytes.items ≡ take len (drop at (D.seen disk.old))) }
     ensures only { IfErr result (λ e. (e ≡ Memory) ⊎ (e ≡ ReadFault)) }
     ensures rests { Rests D.tells D.seen D.may_leave D.moment D.left_since disk.old disk.new }
     ensures faults { ReadFaults (D.counts disk.old) (D.counts disk.new) result }
@@ -59,14 +62,18 @@ impl<D: Disk> DiskLog<D> {
         requires placed { IsPlaced head }
         requires ends { EndsBy (place_of self.old.next) head }
         ensures next { self.new.next ≡ self.old.next }
-        ensures settings { (self.new.segment_size ≡ self.old.segment_size) × (self.new.clean_every ≡ self.old.clean_every) }
+        ensures settings { (self.new.segment_size ≡ self.old.segment_size)
+            × (self.new.clean_every ≡ self.old.clean_every) }
         ensures usable { self.new.usable ≡ true }
         ensures reads { self.new.reads ≡ self.old.reads }
-        ensures durable { D.tells → head.place ≤ self.old.next.gate → IfOk result (λ bytes. bytes.items ≡ take head.len (drop (head.place + 17) (D.seen self.old.disk))) }
-        ensures pending { self.old.next.gate < head.place → IfOk result (λ bytes. bytes.items ≡ take head.len (drop (head.place - self.old.next.gate - 1 + 17) self.old.next.buffer.items)) }
+        ensures durable { D.tells → head.place ≤ self.old.next.gate → IfOk result
+            (λ bytes. bytes.items ≡ take head.len (drop (head.place + 17) (D.seen self.old.disk))) }
+        ensures pending { self.old.next.gate < head.place → IfOk result (λ bytes. bytes.items ≡ take
+            head.len (drop (head.place - self.old.next.gate - 1 + 17) self.old.next.buffer.items)) }
         ensures memory { self.old.next.gate < head.place → self.new.disk ≡ self.old.disk }
         ensures only { IfErr result (λ e. (e ≡ Memory) ⊎ (e ≡ ReadFault)) }
-        ensures rests { Rests D.tells D.seen D.may_leave D.moment D.left_since self.old.disk self.new.disk }
+        ensures rests { Rests D.tells D.seen D.may_leave D.moment D.left_since self.old.disk
+            self.new.disk }
         ensures faults { ReadFaults (D.counts self.old.disk) (D.counts self.new.disk) result }
     {
         let gate = self.next.gate();

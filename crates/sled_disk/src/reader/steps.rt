@@ -25,7 +25,8 @@ use std::alloc::Global;
 
 // Names the place that a mark which stands at `at` names. A place before the mark is Corruption.
 fn name(targets: &mut Targets, at: u64, target: u64) -> Result<(), LogError>
-    ensures named { OnOk result ((test : ℕ → Bool) → list_all test targets.new ≡ ((target == at || test target) && list_all test targets.old)) }
+    ensures named { OnOk result ((test : ℕ → Bool) → list_all test targets.new
+        ≡ ((target == at || test target) && list_all test targets.old)) }
     ensures kept { OnErr result (targets.new ≡ targets.old) }
     ensures before { IsErrOf result Corruption → target < at }
     ensures only { IfErr result (λ e. (e ≡ Memory) ⊎ (e ≡ Corruption)) }
@@ -82,8 +83,10 @@ impl Reader {
         ensures kept { self.old.at ≤ self.new.at }
         ensures further { IfOk result (λ opened. opened ≡ true → self.old.at < self.new.at) }
         ensures small { IfOk result (λ opened. opened ≡ false → self.new.at < 2 ^ 63) }
-        ensures closed { D.tells → IfOk result (λ opened. opened ≡ false → found_at 8 [] (drop 8 (D.seen disk.old)) ≡ Some (self.new.at, chains_of self.new.pages.items)) }
-        ensures corrupt { D.tells → IsErrOf result Corruption → found_at 8 [] (drop 8 (D.seen disk.old)) ≡ None }
+        ensures closed { D.tells → IfOk result (λ opened. opened ≡ false → found_at 8 []
+            (drop 8 (D.seen disk.old)) ≡ Some (self.new.at, chains_of self.new.pages.items)) }
+        ensures corrupt { D.tells → IsErrOf result Corruption
+            → found_at 8 [] (drop 8 (D.seen disk.old)) ≡ None }
         ensures only { IfErr result (λ e. (e ≡ Memory) ⊎ (e ≡ ReadFault) ⊎ (e ≡ Corruption)) }
         ensures rests { Rests D.tells D.seen D.may_leave D.moment D.left_since disk.old disk.new }
         ensures faults { ReadFaults (D.counts disk.old) (D.counts disk.new) result }
@@ -116,7 +119,8 @@ impl Reader {
         ensures end { self.new.end ≡ self.old.end }
         ensures kept { self.old.at ≤ self.new.at }
         ensures further { OnOk result (self.old.at < self.new.at) }
-        ensures corrupt { D.tells → IsErrOf result Corruption → found_at 8 [] (drop 8 (D.seen disk.old)) ≡ None }
+        ensures corrupt { D.tells → IsErrOf result Corruption
+            → found_at 8 [] (drop 8 (D.seen disk.old)) ≡ None }
         ensures only { IfErr result (λ e. (e ≡ Memory) ⊎ (e ≡ ReadFault) ⊎ (e ≡ Corruption)) }
         ensures rests { Rests D.tells D.seen D.may_leave D.moment D.left_since disk.old disk.new }
         ensures faults { ReadFaults (D.counts disk.old) (D.counts disk.new) result }

@@ -3,7 +3,7 @@
 use super::*;
 
 // Puts a number at the end, the lowest byte first.
-fn put(file: &mut Vec<u8>, number: u64) -> bool {
+pub(super) fn put(file: &mut Vec<u8>, number: u64) -> bool {
     file.extend_from_slice(&number.to_le_bytes()).is_ok()
 }
 
@@ -17,11 +17,15 @@ fn put_batch(file: &mut Vec<u8>, target: u64) -> bool {
     put_head(file, 3, u64::MAX - 666, 8) && put(file, target)
 }
 
+// Puts an open gate and the length of a body at the end.
+pub(super) fn put_body(file: &mut Vec<u8>, len: u64) -> bool {
+    file.push(1).is_ok() && put(file, len)
+}
+
 // Begins a file with a frame of so many bytes of records.
 pub(super) fn front(alloc: Global, len: u64) -> Option<Vec<u8>> {
     let mut file = b"SLPCLOG1".to_vec(alloc).ok()?;
-    file.push(1).ok()?;
-    if put(&mut file, len) {
+    if put_body(&mut file, len) {
         Some(file)
     } else {
         None

@@ -1,5 +1,6 @@
 // Files of any bytes that are opened.
 
+use super::marks::{put, put_body, put_head};
 use super::*;
 
 #[derive(Clone, Copy, PartialEq, Eq, Debug)]
@@ -30,383 +31,161 @@ fn outcome_of(alloc: Global, bytes: &[u8]) -> Outcome {
 
 const OPENING: &[u8] = b"SLPCLOG1";
 
-const CLOSED: &[u8] = &[0];
+const BATCH: u64 = u64::MAX - 666;
 
-// An open gate and the length of a body.
-const BODY_17: &[u8] = &[1, 17, 0, 0, 0, 0, 0, 0, 0];
+/// A part of a file.
+#[derive(Clone, Copy)]
+enum Part {
+    Bytes(&'static [u8]),
+    // an open gate, and the length of a body
+    Body(u64),
+    // the kind of a record, its page, and the length of its payload
+    Head(u8, u64, u64),
+    // a whole frame of one record, with no payload
+    Frame(u8, u64),
+    // the payload of a batch's mark. The first record of the first frame stands at 17, and the second one behind a batch's mark at 42,
+    // and behind one with no payload at 34
+    Place(u64),
+}
 
-const BODY_18: &[u8] = &[1, 18, 0, 0, 0, 0, 0, 0, 0];
-
-const BODY_25: &[u8] = &[1, 25, 0, 0, 0, 0, 0, 0, 0];
-
-const BODY_34: &[u8] = &[1, 34, 0, 0, 0, 0, 0, 0, 0];
-
-const BODY_42: &[u8] = &[1, 42, 0, 0, 0, 0, 0, 0, 0];
-
-const BODY_59: &[u8] = &[1, 59, 0, 0, 0, 0, 0, 0, 0];
-
-const NO_PAYLOAD: &[u8] = &[0; 8];
-
-const ONE_BYTE: &[u8] = &[1, 0, 0, 0, 0, 0, 0, 0];
-
-const EIGHT_BYTES: &[u8] = &[8, 0, 0, 0, 0, 0, 0, 0];
-
-const ENDLESS: &[u8] = &[255; 8];
-
-const PAGE_0: &[u8] = &[0; 8];
-
-const PAGE_1: &[u8] = &[1, 0, 0, 0, 0, 0, 0, 0];
-
-const LAST_PAGE: &[u8] = &[255; 8];
-
-const BATCH: &[u8] = &[0x65, 0xfd, 255, 255, 255, 255, 255, 255];
-
-// Where the first record of the first frame stands, and the second one behind a batch's record or one with no payload.
-const AT_17: &[u8] = &[17, 0, 0, 0, 0, 0, 0, 0];
-
-const AT_34: &[u8] = &[34, 0, 0, 0, 0, 0, 0, 0];
-
-const AT_42: &[u8] = &[42, 0, 0, 0, 0, 0, 0, 0];
-
-const AT_59: &[u8] = &[59, 0, 0, 0, 0, 0, 0, 0];
+use Part::{Body, Bytes, Frame, Head, Place};
 
 // A file of these parts behind its opening.
-type File = (&'static [&'static [u8]], Outcome);
+type File = (&'static [Part], Outcome);
 
-const FILES: &[File] = &[
-    (&[CLOSED], Opens(0, 9)),
-    (&[CLOSED, b"anything"], Opens(0, 9)),
+// Files with no closed gate behind their parts.
+const ENDS: &[File] = &[
+    (&[Bytes(&[0]), Bytes(b"anything")], Opens(0, 9)),
     (&[], Corrupt),
-    (&[&[1]], Corrupt),
-    (&[&[255], NO_PAYLOAD], Corrupt),
+    (&[Bytes(&[1])], Corrupt),
+    (&[Bytes(&[255]), Bytes(&[0; 8])], Corrupt),
+    (&[Body(17), Bytes(&[6]), Bytes(&[0; 15])], Corrupt),
+    (&[Frame(6, 0)], Corrupt),
+];
+
+// Files with one.
+const FILES: &[File] = &[
+    (&[], Opens(0, 9)),
     // lengths of a body: none, past the end, and far past it
-    (&[&[1], NO_PAYLOAD, CLOSED], Corrupt),
-    (&[BODY_17, &[6], PAGE_0, &[0; 7]], Corrupt),
-    (&[BODY_17, &[6], PAGE_0, NO_PAYLOAD], Corrupt),
-    (&[&[1], ENDLESS, &[6], PAGE_0, NO_PAYLOAD, CLOSED], Corrupt),
+    (&[Body(0)], Corrupt),
+    (&[Body(u64::MAX), Head(6, 0, 0)], Corrupt),
     // one record, and any byte but 0 opens its gate
-    (&[BODY_17, &[6], PAGE_0, NO_PAYLOAD, CLOSED], Opens(1, 35)),
+    (&[Frame(6, 0)], Opens(1, 35)),
     (
-        &[
-            &[255, 17, 0, 0, 0, 0, 0, 0, 0],
-            &[6],
-            PAGE_0,
-            NO_PAYLOAD,
-            CLOSED,
-        ],
+        &[Bytes(&[255, 17, 0, 0, 0, 0, 0, 0, 0]), Head(6, 0, 0)],
         Opens(1, 35),
     ),
     // records that are cut off, and lengths of a payload that pass the end of the body
-    (&[BODY_18, &[6], PAGE_0, NO_PAYLOAD, &[6], CLOSED], Corrupt),
-    (&[BODY_17, &[6], PAGE_0, ONE_BYTE, CLOSED], Corrupt),
-    (&[BODY_17, &[6], PAGE_0, ONE_BYTE, &[7], CLOSED], Corrupt),
-    (
-        &[BODY_18, &[6], PAGE_0, ONE_BYTE, &[7], CLOSED],
-        Opens(1, 36),
-    ),
-    (&[BODY_18, &[6], PAGE_0, ENDLESS, &[7], CLOSED], Corrupt),
+    (&[Body(18), Head(6, 0, 0), Bytes(&[6])], Corrupt),
+    (&[Body(17), Head(6, 0, 1)], Corrupt),
+    (&[Body(17), Head(6, 0, 1), Bytes(&[7])], Corrupt),
+    (&[Body(18), Head(6, 0, 1), Bytes(&[7])], Opens(1, 36)),
+    (&[Body(18), Head(6, 0, u64::MAX), Bytes(&[7])], Corrupt),
     // kinds that put a content: 5 to 9, on a page that is there or on the next
-    (&[BODY_17, &[5], PAGE_0, NO_PAYLOAD, CLOSED], Opens(1, 35)),
-    (&[BODY_17, &[7], PAGE_0, NO_PAYLOAD, CLOSED], Opens(1, 35)),
-    (&[BODY_17, &[8], PAGE_0, NO_PAYLOAD, CLOSED], Opens(1, 35)),
-    (&[BODY_17, &[9], PAGE_0, NO_PAYLOAD, CLOSED], Opens(1, 35)),
-    (&[BODY_17, &[8], PAGE_1, NO_PAYLOAD, CLOSED], Corrupt),
-    (&[BODY_17, &[8], LAST_PAGE, NO_PAYLOAD, CLOSED], Corrupt),
-    (
-        &[
-            BODY_34,
-            &[8],
-            PAGE_0,
-            NO_PAYLOAD,
-            &[8],
-            PAGE_1,
-            NO_PAYLOAD,
-            CLOSED,
-        ],
-        Opens(2, 52),
-    ),
-    (
-        &[
-            BODY_34,
-            &[8],
-            PAGE_0,
-            NO_PAYLOAD,
-            &[8],
-            PAGE_0,
-            NO_PAYLOAD,
-            CLOSED,
-        ],
-        Opens(1, 52),
-    ),
+    (&[Frame(5, 0)], Opens(1, 35)),
+    (&[Frame(7, 0)], Opens(1, 35)),
+    (&[Frame(8, 0)], Opens(1, 35)),
+    (&[Frame(9, 0)], Opens(1, 35)),
+    (&[Frame(8, 1)], Corrupt),
+    (&[Frame(8, u64::MAX)], Corrupt),
+    (&[Body(34), Head(8, 0, 0), Head(8, 1, 0)], Opens(2, 52)),
+    (&[Body(34), Head(8, 0, 0), Head(8, 0, 0)], Opens(1, 52)),
     // kinds that no record has
-    (&[BODY_17, &[0], PAGE_0, NO_PAYLOAD, CLOSED], Corrupt),
-    (&[BODY_17, &[2], PAGE_0, NO_PAYLOAD, CLOSED], Corrupt),
-    (&[BODY_17, &[12], PAGE_0, NO_PAYLOAD, CLOSED], Corrupt),
-    (&[BODY_17, &[255], PAGE_0, NO_PAYLOAD, CLOSED], Corrupt),
+    (&[Frame(0, 0)], Corrupt),
+    (&[Frame(2, 0)], Corrupt),
+    (&[Frame(12, 0)], Corrupt),
+    (&[Frame(255, 0)], Corrupt),
     // a cancelled batch is skipped, whatever its page and payload
-    (
-        &[BODY_17, &[1], LAST_PAGE, NO_PAYLOAD, CLOSED],
-        Opens(0, 35),
-    ),
-    (
-        &[BODY_18, &[1], PAGE_1, ONE_BYTE, &[3], CLOSED],
-        Opens(0, 36),
-    ),
+    (&[Frame(1, u64::MAX)], Opens(0, 35)),
+    (&[Body(18), Head(1, 1, 1), Bytes(&[3])], Opens(0, 36)),
     // frees and links want a page, and links one that has a content
-    (&[BODY_17, &[4], PAGE_0, NO_PAYLOAD, CLOSED], Corrupt),
-    (&[BODY_17, &[10], PAGE_0, NO_PAYLOAD, CLOSED], Corrupt),
-    (
-        &[
-            BODY_34,
-            &[8],
-            PAGE_0,
-            NO_PAYLOAD,
-            &[4],
-            PAGE_0,
-            NO_PAYLOAD,
-            CLOSED,
-        ],
-        Opens(1, 52),
-    ),
-    (
-        &[
-            BODY_34,
-            &[8],
-            PAGE_0,
-            NO_PAYLOAD,
-            &[4],
-            PAGE_1,
-            NO_PAYLOAD,
-            CLOSED,
-        ],
-        Corrupt,
-    ),
-    (
-        &[
-            BODY_34,
-            &[8],
-            PAGE_0,
-            NO_PAYLOAD,
-            &[10],
-            PAGE_0,
-            NO_PAYLOAD,
-            CLOSED,
-        ],
-        Opens(1, 52),
-    ),
-    (
-        &[
-            BODY_34,
-            &[8],
-            PAGE_0,
-            NO_PAYLOAD,
-            &[11],
-            PAGE_0,
-            NO_PAYLOAD,
-            CLOSED,
-        ],
-        Opens(1, 52),
-    ),
-    (
-        &[
-            BODY_34,
-            &[8],
-            PAGE_0,
-            NO_PAYLOAD,
-            &[10],
-            LAST_PAGE,
-            NO_PAYLOAD,
-            CLOSED,
-        ],
-        Corrupt,
-    ),
-    (
-        &[
-            BODY_17,
-            &[8],
-            PAGE_0,
-            NO_PAYLOAD,
-            BODY_17,
-            &[4],
-            PAGE_0,
-            NO_PAYLOAD,
-            BODY_17,
-            &[10],
-            PAGE_0,
-            NO_PAYLOAD,
-            CLOSED,
-        ],
-        Corrupt,
-    ),
-    (
-        &[
-            BODY_17,
-            &[8],
-            PAGE_0,
-            NO_PAYLOAD,
-            BODY_17,
-            &[4],
-            PAGE_0,
-            NO_PAYLOAD,
-            BODY_17,
-            &[4],
-            PAGE_0,
-            NO_PAYLOAD,
-            CLOSED,
-        ],
-        Opens(1, 87),
-    ),
+    (&[Frame(4, 0)], Corrupt),
+    (&[Frame(10, 0)], Corrupt),
+    (&[Body(34), Head(8, 0, 0), Head(4, 0, 0)], Opens(1, 52)),
+    (&[Body(34), Head(8, 0, 0), Head(4, 1, 0)], Corrupt),
+    (&[Body(34), Head(8, 0, 0), Head(10, 0, 0)], Opens(1, 52)),
+    (&[Body(34), Head(8, 0, 0), Head(11, 0, 0)], Opens(1, 52)),
+    (&[Body(34), Head(8, 0, 0), Head(10, u64::MAX, 0)], Corrupt),
+    (&[Frame(8, 0), Frame(4, 0), Frame(10, 0)], Corrupt),
+    (&[Frame(8, 0), Frame(4, 0), Frame(4, 0)], Opens(1, 87)),
     // the mark of a batch names itself or a later record of its frame
+    (&[Body(25), Head(3, BATCH, 8), Place(17)], Opens(0, 43)),
+    (&[Body(25), Head(3, BATCH, 8), Place(0)], Corrupt),
+    (&[Body(25), Head(3, BATCH, 8), Place(42)], Corrupt),
+    (&[Body(25), Head(3, BATCH, 8), Place(u64::MAX)], Corrupt),
+    (&[Body(25), Head(3, 0, 8), Place(17)], Corrupt),
+    (&[Frame(3, BATCH)], Corrupt),
     (
-        &[BODY_25, &[3], BATCH, EIGHT_BYTES, AT_17, CLOSED],
-        Opens(0, 43),
-    ),
-    (
-        &[BODY_25, &[3], BATCH, EIGHT_BYTES, NO_PAYLOAD, CLOSED],
-        Corrupt,
-    ),
-    (&[BODY_25, &[3], BATCH, EIGHT_BYTES, AT_42, CLOSED], Corrupt),
-    (
-        &[BODY_25, &[3], BATCH, EIGHT_BYTES, ENDLESS, CLOSED],
-        Corrupt,
-    ),
-    (
-        &[BODY_25, &[3], PAGE_0, EIGHT_BYTES, AT_17, CLOSED],
-        Corrupt,
-    ),
-    (&[BODY_17, &[3], BATCH, NO_PAYLOAD, CLOSED], Corrupt),
-    (
-        &[
-            BODY_42,
-            &[3],
-            BATCH,
-            EIGHT_BYTES,
-            AT_42,
-            &[8],
-            PAGE_0,
-            NO_PAYLOAD,
-            CLOSED,
-        ],
+        &[Body(42), Head(3, BATCH, 8), Place(42), Head(8, 0, 0)],
         Opens(1, 60),
     ),
     (
-        &[
-            BODY_42,
-            &[3],
-            BATCH,
-            EIGHT_BYTES,
-            AT_34,
-            &[8],
-            PAGE_0,
-            NO_PAYLOAD,
-            CLOSED,
-        ],
+        &[Body(42), Head(3, BATCH, 8), Place(34), Head(8, 0, 0)],
         Corrupt,
     ),
     (
-        &[
-            BODY_42,
-            &[3],
-            BATCH,
-            EIGHT_BYTES,
-            AT_59,
-            &[8],
-            PAGE_0,
-            NO_PAYLOAD,
-            CLOSED,
-        ],
+        &[Body(42), Head(3, BATCH, 8), Place(59), Head(8, 0, 0)],
         Corrupt,
     ),
     (
-        &[
-            BODY_42,
-            &[8],
-            PAGE_0,
-            NO_PAYLOAD,
-            &[3],
-            BATCH,
-            EIGHT_BYTES,
-            AT_34,
-            CLOSED,
-        ],
+        &[Body(42), Head(8, 0, 0), Head(3, BATCH, 8), Place(34)],
         Opens(1, 60),
     ),
     (
-        &[
-            BODY_42,
-            &[8],
-            PAGE_0,
-            NO_PAYLOAD,
-            &[3],
-            BATCH,
-            EIGHT_BYTES,
-            AT_17,
-            CLOSED,
-        ],
+        &[Body(42), Head(8, 0, 0), Head(3, BATCH, 8), Place(17)],
         Corrupt,
     ),
     (
         &[
-            BODY_59,
-            &[3],
-            BATCH,
-            EIGHT_BYTES,
-            AT_59,
-            &[8],
-            PAGE_0,
-            NO_PAYLOAD,
-            &[8],
-            PAGE_1,
-            NO_PAYLOAD,
-            CLOSED,
+            Body(59),
+            Head(3, BATCH, 8),
+            Place(59),
+            Head(8, 0, 0),
+            Head(8, 1, 0),
         ],
         Opens(2, 77),
     ),
     (
         &[
-            BODY_59,
-            &[3],
-            BATCH,
-            EIGHT_BYTES,
-            AT_42,
-            &[8],
-            PAGE_0,
-            NO_PAYLOAD,
-            &[8],
-            PAGE_1,
-            NO_PAYLOAD,
-            CLOSED,
+            Body(59),
+            Head(3, BATCH, 8),
+            Place(42),
+            Head(8, 0, 0),
+            Head(8, 1, 0),
         ],
         Opens(2, 77),
     ),
     // a record of the next frame is none of its own
     (
-        &[
-            BODY_25,
-            &[3],
-            BATCH,
-            EIGHT_BYTES,
-            &[51, 0, 0, 0, 0, 0, 0, 0],
-            BODY_17,
-            &[8],
-            PAGE_0,
-            NO_PAYLOAD,
-            CLOSED,
-        ],
+        &[Body(25), Head(3, BATCH, 8), Place(51), Frame(8, 0)],
         Corrupt,
     ),
 ];
 
-fn file_of(alloc: Global, parts: &[&[u8]]) -> Option<Vec<u8>> {
+fn put_part(file: &mut Vec<u8>, part: &Part) -> bool {
+    match *part {
+        Bytes(bytes) => file.extend_from_slice(bytes).is_ok(),
+        Body(len) => put_body(file, len),
+        Head(kind, page, len) => put_head(file, kind, page, len),
+        Frame(kind, page) => put_body(file, 17) && put_head(file, kind, page, 0),
+        Place(at) => put(file, at),
+    }
+}
+
+fn file_of(alloc: Global, parts: &[Part], end: &[u8]) -> Option<Vec<u8>> {
     let mut file = OPENING.to_vec(alloc).ok()?;
     for part in parts {
-        file.extend_from_slice(part).ok()?;
+        if !put_part(&mut file, part) {
+            return None;
+        }
     }
+    file.extend_from_slice(end).ok()?;
     Some(file)
 }
 
-fn is_so(alloc: Global, file: &File) -> bool {
-    match file_of(alloc, file.0) {
+// Whether a file with this end behind its parts is opened so.
+fn is_so(alloc: Global, file: &File, end: &[u8]) -> bool {
+    match file_of(alloc, file.0, end) {
         Some(bytes) => outcome_of(alloc, &bytes) == file.1,
         None => false,
     }
@@ -414,8 +193,11 @@ fn is_so(alloc: Global, file: &File) -> bool {
 
 #[test]
 fn a_file_opens_or_is_corrupt(rt: HostRuntime) {
+    for (at, file) in ENDS.iter().enumerate() {
+        assert!(rt; is_so(rt.alloc(), file, &[]), "file {at} that ends so");
+    }
     for (at, file) in FILES.iter().enumerate() {
-        assert!(rt; is_so(rt.alloc(), file), "file {at}");
+        assert!(rt; is_so(rt.alloc(), file, &[0]), "file {at}");
     }
 }
 

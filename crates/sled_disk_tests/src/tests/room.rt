@@ -1,6 +1,7 @@
 // A disk that keeps what is written until it is handed on, and takes the memory for it only where it is asked to make room.
 
 ghost use Rattle.std.specs.Prelude.{[]};
+ghost use Rattle.sled_disk.specs.DiskMemory.{counts_of};
 
 use super::*;
 use sled_base::MessageKind;
@@ -11,22 +12,6 @@ struct KeepingDisk {
     // the most that it has memory for, and what it has made room for and was not written yet
     most: usize,
     room: usize,
-    reads: u64,
-    failed_reads: u64,
-    write_faults: u64,
-}
-
-impl KeepingDisk {
-    fn over(inner: MemDisk, most: usize) -> KeepingDisk {
-        KeepingDisk {
-            inner,
-            most,
-            room: 0,
-            reads: 0,
-            failed_reads: 0,
-            write_faults: 0,
-        }
-    }
 }
 
 impl Disk for KeepingDisk {
@@ -40,7 +25,7 @@ impl Disk for KeepingDisk {
 
     ghost left_since = { λ _ _ _. ⊥ };
 
-    ghost counts = { λ disk. record { reads = disk.reads; failed_reads = disk.failed_reads; write_faults = disk.write_faults } };
+    ghost counts = { λ disk. counts_of disk.inner };
 
     ghost are_bytes = { λ disk i told. absurd told };
 
@@ -53,21 +38,11 @@ impl Disk for KeepingDisk {
     ghost since_earlier = { λ disk t u left told le was. absurd told };
 
     fn len(&mut self) -> Result<u64, LogError> {
-        count(&mut self.reads);
-        let read = self.inner.len();
-        if read.is_err() {
-            count(&mut self.failed_reads);
-        }
-        read
+        self.inner.len()
     }
 
     fn read_at(&mut self, at: u64, into: &mut [u8]) -> Result<(), LogError> {
-        count(&mut self.reads);
-        let read = self.inner.read_at(at, into);
-        if read.is_err() {
-            count(&mut self.failed_reads);
-        }
-        read
+        self.inner.read_at(at, into)
     }
 
     fn make_room(&mut self, len: usize) -> Result<(), LogError> {
@@ -80,38 +55,38 @@ impl Disk for KeepingDisk {
 
     // A write for which no room was made is a fault.
     fn write_at(&mut self, at: u64, bytes: &[u8]) -> Result<(), LogError> {
-        if bytes.len() > self.room || self.inner.write_at(at, bytes).is_err() {
-            count(&mut self.write_faults);
-            return Err(LogError::WriteFault);
+        if bytes.len() > self.room {
+            self.inner.fail_write(1);
         }
-        self.room -= bytes.len();
+        self.inner.write_at(at, bytes)?;
+        self.room = self.room.saturating_sub(bytes.len());
         Ok(())
     }
 
     fn sync(&mut self) -> Result<(), LogError> {
-        if self.inner.sync().is_err() {
-            count(&mut self.write_faults);
-            return Err(LogError::WriteFault);
-        }
-        Ok(())
+        self.inner.sync()
     }
 
     fn reads(&self) -> u64 {
-        self.reads
+        self.inner.reads()
     }
 
     fn failed_reads(&self) -> u64 {
-        self.failed_reads
+        self.inner.failed_reads()
     }
 
     fn write_faults(&self) -> u64 {
-        self.write_faults
+        self.inner.write_faults()
     }
 }
 
 // A new log over a disk with memory for so many bytes at a time: a frame of two pages, and one of a batch.
 fn kept(alloc: Global, most: usize) -> Result<(), LogError> {
-    let mut disk = KeepingDisk::over(MemDisk::new(alloc, 4096)?, most);
+    let mut disk = KeepingDisk {
+        inner: MemDisk::new(alloc, 4096)?,
+        most,
+        room: 0,
+    };
     DiskLog::create(&mut disk)?;
     let mut log = DiskLog::open(alloc, disk, 4096, 0).map_err(|(error, _)| error)?;
     log.append(MessageKind::InlineMeta, 0, &[])?;

@@ -1,6 +1,6 @@
-// A caller of the law on crashes.
+// Crashes of caches over the log in memory, and a caller of the law on them.
 
-ghost use Rattle.std.specs.Prelude.{◌≡◌, false, IfOk};
+ghost use Rattle.std.specs.Prelude.{◌≡◌, false, IfOk, IfSome};
 ghost use Rattle.sled_log.specs.Batches.{IsFair};
 ghost use Rattle.sled_log.specs.Memory.{state_of};
 ghost use Rattle.sled_log.specs.contracts.memory.calls.MemLogLog.TheImpl as mem;
@@ -8,6 +8,7 @@ ghost use Rattle.sled_log.specs.declared.memory.MemLog.{MemLog};
 ghost use Rattle.sled_pagecache.specs.Cache.{Cache as CacheModel, IsIn};
 ghost use Rattle.sled_pagecache.specs.Calls.{StepOver, Steps};
 ghost use Rattle.sled_pagecache.specs.Logged.{Logged};
+ghost use Rattle.sled_pagecache.specs.Openings.{Crashed, Leaves};
 ghost use Rattle.sled_pagecache.specs.Reopening.{Reopens};
 ghost use Rattle.sled_pagecache.specs.State.{State};
 ghost use Rattle.sled_pagecache.specs.Step.{Outcome};
@@ -16,6 +17,21 @@ ghost use Rattle.sled_pagecache.specs.declared.pagecache.call.Call.{Call};
 
 use super::*;
 use sled_pagecache::laws::a_crash_reopens_to_a_prefix;
+
+// What a crash leaves of the log of a cache that keeps so many of the pending events. There is none while a batch is open, or where there
+// are fewer events.
+pub(super) fn crashed(cache: PageCache<MemLog>, keeps: usize) -> Option<MemLog>
+    ensures { IfSome result (Leaves mem.ghosts cache Crashed) }
+{
+    if cache.batch_open() {
+        return None;
+    }
+    let log = cache.into_log();
+    if !log.is_fair(keeps) {
+        return None;
+    }
+    Some(log.stop(keeps))
+}
 
 // The cache that is opened over what a crash leaves of the log of another, where so many of the pending events came: whatever call
 // it made last, the pages after a prefix of the changes.

@@ -2,7 +2,7 @@
 
 use super::failing::Trouble::Room;
 use super::openings::Ending::{HandedOn, Read};
-use super::openings::{Run, first_wrong_run};
+use super::openings::{Ending, lasts};
 use super::steps::Outcome::{At, Refused};
 use super::steps::Sight::{Absent, Holds};
 use super::steps::Step::{Adds, AddsNone, Gets, Links, Replaces, Unopened};
@@ -17,96 +17,47 @@ const LINKS: Step = Links(2, 1, PAIR, At(2));
 
 const RELINKS: Step = Links(2, 2, PAIR, At(3));
 
+const UNADDED: &[Step] = &[AddsNone(FULL), Gets(2, Absent)];
+
+const UNLINKED: &[Step] = &[ADDS, Links(2, 1, PAIR, FULL), Gets(2, Holds(1, 0))];
+
+const LINKED: &[Step] = &[ADDS, LINKS, Links(2, 2, PAIR, FULL), Gets(2, Holds(2, 1))];
+
+const RELINKED: &[Step] = &[
+    ADDS,
+    LINKS,
+    RELINKS,
+    Replaces(2, 3, FULL),
+    Gets(2, Holds(3, 1)),
+];
+
+const REPLACED: &[Step] = &[
+    ADDS,
+    LINKS,
+    RELINKS,
+    Replaces(2, 3, At(4)),
+    Gets(2, Holds(4, 0)),
+];
+
 // The system pages take 35 bytes, an empty leaf 25, and a link 22. An empty leaf is put on page 2, linked twice and replaced, up to the
 // first call that is refused, and then the page is found, by so many reads.
-const RUNS: &[Run] = &[
-    (
-        "a byte too few for the system pages",
-        &[(10, Room(34), &[Unopened(FULL)], HandedOn)],
-    ),
-    (
-        "room for the system pages",
-        &[(10, Room(35), &[AddsNone(FULL), Gets(2, Absent)], Read(0))],
-    ),
-    (
-        "a byte too few for the leaf",
-        &[(10, Room(59), &[AddsNone(FULL), Gets(2, Absent)], Read(0))],
-    ),
-    (
-        "room for the leaf",
-        &[(
-            10,
-            Room(60),
-            &[ADDS, Links(2, 1, PAIR, FULL), Gets(2, Holds(1, 0))],
-            Read(1),
-        )],
-    ),
-    (
-        "a byte too few for a link",
-        &[(
-            10,
-            Room(81),
-            &[ADDS, Links(2, 1, PAIR, FULL), Gets(2, Holds(1, 0))],
-            Read(1),
-        )],
-    ),
-    (
-        "room for a link",
-        &[(
-            10,
-            Room(82),
-            &[ADDS, LINKS, Links(2, 2, PAIR, FULL), Gets(2, Holds(2, 1))],
-            Read(2),
-        )],
-    ),
-    (
-        "room for two links",
-        &[(
-            10,
-            Room(104),
-            &[
-                ADDS,
-                LINKS,
-                RELINKS,
-                Replaces(2, 3, FULL),
-                Gets(2, Holds(3, 1)),
-            ],
-            Read(3),
-        )],
-    ),
-    (
-        "a byte too few for the replacement",
-        &[(
-            10,
-            Room(128),
-            &[
-                ADDS,
-                LINKS,
-                RELINKS,
-                Replaces(2, 3, FULL),
-                Gets(2, Holds(3, 1)),
-            ],
-            Read(3),
-        )],
-    ),
-    (
-        "room for all",
-        &[(
-            10,
-            Room(129),
-            &[
-                ADDS,
-                LINKS,
-                RELINKS,
-                Replaces(2, 3, At(4)),
-                Gets(2, Holds(4, 0)),
-            ],
-            Read(0),
-        )],
-    ),
+const ROOMS: &[(u64, &[Step], Ending)] = &[
+    (34, &[Unopened(FULL)], HandedOn),
+    (35, UNADDED, Read(0)),
+    (59, UNADDED, Read(0)),
+    (60, UNLINKED, Read(1)),
+    (81, UNLINKED, Read(1)),
+    (82, LINKED, Read(2)),
+    (103, LINKED, Read(2)),
+    (104, RELINKED, Read(3)),
+    (128, RELINKED, Read(3)),
+    (129, REPLACED, Read(0)),
 ];
 
 #[test]
 fn a_page_whose_append_was_refused_is_read_again(rt: HostRuntime) {
-    assert_eq!(rt; first_wrong_run(rt.alloc(), RUNS), None);
+    for (room, steps, ending) in ROOMS {
+        let openings = [(10, Room(*room), *steps, *ending)];
+        assert_eq!(rt; lasts(rt.alloc(), &openings), 1, "{room} bytes");
+    }
 }

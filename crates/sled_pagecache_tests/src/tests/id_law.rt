@@ -9,6 +9,7 @@ ghost use Rattle.sled_pagecache.specs.Rows.{AreMade};
 ghost use Rattle.sled_pagecache.specs.declared.pagecache.call.Answer.TheVariants.{Generated};
 ghost use Rattle.sled_pagecache.specs.declared.pagecache.call.Call.TheVariants.{GenerateId};
 
+use super::crashes::crashed;
 use super::*;
 use sled_pagecache::openings::ids_are_given_once;
 
@@ -26,14 +27,8 @@ fn drawn(alloc: Global, config: Config, log: MemLog, keeps: usize) -> Option<(u6
     let Ok(id) = cache.generate_id_inner() else {
         return None;
     };
-    if cache.batch_open() {
-        return None;
-    }
-    let log = cache.into_log();
-    if !log.is_fair(keeps) {
-        return None;
-    }
-    Some((id, log.stop(keeps)))
+    let left = crashed(cache, keeps)?;
+    Some((id, left))
 }
 
 // The ids of three caches, each opened over what a crash left of the one before: they rise, whatever the crashes keep.

@@ -11,6 +11,7 @@ ghost use Rattle.sled_pagecache.specs.Token.{Token};
 ghost use Rattle.sled_pagecache.specs.declared.pagecache.call.Answer.TheVariants.{Allocated, Flushed};
 ghost use Rattle.sled_pagecache.specs.declared.pagecache.call.Call.TheVariants.{Allocate, Flush};
 
+use super::crashes::crashed;
 use super::*;
 use sled_pagecache::openings::every_opening_shows_a_prefix;
 
@@ -31,14 +32,8 @@ fn added(alloc: Global, config: Config, log: MemLog, keeps: usize) -> Option<(Pa
     let Ok(_written) = cache.flush() else {
         return None;
     };
-    if cache.batch_open() {
-        return None;
-    }
-    let log = cache.into_log();
-    if !log.is_fair(keeps) {
-        return None;
-    }
-    Some((pid, log.stop(keeps)))
+    let left = crashed(cache, keeps)?;
+    Some((pid, left))
 }
 
 // The pages that two caches add, the second opened over what a crash left of the first: what the first flushed is there, so the second

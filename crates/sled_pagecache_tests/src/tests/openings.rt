@@ -16,10 +16,10 @@ pub(super) enum Ending {
 }
 
 // A cache that is opened over the log that was left before, with this interval; what it shows; and how it ends.
-pub(super) type Opening = (u64, Trouble, &'static [Step], Ending);
+pub(super) type Opening<'a> = (u64, Trouble, &'a [Step], Ending);
 
 /// Openings over a new log, with a name.
-pub(super) type Run = (&'static str, &'static [Opening]);
+pub(super) type Run = (&'static str, &'static [Opening<'static>]);
 
 pub(super) fn opened_with(
     alloc: Global,
@@ -65,7 +65,7 @@ fn shown_by(alloc: Global, mut cache: Faulty, steps: &[Step]) -> Option<FailingL
 }
 
 // The log that an opening leaves, if its cache shows all that it should.
-fn left_by(alloc: Global, log: MemLog, opening: &Opening) -> Option<MemLog> {
+fn left_by(alloc: Global, log: MemLog, opening: &Opening<'_>) -> Option<MemLog> {
     let (interval, trouble, steps, ending) = opening;
     match opened_with(alloc, log, *interval, trouble) {
         Ok(cache) => ended(shown_by(alloc, cache, steps)?, ending),
@@ -78,7 +78,7 @@ fn left_by(alloc: Global, log: MemLog, opening: &Opening) -> Option<MemLog> {
 }
 
 // How many openings show what they should, before the first that doesn't.
-pub(super) fn lasts(alloc: Global, openings: &[Opening]) -> usize {
+pub(super) fn lasts(alloc: Global, openings: &[Opening<'_>]) -> usize {
     let mut log = MemLog::new(alloc, 512, 16);
     for (done, opening) in openings.iter().enumerate() {
         let Some(left) = left_by(alloc, log, opening) else {

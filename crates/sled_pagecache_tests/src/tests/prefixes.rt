@@ -1,11 +1,11 @@
 // Every fair stop of a list of calls, opened again.
 
-use super::scripts::{Script, first_wrong, walks};
+use super::scripts::walks;
 use super::steps::Change::Set;
 use super::steps::Outcome::At;
 use super::steps::Sight::{Absent, Empty, Pair};
-use super::steps::Step;
 use super::steps::Step::{Adds, Crashes, Gets, Links, ReplacesByPair};
+use super::steps::{Sight, Step};
 use super::*;
 
 // Five changes behind the flushed system pages: two leaves, two links on the first, and a replacement of the second.
@@ -19,93 +19,32 @@ const RELINK: Step = Links(2, 2, Set(b"a", b"2"), At(3));
 
 const REPLACE: Step = ReplacesByPair(3, 1, At(2));
 
-// Each crash, and the two pages behind it.
-const SCRIPTS: &[Script] = &[
-    (
-        "no change",
-        &[
-            LEAF,
-            OTHER,
-            LINK,
-            RELINK,
-            REPLACE,
-            Crashes(0),
-            Gets(2, Absent),
-            Gets(3, Absent),
-        ],
-    ),
-    (
-        "the first change",
-        &[
-            LEAF,
-            OTHER,
-            LINK,
-            RELINK,
-            REPLACE,
-            Crashes(1),
-            Gets(2, Empty(0)),
-            Gets(3, Absent),
-        ],
-    ),
-    (
-        "two changes",
-        &[
-            LEAF,
-            OTHER,
-            LINK,
-            RELINK,
-            REPLACE,
-            Crashes(2),
-            Gets(2, Empty(0)),
-            Gets(3, Empty(0)),
-        ],
-    ),
-    (
-        "three changes",
-        &[
-            LEAF,
-            OTHER,
-            LINK,
-            RELINK,
-            REPLACE,
-            Crashes(3),
-            Gets(2, Pair(0, b"a", b"1")),
-            Gets(3, Empty(0)),
-        ],
-    ),
-    (
-        "four changes",
-        &[
-            LEAF,
-            OTHER,
-            LINK,
-            RELINK,
-            REPLACE,
-            Crashes(4),
-            Gets(2, Pair(0, b"a", b"2")),
-            Gets(3, Empty(0)),
-        ],
-    ),
-    (
-        "all changes",
-        &[
-            LEAF,
-            OTHER,
-            LINK,
-            RELINK,
-            REPLACE,
-            Crashes(5),
-            Gets(2, Pair(0, b"a", b"2")),
-            Gets(3, Pair(0, b"k", b"v")),
-        ],
-    ),
+// How many changes a crash keeps, and the two pages behind it.
+const CRASHES: &[(usize, Sight, Sight)] = &[
+    (0, Absent, Absent),
+    (1, Empty(0), Absent),
+    (2, Empty(0), Empty(0)),
+    (3, Pair(0, b"a", b"1"), Empty(0)),
+    (4, Pair(0, b"a", b"2"), Empty(0)),
+    (5, Pair(0, b"a", b"2"), Pair(0, b"k", b"v")),
 ];
 
-// A crash can't leave six changes.
-const SIX: &[Step] = &[LEAF, OTHER, LINK, RELINK, REPLACE, Crashes(6)];
+// How many of the changes, of the crash and of the two gets behind it show what they should.
+fn shown_behind(alloc: Global, kept: usize, first: Sight, second: Sight) -> usize {
+    let (crash, first, second) = (Crashes(kept), Gets(2, first), Gets(3, second));
+    let steps = [LEAF, OTHER, LINK, RELINK, REPLACE, crash, first, second];
+    walks(alloc, &steps)
+}
 
 #[test]
 fn each_crash_leaves_a_prefix(rt: HostRuntime) {
-    assert_eq!(rt; first_wrong(rt.alloc(), SCRIPTS), None);
-    assert_eq!(rt; walks(rt.alloc(), SIX), 5, "six changes");
+    for (kept, first, second) in CRASHES {
+        assert_eq!(rt;
+            shown_behind(rt.alloc(), *kept, *first, *second),
+            8,
+            "{kept} changes"
+        );
+    }
+    // a crash can't leave six
+    assert_eq!(rt; shown_behind(rt.alloc(), 6, Absent, Absent), 5);
 }

@@ -2,130 +2,63 @@
 
 use super::failing::Trouble::{Never, Write};
 use super::openings::Ending::{Crash, HandedOn};
-use super::openings::{Opening, Run, first_wrong_run};
+use super::openings::{Opening, lasts};
 use super::steps::Outcome::{At, Faulty};
-use super::steps::PAIR;
 use super::steps::Sight::{Absent, Empty, Pair, Unwritten};
 use super::steps::Step::{
     Adds, AddsNone, Faults, Gets, Links, Recovered, Replaces, Takes, Unopened, Writes,
 };
+use super::steps::{PAIR, Step};
 use super::*;
 
 // What is left where the crash keeps nothing of what was pending.
-const LOST_ALL: Opening = (10, Never, &[Recovered(false), Gets(2, Absent)], HandedOn);
+const LOST_ALL: Opening<'static> = (10, Never, &[Recovered(false), Gets(2, Absent)], HandedOn);
 
-const LOST_PAGE: Opening = (10, Never, &[Recovered(true), Gets(2, Absent)], HandedOn);
+const LOST_PAGE: Opening<'static> = (10, Never, &[Recovered(true), Gets(2, Absent)], HandedOn);
 
-const LOST_NONE: Opening = (10, Never, &[Recovered(true), Gets(2, Empty(0))], HandedOn);
+const LOST_NONE: Opening<'static> = (10, Never, &[Recovered(true), Gets(2, Empty(0))], HandedOn);
 
-// Three writes open the cache. Then a page is added, linked, asked for and replaced, the log is flushed, and its size is asked for.
-const RUNS: &[Run] = &[
+const UNOPENED: &[Step] = &[Unopened(Faulty)];
+
+const ADDS: Step = Adds(2, 1);
+
+const LINKS: Step = Links(2, 1, PAIR, At(2));
+
+const UNLINKED: Step = Links(2, 1, PAIR, Faulty);
+
+const SEES: Step = Gets(2, Pair(2, b"b", b"v"));
+
+const UNSEEN: Step = Gets(2, Unwritten);
+
+const REPLACES: Step = Replaces(2, 2, At(3));
+
+const UNREPLACED: Step = Replaces(2, 2, Faulty);
+
+// Three writes open the cache. Then a page is added, linked, asked for and replaced, the log is flushed, and its size is asked for. Of
+// the number of the write that fails, and of one that doesn't come: what is shown, and what is left behind a crash.
+const WRITES: &[(u64, &[Step], Opening<'static>)] = &[
+    (1, UNOPENED, LOST_ALL),
+    (2, UNOPENED, LOST_ALL),
+    (3, UNOPENED, LOST_ALL),
     (
-        "write 1",
-        &[(10, Write(1), &[Unopened(Faulty)], Crash(0)), LOST_ALL],
+        4,
+        &[AddsNone(Faulty), UNLINKED, UNSEEN, UNREPLACED, Faults],
+        LOST_PAGE,
     ),
+    (5, &[ADDS, UNLINKED, UNSEEN, UNREPLACED, Faults], LOST_PAGE),
+    (6, &[ADDS, LINKS, SEES, UNREPLACED, Faults], LOST_PAGE),
+    (7, &[ADDS, LINKS, SEES, REPLACES, Faults], LOST_PAGE),
     (
-        "write 2",
-        &[(10, Write(2), &[Unopened(Faulty)], Crash(0)), LOST_ALL],
-    ),
-    (
-        "write 3",
-        &[(10, Write(3), &[Unopened(Faulty)], Crash(0)), LOST_ALL],
-    ),
-    (
-        "write 4, that of the leaf",
-        &[
-            (
-                10,
-                Write(4),
-                &[
-                    AddsNone(Faulty),
-                    Links(2, 1, PAIR, Faulty),
-                    Gets(2, Unwritten),
-                    Replaces(2, 2, Faulty),
-                    Faults,
-                ],
-                Crash(0),
-            ),
-            LOST_PAGE,
-        ],
-    ),
-    (
-        "write 5, that of the link",
-        &[
-            (
-                10,
-                Write(5),
-                &[
-                    Adds(2, 1),
-                    Links(2, 1, PAIR, Faulty),
-                    Gets(2, Unwritten),
-                    Replaces(2, 2, Faulty),
-                    Faults,
-                ],
-                Crash(0),
-            ),
-            LOST_PAGE,
-        ],
-    ),
-    (
-        "write 6, that of the replacement",
-        &[
-            (
-                10,
-                Write(6),
-                &[
-                    Adds(2, 1),
-                    Links(2, 1, PAIR, At(2)),
-                    Gets(2, Pair(2, b"b", b"v")),
-                    Replaces(2, 2, Faulty),
-                    Faults,
-                ],
-                Crash(0),
-            ),
-            LOST_PAGE,
-        ],
-    ),
-    (
-        "write 7, that of the flush",
-        &[
-            (
-                10,
-                Write(7),
-                &[
-                    Adds(2, 1),
-                    Links(2, 1, PAIR, At(2)),
-                    Gets(2, Pair(2, b"b", b"v")),
-                    Replaces(2, 2, At(3)),
-                    Faults,
-                ],
-                Crash(0),
-            ),
-            LOST_PAGE,
-        ],
-    ),
-    (
-        "write 8, which doesn't come",
-        &[
-            (
-                10,
-                Write(8),
-                &[
-                    Adds(2, 1),
-                    Links(2, 1, PAIR, At(2)),
-                    Gets(2, Pair(2, b"b", b"v")),
-                    Replaces(2, 2, At(3)),
-                    Writes(72),
-                    Takes(107),
-                ],
-                Crash(0),
-            ),
-            LOST_NONE,
-        ],
+        8,
+        &[ADDS, LINKS, SEES, REPLACES, Writes(72), Takes(107)],
+        LOST_NONE,
     ),
 ];
 
 #[test]
 fn a_write_fault_is_answered_from_then_on(rt: HostRuntime) {
-    assert_eq!(rt; first_wrong_run(rt.alloc(), RUNS), None);
+    for (number, steps, left) in WRITES {
+        let openings = [(10, Write(*number), *steps, Crash(0)), *left];
+        assert_eq!(rt; lasts(rt.alloc(), &openings), 2, "write {number}");
+    }
 }

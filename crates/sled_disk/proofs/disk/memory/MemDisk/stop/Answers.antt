@@ -57,19 +57,12 @@ pub invariant_of-result-clause-start_room : goal.invariant_of-result-clause-star
 invariant_of-result-clause-start_room c =
     let self = c.args.self in
     let le = within-grows (length self.written.items) (length c.loop-call.seen.items) (length self.bytes.items) (drop c.loop-call.call-index self.calls.items) c.loop-call.invariant.within in
-    let long = c.loop-call.invariant.replayed.long in
     let len = ap length (c.copy-2.ensures.items ∙ c.deref-3.ensures.value) in
-    let room = self.start_room in
-    let more = c.loop-call.invariant.left_room in
-    omega (arith, le, long, len, room, more)
+    omega (arith, le, len, c.loop-call.invariant.replayed.long, c.loop-call.invariant.left_room, self.start_room)
 
 pub invariant_of-result-clause-bytes_room : goal.invariant_of-result-clause-bytes_room
 invariant_of-result-clause-bytes_room c =
     let self = c.args.self in
     let le = within-grows (length self.written.items) (length c.loop-call.seen.items) (length self.bytes.items) (drop c.loop-call.call-index self.calls.items) c.loop-call.invariant.within in
-    let long = c.loop-call.invariant.replayed.long in
     let len = ap length (c.copy-2.ensures.items ∙ c.deref-3.ensures.value) in
-    let room = self.bytes_room in
-    let more = c.loop-call.invariant.seen_room in
-    let kept = c.copy-2.ensures.capacity in
-    omega (arith, le, long, len, room, more, kept)
+    omega (arith, le, len, c.loop-call.invariant.replayed.long, c.loop-call.invariant.seen_room, self.bytes_room, c.copy-2.ensures.capacity)

@@ -59,7 +59,4 @@ returns-clause-called g c =
 pub invariant_of-self-clause-ends : goal.invariant_of-self-clause-ends
 invariant_of-self-clause-ends g c = λ usable.
     let log = c.make_room.new.self in
-    let next = c.pin.new.self in
-    let gate = c.pin.ensures.gate in
-    let len = c.pin.ensures.len in
-    all-later (place_of log.next) (place_of next) (chains_of log.pages.items) (omega (arith, gate, len)) (log.ends usable)
+    all-later (place_of log.next) (place_of c.pin.new.self) (chains_of log.pages.items) (omega (arith, c.pin.ensures.gate, c.pin.ensures.len)) (log.ends usable)

@@ -33,7 +33,4 @@ returns-clause-called g c =
 pub invariant_of-self-clause-ends : goal.invariant_of-self-clause-ends
 invariant_of-self-clause-ends g c = λ usable.
     let log = c.args.self.now in
-    let next = c.seal.new.self in
-    let gate = c.seal.ensures.gate in
-    let len = c.seal.ensures.len in
-    all-later (place_of log.next) (place_of next) (chains_of log.pages.items) (omega (arith, gate, len)) (log.ends usable)
+    all-later (place_of log.next) (place_of c.seal.new.self) (chains_of log.pages.items) (omega (arith, c.seal.ensures.gate, c.seal.ensures.len)) (log.ends usable)
