@@ -65,8 +65,10 @@ pub(crate) fn make_batch<L: Log>(
     requires spare { IsSome spare.old }
     requires closed { cache.old.batch ≡ false }
     ensures asked { result.1.value.swaps.items ≡ prepared.asked.value.swaps.items }
-    ensures same { batch_kept prepared.asked.value.swaps.items result.1.value.endings.items result.2 ≡ batched result.0 }
-    ensures made { (calls : MadeCalls) × IsBatch prepared.asked.value.swaps.items (batched result.0) calls × AreMade L.Log cache.old calls cache.new }
+    ensures same { batch_kept prepared.asked.value.swaps.items result.1.value.endings.items result.2
+        ≡ batched result.0 }
+    ensures made { (calls : MadeCalls) × IsBatch prepared.asked.value.swaps.items (batched result.0)
+        calls × AreMade L.Log cache.old calls cache.new }
     ensures batch { cache.new.batch ≡ false }
 {
     let Prepared {
@@ -93,11 +95,14 @@ fn swap_in_batch<L: Log>(
     answers: &mut Vec<SwapAnswer>,
     endings: &mut Vec<Ending>,
 ) -> Result<(), Refusal>
-    requires none { (answers.old.items ≡ []) × (endings.old.items ≡ []) × (vec_len answers.old ≡ 0) × (vec_len endings.old ≡ 0) }
-    requires room { (length copies.items ≤ vec_capacity answers.old) × (length copies.items ≤ vec_capacity endings.old) }
+    requires none { (answers.old.items ≡ []) × (endings.old.items ≡ []) × (vec_len answers.old ≡ 0)
+        × (vec_len endings.old ≡ 0) }
+    requires room { (length copies.items ≤ vec_capacity answers.old)
+        × (length copies.items ≤ vec_capacity endings.old) }
     requires closed { cache.old.batch ≡ false }
     ensures same { swaps_ended copies.items endings.new.items ≡ answers.new.items }
-    ensures made { (calls : MadeCalls) × IsBatch copies.items (with_answers (answered result) answers.new.items) calls × AreMade L.Log cache.old calls cache.new }
+    ensures made { (calls : MadeCalls) × IsBatch copies.items (with_answers (answered result)
+        answers.new.items) calls × AreMade L.Log cache.old calls cache.new }
     ensures batch { cache.new.batch ≡ false }
 {
     let mut guard = match cache.pin_log() {
@@ -123,10 +128,13 @@ fn swap_all<L: Log>(
     answers: &mut Vec<SwapAnswer>,
     endings: &mut Vec<Ending>,
 ) -> Result<(), Refusal>
-    requires none { (answers.old.items ≡ []) × (endings.old.items ≡ []) × (vec_len answers.old ≡ 0) × (vec_len endings.old ≡ 0) }
-    requires room { (length copies.items ≤ vec_capacity answers.old) × (length copies.items ≤ vec_capacity endings.old) }
+    requires none { (answers.old.items ≡ []) × (endings.old.items ≡ []) × (vec_len answers.old ≡ 0)
+        × (vec_len endings.old ≡ 0) }
+    requires room { (length copies.items ≤ vec_capacity answers.old)
+        × (length copies.items ≤ vec_capacity endings.old) }
     ensures same { swaps_ended copies.items endings.new.items ≡ answers.new.items }
-    ensures made { (calls : MadeCalls) × AreSwaps copies.items (answered result) answers.new.items calls × AreMade L.Log cache.old calls cache.new }
+    ensures made { (calls : MadeCalls) × AreSwaps copies.items (answered result) answers.new.items
+        calls × AreMade L.Log cache.old calls cache.new }
     ensures batch { cache.new.batch ≡ cache.old.batch }
 {
     let mut left = copies;
@@ -145,8 +153,10 @@ fn swap_all<L: Log>(
 // Makes a swap: what it answered, and how it ended.
 fn swap<L: Log>(cache: &mut PageCache<L>, one: Swap) -> Result<(SwapAnswer, Ending), Refusal>
     ensures same { IfOk result (λ made. swap_ended one made.1 ≡ made.0) }
-    ensures made { IfOk result (λ made. IsMade L.Log cache.old (call_of one) (answer_of made.0) cache.new) }
-    ensures refused { IfErr result (λ e. IsMade L.Log cache.old (call_of one) (refusal_of one (error_of e)) cache.new) }
+    ensures made { IfOk result
+        (λ made. IsMade L.Log cache.old (call_of one) (answer_of made.0) cache.new) }
+    ensures refused { IfErr result
+        (λ e. IsMade L.Log cache.old (call_of one) (refusal_of one (error_of e)) cache.new) }
     ensures batch { cache.new.batch ≡ cache.old.batch }
 {
     match one {

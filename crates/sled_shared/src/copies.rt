@@ -99,7 +99,8 @@ pub(crate) fn copy_root_swap(
     old: Option<PageId>,
     new: Option<PageId>,
 ) -> Result<Box<RootSwap>, AllocError>
-    ensures { IfOk result (λ copy. (copy.value.name ≡ name.now) × (copy.value.old ≡ old) × (copy.value.new ≡ new)) }
+    ensures { IfOk result (λ copy. (copy.value.name ≡ name.now) × (copy.value.old ≡ old)
+        × (copy.value.new ≡ new)) }
 {
     let name = IVec::from_slice(alloc, name)?;
     Ok(Box::new(alloc, RootSwap { name, old, new })?)

@@ -81,7 +81,8 @@ fn start<
     calls: u64,
     share: Share<K>,
 ) -> Option<PromisedHandle<Report<K>, Raised>>
-    ensures { IfSome result (λ started. (started.promise.from ≡ share) × (started.promise.by ≡ calls)) }
+    ensures { IfSome result (λ started. (started.promise.from ≡ share)
+        × (started.promise.by ≡ calls)) }
 {
     let shared = Arc::try_clone(shared).ok()?;
     let gate = Arc::try_clone(gate).ok()?;
@@ -104,8 +105,10 @@ struct Room<K: Tally> {
 }
 
 fn make_room<K: Tally>(alloc: Global, workers: usize) -> Result<Room<K>, AllocError>
-    ensures none { IfOk result (λ room. (room.running.items ≡ []) × (vec_len room.running ≡ 0) × (vec_len room.left ≡ 0) × (room.back.items ≡ []) × (vec_len room.back ≡ 0)) }
-    ensures room { IfOk result (λ room. (workers ≤ vec_capacity room.running) × (workers ≤ vec_capacity room.left) × (workers ≤ vec_capacity room.back)) }
+    ensures none { IfOk result (λ room. (room.running.items ≡ []) × (vec_len room.running ≡ 0)
+        × (vec_len room.left ≡ 0) × (room.back.items ≡ []) × (vec_len room.back ≡ 0)) }
+    ensures room { IfOk result (λ room. (workers ≤ vec_capacity room.running)
+        × (workers ≤ vec_capacity room.left) × (workers ≤ vec_capacity room.back)) }
 {
     let running = Vec::with_capacity(alloc, workers)?;
     let left = Vec::with_capacity(alloc, workers)?;
@@ -133,9 +136,12 @@ fn start_all<
     left: &mut Vec<Share<K>>,
 ) -> bool
     requires none { (running.old.items ≡ []) × (vec_len running.old ≡ 0) × (vec_len left.old ≡ 0) }
-    requires room { (vec_len shares ≤ vec_capacity running.old) × (vec_len shares ≤ vec_capacity left.old) }
-    ensures promised { result ≡ true → map (λ started. started.promise.from + started.promise.by) running.new.items ≡ map (λ count. count + calls) shares.items }
-    ensures len { vec_len running.new + vec_len left.new + (if result then 0 else 1) ≡ vec_len shares }
+    requires room { (vec_len shares ≤ vec_capacity running.old)
+        × (vec_len shares ≤ vec_capacity left.old) }
+    ensures promised { result ≡ true → map (λ started. started.promise.from + started.promise.by)
+        running.new.items ≡ map (λ count. count + calls) shares.items }
+    ensures len { vec_len running.new + vec_len left.new + (if result then 0 else 1)
+        ≡ vec_len shares }
 {
     let mut all = true;
     for share in shares {
@@ -158,7 +164,8 @@ fn join_all<K: Tally, R: Threads>(
     back: &mut Vec<Share<K>>,
 ) -> Option<Error>
     requires { vec_len back.old + vec_len running ≤ vec_capacity back.old }
-    ensures raised { IfNone result (back.new.items ≡ back.old.items ++ map (λ started. started.promise.from + started.promise.by) running.items) }
+    ensures raised { IfNone result (back.new.items ≡ back.old.items ++ map
+        (λ started. started.promise.from + started.promise.by) running.items) }
     ensures len { vec_len back.new ≡ vec_len back.old + vec_len running }
     ensures capacity { vec_capacity back.new ≡ vec_capacity back.old }
 {

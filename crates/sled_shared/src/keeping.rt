@@ -33,7 +33,8 @@ pub(crate) fn keep_ending<T>(
 ) -> Kept<Ending>
     requires spare { IsSome spare.old }
     requires unnamed { IfErr answer.now HasNoName }
-    ensures { (stamps : List ℕ) (old : Token) (change : T) → IfOk answer.now (IsAnswered stamps old change) → swap_kept old change result ≡ answer.now }
+    ensures { (stamps : List ℕ) (old : Token) (change : T) → IfOk answer.now
+        (IsAnswered stamps old change) → swap_kept old change result ≡ answer.now }
 {
     match answer {
         Ok(ended) => Ok(ending_of(ended)),
@@ -43,7 +44,8 @@ pub(crate) fn keep_ending<T>(
 
 // How a swap ended that wasn't refused.
 pub(crate) fn ending_of<T>(answer: &Result<PageView, Option<(PageView, T)>>) -> Ending
-    ensures { (stamps : List ℕ) (old : Token) (change : T) → IsAnswered stamps old change answer.now → ended old change result ≡ answer.now }
+    ensures { (stamps : List ℕ) (old : Token) (change : T) → IsAnswered stamps old change answer.now
+        → ended old change result ≡ answer.now }
 {
     match answer {
         Ok(_) => Ending::Made,
@@ -55,7 +57,8 @@ pub(crate) fn ending_of<T>(answer: &Result<PageView, Option<(PageView, T)>>) -> 
 // The root of a name, or that it has none.
 pub(crate) fn keep_root(answer: &Result<PageId, Error>, spare: &mut Spare) -> Kept<Option<PageId>>
     requires { IsSome spare.old }
-    ensures { (name : Bytes) → IfErr answer.now (NamesOnly name) → root_kept name result ≡ answer.now }
+    ensures { (name : Bytes) → IfErr answer.now (NamesOnly name)
+        → root_kept name result ≡ answer.now }
 {
     match answer {
         Ok(root) => Ok(Some(*root)),

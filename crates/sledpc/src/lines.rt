@@ -73,7 +73,8 @@ pub fn read_line<R: BufRead>(reader: &mut R, kept: &mut Vec<u8>) -> Result<Line,
 /// Takes what the reader has buffered of a line, behind what was kept of it, and no more than says that it is too long.
 fn take_part<R: BufRead>(reader: &mut R, kept: &mut Vec<u8>) -> Result<Ended, ReadError>
     requires { length kept.old.items ≤ longest_line }
-    ensures takes { TakesPart (R.remaining reader.old) (R.remaining reader.new) kept.old.items kept.new.items result }
+    ensures takes { TakesPart (R.remaining reader.old) (R.remaining reader.new) kept.old.items
+        kept.new.items result }
     ensures fits { FitsLine kept.new.items result }
 {
     let buffered = match reader.fill_buf() {
@@ -114,7 +115,8 @@ fn unless_interrupted(error: &Error) -> Result<Ended, ReadError>
 
 /// Passes over the rest of a line that is too long.
 fn skip_line<R: BufRead>(reader: &mut R) -> Result<Line, ReadError>
-    ensures ok { IfOk result (λ line. (line ≡ Line.TooLong) × DropsThrough (R.remaining reader.old) (R.remaining reader.new) 10) }
+    ensures ok { IfOk result (λ line. (line ≡ Line.TooLong)
+        × DropsThrough (R.remaining reader.old) (R.remaining reader.new) 10) }
     ensures err { IfErr result (λ e. e ≡ ReadError.Read) }
 {
     match reader.skip_until(b'\n') {

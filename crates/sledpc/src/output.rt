@@ -128,7 +128,8 @@ pub fn gather_bytes_word<W: Write>(
 
 /// Puts a byte string in hexadecimal behind the text that was gathered, as much at once as a piece has room for.
 fn gather_hex<W: Write>(writer: &mut W, piece: &mut Piece, bytes: &[u8]) -> Result<(), Unwritten>
-    ensures { Gathers (W.contents writer.old) (W.contents writer.new) piece.old piece.new result (hex bytes.now) }
+    ensures { Gathers (W.contents writer.old) (W.contents writer.new) piece.old piece.new result
+        (hex bytes.now) }
 {
     let mut left = bytes;
     while !left.is_empty() {

@@ -127,8 +127,10 @@ fn report<F: Write>(outcome: Result<(), Fault>, faults: &mut F) -> u8
 
 // What the words ask for, if they are text.
 fn asked(words: Option<&[String]>) -> Option<Job<'_>>
-    ensures some { IfSome result (λ job. AskFor job (option_map (λ given. map string_bytes given.now) words.entry)) }
-    ensures none { IfNone result (¬ AskForJob (option_map (λ given. map string_bytes given.now) words.entry)) }
+    ensures some { IfSome result
+        (λ job. AskFor job (option_map (λ given. map string_bytes given.now) words.entry)) }
+    ensures none { IfNone result
+        (¬ AskForJob (option_map (λ given. map string_bytes given.now) words.entry)) }
 {
     match words {
         Some(words) => job_of(words),
@@ -240,7 +242,8 @@ fn serve_crew<W: Write, T: Threads + Wait + Copy + Send + 'static>(
 ) -> Result<(), Fault>
     requires workers { workers ≤ 64 }
     requires calls { calls ≤ 10000 }
-    ensures { Writes (W.contents writer.old) (W.contents writer.new) result (crew_text (workers * calls)) }
+    ensures { Writes (W.contents writer.old) (W.contents writer.new) result
+        (crew_text (workers * calls)) }
 {
     match draw_ids::<Brand, T>(rt, alloc, workers, calls, Blank::new(workers + 1)) {
         Ok(made) => write_calls(writer, made).map_err(|_| Fault::Run(RunError::Write)),

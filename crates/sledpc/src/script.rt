@@ -2,6 +2,7 @@
 
 pub mod batch;
 pub mod command;
+pub mod line;
 pub mod reply;
 pub mod run;
 pub mod words;

@@ -23,9 +23,12 @@ pub(super) fn make_room(
     requires { earlier + vec_len entries.old < 2 ^ 64 }
     ensures entries { entries.new.items ≡ entries.old.items }
     ensures len { vec_len entries.new ≡ vec_len entries.old }
-    ensures ok { OnOk result (((nat_le limit (vec_len entries.old) || (earlier + vec_len entries.old == 2 ^ 64 - 1)) ≡ false) × (vec_len entries.new < vec_capacity entries.new)) }
+    ensures ok { OnOk result (((nat_le limit (vec_len entries.old) || (earlier + vec_len entries.old
+        == 2 ^ 64 - 1)) ≡ false) × (vec_len entries.new < vec_capacity entries.new)) }
     ensures spare { OnOk result (IsSome spare.new) }
-    ensures err { IfErr result (λ e. MatchBool (nat_le limit (vec_len entries.old) || (earlier + vec_len entries.old == 2 ^ 64 - 1)) (e ≡ Unsupported BookFull) (e ≡ OutOfMemory)) }
+    ensures err { IfErr result (λ e. MatchBool
+        (nat_le limit (vec_len entries.old) || (earlier + vec_len entries.old == 2 ^ 64 - 1))
+        (e ≡ Unsupported BookFull) (e ≡ OutOfMemory)) }
 {
     if entries.len() >= limit || earlier + entries.len() as u64 == u64::MAX {
         return Err(Error::Unsupported(Why::BookFull));

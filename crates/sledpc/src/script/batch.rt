@@ -68,7 +68,11 @@ fn serve_inside<L: Log, R: BufRead, W: Write>(
     writer: &mut W,
     piece: &mut Piece,
 ) -> Result<Stop, RunError>
-    ensures serves { (start : Cache L) (input : Option Bytes) → IsPinned L.Log start cache.old → IsNext input (R.remaining reader.old) (codes "pin") → ServesUntil L.Log start input (R.remaining reader.new) (W.contents writer.old) (W.contents writer.new) piece.old piece.new result cache.new }
+    ensures serves { (start : Cache L) (input : Option Bytes)
+        → IsPinned L.Log start cache.old
+        → IsNext input (R.remaining reader.old) (codes "pin")
+        → ServesUntil L.Log start input (R.remaining reader.new) (W.contents writer.old)
+        (W.contents writer.new) piece.old piece.new result cache.new }
     ensures batch { cache.new.batch ≡ cache.old.batch }
 {
     reply_mark(&Ok(()), is_followed, writer, piece)?;
@@ -79,7 +83,8 @@ fn serve_inside<L: Log, R: BufRead, W: Write>(
 fn close<L: Log>(guard: RecoveryGuard<'_, L>, mark: Mark) -> Result<(), Error>
     requires open { (lent guard).now.batch ≡ true }
     requires closing { Turns (lent guard).now.batch mark }
-    ensures made { IsMade L.Log (lent guard.entry).now (call_of_mark mark result).0 (call_of_mark mark result).1 guard.exit.0.now }
+    ensures made { IsMade L.Log (lent guard.entry).now (call_of_mark mark result).0
+        (call_of_mark mark result).1 guard.exit.0.now }
     ensures batch { guard.exit.0.now.batch ≡ false }
 {
     match mark {
@@ -108,7 +113,8 @@ fn reply_mark<W: Write>(
     writer: &mut W,
     piece: &mut Piece,
 ) -> Result<(), Unwritten>
-    ensures { Gathers (W.contents writer.old) (W.contents writer.new) piece.old piece.new result (reply_of_mark answer.now ++ 10 ∷ []) }
+    ensures { Gathers (W.contents writer.old) (W.contents writer.new) piece.old piece.new result
+        (reply_of_mark answer.now ++ 10 ∷ []) }
 {
     gather_mark(writer, piece, answer)?;
     flush_unless(is_followed, writer, piece)

@@ -5,15 +5,17 @@ ghost use Rattle.std.specs.Option.{option_map, SomeIff};
 ghost use Rattle.sled_base.specs.Order.{Bytes};
 ghost use Rattle.sled_node.specs.Node.{Value, WholeNode, leaf_of};
 ghost use Rattle.sled_node.specs.Pairs.{IsWithinLimit, HasPairs};
-ghost use Rattle.sledpc.specs.Asked.{AsksBehind, AreTwo, BeginsWithToken, EncodeLeaf, EncodeRoots};
-ghost use Rattle.sledpc.specs.Commands.{Encodes, EncodesOpen, IsRootNumber, mark_word, root_word};
+ghost use Rattle.sledpc.specs.Asked.{AsksBehind, EncodeLeaf};
+ghost use Rattle.sledpc.specs.Commands.{Encodes, EncodesOpen, mark_word};
 ghost use Rattle.sledpc.specs.Settings.{longest_line};
 ghost use Rattle.sledpc.specs.Words.{AreBytes, bytes_word};
 ghost use Rattle.sledpc.specs.declared.script.command.Mark.{Mark};
-ghost use Rattle.sled_pagecache.specs.Token.{Token};
 ghost use Rattle.sled_pagecache.specs.declared.pagecache.call.Call.{Call};
 ghost use Rattle.sled_pagecache.specs.declared.pagecache.call.Call.TheVariants as calls;
 
+mod arguments;
+
+use self::arguments::{token_of, two_roots, two_words};
 use super::words::{bytes_of, first_word, number_of, pairs_of};
 use sled_pagecache::{Call, Data, IVec, Leaf, Link, Node, PageId, PageView};
 use std::alloc::{AllocError, Global};
@@ -129,8 +131,10 @@ pub fn call_of(alloc: Global, line: &[u8]) -> Result<Option<Call>, AllocError>
 
 // `alloc PAIRS`: the leaf of these pairs.
 fn allocate_of(alloc: Global, arguments: Option<&[u8]>) -> Result<Option<Call>, AllocError>
-    ensures some { IfOk result (λ found. IfSome found (AsksBehind (codes "alloc") (option_map (λ rest. rest.now) arguments.entry))) }
-    ensures none { IfOk result (λ found. IfNone found ((call : Call) → ¬ AsksBehind (codes "alloc") (option_map (λ rest. rest.now) arguments.entry) call)) }
+    ensures some { IfOk result (λ found. IfSome found
+        (AsksBehind (codes "alloc") (option_map (λ rest. rest.now) arguments.entry))) }
+    ensures none { IfOk result (λ found. IfNone found ((call : Call)
+        → ¬ AsksBehind (codes "alloc") (option_map (λ rest. rest.now) arguments.entry) call)) }
 {
     let Some(node) = leaf_behind(alloc, arguments)? else {
         return Ok(None);
@@ -140,8 +144,10 @@ fn allocate_of(alloc: Global, arguments: Option<&[u8]>) -> Result<Option<Call>, 
 
 // The leaf of the pairs that the words encode.
 fn leaf_behind(alloc: Global, arguments: Option<&[u8]>) -> Result<Option<Node>, AllocError>
-    ensures some { IfOk result (λ found. IfSome found (EncodeLeaf (option_map (λ rest. rest.now) arguments.entry))) }
-    ensures none { IfOk result (λ found. IfNone found ((node : WholeNode) → ¬ EncodeLeaf (option_map (λ rest. rest.now) arguments.entry) node)) }
+    ensures some { IfOk result
+        (λ found. IfSome found (EncodeLeaf (option_map (λ rest. rest.now) arguments.entry))) }
+    ensures none { IfOk result (λ found. IfNone found ((node : WholeNode)
+        → ¬ EncodeLeaf (option_map (λ rest. rest.now) arguments.entry) node)) }
 {
     let Some(pairs) = pairs_of(alloc, arguments)? else {
         return Ok(None);
@@ -151,7 +157,8 @@ fn leaf_behind(alloc: Global, arguments: Option<&[u8]>) -> Result<Option<Node>, 
 
 // The leaf of these pairs over all keys, or none where a leaf can't hold them.
 fn leaf_of(alloc: Global, pairs: Vec<(IVec, IVec)>) -> Result<Option<Node>, AllocError>
-    ensures { IfOk result (λ node. SomeIff node (HasPairs IsWithinLimit pairs.items) (leaf_of (map (λ pair. (pair.0, Value pair.1)) pairs.items))) }
+    ensures { IfOk result (λ node. SomeIff node (HasPairs IsWithinLimit pairs.items)
+        (leaf_of (map (λ pair. (pair.0, Value pair.1)) pairs.items))) }
 {
     let Some(leaf) = Leaf::from_pairs(alloc, pairs)? else {
         return Ok(None);
@@ -163,8 +170,10 @@ fn leaf_of(alloc: Global, pairs: Vec<(IVec, IVec)>) -> Result<Option<Node>, Allo
 
 // `get ID`
 fn get_of(arguments: Option<&[u8]>) -> Option<Call>
-    ensures some { IfSome result (AsksBehind (codes "get") (option_map (λ rest. rest.now) arguments.entry)) }
-    ensures none { IfNone result ((call : Call) → ¬ AsksBehind (codes "get") (option_map (λ rest. rest.now) arguments.entry) call) }
+    ensures some { IfSome result
+        (AsksBehind (codes "get") (option_map (λ rest. rest.now) arguments.entry)) }
+    ensures none { IfNone result ((call : Call)
+        → ¬ AsksBehind (codes "get") (option_map (λ rest. rest.now) arguments.entry) call) }
 {
     let pid = number_of(arguments?)?;
     Some(Call::Get(pid))
@@ -172,8 +181,10 @@ fn get_of(arguments: Option<&[u8]>) -> Option<Call>
 
 // `set ID STAMP KEY VALUE`
 fn set_of(alloc: Global, arguments: Option<&[u8]>) -> Result<Option<Call>, AllocError>
-    ensures some { IfOk result (λ found. IfSome found (AsksBehind (codes "set") (option_map (λ rest. rest.now) arguments.entry))) }
-    ensures none { IfOk result (λ found. IfNone found ((call : Call) → ¬ AsksBehind (codes "set") (option_map (λ rest. rest.now) arguments.entry) call)) }
+    ensures some { IfOk result (λ found. IfSome found
+        (AsksBehind (codes "set") (option_map (λ rest. rest.now) arguments.entry))) }
+    ensures none { IfOk result (λ found. IfNone found ((call : Call)
+        → ¬ AsksBehind (codes "set") (option_map (λ rest. rest.now) arguments.entry) call)) }
 {
     let Some((old, link)) = set_behind(alloc, arguments)? else {
         return Ok(None);
@@ -186,8 +197,10 @@ fn set_behind(
     alloc: Global,
     arguments: Option<&[u8]>,
 ) -> Result<Option<(PageView, Link)>, AllocError>
-    ensures some { IfOk result (λ found. IfSome found (λ made. AsksBehind (codes "set") (option_map (λ rest. rest.now) arguments.entry) (calls.Link made.0 made.1))) }
-    ensures none { IfOk result (λ found. IfNone found ((call : Call) → ¬ AsksBehind (codes "set") (option_map (λ rest. rest.now) arguments.entry) call)) }
+    ensures some { IfOk result (λ found. IfSome found (λ made. AsksBehind (codes "set")
+        (option_map (λ rest. rest.now) arguments.entry) (calls.Link made.0 made.1))) }
+    ensures none { IfOk result (λ found. IfNone found ((call : Call)
+        → ¬ AsksBehind (codes "set") (option_map (λ rest. rest.now) arguments.entry) call)) }
 {
     let Some((old, rest)) = token_of(arguments) else {
         return Ok(None);
@@ -206,8 +219,10 @@ fn set_behind(
 
 // `del ID STAMP KEY`
 fn del_of(alloc: Global, arguments: Option<&[u8]>) -> Result<Option<Call>, AllocError>
-    ensures some { IfOk result (λ found. IfSome found (AsksBehind (codes "del") (option_map (λ rest. rest.now) arguments.entry))) }
-    ensures none { IfOk result (λ found. IfNone found ((call : Call) → ¬ AsksBehind (codes "del") (option_map (λ rest. rest.now) arguments.entry) call)) }
+    ensures some { IfOk result (λ found. IfSome found
+        (AsksBehind (codes "del") (option_map (λ rest. rest.now) arguments.entry))) }
+    ensures none { IfOk result (λ found. IfNone found ((call : Call)
+        → ¬ AsksBehind (codes "del") (option_map (λ rest. rest.now) arguments.entry) call)) }
 {
     let Some((old, link)) = del_behind(alloc, arguments)? else {
         return Ok(None);
@@ -220,8 +235,10 @@ fn del_behind(
     alloc: Global,
     arguments: Option<&[u8]>,
 ) -> Result<Option<(PageView, Link)>, AllocError>
-    ensures some { IfOk result (λ found. IfSome found (λ made. AsksBehind (codes "del") (option_map (λ rest. rest.now) arguments.entry) (calls.Link made.0 made.1))) }
-    ensures none { IfOk result (λ found. IfNone found ((call : Call) → ¬ AsksBehind (codes "del") (option_map (λ rest. rest.now) arguments.entry) call)) }
+    ensures some { IfOk result (λ found. IfSome found (λ made. AsksBehind (codes "del")
+        (option_map (λ rest. rest.now) arguments.entry) (calls.Link made.0 made.1))) }
+    ensures none { IfOk result (λ found. IfNone found ((call : Call)
+        → ¬ AsksBehind (codes "del") (option_map (λ rest. rest.now) arguments.entry) call)) }
 {
     let Some((old, rest)) = token_of(arguments) else {
         return Ok(None);
@@ -237,8 +254,10 @@ fn del_behind(
 
 // `replace ID STAMP PAIRS`: the leaf of these pairs.
 fn replace_of(alloc: Global, arguments: Option<&[u8]>) -> Result<Option<Call>, AllocError>
-    ensures some { IfOk result (λ found. IfSome found (AsksBehind (codes "replace") (option_map (λ rest. rest.now) arguments.entry))) }
-    ensures none { IfOk result (λ found. IfNone found ((call : Call) → ¬ AsksBehind (codes "replace") (option_map (λ rest. rest.now) arguments.entry) call)) }
+    ensures some { IfOk result (λ found. IfSome found
+        (AsksBehind (codes "replace") (option_map (λ rest. rest.now) arguments.entry))) }
+    ensures none { IfOk result (λ found. IfNone found ((call : Call)
+        → ¬ AsksBehind (codes "replace") (option_map (λ rest. rest.now) arguments.entry) call)) }
 {
     let Some((old, rest)) = token_of(arguments) else {
         return Ok(None);
@@ -251,8 +270,10 @@ fn replace_of(alloc: Global, arguments: Option<&[u8]>) -> Result<Option<Call>, A
 
 // `free ID STAMP`
 fn free_of(arguments: Option<&[u8]>) -> Option<Call>
-    ensures some { IfSome result (AsksBehind (codes "free") (option_map (λ rest. rest.now) arguments.entry)) }
-    ensures none { IfNone result ((call : Call) → ¬ AsksBehind (codes "free") (option_map (λ rest. rest.now) arguments.entry) call) }
+    ensures some { IfSome result
+        (AsksBehind (codes "free") (option_map (λ rest. rest.now) arguments.entry)) }
+    ensures none { IfNone result ((call : Call)
+        → ¬ AsksBehind (codes "free") (option_map (λ rest. rest.now) arguments.entry) call) }
 {
     let (old, rest) = token_of(arguments)?;
     match rest {
@@ -263,8 +284,10 @@ fn free_of(arguments: Option<&[u8]>) -> Option<Call>
 
 // `root NAME`
 fn root_of(alloc: Global, arguments: Option<&[u8]>) -> Result<Option<Call>, AllocError>
-    ensures some { IfOk result (λ found. IfSome found (AsksBehind (codes "root") (option_map (λ rest. rest.now) arguments.entry))) }
-    ensures none { IfOk result (λ found. IfNone found ((call : Call) → ¬ AsksBehind (codes "root") (option_map (λ rest. rest.now) arguments.entry) call)) }
+    ensures some { IfOk result (λ found. IfSome found
+        (AsksBehind (codes "root") (option_map (λ rest. rest.now) arguments.entry))) }
+    ensures none { IfOk result (λ found. IfNone found ((call : Call)
+        → ¬ AsksBehind (codes "root") (option_map (λ rest. rest.now) arguments.entry) call)) }
 {
     let Some(name) = name_behind(alloc, arguments)? else {
         return Ok(None);
@@ -274,8 +297,10 @@ fn root_of(alloc: Global, arguments: Option<&[u8]>) -> Result<Option<Call>, Allo
 
 // A name that stands alone.
 fn name_behind(alloc: Global, arguments: Option<&[u8]>) -> Result<Option<IVec>, AllocError>
-    ensures some { IfOk result (λ found. IfSome found (λ name. AreBytes name × (option_map (λ rest. rest.now) arguments.entry ≡ Some (bytes_word name)))) }
-    ensures none { IfOk result (λ found. IfNone found ((name : Bytes) → AreBytes name → option_map (λ rest. rest.now) arguments.entry ≢ Some (bytes_word name))) }
+    ensures some { IfOk result (λ found. IfSome found (λ name. AreBytes name
+        × (option_map (λ rest. rest.now) arguments.entry ≡ Some (bytes_word name)))) }
+    ensures none { IfOk result (λ found. IfNone found ((name : Bytes) → AreBytes name
+        → option_map (λ rest. rest.now) arguments.entry ≢ Some (bytes_word name))) }
 {
     let Some(word) = arguments else {
         return Ok(None);
@@ -288,8 +313,10 @@ fn name_behind(alloc: Global, arguments: Option<&[u8]>) -> Result<Option<IVec>, 
 
 // `cas NAME OLD NEW`
 fn cas_of(alloc: Global, arguments: Option<&[u8]>) -> Result<Option<Call>, AllocError>
-    ensures some { IfOk result (λ found. IfSome found (AsksBehind (codes "cas") (option_map (λ rest. rest.now) arguments.entry))) }
-    ensures none { IfOk result (λ found. IfNone found ((call : Call) → ¬ AsksBehind (codes "cas") (option_map (λ rest. rest.now) arguments.entry) call)) }
+    ensures some { IfOk result (λ found. IfSome found
+        (AsksBehind (codes "cas") (option_map (λ rest. rest.now) arguments.entry))) }
+    ensures none { IfOk result (λ found. IfNone found ((call : Call)
+        → ¬ AsksBehind (codes "cas") (option_map (λ rest. rest.now) arguments.entry) call)) }
 {
     let Some((name, roots)) = two_words(arguments) else {
         return Ok(None);
@@ -303,31 +330,12 @@ fn cas_of(alloc: Global, arguments: Option<&[u8]>) -> Result<Option<Call>, Alloc
     Ok(Some(Call::CasRoot(name, old, new)))
 }
 
-// Two root pages, each of which may be none.
-fn two_roots(words: &[u8]) -> Option<(Option<PageId>, Option<PageId>)>
-    ensures some { IfSome result (λ roots. EncodeRoots words.now roots.0 roots.1) }
-    ensures none { IfNone result ((old new : Option ℕ) → ¬ EncodeRoots words.now old new) }
-{
-    let (old, new) = two_words(Some(words))?;
-    Some((root_in(old)?, root_in(new)?))
-}
-
-// The root page that the word encodes, which is none at a dash.
-fn root_in(word: &[u8]) -> Option<Option<PageId>>
-    ensures some { IfSome result (λ root. IsRootNumber root × (word.now ≡ root_word root)) }
-    ensures none { IfNone result ((root : Option ℕ) → IsRootNumber root → word.now ≢ root_word root) }
-{
-    if word == b"-".as_slice() {
-        return Some(None);
-    }
-    let root = number_of(word)?;
-    Some(Some(root))
-}
-
 // `id`
 fn id_of(arguments: Option<&[u8]>) -> Option<Call>
-    ensures some { IfSome result (AsksBehind (codes "id") (option_map (λ rest. rest.now) arguments.entry)) }
-    ensures none { IfNone result ((call : Call) → ¬ AsksBehind (codes "id") (option_map (λ rest. rest.now) arguments.entry) call) }
+    ensures some { IfSome result
+        (AsksBehind (codes "id") (option_map (λ rest. rest.now) arguments.entry)) }
+    ensures none { IfNone result ((call : Call)
+        → ¬ AsksBehind (codes "id") (option_map (λ rest. rest.now) arguments.entry) call) }
 {
     match arguments {
         None => Some(Call::GenerateId),
@@ -337,8 +345,10 @@ fn id_of(arguments: Option<&[u8]>) -> Option<Call>
 
 // `flush`
 fn flush_of(arguments: Option<&[u8]>) -> Option<Call>
-    ensures some { IfSome result (AsksBehind (codes "flush") (option_map (λ rest. rest.now) arguments.entry)) }
-    ensures none { IfNone result ((call : Call) → ¬ AsksBehind (codes "flush") (option_map (λ rest. rest.now) arguments.entry) call) }
+    ensures some { IfSome result
+        (AsksBehind (codes "flush") (option_map (λ rest. rest.now) arguments.entry)) }
+    ensures none { IfNone result ((call : Call)
+        → ¬ AsksBehind (codes "flush") (option_map (λ rest. rest.now) arguments.entry) call) }
 {
     match arguments {
         None => Some(Call::Flush),
@@ -348,33 +358,15 @@ fn flush_of(arguments: Option<&[u8]>) -> Option<Call>
 
 // `size`
 fn size_of(arguments: Option<&[u8]>) -> Option<Call>
-    ensures some { IfSome result (AsksBehind (codes "size") (option_map (λ rest. rest.now) arguments.entry)) }
-    ensures none { IfNone result ((call : Call) → ¬ AsksBehind (codes "size") (option_map (λ rest. rest.now) arguments.entry) call) }
+    ensures some { IfSome result
+        (AsksBehind (codes "size") (option_map (λ rest. rest.now) arguments.entry)) }
+    ensures none { IfNone result ((call : Call)
+        → ¬ AsksBehind (codes "size") (option_map (λ rest. rest.now) arguments.entry) call) }
 {
     match arguments {
         None => Some(Call::SizeOnDisk),
         Some(_) => None,
     }
-}
-
-// The token whose words stand in front, and what follows the space behind them, if a space is there.
-fn token_of(arguments: Option<&[u8]>) -> Option<(PageView, Option<&[u8]>)>
-    ensures some { IfSome result (λ read. BeginsWithToken (option_map (λ rest. rest.now) arguments.entry) read.0 (option_map (λ rest. rest.now) read.1)) }
-    ensures none { IfNone result ((old : Token) (rest : Option Bytes) → ¬ BeginsWithToken (option_map (λ rest. rest.now) arguments.entry) old rest) }
-{
-    let (page, rest) = first_word(arguments?);
-    let (stamp, rest) = first_word(rest?);
-    let old = PageView::new(number_of(page)?, number_of(stamp)?);
-    Some((old, rest))
-}
-
-// The first word, and all that stands behind the space after it.
-fn two_words(arguments: Option<&[u8]>) -> Option<(&[u8], &[u8])>
-    ensures some { IfSome result (λ words. AreTwo (option_map (λ rest. rest.now) arguments.entry) words.0.now words.1.now) }
-    ensures none { IfNone result ((first rest : Bytes) → ¬ AreTwo (option_map (λ rest. rest.now) arguments.entry) first rest) }
-{
-    let (first, rest) = first_word(arguments?);
-    Some((first, rest?))
 }
 
 #[cfg(test)]

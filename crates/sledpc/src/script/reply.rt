@@ -138,7 +138,8 @@ fn gather_labelled<W: Write>(
     number: u64,
 ) -> Result<(), Unwritten>
     requires { length label.now ≤ 40 }
-    ensures { Gathers (W.contents writer.old) (W.contents writer.new) piece.old piece.new result (label.now ++ decimal number ++ 10 ∷ []) }
+    ensures { Gathers (W.contents writer.old) (W.contents writer.new) piece.old piece.new result
+        (label.now ++ decimal number ++ 10 ∷ []) }
 {
     make_room(writer, piece, 61)?;
     put_labelled(piece, label, number);
@@ -152,7 +153,8 @@ fn gather_page<W: Write>(
     pid: PageId,
     stamp: u64,
 ) -> Result<(), Unwritten>
-    ensures { Gathers (W.contents writer.old) (W.contents writer.new) piece.old piece.new result (codes "page " ++ decimal pid ++ codes " " ++ decimal stamp ++ 10 ∷ []) }
+    ensures { Gathers (W.contents writer.old) (W.contents writer.new) piece.old piece.new result
+        (codes "page " ++ decimal pid ++ codes " " ++ decimal stamp ++ 10 ∷ []) }
 {
     make_room(writer, piece, 47)?;
     put_labelled(piece, b"page ", pid);
@@ -163,7 +165,8 @@ fn gather_page<W: Write>(
 }
 
 fn gather_error<W: Write>(writer: &mut W, piece: &mut Piece, error: &Error) -> Result<(), Unwritten>
-    ensures { Gathers (W.contents writer.old) (W.contents writer.new) piece.old piece.new result (error_text error.now ++ 10 ∷ []) }
+    ensures { Gathers (W.contents writer.old) (W.contents writer.new) piece.old piece.new result
+        (error_text error.now ++ 10 ∷ []) }
 {
     match error {
         Error::CollectionNotFound(_) => gather_text(writer, piece, b"error collection\n"),
@@ -191,7 +194,8 @@ fn gather_node<W: Write>(
     stamp: u64,
     node: &Node,
 ) -> Result<(), Unwritten>
-    ensures { Gathers (W.contents writer.old) (W.contents writer.new) piece.old piece.new result (node_text stamp node.now ++ 10 ∷ []) }
+    ensures { Gathers (W.contents writer.old) (W.contents writer.new) piece.old piece.new result
+        (node_text stamp node.now ++ 10 ∷ []) }
 {
     make_room(writer, piece, 30)?;
     put_labelled(piece, label_of(node), stamp);
@@ -207,7 +211,8 @@ fn label_of(node: &Node) -> &'static [u8]
 }
 
 fn gather_entries<W: Write>(writer: &mut W, piece: &mut Piece, node: &Node) -> Result<(), Unwritten>
-    ensures { Gathers (W.contents writer.old) (W.contents writer.new) piece.old piece.new result (flat_map entry_text node.now.pairs) }
+    ensures { Gathers (W.contents writer.old) (W.contents writer.new) piece.old piece.new result
+        (flat_map entry_text node.now.pairs) }
 {
     let front = front_of(node);
     for i in 0..node.len() {
@@ -238,7 +243,8 @@ fn gather_entry<W: Write>(
     rest: &[u8],
     item: Item<'_>,
 ) -> Result<(), Unwritten>
-    ensures { Gathers (W.contents writer.old) (W.contents writer.new) piece.old piece.new result (entry_text (front.now ++ rest.now, item_of item.entry)) }
+    ensures { Gathers (W.contents writer.old) (W.contents writer.new) piece.old piece.new result
+        (entry_text (front.now ++ rest.now, item_of item.entry)) }
 {
     match item {
         Item::Value(value) if is_short(front, rest, value) => {
@@ -252,7 +258,8 @@ fn gather_entry<W: Write>(
 
 // Whether an entry is short.
 fn is_short(front: &[u8], rest: &[u8], value: &[u8]) -> bool
-    ensures { IsTrue result → length (entry_text (front.now ++ rest.now, Value value.now)) ≤ entry_room }
+    ensures { IsTrue result
+        → length (entry_text (front.now ++ rest.now, Value value.now)) ≤ entry_room }
 {
     front
         .len()
@@ -263,7 +270,8 @@ fn is_short(front: &[u8], rest: &[u8], value: &[u8]) -> bool
 
 // Puts an entry into a piece, which has room for it.
 fn put_entry(piece: &mut Piece, front: &[u8], rest: &[u8], value: &[u8])
-    requires { length piece.old + length (entry_text (front.now ++ rest.now, Value value.now)) ≤ piece_room }
+    requires { length piece.old + length (entry_text (front.now ++ rest.now, Value value.now))
+        ≤ piece_room }
     ensures { piece.new ≡ piece.old ++ entry_text (front.now ++ rest.now, Value value.now) }
 {
     piece.push(b' ');
@@ -279,7 +287,8 @@ fn gather_entry_in_parts<W: Write>(
     rest: &[u8],
     item: Item<'_>,
 ) -> Result<(), Unwritten>
-    ensures { Gathers (W.contents writer.old) (W.contents writer.new) piece.old piece.new result (entry_text (front.now ++ rest.now, item_of item.entry)) }
+    ensures { Gathers (W.contents writer.old) (W.contents writer.new) piece.old piece.new result
+        (entry_text (front.now ++ rest.now, item_of item.entry)) }
 {
     gather_text(writer, piece, b" ")?;
     gather_key(writer, piece, front, rest)?;
@@ -294,7 +303,8 @@ fn gather_key<W: Write>(
     front: &[u8],
     rest: &[u8],
 ) -> Result<(), Unwritten>
-    ensures { Gathers (W.contents writer.old) (W.contents writer.new) piece.old piece.new result (bytes_word (front.now ++ rest.now)) }
+    ensures { Gathers (W.contents writer.old) (W.contents writer.new) piece.old piece.new result
+        (bytes_word (front.now ++ rest.now)) }
 {
     if front.is_empty() {
         return gather_bytes_word(writer, piece, rest);
@@ -307,7 +317,8 @@ fn gather_key<W: Write>(
 }
 
 fn gather_item<W: Write>(writer: &mut W, piece: &mut Piece, item: Item<'_>) -> Result<(), Unwritten>
-    ensures { Gathers (W.contents writer.old) (W.contents writer.new) piece.old piece.new result (item_word (item_of item.entry)) }
+    ensures { Gathers (W.contents writer.old) (W.contents writer.new) piece.old piece.new result
+        (item_word (item_of item.entry)) }
 {
     match item {
         Item::Value(value) => gather_bytes_word(writer, piece, value),

@@ -39,8 +39,10 @@ pub fn number_of(word: &[u8]) -> Option<u64>
 
 /// The number with one more digit behind its own.
 fn with_digit(number: u64, digit: u8) -> Option<u64>
-    ensures some { IfSome result (λ n. (digit_value digit < 10) × (n ≡ number * 10 + digit_value digit)) }
-    ensures none { IfNone result (digit_value digit < 10 → 2 ^ 64 ≤ number * 10 + digit_value digit) }
+    ensures some { IfSome result (λ n. (digit_value digit < 10)
+        × (n ≡ number * 10 + digit_value digit)) }
+    ensures none { IfNone result (digit_value digit < 10
+        → 2 ^ 64 ≤ number * 10 + digit_value digit) }
 {
     match digit {
         b'0'..=b'9' => number.checked_mul(10)?.checked_add(u64::from(digit - b'0')),
@@ -72,8 +74,10 @@ fn hex_value(digit: u8) -> Option<u8>
 
 /// The byte that two hexadecimal digits encode.
 fn hex_byte(high: u8, low: u8) -> Option<u8>
-    ensures some { IfSome result (λ byte. (high ≡ hex_digit (byte / 16)) × (low ≡ hex_digit (byte % 16))) }
-    ensures none { IfNone result ((byte : ℕ) → byte < 256 → high ≡ hex_digit (byte / 16) → low ≢ hex_digit (byte % 16)) }
+    ensures some { IfSome result (λ byte. (high ≡ hex_digit (byte / 16))
+        × (low ≡ hex_digit (byte % 16))) }
+    ensures none { IfNone result ((byte : ℕ) → byte < 256 → high ≡ hex_digit (byte / 16)
+        → low ≢ hex_digit (byte % 16)) }
 {
     Some(hex_value(high)? * 16 + hex_value(low)?)
 }

@@ -1,5 +1,5 @@
 -- A line's name is its first word.
-use Rattle.std.proofs.Common.{◌≡◌, codes, length, get_or, arith}
+use Rattle.std.proofs.Common.{◌≡◌, codes, arith}
 use Rattle.std.proofs.lemmas.Grind.{common_steps}
 use Rattle.sledpc.proofs.Commands.{none_encoded, none_encoded_if_ok, some_encoded_if_ok, no_name, seven_bytes, encoded_behind}
 use Rattle.sledpc.proofs.script.command.call_of.Goals as goal
@@ -22,29 +22,13 @@ returns-in-del-clause-none c =
 pub returns-in-replace-clause-none : goal.returns-in-replace-clause-none
 returns-in-replace-clause-none c =
     let word = c.first_word.result.0.now in
-    let count : length word ≡ 7 = grind (arith, common_steps) in
-    let first : get_or word 0 0 ≡ 114 = grind (arith, common_steps) in
-    let second : get_or word 1 0 ≡ 101 = grind (arith, common_steps) in
-    let third : get_or word 2 0 ≡ 112 = grind (arith, common_steps) in
-    let fourth : get_or word 3 0 ≡ 108 = grind (arith, common_steps) in
-    let fifth : get_or word 4 0 ≡ 97 = grind (arith, common_steps) in
-    let sixth : get_or word 5 0 ≡ 99 = grind (arith, common_steps) in
-    let seventh : get_or word 6 0 ≡ 101 = grind (arith, common_steps) in
-    let name : word ≡ codes "replace" = seven_bytes word _ _ _ _ _ _ _ count first second third fourth fifth sixth seventh in
+    let name : word ≡ codes "replace" = seven_bytes word 114 101 112 108 97 99 101 (grind (arith, common_steps)) (grind (arith, common_steps)) (grind (arith, common_steps)) (grind (arith, common_steps)) (grind (arith, common_steps)) (grind (arith, common_steps)) (grind (arith, common_steps)) (grind (arith, common_steps)) in
     none_encoded_if_ok _ _ _ _ c.first_word.ensures (rw name c.replace_of.ensures.none)
 
 pub returns-in-replace-clause-some : goal.returns-in-replace-clause-some
 returns-in-replace-clause-some c =
     let word = c.first_word.result.0.now in
-    let count : length word ≡ 7 = grind (arith, common_steps) in
-    let first : get_or word 0 0 ≡ 114 = grind (arith, common_steps) in
-    let second : get_or word 1 0 ≡ 101 = grind (arith, common_steps) in
-    let third : get_or word 2 0 ≡ 112 = grind (arith, common_steps) in
-    let fourth : get_or word 3 0 ≡ 108 = grind (arith, common_steps) in
-    let fifth : get_or word 4 0 ≡ 97 = grind (arith, common_steps) in
-    let sixth : get_or word 5 0 ≡ 99 = grind (arith, common_steps) in
-    let seventh : get_or word 6 0 ≡ 101 = grind (arith, common_steps) in
-    let name : word ≡ codes "replace" = seven_bytes word _ _ _ _ _ _ _ count first second third fourth fifth sixth seventh in
+    let name : word ≡ codes "replace" = seven_bytes word 114 101 112 108 97 99 101 (grind (arith, common_steps)) (grind (arith, common_steps)) (grind (arith, common_steps)) (grind (arith, common_steps)) (grind (arith, common_steps)) (grind (arith, common_steps)) (grind (arith, common_steps)) (grind (arith, common_steps)) in
     some_encoded_if_ok _ _ _ _ c.requires c.first_word.ensures (rw name c.replace_of.ensures.some)
 
 pub returns-in-alloc-clause-none : goal.returns-in-alloc-clause-none
