@@ -1,14 +1,9 @@
 -- Allocating a page, as a step of the machine.
-use Rattle.sled_pagecache.proofs.Names.{Recency, ◌≡◌, ◌≢◌, ◌⊎◌, inl, inr, ⊎_elim, ◌≤◌, ◌<◌, ◌+◌, ◌-◌, ◌^◌, ℕ, zero, suc, Bool, true, false, cond, List, [], ◌∷◌, ◌++◌, length, take, Option, Some, None, Result, Ok, Err, slice_get, slice_set, refl, sym, ◌∙◌, ap, subst, arith, eq-eqb, ne_eqb, false≢true, none-some, same_Some, slice_get-get_or, slice_get_within, Error, Unsupported, Refusal, PagesUsedUp, StampUsedUp, Event, Update, Node, Put, Change, IsUpdate, message_of, Ghosts, WholeNode, RefusesPage, Cache, chain_length, HasNoRoom, StepOver, IsIn, Steps, Went, IsCaused, begun_by, Logged, free_ids, page, State, with_page, free_token, later, greatest_free, Does, Outcome, outcome, unchanged, Allocates, RefusesSwap, IsRoots, IsCounter, AreOwn, IsBeside, IsConsistent, Token, token, Allocated, Allocate, Config, StickyLog, Kept}
-use Rattle.sled_pagecache.proofs.ByIds.{at-id}
-use Rattle.sled_base.specs.Errors.{error_of as error_by}
+use Rattle.sled_pagecache.proofs.Names.{Recency, ◌≡◌, ◌≢◌, ◌⊎◌, inl, inr, ⊎_elim, ◌≤◌, ◌<◌, ◌+◌, ◌-◌, ◌^◌, ℕ, zero, suc, Bool, true, false, cond, List, [], ◌∷◌, ◌++◌, length, take, Option, Some, None, Result, Ok, Err, slice_get, slice_set, refl, sym, ◌∙◌, ap, subst, arith, eq-eqb, ne_eqb, false≢true, none-some, same_Some, slice_get-get_or, slice_get_within, Error, Unsupported, Refusal, PagesUsedUp, StampUsedUp, Event, Update, Node, Put, Change, IsUpdate, message_of, Ghosts, WholeNode, RefusesPage, Cache, chain_length, HasNoRoom, StepOver, IsIn, Steps, Went, IsCaused, begun_by, Logged, free_ids, page, State, with_page, free_token, later, greatest_free, Does, Outcome, outcome, unchanged, Allocates, RefusesSwap, IsRoots, IsCounter, AreOwn, IsBeside, IsConsistent, Token, token, Allocated, Allocate, Config, StickyLog, Kept, error_by, StampedPage, KeptPage, at-id, view}
 use Rattle.sled_pagecache.proofs.Putting.{unless-clear, MayPut, may-set, may-add, nothing-appended, put-refused, put-set, put-added}
 use Rattle.sled_pagecache.proofs.Standing.{AreKnown, known-length}
-use Rattle.sled_pagecache.proofs.TableNodes.{view}
 use Rattle.sled_pagecache.specs.Pages as shown
-use Rattle.sled_pagecache.specs.State.{StampedPage}
 use Rattle.sled_pagecache.specs.declared.pagecache.page.Kept.TheVariants as held
-use Rattle.sled_pagecache.specs.declared.pagecache.page.Page.{Page as KeptPage}
 
 -- ---- the last of a list
 
@@ -180,24 +175,24 @@ module _ {L : Type 0} (g : Ghosts L) (next : ℕ) (config : Config) (recovered :
     may-new room held s is clear = may-add g next config recovered lru before table ready beside held s is clear node kept.both (let few = kept.few in omega (arith, few, room))
 
     pub adds-refused : pages ≡ table → (refusal : Refusal) → RefusesPage (length table) refusal
-        → (let told : Result (Unit {0}) Refusal = Err refusal in Went g.tells g.state g.moment g.left_since g.counts before after (begun_by told (Change (length table) (message_of (Put (Node node))) ∷ [])))
-        → (let told : Result (Unit {0}) Refusal = Err refusal in IsCaused g.tells g.state g.moment g.left_since g.counts before after (g.is_full before.log (length (message_of (Put (Node node))).payload)) told)
+        → (let told : Result (Unit {0}) Refusal = Err refusal in Went g before after (begun_by told (Change (length table) (message_of (Put (Node node))) ∷ [])))
+        → (let told : Result (Unit {0}) Refusal = Err refusal in IsCaused g before after (g.is_full before.log (length (message_of (Put (Node node))).payload)) told)
         → Steps g (cache before table) (Allocate node) (Allocated (Err (error_by refusal))) (cache after pages)
     adds-refused back refusal (inl (many, is)) =
         rw is (λ went cause. nothing-appended g next config recovered lru before table ready beside after (Allocate node) pages back (Allocated (Err (Unsupported PagesUsedUp))) went cause.fault
-        (λ s clear are. allocate_full lengths no_room s node clear (none_in s are) (known-length s.pages table are ∙ many)))
+        (λ held s _ clear are. allocate_full lengths no_room s node clear (none_in s are) (known-length s.pages table are ∙ many)))
     adds-refused back refusal (inr (room, of)) =
         put-refused g next config recovered lru before table ready beside after (Allocate node) (length table) (Node node) reads (may-new room) (Unit {0}) pages back (λ e. Allocated (Err e))
-        (λ s clear are e out fails. adds room s clear are (Err e) out fails)
+        (λ held s _ clear are e out fails. adds room s clear are (Err e) out fails)
         refusal of
 
-    pub adds-done : length table ≢ 2 ^ 37 → Went g.tells g.state g.moment g.left_since g.counts before after (Change (length table) (message_of (Put (Node node))) ∷ []) → after.fault ≡ false
+    pub adds-done : length table ≢ 2 ^ 37 → Went g before after (Change (length table) (message_of (Put (Node node))) ∷ []) → after.fault ≡ false
         → (added : KeptPage) → added.stamp ≡ 1 → pages ≡ table ++ added ∷ [] → (pid : ℕ) → pid ≡ length table → (made : Token) → made ≡ token pid 1
         → Steps g (cache before table) (Allocate node) (Allocated (Ok (pid, made))) (cache after pages)
     adds-done room went clear_after added first behind pid last made is =
         subst (λ (l : List KeptPage). Steps g (cache before table) (Allocate node) (Allocated (Ok (pid, made))) (cache after l)) (sym behind)
         (put-added g next config recovered lru before table ready beside after (Allocate node) (length table) (Node node) reads (may-new room) went clear_after (Allocated (Ok (pid, made))) 1 added first refl
-        (λ s clear are.
+        (λ held s _ clear are.
         adds room s clear are (Ok (pid, made)) (outcome (record s { pages = s.pages ++ page 1 (Node node) ∷ [] }) (Change (length table) (Put (Node node)) ∷ []))
         (refl, (last, is ∙ ap (λ n. token n 1) last, refl))))
 
@@ -213,23 +208,23 @@ module _ {L : Type 0} (g : Ghosts L) (next : ℕ) (config : Config) (recovered :
     may-reuse held s is clear = may-set g next config recovered lru before table ready beside held s is clear pid (Node node) tt from there
 
     pub reuses-refused : pages ≡ table → (refusal : Refusal) → RefusesSwap last.page.stamp refusal
-        → (let told : Result (Unit {0}) Refusal = Err refusal in Went g.tells g.state g.moment g.left_since g.counts before after (begun_by told (Change pid (message_of (Put (Node node))) ∷ [])))
-        → (let told : Result (Unit {0}) Refusal = Err refusal in IsCaused g.tells g.state g.moment g.left_since g.counts before after (g.is_full before.log (length (message_of (Put (Node node))).payload)) told)
+        → (let told : Result (Unit {0}) Refusal = Err refusal in Went g before after (begun_by told (Change pid (message_of (Put (Node node))) ∷ [])))
+        → (let told : Result (Unit {0}) Refusal = Err refusal in IsCaused g before after (g.is_full before.log (length (message_of (Put (Node node))).payload)) told)
         → Steps g (cache before table) (Allocate node) (Allocated (Err (error_by refusal))) (cache after pages)
     reuses-refused back refusal (inl (greatest, is)) =
         rw is (λ went cause. nothing-appended g next config recovered lru before table ready beside after (Allocate node) pages back (Allocated (Err (Unsupported StampUsedUp))) went cause.fault
-        (λ s clear are. allocate_last lengths no_room s node clear (token pid last.page.stamp) (last.greatest s.pages are) greatest))
+        (λ held s _ clear are. allocate_last lengths no_room s node clear (token pid last.page.stamp) (last.greatest s.pages are) greatest))
     reuses-refused back refusal (inr (below, of)) =
         put-refused g next config recovered lru before table ready beside after (Allocate node) pid (Node node) reads may-reuse (Unit {0}) pages back (λ e. Allocated (Err e))
-        (λ s clear are e out fails. allocate_reuses lengths no_room s node clear (token pid last.page.stamp) (last.greatest s.pages are) below (Err e) out fails)
+        (λ held s _ clear are e out fails. allocate_reuses lengths no_room s node clear (token pid last.page.stamp) (last.greatest s.pages are) below (Err e) out fails)
         refusal of
 
-    pub reuses-done : last.page.stamp ≢ 2 ^ 64 - 1 → Went g.tells g.state g.moment g.left_since g.counts before after (Change pid (message_of (Put (Node node))) ∷ []) → after.fault ≡ false
+    pub reuses-done : last.page.stamp ≢ 2 ^ 64 - 1 → Went g before after (Change pid (message_of (Put (Node node))) ∷ []) → after.fault ≡ false
         → (changed : KeptPage) → changed.stamp ≡ last.page.stamp + 1 → pages ≡ slice_set table pid changed → (made : Token) → made ≡ token pid changed.stamp
         → Steps g (cache before table) (Allocate node) (Allocated (Ok (pid, made))) (cache after pages)
     reuses-done below went clear_after changed risen back made is =
         subst (λ (l : List KeptPage). Steps g (cache before table) (Allocate node) (Allocated (Ok (pid, made))) (cache after l)) (sym back)
         (put-set g next config recovered lru before table ready beside after (Allocate node) pid (Node node) reads may-reuse went clear_after (Allocated (Ok (pid, made))) (last.page.stamp + 1) changed risen there
-        (λ s clear are.
+        (λ held s _ clear are.
         allocate_reuses lengths no_room s node clear (token pid last.page.stamp) (last.greatest s.pages are) below (Ok (pid, made))
         (outcome (with_page s pid (page (last.page.stamp + 1) (Node node))) (Change pid (Put (Node node)) ∷ [])) (refl, (refl, is ∙ ap (λ n. token pid n) risen, refl))))

@@ -1,14 +1,10 @@
 -- What a call keeps, by what it appended to its log.
-use Rattle.sled_pagecache.proofs.Names.{◌≡◌, ◌<◌, ℕ, Bool, true, false, cond, List, [], ◌∷◌, ◌++◌, length, Some, Result, Ok, Err, slice_get, slice_set, refl, sym, ◌∙◌, ap, arith, eq-eqb, false≢true, ne_eqb, length-map, map-append, map-set, slice_get_within, error_of, Read, Write, Error, Refusal, Io, Keeps, stamped, Cache, stamps_in, Token, token, Page}
+use Rattle.sled_pagecache.proofs.Names.{◌≡◌, ◌<◌, ℕ, Bool, true, false, cond, List, [], ◌∷◌, ◌++◌, length, Some, Result, Ok, Err, slice_get, slice_set, refl, sym, ◌∙◌, ap, arith, eq-eqb, false≢true, ne_eqb, length-map, map-append, map-set, slice_get_within, error_of, Write, Error, Refusal, Keeps, stamped, Cache, stamps_in, Token, token, Page, met_fault, map-at, set-at}
 use Rattle.sled_base.specs.declared.types.Error.TheVariants as errors
-use Rattle.sled_pagecache.proofs.Lookups.{map-at, set-at}
 use Rattle.sled_pagecache.specs.Answers.{is_write_fault}
-use Rattle.sled_pagecache.specs.StickyLog.{is_write_fault as met_fault}
 
 pub fault-same : (T U : Type 0) (refusal : Refusal) → (let err : Result T Refusal = Err refusal in met_fault err) ≡ (let answer : Result U Error = Err (error_of refusal) in is_write_fault answer)
-fault-same T U (Io Read) = refl
-fault-same T U (Io Write) = refl
-fault-same T U refusal = refl
+fault-same T U refusal = grind arith
 
 module _ {L T : Type 0} (old new : Cache L) (stamps : T → List ℕ) where
   -- with a write fault kept

@@ -1,20 +1,16 @@
 -- What follows from an append to one page that was made, or refused, once what the list dropped for it is paged out.
-use Rattle.sled_pagecache.proofs.Names.{◌≡◌, ◌≤◌, ◌+◌, ℕ, Bool, true, false, List, [], ◌∷◌, Some, None, Result, Ok, Err, slice_get, slice_set, refl, sym, ◌∙◌, ap, subst, arith, slice_get_within, error_of, Error, Refusal, Change, message_of, begun_by, Put, Content, Update, Ghosts, Cache, IsResident, HasNoNode, HasNoRoom, chain_length, IsBounded, AccessesPage, LeavesMemory, MakesAppend, RefusesAppend, RefusesSwap, OnErr, Keeps, Steps, IsBlamed, swapped, Swapped, SwapsContent, stamps_in, is_resident, free_ids, IsFreeOrNode, IsAnswered, Token, token, Answer, Call, Config, StickyLog, Accesses, Page, Kept}
+use Rattle.sled_pagecache.proofs.Names.{IsFresh, ◌≡◌, ◌≤◌, ◌+◌, ℕ, Bool, true, false, List, [], ◌∷◌, Some, None, Result, Ok, Err, slice_get, slice_set, refl, sym, ◌∙◌, ap, subst, arith, slice_get_within, error_of, Error, Refusal, Change, message_of, begun_by, Put, Content, Update, Ghosts, Cache, IsResident, HasNoNode, HasNoRoom, chain_length, IsBounded, AccessesPage, LeavesMemory, MakesAppend, RefusesAppend, RefusesSwap, OnErr, Keeps, Steps, IsBlamed, swapped, Swapped, SwapsContent, stamps_in, is_resident, free_ids, IsFreeOrNode, IsAnswered, Token, token, Answer, Call, Config, StickyLog, Accesses, Page, Kept, IsWhole, Evicts, IsSettled, behind-own, put-back, view}
 use Rattle.sled_pagecache.proofs.Answers.{keeps-err}
 use Rattle.sled_pagecache.proofs.CacheSteps.{steps-known}
 use Rattle.sled_pagecache.proofs.Counted.{behind-counter, other-at, spares-refused, whole-then}
 use Rattle.sled_pagecache.proofs.Evicting.{moves, by-swap, none-left}
 use Rattle.sled_pagecache.proofs.InMemory.{loses-none, stay-view, takes-page}
-use Rattle.sled_pagecache.proofs.Judging.{IsFresh, IsSwap, fresh-answered, keeps-fresh}
-use Rattle.sled_pagecache.proofs.Lookups.{behind-own, put-back}
+use Rattle.sled_pagecache.proofs.Judging.{IsSwap, fresh-answered, keeps-fresh}
 use Rattle.sled_pagecache.proofs.ProperPages.{IsPut}
 use Rattle.sled_pagecache.proofs.Putting.{blamed}
 use Rattle.sled_pagecache.proofs.Replacing.{swaps-refused, swaps-done}
 use Rattle.sled_pagecache.proofs.Standing.{one-short, resident-set}
-use Rattle.sled_pagecache.proofs.TableNodes.{view}
 use Rattle.sled_pagecache.proofs.Tables.{consistent-same, consistent-put, marks-begun}
-use Rattle.sled_pagecache.specs.Counted.{IsWhole}
-use Rattle.sled_pagecache.specs.Evictions.{Evicts, IsSettled}
 
 -- ---- one page
 
@@ -76,7 +72,7 @@ module _ {L : Type 0} (g : Ghosts L) {next : ℕ} {config : Config} {recovered :
       let other = behind-counter pid behind in
       after-whole result made there
       (whole-then g is.whole clear (λ told clear. (Change pid (message_of update) ∷ [], made.went, (other, tt))) (other-at table pid page other)
-      (consistent-put g.tells g.state before after table free free_then is.whole.consistent clear g.moment g.left_since g.counts pid (message_of update) made.went page (subst IsFreeOrNode (sym made.holds) own)
+      (consistent-put g before after table free free_then is.whole.consistent clear pid (message_of update) made.went page (subst IsFreeOrNode (sym made.holds) own)
       (one-short page made.stamps) made.kept made.sized behind made.others frees)) evicts
 
   pub after-refused : {T : Type 0} (result : Result T Error) {why : Refusal → Type 0} {refusal : Refusal} → RefusesAppend g pid update before after accesses between why (page ≡ q) refusal
@@ -95,7 +91,7 @@ module _ {L : Type 0} (g : Ghosts L) {next : ℕ} {config : Config} {recovered :
       let whole : IsWhole g.tells g.state config.idgen_persist_interval next after changed free_then =
       rw (back, unfreed)
       (whole-then g is.whole clear (spares-refused g (Unit {0}) refusal (Change pid (message_of update) ∷ []) (refused.went, refused.cause.fault)) refl
-      (consistent-same g.tells g.state before after table free free is.whole.consistent clear g.moment g.left_since g.counts (begun_by told (Change pid (message_of update) ∷ [])) refused.went
+      (consistent-same g before after table free free is.whole.consistent clear (begun_by told (Change pid (message_of update) ∷ [])) refused.went
       (marks-begun told pid (message_of update)) refused.same)) in
       let answer : Result (Result (Unit {0}) (Unit {0})) Error = Err (error_of refusal) in
       let swap = by-swap g next next config recovered before after table changed pages free free_then accesses between then is whole (Some pid) evicts pid answer refl tt tt

@@ -1,27 +1,22 @@
 -- Opening and closing a batch, as steps of the machine.
-use Rattle.sled_pagecache.proofs.Names.{Recency, ◌≡◌, ℕ, AllByRecursion, effect_of_entry, is_open, is_write_fault, Bool, true, false, List, [], ◌∷◌, Result, Ok, Err, refl, sym, ◌∙◌, subst, false≢true, Read, Write, Error, Refusal, LogFull, chains_from, Content, Update, contents_from, Event, Pin, Seal, Cancel, Message, Messages, effect_of, open_after, Ghosts, Cache, IsIn, Steps, StepOver, Went, Went-none, IsCaused, IsOfLog, begun_by, Logged, State, Outcome, outcome, unchanged, Answer, Call, Config, StickyLog, Page, KeepsMemory, HasGrown}
-use Rattle.sled_base.specs.Errors.{error_of}
+use Rattle.sled_pagecache.proofs.Names.{no_name, Recency, ◌≡◌, ℕ, AllByRecursion, effect_of_entry, is_open, is_write_fault, Bool, true, false, List, [], ◌∷◌, Result, Ok, Err, refl, sym, ◌∙◌, subst, false≢true, Read, Write, Error, Refusal, LogFull, chains_from, Content, Update, contents_from, Event, Pin, Message, Messages, effect_of, open_after, Ghosts, Cache, IsIn, Steps, StepOver, Went, Went-none, IsCaused, IsOfLog, begun_by, Logged, State, Outcome, outcome, unchanged, Answer, Call, Config, StickyLog, Page, KeepsMemory, HasGrown, error_of, BatchOpen, IsEvent, MayCome, IsWhole, SparesCounter, Closes, closed, Pinned, view}
 use Rattle.sled_base.specs.declared.types.Error.TheVariants.{Unsupported, Io, OutOfMemory}
 use Rattle.sled_base.specs.declared.types.Refusal.TheVariants as refusals
-use Rattle.sled_base.specs.declared.types.Why.TheVariants.{BatchOpen}
 use Rattle.sled_log.specs.LogState as log
-use Rattle.sled_log.specs.Reading.{IsEvent, MayCome}
 use Rattle.sled_pagecache.proofs.Answers.{fault-same}
 use Rattle.sled_pagecache.proofs.CacheSteps.{Leads, steps-known, steps-marked, steps-stuck, steps-went}
 use Rattle.sled_pagecache.proofs.Carrying.{proper-now}
 use Rattle.sled_pagecache.proofs.Changing.{leads-same}
 use Rattle.sled_pagecache.proofs.Counted.{spares-refused, whole-added, whole-then}
 use Rattle.sled_pagecache.proofs.Putting.{blamed}
-use Rattle.sled_pagecache.proofs.Refused.{no_name}
 use Rattle.sled_pagecache.proofs.Staying.{stay-one}
-use Rattle.sled_pagecache.proofs.TableNodes.{view}
 use Rattle.sled_pagecache.proofs.Tables.{consistent-kept}
-use Rattle.sled_pagecache.specs.Batches.{OpensBatch, ClosesBatch}
-use Rattle.sled_pagecache.specs.Counted.{IsWhole, SparesCounter}
+use Rattle.sled_pagecache.specs.Batches.{OpensBatch, ClosesBatch, answer_of, call_of}
 use Rattle.sled_pagecache.specs.Logged.{now}
-use Rattle.sled_pagecache.specs.Step.{Closes, closed}
-use Rattle.sled_pagecache.specs.declared.pagecache.call.Answer.TheVariants.{Pinned, Sealed, Cancelled}
+use Rattle.sled_pagecache.specs.StickyLog.{mark_of}
 use Rattle.sled_pagecache.specs.declared.pagecache.call.Call.TheVariants as call
+use Rattle.sled_pagecache.specs.declared.pagecache.sticky_log.Closing.{Closing}
+use Rattle.sled_pagecache.specs.declared.pagecache.sticky_log.Closing.TheVariants as closings
 
 -- an event that is a mark changes no page, and may always come
 pub record IsMark (message : Event Message) (event : Event Update) : Type 0 where
@@ -33,11 +28,14 @@ pub record IsMark (message : Event Message) (event : Event Update) : Type 0 wher
 pub pin-mark : IsMark Pin Pin
 pin-mark = record { is = tt; may = λ _. tt; chains = λ _. refl; contents = λ _. refl }
 
-pub seal-mark : IsMark Seal Seal
-seal-mark = record { is = tt; may = λ _. tt; chains = λ _. refl; contents = λ _. refl }
+pub closing-mark : (closing : Closing) → IsMark (mark_of closing) (mark_of closing)
+closing-mark closings.Seal = record { is = tt; may = λ _. tt; chains = λ _. refl; contents = λ _. refl }
+closing-mark closings.Cancel = record { is = tt; may = λ _. tt; chains = λ _. refl; contents = λ _. refl }
 
-pub cancel-mark : IsMark Cancel Cancel
-cancel-mark = record { is = tt; may = λ _. tt; chains = λ _. refl; contents = λ _. refl }
+-- no batch is open then
+closing-ends : (E : Type 0) (closing : Closing) (was : Bool) → (let events : List (Event E) = mark_of closing ∷ [] in open_after was events ≡ false)
+closing-ends E closings.Seal was = refl
+closing-ends E closings.Cancel was = refl
 
 module _ {L : Type 0} (g : Ghosts L) (next : ℕ) (config : Config) (recovered : Bool) (lru : Recency) (pages : List Page) where
   abbrev cache : StickyLog L → Cache L
@@ -47,7 +45,7 @@ module _ {L : Type 0} (g : Ghosts L) (next : ℕ) (config : Config) (recovered :
   keeps before after = record { stay = λ pid. record { resident = refl; node = refl }; lru = refl }
 
   abbrev reaches : StickyLog L → StickyLog L → List (Event Message) → Type 0
-  reaches before after events = Went g.tells g.state g.moment g.left_since g.counts before after events
+  reaches before after events = Went g before after events
 
   abbrev only_now : StickyLog L → Type 0
   only_now before = (l : List Messages) → g.tells → (g.state before.log).usable ≡ true → g.left_since before.log (g.moment before.log) l → log.IsLeft effect_of (log.unplaced_state (g.state before.log)) [] l
@@ -95,7 +93,7 @@ module _ {L : Type 0} (g : Ghosts L) (next : ℕ) (config : Config) (recovered :
     opens-twice opened usable only = record {
       step =
           steps-went g (cache before) (cache before) before before call.Pin (Pinned (Err (Unsupported BatchOpen))) [] (record { config = refl; recovered = refl }) refl refl refl ready
-          (Went-none g.tells g.state g.moment g.left_since g.counts before usable only)
+          (Went-none g before usable only)
           (λ held s is clear. leads-same g (cache before) (cache before) held s is clear call.Pin (Pinned (Err (Unsupported BatchOpen))) refl (rw (clear, is.batch ∙ opened) (refl, refl)) refl ready);
       blame = record { read = λ is. absurd cc; write = λ is. absurd cc };
       done = tt;
@@ -128,7 +126,7 @@ module _ {L : Type 0} (g : Ghosts L) (next : ℕ) (config : Config) (recovered :
 
       -- the log refused it
       refused-step : (refusal : Refusal) → g.tells → IsOfLog refusal
-          → (let told : Result (Unit {0}) Refusal = Err refusal in reaches before after (begun_by told (Pin ∷ [])) × IsCaused g.tells g.state g.moment g.left_since g.counts before after (g.is_full_for_batch before.log) told)
+          → (let told : Result (Unit {0}) Refusal = Err refusal in reaches before after (begun_by told (Pin ∷ [])) × IsCaused g before after (g.is_full_for_batch before.log) told)
           → Steps g (cache before) call.Pin (Pinned (Err (error_of refusal))) (cache after)
       refused-step refusal told of refused = by refusal of refused.0 refused.1
         where
@@ -137,7 +135,7 @@ module _ {L : Type 0} (g : Ghosts L) (next : ℕ) (config : Config) (recovered :
               steps-went g (cache before) (cache after) before after call.Pin (Pinned (Err e)) [] (record { config = refl; recovered = refl }) refl refl refl ready went
               (λ held s is clear. leads-same g (cache before) (cache after) held s is clear call.Pin (Pinned (Err e)) refl (step s clear (is.batch ∙ none)) refl free)
 
-          by : (refusal : Refusal) → IsOfLog refusal → (let told : Result (Unit {0}) Refusal = Err refusal in reaches before after (begun_by told (Pin ∷ []))) → (let told : Result (Unit {0}) Refusal = Err refusal in IsCaused g.tells g.state g.moment g.left_since g.counts before after (g.is_full_for_batch before.log) told)
+          by : (refusal : Refusal) → IsOfLog refusal → (let told : Result (Unit {0}) Refusal = Err refusal in reaches before after (begun_by told (Pin ∷ []))) → (let told : Result (Unit {0}) Refusal = Err refusal in IsCaused g before after (g.is_full_for_batch before.log) told)
               → Steps g (cache before) call.Pin (Pinned (Err (error_of refusal))) (cache after)
           by (refusals.Io Write) of went cause =
               steps-marked g (cache before) (cache after) before after call.Pin (Pinned (Err (Io Write))) (Pin ∷ []) (record { config = refl; recovered = refl }) refl refl refl ready went
@@ -148,7 +146,7 @@ module _ {L : Type 0} (g : Ghosts L) (next : ℕ) (config : Config) (recovered :
           by refusal of went cause = absurd of
 
       pub opens-refused : (refusal : Refusal) → (g.tells → IsOfLog refusal)
-          → (let told : Result (Unit {0}) Refusal = Err refusal in reaches before after (begun_by told (Pin ∷ [])) × IsCaused g.tells g.state g.moment g.left_since g.counts before after (g.is_full_for_batch before.log) told)
+          → (let told : Result (Unit {0}) Refusal = Err refusal in reaches before after (begun_by told (Pin ∷ [])) × IsCaused g before after (g.is_full_for_batch before.log) told)
           → OpensBatch g (cache before) (Err (error_of refusal)) (cache after)
       opens-refused refusal of refused = record {
         step = steps-known g (cache before) (cache after) call.Pin (Pinned (Err (error_of refusal))) (record { config = refl; recovered = refl }) (λ told. refused-step refusal told (of told) refused);
@@ -165,27 +163,19 @@ module _ {L : Type 0} (g : Ghosts L) (next : ℕ) (config : Config) (recovered :
 
   -- ---- seal and cancel
 
-  -- how a call closes the batch
-  pub record IsClosing (called : Call) (said : Result (Unit {0}) Error → Answer) (message : Event Message) (event : Event Update) : Type 0 where
-    pub mark : IsMark message event
-    pub ends : (was : Bool) → open_after was (event ∷ []) ≡ false
-    pub step : (before : StickyLog L) (s : State) (answer : Result (Unit {0}) Error) (out : Outcome) → Closes event s answer out → StepOver g (cache before) s called (said answer) out
+  step-closes : (closing : Closing) (before : StickyLog L) (s : State) (answer : Result (Unit {0}) Error) (out : Outcome) → Closes (mark_of closing) s answer out → StepOver g (cache before) s (call_of closing) (answer_of closing answer) out
+  step-closes closings.Seal before s answer out h = h
+  step-closes closings.Cancel before s answer out h = h
 
-  pub seals : IsClosing call.Seal Sealed Seal Seal
-  seals = record { mark = seal-mark; ends = λ was. refl; step = λ before s answer out h. h }
-
-  pub cancels : IsClosing call.Cancel Cancelled Cancel Cancel
-  cancels = record { mark = cancel-mark; ends = λ was. refl; step = λ before s answer out h. h }
-
-  module _ (called : Call) (said : Result (Unit {0}) Error → Answer) (message : Event Message) (event : Event Update) (closing : IsClosing called said message event) (before : StickyLog L) (opened : before.batch ≡ true) where
+  module _ (closing : Closing) (before : StickyLog L) (opened : before.batch ≡ true) where
     -- with a write fault kept
-    pub closes-stuck : before.fault ≡ true → ClosesBatch g called said (cache before) (Err (Io Write)) (cache (record before { batch = false }))
+    pub closes-stuck : before.fault ≡ true → ClosesBatch g (call_of closing) (answer_of closing) (cache before) (Err (Io Write)) (cache (record before { batch = false }))
     closes-stuck kept = record {
       step = record {
         opening = record { config = refl; recovered = refl };
         from_each = λ held s is. record {
           out = unchanged (closed s);
-          step = closing.step before s (Err (Io Write)) (unchanged (closed s)) (is.batch ∙ opened, rw (is.fault ∙ kept) (refl, refl));
+          step = step-closes closing before s (Err (Io Write)) (unchanged (closed s)) (is.batch ∙ opened, rw (is.fault ∙ kept) (refl, refl));
           held_then = held;
           is = record { tells = is.tells; stamps = is.stamps; next = is.next; fault = is.fault; batch = refl; known = λ clear. absurd (false≢true (sym clear ∙ is.fault ∙ kept)) };
           added = λ clear. absurd (false≢true (sym clear ∙ is.fault ∙ kept));
@@ -203,13 +193,13 @@ module _ {L : Type 0} (g : Ghosts L) (next : ℕ) (config : Config) (recovered :
       same = keeps before (record before { batch = false });
     }
 
-    module _ (ready : before.fault ≡ false) (after : StickyLog L) (went : reaches (record before { batch = false }) after (message ∷ [])) (unread : (g.counts after.log).reads ≡ (g.counts before.log).reads) where
-      pub closes : after.fault ≡ false → ClosesBatch g called said (cache before) (Ok tt) (cache after)
+    module _ (ready : before.fault ≡ false) (after : StickyLog L) (went : reaches (record before { batch = false }) after (mark_of closing ∷ [])) (unread : (g.counts after.log).reads ≡ (g.counts before.log).reads) where
+      pub closes : after.fault ≡ false → ClosesBatch g (call_of closing) (answer_of closing) (cache before) (Ok tt) (cache after)
       closes free = record {
         step =
-            steps-marked g (cache before) (cache after) (record before { batch = false }) after called (said (Ok tt)) (message ∷ []) (record { config = refl; recovered = refl }) refl refl refl ready went
-            (λ held s is clear. leads-mark before after held s called (said (Ok tt)) message event closing.mark is clear false s.fault
-            (closing.step before s (Ok tt) (outcome (closed s) (event ∷ [])) (is.batch ∙ opened, rw clear refl)) (sym went.batch) (clear ∙ sym free) (λ _. closing.ends s.batch));
+            steps-marked g (cache before) (cache after) (record before { batch = false }) after (call_of closing) (answer_of closing (Ok tt)) (mark_of closing ∷ []) (record { config = refl; recovered = refl }) refl refl refl ready went
+            (λ held s is clear. leads-mark before after held s (call_of closing) (answer_of closing (Ok tt)) (mark_of closing) (mark_of closing) (closing-mark closing) is clear false s.fault
+            (step-closes closing before s (Ok tt) (outcome (closed s) (mark_of closing ∷ [])) (is.batch ∙ opened, rw clear refl)) (sym went.batch) (clear ∙ sym free) (λ _. closing-ends Update closing s.batch));
         blame = record { read = λ is. absurd cc; write = λ is. absurd cc };
         closed = went.batch;
         only = tt;
@@ -220,12 +210,12 @@ module _ {L : Type 0} (g : Ghosts L) (next : ℕ) (config : Config) (recovered :
         same = keeps before after;
       }
 
-      pub closes-refused : after.fault ≡ true → HasGrown (g.counts before.log).write_faults (g.counts after.log).write_faults → ClosesBatch g called said (cache before) (Err (Io Write)) (cache after)
+      pub closes-refused : after.fault ≡ true → HasGrown (g.counts before.log).write_faults (g.counts after.log).write_faults → ClosesBatch g (call_of closing) (answer_of closing) (cache before) (Err (Io Write)) (cache after)
       closes-refused kept grew = record {
         step =
-            steps-marked g (cache before) (cache after) (record before { batch = false }) after called (said (Err (Io Write))) (message ∷ []) (record { config = refl; recovered = refl }) refl refl refl ready went
-            (λ held s is clear. leads-mark before after held s called (said (Err (Io Write))) message event closing.mark is clear false true
-            (closing.step before s (Err (Io Write)) (outcome (record (closed s) { fault = true }) (event ∷ [])) (is.batch ∙ opened, rw clear (refl, refl))) (sym went.batch) (sym kept) (λ free. absurd (false≢true (sym free ∙ kept))));
+            steps-marked g (cache before) (cache after) (record before { batch = false }) after (call_of closing) (answer_of closing (Err (Io Write))) (mark_of closing ∷ []) (record { config = refl; recovered = refl }) refl refl refl ready went
+            (λ held s is clear. leads-mark before after held s (call_of closing) (answer_of closing (Err (Io Write))) (mark_of closing) (mark_of closing) (closing-mark closing) is clear false true
+            (step-closes closing before s (Err (Io Write)) (outcome (record (closed s) { fault = true }) (mark_of closing ∷ [])) (is.batch ∙ opened, rw clear (refl, refl))) (sym went.batch) (sym kept) (λ free. absurd (false≢true (sym free ∙ kept))));
         blame = record { read = λ is. absurd cc; write = λ is clear. grew };
         closed = went.batch;
         only = refl;
@@ -242,30 +232,33 @@ module _ {L : Type 0} (g : Ghosts L) {k next : ℕ} {before : StickyLog L} {tabl
     (same : g.tells → after.fault ≡ false → log.now effect_of_entry (g.state after.log) ≡ log.now effect_of_entry (g.state before.log)) where
   -- a mark came, which opened the batch or closed it
   pub whole-marked : (batch : Bool) (mid : StickyLog L) → mid.log ≡ before.log → (message : Event Message) → ((was : Bool) → open_after was (message ∷ []) ≡ batch) → AllByRecursion SparesCounter (message ∷ [])
-      → Went g.tells g.state g.moment g.left_since g.counts mid after (message ∷ []) → IsWhole g.tells g.state k next (record after { batch = batch }) table free
+      → Went g mid after (message ∷ []) → IsWhole g.tells g.state k next (record after { batch = batch }) table free
   whole-marked batch mid of message marks spares went =
       whole-added g whole ready (λ told clear. (message ∷ [], subst (λ l. log.Adds effect_of (log.unplaced_state (g.state l)) (message ∷ []) (log.unplaced_state (g.state after.log))) of (went.added told clear), spares)) refl
-      (consistent-kept g.tells g.state before (record after { batch = batch }) table free free whole.consistent ready went.usable (λ clear. went.opened clear ∙ marks (is_open (g.state mid.log).pending)) same)
+      (consistent-kept g before (record after { batch = batch }) table free free whole.consistent ready went.usable (λ clear. went.opened clear ∙ marks (is_open (g.state mid.log).pending)) same)
 
   -- no batch was opened
-  pub whole-refused : (refusal : Refusal) → (let told : Result (Unit {0}) Refusal = Err refusal in Went g.tells g.state g.moment g.left_since g.counts before after (begun_by told (Pin ∷ [])) × (after.fault ≡ is_write_fault told))
+  pub whole-refused : (refusal : Refusal) → (let told : Result (Unit {0}) Refusal = Err refusal in Went g before after (begun_by told (Pin ∷ [])) × (after.fault ≡ is_write_fault told))
       → IsWhole g.tells g.state k next after table free
   whole-refused refusal refused =
       whole-then g whole ready (spares-refused g (Unit {0}) refusal (Pin ∷ []) refused) refl
-      (consistent-kept g.tells g.state before after table free free whole.consistent ready refused.0.usable (λ clear. opened refusal refused clear) same)
+      (consistent-kept g before after table free free whole.consistent ready refused.0.usable (λ clear. opened refusal refused clear) same)
     where
-      opened : (refusal : Refusal) → (let told : Result (Unit {0}) Refusal = Err refusal in Went g.tells g.state g.moment g.left_since g.counts before after (begun_by told (Pin ∷ [])) × (after.fault ≡ is_write_fault told)) → after.fault ≡ false
+      opened : (refusal : Refusal) → (let told : Result (Unit {0}) Refusal = Err refusal in Went g before after (begun_by told (Pin ∷ [])) × (after.fault ≡ is_write_fault told)) → after.fault ≡ false
           → is_open (g.state after.log).pending ≡ after.batch
       opened (refusals.Io Write) (went, fault) clear = absurd (false≢true (sym clear ∙ fault))
       opened (refusals.Io Read) (went, fault) clear = went.opened clear ∙ whole.consistent.opened ready ∙ sym went.batch
       opened refusal (went, fault) clear = went.opened clear ∙ whole.consistent.opened ready ∙ sym went.batch
 
   -- the batch was closed
-  pub whole-closed : (message : Event Message) → ((was : Bool) → open_after was (message ∷ []) ≡ false) → AllByRecursion SparesCounter (message ∷ [])
-      → Went g.tells g.state g.moment g.left_since g.counts (record before { batch = false }) after (message ∷ []) → IsWhole g.tells g.state k next after table free
-  whole-closed message marks spares went =
+  pub whole-closed : (closing : Closing) → Went g (record before { batch = false }) after (mark_of closing ∷ []) → IsWhole g.tells g.state k next after table free
+  whole-closed closing went =
       subst (λ b. IsWhole g.tells g.state k next (record after { batch = b }) table free) (sym went.batch)
-      (whole-marked false (record before { batch = false }) refl message marks spares went)
+      (whole-marked false (record before { batch = false }) refl (mark_of closing) (closing-ends Message closing) (spares closing) went)
+    where
+      spares : (closing : Closing) → (let events : List (Event Message) = mark_of closing ∷ [] in AllByRecursion SparesCounter events)
+      spares closings.Seal = (tt, tt)
+      spares closings.Cancel = (tt, tt)
 
 -- with a write fault kept it may be closed
 pub whole-stuck : {L : Type 0} (g : Ghosts L) {k next : ℕ} {before : StickyLog L} {table : List Page} {free : List ℕ} → IsWhole g.tells g.state k next before table free → before.fault ≡ true

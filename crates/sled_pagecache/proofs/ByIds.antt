@@ -1,5 +1,10 @@
 -- Lists whose items are so by their ids.
-use Rattle.sled_pagecache.proofs.Names.{◌≡◌, ◌≤◌, ℕ, zero, suc, List, [], ◌∷◌, ◌++◌, length, slice_get, slice_set, slice_index_or, Option, Some, refl, subst, arith, none-some, same_Some, slice_get_within, get_or_from_slice_get, IfSome, AllByRecursion, AllZip, AllById, FitsId, zip-at}
+use Rattle.std.proofs.Common.{◌≡◌, ◌≤◌, ℕ, zero, suc, List, [], ◌∷◌, ◌++◌, length, slice_get, slice_set, slice_index_or, Option, Some, refl, subst, arith}
+use Rattle.std.proofs.lemmas.Option.{none-some, same_Some, slice_get_within, get_or_from_slice_get}
+use Rattle.std.specs.Option.{IfSome}
+use Rattle.std.specs.List.{AllByRecursion, AllZip}
+use Rattle.sled_pagecache.specs.ByIds.{AllById, FitsId}
+use Rattle.sled_log.specs.ZipLaws.{zip-at}
 
 module _ {X : Type 0} where
   pub at-id : (P : ℕ → X → Type 0) (xs : List X) (i : ℕ) (x : X) → AllById P xs → slice_get xs i ≡ Some x → P i x
@@ -32,8 +37,7 @@ module _ {X : Type 0} where
 
   -- from 2 on the items are as the others
   pub past-two : (First Second Other : X → Type 0) (id : ℕ) (x : X) → 2 ≤ id → (Other x → FitsId First Second Other id x) × (FitsId First Second Other id x → Other x)
-  past-two First Second Other (suc (suc id)) x from = (λ so. so, λ so. so)
-  past-two First Second Other id x from = absurd (omega (arith, from))
+  past-two First Second Other id x h1 = grind arith
 
 -- ---- lists side by side
 

@@ -46,32 +46,8 @@ module _ {L : Type 0} (g : Ghosts L) where
     pub contents : new.fault ≡ false → contents_of out.state ≡ contents_after (now held) out.changes
 
   -- the same of a call that leaves a batch open or closed, as it was
-  pub record LeadsTo (old new : Cache L) (held : Logged) (s : State) (call : Call) (answer : Answer) (messages : List (Event Message)) : Type 0 where
-    pub out : Outcome
-    pub step : StepOver g old s call answer out
-    pub told : AreEvents (now held) messages out.changes
-    pub stays : StayProper (log.now effect_of (log.unplaced_state (g.state old.log))) (now held) messages out.changes
-    pub stamps : stamps_of out.state ≡ new.stamps
-    pub next : out.state.next ≡ new.next
-    pub fault : out.state.fault ≡ new.fault
-    pub batch : out.state.batch ≡ s.batch
-    pub marks : open_after s.batch out.changes ≡ s.batch
-    pub contents : new.fault ≡ false → contents_of out.state ≡ contents_after (now held) out.changes
-
-  leads : (old new : Cache L) (held : Logged) (s : State) (call : Call) (answer : Answer) (messages : List (Event Message)) → s.batch ≡ new.batch
-      → LeadsTo old new held s call answer messages → Leads old new held s call answer messages
-  leads old new held s call answer messages same way = record {
-    out = way.out;
-    step = way.step;
-    told = way.told;
-    stays = way.stays;
-    stamps = way.stamps;
-    next = way.next;
-    fault = way.fault;
-    batch = way.batch ∙ same;
-    marks = λ _. way.marks ∙ sym way.batch;
-    contents = way.contents;
-  }
+  abbrev pub LeadsTo : Cache L → Cache L → Logged → State → Call → Answer → List (Event Message) → Type 0
+  LeadsTo old new held s call answer messages = Leads old (record new { batch = s.batch }) held s call answer messages
 
   -- no message stays proper where the cache is in a state
   pub stays-none : (cache : Cache L) (held : Logged) (s : State) → IsIn g cache held s → s.fault ≡ false → StayProper (log.now effect_of (log.unplaced_state (g.state cache.log))) (now held) [] []
@@ -79,7 +55,7 @@ module _ {L : Type 0} (g : Ghosts L) where
 
   module _ (old new : Cache L) (before after : StickyLog L) (call : Call) (answer : Answer) (messages : List (Event Message))
       (old_log : old.log ≡ before.log) (new_log : new.log ≡ after.log) (new_fault : new.fault ≡ after.fault) (ready : old.fault ≡ false)
-      (went : Went g.tells g.state g.moment g.left_since g.counts before after messages)
+      (went : Went g before after messages)
       (held : Logged) (s : State) (is : IsIn g old held s) (way : Leads old new held s call answer messages) where
     logged : IsLogged (log.unplaced_state (g.state before.log)) held
     logged = subst (λ l. IsLogged (log.unplaced_state (g.state l)) held) old_log (is.known (is.fault ∙ ready)).logged
@@ -91,7 +67,7 @@ module _ {L : Type 0} (g : Ghosts L) where
     stop =
         subst (λ l. log.CrashesSinceLeave g.moment g.left_since l new.log (IsLeft held way.out.changes)) (sym old_log)
         (subst (λ l. log.CrashesSinceLeave g.moment g.left_since before.log l (IsLeft held way.out.changes)) (sym new_log)
-        (leaves g.tells g.state g.moment g.left_since g.counts before after held messages way.out.changes logged way.told stays went is.tells))
+        (leaves g before after held messages way.out.changes logged way.told stays went is.tells))
 
     -- what the log holds then; behind a write error nothing is known of it
     record Ends : Type 0 where
@@ -106,7 +82,7 @@ module _ {L : Type 0} (g : Ghosts L) where
       added = λ no. absurd (false≢true (sym no ∙ way.fault ∙ kept));
     }
     by false free =
-        let carried = carries g.tells g.state g.moment g.left_since g.counts before after held messages way.out.changes logged way.told stays went is.tells (sym new_fault ∙ free) in
+        let carried = carries g before after held messages way.out.changes logged way.told stays went is.tells (sym new_fault ∙ free) in
         record {
           held_then = carried.held_then;
           known = λ _. record {
@@ -134,7 +110,7 @@ module _ {L : Type 0} (g : Ghosts L) where
   -- without a write fault before it, a call is a step, also one that opens a batch or closes it
   pub steps-marked : (old new : Cache L) (before after : StickyLog L) (call : Call) (answer : Answer) (messages : List (Event Message))
       → IsSameOpening old new → old.log ≡ before.log → new.log ≡ after.log → new.fault ≡ after.fault → old.fault ≡ false
-      → Went g.tells g.state g.moment g.left_since g.counts before after messages
+      → Went g before after messages
       → ((held : Logged) (s : State) → IsIn g old held s → s.fault ≡ false → Leads old new held s call answer messages)
       → Steps g old call answer new
   steps-marked old new before after call answer messages same old_log new_log new_fault ready went leads = record {
@@ -145,9 +121,9 @@ module _ {L : Type 0} (g : Ghosts L) where
   -- one that leaves a batch open or closed, as it was
   pub steps-went : (old new : Cache L) (before after : StickyLog L) (call : Call) (answer : Answer) (messages : List (Event Message))
       → IsSameOpening old new → ◌≡◌ {A = L × Bool} (old.log, old.batch) (before.log, before.batch) → new.log ≡ after.log → ◌≡◌ {A = Bool × Bool} (new.fault, new.batch) (after.fault, after.batch) → old.fault ≡ false
-      → Went g.tells g.state g.moment g.left_since g.counts before after messages
+      → Went g before after messages
       → ((held : Logged) (s : State) → IsIn g old held s → s.fault ≡ false → LeadsTo old new held s call answer messages)
       → Steps g old call answer new
   steps-went old new before after call answer messages same old_is new_log new_is ready went way =
       steps-marked old new before after call answer messages same (ap (λ p. p.0) old_is) new_log (ap (λ p. p.0) new_is) ready went
-      (λ held s is clear. leads old new held s call answer messages (is.batch ∙ ap (λ p. p.1) old_is ∙ sym went.batch ∙ sym (ap (λ p. p.1) new_is)) (way held s is clear))
+      (λ held s is clear. subst (λ b. Leads old (record new { batch = b }) held s call answer messages) (is.batch ∙ ap (λ p. p.1) old_is ∙ sym went.batch ∙ sym (ap (λ p. p.1) new_is)) (way held s is clear))

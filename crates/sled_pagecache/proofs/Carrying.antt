@@ -1,5 +1,5 @@
 -- What a cache tells its log, as one sees it who knows contents and no messages.
-use Rattle.sled_pagecache.proofs.Names.{◌≡◌, ℕ, false, List, ◌++◌, length, take, drop, refl, sym, ◌∙◌, ap, subst, take-append-drop, take-append_seam, Counts, chains_after, Update, contents_after, Event, holds-after, holds-added, Message, Entry, Messages, effect_of, AreEvents, events-append, events-take, reads-fair, CrashesSinceLeave-weaker, Went, Logged, IsLogged, Adds, AreKept, IsProper, StayProper, StickyLog}
+use Rattle.sled_pagecache.proofs.Names.{Ghosts, ◌≡◌, ℕ, false, List, ◌++◌, length, take, drop, refl, sym, ◌∙◌, ap, subst, take-append-drop, take-append_seam, chains_after, Update, contents_after, Event, holds-after, holds-added, Message, Messages, effect_of, AreEvents, events-append, events-take, reads-fair, CrashesSinceLeave-weaker, Went, Logged, IsLogged, Adds, AreKept, IsProper, StayProper, StickyLog}
 use Rattle.sled_log.specs.LogState as log
 use Rattle.sled_pagecache.proofs.Staying.{stay-append, stay-take, stay-drop, stay-all}
 use Rattle.sled_pagecache.specs.Logged.{now, IsLeft}
@@ -76,16 +76,16 @@ module _ (before : log.LogState Message) (held : Logged) (messages : List (Event
         });
       }
 
-module _ {L : Type 0} (tells : Type 0) (state : L → log.LogState Entry) (moment : L → ℕ) (left_since : L → ℕ → List Messages → Type 0) (counts : L → Counts) where
+module _ {L : Type 0} (g : Ghosts L) where
   module _ (old new : StickyLog L) (held : Logged) (messages : List (Event Message)) (changes : List (Event Update))
-      (logged : IsLogged (log.unplaced_state (state old.log)) held) (told : AreEvents (now held) messages changes)
-      (stays : StayProper (log.now effect_of (log.unplaced_state (state old.log))) (now held) messages changes)
-      (went : Went tells state moment left_since counts old new messages) (known : tells) where
-    pub carries : new.fault ≡ false → Carries (log.unplaced_state (state new.log)) held changes
-    carries clear = adds-carry (log.unplaced_state (state old.log)) held messages changes logged told stays (log.unplaced_state (state new.log)) (went.added known clear)
+      (logged : IsLogged (log.unplaced_state (g.state old.log)) held) (told : AreEvents (now held) messages changes)
+      (stays : StayProper (log.now effect_of (log.unplaced_state (g.state old.log))) (now held) messages changes)
+      (went : Went g old new messages) (known : g.tells) where
+    pub carries : new.fault ≡ false → Carries (log.unplaced_state (g.state new.log)) held changes
+    carries clear = adds-carry (log.unplaced_state (g.state old.log)) held messages changes logged told stays (log.unplaced_state (g.state new.log)) (went.added known clear)
 
-    pub leaves : log.CrashesSinceLeave moment left_since old.log new.log (IsLeft held changes)
+    pub leaves : log.CrashesSinceLeave g.moment g.left_since old.log new.log (IsLeft held changes)
     leaves =
-        CrashesSinceLeave-weaker state moment left_since counts old.log new.log (log.IsLeft effect_of (log.unplaced_state (state old.log)) messages) (IsLeft held changes)
-        (stop-leaves (log.unplaced_state (state old.log)) held messages changes logged told stays)
+        CrashesSinceLeave-weaker g.state g.moment g.left_since g.counts old.log new.log (log.IsLeft effect_of (log.unplaced_state (g.state old.log)) messages) (IsLeft held changes)
+        (stop-leaves (log.unplaced_state (g.state old.log)) held messages changes logged told stays)
         (went.stop known)

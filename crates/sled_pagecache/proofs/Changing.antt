@@ -1,12 +1,11 @@
 -- What a call leads to that changes one page at most.
-use Rattle.sled_pagecache.proofs.Names.{◌≡◌, ℕ, true, false, List, [], ◌∷◌, ◌++◌, map, Result, Err, slice_set, refl, sym, ◌∙◌, ap, false≢true, map-append, map-set, Read, Write, Refusal, Io, chains_from, Content, Update, contents_from, Change, Messages, effect_of, IsUpdate, MayChange, message_of, Ghosts, Cache, IsIn, StepOver, is_write_fault, Logged, IsProper, page, State, contents_of, stamps_of, with_page, outcome, unchanged, Answer, Call}
+use Rattle.sled_pagecache.proofs.Names.{◌≡◌, ℕ, true, false, List, [], ◌∷◌, ◌++◌, map, Result, Err, slice_set, refl, sym, ◌∙◌, ap, false≢true, map-append, map-set, Read, Write, Refusal, Io, chains_from, Content, Update, contents_from, Change, Messages, effect_of, IsUpdate, MayChange, message_of, Ghosts, Cache, IsIn, StepOver, is_write_fault, Logged, IsProper, page, State, contents_of, stamps_of, with_page, outcome, unchanged, Answer, Call, StampedPage, Recency, Bool, Config, StickyLog, KeptPage, Went, Went-none, Steps, stamps_in, IsLeft, view}
 use Rattle.sled_log.specs.LogState as log
-use Rattle.sled_pagecache.proofs.CacheSteps.{LeadsTo, stays-none}
+use Rattle.sled_pagecache.proofs.CacheSteps.{LeadsTo, stays-none, steps-went}
 use Rattle.sled_pagecache.proofs.Carrying.{proper-now}
 use Rattle.sled_pagecache.proofs.Held.{unread}
 use Rattle.sled_pagecache.proofs.Staying.{stay-one}
 use Rattle.sled_pagecache.specs.Logged.{now}
-use Rattle.sled_pagecache.specs.State.{StampedPage}
 
 module _ {L : Type 0} (g : Ghosts L) where
   module _ (old new : Cache L) (held : Logged) (s : State) (is : IsIn g old held s) (clear : s.fault ≡ false) (call : Call) (answer : Answer) (next : new.next ≡ old.next) where
@@ -26,7 +25,7 @@ module _ {L : Type 0} (g : Ghosts L) where
       next = same_next ∙ is.next ∙ sym next;
       fault = fault;
       batch = batch;
-      marks = refl;
+      marks = λ _. sym batch;
       contents = λ _. ap (map (λ (p : StampedPage). p.content)) pages ∙ (is.known clear).contents;
     }
 
@@ -60,7 +59,7 @@ module _ {L : Type 0} (g : Ghosts L) where
         next = same_next ∙ is.next ∙ sym next;
         fault = fault;
         batch = batch;
-        marks = refl;
+        marks = λ _. sym batch;
         contents = contents;
       }
 
@@ -89,3 +88,29 @@ module _ {L : Type 0} (g : Ghosts L) where
           leads-to (record s { pages = s.pages ++ page stamp content ∷ [] }) step
           (map-append (λ (p : StampedPage). p.stamp) s.pages (page stamp content ∷ []) ∙ ap (λ (l : List ℕ). l ++ stamp ∷ []) is.stamps ∙ sym stamps) refl (clear ∙ sym free) refl
           (λ _. map-append (λ (p : StampedPage). p.content) s.pages (page stamp content ∷ []) ∙ ap (λ (l : List Content). l ++ content ∷ []) (is.known clear).contents ∙ sym makes)
+
+-- ---- calls of a cache whose table stays as it was
+
+-- what a crash leaves of the log before it is called
+abbrev pub KnowsNow : {L : Type 0} → Ghosts L → StickyLog L → Type 0
+KnowsNow g before = (l : List Messages) → g.tells → (g.state before.log).usable ≡ true → g.left_since before.log (g.moment before.log) l → IsLeft effect_of (log.unplaced_state (g.state before.log)) [] l
+
+module _ {L : Type 0} (g : Ghosts L) (next : ℕ) (config : Config) (recovered : Bool) (lru : Recency) (before : StickyLog L) (table : List KeptPage) (ready : before.fault ≡ false) (call : Call) where
+  abbrev cache : StickyLog L → List KeptPage → Cache L
+  cache sticky_log pages = view next config recovered lru sticky_log pages
+
+  -- a state that the cache is in before the call
+  abbrev InEach : (Logged → State → Type 0) → Type 0
+  InEach P = (held : Logged) (s : State) → IsIn g (cache before table) held s → s.fault ≡ false → P held s
+
+  module _ (after : StickyLog L) (pages : List KeptPage) (back : pages ≡ table) where
+    -- nothing was told, and nothing changes
+    pub steps-untold : (answer : Answer) → Went g before after [] → after.fault ≡ false
+        → InEach (λ held s. StepOver g (cache before table) s call answer (unchanged s)) → Steps g (cache before table) call answer (cache after pages)
+    steps-untold answer went free step =
+        steps-went g (cache before table) (cache after pages) before after call answer [] (record { config = refl; recovered = refl }) refl refl refl ready went
+        (λ held s is clear. leads-same g (cache before table) (cache after pages) held s is clear call answer refl (step held s is clear) (ap stamps_in back) free)
+
+  -- the log isn't called
+  pub steps-uncalled : (answer : Answer) → (g.state before.log).usable ≡ true → KnowsNow g before → InEach (λ held s. StepOver g (cache before table) s call answer (unchanged s)) → Steps g (cache before table) call answer (cache before table)
+  steps-uncalled answer usable only step = steps-untold before table refl answer (Went-none g before usable only) ready step

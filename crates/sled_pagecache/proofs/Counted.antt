@@ -1,23 +1,9 @@
 -- The counter of generated ids stays durable as far as the next id needs it.
-use Rattle.sled_pagecache.proofs.Names.{AllByRecursion, AllZip-long, AreEvents, AreFound, IsFoundAt, Makes, map, length-map, eqb-false, nat_lt, inl, inr, ◌⊎◌, Bool, Chain, Change, Config, Content, Counter, Err, Event, Ghosts, Holds, HoldsChain, Io, IsConsistent, IsKept, IsLogged, IsPagedOut, Kept, Link, List, Logged, Message, Messages, None, Option, Page, Put, Read, Refusal, Result, Some, StickyLog, Update, Went, Write, [], after_link, ap, arith, begun_by, cond, contents_after, contents_from, drop, effect_of, effect_of_entry, eqb-true, fault_of, false, get_or-map, holds-made, length, next_id, none-some, paged_out, refl, same_Some, slice_get, slice_get-get_or, slice_get_within, slice_index_or, slice_set, suc, sym, subst, true, unplaced, unplaced_events, unplaced_state, zero, ℕ, ⊎_elim, ◌*◌, ◌++◌, ◌+◌, ◌/◌, ◌<◌, ◌==◌, ◌∙◌, ◌∷◌, ◌≡◌, true≢false, ◌≢◌, ◌≤◌, Free, Seal, Pin, Cancel}
-use Rattle.std.proofs.lemmas.Bool.{cases_lt}
-use Rattle.std.proofs.lemmas.Nat.{le-div}
-use Rattle.std.proofs.Math.Nat.{add-mul-div_right, div-mul-le_self, lt-div-mul-add, mul-le-mul_right, suc-mul}
-use Rattle.sled_base.specs.declared.types.Why.TheVariants.{CapacityTooSmall, IntervalZero, SegmentZero}
+use Rattle.sled_pagecache.proofs.Names.{AllByRecursion, AllZip-long, AreEvents, AreFound, IsFoundAt, Makes, map, length-map, eqb-false, nat_lt, inl, inr, ◌⊎◌, Bool, Chain, Change, Config, Content, Counter, Err, Event, Ghosts, Holds, HoldsChain, Io, IsConsistent, IsKept, IsLogged, IsPagedOut, Kept, Link, List, Logged, Message, Messages, None, Option, Page, Put, Read, Refusal, Result, Some, StickyLog, Update, Went, Write, [], after_link, ap, arith, begun_by, cond, contents_after, contents_from, drop, effect_of, effect_of_entry, eqb-true, fault_of, false, get_or-map, holds-made, length, next_id, none-some, paged_out, refl, same_Some, slice_get, slice_get-get_or, slice_get_within, slice_index_or, slice_set, suc, sym, subst, true, unplaced, unplaced_events, unplaced_state, zero, ℕ, ⊎_elim, ◌*◌, ◌++◌, ◌+◌, ◌<◌, ◌==◌, ◌∙◌, ◌∷◌, ◌≡◌, true≢false, ◌≢◌, ◌≤◌, Free, cases_lt, lt-div-mul-add, CapacityTooSmall, IntervalZero, SegmentZero, IsEvent, NodeLink, IsCounted, IsWhole, SparesCounter, IsBelowCounter, RefusesAppended, interval_start, is_write_fault, at-id, zip-first, kept-at, other-at as set-other, other-before, holds_now}
 use Rattle.sled_log.specs.LogState as log
-use Rattle.sled_log.specs.Reading.{IsEvent}
-use Rattle.sled_pagecache.proofs.ByIds.{at-id, zip-first}
 use Rattle.sled_pagecache.proofs.Counting.{CountsTo}
-use Rattle.sled_pagecache.proofs.Lookups.{kept-at}
-use Rattle.sled_pagecache.proofs.PagesAt.{holds_now}
-use Rattle.sled_node.specs.declared.node.link.Link.{Link as NodeLink}
 use Rattle.sled_pagecache.proofs.ProperPages.{all-append}
-use Rattle.sled_pagecache.specs.Counted.{IsCounted, IsWhole, SparesCounter}
-use Rattle.sled_pagecache.specs.Ids.{IsBelowCounter}
-use Rattle.sled_pagecache.specs.LinkedPages.{RefusesAppended}
 use Rattle.sled_pagecache.specs.Logged.{now}
-use Rattle.sled_pagecache.specs.Step.{interval_start}
-use Rattle.sled_pagecache.specs.StickyLog.{is_write_fault}
 use Rattle.sled_pagecache.specs.declared.pagecache.page.Kept.TheVariants as kept
 
 -- ---- lists
@@ -28,27 +14,20 @@ all-drop P (suc n) [] all = all
 all-drop P (suc n) (x ∷ xs) all = all-drop P n xs all.1
 
 pub other-at : (table : List Page) (pid : ℕ) (page : Page) → pid ≢ 1 → slice_get (slice_set table pid page) 1 ≡ slice_get table 1
-other-at [] pid page other = refl
-other-at (p ∷ []) zero page other = refl
-other-at (p ∷ []) (suc pid) page other = refl
-other-at (p ∷ q ∷ table) zero page other = refl
-other-at (p ∷ q ∷ table) (suc zero) page other = absurd (other refl)
-other-at (p ∷ q ∷ table) (suc (suc pid)) page other = refl
+other-at table pid page other = set-other table pid 1 page (λ e. other (sym e))
 
 pub added-at : (table : List Page) (page : Page) → 2 ≤ length table → slice_get (table ++ page ∷ []) 1 ≡ slice_get table 1
-added-at [] page both = absurd (omega (arith, both))
-added-at (p ∷ []) page both = absurd (omega (arith, both))
-added-at (p ∷ q ∷ table) page both = refl
+added-at table page both = other-before table page 1 (λ last. omega (arith, both, last))
 
 -- ---- calls
 
 -- unless a write fault is kept, messages of other pages came
 abbrev pub Spares : {L : Type 0} → Ghosts L → StickyLog L → StickyLog L → Type 0
-Spares g old new = g.tells → new.fault ≡ false → (events : List (Event Message)) × Went g.tells g.state g.moment g.left_since g.counts old new events × AllByRecursion SparesCounter events
+Spares g old new = g.tells → new.fault ≡ false → (events : List (Event Message)) × Went g old new events × AllByRecursion SparesCounter events
 
 module _ {L : Type 0} (g : Ghosts L) {old new : StickyLog L} where
   -- a refused call adds nothing, or keeps a write fault
-  pub spares-refused : (T : Type 0) (refusal : Refusal) (events : List (Event Message)) → (let told : Result T Refusal = Err refusal in Went g.tells g.state g.moment g.left_since g.counts old new (begun_by told events) × (new.fault ≡ is_write_fault told)) → Spares g old new
+  pub spares-refused : (T : Type 0) (refusal : Refusal) (events : List (Event Message)) → (let told : Result T Refusal = Err refusal in Went g old new (begun_by told events) × (new.fault ≡ is_write_fault told)) → Spares g old new
   spares-refused T (Io Write) events refused = λ told clear. absurd (true≢false (sym refused.1 ∙ clear))
   spares-refused T (Io Read) events refused = λ told clear. ([], refused.0, tt)
   spares-refused T refusal events refused = λ told clear. ([], refused.0, tt)
@@ -87,11 +66,7 @@ module _ {L : Type 0} (g : Ghosts L) (k next : ℕ) (sticky_log : StickyLog L) (
   counted-out counted pid q out there is some clear told page n at holds few = by table pid there at (λ page at holds. counted some clear told page n at holds few)
     where
       same : (k : Kept) → paged_out k ≡ kept.Counter n → k ≡ kept.Counter n
-      same (kept.Counter m) h = h
-      same (kept.Roots roots) h = absurd cc
-      same (kept.Node node) h = absurd cc
-      same kept.Free h = absurd cc
-      same kept.Away h = absurd cc
+      same k h = grind arith
 
       by : (table : List Page) (pid : ℕ) → slice_get table pid ≡ Some q → slice_get (slice_set table pid out) 1 ≡ Some page
           → ((page : Page) → slice_get table 1 ≡ Some page → page.kept ≡ kept.Counter n → AllByRecursion SparesCounter (unplaced_state (g.state sticky_log.log)).pending)
@@ -107,9 +82,7 @@ module _ {L : Type 0} (g : Ghosts L) (k next : ℕ) (sticky_log : StickyLog L) (
 -- ---- numbers
 
 start-up : (k x y : ℕ) → 0 < k → x ≤ y → interval_start k x ≤ interval_start k y
-start-up k x y some le =
-    let low = div-mul-le_self x k in
-    mul-le-mul_right k (le-div (x / k) y k some (omega (arith, low, le)))
+start-up k x y h1 h2 = grind arith
 
 -- the id behind the next one needs no less
 pub whole-next : {L : Type 0} (g : Ghosts L) {k next : ℕ} {sticky_log : StickyLog L} {table : List Page} {free : List ℕ} → IsWhole g.tells g.state k next sticky_log table free → IsWhole g.tells g.state k (next + 1) sticky_log table free
@@ -120,20 +93,11 @@ whole-next g {k} {next} whole = record {
 }
 
 covers : (k next n : ℕ) → 0 < k → interval_start k next ≤ interval_start k n → next < n + k
-covers k next n some few =
-    let under : next < next / k * k + k = lt-div-mul-add some in
-    let low = div-mul-le_self n k in
-    omega (arith, under, low, few)
+covers k next n h1 h2 = grind arith
 
 -- two intervals above the counter a new one is needed
 needs-new : (k n : ℕ) → 0 < k → interval_start k (n + 2 * k) ≤ interval_start k n → ⊥
-needs-new k n some few =
-    let more : (n + 2 * k) / k ≡ n / k + 2 = add-mul-div_right n 2 some in
-    let is : (n + 2 * k) / k * k ≡ (n / k + 2) * k = ap (λ q. q * k) more in
-    let one = suc-mul (suc (n / k)) k in
-    let two = suc-mul (n / k) k in
-    let same : (n / k + 2) * k ≡ suc (suc (n / k)) * k = ap (λ q. q * k) (let e : n / k + 2 ≡ suc (suc (n / k)) = omega arith in e) in
-    omega (arith, is, one, two, same, few, some)
+needs-new k n h1 h2 = grind arith
 
 -- ---- what is durable
 
@@ -142,40 +106,19 @@ held-spares contents [] [] are spare = tt
 held-spares contents (m ∷ ms) (u ∷ us) are spare = (one m u are.0 spare.0, held-spares (contents_from contents u) ms us are.2 spare.1)
   where
     one : (m : Event Message) (u : Event Update) → IsEvent m u → SparesCounter m → SparesCounter u
-    one (Change id message) (Change other update) is spare = λ e. spare (is.0 ∙ e)
-    one Pin Pin is spare = tt
-    one Seal Seal is spare = tt
-    one Cancel Cancel is spare = tt
-    one m u is spare = absurd is
+    one m u h1 h2 = grind arith
 held-spares contents [] (u ∷ us) are spare = absurd are
 held-spares contents (m ∷ ms) [] are spare = absurd are
 
 back-put : (contents : List Content) (id : ℕ) (content : Content) (n : ℕ) (added : Bool) → (id == length contents) ≡ added → id ≢ 1
     → slice_get (cond added (contents ++ content ∷ []) (slice_set contents id content)) 1 ≡ Some (Counter n) → CountsTo contents n
-back-put [] id content n true is other at = absurd (none-some (Counter n) at)
-back-put [] id content n false is other at = absurd (none-some (Counter n) at)
-back-put (x ∷ []) id content n true is other at = absurd (other (eqb-true id 1 is))
-back-put (x ∷ []) zero content n false is other at = absurd (none-some (Counter n) at)
-back-put (x ∷ []) (suc id) content n false is other at = absurd (none-some (Counter n) at)
-back-put (x ∷ y ∷ contents) id content n true is other at = at
-back-put (x ∷ y ∷ contents) zero content n false is other at = at
-back-put (x ∷ y ∷ contents) (suc zero) content n false is other at = absurd (other refl)
-back-put (x ∷ y ∷ contents) (suc (suc id)) content n false is other at = at
-
-back-link : (contents : List Content) (id : ℕ) (content : Content) (n : ℕ) → id ≢ 1 → slice_get (slice_set contents id content) 1 ≡ Some (Counter n) → CountsTo contents n
-back-link [] id content n other at = absurd (none-some (Counter n) at)
-back-link (x ∷ []) zero content n other at = absurd (none-some (Counter n) at)
-back-link (x ∷ []) (suc id) content n other at = absurd (none-some (Counter n) at)
-back-link (x ∷ y ∷ contents) zero content n other at = at
-back-link (x ∷ y ∷ contents) (suc zero) content n other at = absurd (other refl)
-back-link (x ∷ y ∷ contents) (suc (suc id)) content n other at = at
+back-put contents id content n true is other at = sym (other-before contents content 1 (λ last. other (eqb-true id (length contents) is ∙ sym last))) ∙ at
+back-put contents id content n false is other at = sym (set-other contents id 1 content (λ e. other (sym e))) ∙ at
 
 back-one : (contents : List Content) (u : Event Update) (n : ℕ) → SparesCounter u → CountsTo (contents_from contents u) n → CountsTo contents n
 back-one contents (Change id (Put content)) n other at = back-put contents id content n (id == length contents) refl other at
-back-one contents (Change id (Link link)) n other at = back-link contents id (after_link link (slice_index_or contents id Free)) n other at
-back-one contents Pin n other at = at
-back-one contents Seal n other at = at
-back-one contents Cancel n other at = at
+back-one contents (Change id (Link link)) n other at = sym (set-other contents id 1 (after_link link (slice_index_or contents id Free)) (λ e. other (sym e))) ∙ at
+back-one contents mark n other at = at
 
 back-all : (contents : List Content) (us : List (Event Update)) (n : ℕ) → AllByRecursion SparesCounter us → CountsTo (contents_after contents us) n → CountsTo contents n
 back-all contents [] n spare at = at

@@ -1,16 +1,10 @@
 -- The page of the counter of generated ids, in the table and in the state that the cache is in.
-use Rattle.sled_pagecache.proofs.Names.{Recency, AreOwn, Bool, Cache, Config, Content, Counter, GetIdgen, GetsIdgen, Ghosts, GotIdgen, HoldsChain, IsConsistent, IsCounter, IsIn, Kept, List, Logged, Makes, Messages, None, Ok, Option, Some, State, Steps, StickyLog, Token, Went-none, [], ap, arith, effect_of, effect_of_entry, false, holds-made, page, page_at, refl, slice_get, slice_index_or, subst, token, true, unchanged, unplaced, ℕ, ◌∙◌, ◌≡◌, ◌≤◌, length}
-use Rattle.sled_log.specs.LogState as log
-use Rattle.sled_pagecache.proofs.ByIds.{at-id}
-use Rattle.sled_pagecache.proofs.CacheSteps.{steps-went}
-use Rattle.sled_pagecache.proofs.Changing.{leads-same}
+use Rattle.sled_pagecache.proofs.Names.{Recency, AreOwn, Bool, Cache, Config, Content, Counter, GetIdgen, Ghosts, GotIdgen, HoldsChain, IsConsistent, IsCounter, IsIn, Kept, List, Logged, Makes, None, Ok, Option, Some, State, Steps, StickyLog, Token, [], ap, arith, effect_of_entry, false, holds-made, page, page_at, refl, slice_get, slice_index_or, subst, token, unplaced, ℕ, ◌∙◌, ◌≡◌, ◌≤◌, length, KeptPage, now, view, at-id, kept-at, past-end}
+use Rattle.sled_pagecache.proofs.Changing.{KnowsNow, steps-uncalled}
 use Rattle.sled_pagecache.proofs.Held.{state-page}
-use Rattle.sled_pagecache.proofs.Lookups.{kept-at, past-end}
 use Rattle.sled_pagecache.proofs.Standing.{found-known, known-in}
-use Rattle.sled_pagecache.proofs.TableNodes.{view}
 use Rattle.sled_pagecache.specs.CounterPages.{KeepsCounter}
 use Rattle.sled_pagecache.specs.declared.pagecache.page.Kept.TheVariants as kept
-use Rattle.sled_pagecache.specs.declared.pagecache.page.Page.{Page as KeptPage}
 
 -- it is kept there
 pub keeps-counter : (table : List KeptPage) → AreOwn table → 2 ≤ length table → KeepsCounter table
@@ -29,8 +23,8 @@ module _ {L : Type 0} (g : Ghosts L) (next : ℕ) (config : Config) (recovered :
   cache = view next config recovered lru sticky_log table
 
   module _ (q : KeptPage) (n : ℕ) (at : slice_get table 1 ≡ Some q) (holds : q.kept ≡ kept.Counter n) where
-    counter-made : g.tells → Makes (unplaced (slice_index_or (log.now effect_of_entry (g.state sticky_log.log)) 1 [])) (Counter n)
-    counter-made known = subst (HoldsChain (slice_index_or (log.now effect_of_entry (g.state sticky_log.log)) 1 [])) holds (kept-at (log.now effect_of_entry (g.state sticky_log.log)) table 1 q ((c.beside ready).kept known) at).holds
+    counter-made : g.tells → Makes (unplaced (slice_index_or (now effect_of_entry (g.state sticky_log.log)) 1 [])) (Counter n)
+    counter-made known = subst (HoldsChain (slice_index_or (now effect_of_entry (g.state sticky_log.log)) 1 [])) holds (kept-at (now effect_of_entry (g.state sticky_log.log)) table 1 q ((c.beside ready).kept known) at).holds
 
     -- the state has it too
     pub counter-at : (held : Logged) (s : State) → IsIn g cache held s → s.fault ≡ false → page_at s 1 ≡ Some (page q.stamp (Counter n))
@@ -39,16 +33,10 @@ module _ {L : Type 0} (g : Ghosts L) (next : ℕ) (config : Config) (recovered :
         found.is
         ∙ ap (λ stamp. Some (page stamp found.page.content)) found.known.stamp
         ∙ ap (λ (content : Content). Some (page q.stamp content))
-        (holds-made (unplaced (slice_index_or (log.now effect_of_entry (g.state sticky_log.log)) 1 [])) found.page.content (Counter n) (state-page g cache held s is clear 1 found.page found.is) (counter-made is.tells))
-
-    idgen-step : (s : State) → s.fault ≡ false → page_at s 1 ≡ Some (page q.stamp (Counter n)) → GetsIdgen s (Ok (token 1 q.stamp, n)) (unchanged s)
-    idgen-step s clear there = rw (clear, there) (refl, refl)
+        (holds-made (unplaced (slice_index_or (now effect_of_entry (g.state sticky_log.log)) 1 [])) found.page.content (Counter n) (state-page g cache held s is clear 1 found.page found.is) (counter-made is.tells))
 
     -- it is told
-    pub gets-idgen : ((l : List Messages) → g.tells → (g.state sticky_log.log).usable ≡ true → g.left_since sticky_log.log (g.moment sticky_log.log) l → log.IsLeft effect_of (log.unplaced_state (g.state sticky_log.log)) [] l)
-        → (made : Token) → made ≡ token 1 q.stamp → Steps g cache GetIdgen (GotIdgen (Ok (made, n))) cache
+    pub gets-idgen : KnowsNow g sticky_log → (made : Token) → made ≡ token 1 q.stamp → Steps g cache GetIdgen (GotIdgen (Ok (made, n))) cache
     gets-idgen only made is =
         rw is
-        (steps-went g cache cache sticky_log sticky_log GetIdgen (GotIdgen (Ok (token 1 q.stamp, n))) [] (record { config = refl; recovered = refl }) refl refl refl ready
-        (Went-none g.tells g.state g.moment g.left_since g.counts sticky_log (c.beside ready).usable only)
-        (λ held s is_in clear. leads-same g cache cache held s is_in clear GetIdgen (GotIdgen (Ok (token 1 q.stamp, n))) refl (idgen-step s clear (counter-at held s is_in clear)) refl ready))
+        (steps-uncalled g next config recovered lru sticky_log table ready GetIdgen (GotIdgen (Ok (token 1 q.stamp, n))) (c.beside ready).usable only (λ held s is_in clear. rw (clear, counter-at held s is_in clear) (refl, refl)))

@@ -1,12 +1,7 @@
 -- The counter of generated ids, through changes of pages: what opens behind them begins no lower than before.
-use Rattle.sled_pagecache.proofs.Names.{AllByRecursion, Bool, Content, Counter, Event, Link, List, Put, Update, [], after_link, ap, arith, changes_of_start, cond, contents_after, contents_from, drop-nil, false, first_id, length, ne_eqb, none-some, refl, same_Some, slice_get, slice_index_or, slice_set, suc, sym, subst, take, take-append-drop, true, zero, ℕ, ⊎_elim, ⊤, ◌*◌, ◌++◌, ◌+◌, ◌/◌, ◌<◌, ◌==◌, ◌∙◌, ◌∷◌, ◌≡◌, ◌≢◌, ◌≤◌, Some, Change, Pin, Seal, Cancel, Free, drop, AreKept, Messages}
-use Rattle.std.proofs.Math.Nat.{lt-div-mul-add, mul-le-mul_right, suc-mul}
-use Rattle.std.proofs.lemmas.Bool.{cases_lt, cond-false}
-use Rattle.sled_log.specs.ReadingLaws.{contents_after-append}
-use Rattle.sled_pagecache.specs.Counted.{SparesCounter}
+use Rattle.sled_pagecache.proofs.Names.{AllByRecursion, Bool, Content, Counter, Event, Link, List, Put, Update, [], after_link, ap, arith, changes_of_start, cond, contents_after, contents_from, drop-nil, false, first_id, length, ne_eqb, none-some, refl, slice_get, slice_index_or, slice_set, sym, subst, take, take-append-drop, true, ℕ, ⊤, ◌*◌, ◌++◌, ◌+◌, ◌<◌, ◌==◌, ◌∙◌, ◌∷◌, ◌≡◌, ◌≢◌, ◌≤◌, Some, Change, Free, drop, AreKept, Messages, cond-false, contents_after-append, SparesCounter, interval_start, more-at, other-at}
 use Rattle.sled_pagecache.specs.Logged.{Adds, IsLeft, Logged, now}
 use Rattle.sled_pagecache.specs.Proper.{AreOwn, IsCounter}
-use Rattle.sled_pagecache.specs.Step.{interval_start}
 
 -- page 1 holds this counter
 abbrev pub CountsTo : List Content → ℕ → Type 0
@@ -34,26 +29,18 @@ rises-over contents [] rises interval = omega arith
 rises-over contents (change ∷ changes) rises interval = omega (arith, rises.0 interval, rises-over (contents_from contents change) changes rises.1 interval)
 
 pub first-at : (interval : ℕ) (contents : List Content) (n : ℕ) → CountsTo contents n → first_id interval contents ≡ n + 2 * interval
-first-at interval [] n at = absurd (none-some (Counter n) at)
-first-at interval (x ∷ []) n at = absurd (none-some (Counter n) at)
-first-at interval (x ∷ y ∷ contents) n at = ap (λ c. first_id interval (x ∷ c ∷ contents)) (same_Some y (Counter n) at)
+first-at interval contents n at = grind arith
 
 -- ---- changes of other pages
 
 other-put : (added : Bool) (contents : List Content) (id : ℕ) (content y : Content) → id ≢ 1 → slice_get contents 1 ≡ Some y → slice_get (cond added (contents ++ content ∷ []) (slice_set contents id content)) 1 ≡ Some y
-other-put added [] id content y other at = absurd (none-some y at)
-other-put added (x ∷ []) id content y other at = absurd (none-some y at)
-other-put true (x ∷ z ∷ contents) id content y other at = at
-other-put false (x ∷ z ∷ contents) zero content y other at = at
-other-put false (x ∷ z ∷ contents) (suc zero) content y other at = absurd (other refl)
-other-put false (x ∷ z ∷ contents) (suc (suc id)) content y other at = at
+other-put true contents id content y other at = more-at contents (content ∷ []) 1 y at
+other-put false contents id content y other at = other-at contents id 1 content (λ e. other (sym e)) ∙ at
 
 spared-one : (contents : List Content) (change : Event Update) (n : ℕ) → SparesCounter change → CountsTo contents n → CountsTo (contents_from contents change) n
 spared-one contents (Change id (Put content)) n other at = other-put (id == length contents) contents id content (Counter n) other at
 spared-one contents (Change id (Link link)) n other at = other-put false contents id (after_link link (slice_index_or contents id Free)) (Counter n) other at
-spared-one contents Pin n other at = at
-spared-one contents Seal n other at = at
-spared-one contents Cancel n other at = at
+spared-one contents mark n other at = at
 
 pub spared-counts : (contents : List Content) (changes : List (Event Update)) (n : ℕ) → AllByRecursion SparesCounter changes → CountsTo contents n → CountsTo (contents_after contents changes) n
 spared-counts contents [] n others at = at
@@ -77,22 +64,11 @@ put-counts (x ∷ y ∷ contents) old new at =
     (cond-false (1 == length (x ∷ y ∷ contents)) ((x ∷ y ∷ contents) ++ Counter new ∷ []) (x ∷ Counter new ∷ contents) (ne_eqb 1 (length (x ∷ y ∷ contents)) (λ e. absurd (omega (arith, e)))))
 
 pub put-rises : (contents : List Content) (old new : ℕ) → CountsTo contents old → old ≤ new → Rises contents (Change 1 (Put (Counter new)) ∷ [])
-put-rises contents old new at up =
-    (λ interval. let a = first-at interval contents old at in let b = first-at interval (contents_from contents (Change 1 (Put (Counter new)))) new (put-counts contents old new at) in omega arith, tt)
+put-rises contents old new h1 h2 = grind arith
 
 -- the start of a later interval isn't below a number of an earlier one
 pub start-above : (interval counter next : ℕ) → interval_start interval counter < interval_start interval next → counter ≤ interval_start interval next
-start-above zero counter next lt = absurd (omega (arith, lt))
-start-above (suc k) counter next lt =
-    ⊎_elim
-    (λ (less : counter / suc k < next / suc k).
-    let up : suc (counter / suc k) ≤ next / suc k = omega arith in
-    let step = mul-le-mul_right (suc k) up in
-    let some : 0 < suc k = omega arith in
-    let under : counter < counter / suc k * suc k + suc k = lt-div-mul-add some in
-    omega (arith, step, suc-mul (counter / suc k) (suc k)))
-    (λ more. let back = mul-le-mul_right (suc k) more in absurd (omega arith))
-    (cases_lt (counter / suc k) (next / suc k))
+start-above interval counter next h1 = grind arith
 
 -- ---- the changes of an opening
 

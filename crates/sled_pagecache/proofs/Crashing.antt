@@ -1,23 +1,13 @@
 -- A cache that is opened again over what a crash left of one that was flushed.
-use Rattle.sled_pagecache.proofs.Names.{◌≡◌, ◌≤◌, ◌<◌, ◌+◌, ℕ, Bool, true, false, cond, ◌==◌, List, [], ◌∷◌, ◌++◌, length, map, take, drop, min, refl, sym, ◌∙◌, ap, subst, arith, drop-nil, take-nil, append-nil, length-map, AllZip-long, slice_set, slice_index_or, Option, Some, None, Result, Ok, Err, IfOk, IfErr, Error, Update, Content, Free, Put, Link, Change, Pin, Seal, Cancel, after_link, contents_from, contents_after, Event, seen, Message, Messages, Chain, Entry, message_in, AreEvents, Holds, unplaced_state, IsPrefix, Ghosts, Why, LogFull, fault_of, missing, changes_of_start, opened, Cache, Logged, IsLogged, Started, Opens, only_stable, only_stable_contents, Config, State, page, contents_of, error_of, LacksRoomFor}
-use Rattle.std.specs.Prelude.{replicate}
-use Rattle.std.proofs.lemmas.List.{length-append, length-set, length-replicate, drop_all}
+use Rattle.sled_pagecache.proofs.Names.{◌≡◌, ◌≤◌, ◌<◌, ◌+◌, ℕ, Bool, true, false, cond, ◌==◌, List, [], ◌∷◌, ◌++◌, length, map, take, drop, min, refl, sym, ◌∙◌, ap, subst, arith, drop-nil, take-nil, append-nil, length-map, AllZip-long, slice_set, slice_index_or, Result, Ok, Err, IfOk, IfErr, Error, Update, Content, Free, Put, Link, Change, after_link, contents_from, contents_after, Event, seen, Message, Messages, Chain, Entry, message_in, AreEvents, Holds, unplaced_state, Ghosts, LogFull, missing, changes_of_start, opened, Cache, Logged, IsLogged, Started, Opens, only_stable, only_stable_contents, Config, State, page, contents_of, error_of, LacksRoomFor, replicate, length-append, length-set, length-replicate, drop_all, LogState, LogError, most_pages, Steps, AreSteps, IsRow, StepInRow, changes_of, IsOpened, IsUnopened, StampedPage, Outcome, Answer, Call, none-came}
+use Rattle.sled_pagecache.proofs.Endings.{by-settings}
+use Rattle.sled_pagecache.proofs.Staying.{no-changes}
 use Rattle.sled_base.specs.declared.types.Error.TheVariants as errors
-use Rattle.sled_log.specs.LogState.{LogState}
 use Rattle.sled_log.specs.Refusals.{refusal_of}
-use Rattle.sled_log.specs.declared.log.LogError.{LogError}
 use Rattle.sled_log.specs.declared.log.LogError.TheVariants as failures
 use Rattle.sled_pagecache.proofs.Reopening.{empty-logged, kept-logged}
 use Rattle.sled_pagecache.specs.Crashes.{RefusesReopening, AreFlushedThen, IsFlushed, OpensAgain, ReopensAfter, HasFlushed}
-use Rattle.sled_pagecache.specs.Limits.{most_pages}
 use Rattle.sled_pagecache.specs.Logged.{IsLeft}
-use Rattle.sled_pagecache.specs.Calls.{Steps}
-use Rattle.sled_pagecache.specs.Rows.{AreSteps, IsRow, StepInRow, changes_of}
-use Rattle.sled_pagecache.specs.Starts.{IsOpened, IsUnopened}
-use Rattle.sled_pagecache.specs.State.{StampedPage}
-use Rattle.sled_pagecache.specs.Step.{Outcome}
-use Rattle.sled_pagecache.specs.declared.pagecache.call.Answer.{Answer}
-use Rattle.sled_pagecache.specs.declared.pagecache.call.Call.{Call}
 
 -- ---- contents
 
@@ -28,9 +18,7 @@ from-no-shorter contents (Change id (Put content)) = by (id == length contents)
     by true = omega (arith, length-append contents (content ∷ []))
     by false = omega (arith, length-set contents id content)
 from-no-shorter contents (Change id (Link link)) = omega (arith, length-set contents id (after_link link (slice_index_or contents id Free)))
-from-no-shorter contents Pin = omega arith
-from-no-shorter contents Seal = omega arith
-from-no-shorter contents Cancel = omega arith
+from-no-shorter contents mark = omega arith
 
 -- no change takes a page away
 after-no-shorter : (contents : List Content) (events : List (Event Update)) → length contents ≤ length (contents_after contents events)
@@ -46,19 +34,10 @@ none-to-start contents both = drop_all (length contents) _ both
 
 -- ---- events
 
-no-changes : (contents : List Content) (messages : List (Event Message)) (changes : List (Event Update)) → messages ≡ [] → AreEvents contents messages changes → changes ≡ []
-no-changes contents [] [] none are = refl
-no-changes contents [] (change ∷ changes) none are = absurd are
-no-changes contents (message ∷ messages) changes none are = absurd cc
-
 no-messages : (contents : List Content) (messages : List (Event Entry)) (changes : List (Event Update)) → changes ≡ [] → AreEvents contents (map (seen message_in) messages) changes → messages ≡ []
 no-messages contents [] changes none are = refl
 no-messages contents (message ∷ messages) [] none are = absurd are
 no-messages contents (message ∷ messages) (change ∷ changes) none are = absurd cc
-
-nothing-came : {E : Type 0} (came : List (Event E)) → IsPrefix came [] → came ≡ []
-nothing-came [] b = refl
-nothing-came (event ∷ came) b = let e = b.1 in absurd cc
 
 no-parts : {E : Type 0} (xs ys : List E) → xs ++ ys ≡ [] → (xs ≡ []) × (ys ≡ [])
 no-parts [] ys e = (refl, e)
@@ -77,7 +56,7 @@ not-all n held begun above all =
 
 -- with nothing begun the pages are the flushed ones
 same-pages : (s : State) (contents : List Content) → AreFlushedThen s [] contents → contents ≡ contents_of s
-same-pages s contents after = after.is ∙ ap (λ (l : List (Event Update)). contents_after (contents_of s) (take after.cut l)) (nothing-came after.came after.beginning) ∙ ap (contents_after (contents_of s)) (take-nil after.cut)
+same-pages s contents after = after.is ∙ ap (λ (l : List (Event Update)). contents_after (contents_of s) (take after.cut l)) (none-came after.came after.beginning) ∙ ap (contents_after (contents_of s)) (take-nil after.cut)
 
 -- ---- opening
 
@@ -119,11 +98,9 @@ module _ {L : Type 0} (g : Ghosts L) (first : Cache L) (calls : List (Call × An
 
     -- where the log isn't opened
     unopened : (failure : LogError) (config : Config) → (failure ≡ failures.Corruption → (pages : List Messages) → g.left_since crashed moment pages) → (failure ≡ failures.Full → ⊥) → RefusesReopening config (error_of (refusal_of failure))
-    unopened failures.Memory config corrupt full = tt
-    unopened failures.ReadFault config corrupt full = tt
-    unopened failures.WriteFault config corrupt full = tt
     unopened failures.Full config corrupt full = absurd (full refl)
     unopened failures.Corruption config corrupt full = absurd (not-all (most_pages + 1) (only_stable_contents (contents_of s)) (changes_of row.outs) (omega arith) (λ pages. crash-state pages (corrupt refl pages)))
+    unopened failure config corrupt full = tt
 
     pub reopens-unopened : (failure : LogError) (error : Error) → error ≡ error_of (refusal_of failure) → (config : Config) → (failure ≡ failures.Corruption → (pages : List Messages) → g.left_since crashed moment pages) → (failure ≡ failures.Full → ⊥) → ReopensAfter g first s calls last config (Err error)
     reopens-unopened failure error is config corrupt full =
@@ -174,12 +151,10 @@ module _ {L : Type 0} (g : Ghosts L) (first : Cache L) (calls : List (Call × An
       of-opening (Err refused) opens = (tt, refuses g log refused.1 config (only_stable_contents contents) refused.0 (none-to-start contents both) opens)
 
       started : (result : Result (Cache L) (Error × L)) → Started g log config result → IfOk result (OpensAgain g (AreFlushedThen s (changes_of row.outs)) config) × IfErr result (λ e. RefusesReopening config e.0)
-      started result start = by (fault_of config) refl
-        where
-          by : (fault : Option Why) → fault_of config ≡ fault → IfOk result (OpensAgain g (AreFlushedThen s (changes_of row.outs)) config) × IfErr result (λ e. RefusesReopening config e.0)
-          by (Some why) is =
-              subst (λ (r : Result (Cache L) (Error × L)). IfOk r (OpensAgain g (AreFlushedThen s (changes_of row.outs)) config) × IfErr r (λ e. RefusesReopening config e.0)) (sym (start.settings why is)) (tt, is)
-          by None is = of-opening result (start.opens is (only_stable_contents contents) logged)
+      started result start =
+          by-settings config
+          (λ why is. subst (λ (r : Result (Cache L) (Error × L)). IfOk r (OpensAgain g (AreFlushedThen s (changes_of row.outs)) config) × IfErr r (λ e. RefusesReopening config e.0)) (sym (start.settings why is)) (tt, is))
+          (λ is. of-opening result (start.opens is (only_stable_contents contents) logged))
 
       pub reopens-opened : (cache : Cache L) (result : Result (Cache L) (Error × L)) → result ≡ Ok cache → Started g log config result → ReopensAfter g first s calls last config (Ok cache)
       reopens-opened cache result is start =
@@ -212,7 +187,9 @@ flushed-again {L} g first last s config (Ok cache) both after =
 
 pub starts-flushed : {L : Type 0} (g : Ghosts L) (log : L) → (g.state log).usable ≡ true → (g.state log).pending ≡ [] → (g.state log).stable ≡ []
     → (config : Config) (cache : Cache L) (result : Result (Cache L) (Error × L)) → result ≡ Ok cache → Started g log config result → IsFlushed g cache (opened config [])
-starts-flushed {L} g log usable none stable config cache result is start = by (fault_of config) refl
+starts-flushed {L} g log usable none stable config cache result is start =
+    by-settings config (λ why wrong. let refused = start.settings why wrong in absurd cc)
+    (λ sound. flushed (subst (Opens g log config (only_stable_contents [])) is (start.opens sound (only_stable_contents []) logged)))
   where
     holds : unplaced_state (g.state log) ≡ only_stable [] true
     holds =
@@ -233,7 +210,3 @@ starts-flushed {L} g log usable none stable config cache result is start = by (f
           none = no-messages opens.held_then.stable (g.state cache.log).pending opens.held_then.pending waits (opens.is.known refl).logged.pending;
           both = omega arith;
         }
-
-    by : (fault : Option Why) → fault_of config ≡ fault → IsFlushed g cache (opened config [])
-    by (Some why) wrong = (let refused = start.settings why wrong in absurd cc)
-    by None sound = flushed (subst (Opens g log config (only_stable_contents [])) is (start.opens sound (only_stable_contents []) logged))

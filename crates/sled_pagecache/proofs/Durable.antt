@@ -1,50 +1,53 @@
 -- A message that was written and then made stable.
-use Rattle.sled_pagecache.proofs.Names.{AllByRecursion, CacheInfo, Change, Err, Ghosts, HasGrown, HasGrown-since, Io, IsCaused, IsSized, Ok, Refusal, Result, StickyLog, Update, Went, Went-last, Write, Wrote, [], ap, effect_of_entry, false, false≢true, is_write_fault, message_of, subst, sym, true, ℕ, ◌∙◌, ◌∷◌, ◌≡◌}
-use Rattle.sled_log.specs.LogState as log
+use Rattle.sled_pagecache.proofs.Names.{AllByRecursion, CacheInfo, Change, Err, Ghosts, HasGrown, HasGrown-since, Io, IsCaused, IsSized, Ok, Refusal, Result, StickyLog, Update, Went, Went-last, Write, Wrote, [], ap, effect_of_entry, false, false≢true, is_write_fault, message_of, subst, sym, true, ℕ, ◌∙◌, ◌∷◌, ◌≡◌, now}
 
 module _ {L : Type 0} (g : Ghosts L) (old mid new : StickyLog L) (pid : ℕ) (update : Update) (stamp : ℕ) (info : CacheInfo)
-    (wrote : Wrote g.tells g.state g.moment g.left_since g.counts g.is_full old mid pid update stamp (Ok info))
-    (went : Went g.tells g.state g.moment g.left_since g.counts mid new [])
+    (wrote : Wrote g old mid pid update stamp (Ok info))
+    (went : Went g mid new [])
     (reads : (g.counts new.log).reads ≡ (g.counts mid.log).reads) where
-  both : Went g.tells g.state g.moment g.left_since g.counts old new (Change pid (message_of update) ∷ [])
-  both = Went-last g.tells g.state g.moment g.left_since g.counts old mid new (Change pid (message_of update) ∷ []) wrote.went wrote.cause.fault went
+  both : Went g old new (Change pid (message_of update) ∷ [])
+  both = Went-last g old mid new (Change pid (message_of update) ∷ []) wrote.writes.went wrote.writes.cause.fault went
 
-  pub durable-done : new.fault ≡ false → (g.tells → new.fault ≡ false → log.now effect_of_entry (g.state new.log) ≡ log.now effect_of_entry (g.state mid.log))
-      → Wrote g.tells g.state g.moment g.left_since g.counts g.is_full old new pid update stamp (Ok info)
+  pub durable-done : new.fault ≡ false → (g.tells → new.fault ≡ false → now effect_of_entry (g.state new.log) ≡ now effect_of_entry (g.state mid.log))
+      → Wrote g old new pid update stamp (Ok info)
   durable-done free same = record {
     is = wrote.is;
-    went = both;
-    cause = record { fault = free; read = λ is. absurd cc; write = λ is. absurd cc; full = λ is. absurd cc };
-    of_log = λ told. tt;
-    reads = reads ∙ wrote.reads;
-    at = wrote.at;
-    size = wrote.size;
-    chains = λ told. same told free ∙ wrote.chains told;
-    same = λ told. tt;
-    sized = λ told. subst (AllByRecursion IsSized) (sym (same told free)) (wrote.sized told);
+    writes = record {
+      went = both;
+      cause = record { fault = free; read = λ is. absurd cc; write = λ is. absurd cc; full = λ is. absurd cc };
+      of_log = λ told. tt;
+      reads = reads ∙ wrote.writes.reads;
+      at = wrote.writes.at;
+      size = wrote.writes.size;
+      chains = λ told. same told free ∙ wrote.writes.chains told;
+      same = λ told. tt;
+      sized = λ told. subst (AllByRecursion IsSized) (sym (same told free)) (wrote.writes.sized told);
+    };
   }
 
-  pub durable-failed : (refusal : Refusal) → refusal ≡ Io Write → (let failed : Result ℕ Refusal = Err refusal in IsCaused g.tells g.state g.moment g.left_since g.counts mid new ⊥ failed)
-      → Wrote g.tells g.state g.moment g.left_since g.counts g.is_full old new pid update stamp (Err refusal)
+  pub durable-failed : (refusal : Refusal) → refusal ≡ Io Write → (let failed : Result ℕ Refusal = Err refusal in IsCaused g mid new ⊥ failed)
+      → Wrote g old new pid update stamp (Err refusal)
   durable-failed refusal is cause =
-      subst (λ (r : Refusal). Wrote g.tells g.state g.moment g.left_since g.counts g.is_full old new pid update stamp (Err r)) (sym is)
+      subst (λ (r : Refusal). Wrote g old new pid update stamp (Err r)) (sym is)
       (failed (cause.fault ∙ ap (λ (r : Refusal). let told : Result ℕ Refusal = Err r in is_write_fault told) is) (cause.write (ap Err is)))
     where
-      failed : new.fault ≡ true → HasGrown (g.counts mid.log).write_faults (g.counts new.log).write_faults → Wrote g.tells g.state g.moment g.left_since g.counts g.is_full old new pid update stamp (Err (Io Write))
+      failed : new.fault ≡ true → HasGrown (g.counts mid.log).write_faults (g.counts new.log).write_faults → Wrote g old new pid update stamp (Err (Io Write))
       failed kept grown = record {
         is = wrote.is;
-        went = both;
-        cause = record {
-          fault = kept;
-          read = λ is. absurd cc;
-          write = λ is. HasGrown-since (g.counts old.log).write_faults (g.counts mid.log).write_faults (g.counts new.log).write_faults wrote.went.write_faults grown;
-          full = λ is. absurd cc;
+        writes = record {
+          went = both;
+          cause = record {
+            fault = kept;
+            read = λ is. absurd cc;
+            write = λ is. HasGrown-since (g.counts old.log).write_faults (g.counts mid.log).write_faults (g.counts new.log).write_faults wrote.writes.went.write_faults grown;
+            full = λ is. absurd cc;
+          };
+          of_log = λ told. tt;
+          reads = reads ∙ wrote.writes.reads;
+          at = tt;
+          size = tt;
+          chains = λ told. tt;
+          same = λ told free. absurd (false≢true (sym free ∙ kept));
+          sized = λ told. tt;
         };
-        of_log = λ told. tt;
-        reads = reads ∙ wrote.reads;
-        at = tt;
-        size = tt;
-        chains = λ told. tt;
-        same = λ told free. absurd (false≢true (sym free ∙ kept));
-        sized = λ told. tt;
       }

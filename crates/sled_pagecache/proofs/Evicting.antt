@@ -1,15 +1,11 @@
 -- What leaves memory behind a call, told of the table, and in the words of the cache's model.
-use Rattle.sled_pagecache.proofs.Names.{IsErrOf, Write, Refusal, Call, Answer, Token, Steps, IsBlamed, Keeps, IfOk, IfErr, OnOk, OnErr, IsResident, IsAway, ReadsPage, MeetsDamage, ReportsDamage, AllStay, TakesNode, TakesPage, FindsNode, LosesAtMost, LosesNone, stamps_in, Vec, Contains, Contains-append_cases, Contains-append_left, Contains-append_right, ◌++◌, ◌≡◌, ◌⊎◌, inl, inr, ℕ, zero, suc, Bool, true, List, [], ◌∷◌, Option, Some, None, Result, slice_get, slice_set, refl, sym, ap, subst, arith, same_Some, none-some, Ghosts, Cache, HasNoNode, KeepsMemory, LeavesMemory, IsPagedOut, Config, StickyLog, Page, Accesses, Recency, Error, IsBounded, MatchOption}
+use Rattle.sled_pagecache.proofs.Names.{IsErrOf, Write, Refusal, Call, Answer, Token, Steps, IsBlamed, Keeps, IfOk, IfErr, OnOk, OnErr, IsResident, IsAway, ReadsPage, MeetsDamage, ReportsDamage, AllStay, TakesNode, TakesPage, FindsNode, LosesAtMost, LosesNone, stamps_in, Vec, Contains, Contains-append_cases, Contains-append_left, Contains-append_right, ◌++◌, ◌≡◌, ◌⊎◌, inl, inr, ℕ, zero, suc, Bool, true, List, [], ◌∷◌, Option, Some, None, Result, slice_get, slice_set, refl, sym, ap, subst, arith, same_Some, none-some, Ghosts, Cache, HasNoNode, KeepsMemory, LeavesMemory, IsPagedOut, Config, StickyLog, Page, Accesses, Recency, Error, IsBounded, MatchOption, IsWhole, IsOutAt, AreOut, those, Evicts, IsSettled, past-end, view}
 use Rattle.sled_pagecache.proofs.Counted.{counted-out}
 use Rattle.sled_pagecache.proofs.InMemory.{past-view, stays-same}
-use Rattle.sled_pagecache.proofs.Lookups.{past-end}
 use Rattle.sled_pagecache.proofs.PagingOut.{PagesOut, consistent-out, out-page, out-listed, out-none, out-then}
 use Rattle.sled_pagecache.proofs.Settling.{IsSameBut, Settles, lost_by, settled-same, settled-nodes, settled-away, settled-resident, steps-moved, blamed-moved, keeps-moved, damaged-moved, reads-moved, makes-swap, makes-page, makes-found, MakesSwap, MakesPage, MakesFound}
 use Rattle.sled_base.specs.declared.types.Refusal.TheVariants as refusal
 use Rattle.sled_pagecache.proofs.Sizes.{sized-view}
-use Rattle.sled_pagecache.proofs.TableNodes.{view}
-use Rattle.sled_pagecache.specs.Counted.{IsWhole}
-use Rattle.sled_pagecache.specs.Evictions.{IsOutAt, AreOut, those, Evicts, IsSettled}
 
 -- one more
 pub out-last : (pids : List ℕ) (pid : ℕ) (old mid new : List Page) → AreOut pids old mid → IsOutAt pid mid new → AreOut (pids ++ pid ∷ []) old new

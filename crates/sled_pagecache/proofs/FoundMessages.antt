@@ -1,7 +1,5 @@
 -- The messages of a page make one content, and each beginning of them makes a node.
-use Rattle.sled_pagecache.proofs.Names.{◌≡◌, ℕ, ◌+◌, ◌-◌, ◌<◌, ◌≤◌, List, [], ◌∷◌, ◌++◌, length, map, take, drop, get_or, Some, refl, sym, ap, subst, ◌∙◌, inl, inr, arith, get_or_after_one, take_all, take_more, drop_more, length-drop, take-append-drop, map-append, MessageKind, DiskPtr, Refusal, Corruption, OutOfMemory, Content, Node, Put, Link, Message, Messages, Decodes, IsUpdate, LeadTo, Makes, one_content, one_update, Accepts, applied, WholeNode, ReadsNode, Found, found_message, MakesNode, IsFirstWrong, Leads, RefusesMessage, RefusesNode}
-use Rattle.sled_base.specs.declared.kinds.MessageKind.TheVariants as kinds
-use Rattle.sled_node.specs.declared.node.link.Link.{Link as NodeLink}
+use Rattle.sled_pagecache.proofs.Names.{◌≡◌, ℕ, ◌+◌, ◌-◌, ◌<◌, ◌≤◌, List, [], ◌∷◌, ◌++◌, length, map, take, drop, get_or, Some, refl, sym, ap, subst, ◌∙◌, inl, inr, arith, get_or_after_one, take_all, take_more, drop_more, length-drop, take-append-drop, map-append, MessageKind, DiskPtr, Refusal, Corruption, OutOfMemory, Content, Node, Put, Link, Message, Messages, Decodes, IsUpdate, LeadTo, Makes, one_content, one_update, Accepts, applied, WholeNode, ReadsNode, Found, found_message, MakesNode, IsFirstWrong, Leads, RefusesMessage, RefusesNode, NodeLink}
 
 -- ---- one more link
 
@@ -50,15 +48,11 @@ makes-front (x ∷ told) m more after h =
 -- ---- one message, refused
 
 pub refuses_so : (pointer : DiskPtr) (a b : Type 0) → (a → b) → (e : Refusal) → RefusesMessage pointer a e → RefusesMessage pointer b e
-refuses_so pointer a b f OutOfMemory h = tt
-refuses_so pointer a b f (Corruption (Some place)) h = (h.0, f h.1)
-refuses_so pointer a b f e h = absurd h
+refuses_so pointer a b f e h = grind arith
 
 -- a node is put on a page by a payload that is one
 pub node_encoded : (kind : MessageKind) (payload : List ℕ) (node : WholeNode) → Decodes kind payload (Put (Node node)) → ReadsNode payload node []
-node_encoded kinds.InlineNode payload node h = h
-node_encoded kinds.BlobNode payload node h = h
-node_encoded kind payload node h = absurd h
+node_encoded kind payload node h = grind arith
 
 -- a link that isn't accepted leads to no node
 pub leads_nowhere : (m : Message) (link : NodeLink) (before : WholeNode) → IsUpdate m (Link link) → ¬ Accepts before link → (after : WholeNode) → ¬ Leads before m after
@@ -79,8 +73,7 @@ at_rest found i m h e =
 
 pub made-first : (found : List Found) (m : Found) (node : WholeNode) → 0 < length found → m ≡ get_or found 0 m
     → IsUpdate (found_message m) (Put (Node node)) → Makes (map found_message (take (0 + 1) found)) (Node node)
-made-first [] m node h e reads = absurd (omega arith)
-made-first (first ∷ found) m node h e reads = subst (λ (f : Found). Makes (found_message f ∷ []) (Node node)) e (Node node, reads, refl)
+made-first found m node h1 h2 h3 = grind arith
 
 unplaced-more : (found : List Found) (i : ℕ) (m : Found) → i < length found → m ≡ get_or found i m → map found_message (take (i + 1) found) ≡ map found_message (take i found) ++ found_message m ∷ []
 unplaced-more found i m h e =

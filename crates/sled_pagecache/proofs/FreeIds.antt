@@ -1,10 +1,7 @@
 -- The ids of the free pages, where one is put in and taken out again.
-use Rattle.sled_pagecache.proofs.Names.{◌≡◌, ◌≢◌, ◌≤◌, ◌<◌, ◌+◌, ℕ, zero, suc, Bool, true, false, cond, List, [], ◌∷◌, ◌++◌, Some, slice_get, slice_set, refl, sym, ◌∙◌, ap, subst, arith, zero-add, ltb, ltb-true, ltb-false, none-some, same_Some, AllByRecursion, is_free, free_ids, Page}
+use Rattle.sled_pagecache.proofs.Names.{◌≡◌, ◌≢◌, ◌≤◌, ◌<◌, ◌+◌, ℕ, zero, suc, Bool, true, false, cond, List, [], ◌∷◌, ◌++◌, Some, slice_get, slice_set, refl, sym, ◌∙◌, ap, subst, arith, zero-add, ltb, ltb-true, ltb-false, none-some, same_Some, AllByRecursion, is_free, free_ids, Page, insert_key, Less, Equal, Greater, nat_cmp}
 use Rattle.std.specs.BTreeMap.{is_at}
-use Rattle.std.specs.BTreeSet.{insert_key}
 use Rattle.std.specs.Cmp.{nat_cmp_is}
-use Rattle.std.proofs.Common.{Less, Equal, Greater}
-use Rattle.std.specs.Ordering.{nat_cmp}
 use Rattle.std.specs.Set.{remove_key}
 
 below : (pid id : ℕ) → pid < id → nat_cmp pid id ≡ Less

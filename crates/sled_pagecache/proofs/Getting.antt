@@ -1,17 +1,13 @@
 -- A get as a step of the machine: a page is brought in, and then its node is lent.
-use Rattle.sled_pagecache.proofs.Names.{MatchOption, HasNode, HasNoNode, IsBounded, KeepsMemory, AccessesPage, FindsPage, ◌≡◌, inl, inr, ℕ, Bool, true, false, List, [], Option, Some, None, Result, Ok, Err, slice_get, slice_index_or, refl, sym, ◌∙◌, ap, subst, false≢true, false_from_ne_true, error_of, IsOk, IsErrOf, Write, Error, Refusal, Io, Corruption, OutOfMemory, ReservedId, Content, Free, Node, Damaged, Chain, unplaced, holds-made, Makes, Holds, Ghosts, WholeNode, Keeps, Cache, IsIn, IsResident, IsAway, Steps, IsBlamed, chain_at, ReportsWrong, is_write_fault, Logged, sticky_log_of, RefusesReading, BringsIn, IsNodeAt, IsUsers, RefusesPull, ReadsPage, page, State, page_at, is_reserved, Finds, FindsContent, Token, Got, Get, NodeView, IsGot, Outcome, unchanged, Gets}
-use Rattle.std.specs.Prelude.{IfSome}
+use Rattle.sled_pagecache.proofs.Names.{MatchOption, HasNode, HasNoNode, IsBounded, KeepsMemory, AccessesPage, FindsPage, ◌≡◌, inl, inr, ℕ, Bool, true, false, List, [], Option, Some, None, Result, Ok, Err, slice_get, slice_index_or, refl, sym, ◌∙◌, ap, subst, false≢true, false_from_ne_true, error_of, IsOk, IsErrOf, Write, Error, Refusal, Io, ReservedId, Content, Free, Node, Damaged, Chain, unplaced, holds-made, Makes, Holds, Ghosts, WholeNode, Keeps, Cache, IsIn, IsResident, IsAway, Steps, IsBlamed, chain_at, ReportsWrong, is_write_fault, Logged, sticky_log_of, RefusesReading, BringsIn, IsNodeAt, IsUsers, RefusesPull, ReadsPage, page, State, page_at, is_reserved, Finds, FindsContent, Token, Got, Get, NodeView, IsGot, Outcome, unchanged, Gets, IfSome, StampedPage, answered, arith, behind-own}
 use Rattle.sled_base.specs.declared.types.Error.TheVariants as error
 use Rattle.sled_pagecache.proofs.Answers.{keeps-stuck, keeps-err, keeps-ok}
 use Rattle.sled_pagecache.proofs.CacheSteps.{LeadsTo, steps-stuck, steps-known, steps-went}
 use Rattle.sled_pagecache.proofs.Changing.{leads-same, leads-unread}
 use Rattle.sled_pagecache.proofs.Held.{StampedAt, unread, unread-content, stamped-at, state-own, state-page, full-stands}
-use Rattle.sled_pagecache.proofs.Lookups.{behind-own}
 use Rattle.sled_pagecache.proofs.Passing.{passes, stuck-passes, reserved-passes}
 use Rattle.sled_pagecache.proofs.Putting.{blamed}
 use Rattle.sled_pagecache.proofs.Standing.{full-unplaced}
-use Rattle.sled_pagecache.specs.State.{StampedPage}
-use Rattle.sled_pagecache.specs.Lending.{lent_answer as answered}
 
 -- ---- the machine
 
@@ -96,10 +92,7 @@ module _ {L : Type 0} (g : Ghosts L) where
 
 -- why a page wasn't read, as it is answered
 reported-wrong : (chain : Chain) (refusal : Refusal) → RefusesPull chain refusal → ReportsWrong chain (error_of refusal)
-reported-wrong chain OutOfMemory why = tt
-reported-wrong chain (Io device) why = tt
-reported-wrong chain (Corruption (Some pointer)) why = why
-reported-wrong chain refusal why = absurd why
+reported-wrong chain refusal why = grind arith
 
 module _ {L : Type 0} (g : Ghosts L) (old new : Cache L) (pid : ℕ) where
   pub got-found : (found : Option NodeView)

@@ -1,10 +1,8 @@
 -- The page of a state at an id beside the chain that the log has of it.
-use Rattle.sled_pagecache.proofs.Names.{◌≡◌, ◌≤◌, ℕ, zero, suc, true, false, List, [], ◌∷◌, map, Some, Result, Err, slice_get, refl, sym, ◌∙◌, ap, subst, false≢true, none-some, same_Some, error_of, Read, Write, Error, Refusal, Io, Corruption, OutOfMemory, is_empty, Content, Free, Node, Damaged, Chain, unplaced, effect_of_entry, Holds, Hold, Ghosts, WholeNode, Cache, IsIn, chain_at, Logged, RefusesPull, IsUsers, page, State, contents_of, page_at, Outcome, outcome, unchanged, IsCorruption, IsHindered}
+use Rattle.sled_pagecache.proofs.Names.{◌≡◌, ◌≤◌, ℕ, zero, suc, true, false, List, [], ◌∷◌, map, Some, Result, Err, slice_get, refl, sym, ◌∙◌, ap, subst, false≢true, none-some, same_Some, error_of, Read, Write, Error, Refusal, Io, Corruption, OutOfMemory, is_empty, Content, Free, Node, Damaged, Chain, unplaced, effect_of_entry, Holds, Hold, Ghosts, WholeNode, Cache, IsIn, chain_at, Logged, RefusesPull, IsUsers, page, State, contents_of, page_at, Outcome, outcome, unchanged, IsCorruption, IsHindered, map-at, content-own, holds-at, stands-full, holds_now}
 use Rattle.sled_log.specs.LogState as log
 use Rattle.sled_pagecache.proofs.Carrying.{proper-now}
 use Rattle.sled_pagecache.proofs.FoundMessages.{wrong-none}
-use Rattle.sled_pagecache.proofs.Lookups.{map-at, content-own, holds-at, stands-full}
-use Rattle.sled_pagecache.proofs.PagesAt.{holds_now}
 use Rattle.sled_pagecache.proofs.Standing.{holds-free}
 use Rattle.sled_pagecache.specs.Proper.{AreOwn}
 use Rattle.sled_pagecache.specs.State.{StampedPage, is_free}

@@ -1,19 +1,12 @@
 -- Why no generated id is given twice: what opens over a log, however a cache over it ended, begins above every id that was answered.
-use Rattle.sled_pagecache.proofs.Names.{Answer, Bool, Cache, Call, Config, Content, Err, Error, Generated, Ghosts, IsIn, IsLogged, IsStep, List, Logged, Messages, None, Ok, Opens, Option, Result, Some, Started, State, Why, Write, [], ap, append_assoc, arith, changes_of_start, contents_after, contents_of, false, fault_of, first_id, inl, inr, length, log_after, Message, only_stable_contents, opened, refl, slice_index_or, subst, suc, sym, true, true≢false, unplaced_state, zero, ℕ, ⊎_elim, ◌++◌, ◌+◌, ◌<◌, ◌∙◌, ◌∷◌, ◌≡◌, ◌≢◌, ◌≤◌, ◌⊎◌}
-use Rattle.std.specs.Prelude.{⊤}
-use Rattle.std.specs.Result.{IsErrAnd}
-use Rattle.sled_base.specs.declared.types.Error.TheVariants.{Io, Unsupported}
-use Rattle.sled_log.specs.LogState.{LogState}
+use Rattle.sled_pagecache.proofs.Names.{Answer, Cache, Call, Config, Content, Error, Generated, Ghosts, IsIn, IsLogged, IsStep, List, Logged, Messages, Ok, Result, Started, State, [], ap, append_assoc, arith, changes_of_start, contents_after, contents_of, false, first_id, inl, inr, length, Message, only_stable_contents, opened, refl, slice_index_or, subst, suc, sym, true, true≢false, unplaced_state, zero, ℕ, ⊎_elim, ◌++◌, ◌+◌, ◌<◌, ◌∙◌, ◌∷◌, ◌≡◌, ◌≤◌, ◌⊎◌, ⊤, LogState, AreRising, Crashed, CrashedIn, Ending, HandedOn, IsEmpty, IsRun, KeepIntervals, Lasted, Leaves, LeavesUnopened, Opening, id_in, ids_in, ids_of, HoldsCrash, OnlyNow, left-now, AreMade, CoversId, IsMade, MayBeOpened, cases_Bool, IsPrefix, Update, Event}
+use Rattle.sled_pagecache.specs.Openings.{Refused}
+use Rattle.sled_pagecache.proofs.Endings.{ByCrash, ByReturn, IsFaulty, IsLeftUnopened, crash-since, left-unopened, sound-settings, stays-faulty}
 use Rattle.sled_pagecache.proofs.Carrying.{proper-now}
 use Rattle.sled_pagecache.proofs.Counting.{CountsTo, IsSafe, IsSafeCrash, first-at, now-added, rises-first, safe-added, safe-crash, safe-now, safe-wider, start-counts, start-rises, Rises}
 use Rattle.sled_pagecache.proofs.IdSteps.{Passes, call-passes, none-given}
 use Rattle.sled_pagecache.proofs.Reopening.{empty-logged, kept-logged}
 use Rattle.sled_pagecache.specs.Logged.{now}
-use Rattle.sled_pagecache.specs.Openings.{AreRising, Crashed, CrashedIn, Ending, HandedOn, IsEmpty, IsRun, KeepIntervals, Lasted, Leaves, LeavesUnopened, Opening, Refused, id_in, ids_in, ids_of}
-use Rattle.sled_pagecache.specs.Reopening.{HoldsCrash}
-use Rattle.sled_pagecache.specs.RowLaws.{OnlyNow, left-now, step-stuck}
-use Rattle.sled_pagecache.specs.Rows.{AreMade, CoversId, IsMade}
-use Rattle.sled_pagecache.specs.Starts.{MayBeOpened}
 
 -- ---- ids from a bound on, each above the one before it
 
@@ -53,11 +46,6 @@ module _ {L : Type 0} (g : Ghosts L) (tells : g.tells)
         safe = record { rises = tt; above = left.above };
       }
 
-  -- what a crash leaves of a log that is called no more
-  found-left : (least bound : ℕ) (l : L) (found : IsFound least bound l) → (g.state l).usable ≡ true → (pages : List Messages) → g.left_since l (g.moment l) pages → IsSafeCrash least bound pages
-  found-left least bound l found usable pages left =
-      safe-crash least bound found.held found.safe [] tt pages (left-now (unplaced_state (g.state l)) found.held pages found.logged (only_now l pages tells usable left))
-
   -- ---- a cache between two calls
 
   -- it goes on, and every id so far is below a bound
@@ -72,15 +60,8 @@ module _ {L : Type 0} (g : Ghosts L) (tells : g.tells)
     pub counts : CountsTo (now held) counter
     pub safe : IsSafe interval bound held
 
-  -- a write fault is kept, and what crashes leave since the call that met it is known
-  record IsStuck (interval bound : ℕ) (cache : Cache L) : Type 0 where
-    pub held : Logged
-    pub s : State
-    pub is : IsIn g cache held s
-    pub kept : s.fault ≡ true
-    pub since : ℕ
-    pub earlier : since ≤ g.moment cache.log
-    pub left : (pages : List Messages) → g.left_since cache.log since pages → IsSafeCrash interval bound pages
+  abbrev IsStuck : ℕ → ℕ → Cache L → Type 0
+  IsStuck interval bound cache = (s : State) × IsFaulty g (IsSafeCrash interval bound) cache s
 
   abbrev Stands : ℕ → ℕ → Cache L → Type 0
   Stands interval bound cache = GoesOn interval bound cache ⊎ IsStuck interval bound cache
@@ -101,7 +82,7 @@ module _ {L : Type 0} (g : Ghosts L) (tells : g.tells)
     contents = (on.is.known on.clear).contents
 
     passes : Passes on.s (id_in answer) one.out
-    passes = call-passes g old on.s on.counter on.clear (subst (λ (l : List Content). CountsTo l on.counter) (sym contents) on.counts) call answer one.out one.step
+    passes = call-passes g old on.s on.counter (subst (λ (l : List Content). CountsTo l on.counter) (sym contents) on.counts) call answer one.out one.step
 
     rises : Rises (now on.held) one.out.changes
     rises = subst (λ (l : List Content). Rises l one.out.changes) contents passes.rises
@@ -136,28 +117,19 @@ module _ {L : Type 0} (g : Ghosts L) (tells : g.tells)
         }
 
     gets-stuck : one.out.state.fault ≡ true → IsStuck interval bound new
-    gets-stuck kept = record {
-      held = one.held_then;
-      s = one.out.state;
-      is = one.is;
-      kept = kept;
-      since = g.moment old.log;
-      earlier = (one.stop on.clear).later;
-      left = call-left;
-    }
+    gets-stuck kept = (one.out.state, record { held = one.held_then; is = one.is; kept = kept; since = g.moment old.log; earlier = (one.stop on.clear).later; left = call-left })
 
     -- it gives none
     gives-none : id_in answer ≡ [] → Gives interval bound (id_in answer) new
     gives-none none = record {
       bound_then = bound;
-      stands = by one.out.state.fault refl;
+      stands =
+          ⊎_elim (λ kept. inr (gets-stuck kept))
+          (λ free.
+          inl (goes-on free bound (omega (arith, on.next, passes.next)) (λ wide more. (safe-added interval bound on.held on.safe one.out.changes rises one.held_then (one.added free)).above wide more)))
+          (cases_Bool one.out.state.fault);
       rise = λ more h. subst (λ (ids : List ℕ). RiseFrom bound (ids ++ more)) (sym none) h;
     }
-      where
-        by : (fault : Bool) → one.out.state.fault ≡ fault → Stands interval bound new
-        by true kept = inr (gets-stuck kept)
-        by false free =
-            inl (goes-on free bound (omega (arith, on.next, passes.next)) (λ wide more. (safe-added interval bound on.held on.safe one.out.changes rises one.held_then (one.added free)).above wide more))
 
     -- it gives the next one
     gives-one : (id : ℕ) → answer ≡ Generated (Ok id) → id ≡ on.s.next → one.out.state.fault ≡ false → one.out.state.next ≡ on.s.next + 1 → Gives interval bound (id ∷ []) new
@@ -183,22 +155,12 @@ module _ {L : Type 0} (g : Ghosts L) (tells : g.tells)
   -- ---- a call of a cache that keeps a write fault
 
   stuck-gives : (interval bound : ℕ) (old new : Cache L) (call : Call) (answer : Answer) → IsStuck interval bound old → IsMade g old call answer new → Gives interval bound (id_in answer) new
-  stuck-gives interval bound old new call answer stuck made =
-      let one = made.step.from_each stuck.held stuck.s stuck.is in
-      let same : new.log ≡ old.log = one.stuck stuck.kept in
-      let unchanged = step-stuck g old stuck.s call answer one.out one.step stuck.kept in
+  stuck-gives interval bound old new call answer (s, faulty) made =
+      let stay = stays-faulty g (IsSafeCrash interval bound) old new s call answer faulty made in
       record {
         bound_then = bound;
-        stands = inr (record {
-          held = one.held_then;
-          s = one.out.state;
-          is = one.is;
-          kept = ap (λ o. o.state.fault) unchanged ∙ stuck.kept;
-          since = stuck.since;
-          earlier = subst (λ (l : L). stuck.since ≤ g.moment l) (sym same) stuck.earlier;
-          left = subst (λ (l : L). (pages : List Messages) → g.left_since l stuck.since pages → IsSafeCrash interval bound pages) (sym same) stuck.left;
-        });
-        rise = λ more h. subst (λ (ids : List ℕ). RiseFrom bound (ids ++ more)) (sym (none-given g old stuck.s stuck.kept call answer one.out one.step)) h;
+        stands = inr (stay.out.state, stay.faulty);
+        rise = λ more h. subst (λ (ids : List ℕ). RiseFrom bound (ids ++ more)) (sym (none-given g old s faulty.kept call answer stay.out stay.step)) h;
       }
 
   gives : (interval bound : ℕ) (old new : Cache L) (call : Call) (answer : Answer) → Stands interval bound old → IsMade g old call answer new → Gives interval bound (id_in answer) new
@@ -223,55 +185,34 @@ module _ {L : Type 0} (g : Ghosts L) (tells : g.tells)
 
   module _ (least bound : ℕ) (l : L) (found : IsFound least bound l) (config : Config) where
     begins : (first : Cache L) → Started g l config (Ok first) → least ≤ config.idgen_persist_interval → GoesOn config.idgen_persist_interval bound first
-    begins first started wide = by (fault_of config) refl
-      where
-        k : ℕ
-        k = config.idgen_persist_interval
-
-        by : (fault : Option Why) → fault_of config ≡ fault → GoesOn k bound first
-        by (Some why) wrong = (let e = started.settings why wrong in absurd cc)
-        by None sound =
-            let start = started.opens sound found.held found.logged in
-            let safe = safe-wider least k bound found.held wide found.safe in
-            let counts = start-counts (now found.held) (proper-now (unplaced_state (g.state l)) found.held found.logged).own in
-            record {
-              held = start.held_then;
-              s = opened config (now found.held);
-              is = start.is;
-              clear = refl;
-              interval_is = ap (λ (c : Config). c.idgen_persist_interval) start.config_is;
-              next = safe-now k bound found.held safe k (omega arith);
-              counter = counts.0;
-              counts = subst (λ (contents : List Content). CountsTo contents counts.0) (sym (now-added found.held start.held_then (changes_of_start (now found.held)) start.added)) counts.1;
-              safe = safe-added k bound found.held safe (changes_of_start (now found.held)) (start-rises (now found.held)) start.held_then start.added;
-            }
+    begins first started wide =
+        let k = config.idgen_persist_interval in
+        let start = started.opens (sound-settings g l config first started) found.held found.logged in
+        let safe = safe-wider least k bound found.held wide found.safe in
+        let counts = start-counts (now found.held) (proper-now (unplaced_state (g.state l)) found.held found.logged).own in
+        record {
+          held = start.held_then;
+          s = opened config (now found.held);
+          is = start.is;
+          clear = refl;
+          interval_is = ap (λ (c : Config). c.idgen_persist_interval) start.config_is;
+          next = safe-now k bound found.held safe k (omega arith);
+          counter = counts.0;
+          counts = subst (λ (contents : List Content). CountsTo contents counts.0) (sym (now-added found.held start.held_then (changes_of_start (now found.held)) start.added)) counts.1;
+          safe = safe-added k bound found.held safe (changes_of_start (now found.held)) (start-rises (now found.held)) start.held_then start.added;
+        }
 
     -- no cache was opened
     unopened : (result : Result (Cache L) (Error × L)) (left : L) → MayBeOpened g l → Started g l config result → LeavesUnopened g l result left → IsFound least bound left
-    unopened result left may started leaves = by (fault_of config) refl
+    unopened result left may started leaves = by (left-unopened g only_now tells found.held l left config result found.logged may started leaves)
       where
-        untouched : (e : Error) → result ≡ Err (e, l) → IsFound least bound left
-        untouched e same =
-            ⊎_elim
-            (λ crash. crash-found least bound (g.moment l) l left (subst (λ r. HoldsCrash g (log_after r) (g.moment l) left) same crash) (found-left least bound l found may.0))
-            (λ back. subst (IsFound least bound) (sym (subst (λ r. IsErrAnd r (λ e. (e.0 ≢ Io Write) × (left ≡ e.1))) same back).1) found) leaves
+        rises : (begun : List (Event Update)) → IsPrefix begun (changes_of_start (now found.held)) → Rises (now found.held) begun
+        rises begun prefix = rises-first (now found.held) begun prefix.0 (subst (Rises (now found.held)) (sym prefix.1) (start-rises (now found.held)))
 
-        of_result : (result : Result (Cache L) (Error × L)) → Opens g l config found.held result → LeavesUnopened g l result left → IsFound least bound left
-        of_result (Ok cache) start leaves =
-            ⊎_elim
-            (λ crash. crash-found least bound (g.moment l) cache.log left crash (λ pages h. safe-crash least bound found.held found.safe (changes_of_start (now found.held)) (start-rises (now found.held)) pages (start.stop.each pages h)))
-            (λ back. absurd back) leaves
-        of_result (Err refused) start leaves =
-            let rises = rises-first (now found.held) start.begun start.rest (subst (Rises (now found.held)) (sym start.are) (start-rises (now found.held))) in
-            ⊎_elim
-            (λ crash. crash-found least bound (g.moment l) refused.1 left crash (λ pages h. safe-crash least bound found.held found.safe start.begun rises pages (start.stop.each pages h)))
-            (λ back.
-            let adds = start.added back.0 in
-            subst (IsFound least bound) (sym back.1) (record { held = adds.held_then; logged = adds.logged; safe = safe-added least bound found.held found.safe start.begun rises adds.held_then adds.added })) leaves
-
-        by : (fault : Option Why) → fault_of config ≡ fault → IsFound least bound left
-        by (Some why) wrong = untouched (Unsupported why) (started.settings why wrong)
-        by None sound = of_result result (started.opens sound found.held found.logged) leaves
+        by : IsLeftUnopened g found.held l left → IsFound least bound left
+        by (ByCrash crashed begun prefix crash each) =
+            crash-found least bound (g.moment l) crashed left crash (λ pages since. safe-crash least bound found.held found.safe begun (rises begun prefix) pages (each pages since))
+        by (ByReturn begun prefix held_then logged added) = record { held = held_then; logged = logged; safe = safe-added least bound found.held found.safe begun (rises begun prefix) held_then added }
 
   -- how it ends
   crash-ends : (interval bound : ℕ) (last : Cache L) (left : L) → Stands interval bound last → HoldsCrash g last.log (g.moment last.log) left → IsFound interval bound left
@@ -281,8 +222,7 @@ module _ {L : Type 0} (g : Ghosts L) (tells : g.tells)
       let known = on.is.known on.clear in
       crash-found interval bound (g.moment last.log) last.log left crash
       (λ pages h. safe-crash interval bound on.held on.safe [] tt pages (left-now (unplaced_state (g.state last.log)) on.held pages known.logged (only_now last.log pages tells known.usable h))))
-      (λ stuck.
-      crash-found interval bound stuck.since last.log left (record { at = crash.at; later = omega (arith, stuck.earlier, crash.later); pages = crash.pages; left = crash.left; holds = crash.holds }) stuck.left) stands
+      (λ stuck. crash-found interval bound stuck.1.since last.log left (crash-since g last.log left stuck.1.since (g.moment last.log) stuck.1.earlier crash) stuck.1.left) stands
 
   ends : (interval bound : ℕ) (last : Cache L) (ending : Ending) (left : L) → Stands interval bound last → Leaves g last ending left → IsFound interval bound left
   ends interval bound last Crashed left stands crash = crash-ends interval bound last left stands crash
@@ -290,12 +230,12 @@ module _ {L : Type 0} (g : Ghosts L) (tells : g.tells)
       ⊎_elim
       (λ on. crash-found interval bound (g.moment last.log) then.log left crash (call-left interval bound last then call answer on made))
       (λ stuck.
-      let same : then.log ≡ last.log = (made.step.from_each stuck.held stuck.s stuck.is).stuck stuck.kept in
+      let same : then.log ≡ last.log = (made.step.from_each stuck.1.held stuck.0 stuck.1.is).stuck stuck.1.kept in
       crash-ends interval bound last left stands (subst (λ (l : L). HoldsCrash g l (g.moment last.log) left) same crash)) stands
   ends interval bound last HandedOn left stands (clear, same) =
       ⊎_elim
       (λ on. subst (IsFound interval bound) (sym same) (record { held = on.held; logged = (on.is.known on.clear).logged; safe = on.safe }))
-      (λ stuck. absurd (true≢false (sym stuck.kept ∙ stuck.is.fault ∙ clear))) stands
+      (λ stuck. absurd (true≢false (sym stuck.1.kept ∙ stuck.1.is.fault ∙ clear))) stands
 
   -- ---- openings one after another
 

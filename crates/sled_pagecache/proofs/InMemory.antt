@@ -1,42 +1,19 @@
 -- Which pages of a table lie in memory, where one of them changes.
-use Rattle.sled_pagecache.proofs.Names.{Recency, eqb, eqb_tells, capped, is_resident, IsFreeOrNode, CacheInfo, Result, Ok, Err, ◌≡◌, ◌≢◌, ◌⊎◌, ◌≤◌, inl, inr, ℕ, zero, suc, Bool, true, false, List, [], ◌∷◌, ◌++◌, length, map, Option, Some, None, slice_get, slice_set, refl, sym, ◌∙◌, ap, subst, arith, length-map, none-some, same_Some, slice_get-map, slice_get_past, option_map, error_of, Refusal, OutOfMemory, Io, LogFull, IsOfLog, IsHindrance, WholeNode, Cache, is_free, nodes_in, resident_in, Config, StickyLog, Kept, Page, IsListed, rounded, IsTouched, WasAccessed, HasNode, HasNoNode, AreListed, StaysAt, node_access_size, access_size, size_if, size_in, AllStay, IsListedAt, AccessesNode, TakesNode, TakesPage, FindsNode, LosesAtMost, Accesses}
-use Rattle.std.specs.Prelude.{OnOk, OnErr, IfSome, MatchOption}
-use Rattle.sled_base.specs.declared.types.Refusal.TheVariants as refusals
-use Rattle.sled_pagecache.proofs.Lookups.{map-at, set-at}
-use Rattle.sled_pagecache.proofs.TableNodes.{view}
+use Rattle.sled_pagecache.proofs.Names.{Recency, eqb, eqb_tells, capped, is_resident, IsFreeOrNode, CacheInfo, Result, Ok, Err, ◌≡◌, ◌≢◌, ◌⊎◌, ◌≤◌, inl, inr, ℕ, Bool, true, false, List, [], ◌∷◌, ◌++◌, length, map, Option, Some, None, slice_get, slice_set, refl, sym, ◌∙◌, ap, subst, arith, length-map, none-some, same_Some, slice_get-map, slice_get_past, option_map, error_of, Refusal, IsOfLog, IsHindrance, WholeNode, Cache, is_free, nodes_in, resident_in, Config, StickyLog, Kept, Page, IsListed, rounded, IsTouched, WasAccessed, HasNode, HasNoNode, AreListed, StaysAt, node_access_size, access_size, size_if, size_in, AllStay, IsListedAt, AccessesNode, TakesNode, TakesPage, FindsNode, LosesAtMost, Accesses, OnOk, OnErr, IfSome, MatchOption, view, map-at, set-at, other-at, other-before, last-at}
 use Rattle.sled_pagecache.specs.declared.pagecache.page.Kept.TheVariants as kept
 
 -- ---- lists
 
-other-at : {A : Type 0} (xs : List A) (i j : ℕ) (y : A) → j ≢ i → slice_get (slice_set xs i y) j ≡ slice_get xs j
-other-at [] i j y apart = refl
-other-at (x ∷ xs) zero zero y apart = absurd (apart refl)
-other-at (x ∷ xs) zero (suc j) y apart = refl
-other-at (x ∷ xs) (suc i) zero y apart = refl
-other-at (x ∷ xs) (suc i) (suc j) y apart = other-at xs i j y (λ e. apart (ap suc e))
-
 pub map-other : {A B : Type 0} (f : A → B) (xs : List A) (i j : ℕ) (y : A) → j ≢ i → slice_get (map f (slice_set xs i y)) j ≡ slice_get (map f xs) j
 map-other f xs i j y apart = slice_get-map f (slice_set xs i y) j ∙ ap (option_map f) (other-at xs i j y apart) ∙ sym (slice_get-map f xs j)
-
-other-before : {A : Type 0} (xs : List A) (y : A) (j : ℕ) → j ≢ length xs → slice_get (xs ++ y ∷ []) j ≡ slice_get xs j
-other-before [] y zero apart = absurd (apart refl)
-other-before [] y (suc j) apart = refl
-other-before (x ∷ xs) y zero apart = refl
-other-before (x ∷ xs) y (suc j) apart = other-before xs y j (λ e. apart (ap suc e))
-
-last-at : {A : Type 0} (xs : List A) (y : A) → slice_get (xs ++ y ∷ []) (length xs) ≡ Some y
-last-at [] y = refl
-last-at (x ∷ xs) y = last-at xs y
 
 -- ---- nodes
 
 pub no-node-in : (size : ℕ) (k : Kept) → ((node : WholeNode) → k ≡ kept.Node node → ⊥) → size_if size k ≡ None
-no-node-in size (kept.Node node) none = absurd (none node refl)
-no-node-in size k none = refl
+no-node-in size k none = grind arith
 
 free-none : (size : ℕ) (k : Kept) → is_free k ≡ true → size_if size k ≡ None
-free-none size kept.Free free = refl
-free-none size k free = absurd cc
+free-none size k free = grind arith
 
 -- ---- caches
 
@@ -120,10 +97,7 @@ module _ {L : Type 0} where
 -- ---- what is lost
 
 hindrance-of : (refusal : Refusal) → IsOfLog refusal → IsHindrance (error_of refusal)
-hindrance-of OutOfMemory of = tt
-hindrance-of (Io device) of = tt
-hindrance-of (refusals.Unsupported LogFull) of = tt
-hindrance-of refusal of = absurd of
+hindrance-of refusal of = grind arith
 
 module _ {L : Type 0} (tells : Type 0) (old : Cache L) (accesses : Accesses) (pid : ℕ) where
   module _ (new : Cache L) (then : Accesses) (clear : old.fault ≡ false) (refusal : Refusal) (touched : IsTouched accesses pid then) where
@@ -174,14 +148,10 @@ module _ {L : Type 0} (tells : Type 0) (next : ℕ) (config : Config) (recovered
 -- ---- a page that is read
 
 none-free : (size : ℕ) (k : Kept) → size_if size k ≡ None → is_resident k ≡ true → IsFreeOrNode k → is_free k ≡ true
-none-free size kept.Free none resident own = refl
-none-free size kept.Away none resident own = absurd cc
-none-free size (kept.Node node) none resident own = absurd cc
-none-free size k none resident own = absurd own
+none-free size k none resident own = grind arith
 
 pub free-resident : (k : Kept) → is_free k ≡ true → is_resident k ≡ true
-free-resident kept.Free free = refl
-free-resident k free = absurd cc
+free-resident k free = grind arith
 
 module _ {L : Type 0} (next : ℕ) (config : Config) (recovered : Bool) (lru : Recency) (before after : StickyLog L) (pages : List Page) (pid : ℕ) (q page : Page) (at : slice_get pages pid ≡ Some q) (accesses then : Accesses) where
   abbrev old_cache : Cache L
@@ -207,8 +177,7 @@ module _ {L : Type 0} (next : ℕ) (config : Config) (recovered : Bool) (lru : R
   }
     where
       own-size : (k : Kept) (other : ℕ) → size_if (access_size page) k ≡ Some other → other ≡ access_size page
-      own-size (kept.Node node) other is = sym (same_Some (access_size page) other is)
-      own-size k other is = absurd cc
+      own-size k other is = grind arith
 
   pub finds-node : (result : Result (Unit {0}) Refusal) → OnOk result (AccessesNode accesses pid page then) → OnOk result (is_resident page.kept ≡ true) → IsFreeOrNode page.kept
       → is_free page.kept ≡ is_free q.kept → (is_resident q.kept ≡ true → page.kept ≡ q.kept) → page.infos.items ≡ q.infos.items → OnOk result (FindsNode old_cache accesses pid new_cache then)

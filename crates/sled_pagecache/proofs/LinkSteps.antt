@@ -1,15 +1,12 @@
 -- A link as a step of the machine.
-use Rattle.sled_pagecache.proofs.Names.{Recency, ◌≡◌, ◌≢◌, ◌≤◌, ◌<◌, ◌+◌, ◌-◌, ◌^◌, inl, inr, ℕ, Bool, true, false, cond, ltb, List, [], ◌∷◌, ◌++◌, length, Option, Some, Result, Ok, Err, slice_get, slice_set, slice_index_or, refl, sym, ◌∙◌, ap, subst, arith, eq-eqb, get_or-map, ne_eqb, ltb-true, length-map, map-set, same_Some, slice_get_within, get_or_from_slice_get, error_of, LinkRefused, Write, Error, Refusal, ReportableBug, Io, Corruption, OutOfMemory, StampUsedUp, LogFull, chains_from, Content, Free, Node, Update, Put, Link, after_link, contents_from, Event, Change, Entry, Chain, Messages, unplaced, effect_of, effect_of_entry, holds-made, one_content, Makes, Hold, MayChange, now-unplaced, message_of, Ghosts, Accepts, applied, WholeNode, Cache, chain_length, IsIn, HasNoRoom, StepOver, Steps, link_update, chain_at, IsCaused, is_write_fault, RefusesUnappended, RefusesPull, update_by, AppendsLink, TakesLink, RefusesAppended, Logged, HoldsChain, is_free, IsProper, page, State, page_at, with_page, Outcome, outcome, unchanged, is_reserved, Does, Links, LinksNode, LinksContent, stamps_in, IsConsistent, Token, token, Linked, Config, StickyLog}
+use Rattle.sled_pagecache.proofs.Names.{Recency, ◌≡◌, ◌≢◌, ◌≤◌, ◌<◌, ◌+◌, ◌-◌, ◌^◌, inl, inr, ℕ, Bool, true, false, cond, ltb, List, [], ◌∷◌, ◌++◌, length, Option, Some, Result, Ok, Err, slice_get, slice_set, slice_index_or, refl, sym, ◌∙◌, ap, subst, arith, eq-eqb, get_or-map, ne_eqb, ltb-true, length-map, map-set, same_Some, slice_get_within, get_or_from_slice_get, error_of, LinkRefused, Write, Error, Refusal, ReportableBug, Io, Corruption, OutOfMemory, StampUsedUp, LogFull, chains_from, Content, Free, Node, Update, Put, Link, after_link, contents_from, Event, Change, Entry, Chain, Messages, unplaced, effect_of, effect_of_entry, holds-made, one_content, Makes, Hold, MayChange, now-unplaced, message_of, Ghosts, Accepts, applied, WholeNode, Cache, chain_length, IsIn, HasNoRoom, StepOver, Steps, link_update, chain_at, IsCaused, is_write_fault, RefusesUnappended, RefusesPull, update_by, AppendsLink, TakesLink, RefusesAppended, Logged, HoldsChain, is_free, IsProper, page, State, page_at, with_page, Outcome, outcome, unchanged, is_reserved, Does, Links, LinksNode, LinksContent, stamps_in, IsConsistent, Token, token, Linked, Config, StickyLog, NodeLink, StampedPage, is_free_content, KeptPage, map-at, behind-own, holds_now}
 use Rattle.sled_base.specs.declared.types.Error.TheVariants as error
 use Rattle.sled_base.specs.declared.types.Refusal.TheVariants.{Unsupported}
 use Rattle.sled_log.specs.LogState as log
-use Rattle.sled_node.specs.declared.node.link.Link.{Link as NodeLink}
 use Rattle.sled_pagecache.proofs.CacheSteps.{LeadsTo, steps-went}
 use Rattle.sled_pagecache.proofs.Carrying.{proper-now}
 use Rattle.sled_pagecache.proofs.Changing.{leads-same, leads-unread, leads-begun, leads-set}
 use Rattle.sled_pagecache.proofs.Held.{FullStands, unread, unread-content, full-stands}
-use Rattle.sled_pagecache.proofs.Lookups.{map-at, behind-own}
-use Rattle.sled_pagecache.proofs.PagesAt.{holds_now}
 use Rattle.sled_pagecache.proofs.PagingIn.{page-kept-at, places-length, length-before, stamps-same}
 use Rattle.sled_pagecache.proofs.Putting.{unless-clear}
 use Rattle.sled_pagecache.proofs.ProperPages.{link-proper, put-proper}
@@ -17,9 +14,7 @@ use Rattle.sled_pagecache.proofs.TableNodes.{view}
 use Rattle.sled_pagecache.proofs.Standing.{kept-free}
 use Rattle.sled_pagecache.specs.LinkedPages as linked
 use Rattle.sled_pagecache.specs.Logged.{now}
-use Rattle.sled_pagecache.specs.State.{StampedPage, is_free as is_free_content}
 use Rattle.sled_pagecache.specs.declared.pagecache.call.Call.TheVariants as call
-use Rattle.sled_pagecache.specs.declared.pagecache.page.Page.{Page as KeptPage}
 
 -- ---- what is written
 
@@ -233,7 +228,7 @@ module _ {L : Type 0} (g : Ghosts L) where
 
             -- it was refused
             pub link-refused : (refusal : Refusal) → RefusesAppended g before pid q link after refusal
-                → (let err : Result (Unit {0}) Refusal = Err refusal in IsCaused g.tells g.state g.moment g.left_since g.counts before after (g.tells → linked.HadNoRoom g before pid q link) err)
+                → (let err : Result (Unit {0}) Refusal = Err refusal in IsCaused g before after (g.tells → linked.HadNoRoom g before pid q link) err)
                 → page_then.stamp ≡ q.stamp → Steps g old (call.Link t link) (Linked (Err (error_of refusal))) new
             link-refused refusal (inl (went, why)) = λ cause stamp.
                 let again : Refusal → Result (Unit {0}) Refusal = λ r. Err r in

@@ -1,10 +1,6 @@
 -- The table of a cache after a link, and what one sees of it who knows the cache by its model.
-use Rattle.sled_pagecache.proofs.Names.{Recency, ◌≡◌, ◌≤◌, ◌+◌, ℕ, Bool, true, false, cond, ltb, List, [], ◌∷◌, length, Some, slice_get, slice_set, refl, sym, ◌∙◌, ap, subst, arith, ltb-true, is_open, Change, effect_of_entry, message_of, Ghosts, Cache, chain_length, IsResident, IsAway, chain_at, update_by, TakesLink, WasBegun, IsKept, is_free, is_resident, is_reserved, linked_length, IsFreeOrNode, IsConsistent, Config, StickyLog, Page}
-use Rattle.sled_log.specs.LogState as log
-use Rattle.sled_node.specs.declared.node.link.Link.{Link as NodeLink}
-use Rattle.sled_pagecache.proofs.Lookups.{behind-own}
+use Rattle.sled_pagecache.proofs.Names.{Recency, ◌≡◌, ◌≤◌, ◌+◌, ℕ, Bool, true, false, cond, ltb, List, [], ◌∷◌, length, Some, slice_get, slice_set, refl, sym, ◌∙◌, ap, subst, arith, ltb-true, is_open, Change, effect_of_entry, message_of, Ghosts, Cache, chain_length, IsResident, IsAway, chain_at, update_by, TakesLink, WasBegun, IsKept, is_free, is_resident, is_reserved, linked_length, IsFreeOrNode, IsConsistent, Config, StickyLog, Page, NodeLink, now, view, behind-own}
 use Rattle.sled_pagecache.proofs.PagingIn.{page-short-at, places-length, length-before, same-consistent, before-is, is-after}
-use Rattle.sled_pagecache.proofs.TableNodes.{view}
 use Rattle.sled_pagecache.proofs.Tables.{consistent-set, went-chains, free-same}
 
 -- at most ten messages make a page after a link
@@ -18,7 +14,7 @@ linked-short n short = by (ltb n 10) refl
 module _ {L : Type 0} (g : Ghosts L) (before after : StickyLog L) (pages : List Page) (free : List ℕ) (pid : ℕ) (q page : Page)
     (c : IsConsistent g.tells g.state before pages free) (ready : before.fault ≡ false) (behind : is_reserved pid ≡ false) (at : slice_get pages pid ≡ Some q) (link : NodeLink) where
   pub refused-consistent : WasBegun g before after
-      → (g.tells → after.fault ≡ false → log.now effect_of_entry (g.state after.log) ≡ log.now effect_of_entry (g.state before.log))
+      → (g.tells → after.fault ≡ false → now effect_of_entry (g.state after.log) ≡ now effect_of_entry (g.state before.log))
       → (g.tells → after.fault ≡ false → IsKept (chain_at (g.state before.log) pid) page) → page.infos.items ≡ q.infos.items → is_free page.kept ≡ is_free q.kept → IsFreeOrNode page.kept
       → IsConsistent g.tells g.state after (slice_set pages pid page) free
   refused-consistent begun same is infos freed own = same-consistent g before after pages free pid q page c ready behind at begun.came begun.went (begun.marks (is_open (g.state before.log).pending)) same is infos freed own
@@ -27,14 +23,14 @@ module _ {L : Type 0} (g : Ghosts L) (before after : StickyLog L) (pages : List 
   taken-consistent takes freed =
       let went = takes.tells.went in
       let beside = c.beside ready in
-      consistent-set g.tells g.state before after pages free free c ready pid page (behind-own pid behind) (subst IsFreeOrNode (sym takes.holds) tt)
+      consistent-set g before after pages free free c ready pid page (behind-own pid behind) (subst IsFreeOrNode (sym takes.holds) tt)
       (subst (λ (n : ℕ). n ≤ 10) (sym takes.len) (linked-short (length q.infos.items) (page-short-at g before after pages free pid q page c ready behind at)))
       (λ clear. went.opened clear ∙ c.opened ready ∙ sym went.batch)
       (λ clear. record {
         usable = went.usable clear;
         kept = takes.kept;
         others = takes.others;
-        chains = λ known. went-chains g.tells g.state g.moment g.left_since g.counts before after (Change pid (message_of (update_by q link takes.tells.node)) ∷ []) went known clear (beside.chains known);
+        chains = λ known. went-chains g before after (Change pid (message_of (update_by q link takes.tells.node)) ∷ []) went known clear (beside.chains known);
         sized = takes.sized;
       })
       (c.free ∙ sym (free-same 0 pages pid page q at freed))

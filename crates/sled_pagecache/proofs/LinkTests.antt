@@ -1,17 +1,12 @@
 -- A link that is tested, and one of a damaged page.
-use Rattle.sled_pagecache.proofs.Names.{Recency, ◌≡◌, inl, inr, ℕ, Bool, true, false, List, Option, Some, None, Result, Ok, Err, slice_get, slice_set, refl, sym, ◌∙◌, ap, subst, false≢true, option_map, slice_get-map, none-some, same_Some, MatchBool, error_of, LinkRefused, Write, Refusal, ReportableBug, Io, Corruption, OutOfMemory, ReservedId, StampUsedUp, LogFull, is_empty, Node, Chain, unplaced, effect_of_entry, Makes, one_content, Ghosts, Accepts, WholeNode, Cache, IsIn, IsResident, chain_at, ReportsWrong, MeetsDamage, ReportsDamage, Judges, IsJudged, IsTested, TestsFirst, RefusesUnappended, TakesLink, RefusesAppended, Logged, HoldsChain, is_resident, is_free, State, page, page_at, Swapped, is_reserved, RefusesLink, stamps_in, resident_in, IsFreeOrNode, IsConsistent, Token, Config, StickyLog, Judgement, Fresh, Stale, Gone, Kept}
+use Rattle.sled_pagecache.proofs.Names.{Recency, ◌≡◌, inl, inr, ℕ, Bool, true, false, List, Option, Some, None, Err, slice_get, slice_set, refl, sym, ◌∙◌, ap, subst, false≢true, option_map, slice_get-map, none-some, same_Some, MatchBool, error_of, LinkRefused, Write, Refusal, ReportableBug, Io, Corruption, OutOfMemory, ReservedId, StampUsedUp, LogFull, is_empty, Node, Chain, unplaced, effect_of_entry, Makes, one_content, Ghosts, Accepts, WholeNode, Cache, IsIn, IsResident, chain_at, ReportsWrong, MeetsDamage, ReportsDamage, Judges, IsFresh, IsRejected, IsTested, TestsFirst, RefusesUnappended, TakesLink, RefusesAppended, Logged, HoldsChain, is_resident, is_free, State, page, page_at, Swapped, is_reserved, RefusesLink, stamps_in, resident_in, IsFreeOrNode, IsConsistent, Token, Config, StickyLog, Rejection, Refused, Stale, Gone, Kept, NodeLink, StampedPage, KeptPage, map-at, kept-at, own-at, behind-own}
 use Rattle.sled_base.specs.declared.types.Refusal.TheVariants.{Unsupported}
 use Rattle.sled_log.specs.LogState as log
-use Rattle.sled_node.specs.declared.node.link.Link.{Link as NodeLink}
 use Rattle.sled_pagecache.proofs.Held.{state-page}
-use Rattle.sled_pagecache.proofs.Judging.{IsFresh}
-use Rattle.sled_pagecache.proofs.Lookups.{map-at, kept-at, own-at, behind-own}
 use Rattle.sled_pagecache.proofs.PagingIn.{stamps-same}
 use Rattle.sled_pagecache.proofs.Standing.{node-full, kept-free}
 use Rattle.sled_pagecache.proofs.TableNodes.{view}
-use Rattle.sled_pagecache.specs.State.{StampedPage}
 use Rattle.sled_pagecache.specs.declared.pagecache.page.Kept.TheVariants as kept
-use Rattle.sled_pagecache.specs.declared.pagecache.page.Page.{Page as KeptPage}
 
 no-stamp : (table : List KeptPage) (pid : ℕ) → slice_get table pid ≡ None → slice_get (stamps_in table) pid ≡ None
 no-stamp table pid none = slice_get-map (λ (q : KeptPage). q.stamp) table pid ∙ ap (option_map (λ (q : KeptPage). q.stamp)) none
@@ -24,23 +19,26 @@ module _ {L : Type 0} (g : Ghosts L) (next : ℕ) (config : Config) (recovered :
   abbrev chain : Chain
   chain = chain_at (g.state before.log) pid
 
-  -- the token of a page that has a content, at its stamp, is fresh
-  pub judged-fresh : (result : Result Judgement Refusal) → Judges before.fault pages pid t result
-      → g.tells → before.fault ≡ false → is_reserved pid ≡ false → is_empty effect_of_entry chain ≡ false → slice_get (stamps_in pages) pid ≡ Some t.stamp → result ≡ Ok Fresh
-  judged-fresh (Err refusal) judges known ready behind full stamp =
-      absurd (false≢true (sym behind ∙ (let h : MatchBool false (refusal ≡ Io Write) ((is_reserved pid ≡ true) × (refusal ≡ Unsupported ReservedId)) = subst (λ (b : Bool). MatchBool b (refusal ≡ Io Write) ((is_reserved pid ≡ true) × (refusal ≡ Unsupported ReservedId))) ready judges in h.0)))
-  judged-fresh (Ok judgement) judges known ready behind full stamp = by (slice_get pages pid) refl judgement judges.2
-    where
-      by : (o : Option KeptPage) → slice_get pages pid ≡ o → (judgement : Judgement) → IsJudged o pid t judgement → (let result : Result Judgement Refusal = Ok judgement in result ≡ Ok Fresh)
-      by None at judgement judged = absurd (none-some t.stamp (sym (no-stamp pages pid at) ∙ stamp))
-      by (Some q) at Fresh judged = refl
-      by (Some q) at (Stale present) judged = absurd (judged.1 (same_Some q.stamp t.stamp (sym (map-at (λ (p : KeptPage). p.stamp) pages pid q at) ∙ stamp)))
-      by (Some q) at Gone judged =
-          let holds = (kept-at (log.now effect_of_entry (g.state before.log)) pages pid q ((c.beside ready).kept known) at).holds in
-          absurd (false≢true (sym full ∙ kept-free chain q.kept holds ∙ judged))
+  -- the token of a page that has a content, at its stamp, isn't rejected
+  found-fresh : (o : Option KeptPage) → slice_get pages pid ≡ o → (rejection : Rejection) → IsRejected o pid t rejection
+      → g.tells → before.fault ≡ false → is_empty effect_of_entry chain ≡ false → slice_get (stamps_in pages) pid ≡ Some t.stamp → ⊥
+  found-fresh None at rejection judged known ready full stamp = none-some t.stamp (sym (no-stamp pages pid at) ∙ stamp)
+  found-fresh (Some q) at (Refused refusal) judged known ready full stamp = judged
+  found-fresh (Some q) at (Stale present) judged known ready full stamp = judged.1 (same_Some q.stamp t.stamp (sym (map-at (λ (p : KeptPage). p.stamp) pages pid q at) ∙ stamp))
+  found-fresh (Some q) at Gone judged known ready full stamp =
+      let holds = (kept-at (log.now effect_of_entry (g.state before.log)) pages pid q ((c.beside ready).kept known) at).holds in
+      false≢true (sym full ∙ kept-free chain q.kept holds ∙ judged)
 
-  pub damage-judged : (result : Result Judgement Refusal) → Judges before.fault pages pid t result → MeetsDamage g old pid → slice_get old.stamps pid ≡ Some t.stamp → result ≡ Ok Fresh
-  damage-judged result judges meets stamp = judged-fresh result judges meets.tells meets.ready meets.behind meets.damaged.0 stamp
+  judged-fresh : (rejection : Rejection) → Judges before.fault pages pid t (Err rejection)
+      → g.tells → before.fault ≡ false → is_reserved pid ≡ false → is_empty effect_of_entry chain ≡ false → slice_get (stamps_in pages) pid ≡ Some t.stamp → ⊥
+  judged-fresh (Refused refusal) judges known ready behind full stamp =
+      let own : MatchBool false (refusal ≡ Io Write) ((is_reserved pid ≡ true) × (refusal ≡ Unsupported ReservedId)) = subst (λ (b : Bool). MatchBool b (refusal ≡ Io Write) ((is_reserved pid ≡ true) × (refusal ≡ Unsupported ReservedId))) ready judges in
+      false≢true (sym behind ∙ own.0)
+  judged-fresh (Stale present) judges known ready behind full stamp = found-fresh (slice_get pages pid) refl (Stale present) judges.2 known ready full stamp
+  judged-fresh Gone judges known ready behind full stamp = found-fresh (slice_get pages pid) refl Gone judges.2 known ready full stamp
+
+  pub judged-undamaged : (rejection : Rejection) → Judges before.fault pages pid t (Err rejection) → MeetsDamage g old pid → slice_get old.stamps pid ≡ Some t.stamp → ⊥
+  judged-undamaged rejection judges meets stamp = judged-fresh rejection judges meets.tells meets.ready meets.behind meets.damaged.0 stamp
 
   -- ---- a state that the cache is in
 
@@ -52,13 +50,13 @@ module _ {L : Type 0} (g : Ghosts L) (next : ℕ) (config : Config) (recovered :
     makes : Makes (unplaced chain) (Node node)
     makes = state-page g old held s is clear pid (page t.stamp (Node node)) found
 
-    tests-judged : (result : Result Judgement Refusal) → Judges before.fault pages pid t result → result ≡ Ok Fresh
-    tests-judged result judges =
-        judged-fresh result judges is.tells (sym is.fault ∙ clear) (ap is_reserved (sym same) ∙ own) (node-full chain node makes)
+    tests-judged : (rejection : Rejection) → Judges before.fault pages pid t (Err rejection) → ⊥
+    tests-judged rejection judges =
+        judged-fresh rejection judges is.tells (sym is.fault ∙ clear) (ap is_reserved (sym same) ∙ own) (node-full chain node makes)
         (sym (ap (λ (l : List ℕ). slice_get l pid) is.stamps) ∙ map-at (λ (p : StampedPage). p.stamp) s.pages pid (page t.stamp (Node node)) found)
 
-  pub judged-tests : t.pid ≡ pid → (result : Result Judgement Refusal) → Judges before.fault pages pid t result → (result ≡ Ok Fresh → ⊥) → (link : NodeLink) (answer : Swapped NodeLink) → TestsFirst g old t link answer
-  judged-tests same result judges not link answer held s node is clear own resident there = absurd (not (tests-judged same held s node is clear own there result judges))
+  pub judged-tests : t.pid ≡ pid → (rejection : Rejection) → Judges before.fault pages pid t (Err rejection) → (link : NodeLink) (answer : Swapped NodeLink) → TestsFirst g old t link answer
+  judged-tests same rejection judges link answer held s node is clear own resident there = absurd (tests-judged same held s node is clear own there rejection judges)
 
   module _ (q : KeptPage) (fresh : IsFresh before.fault pages pid t q) (link : NodeLink) where
     kept-own : IsFreeOrNode q.kept

@@ -1,7 +1,5 @@
 -- What a link makes of the chain of its page.
-use Rattle.sled_pagecache.proofs.Names.{◌≡◌, ◌+◌, ◌<◌, ℤ, ℕ, Bool, true, false, cond, ltb, List, [], ◌∷◌, ◌++◌, length, map, refl, sym, ◌∙◌, ap, subst, slice_set, slice_index_or, length-map, length-append, map-append, ◌⊎◌, Result, Err, LinkRefused, Read, Write, DiskPtr, Refusal, ReportableBug, Io, Counts, is_empty, chains_from, Node, Update, Put, Link, Event, Change, Message, Entry, Chain, Messages, unplaced, placed, effect_of_entry, said_of, IsUpdate, Makes, message_of, Accepts, applied, WholeNode, place_of, Went, IsCaused, begun_by, IsCaused-handed_on, HoldsChain, IsKept, is_free, RefusesSwap, RefusesLink, link_update, infos_after, linked_length, update_of, CacheInfo, StickyLog, Kept, Page}
-use Rattle.sled_log.specs.LogState.{LogState}
-use Rattle.sled_node.specs.declared.node.link.Link.{Link as NodeLink}
+use Rattle.sled_pagecache.proofs.Names.{Ghosts, ◌≡◌, ◌+◌, ◌<◌, ℤ, ℕ, Bool, true, false, cond, ltb, List, [], ◌∷◌, ◌++◌, length, map, refl, sym, ◌∙◌, ap, subst, slice_set, slice_index_or, length-map, length-append, map-append, ◌⊎◌, Result, Err, LinkRefused, Read, Write, DiskPtr, Refusal, ReportableBug, Io, is_empty, chains_from, Node, Update, Put, Link, Event, Change, Message, Entry, Chain, Messages, unplaced, placed, effect_of_entry, said_of, IsUpdate, Makes, message_of, Accepts, applied, WholeNode, place_of, Went, IsCaused, begun_by, IsCaused-handed_on, HoldsChain, IsKept, is_free, RefusesSwap, RefusesLink, link_update, infos_after, linked_length, update_of, CacheInfo, StickyLog, Kept, Page, NodeLink}
 use Rattle.sled_pagecache.specs.declared.pagecache.page.Kept.TheVariants as kept
 use Rattle.sled_pagecache.proofs.FoundMessages.{makes-more}
 use Rattle.sled_pagecache.proofs.Swaps.{at-page, other-pages, put-chains}
@@ -69,27 +67,27 @@ infos-length infos info = by (ltb (length infos) 10)
 
 -- ---- a link that was refused
 
-begun-handed : (T U : Type 0) (refusal : Refusal) (events : List (Event Message)) → (let one : Result T Refusal = Err refusal in begun_by one events) ≡ (let other : Result U Refusal = Err refusal in begun_by other events)
+pub begun-handed : (T U : Type 0) (refusal : Refusal) (events : List (Event Message)) → (let one : Result T Refusal = Err refusal in begun_by one events) ≡ (let other : Result U Refusal = Err refusal in begun_by other events)
 begun-handed T U (Io Read) events = refl
 begun-handed T U (Io Write) events = refl
 begun-handed T U refusal events = refl
 
 -- a refusal of the log is handed on
-module _ {L : Type 0} (tells : Type 0) (state : L → LogState Entry) (moment : L → ℕ) (left_since : L → ℕ → List Messages → Type 0) (counts : L → Counts) (is_full : L → ℕ → Type 0)
+module _ {L : Type 0} (g : Ghosts L)
     (old new : StickyLog L) (pid : ℕ) (one other : Update) (same : one ≡ other) (refusal : Refusal) (T U : Type 0) where
-  pub went-handed : (let err : Result T Refusal = Err refusal in Went tells state moment left_since counts old new (begun_by err (Change pid (message_of one) ∷ [])))
-      → (let err : Result U Refusal = Err refusal in Went tells state moment left_since counts old new (begun_by err (Change pid (message_of other) ∷ [])))
+  pub went-handed : (let err : Result T Refusal = Err refusal in Went g old new (begun_by err (Change pid (message_of one) ∷ [])))
+      → (let err : Result U Refusal = Err refusal in Went g old new (begun_by err (Change pid (message_of other) ∷ [])))
   went-handed went =
       let err : Result U Refusal = Err refusal in
-      subst (λ (u : Update). Went tells state moment left_since counts old new (begun_by err (Change pid (message_of u) ∷ []))) same
-      (subst (λ (events : List (Event Message)). Went tells state moment left_since counts old new events) (begun-handed T U refusal (Change pid (message_of one) ∷ [])) went)
+      subst (λ (u : Update). Went g old new (begun_by err (Change pid (message_of u) ∷ []))) same
+      (subst (λ (events : List (Event Message)). Went g old new events) (begun-handed T U refusal (Change pid (message_of one) ∷ [])) went)
 
-  pub cause-handed : (let err : Result T Refusal = Err refusal in IsCaused tells state moment left_since counts old new (is_full old.log (length (message_of one).payload)) err)
-      → (let err : Result U Refusal = Err refusal in IsCaused tells state moment left_since counts old new (is_full old.log (length (message_of other).payload)) err)
+  pub cause-handed : (let err : Result T Refusal = Err refusal in IsCaused g old new (g.is_full old.log (length (message_of one).payload)) err)
+      → (let err : Result U Refusal = Err refusal in IsCaused g old new (g.is_full old.log (length (message_of other).payload)) err)
   cause-handed cause =
       let err : Result U Refusal = Err refusal in
-      subst (λ (u : Update). IsCaused tells state moment left_since counts old new (is_full old.log (length (message_of u).payload)) err) same
-      (IsCaused-handed_on tells state moment left_since counts old new (is_full old.log (length (message_of one).payload)) refusal cause)
+      subst (λ (u : Update). IsCaused g old new (g.is_full old.log (length (message_of u).payload)) err) same
+      (IsCaused-handed_on g old new (g.is_full old.log (length (message_of one).payload)) refusal cause)
 
 pub refuses-node : (stamp : ℕ) (held : Kept) (link : NodeLink) (node : WholeNode) (refusal : Refusal) → held ≡ kept.Node node
     → ((¬ Accepts node link) × (refusal ≡ ReportableBug LinkRefused)) ⊎ (Accepts node link × RefusesSwap stamp refusal) → RefusesLink stamp held link refusal

@@ -1,13 +1,12 @@
 -- A link of a page that is read first: what the two calls of the log make together.
-use Rattle.sled_pagecache.proofs.Names.{◌≡◌, ◌≢◌, ◌≤◌, ◌-◌, ◌^◌, inl, inr, ℕ, Bool, true, false, List, [], ◌∷◌, length, Result, Ok, Err, slice_set, refl, sym, ◌∙◌, ap, subst, arith, false≢true, AllByRecursion, IfErr, OnOk, OnErr, IsErrOf, Read, Write, Refusal, Io, OutOfMemory, LogFull, Event, Change, Message, Chain, unplaced, effect_of_entry, IsSized, IsUpdate, Makes, now, message_of, Ghosts, Accepts, applied, WholeNode, chain_at, more, Went, IsCaused, IsOfLog, begun_by, Went-then, IsCaused-since, AppendsLink, TakesLink, RefusesAppended, HadNoRoom, WasBegun, HoldsChain, IsKept, is_free, is_resident, IsRaised, IsLinked, RefusesLink, update_of, link_update, linked_length, IsFreeOrNode, StickyLog, Kept, Page}
+use Rattle.sled_pagecache.proofs.Names.{◌≡◌, ◌≢◌, ◌≤◌, ◌-◌, ◌^◌, inl, inr, ℕ, Bool, true, false, List, [], ◌∷◌, length, Result, Ok, Err, slice_set, refl, sym, ◌∙◌, ap, subst, arith, false≢true, AllByRecursion, IfErr, OnOk, OnErr, IsErrOf, Read, Write, Refusal, Io, OutOfMemory, LogFull, Event, Change, Message, Chain, unplaced, effect_of_entry, IsSized, IsUpdate, Makes, now, message_of, Ghosts, Accepts, applied, WholeNode, chain_at, more, Went, IsCaused, IsOfLog, begun_by, Went-then, IsCaused-since, AppendsLink, TakesLink, RefusesAppended, HadNoRoom, WasBegun, HoldsChain, IsKept, is_free, is_resident, IsRaised, IsLinked, RefusesLink, update_of, link_update, linked_length, IsFreeOrNode, StickyLog, Kept, Page, NodeLink}
 use Rattle.sled_base.specs.declared.types.Refusal.TheVariants.{Unsupported}
 use Rattle.sled_log.specs.Contents as content
-use Rattle.sled_node.specs.declared.node.link.Link.{Link as NodeLink}
 use Rattle.sled_pagecache.proofs.Tables.{marks-begun}
 use Rattle.sled_pagecache.specs.declared.pagecache.page.Kept.TheVariants as kept
 
 module _ {L : Type 0} (g : Ghosts L) (old mid new : StickyLog L) (pid : ℕ) (q page page_then : Page) (link : NodeLink)
-    (went : Went g.tells g.state g.moment g.left_since g.counts old mid []) (clear : mid.fault ≡ false) (same : g.tells → mid.fault ≡ false → now effect_of_entry (g.state mid.log) ≡ now effect_of_entry (g.state old.log))
+    (went : Went g old mid []) (clear : mid.fault ≡ false) (same : g.tells → mid.fault ≡ false → now effect_of_entry (g.state mid.log) ≡ now effect_of_entry (g.state old.log))
     (is : g.tells → IsKept (chain_at (g.state old.log) pid) page) (stamp : page.stamp ≡ q.stamp) (infos : page.infos.items ≡ q.infos.items) (resident : is_resident page.kept ≡ true) where
   abbrev chain : Chain
   chain = chain_at (g.state old.log) pid
@@ -19,11 +18,11 @@ module _ {L : Type 0} (g : Ghosts L) (old mid new : StickyLog L) (pid : ℕ) (q 
   abbrev events : Kept → List (Event Message)
   events k = Change pid (message_of (update k)) ∷ []
 
-  joined : (more : List (Event Message)) → Went g.tells g.state g.moment g.left_since g.counts mid new more → Went g.tells g.state g.moment g.left_since g.counts old new more
-  joined more second = Went-then g.tells g.state g.moment g.left_since g.counts old mid new [] more went clear second
+  joined : (more : List (Event Message)) → Went g mid new more → Went g old new more
+  joined more second = Went-then g old mid new [] more went clear second
 
   tells : (node : WholeNode) → (g.tells → Makes (unplaced chain) (content.Node node)) → Accepts node link → q.stamp ≢ 2 ^ 64 - 1 → IsUpdate (message_of (update (kept.Node node))) (update (kept.Node node))
-      → Went g.tells g.state g.moment g.left_since g.counts mid new (events (kept.Node node)) → AppendsLink g old pid q link new
+      → Went g mid new (events (kept.Node node)) → AppendsLink g old pid q link new
   tells node made accepts below reads second =
       let n : length page.infos.items ≡ length q.infos.items = ap length infos in
       record {
@@ -32,11 +31,11 @@ module _ {L : Type 0} (g : Ghosts L) (old mid new : StickyLog L) (pid : ℕ) (q 
         accepts = accepts;
         below = below;
         is = subst (λ (k : ℕ). IsUpdate (message_of (link_update k link (applied link node))) (link_update k link (applied link node))) n reads;
-        went = subst (λ (k : ℕ). Went g.tells g.state g.moment g.left_since g.counts old new (Change pid (message_of (link_update k link (applied link node))) ∷ [])) n (joined (events (kept.Node node)) second);
+        went = subst (λ (k : ℕ). Went g old new (Change pid (message_of (link_update k link (applied link node))) ∷ [])) n (joined (events (kept.Node node)) second);
       }
 
   taken-by : (k : Kept) → (g.tells → HoldsChain chain k) → IsLinked k link page_then.kept → IsUpdate (message_of (update k)) (update k)
-      → Went g.tells g.state g.moment g.left_since g.counts mid new (events k)
+      → Went g mid new (events k)
       → IsRaised page.stamp page_then.stamp → (g.tells → IsKept (chain_at (g.state new.log) pid) page_then) → length page_then.infos.items ≡ linked_length (length page.infos.items)
       → (g.tells → now effect_of_entry (g.state new.log) ≡ slice_set (now effect_of_entry (g.state mid.log)) pid (chain_at (g.state new.log) pid))
       → (g.tells → AllByRecursion IsSized (now effect_of_entry (g.state new.log))) → TakesLink g old pid q link new page_then
@@ -53,7 +52,7 @@ module _ {L : Type 0} (g : Ghosts L) (old mid new : StickyLog L) (pid : ℕ) (q 
   taken-by k holds linked reads second raised kept_then len others sized = absurd linked
 
   pub taken : (result : Result (Unit {0}) Refusal) → OnOk result (IsLinked page.kept link page_then.kept) → OnOk result (IsUpdate (message_of (update page.kept)) (update page.kept))
-      → Went g.tells g.state g.moment g.left_since g.counts mid new (begun_by result (events page.kept))
+      → Went g mid new (begun_by result (events page.kept))
       → OnOk result (IsRaised page.stamp page_then.stamp) → (g.tells → OnOk result (IsKept (chain_at (g.state new.log) pid) page_then)) → OnOk result (length page_then.infos.items ≡ linked_length (length page.infos.items))
       → (g.tells → OnOk result (now effect_of_entry (g.state new.log) ≡ slice_set (now effect_of_entry (g.state mid.log)) pid (chain_at (g.state new.log) pid)))
       → (g.tells → OnOk result (AllByRecursion IsSized (now effect_of_entry (g.state new.log)))) → OnOk result (TakesLink g old pid q link new page_then)
@@ -63,7 +62,7 @@ module _ {L : Type 0} (g : Ghosts L) (old mid new : StickyLog L) (pid : ℕ) (q 
   -- ---- refused
 
   of-log : (node : WholeNode) (refusal : Refusal) → Makes (unplaced chain) (content.Node node) → Accepts node link → q.stamp ≢ 2 ^ 64 - 1 → IsOfLog refusal
-      → (let err : Result (Unit {0}) Refusal = Err refusal in Went g.tells g.state g.moment g.left_since g.counts mid new (begun_by err (events (kept.Node node))))
+      → (let err : Result (Unit {0}) Refusal = Err refusal in Went g mid new (begun_by err (events (kept.Node node))))
       → (refusal ≡ Io Write → IsUpdate (message_of (update (kept.Node node))) (update (kept.Node node)))
       → RefusesAppended g old pid q link new refusal
   of-log node OutOfMemory made accepts below why second reads = inl (joined [] second, tt)
@@ -73,7 +72,7 @@ module _ {L : Type 0} (g : Ghosts L) (old mid new : StickyLog L) (pid : ℕ) (q 
   of-log node refusal made accepts below why second reads = absurd why
 
   refused-by : (k : Kept) (refusal : Refusal) → HoldsChain chain k → is_resident k ≡ true → is_free k ≡ false → IsFreeOrNode k → RefusesLink page.stamp k link refusal
-      → (let err : Result (Unit {0}) Refusal = Err refusal in Went g.tells g.state g.moment g.left_since g.counts mid new (begun_by err (events k)))
+      → (let err : Result (Unit {0}) Refusal = Err refusal in Went g mid new (begun_by err (events k)))
       → (refusal ≡ Io Write → IsUpdate (message_of (update k)) (update k))
       → RefusesAppended g old pid q link new refusal
   refused-by kept.Free refusal holds there full own why = absurd (false≢true (sym full))
@@ -84,7 +83,7 @@ module _ {L : Type 0} (g : Ghosts L) (old mid new : StickyLog L) (pid : ℕ) (q 
   refused-by k refusal holds there full own why = absurd own
 
   pub refused : g.tells → is_free page.kept ≡ false → IsFreeOrNode page.kept → (result : Result (Unit {0}) Refusal) → IfErr result (RefusesLink page.stamp page.kept link)
-      → Went g.tells g.state g.moment g.left_since g.counts mid new (begun_by result (events page.kept))
+      → Went g mid new (begun_by result (events page.kept))
       → (IsErrOf result (Io Write) → IsUpdate (message_of (update page.kept)) (update page.kept))
       → IfErr result (RefusesAppended g old pid q link new)
   refused known full own (Ok done) why second reads = tt
@@ -93,7 +92,7 @@ module _ {L : Type 0} (g : Ghosts L) (old mid new : StickyLog L) (pid : ℕ) (q 
       refused-by page.kept refusal (is known).holds resident full own why second (λ write. reads (ap again write))
 
   -- what was begun
-  pub begun : (result : Result (Unit {0}) Refusal) → Went g.tells g.state g.moment g.left_since g.counts mid new (begun_by result (events page.kept)) → WasBegun g old new
+  pub begun : (result : Result (Unit {0}) Refusal) → Went g mid new (begun_by result (events page.kept)) → WasBegun g old new
   begun result second = record {
     came = begun_by result (events page.kept);
     marks = λ was. marks-begun result pid (message_of (update page.kept)) was;
@@ -112,10 +111,10 @@ module _ {L : Type 0} (g : Ghosts L) (old mid new : StickyLog L) (pid : ℕ) (q 
   full-by k holds why room full = absurd cc
 
   pub caused : (result : Result (Unit {0}) Refusal) → (g.tells → IfErr result (RefusesLink page.stamp page.kept link)) → ((n : ℕ) → g.is_full mid.log n → g.is_full old.log n)
-      → IsCaused g.tells g.state g.moment g.left_since g.counts mid new (g.is_full mid.log (length (message_of (update page.kept)).payload)) result
-      → IsCaused g.tells g.state g.moment g.left_since g.counts old new (g.tells → HadNoRoom g old pid q link) result
+      → IsCaused g mid new (g.is_full mid.log (length (message_of (update page.kept)).payload)) result
+      → IsCaused g old new (g.tells → HadNoRoom g old pid q link) result
   caused result why room cause =
-      let since = IsCaused-since g.tells g.state g.moment g.left_since g.counts old mid new [] (g.is_full mid.log (length (message_of (update page.kept)).payload)) result went cause in
+      let since = IsCaused-since g old mid new [] (g.is_full mid.log (length (message_of (update page.kept)).payload)) result went cause in
       record {
         fault = since.fault;
         read = since.read;

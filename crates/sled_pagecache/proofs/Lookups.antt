@@ -1,10 +1,30 @@
 -- What the table and the state of a cache hold at an id.
-use Rattle.sled_pagecache.proofs.Names.{◌≡◌, ◌≤◌, ℕ, zero, suc, ◌==◌, ◌||◌, false, List, [], ◌∷◌, length, map, None, Some, slice_get, slice_set, slice_index_or, refl, sym, ◌∙◌, ap, subst, arith, false≢true, or_parts, eqb-false, set-get_or, option_map, slice_get-map, get_or-map, none-some, get_or_from_slice_get, AllByRecursion, AllZip, is_empty, Content, Chain, Messages, unplaced, effect_of_entry, Holds, Hold, IsKept, IsUsers, is_reserved, meta_pid, counter_pid, batch_manifest_pid}
-use Rattle.sled_pagecache.proofs.ByIds.{all-by-id, at-id, past-two, zip-second}
-use Rattle.sled_pagecache.specs.Proper.{AreOwn, AreRoots, IsCounter, IsOwnAt}
+use Rattle.sled_base.proofs.LinkedLists.Linking.{get_set_other, get_set_there}
+use Rattle.sled_log.specs.Chains.{is_empty}
+use Rattle.sled_log.specs.Contents.{Content}
+use Rattle.sled_log.specs.HoldingLaws.{holds-after}
+use Rattle.sled_log.specs.LogState.{LogState, now, unplaced_state}
+use Rattle.sled_log.specs.Messages.{Chain, Entry, Messages, effect_of_entry, unplaced}
+use Rattle.sled_log.specs.Reading.{Hold, Holds}
+use Rattle.sled_log.specs.UnplacedLaws.{now-unplaced}
+use Rattle.sled_pagecache.specs.Limits.{batch_manifest_pid, counter_pid, meta_pid}
+use Rattle.sled_pagecache.specs.Logged.{IsLogged, Logged}
+use Rattle.sled_pagecache.specs.Pages.{IsKept}
+use Rattle.sled_pagecache.specs.Proper.{IsUsers}
 use Rattle.sled_pagecache.specs.State.{StampedPage}
-use Rattle.sled_pagecache.specs.Table as table
+use Rattle.sled_pagecache.specs.Step.{is_reserved}
 use Rattle.sled_pagecache.specs.declared.pagecache.page.Page.{Page as KeptPage}
+use Rattle.std.proofs.Common.{List, None, Some, [], ap, arith, false, length, map, refl, slice_get, slice_index_or, slice_set, subst, suc, sym, zero, ℕ, ◌++◌, ◌+◌, ◌<◌, ◌==◌, ◌||◌, ◌∙◌, ◌∷◌, ◌≡◌, ◌≢◌, ◌≤◌}
+use Rattle.std.proofs.Math.ListN.{get_or-map}
+use Rattle.std.proofs.lemmas.Bool.{eqb-false, false≢true, or_parts}
+use Rattle.std.proofs.lemmas.List.{set-get_or}
+use Rattle.std.proofs.lemmas.Option.{get_or_from_slice_get, slice_get-map, slice_get_within}
+use Rattle.std.specs.List.{AllByRecursion, AllZip}
+use Rattle.std.specs.Option.{option_map}
+use Rattle.sled_pagecache.proofs.ByIds.{all-by-id, at-id, past-two, zip-second}
+use Rattle.sled_pagecache.specs.Logged.{now as held_now}
+use Rattle.sled_pagecache.specs.Proper.{AreOwn, AreRoots, IsCounter, IsOwnAt}
+use Rattle.sled_pagecache.specs.Table as table
 
 -- ---- lists
 
@@ -12,9 +32,33 @@ pub map-at : {A B : Type 0} (f : A → B) (xs : List A) (i : ℕ) (x : A) → sl
 map-at f xs i x at = slice_get-map f xs i ∙ ap (option_map f) at
 
 pub set-at : {A : Type 0} (xs : List A) (i : ℕ) (x y : A) → slice_get xs i ≡ Some x → slice_get (slice_set xs i y) i ≡ Some y
-set-at [] i x y at = absurd (none-some x at)
-set-at (z ∷ xs) zero x y at = refl
-set-at (z ∷ xs) (suc i) x y at = set-at xs i x y at
+set-at xs i x y at = get_set_there xs i y (slice_get_within xs i x at)
+
+pub other-at : {A : Type 0} (xs : List A) (i j : ℕ) (y : A) → j ≢ i → slice_get (slice_set xs i y) j ≡ slice_get xs j
+other-at xs i j y apart = get_set_other xs i j y (λ same. apart (sym same))
+
+-- before others, and behind them
+pub at-left : {X : Type 0} (xs ys : List X) (i : ℕ) → i < length xs → slice_get (xs ++ ys) i ≡ slice_get xs i
+at-left [] ys i within = absurd (omega arith)
+at-left (x ∷ xs) ys zero within = refl
+at-left (x ∷ xs) ys (suc i) within = at-left xs ys i (omega arith)
+
+pub at-right : {X : Type 0} (xs ys : List X) (i k : ℕ) → k ≡ length xs + i → slice_get (xs ++ ys) k ≡ slice_get ys i
+at-right [] ys i k is = ap (slice_get ys) (let e : k ≡ i = omega arith in e)
+at-right (x ∷ xs) ys i zero is = absurd (omega arith)
+at-right (x ∷ xs) ys i (suc k) is = at-right xs ys i k (omega arith)
+
+pub more-at : {A : Type 0} (xs ys : List A) (i : ℕ) (x : A) → slice_get xs i ≡ Some x → slice_get (xs ++ ys) i ≡ Some x
+more-at xs ys i x at = at-left xs ys i (slice_get_within xs i x at) ∙ at
+
+pub other-before : {A : Type 0} (xs : List A) (y : A) (j : ℕ) → j ≢ length xs → slice_get (xs ++ y ∷ []) j ≡ slice_get xs j
+other-before [] y zero apart = absurd (apart refl)
+other-before [] y (suc j) apart = refl
+other-before (x ∷ xs) y zero apart = refl
+other-before (x ∷ xs) y (suc j) apart = other-before xs y j (λ e. apart (ap suc e))
+
+pub last-at : {A : Type 0} (xs : List A) (y : A) → slice_get (xs ++ y ∷ []) (length xs) ≡ Some y
+last-at xs y = at-right xs (y ∷ []) 0 (length xs) (omega arith)
 
 pub past-end : {A : Type 0} (xs : List A) (i : ℕ) → slice_get xs i ≡ None → length xs ≤ i
 past-end [] i none = omega arith
@@ -54,6 +98,12 @@ own-at pages pid q own from at = (past-two table.IsRoots table.IsCounter table.I
 
 pub content-own : (contents : List Content) (pid : ℕ) (content : Content) → AreOwn contents → 2 ≤ pid → slice_get contents pid ≡ Some content → IsUsers content
 content-own contents pid content own from at = (past-two AreRoots IsCounter IsUsers pid content from).1 (at-id IsOwnAt contents pid content own at)
+
+-- what the log holds now makes the contents of the state
+pub holds_now : (state : LogState Entry) (held : Logged) → IsLogged (unplaced_state state) held → Hold (map unplaced (now effect_of_entry state)) (held_now held)
+holds_now state held logged =
+    subst (λ (l : List (List _)). Hold l (held_now held)) (sym (now-unplaced state))
+    (holds-after (unplaced_state state).stable held.stable (unplaced_state state).pending held.pending logged.stable logged.pending)
 
 -- a page of the state holds what its chain makes, or is damaged
 pub holds-at : (pages : List StampedPage) (chains : List Chain) (pid : ℕ) (p : StampedPage) → Hold (map unplaced chains) (map (λ (p : StampedPage). p.content) pages)

@@ -1,7 +1,5 @@
 -- What a page more makes of the chains, and of the table.
-use Rattle.sled_pagecache.proofs.Names.{◌≡◌, ℕ, cond, List, [], ◌∷◌, ◌++◌, length, map, Result, Err, refl, sym, ◌∙◌, ap, subst, eq-eqb, slice_set, slice_index_or, chains_from, Node, Put, Change, Entry, Chain, Messages, placed, effect_of_entry, IsUpdate, message_of, Counts, Refusal, WholeNode, HasOneMore, place_of, Went, begun_by, IsKept, StickyLog, CacheInfo, Page}
-use Rattle.sled_log.specs.LogState as log
-use Rattle.sled_pagecache.proofs.Linked.{went-handed}
+use Rattle.sled_pagecache.proofs.Names.{◌≡◌, ℕ, cond, List, [], ◌∷◌, ◌++◌, length, map, refl, sym, ◌∙◌, ap, eq-eqb, slice_set, slice_index_or, chains_from, Node, Put, Change, Entry, Chain, placed, effect_of_entry, IsUpdate, message_of, WholeNode, HasOneMore, place_of, IsKept, CacheInfo, Page}
 use Rattle.sled_pagecache.proofs.Swaps.{kept-put}
 use Rattle.sled_pagecache.specs.declared.pagecache.page.Kept.TheVariants as kept
 
@@ -45,13 +43,3 @@ has-one-more tells chain node info before mid pages page same is first holds inf
   kept = is_kept;
   stamps = ap (map (λ (i : CacheInfo). i.ts)) infos ∙ ap (λ n. n ∷ []) (at ∙ sym first);
 }
-
-module _ {L : Type 0} (tells : Type 0) (state : L → log.LogState Entry) (moment : L → ℕ) (left_since : L → ℕ → List Messages → Type 0) (counts : L → Counts) (is_full : L → ℕ → Type 0) (old new : StickyLog L) (node : WholeNode) (refusal : Refusal) where
-  -- what was told where no page came
-  pub new-page-went : (pid pages : ℕ) → pages ≡ pid
-      → (let told : Result CacheInfo Refusal = Err refusal in Went tells state moment left_since counts old new (begun_by told (Change pages (message_of (Put (Node node))) ∷ [])))
-      → (let told : Result (Unit {0}) Refusal = Err refusal in Went tells state moment left_since counts old new (begun_by told (Change pid (message_of (Put (Node node))) ∷ [])))
-  new-page-went pid pages last went =
-      let told : Result (Unit {0}) Refusal = Err refusal in
-      subst (λ n. Went tells state moment left_since counts old new (begun_by told (Change n (message_of (Put (Node node))) ∷ []))) last
-      (went-handed tells state moment left_since counts is_full old new pages (Put (Node node)) (Put (Node node)) refl refusal CacheInfo (Unit {0}) went)

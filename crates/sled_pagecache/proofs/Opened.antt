@@ -1,31 +1,21 @@
 -- What lies in memory, and what is listed, once a cache was opened.
-use Rattle.sled_pagecache.proofs.Names.{Recency, Ghosts, IsBounded, IsConsistent, IsSound, ◌≡◌, ◌≤◌, ℕ, zero, suc, Bool, List, Option, None, Some, slice_get, refl, sym, ◌∙◌, ap, subst, arith, none-some, IfSome, AreOwn, IsRoots, IsCounter, IsOwnAt, IsUnread, Config, StickyLog, Kept, Page, slice_get-map, option_map, HasNoNode, node_access_size, access_size, size_if, LacksNodes}
-use Rattle.sled_pagecache.proofs.ByIds.{at-id}
+use Rattle.sled_pagecache.proofs.Names.{Recency, Ghosts, IsBounded, IsConsistent, IsSound, ◌≡◌, ◌≤◌, ℕ, Bool, List, Option, None, Some, slice_get, refl, sym, ◌∙◌, ap, subst, arith, none-some, IfSome, AreOwn, IsRoots, IsCounter, IsOwnAt, IsUnread, Config, StickyLog, Kept, Page, slice_get-map, option_map, HasNoNode, node_access_size, size_if, LacksNodes, IsUnused, view, at-id}
 use Rattle.sled_pagecache.proofs.InMemory.{none-at}
-use Rattle.sled_base.specs.Lru.{IsUnused}
 use Rattle.sled_pagecache.proofs.Sizes.{sized-view}
-use Rattle.sled_pagecache.proofs.TableNodes.{view}
-use Rattle.sled_pagecache.specs.declared.pagecache.page.Kept.TheVariants as kept
 
 -- ---- the pages that are opened
 
 roots-none : (size : ℕ) (k : Kept) → IsRoots k → size_if size k ≡ None
-roots-none size (kept.Roots roots) is = refl
-roots-none size k is = absurd is
+roots-none size k is = grind arith
 
 counter-none : (size : ℕ) (k : Kept) → IsCounter k → size_if size k ≡ None
-counter-none size (kept.Counter n) is = refl
-counter-none size k is = absurd is
+counter-none size k is = grind arith
 
 unread-none : (size : ℕ) (k : Kept) → IsUnread k → size_if size k ≡ None
-unread-none size kept.Free unread = refl
-unread-none size kept.Away unread = refl
-unread-none size k unread = absurd unread
+unread-none size k unread = grind arith
 
 none-kept : (pid : ℕ) (q : Page) → IsOwnAt pid q.kept → (2 ≤ pid → IsUnread q.kept) → node_access_size q ≡ None
-none-kept zero q own unread = roots-none (access_size q) q.kept own
-none-kept (suc zero) q own unread = counter-none (access_size q) q.kept own
-none-kept (suc (suc pid)) q own unread = unread-none (access_size q) q.kept (unread (omega arith))
+none-kept pid q h1 h2 = grind arith
 
 pub lacks-nodes : {L : Type 0} (next : ℕ) (config : Config) (recovered : Bool) (lru : Recency) (sticky_log : StickyLog L) (pages : List Page) → AreOwn pages
     → ((pid : ℕ) → 2 ≤ pid → IfSome (slice_get pages pid) (λ page. IsUnread page.kept)) → LacksNodes (view next config recovered lru sticky_log pages)

@@ -1,19 +1,14 @@
 -- Opening a cache over a log.
-use Rattle.sled_pagecache.proofs.Names.{Recency, Option, ⊎_elim, ◌≡◌, ◌≢◌, ◌≤◌, ◌<◌, ◌^◌, ℕ, zero, suc, Bool, false, List, [], ◌∷◌, ◌++◌, length, map, take, drop, None, Some, Result, Ok, Err, refl, sym, ◌∙◌, ap, subst, arith, drop-nil, take-append_seam, drop-append_seam, length-map, take-append-drop, take-map, drop-map, none-some, AllZip-long, error_of, Read, Write, Error, Refusal, ReportableBug, Io, Corruption, OutOfMemory, LogFull, is_open, open_after, Content, Counter, Roots, Update, Put, contents_after, Event, Change, Pin, Seal, Cancel, seen, holds-after, Message, Entry, Chain, Messages, unplaced, effect_of, effect_of_entry, Holds, Hold, AreEvents, events-take, reads-open, unplaced_state, is_open-unplaced, now-unplaced, message_of, CanWrite, written-update, Ghosts, Cache, IsOpenedWith, counter_event, events_at_start, Logged, IsLogged, fault_of, missing, changes_of_start, opened, is_fault, Comes, LacksRoom, Proceeds, IsProper, StayProper, Starts, IsFit, RefusesOpening, IsHindrance, HasAdded, CrashLeaves, LacksRoomFor, WasFull, Opens, IsBlamedOpening, MayBeOpened, page, contents_of, Config, StickyLog}
-use Rattle.std.specs.List.{slice_get}
+use Rattle.sled_pagecache.proofs.Names.{Recency, Option, ⊎_elim, ◌≡◌, ◌≢◌, ◌≤◌, ◌<◌, ◌^◌, ℕ, zero, suc, Bool, false, List, [], ◌∷◌, ◌++◌, length, map, take, drop, None, Some, Result, Ok, Err, refl, sym, ◌∙◌, ap, subst, arith, drop-nil, take-append_seam, drop-append_seam, length-map, take-append-drop, take-map, drop-map, none-some, AllZip-long, error_of, Read, Write, Error, Refusal, ReportableBug, Io, Corruption, LogFull, is_open, open_after, Content, Counter, Roots, Update, Put, contents_after, Event, Change, Pin, Seal, Cancel, seen, holds-after, Message, Entry, Chain, Messages, unplaced, effect_of, effect_of_entry, Holds, Hold, AreEvents, events-take, reads-open, unplaced_state, is_open-unplaced, now-unplaced, message_of, CanWrite, written-update, Ghosts, Cache, IsOpenedWith, counter_event, events_at_start, Logged, IsLogged, fault_of, missing, changes_of_start, opened, is_fault, Comes, LacksRoom, Proceeds, IsProper, StayProper, Starts, IsFit, RefusesOpening, IsHindrance, HasAdded, CrashLeaves, LacksRoomFor, WasFull, Opens, IsBlamedOpening, MayBeOpened, page, contents_of, Config, StickyLog, slice_get, StampedPage, add-by-id, at-id, zip-first, all-at, map-at, holds_now}
 use Rattle.sled_base.specs.declared.types.Error.TheVariants as errors
 use Rattle.sled_base.specs.declared.types.Refusal.TheVariants.{Unsupported}
 use Rattle.sled_log.specs.LogState as log
-use Rattle.sled_pagecache.proofs.ByIds.{add-by-id, at-id, zip-first}
 use Rattle.sled_pagecache.proofs.Carrying.{Carries, carries, leaves, proper-now}
-use Rattle.sled_pagecache.proofs.PagesAt.{holds_now}
-use Rattle.sled_pagecache.proofs.Lookups.{all-at, map-at}
-use Rattle.sled_pagecache.proofs.Staying.{stay-none, stay-one, stay-take}
+use Rattle.sled_pagecache.proofs.Staying.{no-changes, stay-none, stay-one, stay-take}
 use Rattle.sled_pagecache.proofs.Starting.{events-same, changes-closed}
 use Rattle.sled_pagecache.specs.Logged.{now}
 use Rattle.sled_pagecache.specs.Proceeding as proceeding
 use Rattle.sled_pagecache.specs.Proper.{AreOwn, IsOwnAt}
-use Rattle.sled_pagecache.specs.State.{StampedPage}
 
 -- ---- what is told of the system pages that are missing
 
@@ -51,32 +46,17 @@ stays-start pages held hold proper n = absurd (assumption hold)
 
 -- ---- which errors there are
 
-abbrev refusal-of-error : Error → Refusal
-refusal-of-error (errors.Unsupported why) = Unsupported why
-refusal-of-error (errors.ReportableBug bug) = ReportableBug bug
-refusal-of-error (errors.Io device) = Io device
-refusal-of-error (errors.Corruption pointer) = Corruption pointer
-refusal-of-error other = OutOfMemory
-
-said-back : (refusal : Refusal) → refusal-of-error (error_of refusal) ≡ refusal
-said-back (Unsupported why) = refl
-said-back refusal = refl
-
 error-same : (refusal other : Refusal) → error_of refusal ≡ error_of other → refusal ≡ other
-error-same refusal other is = sym (said-back refusal) ∙ ap refusal-of-error is ∙ said-back other
+error-same refusal other is = grind arith
 
 -- but after a write error the log may be called
 no-fault : (refusal : Refusal) → error_of refusal ≢ errors.Io Write → is_fault (Some refusal) ≡ false
-no-fault (Io Write) other = absurd (other refl)
-no-fault refusal other = refl
+no-fault refusal other = grind arith
 
 -- ---- a log that a cache left refuses no opening but for a hindrance
 
 content-fit : (pid : ℕ) (content : Content) (chain : Chain) → IsOwnAt pid content → Holds (unplaced chain) content → length chain ≤ 10 → IsFit pid chain
-content-fit zero (Roots roots) chain own makes short = (roots, makes)
-content-fit (suc zero) (Counter n) chain own makes short = (n, makes)
-content-fit (suc (suc pid)) content chain own makes short = short
-content-fit pid content chain own makes short = absurd own
+content-fit pid content chain own holds short = grind arith
 
 -- each page of a log that a cache left is fit
 fit-at : (chains : List Chain) (held : List Content) → Hold (map unplaced chains) held → IsProper (map unplaced chains) held
@@ -105,8 +85,7 @@ hindrance config chains held refusal sound hold proper r = tt
 -- ---- what opening makes of the log
 
 lacks-for : {L : Type 0} (g : Ghosts L) (l : L) (changes : List (Event Update)) → LacksRoom g l (map tell changes) → LacksRoomFor g l changes
-lacks-for g l (Change id update ∷ changes) lacks = lacks
-lacks-for g l changes lacks = absurd lacks
+lacks-for g l changes h1 = grind arith
 
 contents-kept : (held : List Content) → map (λ (p : StampedPage). p.content) (map (page 0) held ++ []) ≡ held
 contents-kept [] = refl
@@ -119,11 +98,6 @@ contents-start config held = refl
 missing-few : (held : List Content) → missing held ≢ [] → length held < 2
 missing-few (roots ∷ counter ∷ held) some = absurd (some (drop-nil (length held)))
 missing-few held some = omega arith
-
-none-events : (contents : List Content) (messages : List (Event Message)) (changes : List (Event Update)) → AreEvents contents messages changes → messages ≡ [] → changes ≡ []
-none-events contents [] [] unplaced none = refl
-none-events contents [] (u ∷ changes) unplaced none = absurd unplaced
-none-events contents (m ∷ messages) changes unplaced none = (let e = none in cc)
 
 has-added : {L : Type 0} (g : Ghosts L) (l : L) (held : Logged) (changes : List (Event Update)) → Carries (unplaced_state (g.state l)) held changes → HasAdded g held changes l
 has-added g l held changes carried = record { held_then = carried.held_then; logged = carried.logged; added = carried.added }
@@ -166,10 +140,10 @@ module _ {L : Type 0} (g : Ghosts L) (known : g.tells) (config : Config) (old : 
         (stay-take n (log.now effect_of (unplaced_state (g.state old.log))) (now held) (events_at_start (now held)) (changes_of_start (now held)) (events-start (now held)) stays)
 
     crash : (new : StickyLog L) → Comes g old new came → CrashLeaves g old.log held begun new.log
-    crash new went = leaves g.tells g.state g.moment g.left_since g.counts old new held came begun logged events-part stays-part went known
+    crash new went = leaves g old new held came begun logged events-part stays-part went known
 
     added : (new : StickyLog L) → Comes g old new came → new.fault ≡ false → HasAdded g held begun new.log
-    added new went clear = has-added g new.log held begun (carries g.tells g.state g.moment g.left_since g.counts old new held came begun logged events-part stays-part went known clear)
+    added new went clear = has-added g new.log held begun (carries g old new held came begun logged events-part stays-part went known clear)
 
     lacks : (l : L) → LacksRoom g l rest → LacksRoomFor g l (drop n (changes_of_start (now held)))
     lacks l full =
@@ -191,8 +165,8 @@ module _ {L : Type 0} (g : Ghosts L) (known : g.tells) (config : Config) (old : 
           added = then;
           room = lacks at.log full.room;
           nothing = (
-            leaves g.tells g.state g.moment g.left_since g.counts at new then.held_then [] [] then.logged tt same full.behind known,
-            has-added g new.log then.held_then [] (carries g.tells g.state g.moment g.left_since g.counts at new then.held_then [] [] then.logged tt same full.behind known clear),
+            leaves g at new then.held_then [] [] then.logged tt same full.behind known,
+            has-added g new.log then.held_then [] (carries g at new then.held_then [] [] then.logged tt same full.behind known clear),
           );
         }
 
@@ -226,9 +200,9 @@ module _ {L : Type 0} (g : Ghosts L) (known : g.tells) (config : Config) (old : 
   opens-done new stamps resident nodes lru next recovered done closed unopened with_it stable =
       let went = subst (Comes g old new) events-now done.reaches in
       let unplaced = events-start (now held) in
-      let carried = carries g.tells g.state g.moment g.left_since g.counts old new held (events_at_start (now held)) (changes_of_start (now held)) logged unplaced stays went known done.fault in
+      let carried = carries g old new held (events_at_start (now held)) (changes_of_start (now held)) logged unplaced stays went known done.fault in
       record {
-        stop = leaves g.tells g.state g.moment g.left_since g.counts old new held (events_at_start (now held)) (changes_of_start (now held)) logged unplaced stays went known;
+        stop = leaves g old new held (events_at_start (now held)) (changes_of_start (now held)) logged unplaced stays went known;
         held_then = carried.held_then;
         is = record {
           tells = known;
@@ -242,8 +216,8 @@ module _ {L : Type 0} (g : Ghosts L) (known : g.tells) (config : Config) (old : 
         stable = λ some.
             let few = missing-few (now held) some in
             let long = long-now in
-            none-events carried.held_then.stable (unplaced_state (g.state new.log)).pending carried.held_then.pending carried.logged.pending
-            (ap (map (seen (λ (entry : Entry). entry.message))) (stable (omega (arith, few, long))));
+            no-changes carried.held_then.stable (unplaced_state (g.state new.log)).pending carried.held_then.pending
+            (ap (map (seen (λ (entry : Entry). entry.message))) (stable (omega (arith, few, long)))) carried.logged.pending;
         config_is = refl;
         recovered = with_it.recovered_is;
       }

@@ -1,6 +1,5 @@
 -- The cache's own pages, as they are read from a log, and as they are made.
-use Rattle.sled_pagecache.proofs.Names.{◌≡◌, ◌≤◌, ◌<◌, ◌&&◌, ◌||◌, ℤ, ℕ, zero, suc, Bool, true, false, List, [], ◌∷◌, length, map, get_or, ltb, Some, refl, sym, ◌∙◌, ap, subst, arith, false≢true, nat_tests, none-some, AllZip-long, AllZip, MessageKind, DiskPtr, Refusal, Corruption, OutOfMemory, ReadsU64, is_freeing, is_empty, Content, Counter, Roots, Node, Put, effect_of_update, Entry, Chain, Messages, unplaced, effect_of_entry, freed_of, Decodes, IsUpdate, LeadTo, Makes, reads_effect, applied, WholeNode, ReadsRoots, IsFoundAs, IsLoaded, RefusesOwn, is_free, freed_at, found_message, RefusesMessage, is_misfit, IsFit, CacheInfo, Page, Found}
-use Rattle.std.specs.List.{slice_get}
+use Rattle.sled_pagecache.proofs.Names.{◌≡◌, ◌≤◌, ◌<◌, ◌&&◌, ◌||◌, ℤ, ℕ, zero, suc, Bool, true, false, List, [], ◌∷◌, length, map, get_or, ltb, Some, refl, sym, ◌∙◌, ap, subst, arith, false≢true, nat_tests, none-some, AllZip-long, AllZip, MessageKind, DiskPtr, Refusal, Corruption, OutOfMemory, ReadsU64, is_freeing, is_empty, Content, Counter, Roots, Node, Put, effect_of_update, Entry, Chain, Messages, unplaced, effect_of_entry, freed_of, Decodes, IsUpdate, LeadTo, Makes, reads_effect, applied, WholeNode, ReadsRoots, IsFoundAs, IsLoaded, RefusesOwn, is_free, freed_at, found_message, RefusesMessage, is_misfit, IsFit, CacheInfo, Page, Found, slice_get}
 use Rattle.sled_base.specs.declared.kinds.MessageKind.TheVariants as kinds
 use Rattle.sled_node.specs.Meta as meta
 use Rattle.sled_pagecache.proofs.Linked.{full-free}
@@ -16,9 +15,7 @@ IsOwn (Counter n) = Unit {0}
 IsOwn other = ⊥
 
 own-effect : (content : Content) → IsOwn content → is_freeing (effect_of_update (Put content)) ≡ false
-own-effect (Roots roots) own = refl
-own-effect (Counter n) own = refl
-own-effect content own = absurd own
+own-effect content own = grind arith
 
 -- what leads from a node leads to a node
 node-leads : (node : WholeNode) (messages : Messages) (content : Content) → IsOwn content → LeadTo (Node node) messages content → ⊥
@@ -117,10 +114,7 @@ module _ (chain : Chain) (first : Found) (zip : AllZip IsFoundAs chain (first �
 -- ---- what a payload encodes
 
 pub roots_encoded : (kind : MessageKind) (payload : List ℕ) (roots : meta.Roots) → Decodes kind payload (Put (Roots roots)) → ReadsRoots payload roots []
-roots_encoded kinds.InlineMeta payload roots h = h
-roots_encoded kinds.BlobMeta payload roots h = h
-roots_encoded kind payload roots h = absurd h
+roots_encoded kind payload roots h = grind arith
 
 pub counter_encoded : (kind : MessageKind) (payload : List ℕ) (n : ℕ) → Decodes kind payload (Put (Counter n)) → ReadsU64 payload n []
-counter_encoded kinds.Counter payload n h = h
-counter_encoded kind payload n h = absurd h
+counter_encoded kind payload n h = grind arith

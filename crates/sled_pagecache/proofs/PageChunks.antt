@@ -1,20 +1,7 @@
 -- What the chunks of a table keep at an id, and what a change of one chunk makes of them.
-use Rattle.std.proofs.Common.{◌≡◌, ◌+◌, ◌-◌, ◌*◌, ◌/◌, ◌%◌, ◌<◌, ◌≤◌, ℕ, zero, suc, Bool, true, false, List, [], ◌∷◌, ◌++◌, length, Option, Some, None, slice_get, get_or, set, vec_len, Bor, refl, sym, ◌∙◌, ap, subst, arith, length-append}
-use Rattle.sled_pagecache.proofs.Names.{false≢true, ltb-false, append-nil, append_assoc, length-set, length_push, set-append_left, set-append_right, set-get_or, get_or-set_same, div-add-mod', mod_below, slice_get-get_or, slice_get_past, slice_get_read, slice_get_within, option_and_then_some, Vec, IsItemAt, Page}
-use Rattle.std.specs.Option.{MatchOption, option_and_then, option_map, unwrap_or}
-use Rattle.sled_pagecache.specs.PageTables.{pages_in, AreFilled, at_last, is_unfilled}
+use Rattle.sled_pagecache.proofs.Names.{false≢true, ltb-false, append-nil, append_assoc, length-set, length_push, set-append_left, set-append_right, set-get_or, get_or-set_same, div-add-mod', mod_below, slice_get-get_or, slice_get_past, slice_get_read, slice_get_within, option_and_then_some, Vec, IsItemAt, Page, ◌≡◌, ◌+◌, ◌-◌, ◌*◌, ◌/◌, ◌%◌, ◌<◌, ◌≤◌, ℕ, zero, suc, Bool, true, false, List, [], ◌∷◌, ◌++◌, length, Option, Some, None, slice_get, get_or, set, vec_len, Bor, refl, sym, ◌∙◌, ap, subst, arith, length-append, MatchOption, option_and_then, option_map, unwrap_or, pages_in, AreFilled, at_last, is_unfilled, at-left, at-right}
 
 -- ---- lists
-
-at-left : {X : Type 0} (xs ys : List X) (i : ℕ) → i < length xs → slice_get (xs ++ ys) i ≡ slice_get xs i
-at-left [] ys i within = absurd (omega arith)
-at-left (x ∷ xs) ys zero within = refl
-at-left (x ∷ xs) ys (suc i) within = at-left xs ys i (omega arith)
-
-at-right : {X : Type 0} (xs ys : List X) (i k : ℕ) → k ≡ length xs + i → slice_get (xs ++ ys) k ≡ slice_get ys i
-at-right [] ys i k is = ap (slice_get ys) (let e : k ≡ i = omega arith in e)
-at-right (x ∷ xs) ys i zero is = absurd (omega arith)
-at-right (x ∷ xs) ys i (suc k) is = at-right xs ys i k (omega arith)
 
 map-set_same : {X Y : Type 0} (f : X → Y) (xs : List X) (i k : ℕ) (x y : X) → x ≡ get_or xs i x → f y ≡ f x → option_map f (slice_get (set xs i y) k) ≡ option_map f (slice_get xs k)
 map-set_same f [] i k x y is same = refl
@@ -123,8 +110,7 @@ module _ (fan : ℕ) where
       }
     where
       later : (left : ℕ) (new : Vec Page) → AreFilled fan (set (next ∷ chunks) left new) → AreFilled fan (set (chunk ∷ next ∷ chunks) (suc left) new)
-      later zero new are_later = (are.0, are_later)
-      later (suc left) new are_later = (are.0, are_later)
+      later left new h1 = grind arith
 
   module _ (chunks : List (Vec Page)) (left : ℕ) (are : AreFilled fan chunks) (within : left < length chunks) (chunk : Vec Page) (is : chunk ≡ get_or chunks left chunk) where
     abbrev at : Focus chunks left

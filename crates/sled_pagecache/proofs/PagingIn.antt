@@ -1,11 +1,7 @@
 -- A page that is brought into memory: the table beside its log, and what one sees who knows the cache by its model.
-use Rattle.sled_pagecache.proofs.Names.{Recency, ◌≡◌, ◌≤◌, inr, ℕ, Bool, true, false, List, [], length, Some, Result, Ok, Err, slice_get, slice_set, slice_index_or, refl, sym, ◌∙◌, ap, subst, arith, false≢true, false_from_ne_true, map-set, set-get_or, length-map, get_or_past, none-some, same_Some, slice_get_past, AllZip-long, AllByRecursion, IfErr, OnOk, OnErr, IsOk, Refusal, is_open, open_after, is_empty, is_chain, Event, Message, Chain, effect_of, effect_of_entry, IsSized, Ghosts, Cache, chain_length, IsResident, IsAway, chain_at, more, Went, IsCaused, Went-none, HoldsChain, IsKept, is_free, is_resident, RefusesReading, BringsIn, RefusesPull, IsDamaged, ReadsPage, is_reserved, stamps_in, resident_in, IsFreeOrNode, IsConsistent, Config, StickyLog, Kept, Page}
-use Rattle.sled_log.specs.LogState as log
-use Rattle.sled_pagecache.proofs.Lookups.{map-at, set-at, put-back, all-at, behind-own, kept-at, own-at}
+use Rattle.sled_pagecache.proofs.Names.{Recency, ◌≡◌, ◌≤◌, inr, ℕ, Bool, true, false, List, [], length, Some, Result, Ok, Err, slice_get, slice_set, slice_index_or, refl, sym, ◌∙◌, ap, subst, arith, false≢true, false_from_ne_true, map-set, set-get_or, length-map, get_or_past, none-some, same_Some, slice_get_past, AllZip-long, AllByRecursion, IfErr, OnOk, OnErr, IsOk, Refusal, is_open, open_after, is_empty, is_chain, Event, Message, Chain, effect_of, effect_of_entry, IsSized, Ghosts, Cache, chain_length, IsResident, IsAway, chain_at, more, Went, IsCaused, Went-none, HoldsChain, IsKept, is_free, is_resident, RefusesReading, BringsIn, RefusesPull, IsDamaged, ReadsPage, is_reserved, stamps_in, resident_in, IsFreeOrNode, IsConsistent, Config, StickyLog, Kept, Page, unplaced_state, IsLeft, now, view, map-at, set-at, put-back, all-at, behind-own, kept-at, own-at}
 use Rattle.sled_pagecache.proofs.ReadCounts.{reads-none, reads-whole, reads-part}
-use Rattle.sled_pagecache.proofs.TableNodes.{view}
 use Rattle.sled_pagecache.proofs.Tables.{IsSet, consistent-set, free-same}
-use Rattle.sled_pagecache.specs.declared.pagecache.page.Kept.TheVariants as kept
 
 -- how many messages make a page
 pub places-length : (chain : Chain) (page : Page) → IsKept chain page → length chain ≡ length page.infos.items
@@ -13,16 +9,12 @@ places-length chain page is = is.long
 
 -- a page that lies in memory isn't damaged
 pub undamaged : (chain : Chain) (k : Kept) → is_resident k ≡ true → IsFreeOrNode k → HoldsChain chain k → ¬ IsDamaged chain
-undamaged chain kept.Free resident own holds damaged = false≢true (sym damaged.0 ∙ holds)
-undamaged chain kept.Away resident own holds damaged = false≢true resident
-undamaged chain (kept.Node node) resident own holds damaged = damaged.1 (node, holds)
-undamaged chain k resident own holds damaged = own
+undamaged chain k resident own holds damaged = grind arith
 
 -- a page that a refused pull leaves doesn't lie in memory
 pub part-pulled : (q page : Page) (P : ℕ → Type 0) (result : Result (Unit {0}) Refusal) → OnErr result (page.kept ≡ q.kept) → OnErr result ((times : ℕ) × (times ≤ length q.infos.items) × P times)
     → is_resident q.kept ≡ false → OnErr result ((is_resident page.kept ≡ false) × (times : ℕ) × (times ≤ length q.infos.items) × P times)
-part-pulled q page P (Ok done) err part held = tt
-part-pulled q page P (Err refusal) err part held = (ap is_resident err ∙ held, part.0, part.1, part.2)
+part-pulled q page P result h1 h2 h3 = grind arith
 
 module _ {L : Type 0} (g : Ghosts L) (before after : StickyLog L) (pages : List Page) (free : List ℕ) (pid : ℕ) (q page : Page)
     (c : IsConsistent g.tells g.state before pages free) (ready : before.fault ≡ false) (behind : is_reserved pid ≡ false) (at : slice_get pages pid ≡ Some q) where
@@ -30,7 +22,7 @@ module _ {L : Type 0} (g : Ghosts L) (before after : StickyLog L) (pages : List 
   chain = chain_at (g.state before.log) pid
 
   pub page-kept-at : g.tells → IsKept chain q
-  page-kept-at known = kept-at (log.now effect_of_entry (g.state before.log)) pages pid q ((c.beside ready).kept known) at
+  page-kept-at known = kept-at (now effect_of_entry (g.state before.log)) pages pid q ((c.beside ready).kept known) at
 
   pub page-own-at : IsFreeOrNode q.kept
   page-own-at = own-at pages pid q c.own (behind-own pid behind) at
@@ -39,25 +31,25 @@ module _ {L : Type 0} (g : Ghosts L) (before after : StickyLog L) (pages : List 
   page-short-at = all-at (λ (p : Page). length p.infos.items ≤ 10) pages pid q c.short at
 
   -- the log holds what it held
-  same-set : (events : List (Event Message)) → Went g.tells g.state g.moment g.left_since g.counts before after events → open_after (is_open (g.state before.log).pending) events ≡ is_open (g.state before.log).pending
-      → after.fault ≡ false → (g.tells → log.now effect_of_entry (g.state after.log) ≡ log.now effect_of_entry (g.state before.log)) → (g.tells → IsKept chain page) → IsSet g.tells (g.state before.log) (g.state after.log) pid page
+  same-set : (events : List (Event Message)) → Went g before after events → open_after (is_open (g.state before.log).pending) events ≡ is_open (g.state before.log).pending
+      → after.fault ≡ false → (g.tells → now effect_of_entry (g.state after.log) ≡ now effect_of_entry (g.state before.log)) → (g.tells → IsKept chain page) → IsSet g.tells (g.state before.log) (g.state after.log) pid page
   same-set events went marks clear same is =
       let beside = c.beside ready in
       record {
         usable = went.usable clear;
         kept = λ known. subst (λ (l : List Chain). IsKept (slice_index_or l pid []) page) (sym (same known)) (is known);
-        others = λ known. sym (set-get_or (log.now effect_of_entry (g.state after.log)) pid []) ∙ ap (λ (l : List Chain). slice_set l pid (chain_at (g.state after.log) pid)) (same known);
+        others = λ known. sym (set-get_or (now effect_of_entry (g.state after.log)) pid []) ∙ ap (λ (l : List Chain). slice_set l pid (chain_at (g.state after.log) pid)) (same known);
         chains = λ known. subst (λ (l : List Chain). AllByRecursion (λ chain. is_chain effect_of_entry chain ≡ true) l) (sym (same known)) (beside.chains known);
         sized = λ known. subst (λ (l : List Chain). AllByRecursion IsSized l) (sym (same known)) (beside.sized known);
       }
 
   -- the table stays as it always is, where no message was told, or none was added
-  pub same-consistent : (events : List (Event Message)) → Went g.tells g.state g.moment g.left_since g.counts before after events → open_after (is_open (g.state before.log).pending) events ≡ is_open (g.state before.log).pending
-      → (g.tells → after.fault ≡ false → log.now effect_of_entry (g.state after.log) ≡ log.now effect_of_entry (g.state before.log))
+  pub same-consistent : (events : List (Event Message)) → Went g before after events → open_after (is_open (g.state before.log).pending) events ≡ is_open (g.state before.log).pending
+      → (g.tells → after.fault ≡ false → now effect_of_entry (g.state after.log) ≡ now effect_of_entry (g.state before.log))
       → (g.tells → after.fault ≡ false → IsKept chain page) → page.infos.items ≡ q.infos.items → is_free page.kept ≡ is_free q.kept → IsFreeOrNode page.kept
       → IsConsistent g.tells g.state after (slice_set pages pid page) free
   same-consistent events went marks same is infos freed own =
-      consistent-set g.tells g.state before after pages free free c ready pid page (behind-own pid behind) own
+      consistent-set g before after pages free free c ready pid page (behind-own pid behind) own
       (subst (λ n. n ≤ 10) (sym (ap length infos)) page-short-at)
       (λ clear. went.opened clear ∙ marks ∙ c.opened ready ∙ sym went.batch)
       (λ clear. same-set events went marks clear (λ known. same known clear) (λ known. is known clear))
@@ -71,14 +63,14 @@ module _ {L : Type 0} (g : Ghosts L) (next : ℕ) (config : Config) (recovered :
 
   -- no page is there
   pub brings-none : (sticky_log : StickyLog L) (pages : List Page) (free : List ℕ) (pid : ℕ) → IsConsistent g.tells g.state sticky_log pages free → is_reserved pid ≡ false → sticky_log.fault ≡ false → length pages ≤ pid
-      → ((l : List _) → g.tells → (g.state sticky_log.log).usable ≡ true → g.left_since sticky_log.log (g.moment sticky_log.log) l → log.IsLeft effect_of (log.unplaced_state (g.state sticky_log.log)) [] l)
+      → ((l : List _) → g.tells → (g.state sticky_log.log).usable ≡ true → g.left_since sticky_log.log (g.moment sticky_log.log) l → IsLeft effect_of (unplaced_state (g.state sticky_log.log)) [] l)
       → (let ok : Result (Unit {0}) Refusal = Ok tt in BringsIn g (cache sticky_log pages) pid ok (cache sticky_log pages))
   brings-none sticky_log pages free pid is behind ready past only = record {
     left = record {
       opening = record { config = refl; recovered = refl };
       stamps = refl;
       next = refl;
-      went = Went-none g.tells g.state g.moment g.left_since g.counts sticky_log (is.beside ready).usable only;
+      went = Went-none g sticky_log (is.beside ready).usable only;
       same = λ _ _. refl;
     };
     cause = record { fault = ready; read = λ h. cc; write = λ h. cc; full = λ h. cc };
@@ -88,7 +80,7 @@ module _ {L : Type 0} (g : Ghosts L) (next : ℕ) (config : Config) (recovered :
   }
     where
       past-chain : g.tells → chain_at (g.state sticky_log.log) pid ≡ []
-      past-chain known = get_or_past (log.now effect_of_entry (g.state sticky_log.log)) pid [] (let long = AllZip-long IsKept _ pages ((is.beside ready).kept known) in omega (arith, past, long))
+      past-chain known = get_or_past (now effect_of_entry (g.state sticky_log.log)) pid [] (let long = AllZip-long IsKept _ pages ((is.beside ready).kept known) in omega (arith, past, long))
 
   module _ (before after : StickyLog L) (pages : List Page) (free : List ℕ) (pid : ℕ) (q page : Page) (c : IsConsistent g.tells g.state before pages free) (ready : before.fault ≡ false)
       (behind : is_reserved pid ≡ false) (at : slice_get pages pid ≡ Some q) where
@@ -119,8 +111,7 @@ module _ {L : Type 0} (g : Ghosts L) (next : ℕ) (config : Config) (recovered :
         map-set (λ (p : Page). p.stamp) pages pid page ∙ ap (λ (n : ℕ). slice_set (stamps_in pages) pid n) stamp ∙ put-back (stamps_in pages) pid q.stamp (map-at (λ (p : Page). p.stamp) pages pid q at)
 
     full-away : (k : Kept) → HoldsChain (chain_at (g.state before.log) pid) k → is_resident k ≡ false → is_empty effect_of_entry (chain_at (g.state before.log) pid) ≡ false
-    full-away kept.Away holds away = holds
-    full-away k holds away = absurd (false≢true (sym away))
+    full-away k holds away = grind arith
 
     -- a page that doesn't lie in memory has a chain that isn't empty
     pub away-full : g.tells → is_resident q.kept ≡ false → is_empty effect_of_entry (chain_at (g.state before.log) pid) ≡ false
@@ -130,12 +121,12 @@ module _ {L : Type 0} (g : Ghosts L) (next : ℕ) (config : Config) (recovered :
     length-before known = sym (places-length (chain_at (g.state before.log) pid) q (page-kept-at g before after pages free pid q page c ready behind at known))
 
     module _ (result : Result (Unit {0}) Refusal)
-        (same : g.tells → after.fault ≡ false → log.now effect_of_entry (g.state after.log) ≡ log.now effect_of_entry (g.state before.log))
+        (same : g.tells → after.fault ≡ false → now effect_of_entry (g.state after.log) ≡ now effect_of_entry (g.state before.log))
         (stamp : page.stamp ≡ q.stamp)
         (resident : OnOk result (is_resident page.kept ≡ true)) (err : OnErr result (page.kept ≡ q.kept))
         (is_there : is_resident q.kept ≡ true → IsOk result) where
       -- the page was pulled
-      pub brings-pulled : Went g.tells g.state g.moment g.left_since g.counts before after [] → IsCaused g.tells g.state g.moment g.left_since g.counts before after ⊥ result
+      pub brings-pulled : Went g before after [] → IsCaused g before after ⊥ result
           → (g.tells → IsKept (chain_at (g.state before.log) pid) page) → IsFreeOrNode page.kept → (g.tells → IfErr result (RefusesPull (chain_at (g.state before.log) pid)))
           → BringsIn g (cache before pages) pid result (cache after (slice_set pages pid page))
       brings-pulled went cause is own refused = let seen = by result resident is_there refused in record {

@@ -1,12 +1,7 @@
 -- A page leaves memory, and its cache stays as it always is.
-use Rattle.sled_pagecache.proofs.Names.{Recency, eqb_tells, ◌≡◌, ◌≢◌, ◌⊎◌, ◌≤◌, inl, inr, ℕ, zero, suc, Bool, true, false, List, [], ◌∷◌, length, length-set, ◌^◌, map, Some, None, slice_get, slice_set, refl, sym, ◌∙◌, ap, subst, false≢true, none-some, same_Some, map-set, AllZip, Chain, effect_of_entry, Ghosts, Cache, IsResident, IsAway, HoldsChain, IsKept, place_of, is_free, is_resident, AreOwn, IsRoots, IsCounter, IsFreeOrNode, IsOwnAt, IsConsistent, stamps_in, Config, CacheInfo, StickyLog, Kept, Page, HasNode, HasNoNode, StaysAt, access_size, size_if, paged_out, IsPagedOut}
-use Rattle.sled_log.specs.LogState as log
+use Rattle.sled_pagecache.proofs.Names.{set-get_or, slice_index_or, zip-set, Recency, eqb_tells, ◌≡◌, ◌≢◌, ◌⊎◌, ◌≤◌, inl, inr, ℕ, Bool, true, false, List, [], length, length-set, ◌^◌, map, Some, None, slice_get, slice_set, refl, sym, ◌∙◌, ap, subst, same_Some, map-set, AllZip, Chain, effect_of_entry, Ghosts, Cache, IsResident, IsAway, HoldsChain, IsKept, place_of, is_free, is_resident, AreOwn, IsRoots, IsCounter, IsFreeOrNode, IsOwnAt, IsConsistent, stamps_in, Config, CacheInfo, StickyLog, Kept, Page, HasNode, HasNoNode, StaysAt, access_size, size_if, paged_out, IsPagedOut, now, view, each-set, arith, at-id, set-by-id, kept-at, map-at, set-at, put-back, all-at}
 use Rattle.sled_pagecache.proofs.InMemory.{stays-same, stays-then, set-others, set-none}
-use Rattle.sled_pagecache.proofs.ByIds.{at-id, set-by-id}
-use Rattle.sled_pagecache.proofs.Lookups.{map-at, set-at, put-back, all-at}
-use Rattle.sled_pagecache.proofs.ProperPages.{all-set}
 use Rattle.sled_pagecache.proofs.Standing.{node-full}
-use Rattle.sled_pagecache.proofs.TableNodes.{view}
 use Rattle.sled_pagecache.proofs.Tables.{free-same}
 use Rattle.sled_pagecache.specs.declared.pagecache.page.Kept.TheVariants as kept
 
@@ -14,49 +9,28 @@ use Rattle.sled_pagecache.specs.declared.pagecache.page.Kept.TheVariants as kept
 
 holds-out : (chain : Chain) (k : Kept) → HoldsChain chain k → HoldsChain chain (paged_out k)
 holds-out chain (kept.Node node) holds = node-full chain node holds
-holds-out chain kept.Free holds = holds
-holds-out chain kept.Away holds = holds
-holds-out chain (kept.Counter n) holds = holds
-holds-out chain (kept.Roots roots) holds = holds
+holds-out chain k holds = holds
 
 free-out : (k : Kept) → is_free (paged_out k) ≡ is_free k
-free-out (kept.Node node) = refl
-free-out kept.Free = refl
-free-out kept.Away = refl
-free-out (kept.Counter n) = refl
-free-out (kept.Roots roots) = refl
+free-out k = grind arith
 
 roots-out : (k : Kept) → IsRoots k → IsRoots (paged_out k)
-roots-out (kept.Roots roots) is = tt
-roots-out k is = absurd is
+roots-out k is = grind arith
 
 counter-out : (k : Kept) → IsCounter k → IsCounter (paged_out k)
-counter-out (kept.Counter n) is = tt
-counter-out k is = absurd is
+counter-out k is = grind arith
 
 own-out : (k : Kept) → IsFreeOrNode k → IsFreeOrNode (paged_out k)
-own-out (kept.Node node) is = tt
-own-out kept.Free is = tt
-own-out kept.Away is = tt
-own-out k is = absurd is
+own-out k is = grind arith
 
 no-node-out : (size : ℕ) (k : Kept) → size_if size (paged_out k) ≡ None
-no-node-out size (kept.Node node) = refl
-no-node-out size kept.Free = refl
-no-node-out size kept.Away = refl
-no-node-out size (kept.Counter n) = refl
-no-node-out size (kept.Roots roots) = refl
+no-node-out size k = grind arith
 
 resident-out : (k : Kept) → is_resident (paged_out k) ≡ true → is_resident k ≡ true
-resident-out (kept.Node node) is = refl
-resident-out kept.Free is = refl
-resident-out kept.Away is = is
-resident-out (kept.Counter n) is = refl
-resident-out (kept.Roots roots) is = refl
+resident-out k is = grind arith
 
 away-out : (k : Kept) → is_resident k ≡ false → is_resident (paged_out k) ≡ false
-away-out kept.Away is = refl
-away-out k is = absurd (false≢true (sym is))
+away-out k is = grind arith
 
 kept-out : (chain : Chain) (q page : Page) → IsKept chain q → IsPagedOut q page → IsKept chain page
 kept-out chain q page is out = record {
@@ -68,15 +42,12 @@ kept-out chain q page is out = record {
 -- ---- the table
 
 zip-out : (chains : List Chain) (pages : List Page) (pid : ℕ) (q page : Page) → AllZip IsKept chains pages → slice_get pages pid ≡ Some q → IsPagedOut q page → AllZip IsKept chains (slice_set pages pid page)
-zip-out chains [] pid q page zip at out = absurd (none-some q at)
-zip-out [] (p ∷ pages) pid q page zip at out = absurd zip
-zip-out (chain ∷ chains) (p ∷ pages) zero q page zip at out = (kept-out chain q page (subst (IsKept chain) (same_Some p q at) zip.0) out, zip.1)
-zip-out (chain ∷ chains) (p ∷ pages) (suc pid) q page zip at out = (zip.0, zip-out chains pages pid q page zip.1 at out)
+zip-out chains pages pid q page zip at out =
+    subst (λ (l : List Chain). AllZip IsKept l (slice_set pages pid page)) (set-get_or chains pid [])
+    (zip-set IsKept pid chains pages (slice_index_or chains pid []) page zip (kept-out (slice_index_or chains pid []) q page (kept-at chains pages pid q zip at) out))
 
 own-kept : (pid : ℕ) (k : Kept) → IsOwnAt pid k → IsOwnAt pid (paged_out k)
-own-kept zero k own = roots-out k own
-own-kept (suc zero) k own = counter-out k own
-own-kept (suc (suc pid)) k own = own-out k own
+own-kept pid k h1 = grind arith
 
 owns-out : (pages : List Page) (pid : ℕ) (q page : Page) → AreOwn pages → slice_get pages pid ≡ Some q → IsPagedOut q page → AreOwn (slice_set pages pid page)
 owns-out pages pid q page own at out =
@@ -90,13 +61,13 @@ consistent-out g sticky_log pages free pid q page is at out = record {
       let beside = is.beside clear in
       record {
         usable = beside.usable;
-        kept = λ known. zip-out (log.now effect_of_entry (g.state sticky_log.log)) pages pid q page (beside.kept known) at out;
+        kept = λ known. zip-out (now effect_of_entry (g.state sticky_log.log)) pages pid q page (beside.kept known) at out;
         chains = beside.chains;
         sized = beside.sized;
       };
   own = owns-out pages pid q page is.own at out;
   both = subst (λ n. 2 ≤ n) (sym (length-set pages pid page)) is.both;
-  short = all-set _ pid pages page is.short (subst (λ (l : List CacheInfo). length l ≤ 10) (sym out.infos) (all-at (λ (p : Page). length p.infos.items ≤ 10) pages pid q is.short at));
+  short = each-set _ pages pid page (subst (λ (l : List CacheInfo). length l ≤ 10) (sym out.infos) (all-at (λ (p : Page). length p.infos.items ≤ 10) pages pid q is.short at)) is.short;
   few = subst (λ n. n ≤ 2 ^ 37) (sym (length-set pages pid page)) is.few;
   free = is.free ∙ sym (free-same 0 pages pid page q at (ap is_free out.kept ∙ free-out q.kept));
 }

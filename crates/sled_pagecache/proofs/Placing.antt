@@ -1,5 +1,5 @@
 -- A node that was put on a page that had none, or was refused, once what the list dropped for it is paged out: what an allocation answers.
-use Rattle.sled_pagecache.proofs.Names.{◌≡◌, ◌<◌, ◌+◌, ◌^◌, ℕ, Bool, false, List, [], ◌∷◌, ◌++◌, length, Some, None, Result, Ok, Err, slice_get, slice_set, refl, sym, ◌∙◌, ap, subst, arith, same_Some, error_of, Error, Refusal, Change, message_of, begun_by, Put, Node, Ghosts, WholeNode, Cache, IsResident, HasNoNode, IsBounded, AccessesPage, LeavesNodes, RefusesSwap, RefusesPage, MakesAppend, MakesNewPage, RefusesAppend, Keeps, Steps, IsBlamed, stamped, stamps_in, resident_in, is_free, IsFreeOrNode, IsConsistent, Token, token, pid_of, stamp_of, Allocate, Allocated, Config, StickyLog, Accesses, Page}
+use Rattle.sled_pagecache.proofs.Names.{◌≡◌, ◌<◌, ◌+◌, ◌^◌, ℕ, Bool, false, List, [], ◌∷◌, ◌++◌, length, Some, None, Result, Ok, Err, slice_get, slice_set, refl, sym, ◌∙◌, ap, subst, arith, same_Some, error_of, Error, Refusal, Change, message_of, begun_by, Put, Node, Ghosts, WholeNode, Cache, IsResident, HasNoNode, IsBounded, AccessesPage, LeavesNodes, RefusesSwap, RefusesPage, MakesAppend, MakesNewPage, RefusesAppend, Keeps, Steps, IsBlamed, stamped, stamps_in, resident_in, is_free, IsFreeOrNode, IsConsistent, Token, token, pid_of, stamp_of, Allocate, Allocated, Config, StickyLog, Accesses, Page, IsWhole, Evicts, IsSettled, put-back, view}
 use Rattle.sled_pagecache.proofs.Allocating.{IsLastFree, last-at, taken-last, free-from, adds-refused, adds-done, reuses-refused, reuses-done}
 use Rattle.sled_pagecache.proofs.Answers.{keeps-err, keeps-ok, stamps-added, stamps-reused}
 use Rattle.sled_pagecache.proofs.Appending.{after-made}
@@ -7,13 +7,9 @@ use Rattle.sled_pagecache.proofs.CacheSteps.{steps-known}
 use Rattle.sled_pagecache.proofs.Counted.{added-at, behind-counter, spares-refused, whole-then}
 use Rattle.sled_pagecache.proofs.Evicting.{moves, by-page}
 use Rattle.sled_pagecache.proofs.InMemory.{loses-none, stay-view, past-view, free-at, adds-node}
-use Rattle.sled_pagecache.proofs.Lookups.{put-back}
 use Rattle.sled_pagecache.proofs.Putting.{blamed}
 use Rattle.sled_pagecache.proofs.Standing.{resident-add, one-short}
-use Rattle.sled_pagecache.proofs.TableNodes.{view}
 use Rattle.sled_pagecache.proofs.Tables.{consistent-same, consistent-new, marks-begun, free-add}
-use Rattle.sled_pagecache.specs.Counted.{IsWhole}
-use Rattle.sled_pagecache.specs.Evictions.{Evicts, IsSettled}
 use Rattle.sled_pagecache.specs.declared.pagecache.page.Kept.TheVariants as kept
 
 -- What an allocation answers that was made: this page, with this token.
@@ -49,7 +45,7 @@ module _ {L : Type 0} (g : Ghosts L) {next : ℕ} {config : Config} {recovered :
       let whole : IsWhole g.tells g.state config.idgen_persist_interval next after changed free =
       rw back
       (whole-then g is.whole clear (spares-refused g (Unit {0}) refusal (Change pid (message_of (Put (Node node))) ∷ []) (refused.went, refused.cause.fault)) refl
-      (consistent-same g.tells g.state before after table free free is.whole.consistent clear g.moment g.left_since g.counts (begun_by told (Change pid (message_of (Put (Node node))) ∷ [])) refused.went
+      (consistent-same g before after table free free is.whole.consistent clear (begun_by told (Change pid (message_of (Put (Node node))) ∷ [])) refused.went
       (marks-begun told pid (message_of (Put (Node node)))) refused.same)) in
       let result : Result (ℕ × Token) Error = Err (error_of refusal) in
       let page = by-page g next next config recovered before after table changed pages free free accesses between then is whole None evicts refl result tt
@@ -75,8 +71,8 @@ module _ {L : Type 0} (g : Ghosts L) {next : ℕ} {config : Config} {recovered :
       let whole : IsWhole g.tells g.state config.idgen_persist_interval next after changed free =
       whole-then g is.whole clear (λ told clear. (_, done.went, (behind-counter (length table) both, tt))) (ap (λ (l : List Page). slice_get l 1) new.is ∙ added-at table new.page both)
       (subst (λ (l : List Page). IsConsistent g.tells g.state after l free) (sym new.is)
-      (consistent-new g.tells g.state before after table free free is.whole.consistent clear
-      g.moment g.left_since g.counts (length table) (message_of (Put (Node node))) done.went new.page (subst IsFreeOrNode (sym new.holds) tt) (one-short new.page new.stamps) new.kept done.sized
+      (consistent-new g before after table free free is.whole.consistent clear
+      (length table) (message_of (Put (Node node))) done.went new.page (subst IsFreeOrNode (sym new.holds) tt) (one-short new.page new.stamps) new.kept done.sized
       room done.others (is.whole.consistent.free ∙ sym (free-add 0 table new.page (ap is_free new.holds))))) in
       let result : Result (ℕ × Token) Error = Ok (pid, made) in
       let page = by-page g next next config recovered before after table changed pages free free accesses between then is whole None evicts refl result

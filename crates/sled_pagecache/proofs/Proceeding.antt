@@ -1,12 +1,9 @@
 -- Calls of a log, one after another up to the first that is refused.
-use Rattle.sled_pagecache.proofs.Names.{◌≡◌, length, true, false, List, [], ◌∷◌, ◌++◌, Option, None, Some, Result, Ok, Err, refl, sym, ◌∙◌, ap, subst, append_assoc, append-nil, Read, Write, Refusal, ReportableBug, Io, Corruption, OutOfMemory, LogFull, Event, Change, Message, Messages, effect_of, IsLeft, unplaced_state, Ghosts, IsCaused, is_write_fault, begun_by, HasGrown-since, IsCaused-since, Went-none, Went-then, Went-last, refusal_in, is_fault, Comes, TakesNoRoom, LacksRoom, Reaches, Proceeds, StickyLog}
-use Rattle.sled_base.specs.declared.types.Refusal.TheVariants.{Unsupported}
+use Rattle.sled_pagecache.proofs.Names.{◌≡◌, true, false, List, [], ◌∷◌, ◌++◌, Option, None, Some, Result, Ok, Err, refl, sym, ◌∙◌, ap, subst, append_assoc, append-nil, Write, Refusal, ReportableBug, Io, Corruption, OutOfMemory, Event, Message, Messages, effect_of, IsLeft, unplaced_state, Ghosts, IsCaused, is_write_fault, begun_by, HasGrown-since, IsCaused-since, Went-none, Went-then, Went-last, refusal_in, is_fault, Comes, TakesNoRoom, LacksRoom, Reaches, Proceeds, StickyLog, arith}
 use Rattle.sled_pagecache.specs.Proceeding.{WasFull}
 
 fault-same : {T : Type 0} (result : Result T Refusal) → is_write_fault result ≡ is_fault (refusal_in result)
-fault-same (Ok answer) = refl
-fault-same (Err (Unsupported why)) = refl
-fault-same (Err refusal) = refl
+fault-same result = grind arith
 
 pub nil-left : {X : Type 0} (xs ys : List X) → xs ++ ys ≡ [] → xs ≡ []
 nil-left [] ys is = refl
@@ -15,9 +12,6 @@ nil-left (x ∷ xs) ys is = (let e = is in cc)
 pub nil-right : {X : Type 0} (xs ys : List X) → xs ++ ys ≡ [] → ys ≡ []
 nil-right [] ys is = is
 nil-right (x ∷ xs) ys is = (let e = is in cc)
-
-as-error : {T : Type 0} (refusal other : Refusal) → refusal ≡ other → (let result : Result T Refusal = Err refusal in result ≡ Err other)
-as-error refusal other is = ap (λ e. Err e) is
 
 -- a refusal of the cache's own, which no log made
 abbrev pub IsOwnRefusal : Refusal → Type 0
@@ -28,34 +22,33 @@ IsOwnRefusal other = ⊥
 
 module _ {L : Type 0} (g : Ghosts L) where
   lacks-before : (old new : L) (events : List (Event Message)) → TakesNoRoom g old new → LacksRoom g new events → LacksRoom g old events
-  lacks-before old new (Change pid message ∷ events) room lacks = room (length message.payload) lacks
-  lacks-before old new events room lacks = absurd lacks
+  lacks-before old new events h1 h2 = grind arith
 
   -- ---- one call
 
   reaches-behind : {T : Type 0} (old new : StickyLog L) (events : List (Event Message)) (result : Result T Refusal) → Comes g old new events
-      → IsCaused g.tells g.state g.moment g.left_since g.counts old new ⊥ result → Reaches g old new events (refusal_in result)
+      → IsCaused g old new ⊥ result → Reaches g old new events (refusal_in result)
   reaches-behind old new events (Ok answer) went cause = went
   reaches-behind old new events (Err refusal) went cause = record {
     came = events;
     rest = [];
     is = append-nil events;
     went = went;
-    read = λ is. cause.read (as-error refusal (Io Read) is);
-    write = λ is. cause.write (as-error refusal (Io Write) is);
-    full = λ is. absurd (cause.full (as-error refusal (Unsupported LogFull) is));
+    read = λ is. cause.read (ap Err is);
+    write = λ is. cause.write (ap Err is);
+    full = λ is. absurd (cause.full (ap Err is));
   }
 
   -- a call that tells nothing, behind others that were done
   pub proceeds-behind : {T : Type 0} (old mid new : StickyLog L) (events : List (Event Message)) (result : Result T Refusal) → Proceeds g old mid events None
       → Comes g mid new []
-      → IsCaused g.tells g.state g.moment g.left_since g.counts mid new ⊥ result
+      → IsCaused g mid new ⊥ result
       → (events ≡ [] → TakesNoRoom g mid.log new.log)
       → Proceeds g old new events (refusal_in result)
   proceeds-behind old mid new events result done went cause room = record {
     reaches =
-        reaches-behind old new events result (Went-last g.tells g.state g.moment g.left_since g.counts old mid new events done.reaches done.fault went)
-        (IsCaused-since g.tells g.state g.moment g.left_since g.counts old mid new events ⊥ result done.reaches cause);
+        reaches-behind old new events result (Went-last g old mid new events done.reaches done.fault went)
+        (IsCaused-since g old mid new events ⊥ result done.reaches cause);
     fault = cause.fault ∙ fault-same result;
     room = λ none n full. done.room none n (room none n full);
   }
@@ -65,7 +58,7 @@ module _ {L : Type 0} (g : Ghosts L) where
       → ((pages : List Messages) → g.tells → (g.state sticky_log.log).usable ≡ true → g.left_since sticky_log.log (g.moment sticky_log.log) pages → IsLeft effect_of (unplaced_state (g.state sticky_log.log)) [] pages)
       → sticky_log.fault ≡ false → (g.state sticky_log.log).usable ≡ true → Proceeds g sticky_log sticky_log [] None
   proceeds-none sticky_log only clear usable = record {
-    reaches = Went-none g.tells g.state g.moment g.left_since g.counts sticky_log usable only;
+    reaches = Went-none g sticky_log usable only;
     fault = clear;
     room = λ none n full. full;
   }
@@ -75,12 +68,12 @@ module _ {L : Type 0} (g : Ghosts L) where
       → ((pages : List Messages) → g.tells → (g.state old.log).usable ≡ true → g.left_since old.log (g.moment old.log) pages → IsLeft effect_of (unplaced_state (g.state old.log)) [] pages)
       → old.fault ≡ false → (g.state old.log).usable ≡ true
       → Comes g old new (begun_by result (event ∷ []))
-      → IsCaused g.tells g.state g.moment g.left_since g.counts old new (LacksRoom g old.log (event ∷ [])) result
+      → IsCaused g old new (LacksRoom g old.log (event ∷ [])) result
       → Proceeds g old new (event ∷ []) (refusal_in result)
   proceeds-unplaced old new event result only clear usable went cause = record { reaches = by result went cause; fault = cause.fault ∙ fault-same result; room = λ none. (let e = none in cc) }
     where
       by : {T : Type 0} (result : Result T Refusal) → Comes g old new (begun_by result (event ∷ []))
-          → IsCaused g.tells g.state g.moment g.left_since g.counts old new (LacksRoom g old.log (event ∷ [])) result → Reaches g old new (event ∷ []) (refusal_in result)
+          → IsCaused g old new (LacksRoom g old.log (event ∷ [])) result → Reaches g old new (event ∷ []) (refusal_in result)
       by (Ok answer) went cause = went
       by (Err (Io Write)) went cause = record { came = event ∷ []; rest = []; is = refl; went = went; read = λ is. (let e = is in cc); write = λ is. cause.write refl; full = λ is. (let e = is in cc) }
       by (Err refusal) went cause = record {
@@ -88,17 +81,15 @@ module _ {L : Type 0} (g : Ghosts L) where
         rest = event ∷ [];
         is = refl;
         went = went;
-        read = λ is. cause.read (as-error refusal (Io Read) is);
-        write = λ is. cause.write (as-error refusal (Io Write) is);
+        read = λ is. cause.read (ap Err is);
+        write = λ is. cause.write (ap Err is);
         full = λ is.
-            let lacks = cause.full (as-error refusal (Unsupported LogFull) is) in
-            record { at = old; went = Went-none g.tells g.state g.moment g.left_since g.counts old usable only; clear = clear; room = lacks; given = λ _. lacks; behind = went };
+            let lacks = cause.full (ap Err is) in
+            record { at = old; went = Went-none g old usable only; clear = clear; room = lacks; given = λ _. lacks; behind = went };
       }
 
   own-clear : (refusal : Refusal) → IsOwnRefusal refusal → is_fault (Some refusal) ≡ false
-  own-clear (Unsupported why) own = absurd own
-  own-clear (Io device) own = absurd own
-  own-clear refusal own = refl
+  own-clear refusal own = grind arith
 
   -- a refusal of the cache's own, after calls that were done
   pub proceeds-refused : (old new : StickyLog L) (events : List (Event Message)) (refusal : Refusal) → IsOwnRefusal refusal → Proceeds g old new events None → Proceeds g old new events (Some refusal)
@@ -121,7 +112,7 @@ module _ {L : Type 0} (g : Ghosts L) where
   full-then : (old mid new : StickyLog L) (first came rest : List (Event Message)) → Proceeds g old mid first None → WasFull g mid new came rest → WasFull g old new (first ++ came) rest
   full-then old mid new first came rest one full = record {
     at = full.at;
-    went = Went-then g.tells g.state g.moment g.left_since g.counts old mid full.at first came one.reaches one.fault full.went;
+    went = Went-then g old mid full.at first came one.reaches one.fault full.went;
     clear = full.clear;
     room = full.room;
     given = λ none. lacks-before old.log mid.log rest (one.room (nil-left first came none)) (full.given (nil-right first came none));
@@ -129,12 +120,12 @@ module _ {L : Type 0} (g : Ghosts L) where
   }
 
   reaches-then : (old mid new : StickyLog L) (first second : List (Event Message)) (refusal : Option Refusal) → Proceeds g old mid first None → Reaches g mid new second refusal → Reaches g old new (first ++ second) refusal
-  reaches-then old mid new first second None one two = Went-then g.tells g.state g.moment g.left_since g.counts old mid new first second one.reaches one.fault two
+  reaches-then old mid new first second None one two = Went-then g old mid new first second one.reaches one.fault two
   reaches-then old mid new first second (Some refusal) one two = record {
     came = first ++ two.came;
     rest = two.rest;
     is = append_assoc first two.came two.rest ∙ ap (λ (l : List (Event Message)). first ++ l) two.is;
-    went = Went-then g.tells g.state g.moment g.left_since g.counts old mid new first two.came one.reaches one.fault two.went;
+    went = Went-then g old mid new first two.came one.reaches one.fault two.went;
     read = λ is. HasGrown-since (g.counts old.log).failed_reads (g.counts mid.log).failed_reads (g.counts new.log).failed_reads one.reaches.failed_reads (two.read is);
     write = λ is. HasGrown-since (g.counts old.log).write_faults (g.counts mid.log).write_faults (g.counts new.log).write_faults one.reaches.write_faults (two.write is);
     full = λ is. full-then old mid new first two.came two.rest one (two.full is);
@@ -150,8 +141,7 @@ module _ {L : Type 0} (g : Ghosts L) where
   }
 
   lacks-more : (log : L) (rest more : List (Event Message)) → LacksRoom g log rest → LacksRoom g log (rest ++ more)
-  lacks-more log (Change pid message ∷ rest) more lacks = lacks
-  lacks-more log rest more lacks = absurd lacks
+  lacks-more log rest more h1 = grind arith
 
   -- a refusal of the first calls, where more were to come
   pub proceeds-first : (old new : StickyLog L) (first second : List (Event Message)) (refusal : Refusal) → Proceeds g old new first (Some refusal) → Proceeds g old new (first ++ second) (Some refusal)

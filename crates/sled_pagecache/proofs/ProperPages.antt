@@ -1,14 +1,7 @@
 -- What a change of a page from 2 on makes of pages as a cache leaves them.
-use Rattle.sled_pagecache.proofs.Names.{◌≡◌, ◌≤◌, ◌<◌, ◌^◌, ℕ, Bool, true, false, cond, List, [], ◌∷◌, ◌++◌, length, set, Some, slice_get, slice_set, slice_index_or, sym, subst, arith, eq-eqb, ne_eqb, length-append, length-set, get_or_from_slice_get, AllZip-long, AllByRecursion, applied, WholeNode, is_empty, linked, chains_from, Content, Free, Node, Put, Link, after_link, contents_from, Change, Message, Messages, effect_of, Holds, Hold, message_of, IsUsers, IsProper, if◌then◌else◌, ◌==◌}
+use Rattle.sled_pagecache.proofs.Names.{◌≡◌, ◌≤◌, ◌<◌, ◌^◌, ℕ, Bool, true, false, cond, List, [], ◌∷◌, ◌++◌, length, Some, slice_get, slice_set, slice_index_or, sym, subst, arith, eq-eqb, ne_eqb, length-append, length-set, get_or_from_slice_get, AllZip-long, applied, WholeNode, is_empty, linked, chains_from, Content, Free, Node, Put, Link, after_link, contents_from, Change, Message, Messages, effect_of, Holds, Hold, message_of, IsUsers, IsProper, if◌then◌else◌, ◌==◌, NodeLink, each-set, add-by-id, past-two, set-by-id}
 pub use Rattle.sled_node.proofs.Edits.{all_append as all-append}
-use Rattle.sled_pagecache.proofs.ByIds.{add-by-id, all-by-id, by-id-all, past-two, set-by-id}
-use Rattle.sled_node.specs.declared.node.link.Link.{Link as NodeLink}
 use Rattle.sled_pagecache.specs.Proper.{AreRoots, IsCounter, IsOwnAt}
-
--- ---- lists
-
-pub all-set : {X : Type 0} (P : X → Type 0) (i : ℕ) (xs : List X) (x : X) → AllByRecursion P xs → P x → AllByRecursion P (set xs i x)
-all-set P i xs x h p = by-id-all P (set xs i x) (set-by-id (λ _. P) xs i x (all-by-id P xs h) p)
 
 -- ---- a page changes, or is added
 
@@ -17,7 +10,7 @@ pub proper-set-own : (pages : List Messages) (contents : List Content) (pid : �
     → IsProper (slice_set pages pid told) (slice_set contents pid content)
 proper-set-own pages contents pid told content proper fits own = record {
   own = set-by-id IsOwnAt contents pid content proper.own own;
-  short = all-set _ pid pages told proper.short fits;
+  short = each-set _ pages pid told fits proper.short;
   few = subst (λ n. n ≤ 2 ^ 37) (sym (length-set contents pid content)) proper.few;
 }
 

@@ -1,29 +1,20 @@
 -- What was found of a page makes what the messages of its chain make, and why no node is read.
-use Rattle.sled_pagecache.proofs.Names.{◌≡◌, ◌⊎◌, inl, inr, ℕ, true, false, List, [], ◌∷◌, ◌++◌, map, Some, refl, sym, ◌∙◌, ap, subst, false≢true, AllZip, log_kind_of, MessageKind, FreeInPull, DiskPtr, Inline, Blob, Refusal, ReportableBug, Corruption, OutOfMemory, is_freeing, is_empty, Content, Roots, Node, Update, Put, Link, Message, Entry, Chain, Messages, unplaced, effect_of_entry, blob_kind, kind_at, Decodes, IsUpdate, LeadTo, Makes, zip-append, applied, IsFoundAs, RefusesPull, found_message, MakesNode, IsFoundWrong, IsWrongAt, BeginsFree, RefusesNode, Found}
-use Rattle.sled_base.specs.declared.kinds.MessageKind.TheVariants as kinds
+use Rattle.sled_pagecache.proofs.Names.{◌≡◌, ◌⊎◌, inl, inr, ℕ, false, List, [], ◌∷◌, ◌++◌, map, Some, refl, sym, ◌∙◌, ap, subst, AllZip, log_kind_of, MessageKind, FreeInPull, DiskPtr, Refusal, ReportableBug, Corruption, OutOfMemory, is_empty, Content, Node, Update, Put, Link, Message, Entry, Chain, Messages, unplaced, effect_of_entry, blob_kind, kind_at, Decodes, IsUpdate, LeadTo, Makes, zip-append, applied, IsFoundAs, RefusesPull, found_message, MakesNode, IsFoundWrong, IsWrongAt, BeginsFree, RefusesNode, Found, arith}
 
 -- ---- a kind, and that of its blob
 
 -- a payload reads as a blob what it reads
 reads-blob : (kind : MessageKind) (payload : List ℕ) (u : Update) → Decodes (blob_kind kind) payload u ≡ Decodes kind payload u
-reads-blob kinds.InlineMeta payload (Put (Roots roots)) = refl
-reads-blob kinds.InlineNode payload (Put (Node node)) = refl
-reads-blob kinds.InlineLink payload (Link link) = refl
-reads-blob kind payload u = refl
+reads-blob kind payload u = grind arith
 
 reads-at : (pointer : DiskPtr) (kind : MessageKind) (payload : List ℕ) (u : Update) → Decodes (kind_at pointer kind) payload u ≡ Decodes kind payload u
-reads-at (Inline place) kind payload u = refl
-reads-at (Blob place pointer) kind payload u = reads-blob kind payload u
+reads-at pointer kind payload u = grind arith
 
 blob-effect : (kind : MessageKind) → log_kind_of (blob_kind kind) ≡ log_kind_of kind
-blob-effect kinds.InlineMeta = refl
-blob-effect kinds.InlineNode = refl
-blob-effect kinds.InlineLink = refl
-blob-effect kind = refl
+blob-effect kind = grind arith
 
 effect-at : (pointer : DiskPtr) (kind : MessageKind) → log_kind_of (kind_at pointer kind) ≡ log_kind_of kind
-effect-at (Inline place) kind = refl
-effect-at (Blob place pointer) kind = blob-effect kind
+effect-at pointer kind = grind arith
 
 -- ---- messages that are the same updates
 
@@ -67,12 +58,7 @@ found-makes chain found content zip h = makes-too (unplaced chain) (map found_me
 
 -- what was found of a page that isn't free doesn't begin so
 pub begins-full : (chain : Chain) (found : List Found) → AllZip IsFoundAs chain found → is_empty effect_of_entry chain ≡ false → ¬ BeginsFree found
-begins-full [] [] zip full h = absurd h
-begins-full (e ∷ chain) (x ∷ found) zip full h =
-    let freed : is_freeing (log_kind_of e.message.kind) ≡ true =
-    ap is_freeing (sym (effect-at e.place.pointer e.message.kind) ∙ ap log_kind_of (sym zip.0.0.0 ∙ h)) in
-    false≢true (sym full ∙ freed)
-begins-full chain found zip full h = absurd zip
+begins-full chain found h1 h2 = grind arith
 
 -- ---- the first wrong message
 

@@ -1,18 +1,13 @@
 -- A call that puts a content on one page, as a step of the machine, told of the table that the cache keeps.
-use Rattle.sled_pagecache.proofs.Names.{Recency, ◌≡◌, ◌≤◌, ◌<◌, ◌^◌, ℕ, Bool, true, false, List, [], ◌∷◌, ◌++◌, length, Result, Err, slice_set, refl, sym, ◌∙◌, ap, subst, arith, eq-eqb, ne_eqb, length-map, map-append, map-set, MatchBool, Read, Write, Error, Unsupported, Refusal, LogFull, chains_from, Node, Update, Put, contents_from, Content, Free, Event, Change, holds-after, effect_of, IsUpdate, MayChange, Hold, message_of, Ghosts, WholeNode, Cache, chain_length, IsIn, HasNoRoom, StepOver, Steps, IsBlamed, Went, IsCaused, IsOfLog, begun_by, Logged, sticky_log_of, IsProper, page, State, with_page, Outcome, outcome, unchanged, IsRefused, UnlessFaulty, Fails, stamps_in, IsBeside, Answer, Call, Config, StickyLog}
-use Rattle.sled_base.specs.Errors.{error_of as error_by}
+use Rattle.sled_pagecache.proofs.Names.{Recency, ◌≡◌, ◌≤◌, ◌<◌, ◌^◌, ℕ, Bool, true, false, List, [], ◌∷◌, ◌++◌, length, Result, Err, slice_set, refl, sym, ◌∙◌, ap, subst, arith, eq-eqb, ne_eqb, length-map, map-append, map-set, MatchBool, Read, Write, Error, Unsupported, Refusal, LogFull, chains_from, Node, Update, Put, contents_from, Content, Free, Event, Change, holds-after, effect_of, IsUpdate, MayChange, Hold, message_of, Ghosts, WholeNode, Cache, chain_length, IsIn, HasNoRoom, StepOver, Steps, IsBlamed, Went, IsCaused, IsOfLog, begun_by, Logged, sticky_log_of, IsProper, page, State, with_page, Outcome, outcome, unchanged, IsRefused, UnlessFaulty, Fails, stamps_in, IsBeside, Answer, Call, Config, StickyLog, error_by, StampedPage, KeptPage, view, log_now, unplaced_state}
 use Rattle.sled_base.specs.declared.types.Error.TheVariants.{Io, OutOfMemory}
 use Rattle.sled_base.specs.declared.types.Refusal.TheVariants as refusals
-use Rattle.sled_log.specs.LogState as log
 use Rattle.sled_pagecache.proofs.CacheSteps.{steps-went}
 use Rattle.sled_pagecache.proofs.Carrying.{proper-now}
 use Rattle.sled_pagecache.proofs.Changing.{leads-same, leads-begun, leads-set, leads-add}
 use Rattle.sled_pagecache.proofs.ProperPages.{IsPut, put-proper, add-proper}
 use Rattle.sled_pagecache.proofs.Standing.{AreKnown, known-in, known-length}
-use Rattle.sled_pagecache.proofs.TableNodes.{view}
 use Rattle.sled_pagecache.specs.Logged.{now}
-use Rattle.sled_pagecache.specs.State.{StampedPage}
-use Rattle.sled_pagecache.specs.declared.pagecache.page.Page.{Page as KeptPage}
 
 -- no write fault is kept
 pub unless-clear : {T : Type 0} (s : State) (answer : Result T Error) (out : Outcome) (goes_on : Type 0) → s.fault ≡ false → goes_on → UnlessFaulty s answer out goes_on
@@ -22,13 +17,13 @@ module _ {L : Type 0} (g : Ghosts L) where
   -- a content may be put on the page, which leaves pages as a cache does
   pub record MayPut (l : L) (held : Logged) (pid : ℕ) (content : Content) : Type 0 where
     pub may : MayChange (now held) pid (Put content)
-    pub proper : IsProper (chains_from effect_of (log.now effect_of (log.unplaced_state (g.state l))) (Change pid (message_of (Put content)))) (contents_from (now held) (Change pid (Put content)))
+    pub proper : IsProper (chains_from effect_of (log_now effect_of (unplaced_state (g.state l))) (Change pid (message_of (Put content)))) (contents_from (now held) (Change pid (Put content)))
 
   -- what the log holds makes the contents, which are as many as the pages
-  pub holds_unplaced : (cache : Cache L) (held : Logged) (s : State) → IsIn g cache held s → s.fault ≡ false → Hold (log.now effect_of (log.unplaced_state (g.state cache.log))) (now held)
+  pub holds_unplaced : (cache : Cache L) (held : Logged) (s : State) → IsIn g cache held s → s.fault ≡ false → Hold (log_now effect_of (unplaced_state (g.state cache.log))) (now held)
   holds_unplaced cache held s is clear =
       let logged = (is.known clear).logged in
-      holds-after (log.unplaced_state (g.state cache.log)).stable held.stable (log.unplaced_state (g.state cache.log)).pending held.pending logged.stable logged.pending
+      holds-after (unplaced_state (g.state cache.log)).stable held.stable (unplaced_state (g.state cache.log)).pending held.pending logged.stable logged.pending
 
   module _ (next : ℕ) (config : Config) (recovered : Bool) (lru : Recency) where
     abbrev cache : StickyLog L → List KeptPage → Cache L
@@ -49,7 +44,7 @@ module _ {L : Type 0} (g : Ghosts L) where
           let within : pid < length (now held) = omega (arith, same, there) in
           record {
             may = may-change content put within;
-            proper = put-proper (log.now effect_of (log.unplaced_state (g.state before.log))) (now held) (holds_unplaced (cache before table) held s is clear) (proper-now (log.unplaced_state (g.state before.log)) held (is.known clear).logged) pid from content put within;
+            proper = put-proper (log_now effect_of (unplaced_state (g.state before.log))) (now held) (holds_unplaced (cache before table) held s is clear) (proper-now (unplaced_state (g.state before.log)) held (is.known clear).logged) pid from content put within;
           }
         where
           may-change : (content : Content) → IsPut content → pid < length (now held) → MayChange (now held) pid (Put content)
@@ -62,17 +57,17 @@ module _ {L : Type 0} (g : Ghosts L) where
           let same = many held s is clear in
           record {
             may = omega (arith, same);
-            proper = add-proper (log.now effect_of (log.unplaced_state (g.state before.log))) (now held) (holds_unplaced (cache before table) held s is clear) (proper-now (log.unplaced_state (g.state before.log)) held (is.known clear).logged) (length table) from node (sym same) (omega (arith, same, room));
+            proper = add-proper (log_now effect_of (unplaced_state (g.state before.log))) (now held) (holds_unplaced (cache before table) held s is clear) (proper-now (unplaced_state (g.state before.log)) held (is.known clear).logged) (length table) from node (sym same) (omega (arith, same, room));
           }
 
       module _ (after : StickyLog L) (call : Call) where
         -- nothing was told to the log, and nothing changes
-        pub nothing-appended : (pages : List KeptPage) → pages ≡ table → (answer : Answer) → Went g.tells g.state g.moment g.left_since g.counts before after [] → after.fault ≡ false
-            → ((s : State) → s.fault ≡ false → AreKnown s.pages table → StepOver g (cache before table) s call answer (unchanged s))
+        pub nothing-appended : (pages : List KeptPage) → pages ≡ table → (answer : Answer) → Went g before after [] → after.fault ≡ false
+            → ((held : Logged) (s : State) → IsIn g (cache before table) held s → s.fault ≡ false → AreKnown s.pages table → StepOver g (cache before table) s call answer (unchanged s))
             → Steps g (cache before table) call answer (cache after pages)
         nothing-appended pages back answer went free step =
             steps-went g (cache before table) (cache after pages) before after call answer [] (record { config = refl; recovered = refl }) refl refl refl ready went
-            (λ held s is clear. leads-same g (cache before table) (cache after pages) held s is clear call answer refl (step s clear (known held s is clear)) (ap stamps_in back) free)
+            (λ held s is clear. leads-same g (cache before table) (cache after pages) held s is clear call answer refl (step held s is clear (known held s is clear)) (ap stamps_in back) free)
 
         module _ (pid : ℕ) (content : Content) (reads : IsUpdate (message_of (Put content)) (Put content))
             (may : (held : Logged) (s : State) → IsIn g (cache before table) held s → s.fault ≡ false → MayPut before.log held pid content) where
@@ -80,61 +75,61 @@ module _ {L : Type 0} (g : Ghosts L) where
           change = Change pid (Put content)
 
           -- a write fault came while the content was told
-          put-failed : (pages : List KeptPage) → pages ≡ table → (answer : Answer) → Went g.tells g.state g.moment g.left_since g.counts before after (Change pid (message_of (Put content)) ∷ []) → after.fault ≡ true
-              → ((s : State) → s.fault ≡ false → AreKnown s.pages table → StepOver g (cache before table) s call answer (outcome (record s { fault = true }) (change ∷ [])))
+          put-failed : (pages : List KeptPage) → pages ≡ table → (answer : Answer) → Went g before after (Change pid (message_of (Put content)) ∷ []) → after.fault ≡ true
+              → ((held : Logged) (s : State) → IsIn g (cache before table) held s → s.fault ≡ false → AreKnown s.pages table → StepOver g (cache before table) s call answer (outcome (record s { fault = true }) (change ∷ [])))
               → Steps g (cache before table) call answer (cache after pages)
           put-failed pages back answer went kept step =
               steps-went g (cache before table) (cache after pages) before after call answer (Change pid (message_of (Put content)) ∷ []) (record { config = refl; recovered = refl }) refl refl refl ready went
               (λ held s is clear.
               let m = may held s is clear in
-              leads-begun g (cache before table) (cache after pages) held s is clear call answer refl pid (Put content) reads m.may m.proper (step s clear (known held s is clear)) (ap stamps_in back) kept)
+              leads-begun g (cache before table) (cache after pages) held s is clear call answer refl pid (Put content) reads m.may m.proper (step held s is clear (known held s is clear)) (ap stamps_in back) kept)
 
           -- the log refused it, or failed
           pub put-refused : (T : Type 0) (pages : List KeptPage) → pages ≡ table → (answer : Error → Answer)
-              → ((s : State) → s.fault ≡ false → AreKnown s.pages table → (e : Error) (out : Outcome) → Fails (chain_length g.state (cache before table)) (HasNoRoom g before.log) s change e out → StepOver g (cache before table) s call (answer e) out)
+              → ((held : Logged) (s : State) → IsIn g (cache before table) held s → s.fault ≡ false → AreKnown s.pages table → (e : Error) (out : Outcome) → Fails (chain_length g.state (cache before table)) (HasNoRoom g before.log) s change e out → StepOver g (cache before table) s call (answer e) out)
               → (refusal : Refusal) → IsOfLog refusal
-              → (let told : Result T Refusal = Err refusal in Went g.tells g.state g.moment g.left_since g.counts before after (begun_by told (Change pid (message_of (Put content)) ∷ [])))
-              → (let told : Result T Refusal = Err refusal in IsCaused g.tells g.state g.moment g.left_since g.counts before after (g.is_full before.log (length (message_of (Put content)).payload)) told)
+              → (let told : Result T Refusal = Err refusal in Went g before after (begun_by told (Change pid (message_of (Put content)) ∷ [])))
+              → (let told : Result T Refusal = Err refusal in IsCaused g before after (g.is_full before.log (length (message_of (Put content)).payload)) told)
               → Steps g (cache before table) call (answer (error_by refusal)) (cache after pages)
           put-refused T pages back answer step refusals.OutOfMemory of went cause =
-              nothing-appended pages back (answer OutOfMemory) went cause.fault (λ s clear are. step s clear are OutOfMemory (unchanged s) refl)
+              nothing-appended pages back (answer OutOfMemory) went cause.fault (λ held s is clear are. step held s is clear are OutOfMemory (unchanged s) refl)
           put-refused T pages back answer step (refusals.Io Read) of went cause =
-              nothing-appended pages back (answer (Io Read)) went cause.fault (λ s clear are. step s clear are (Io Read) (unchanged s) refl)
+              nothing-appended pages back (answer (Io Read)) went cause.fault (λ held s is clear are. step held s is clear are (Io Read) (unchanged s) refl)
           put-refused T pages back answer step (refusals.Io Write) of went cause =
-              put-failed pages back (answer (Io Write)) went cause.fault (λ s clear are. step s clear are (Io Write) (outcome (record s { fault = true }) (change ∷ [])) refl)
+              put-failed pages back (answer (Io Write)) went cause.fault (λ held s is clear are. step held s is clear are (Io Write) (outcome (record s { fault = true }) (change ∷ [])) refl)
           put-refused T pages back answer step (refusals.Unsupported LogFull) of went cause =
-              nothing-appended pages back (answer (Unsupported LogFull)) went cause.fault (λ s clear are. step s clear are (Unsupported LogFull) (unchanged s) (cause.full refl, refl))
+              nothing-appended pages back (answer (Unsupported LogFull)) went cause.fault (λ held s is clear are. step held s is clear are (Unsupported LogFull) (unchanged s) (cause.full refl, refl))
           put-refused T pages back answer step refusal of went cause = absurd of
 
-          module _ (went : Went g.tells g.state g.moment g.left_since g.counts before after (Change pid (message_of (Put content)) ∷ [])) (free : after.fault ≡ false) (answer : Answer) (stamp : ℕ) (q : KeptPage) (at : q.stamp ≡ stamp) where
+          module _ (went : Went g before after (Change pid (message_of (Put content)) ∷ [])) (free : after.fault ≡ false) (answer : Answer) (stamp : ℕ) (q : KeptPage) (at : q.stamp ≡ stamp) where
             -- the page that was there holds it
-            pub put-set : pid < length table → ((s : State) → s.fault ≡ false → AreKnown s.pages table → StepOver g (cache before table) s call answer (outcome (with_page s pid (page stamp content)) (change ∷ [])))
+            pub put-set : pid < length table → ((held : Logged) (s : State) → IsIn g (cache before table) held s → s.fault ≡ false → AreKnown s.pages table → StepOver g (cache before table) s call answer (outcome (with_page s pid (page stamp content)) (change ∷ [])))
                 → Steps g (cache before table) call answer (cache after (slice_set table pid q))
             put-set there step =
                 steps-went g (cache before table) (cache after (slice_set table pid q)) before after call answer (Change pid (message_of (Put content)) ∷ []) (record { config = refl; recovered = refl }) refl refl refl ready went
                 (λ held s is clear.
                 let m = may held s is clear in
                 let same = many held s is clear in
-                leads-set g (cache before table) (cache after (slice_set table pid q)) held s is clear call answer refl pid (Put content) reads m.may m.proper stamp content (step s clear (known held s is clear))
+                leads-set g (cache before table) (cache after (slice_set table pid q)) held s is clear call answer refl pid (Put content) reads m.may m.proper stamp content (step held s is clear (known held s is clear))
                 (rw (ne_eqb pid (length (now held)) (λ last. omega (arith, last, there, same))) refl)
                 (map-set (λ (p : KeptPage). p.stamp) table pid q ∙ ap (λ n. slice_set (stamps_in table) pid n) at)
                 free)
 
             -- a new page holds it
-            pub put-added : pid ≡ length table → ((s : State) → s.fault ≡ false → AreKnown s.pages table → StepOver g (cache before table) s call answer (outcome (record s { pages = s.pages ++ page stamp content ∷ [] }) (change ∷ [])))
+            pub put-added : pid ≡ length table → ((held : Logged) (s : State) → IsIn g (cache before table) held s → s.fault ≡ false → AreKnown s.pages table → StepOver g (cache before table) s call answer (outcome (record s { pages = s.pages ++ page stamp content ∷ [] }) (change ∷ [])))
                 → Steps g (cache before table) call answer (cache after (table ++ q ∷ []))
             put-added last step =
                 steps-went g (cache before table) (cache after (table ++ q ∷ [])) before after call answer (Change pid (message_of (Put content)) ∷ []) (record { config = refl; recovered = refl }) refl refl refl ready went
                 (λ held s is clear.
                 let m = may held s is clear in
-                leads-add g (cache before table) (cache after (table ++ q ∷ [])) held s is clear call answer refl pid (Put content) reads m.may m.proper stamp content (step s clear (known held s is clear))
+                leads-add g (cache before table) (cache after (table ++ q ∷ [])) held s is clear call answer refl pid (Put content) reads m.may m.proper stamp content (step held s is clear (known held s is clear))
                 (rw (eq-eqb pid (length (now held)) (last ∙ sym (many held s is clear))) refl)
                 (map-append (λ (p : KeptPage). p.stamp) table (q ∷ []) ∙ ap (λ n. stamps_in table ++ n ∷ []) at)
                 free)
 
   -- a fault is told only where its count grew
   pub blamed : {T U : Type 0} (old new : Cache L) (no_room : Type 0) (refusal : Refusal)
-      → (let told : Result T Refusal = Err refusal in IsCaused g.tells g.state g.moment g.left_since g.counts (sticky_log_of old) (sticky_log_of new) no_room told)
+      → (let told : Result T Refusal = Err refusal in IsCaused g (sticky_log_of old) (sticky_log_of new) no_room told)
       → (let answer : Result U Error = Err (error_by refusal) in IsBlamed g old new answer)
   blamed old new no_room (refusals.Io Read) cause = record { read = λ said. cause.read refl; write = λ said clear. absurd cc }
   blamed old new no_room (refusals.Io Write) cause = record { read = λ said. absurd cc; write = λ said clear. cause.write refl }

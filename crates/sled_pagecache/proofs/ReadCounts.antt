@@ -1,5 +1,5 @@
 -- How often a call that may bring a page into memory reads its log.
-use Rattle.sled_pagecache.proofs.Names.{◌≡◌, ◌≤◌, ◌<◌, ◌+◌, ℕ, zero, suc, List, length, Result, Ok, Err, refl, ◌∙◌, ap, arith, AllZip-long, AllZip, Bool, true, false, Refusal, is_resident, StickyLog, Counts, Chain, Ghosts, Cache, chain_length, IsResident, IsAway, more, IsLoaded, Page, ReadsNothing, ReadsPage, HasRead, own_among, OnErr}
+use Rattle.sled_pagecache.proofs.Names.{◌≡◌, ◌≤◌, ◌<◌, ◌+◌, ℕ, List, length, Result, Ok, Err, ◌∙◌, ap, arith, AllZip-long, AllZip, Bool, true, false, Refusal, is_resident, StickyLog, Counts, Chain, Ghosts, Cache, chain_length, IsResident, IsAway, more, IsLoaded, Page, ReadsNothing, ReadsPage, HasRead, own_among, OnErr}
 use Rattle.sled_pagecache.proofs.ChainReads.{more-add}
 
 module _ {L : Type 0} (g : Ghosts L) (old new : Cache L) (pid : ℕ) where
@@ -24,17 +24,13 @@ module _ {L : Type 0} (g : Ghosts L) (old new : Cache L) (pid : ℕ) where
 -- ---- how many pages are the cache's own
 
 pub own-some : (n : ℕ) → 0 < n → 1 ≤ own_among n
-own-some zero some = absurd (omega (arith, some))
-own-some (suc zero) some = omega arith
-own-some (suc (suc n)) some = omega arith
+own-some n some = grind arith
 
 pub own-one : (n : ℕ) → 0 < n → n < 2 → 1 ≡ own_among n
-own-one (suc zero) some few = refl
-own-one n some few = absurd (omega (arith, some, few))
+own-one n some few = grind arith
 
 pub own-two : (n : ℕ) → 1 < n → 2 ≡ own_among n
-own-two (suc (suc n)) more = refl
-own-two n more = absurd (omega (arith, more))
+own-two n more = grind arith
 
 -- ---- reads of one call after another
 
@@ -70,6 +66,4 @@ module _ {L : Type 0} (counts : L → Counts) where
 pub read-all : {L T : Type 0} (counts : L → Counts) (before after : StickyLog L) (q : Page) (result : Result T Refusal) (resident : Bool) → is_resident q.kept ≡ resident
     → (is_resident q.kept ≡ true → after ≡ before) → (is_resident q.kept ≡ false → (counts after.log).reads ≡ more (length q.infos.items) (counts before.log).reads)
     → OnErr result ((times : ℕ) × (times ≤ length q.infos.items) × ((counts after.log).reads ≡ more times (counts before.log).reads))
-read-all counts before after q (Ok done) resident is unread reads = tt
-read-all counts before after q (Err refusal) true is unread reads = (0, omega arith, ap (λ sticky_log. (counts sticky_log.log).reads) (unread is))
-read-all counts before after q (Err refusal) false is unread reads = (length q.infos.items, omega arith, reads is)
+read-all counts before after q result resident h1 h2 h3 = grind arith

@@ -1,9 +1,6 @@
 -- Pages as they are recovered are kept as their chains say, and the first of them that no cache leaves so.
-use Rattle.sled_pagecache.proofs.Names.{◌≡◌, ◌+◌, ◌<◌, ◌≤◌, ℕ, ℤ, true, false, List, [], ◌∷◌, ◌++◌, length, map, take, drop, get_or, Option, Some, refl, sym, ◌∙◌, ap, subst, inl, inr, arith, false≢true, length-map, take_more, slice_get_cases, zip-append, AllZip, AllByRecursion, IfSome, DiskPtr, PageState, Chain, IsPageState, said_of, freed_of, place_of, IsLoaded, IsUnread, HoldsChain, IsKept, is_free, freed_at, info_at, kept_by, IsRecovered, is_misfit, AllFit, BeginsMisfit, CacheInfo, Kept, Page, Bool, drop_more, free_ids, append_assoc, slice_get_within, get_or_from_slice_get, if◌then◌else◌}
-use Rattle.std.specs.List.{slice_get}
+use Rattle.sled_pagecache.proofs.Names.{◌≡◌, ◌+◌, ◌<◌, ◌≤◌, ℕ, ℤ, true, false, List, [], ◌∷◌, ◌++◌, length, map, take, drop, get_or, Option, Some, refl, sym, ◌∙◌, ap, subst, inl, inr, arith, false≢true, length-map, take_more, slice_get_cases, zip-append, AllZip, AllByRecursion, IfSome, DiskPtr, PageState, Chain, IsPageState, said_of, freed_of, place_of, IsLoaded, IsUnread, HoldsChain, IsKept, is_free, freed_at, info_at, kept_by, IsRecovered, is_misfit, AllFit, BeginsMisfit, CacheInfo, Kept, Page, Bool, drop_more, free_ids, append_assoc, slice_get_within, get_or_from_slice_get, if◌then◌else◌, slice_get, insert_key, nat_cmp}
 use Rattle.sled_base.specs.declared.types.page_state.PageState.TheVariants as said
-use Rattle.std.specs.BTreeSet.{insert_key}
-use Rattle.std.specs.Ordering.{nat_cmp}
 use Rattle.sled_pagecache.proofs.FreeIds.{behind, later}
 use Rattle.sled_pagecache.proofs.ProperPages.{all-append}
 
@@ -40,8 +37,7 @@ at-places chain (said.Present base frags) page from is =
 at-places chain (said.Free lsn pointer) page from is = is.1 ∙ sym (ap (map freed_at) from.infos)
 
 by-state : (state : PageState) → IsUnread (kept_by state)
-by-state (said.Present base frags) = tt
-by-state (said.Free lsn pointer) = tt
+by-state state = grind arith
 
 is-loaded : (chain : Chain) (state : PageState) (page : Page) → IsRecovered state page → IsPageState chain state → IsLoaded chain page
 is-loaded chain state page from is = record { kept = is-kept chain state page from is; at = at-places chain state page from is; stamp = from.stamp }
@@ -116,5 +112,4 @@ module _ (pages : List Page) (ids now : List ℕ) (pid : ℕ) (less : AllByRecur
 -- ---- a page as a log says it
 
 pub said-all : (infos : List CacheInfo) (first : CacheInfo) → 0 < length infos → first ≡ get_or infos 0 first → map place_of infos ≡ place_of first ∷ map place_of (drop 1 infos)
-said-all [] first lt is = absurd (omega arith)
-said-all (x ∷ infos) first lt is = ap (λ (info : CacheInfo). place_of info ∷ map place_of infos) (sym is)
+said-all infos first h1 h2 = grind arith

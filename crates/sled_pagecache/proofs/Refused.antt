@@ -1,9 +1,11 @@
 -- What a `?` hands on, and that a refusal owns no name.
+use Rattle.sled_base.specs.declared.types.Refusal.TheVariants as refusals
+use Rattle.std.proofs.Common.{◌≡◌, Result, Err, ◌∙◌, ap}
+use Rattle.std.proofs.lemmas.Result.{err_from_is_err_and}
+use Rattle.std.specs.Result.{IsErrAnd}
 use Rattle.sled_base.specs.Errors.{error_of}
 use Rattle.sled_base.specs.Order.{Bytes}
 use Rattle.sled_base.specs.declared.types.Refusal.{Refusal}
-use Rattle.sled_base.specs.declared.types.Refusal.TheVariants as refusals
-use Rattle.sled_pagecache.proofs.Names.{◌≡◌, Result, Err, ◌∙◌, ap, err_from_is_err_and, IsErrAnd}
 use Rattle.sled_pagecache.specs.Answers.{HasNoName, NamesOnly}
 
 pub refused-is : {T E : Type 0} (result : Result T E) (e : E) → IsErrAnd result (λ y. y ≡ e) → result ≡ Err e

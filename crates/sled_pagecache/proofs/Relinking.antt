@@ -1,21 +1,16 @@
 -- A link that was made, or refused, once what the list dropped for it is paged out: what it answers.
-use Rattle.sled_pagecache.proofs.Names.{◌≡◌, ◌+◌, ℕ, Bool, List, Some, None, Result, Ok, Err, slice_set, refl, sym, ◌∙◌, ap, error_of, Refusal, Ghosts, Cache, IsResident, IsAway, IsBounded, AccessesPage, LeavesMemory, MeetsDamage, ReportsDamage, ReadsPage, MakesLink, RefusesLinkOf, Keeps, Steps, IsBlamed, TestsFirst, swapped, Swapped, stamps_in, is_free, chain_length, linked_length, IsAnswered, Token, token, Linked, Config, StickyLog, Accesses, Page}
-use Rattle.sled_node.specs.declared.node.link.Link.{Link as NodeLink}
+use Rattle.sled_pagecache.proofs.Names.{IsFresh, ◌≡◌, ◌+◌, ℕ, Bool, List, Some, None, Result, Ok, Err, slice_set, refl, sym, ◌∙◌, ap, error_of, Refusal, Ghosts, Cache, IsResident, IsAway, IsBounded, AccessesPage, LeavesMemory, MeetsDamage, ReportsDamage, ReadsPage, MakesLink, RefusesLinkOf, Keeps, Steps, IsBlamed, TestsFirst, swapped, Swapped, stamps_in, is_free, chain_length, linked_length, IsAnswered, Token, token, Linked, Config, StickyLog, Accesses, Page, NodeLink, IsWhole, Evicts, IsSettled, behind-own, view}
 use Rattle.sled_pagecache.proofs.Answers.{keeps-err}
 use Rattle.sled_pagecache.proofs.CacheSteps.{steps-known}
 use Rattle.sled_pagecache.proofs.Counted.{behind-counter, other-at, spares-link, whole-then}
 use Rattle.sled_pagecache.proofs.Evicting.{moves, by-swap, still-away, moved-damage, moved-reads}
 use Rattle.sled_pagecache.proofs.InMemory.{loses-page, takes-page}
-use Rattle.sled_pagecache.proofs.Judging.{IsFresh, fresh-answered, keeps-fresh}
+use Rattle.sled_pagecache.proofs.Judging.{fresh-answered, keeps-fresh}
 use Rattle.sled_pagecache.proofs.LinkSteps.{link-refused, link-taken}
 use Rattle.sled_pagecache.proofs.LinkTables.{refused-consistent, taken-consistent, taken-length, taken-resident, refused-out}
 use Rattle.sled_pagecache.proofs.LinkTests.{refused-tests, taken-tests, refused-damage, taken-damage}
-use Rattle.sled_pagecache.proofs.Lookups.{behind-own}
 use Rattle.sled_pagecache.proofs.PagingIn.{page-own-at, stamps-same, reads-pulled}
 use Rattle.sled_pagecache.proofs.Putting.{blamed}
-use Rattle.sled_pagecache.proofs.TableNodes.{view}
-use Rattle.sled_pagecache.specs.Counted.{IsWhole}
-use Rattle.sled_pagecache.specs.Evictions.{Evicts, IsSettled}
 use Rattle.sled_pagecache.specs.declared.pagecache.call.Call.TheVariants as call
 
 -- What a link answers that was made, with this token.

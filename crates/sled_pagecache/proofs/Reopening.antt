@@ -1,9 +1,8 @@
 -- A cache that is opened over a crash state is what is opened of the pages after a prefix of the changes.
-use Rattle.sled_pagecache.proofs.Names.{◌≡◌, ◌≤◌, ℕ, Bool, true, List, [], ◌++◌, arith, take, refl, sym, subst, Option, Some, None, Result, Ok, Err, IfOk, Error, Update, contents_after, Event, Message, Messages, unplaced_state, Ghosts, Why, fault_of, Cache, Logged, IsLogged, Started, Content, AreKept, CrashReopens, only_stable, only_stable_contents, Config}
-use Rattle.sled_log.specs.LogState.{LogState}
+use Rattle.sled_pagecache.proofs.Names.{◌≡◌, ◌≤◌, ℕ, Bool, true, List, [], ◌++◌, arith, take, refl, sym, subst, Result, Ok, Err, IfOk, Error, Update, contents_after, Event, Message, Messages, unplaced_state, Ghosts, Cache, Logged, IsLogged, Started, Content, AreKept, CrashReopens, only_stable, only_stable_contents, Config, LogState, AreAfterPrefix, CrashReopensTo, ReopensTo}
+use Rattle.sled_pagecache.proofs.Endings.{sound-settings}
 use Rattle.sled_pagecache.proofs.Staying.{stay-none}
 use Rattle.sled_pagecache.specs.Logged.{IsLeft}
-use Rattle.sled_pagecache.specs.Reopening.{AreAfterPrefix, CrashReopensTo, ReopensTo}
 
 -- pages of these messages are kept, and hold contents that are so
 abbrev pub IsKeptAs : List Messages → (List Content → Type 0) → Type 0
@@ -35,18 +34,10 @@ crashed-logged held changes pages left usable = kept-logged pages (contents_afte
 module _ {L : Type 0} (g : Ghosts L) (since_earlier : (log : L) (t u : ℕ) (pages : List Messages) → t ≤ u → g.left_since log u pages → g.left_since log t pages) where
   reopens : (Are : List Content → Type 0) (log : L) (pages : List Messages) → unplaced_state (g.state log) ≡ only_stable pages true → IsKeptAs pages Are → (config : Config) (result : Result (Cache L) (Error × L)) → Started g log config result → IfOk result (ReopensTo g Are config)
   reopens Are log pages holds left config (Err refused) started = tt
-  reopens Are log pages holds (contents, kept, are) config (Ok cache) started = by (fault_of config) refl
-    where
-      by : (fault : Option Why) → fault_of config ≡ fault → ReopensTo g Are config cache
-      by (Some why) wrong = (let e = started.settings why wrong in absurd cc)
-      by None sound =
-          let opened = started.opens sound (only_stable_contents contents) (subst (λ (s : LogState Message). IsLogged s (only_stable_contents contents)) (sym holds) (kept-logged pages contents kept true)) in
-          record {
-            contents = contents;
-            are = are;
-            held_then = opened.held_then;
-            is = opened.is;
-          }
+  reopens Are log pages holds (contents, kept, are) config (Ok cache) started =
+      let logged = subst (λ (s : LogState Message). IsLogged s (only_stable_contents contents)) (sym holds) (kept-logged pages contents kept true) in
+      let opened = started.opens (sound-settings g log config cache started) (only_stable_contents contents) logged in
+      record { contents = contents; are = are; held_then = opened.held_then; is = opened.is }
 
   pub crash-reopens-to : (crashed : L) (since : ℕ) (Are : List Content → Type 0) → ((pages : List Messages) → g.left_since crashed since pages → IsKeptAs pages Are) → CrashReopensTo g crashed since Are
   crash-reopens-to crashed since Are each log crash config result started =

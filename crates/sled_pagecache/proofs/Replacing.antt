@@ -1,15 +1,11 @@
 -- Putting another content on a page, as a step of the machine.
-use Rattle.sled_pagecache.proofs.Names.{Recency, ◌≡◌, ◌≢◌, inl, inr, ◌≤◌, ◌<◌, ◌+◌, ◌-◌, ◌^◌, ℕ, Bool, false, List, [], ◌∷◌, length, Some, Result, Ok, Err, slice_get, slice_set, refl, sym, ◌∙◌, ap, eq-eqb, ne_eqb, slice_get_within, Unsupported, Refusal, StampUsedUp, Content, Event, Update, Put, Change, IsUpdate, message_of, Ghosts, Cache, chain_length, HasNoRoom, StepOver, IsIn, Steps, Went, IsCaused, begun_by, Logged, page, State, page_at, with_page, is_reserved, Does, Outcome, outcome, unchanged, Swapped, Swaps, SwapsContent, RefusesSwap, IsBeside, Token, token, Answer, Call, Config, StickyLog}
-use Rattle.sled_base.specs.Errors.{error_of as error_by}
+use Rattle.sled_pagecache.proofs.Names.{Recency, ◌≡◌, ◌≢◌, inl, inr, ◌≤◌, ◌<◌, ◌+◌, ◌-◌, ◌^◌, ℕ, Bool, false, List, [], ◌∷◌, length, Some, Result, Ok, Err, slice_get, slice_set, refl, sym, ◌∙◌, ap, eq-eqb, ne_eqb, slice_get_within, Unsupported, Refusal, StampUsedUp, Content, Event, Update, Put, Change, IsUpdate, message_of, Ghosts, Cache, chain_length, HasNoRoom, StepOver, IsIn, Steps, Went, IsCaused, begun_by, Logged, page, State, page_at, with_page, is_reserved, Does, Outcome, outcome, unchanged, Swapped, Swaps, SwapsContent, RefusesSwap, IsBeside, Token, token, Answer, Call, Config, StickyLog, error_by, KeptPage, behind-own, view}
 use Rattle.sled_pagecache.proofs.Judging.{IsSwap}
-use Rattle.sled_pagecache.proofs.Lookups.{behind-own}
 use Rattle.sled_pagecache.proofs.ProperPages.{IsPut}
 use Rattle.sled_pagecache.proofs.Putting.{unless-clear, MayPut, may-set, nothing-appended, put-refused, put-set}
 use Rattle.sled_pagecache.proofs.Standing.{AreKnown, found-known}
-use Rattle.sled_pagecache.proofs.TableNodes.{view}
 use Rattle.sled_pagecache.specs.Pages as kept
 use Rattle.sled_pagecache.specs.State.{StampedPage, is_free}
-use Rattle.sled_pagecache.specs.declared.pagecache.page.Page.{Page as KeptPage}
 
 -- ---- what the machine tests
 
@@ -66,19 +62,19 @@ module _ {L : Type 0} (g : Ghosts L) (next : ℕ) (config : Config) (recovered :
           (found.known.stamp ∙ stamp) (found.known.stamp ∙ last))
 
     pub swaps-refused : (refusal : Refusal) → RefusesSwap q.stamp refusal
-        → (let told : Result (Unit {0}) Refusal = Err refusal in Went g.tells g.state g.moment g.left_since g.counts before after (begun_by told (Change pid (message_of (Put content)) ∷ [])))
-        → (let told : Result (Unit {0}) Refusal = Err refusal in IsCaused g.tells g.state g.moment g.left_since g.counts before after (g.is_full before.log (length (message_of (Put content)).payload)) told)
+        → (let told : Result (Unit {0}) Refusal = Err refusal in Went g before after (begun_by told (Change pid (message_of (Put content)) ∷ [])))
+        → (let told : Result (Unit {0}) Refusal = Err refusal in IsCaused g before after (g.is_full before.log (length (message_of (Put content)).payload)) told)
         → Steps g (cache before table) call (answered (Err (error_by refusal))) (cache after pages)
     swaps-refused refusal (inl (last, is)) =
-        rw is (λ went cause. nothing-appended g next config recovered lru before table ready beside after call pages back (answered (Err (Unsupported StampUsedUp))) went cause.fault (λ s clear are. last-step s clear are last))
+        rw is (λ went cause. nothing-appended g next config recovered lru before table ready beside after call pages back (answered (Err (Unsupported StampUsedUp))) went cause.fault (λ held s _ clear are. last-step s clear are last))
     swaps-refused refusal (inr (below, of)) =
         put-refused g next config recovered lru before table ready beside after call pid content reads may (Unit {0}) pages back (λ e. answered (Err e))
-        (λ s clear are e out fails. does s clear are below (Err e) out fails)
+        (λ held s _ clear are e out fails. does s clear are below (Err e) out fails)
         refusal of
 
-    pub swaps-done : q.stamp ≢ 2 ^ 64 - 1 → Went g.tells g.state g.moment g.left_since g.counts before after (Change pid (message_of (Put content)) ∷ []) → after.fault ≡ false
+    pub swaps-done : q.stamp ≢ 2 ^ 64 - 1 → Went g before after (Change pid (message_of (Put content)) ∷ []) → after.fault ≡ false
         → (changed : KeptPage) → changed.stamp ≡ q.stamp + 1 → (made : Token) → made ≡ token pid (old.stamp + 1)
         → Steps g (cache before table) call (answered (Ok (Ok made))) (cache after (slice_set table pid changed))
     swaps-done below went clear_after changed risen made is =
         put-set g next config recovered lru before table ready beside after call pid content reads may went clear_after (answered (Ok (Ok made))) (old.stamp + 1) changed (risen ∙ ap (λ n. n + 1) stamp) there
-        (λ s clear are. does s clear are below (Ok (Ok made)) (outcome (with_page s pid (page (old.stamp + 1) content)) (Change pid (Put content) ∷ [])) (refl, (ap (λ t. Ok t) is, refl)))
+        (λ held s _ clear are. does s clear are below (Ok (Ok made)) (outcome (with_page s pid (page (old.stamp + 1) content)) (Change pid (Put content) ∷ [])) (refl, (ap (λ t. Ok t) is, refl)))

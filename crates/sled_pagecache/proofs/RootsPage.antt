@@ -1,27 +1,18 @@
 -- The page of the named roots, in the table and in the state that the cache is in, and the calls of it as steps of the machine.
-use Rattle.sled_pagecache.proofs.Names.{Recency, ◌≡◌, ◌≢◌, ◌≤◌, ◌+◌, ◌-◌, ◌^◌, ◌⊎◌, inl, inr, ℕ, Bool, true, false, arith, List, [], ◌∷◌, length, Option, Some, None, Result, Ok, Err, refl, sym, ◌∙◌, ap, subst, slice_get, slice_set, slice_index_or, eq-eqb, ne_eqb, map-set, same_Some, Read, Write, Error, Unsupported, Refusal, LogFull, StampUsedUp, Content, Roots, Put, Event, Update, Change, unplaced, effect_of_entry, Makes, holds-made, Messages, effect_of, IsUpdate, message_of, Ghosts, Cache, IsIn, Steps, StepOver, HasNoRoom, chain_length, Went, Went-none, IsCaused, IsOfLog, begun_by, Logged, IsConsistent, HoldsChain, page, State, page_at, with_page, Outcome, outcome, unchanged, Does, RefusesSwap, token, Token, Config, StickyLog, stamps_in, Kept, GotMeta, GetMeta, FoundRoot, MetaPidForName, RootSwapped, CasRoot, PutsRoots, IsRoots, KeepsRoots, AreKeptRoots, Answer, Call}
-use Rattle.sled_base.specs.Errors.{error_of as error_by}
-use Rattle.sled_base.specs.Order.{Bytes}
-use Rattle.sled_base.specs.declared.types.Error.TheVariants.{Io, CollectionNotFound, OutOfMemory}
+use Rattle.sled_pagecache.proofs.Names.{Recency, ◌≡◌, ◌≢◌, ◌≤◌, ◌+◌, ◌-◌, ◌^◌, ◌⊎◌, inl, inr, ℕ, Bool, false, arith, List, [], ◌∷◌, length, Option, Some, None, Result, Ok, Err, refl, sym, ◌∙◌, ap, subst, slice_get, slice_set, slice_index_or, eq-eqb, ne_eqb, same_Some, Error, Unsupported, Refusal, StampUsedUp, Content, Roots, Put, Event, Update, Change, unplaced, effect_of_entry, Makes, holds-made, effect_of, IsUpdate, message_of, Ghosts, Cache, IsIn, Steps, StepOver, HasNoRoom, chain_length, Went, IsCaused, begun_by, Logged, IsConsistent, HoldsChain, page, State, page_at, with_page, Outcome, outcome, unchanged, Does, RefusesSwap, token, Token, Config, StickyLog, Kept, GotMeta, GetMeta, FoundRoot, MetaPidForName, RootSwapped, CasRoot, PutsRoots, IsRoots, KeepsRoots, AreKeptRoots, Answer, Call, error_by, Bytes, NameTooLong, TooManyNames, roots_in, AreOwn, KeptPage, view, kept-at}
+use Rattle.sled_base.specs.declared.types.Error.TheVariants.{CollectionNotFound, OutOfMemory}
 use Rattle.sled_base.specs.declared.types.Refusal.TheVariants as refusals
 use Rattle.sled_log.specs.LogState as log
-use Rattle.sled_base.specs.declared.types.Why.TheVariants.{NameTooLong, TooManyNames}
 use Rattle.sled_node.specs.Meta as meta
 use Rattle.sled_node.specs.Meta.{IsTooLong, LacksRoom, CanChange, root_of, changed_roots}
 use Rattle.sled_pagecache.proofs.Carrying.{proper-now}
-use Rattle.sled_pagecache.proofs.CacheSteps.{steps-went}
-use Rattle.sled_pagecache.proofs.Changing.{leads-same, leads-begun, leads-set}
+use Rattle.sled_pagecache.proofs.Changing.{KnowsNow, steps-uncalled}
 use Rattle.sled_pagecache.proofs.Held.{state-page}
-use Rattle.sled_pagecache.proofs.Lookups.{kept-at}
 use Rattle.sled_pagecache.proofs.ProperPages.{put-own}
-use Rattle.sled_pagecache.proofs.Putting.{MayPut, holds_unplaced, many, unless-clear}
+use Rattle.sled_pagecache.proofs.Putting.{MayPut, holds_unplaced, many, nothing-appended, put-refused, put-set, unless-clear}
 use Rattle.sled_pagecache.proofs.Standing.{found-known, known-in}
-use Rattle.sled_pagecache.proofs.TableNodes.{view}
 use Rattle.sled_pagecache.specs.Logged.{now}
-use Rattle.sled_pagecache.specs.Swaps.{roots_in}
-use Rattle.sled_pagecache.specs.Table.{AreOwn}
 use Rattle.sled_pagecache.specs.declared.pagecache.page.Kept.TheVariants as kept
-use Rattle.sled_pagecache.specs.declared.pagecache.page.Page.{Page as KeptPage}
 
 -- the page at id 0 of a cache's table keeps named roots
 pub keeps-roots : (table : List KeptPage) → AreOwn table → 2 ≤ length table → KeepsRoots table
@@ -53,12 +44,9 @@ module _ {L : Type 0} (g : Ghosts L) (next : ℕ) (config : Config) (recovered :
 
   -- ---- calls that change nothing
 
-  module _ (only : (l : List Messages) → g.tells → (g.state before.log).usable ≡ true → g.left_since before.log (g.moment before.log) l → log.IsLeft effect_of (log.unplaced_state (g.state before.log)) [] l) where
+  module _ (only : KnowsNow g before) where
     still : (call : Call) (answer : Answer) → ((s : State) → s.fault ≡ false → page_at s 0 ≡ Some (page stamp (Roots roots)) → StepOver g (cache before table) s call answer (unchanged s)) → Steps g (cache before table) call answer (cache before table)
-    still call answer step =
-        steps-went g (cache before table) (cache before table) before before call answer [] (record { config = refl; recovered = refl }) refl refl refl ready
-        (Went-none g.tells g.state g.moment g.left_since g.counts before (c.beside ready).usable only)
-        (λ held s is clear. leads-same g (cache before table) (cache before table) held s is clear call answer refl (step s clear (roots-at held s is clear)) refl ready)
+    still call answer step = steps-uncalled g next config recovered lru before table ready call answer (c.beside ready).usable only (λ held s is clear. step s clear (roots-at held s is clear))
 
     pub gets-meta : (t : Token) → t ≡ token 0 stamp → Steps g (cache before table) GetMeta (GotMeta (Ok (t, roots))) (cache before table)
     gets-meta t is = rw is (still GetMeta (GotMeta (Ok (token 0 stamp, roots))) (λ s clear there. rw (clear, there) (refl, refl)))
@@ -116,52 +104,23 @@ module _ {L : Type 0} (g : Ghosts L) (next : ℕ) (config : Config) (recovered :
           → StepOver g (cache before table) s call (RootSwapped answer) out
       risen below answer out done = does answer out (rw (ne_eqb stamp (2 ^ 64 - 1) below) done)
 
-    module _ (pages : List KeptPage) (back : pages ≡ table) where
-      nothing-put : (e : Error) → Went g.tells g.state g.moment g.left_since g.counts before after [] → after.fault ≡ false
-          → ((s : State) → s.fault ≡ false → page_at s 0 ≡ Some (page stamp (Roots roots)) → StepOver g (cache before table) s call (RootSwapped (Err e)) (unchanged s)) → Steps g (cache before table) call (RootSwapped (Err e)) (cache after pages)
-      nothing-put e went clear_after step =
-          steps-went g (cache before table) (cache after pages) before after call (RootSwapped (Err e)) [] (record { config = refl; recovered = refl }) refl refl refl ready went
-          (λ held s is clear. leads-same g (cache before table) (cache after pages) held s is clear call (RootSwapped (Err e)) refl (step s clear (roots-at held s is clear)) (ap stamps_in back) clear_after)
+    pub root-refused : (pages : List KeptPage) → pages ≡ table → Reads → (refusal : Refusal) → RefusesSwap stamp refusal
+        → (let told : Result (Unit {0}) Refusal = Err refusal in Went g before after (begun_by told (Change 0 (message_of (Put content)) ∷ [])))
+        → (let told : Result (Unit {0}) Refusal = Err refusal in IsCaused g before after (g.is_full before.log (length (message_of (Put content)).payload)) told)
+        → Steps g (cache before table) call (RootSwapped (Err (error_by refusal))) (cache after pages)
+    root-refused pages back reads refusal (inl (last, is)) =
+        rw is (λ went cause. nothing-appended g next config recovered lru before table ready (c.beside ready) after call pages back (RootSwapped (Err (Unsupported StampUsedUp))) went cause.fault
+        (λ held s is clear are. does s clear (roots-at held s is clear) (Err (Unsupported StampUsedUp)) (unchanged s) (rw (eq-eqb stamp (2 ^ 64 - 1) last) (refl, refl))))
+    root-refused pages back reads refusal (inr (below, of)) =
+        put-refused g next config recovered lru before table ready (c.beside ready) after call 0 content reads may (Unit {0}) pages back (λ e. RootSwapped (Err e))
+        (λ held s is clear are e out fails. risen s clear (roots-at held s is clear) below (Err e) out fails)
+        refusal of
 
-      put-failed : Reads → stamp ≢ 2 ^ 64 - 1 → Went g.tells g.state g.moment g.left_since g.counts before after (Change 0 (message_of (Put content)) ∷ []) → after.fault ≡ true → Steps g (cache before table) call (RootSwapped (Err (Io Write))) (cache after pages)
-      put-failed reads below went kept =
-          steps-went g (cache before table) (cache after pages) before after call (RootSwapped (Err (Io Write))) (Change 0 (message_of (Put content)) ∷ []) (record { config = refl; recovered = refl }) refl refl refl ready went
-          (λ held s is clear.
-          let m = may held s is clear in
-          leads-begun g (cache before table) (cache after pages) held s is clear call (RootSwapped (Err (Io Write))) refl 0 (Put content) reads m.may m.proper
-          (risen s clear (roots-at held s is clear) below (Err (Io Write)) (outcome (record s { fault = true }) (change ∷ [])) refl) (ap stamps_in back) kept)
-
-      by-log : stamp ≢ 2 ^ 64 - 1 → (refusal : Refusal) → (refusal ≡ refusals.Io Write → Reads) → IsOfLog refusal
-          → (let told : Result (Unit {0}) Refusal = Err refusal in Went g.tells g.state g.moment g.left_since g.counts before after (begun_by told (Change 0 (message_of (Put content)) ∷ [])))
-          → (let told : Result (Unit {0}) Refusal = Err refusal in IsCaused g.tells g.state g.moment g.left_since g.counts before after (g.is_full before.log (length (message_of (Put content)).payload)) told)
-          → Steps g (cache before table) call (RootSwapped (Err (error_by refusal))) (cache after pages)
-      by-log below refusals.OutOfMemory begun of went cause = nothing-put OutOfMemory went cause.fault (λ s clear there. risen s clear there below (Err OutOfMemory) (unchanged s) refl)
-      by-log below (refusals.Io Read) begun of went cause = nothing-put (Io Read) went cause.fault (λ s clear there. risen s clear there below (Err (Io Read)) (unchanged s) refl)
-      by-log below (refusals.Io Write) begun of went cause = put-failed (begun refl) below went cause.fault
-      by-log below (refusals.Unsupported LogFull) begun of went cause = nothing-put (Unsupported LogFull) went cause.fault (λ s clear there. risen s clear there below (Err (Unsupported LogFull)) (unchanged s) (cause.full refl, refl))
-      by-log below refusal begun of went cause = absurd of
-
-      pub root-refused : (refusal : Refusal) → (refusal ≡ refusals.Io Write → Reads) → RefusesSwap stamp refusal
-          → (let told : Result (Unit {0}) Refusal = Err refusal in Went g.tells g.state g.moment g.left_since g.counts before after (begun_by told (Change 0 (message_of (Put content)) ∷ [])))
-          → (let told : Result (Unit {0}) Refusal = Err refusal in IsCaused g.tells g.state g.moment g.left_since g.counts before after (g.is_full before.log (length (message_of (Put content)).payload)) told)
-          → Steps g (cache before table) call (RootSwapped (Err (error_by refusal))) (cache after pages)
-      root-refused refusal begun (inl (last, is)) =
-          rw is (λ went cause. nothing-put (Unsupported StampUsedUp) went cause.fault (λ s clear there. does s clear there (Err (Unsupported StampUsedUp)) (unchanged s) (rw (eq-eqb stamp (2 ^ 64 - 1) last) (refl, refl))))
-      root-refused refusal begun (inr (below, of)) = by-log below refusal begun of
-
-    pub root-swapped : Reads → stamp ≢ 2 ^ 64 - 1 → Went g.tells g.state g.moment g.left_since g.counts before after (Change 0 (message_of (Put content)) ∷ []) → after.fault ≡ false
+    pub root-swapped : Reads → stamp ≢ 2 ^ 64 - 1 → Went g before after (Change 0 (message_of (Put content)) ∷ []) → after.fault ≡ false
         → (changed : KeptPage) → changed.stamp ≡ stamp + 1 → Steps g (cache before table) call (RootSwapped (Ok (Ok tt))) (cache after (slice_set table 0 changed))
     root-swapped reads below went clear_after changed risen_to =
-        steps-went g (cache before table) (cache after (slice_set table 0 changed)) before after call (RootSwapped (Ok (Ok tt))) (Change 0 (message_of (Put content)) ∷ []) (record { config = refl; recovered = refl }) refl refl refl ready went
-        (λ held s is clear.
-        let m = may held s is clear in
-        let long = many g next config recovered lru before table ready (c.beside ready) held s is clear in
-        let both = c.both in
-        leads-set g (cache before table) (cache after (slice_set table 0 changed)) held s is clear call (RootSwapped (Ok (Ok tt))) refl 0 (Put content) reads m.may m.proper (stamp + 1) content
-        (risen s clear (roots-at held s is clear) below (Ok (Ok tt)) (outcome (with_page s 0 (page (stamp + 1) content)) (change ∷ [])) (refl, (refl, refl)))
-        (rw (ne_eqb 0 (length (now held)) (λ last. omega (arith, last, both, long))) refl)
-        (map-set (λ (p : KeptPage). p.stamp) table 0 changed ∙ ap (λ n. slice_set (stamps_in table) 0 n) risen_to)
-        clear_after)
+        put-set g next config recovered lru before table ready (c.beside ready) after call 0 content reads may went clear_after (RootSwapped (Ok (Ok tt))) (stamp + 1) changed risen_to (let both = c.both in omega (arith, both))
+        (λ held s is clear are. risen s clear (roots-at held s is clear) below (Ok (Ok tt)) (outcome (with_page s 0 (page (stamp + 1) content)) (change ∷ [])) (refl, (refl, refl)))
 
 -- ---- a page of named roots that is about to be swapped
 

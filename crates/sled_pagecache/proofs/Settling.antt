@@ -126,7 +126,7 @@ module _ {L : Type 0} (g : Ghosts L) (old mid : Cache L) where
     pub brings-moved : (pid : ℕ) (result : Result (Unit {0}) Refusal) → OnOk result (IsAway new pid → IsAway mid pid) → BringsIn g old pid result mid → BringsIn g old pid result new
     brings-moved pid result back brings = record {
       left = carried (LeavesPages g old) (left-record new.resident new.nodes new.lru brings.left);
-      cause = carried (λ cache. IsCaused g.tells g.state g.moment g.left_since g.counts (sticky_log_of old) (sticky_log_of cache) ⊥ result) brings.cause;
+      cause = carried (λ cache. IsCaused g (sticky_log_of old) (sticky_log_of cache) ⊥ result) brings.cause;
       in_memory = by result back brings.in_memory;
       sound = brings.sound;
       refused = brings.refused;

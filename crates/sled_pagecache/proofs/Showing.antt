@@ -1,21 +1,91 @@
 -- Why every run of openings shows pages after a prefix of the changes, which holds all that was flushed.
-use Rattle.sled_pagecache.proofs.Names.{Entry, seen, map, message_in, unchanged, Answer, Bool, Cache, Call, Config, Content, Err, Error, Flushed, Generated, Ghosts, IsIn, IsLogged, IsStep, List, Logged, Messages, None, Ok, Opens, Option, Result, Some, Started, State, Outcome, Why, LogFull, [], ◌∷◌, ◌++◌, ap, append-nil, arith, changes_of_start, false, fault_of, inl, inr, IfErr, log_after, Message, missing, only_stable_contents, opened, refl, subst, sym, true, unplaced_state, ℕ, ◌≡◌, ◌≢◌, ◌≤◌, ◌⊎◌, ⊎_elim, ◌∙◌, true≢false, Update, Event, StepOver, Write, Adds}
-use Rattle.std.specs.Result.{IsErrAnd}
+use Rattle.sled_pagecache.proofs.Names.{Entry, seen, map, message_in, Answer, Bool, Cache, Call, Config, Content, Err, Error, Flushed, Generated, Ghosts, IsIn, IsLogged, IsStep, List, Logged, Messages, Ok, Opens, Result, Started, State, Outcome, LogFull, [], ◌∷◌, ◌++◌, ap, append-nil, arith, changes_of_start, false, inl, inr, IfErr, Message, missing, only_stable_contents, opened, refl, subst, sym, true, unplaced_state, ℕ, ◌≡◌, ◌≢◌, ◌≤◌, ◌⊎◌, ⊎_elim, ◌∙◌, true≢false, Update, Event, StepOver, Adds, LogState, IsPrefix, Crashed, CrashedIn, Ending, HandedOn, IsEmpty, IsRun, Lasted, Leaves, LeavesUnopened, Opening, HoldsCrash, OnlyNow, left-now, AreMade, AreSteps, IsMade, ReportsBytes, IsHindrance, IsOpened, MayBeOpened, has_own, cases_Bool, drop, contents_after, length, zero, suc, AddsEvents-then, CrashKeeps-added, CrashKeeps-more, IsFair-none, contents_after-append, drop-nil}
+use Rattle.sled_pagecache.specs.Openings.{Refused}
+use Rattle.sled_pagecache.proofs.Endings.{ByCrash, ByReturn, IsFaulty, IsLeftUnopened, StaysFaulty, by-settings, crash-since, left-unopened, sound-settings, stays-faulty}
+use Rattle.sled_pagecache.proofs.Staying.{no-changes}
 use Rattle.sled_base.specs.declared.types.Error.TheVariants.{Io, OutOfMemory, Unsupported}
-use Rattle.sled_log.specs.LogState.{LogState, IsPrefix}
-use Rattle.sled_log.specs.Laws.{IsPrefix-all, IsPrefix-none}
 use Rattle.sled_pagecache.proofs.Crashing.{refuses}
-use Rattle.sled_pagecache.proofs.Histories.{SurviveAs, Tells, lacks-some, no-changes, survive-begun, survive-now, survive-part, tells-flushed, tells-made, tells-none, tells-nothing, tells-now}
 use Rattle.sled_pagecache.proofs.IdSteps.{wrote-none}
-use Rattle.sled_pagecache.proofs.Reopening.{empty-logged, kept-logged}
-use Rattle.sled_pagecache.specs.History.{History, Crashes, answered, begins, begun_by_start, behind_call, behind_calls, behind_changes, made, pages_by_now, started, started_by, starting_at}
-use Rattle.sled_pagecache.specs.Logged.{IsLeft, now}
-use Rattle.sled_pagecache.specs.Openings.{Crashed, CrashedIn, Ending, HandedOn, IsEmpty, IsRun, Lasted, Leaves, LeavesUnopened, Opening, Refused}
+use Rattle.sled_pagecache.proofs.Reopening.{empty-logged, kept-logged, IsKeptAs, kept-prefix}
+use Rattle.sled_pagecache.specs.History.{History, Crashes, answered, begins, begun_by_start, behind_call, behind_calls, behind_changes, made, pages_by_now, started, started_by, starting_at, Survives, all_flushed}
+use Rattle.sled_pagecache.specs.Logged.{IsLeft, now, AreKept}
 use Rattle.sled_pagecache.specs.Prefixes.{Ends, EndsUnopened, HasPagesOf, IsOpenedOf, RefusesAfter, ShowPrefixes}
-use Rattle.sled_pagecache.specs.Reopening.{HoldsCrash}
-use Rattle.sled_pagecache.specs.RowLaws.{OnlyNow, left-now, step-stuck}
-use Rattle.sled_pagecache.specs.Rows.{AreMade, AreSteps, IsMade, ReportsBytes}
-use Rattle.sled_pagecache.specs.Starts.{IsHindrance, IsOpened, MayBeOpened, has_own}
+use Rattle.sled_pagecache.proofs.Counting.{now-added}
+
+-- The log holds what the history says, no write has failed, and all that is flushed is durable.
+pub record Tells (h : History) (held : Logged) : Type 0 where
+  pub added : Adds (only_stable_contents h.pages) h.changes held
+  pub flushed : h.flushed ≤ added.cut
+  pub clear : h.begun ≡ []
+
+-- the pages by now are what the log holds
+pub tells-now : (h : History) (held : Logged) → Tells h held → now held ≡ pages_by_now h
+tells-now h held told = now-added (only_stable_contents h.pages) held h.changes told.added
+
+-- more was added
+pub tells-made : (h : History) (held held_then : Logged) (changes : List (Event Update)) → Tells h held → Adds held changes held_then → Tells (made changes h) held_then
+tells-made h held held_then changes told added =
+    let both = AddsEvents-then contents_after contents_after-append h.pages held.stable held_then.stable [] held.pending held_then.pending h.changes changes told.added added in
+    let flushed = told.flushed in
+    let cut = both.1 in
+    record { added = both.0; flushed = omega (arith, flushed, cut); clear = told.clear }
+
+drop-none : {A : Type 0} (n : ℕ) (xs : List A) → drop n xs ≡ [] → length xs ≤ n
+drop-none n [] is = omega arith
+drop-none zero (x ∷ xs) is = absurd (let e = is in cc)
+drop-none (suc n) (x ∷ xs) is = let h = drop-none n xs is in omega (arith, h)
+
+-- nothing is pending
+pub tells-flushed : (h : History) (held : Logged) → Tells h held → held.pending ≡ [] → Tells (all_flushed h) held
+tells-flushed h held told none = record {
+  added = told.added;
+  flushed = drop-none told.added.cut h.changes (sym told.added.pending ∙ none);
+  clear = told.clear;
+}
+
+-- nothing came yet
+pub tells-nothing : (contents : List Content) → Tells (starting_at contents) (only_stable_contents contents)
+tells-nothing contents = record {
+  added = record { cut = 0; fair = IsFair-none []; stable = refl; pending = refl };
+  flushed = omega arith;
+  clear = refl;
+}
+
+-- ---- crashes
+
+-- messages that a crash left are pages that survive it
+abbrev pub SurviveAs : History → List Messages → Type 0
+SurviveAs h pages = IsKeptAs pages (Survives h)
+
+-- what a crash leaves where these changes have begun
+pub survive-begun : (h : History) (held : Logged) (begun : List (Event Update)) → Tells h held → (pages : List Messages) → IsLeft held begun pages → SurviveAs (begins begun h) pages
+survive-begun h held begun told pages left =
+    let kept = kept-prefix held begun pages left in
+    let behind = CrashKeeps-added contents_after contents_after-append h.pages held.stable [] held.pending h.changes begun (λ contents. kept.0 ≡ contents) told.added kept.2 in
+    let flushed = told.flushed in
+    let cut = behind.1 in (
+      kept.0,
+      kept.1,
+      subst (λ (l : List (Event Update)). Survives (record h { begun = l }) kept.0) (ap (λ (l : List (Event Update)). l ++ begun) (sym told.clear))
+          (record { prefix = behind.0; holds = omega (arith, flushed, cut) }),
+    )
+
+-- where nothing has
+pub survive-now : (h : History) (held : Logged) → Tells h held → (pages : List Messages) → IsLeft held [] pages → SurviveAs h pages
+survive-now h held told pages left = subst (λ (l : List (Event Update)). SurviveAs (record h { begun = l }) pages) (append-nil h.begun) (survive-begun h held [] told pages left)
+
+-- where a prefix of them has
+pub survive-part : (h : History) (held : Logged) (part all : List (Event Update)) → Tells h held → IsPrefix part all → (pages : List Messages) → IsLeft held part pages → SurviveAs (begins all h) pages
+survive-part h held part all told prefix pages left =
+    survive-begun h held all told pages (CrashKeeps-more contents_after contents_after-append held.stable held.pending part all (AreKept pages) prefix left)
+
+-- ---- events
+
+-- a start that has changes lacks a system page
+pub lacks-some : (contents : List Content) (change : Event Update) (changes : List (Event Update)) → changes_of_start contents ≡ change ∷ changes → missing contents ≢ []
+lacks-some [] change changes is none = absurd cc
+lacks-some (x ∷ []) change changes is none = absurd cc
+lacks-some (x ∷ y ∷ contents) change changes is none = absurd (let nothing : changes_of_start (x ∷ y ∷ contents) ≡ [] = drop-nil (length contents) in let some = is in cc)
 
 module _ {L : Type 0} (g : Ghosts L) (tells : g.tells)
     (only_now : OnlyNow g)
@@ -49,17 +119,8 @@ module _ {L : Type 0} (g : Ghosts L) (tells : g.tells)
     pub clear : s.fault ≡ false
     pub told : Tells h held
 
-  -- a write fault is kept, and what crashes leave since the call that met it is known
-  record IsStuck (h : History) (cache : Cache L) (s : State) : Type 0 where
-    pub held : Logged
-    pub is : IsIn g cache held s
-    pub kept : s.fault ≡ true
-    pub since : ℕ
-    pub earlier : since ≤ g.moment cache.log
-    pub left : (pages : List Messages) → g.left_since cache.log since pages → SurviveAs h pages
-
   abbrev Stands : History → Cache L → State → Type 0
-  Stands h cache s = GoesOn h cache s ⊎ IsStuck h cache s
+  Stands h cache s = GoesOn h cache s ⊎ IsFaulty g (SurviveAs h) cache s
 
   is-in : (cache : Cache L) (s : State) (h : History) → Stands h cache s → (held : Logged) × IsIn g cache held s
   is-in cache s h (inl on) = (on.held, on.is)
@@ -80,7 +141,7 @@ module _ {L : Type 0} (g : Ghosts L) (tells : g.tells)
 
   clear-goes : (h : History) (old new : Cache L) (s : State) (call : Call) (answer : Answer) → GoesOn h old s → IsMade g old call answer new → Goes h old s call answer new
   clear-goes h old new s call answer on done =
-      record { out = one.out; step = one.step; stands = by one.out.state.fault refl; inside = g.moment old.log; later = omega arith; left = left }
+      record { out = one.out; step = one.step; stands = ⊎_elim stuck goes_on (cases_Bool one.out.state.fault); inside = g.moment old.log; later = omega arith; left = left }
     where
       one : IsStep g old call answer new on.held s
       one = done.step.from_each on.held s on.is
@@ -112,8 +173,8 @@ module _ {L : Type 0} (g : Ghosts L) (tells : g.tells)
       behind free (Generated (Ok id)) step bytes = drawn free id one.out.changes refl step bytes
       behind free answer step bytes = all free
 
-      by : (fault : Bool) → one.out.state.fault ≡ fault → Stands (behind_call answer one.out h) new one.out.state
-      by true kept =
+      stuck : one.out.state.fault ≡ true → Stands (behind_call answer one.out h) new one.out.state
+      stuck kept =
           inr (record {
             held = one.held_then;
             is = one.is;
@@ -122,7 +183,9 @@ module _ {L : Type 0} (g : Ghosts L) (tells : g.tells)
             earlier = (one.stop on.clear).later;
             left = subst (λ (b : Bool). (pages : List Messages) → g.left_since new.log (g.moment old.log) pages → SurviveAs (behind_changes b answer one.out.changes h) pages) (sym kept) left;
           })
-      by false free =
+
+      goes_on : one.out.state.fault ≡ false → Stands (behind_call answer one.out h) new one.out.state
+      goes_on free =
           inl (record {
             held = one.held_then;
             is = one.is;
@@ -130,41 +193,29 @@ module _ {L : Type 0} (g : Ghosts L) (tells : g.tells)
             told = subst (λ (b : Bool). Tells (behind_changes b answer one.out.changes h) one.held_then) (sym free) (behind free answer one.step done.bytes);
           })
 
-  stuck-goes : (h : History) (old new : Cache L) (s : State) (call : Call) (answer : Answer) → IsStuck h old s → IsMade g old call answer new → Goes h old s call answer new
-  stuck-goes h old new s call answer stuck done =
+  stuck-goes : (h : History) (old new : Cache L) (s : State) (call : Call) (answer : Answer) → IsFaulty g (SurviveAs h) old s → IsMade g old call answer new → Goes h old s call answer new
+  stuck-goes h old new s call answer faulty done =
       record {
-        out = one.out;
-        step = one.step;
+        out = stay.out;
+        step = stay.step;
         stands = inr (record {
-          held = one.held_then;
-          is = one.is;
-          kept = kept_then;
-          since = stuck.since;
-          earlier = subst (λ (l : L). stuck.since ≤ g.moment l) (sym same) stuck.earlier;
-          left = subst (λ (b : Bool). (pages : List Messages) → g.left_since new.log stuck.since pages → SurviveAs (behind_changes b answer one.out.changes h) pages) (sym kept_then) left;
+          held = stay.faulty.held;
+          is = stay.faulty.is;
+          kept = stay.faulty.kept;
+          since = stay.faulty.since;
+          earlier = stay.faulty.earlier;
+          left = subst (λ (b : Bool). (pages : List Messages) → g.left_since new.log stay.faulty.since pages → SurviveAs (behind_changes b answer stay.out.changes h) pages) (sym stay.faulty.kept) left;
         });
-        inside = stuck.since;
-        later = stuck.earlier;
+        inside = stay.faulty.since;
+        later = stay.before;
         left = left;
       }
     where
-      one : IsStep g old call answer new stuck.held s
-      one = done.step.from_each stuck.held s stuck.is
+      stay : StaysFaulty g (SurviveAs h) old s call answer new
+      stay = stays-faulty g (SurviveAs h) old new s call answer faulty done
 
-      same : new.log ≡ old.log
-      same = one.stuck stuck.kept
-
-      unchanged_is : one.out ≡ unchanged (record s { batch = one.out.state.batch })
-      unchanged_is = step-stuck g old s call answer one.out one.step stuck.kept
-
-      kept_then : one.out.state.fault ≡ true
-      kept_then = ap (λ (o : Outcome). o.state.fault) unchanged_is ∙ stuck.kept
-
-      still : h.begun ++ one.out.changes ≡ h.begun
-      still = ap (λ (o : Outcome). h.begun ++ o.changes) unchanged_is ∙ append-nil h.begun
-
-      left : (pages : List Messages) → g.left_since new.log stuck.since pages → SurviveAs (begins one.out.changes h) pages
-      left pages since = subst (λ (l : List (Event Update)). SurviveAs (record h { begun = l }) pages) (sym still) (stuck.left pages (subst (λ (l : L). g.left_since l stuck.since pages) same since))
+      left : (pages : List Messages) → g.left_since new.log stay.faulty.since pages → SurviveAs (begins stay.out.changes h) pages
+      left pages since = subst (λ (l : List (Event Update)). SurviveAs (record h { begun = l }) pages) (sym (ap (λ (l : List (Event Update)). h.begun ++ l) stay.none ∙ append-nil h.begun)) (stay.faulty.left pages since)
 
   goes : (h : History) (old new : Cache L) (s : State) (call : Call) (answer : Answer) → Stands h old s → IsMade g old call answer new → Goes h old s call answer new
   goes h old new s call answer (inl on) done = clear-goes h old new s call answer on done
@@ -198,7 +249,7 @@ module _ {L : Type 0} (g : Ghosts L) (tells : g.tells)
       pub stands : Stands (started h) first (opened config (pages_by_now h))
 
     begins-so : (first : Cache L) → Started g l config (Ok first) → Begins first
-    begins-so first begun = by (fault_of config) refl
+    begins-so first begun = of_start (begun.opens (sound-settings g l config first begun) found.held found.logged)
       where
         of_start : IsOpened g l config found.held first → Begins first
         of_start start = record {
@@ -218,13 +269,11 @@ module _ {L : Type 0} (g : Ghosts L) (tells : g.tells)
                 tells-flushed (made (change ∷ changes) h) start.held_then (subst (λ (l : List (Event Update)). Tells (made l h) start.held_then) is all)
                 (start.stable (λ none. lacks-some (pages_by_now h) change changes is (subst (λ (contents : List Content). missing contents ≡ []) pages_are none)))
 
-        by : (fault : Option Why) → fault_of config ≡ fault → Begins first
-        by (Some why) wrong = (let e = begun.settings why wrong in absurd cc)
-        by None sound = of_start (begun.opens sound found.held found.logged)
-
     -- why no cache was opened
     why-refused : (result : Result (Cache L) (Error × L)) → Started g l config result → IfErr result (λ e. RefusesAfter h config e.0)
-    why-refused result begun = by (fault_of config) refl
+    why-refused result begun =
+        by-settings config (λ why wrong. subst (λ (r : Result (Cache L) (Error × L)). IfErr r (λ e. RefusesAfter h config e.0)) (sym (begun.settings why wrong)) (inl wrong))
+        (λ sound. of_result result (begun.opens sound found.held found.logged))
       where
         hinders : (error : Error) → IsHindrance error → changes_of_start (now found.held) ≢ [] → RefusesAfter h config error
         hinders OutOfMemory why some = inl tt
@@ -240,52 +289,19 @@ module _ {L : Type 0} (g : Ghosts L) (tells : g.tells)
             by-start [] none = inl (refuses g l refused.1 config found.held refused.0 none opens)
             by-start (change ∷ changes) some = hinders refused.0 opens.why (λ none. let a = sym some ∙ none in absurd cc)
 
-        by : (fault : Option Why) → fault_of config ≡ fault → IfErr result (λ e. RefusesAfter h config e.0)
-        by (Some why) wrong = subst (λ (r : Result (Cache L) (Error × L)). IfErr r (λ e. RefusesAfter h config e.0)) (sym (begun.settings why wrong)) (inl wrong)
-        by None sound = of_result result (begun.opens sound found.held found.logged)
-
     -- what is left where none was
     unopened : (result : Result (Cache L) (Error × L)) (left : L) → MayBeOpened g l → Started g l config result → LeavesUnopened g l result left → Unopened h left
-    unopened result left may begun leaves = by (fault_of config) refl
+    unopened result left may begun leaves = by (left-unopened g only_now tells found.held l left config result found.logged may begun leaves)
       where
-        -- a crash meanwhile
-        crashed : (after : History) × Crashes (begins (begun_by_start h) h) after × IsFound after left → Unopened h left
-        crashed (after, crash, after_found) = (after, inl crash, after_found)
+        same : (begun : List (Event Update)) → IsPrefix begun (changes_of_start (now found.held)) → IsPrefix begun (begun_by_start h)
+        same begun = subst (λ (contents : List Content). IsPrefix begun (changes_of_start contents)) pages_are
 
-        part-left : (part : List (Event Update)) → IsPrefix part (changes_of_start (now found.held)) → (pages : List Messages) → IsLeft found.held part pages → SurviveAs (begins (begun_by_start h) h) pages
-        part-left part prefix = survive-part h found.held part (begun_by_start h) found.told (subst (λ (contents : List Content). IsPrefix part (changes_of_start contents)) pages_are prefix)
-
-        untouched : (e : Error) → result ≡ Err (e, l) → Unopened h left
-        untouched e same =
-            ⊎_elim
-            (λ crash. crashed (crash-found (begins (begun_by_start h) h) (g.moment l) l left (subst (λ r. HoldsCrash g (log_after r) (g.moment l) left) same crash)
-            (λ pages since. part-left [] (IsPrefix-none (changes_of_start (now found.held))) pages (left-now (unplaced_state (g.state l)) found.held pages found.logged (only_now l pages tells may.0 since)))))
-            (λ back. (
-              made [] h,
-              inr ([], IsPrefix-none (begun_by_start h), refl),
-              subst (IsFound (made [] h)) (sym (subst (λ r. IsErrAnd r (λ e. (e.0 ≢ Io Write) × (left ≡ e.1))) same back).1) (record { held = found.held; logged = found.logged; told = tells-none h found.held found.told }),
-            )) leaves
-
-        of_result : (result : Result (Cache L) (Error × L)) → Opens g l config found.held result → LeavesUnopened g l result left → Unopened h left
-        of_result (Ok cache) start leaves =
-            ⊎_elim
-            (λ crash. crashed (crash-found (begins (begun_by_start h) h) (g.moment l) cache.log left crash
-            (λ pages since. part-left (changes_of_start (now found.held)) (IsPrefix-all (changes_of_start (now found.held))) pages (start.stop.each pages since))))
-            (λ back. absurd back) leaves
-        of_result (Err refused) start leaves =
-            ⊎_elim
-            (λ crash. crashed (crash-found (begins (begun_by_start h) h) (g.moment l) refused.1 left crash
-            (λ pages since. part-left start.begun (start.rest, start.are) pages (start.stop.each pages since))))
-            (λ back.
-            let adds = start.added back.0 in (
-              made start.begun h,
-              inr (start.begun, subst (λ (contents : List Content). IsPrefix start.begun (changes_of_start contents)) pages_are (start.rest, start.are), refl),
-              subst (IsFound (made start.begun h)) (sym back.1) (record { held = adds.held_then; logged = adds.logged; told = tells-made h found.held adds.held_then start.begun found.told adds.added }),
-            )) leaves
-
-        by : (fault : Option Why) → fault_of config ≡ fault → Unopened h left
-        by (Some why) wrong = untouched (Unsupported why) (begun.settings why wrong)
-        by None sound = of_result result (begun.opens sound found.held found.logged) leaves
+        by : IsLeftUnopened g found.held l left → Unopened h left
+        by (ByCrash crashed begun prefix crash each) =
+            let after = crash-found (begins (begun_by_start h) h) (g.moment l) crashed left crash (λ pages since. survive-part h found.held begun (begun_by_start h) found.told (same begun prefix) pages (each pages since)) in
+            (after.0, inl after.1, after.2)
+        by (ByReturn begun prefix held_then logged added) =
+            (made begun h, inr (begun, same begun prefix, refl), record { held = held_then; logged = logged; told = tells-made h found.held held_then begun found.told added })
 
   -- how it ends
   crash-ends : (h : History) (last : Cache L) (t : State) (left : L) → Stands h last t → HoldsCrash g last.log (g.moment last.log) left → (after : History) × Crashes h after × IsFound after left
@@ -294,13 +310,13 @@ module _ {L : Type 0} (g : Ghosts L) (tells : g.tells)
       crash-found h (g.moment last.log) last.log left crash
       (λ pages since. survive-now h on.held on.told pages (left-now (unplaced_state (g.state last.log)) on.held pages known.logged (only_now last.log pages tells known.usable since)))
   crash-ends h last t left (inr stuck) crash =
-      crash-found h stuck.since last.log left (record { at = crash.at; later = let a = stuck.earlier in let b = crash.later in omega (arith, a, b); pages = crash.pages; left = crash.left; holds = crash.holds }) stuck.left
+      crash-found h stuck.since last.log left (crash-since g last.log left stuck.since (g.moment last.log) stuck.earlier crash) stuck.left
 
   ends : (h : History) (last : Cache L) (t : State) (ending : Ending) (left : L) → Stands h last t → Leaves g last ending left → (after : History) × Ends g last t h ending after × IsFound after left
   ends h last t Crashed left stands crash = crash-ends h last t left stands crash
   ends h last t (CrashedIn call answer) left stands (new, done, crash) =
       let one = goes h last new t call answer stands done in
-      let found = crash-found (begins one.out.changes h) one.inside new.log left (record { at = crash.at; later = let a = one.later in let b = crash.later in omega (arith, a, b); pages = crash.pages; left = crash.left; holds = crash.holds }) one.left in
+      let found = crash-found (begins one.out.changes h) one.inside new.log left (crash-since g new.log left one.inside (g.moment last.log) one.later crash) one.left in
       (found.0, (one.out, one.step, found.1), found.2)
   ends h last t HandedOn left (inl on) (clear, same) = (h, (on.clear, refl), subst (IsFound h) (sym same) (record { held = on.held; logged = (on.is.known on.clear).logged; told = on.told }))
   ends h last t HandedOn left (inr stuck) (clear, same) = absurd (true≢false (sym stuck.kept ∙ stuck.is.fault ∙ clear))

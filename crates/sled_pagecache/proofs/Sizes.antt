@@ -1,8 +1,5 @@
 -- How much of the log the messages of a page take, beside those of its chain.
-use Rattle.sled_pagecache.proofs.Names.{Recency, ◌≡◌, ◌<◌, ◌^◌, ◌+◌, ℕ, ℤ, false, true, Bool, List, [], ◌∷◌, ◌++◌, map, Option, None, Some, slice_get, refl, sym, ◌∙◌, ap, subst, arith, none-some, same_Some, slice_get-map, option_map, slice_index_or, zero, suc, length, AllZip, AllByRecursion, ◌-◌, sum_by, sum_by-cons, DiskPtr, Chain, Entry, effect_of_entry, said_of, IsSized, Ghosts, chain_size, place_of, IsKept, is_free, IsConsistent, infos_after, Config, CacheInfo, StickyLog, Kept, Page, sum_by_push, head_size, capped, AreSized, size_in, access_size, size_if, node_access_size, size_linked}
-use Rattle.std.specs.Prelude.{nat_lt, min, if◌then◌else◌}
-use Rattle.sled_log.specs.LogState as log
-use Rattle.sled_pagecache.proofs.TableNodes.{view}
+use Rattle.sled_pagecache.proofs.Names.{Recency, ◌≡◌, ◌<◌, ◌^◌, ◌+◌, ℕ, ℤ, false, true, Bool, List, [], ◌∷◌, ◌++◌, map, Option, None, Some, slice_get, refl, sym, ◌∙◌, ap, arith, none-some, same_Some, slice_get-map, option_map, slice_index_or, length, ◌-◌, sum_by, sum_by-cons, DiskPtr, Chain, Entry, effect_of_entry, said_of, IsSized, Ghosts, chain_size, place_of, IsKept, is_free, IsConsistent, infos_after, Config, CacheInfo, StickyLog, Kept, Page, sum_by_push, head_size, capped, AreSized, size_in, access_size, size_if, node_access_size, size_linked, nat_lt, min, if◌then◌else◌, now, AllZip-long, slice_get_within, slice_get-get_or, view, all-at, kept-at}
 use Rattle.sled_pagecache.specs.declared.pagecache.page.Kept.TheVariants as kept
 
 abbrev Place : Type 0
@@ -36,29 +33,29 @@ pub sized-view : {L : Type 0} (g : Ghosts L) (next : ℕ) (config : Config) (rec
 sized-view g next config recovered lru sticky_log pages free is told clear pid size has = by (slice_get pages pid) refl
   where
     chains : List Chain
-    chains = log.now effect_of_entry (g.state sticky_log.log)
+    chains = now effect_of_entry (g.state sticky_log.log)
 
-    sized-at : (chains : List Chain) (pages : List Page) (pid : ℕ) (q : Page) → AllZip IsKept chains pages → AllByRecursion IsSized chains → slice_get pages pid ≡ Some q → is_free q.kept ≡ false
-        → access_size q ≡ sum_by (λ (entry : Entry). entry.place.log_size) (slice_index_or chains pid [])
-    sized-at chains [] pid q zip all at full = absurd (none-some q at)
-    sized-at [] (p ∷ pages) pid q zip all at full = absurd zip
-    sized-at (chain ∷ chains) (p ∷ pages) zero q zip all at full = page-size chain q (subst (IsKept chain) (same_Some p q at) zip.0) all.0 full
-    sized-at (chain ∷ chains) (p ∷ pages) (suc pid) q zip all at full = sized-at chains pages pid q zip.1 all.1 at full
+    sized-at : (q : Page) → slice_get pages pid ≡ Some q → is_free q.kept ≡ false → access_size q ≡ sum_by (λ (entry : Entry). entry.place.log_size) (slice_index_or chains pid [])
+    sized-at q at full =
+        let kept = (is.beside clear).kept told in
+        let long = AllZip-long IsKept chains pages kept in
+        let within = slice_get_within pages pid q at in
+        page-size (slice_index_or chains pid []) q (kept-at chains pages pid q kept at)
+        (all-at IsSized chains pid (slice_index_or chains pid []) ((is.beside clear).sized told) (slice_get-get_or chains pid [] (omega (arith, long, within)))) full
 
     by : (o : Option Page) → slice_get pages pid ≡ o → size ≡ chain_size g.state (view next config recovered lru sticky_log pages) pid
     by None past = absurd (none-some (Some size) (sym (slice_get-map (λ (p : Page). node_access_size p) pages pid ∙ ap (option_map (λ (p : Page). node_access_size p)) past) ∙ has))
     by (Some q) at =
         let full = node-full (access_size q) size q.kept (same_Some (node_access_size q) (Some size) (sym (slice_get-map (λ (p : Page). node_access_size p) pages pid ∙ ap (option_map (λ (p : Page). node_access_size p)) at) ∙ has)) in
-        full.1 ∙ sized-at chains pages pid q ((is.beside clear).kept told) ((is.beside clear).sized told) at full.0
+        full.1 ∙ sized-at q at full.0
 
 -- ---- what is accessed
 
 -- a page of one message, which is so long
-pub size-alone : (infos : List CacheInfo) (info : CacheInfo) (payload : ℕ) → infos ≡ info ∷ [] → info.log_size ≡ head_size + payload → capped (min (0 + head_size + payload) (2 ^ 64 - 1)) ≡ capped (size_in infos)
-size-alone infos info payload alone is = sized (info.log_size) is ∙ ap (λ (infos : List CacheInfo). capped (size_in infos)) (sym alone)
-  where
-    sized : (size : ℕ) → size ≡ head_size + payload → capped (min (0 + head_size + payload) (2 ^ 64 - 1)) ≡ capped (size_in (info ∷ []))
-    sized size same = let one : size_in (info ∷ []) ≡ head_size + payload = sum_by-cons (λ (info : CacheInfo). info.log_size) info [] ∙ omega (arith, is) in omega (arith, one)
+pub size-alone : (infos : List CacheInfo) (info : CacheInfo) (payload : ℕ) → infos ≡ info ∷ [] → info.log_size ≡ head_size + payload → capped (head_size + payload) ≡ capped (size_in infos)
+size-alone infos info payload alone is =
+    let one : size_in (info ∷ []) ≡ head_size + payload = sum_by-cons (λ (info : CacheInfo). info.log_size) info [] ∙ omega (arith, is) in
+    ap capped (sym one) ∙ ap (λ (infos : List CacheInfo). capped (size_in infos)) (sym alone)
 
 -- a page with the message of a link
 pub size-link : (infos : List CacheInfo) (page : Page) (info : CacheInfo) (payload : ℕ) → page.infos.items ≡ infos_after infos info → info.log_size ≡ head_size + payload → capped (size_linked infos payload) ≡ access_size page

@@ -1,11 +1,8 @@
 -- The pages of the state that a cache is in, beside those of its table.
-use Rattle.sled_pagecache.proofs.Names.{◌≡◌, ◌≤◌, ◌<◌, ℕ, zero, suc, Bool, true, false, List, [], ◌∷◌, ◌++◌, length, map, Some, None, slice_get, slice_set, refl, sym, ◌∙◌, ap, subst, arith, length-map, none-some, same_Some, AllZip-long, AllZip, is_freeing, is_empty, Content, Free, Counter, Roots, Node, Damaged, Put, effect_of_update, Chain, Entry, Messages, unplaced, effect_of, effect_of_entry, LeadTo, Makes, Holds, Hold, reads_effect, Ghosts, applied, WholeNode, Cache, IsIn, Logged, HoldsChain, IsKept, State, stamps_in, resident_in, IsBeside, CacheInfo, Kept}
-use Rattle.sled_log.specs.LogState as log
-use Rattle.sled_pagecache.proofs.PagesAt.{holds_now}
+use Rattle.sled_pagecache.proofs.Names.{◌≡◌, ◌≤◌, ◌<◌, ℕ, zero, suc, Bool, true, false, List, [], ◌∷◌, ◌++◌, length, map, Some, None, slice_get, slice_set, refl, sym, ◌∙◌, ap, subst, arith, length-map, none-some, same_Some, AllZip-long, AllZip, is_freeing, is_empty, Content, Counter, Roots, Node, Damaged, Put, effect_of_update, Chain, Entry, Messages, unplaced, effect_of, effect_of_entry, LeadTo, Makes, Holds, Hold, reads_effect, Ghosts, applied, WholeNode, Cache, IsIn, Logged, HoldsChain, IsKept, State, stamps_in, resident_in, IsBeside, CacheInfo, Kept, KeptPage, LogState, now, slice_get_past, get_set_there, last-at, map-at, past-end, holds_now}
 use Rattle.sled_pagecache.specs.Pages as kept
 use Rattle.sled_pagecache.specs.State.{StampedPage, is_free}
 use Rattle.sled_pagecache.specs.declared.pagecache.page.Kept.TheVariants as held
-use Rattle.sled_pagecache.specs.declared.pagecache.page.Page.{Page as KeptPage}
 
 -- ---- a chain is empty where what it makes is free
 
@@ -14,8 +11,7 @@ linked-full node [] content leads = ap is_free (sym leads)
 linked-full node (m ∷ messages) content (other, link, is, reads, accepts, leads) = linked-full (applied link other) messages content leads
 
 put-free : (content : Content) → is_freeing (effect_of_update (Put content)) ≡ is_free content
-put-free Free = refl
-put-free content = refl
+put-free content = grind arith
 
 lead-free : (first : Content) (messages : Messages) (content : Content) → LeadTo first messages content → is_free first ≡ is_free content
 lead-free first [] content leads = ap is_free leads
@@ -31,8 +27,7 @@ pub node-full : (chain : Chain) (node : WholeNode) → Makes (unplaced chain) (N
 node-full chain node makes = chain-free chain (Node node) makes
 
 pub full-unplaced : (chain : Chain) → is_empty effect_of (unplaced chain) ≡ is_empty effect_of_entry chain
-full-unplaced [] = refl
-full-unplaced (entry ∷ chain) = refl
+full-unplaced chain = grind arith
 
 -- the same of what its page holds
 pub holds-free : (chain : Chain) (content : Content) → Holds (unplaced chain) content → is_empty effect_of_entry chain ≡ is_free content
@@ -71,8 +66,8 @@ module _ {L : Type 0} (g : Ghosts L) where
   pub known-in : (cache : Cache L) (table : List KeptPage) (held_by : Logged) (s : State)
       → IsIn g cache held_by s → s.fault ≡ false → cache.stamps ≡ stamps_in table → IsBeside g.tells g.state cache.log table → AreKnown s.pages table
   known-in cache table held_by s is clear same beside =
-      are-known s.pages (log.now effect_of_entry (g.state cache.log)) table (is.stamps ∙ same)
-      (subst (λ (l : List Content). Hold (map unplaced (log.now effect_of_entry (g.state cache.log))) l) (sym (is.known clear).contents) (holds_now (g.state cache.log) held_by (is.known clear).logged))
+      are-known s.pages (now effect_of_entry (g.state cache.log)) table (is.stamps ∙ same)
+      (subst (λ (l : List Content). Hold (map unplaced (now effect_of_entry (g.state cache.log))) l) (sym (is.known clear).contents) (holds_now (g.state cache.log) held_by (is.known clear).logged))
       (beside.kept is.tells)
 
 -- ---- one of them
@@ -95,26 +90,20 @@ found-known (p ∷ pages) (k ∷ table) (suc pid) q known at =
 
 -- there is none where the table ends
 pub found-none : (pages : List StampedPage) (table : List KeptPage) (pid : ℕ) → AreKnown pages table → slice_get table pid ≡ None → slice_get pages pid ≡ None
-found-none [] table pid known at = refl
-found-none (p ∷ pages) [] pid known at = absurd known
-found-none (p ∷ pages) (k ∷ table) zero known at = absurd (none-some k (sym at))
-found-none (p ∷ pages) (k ∷ table) (suc pid) known at = found-none pages table pid known.1 at
+found-none pages table pid known at = slice_get_past pages pid (let past = past-end table pid at in let long = known-length pages table known in omega (arith, past, long))
 
 -- ---- the table
 
 -- it has a page for each chain
-pub beside-long : {L : Type 0} (tells : Type 0) (state : L → log.LogState Entry) (l : L) (table : List KeptPage) → IsBeside tells state l table → tells → length table ≡ length (log.now effect_of_entry (state l))
-beside-long tells state l table beside unplaced = AllZip-long IsKept (log.now effect_of_entry (state l)) table (beside.kept unplaced)
+pub beside-long : {L : Type 0} (tells : Type 0) (state : L → LogState Entry) (l : L) (table : List KeptPage) → IsBeside tells state l table → tells → length table ≡ length (now effect_of_entry (state l))
+beside-long tells state l table beside unplaced = AllZip-long IsKept (now effect_of_entry (state l)) table (beside.kept unplaced)
 
 -- a page lies in memory where its content does
 pub resident-set : (table : List KeptPage) (pid : ℕ) (page : KeptPage) → pid < length table → kept.is_resident page.kept ≡ true → slice_get (resident_in (slice_set table pid page)) pid ≡ Some true
-resident-set [] pid page there holds = absurd (omega (arith, there))
-resident-set (k ∷ table) zero page there holds = ap (λ (b : Bool). Some b) holds
-resident-set (k ∷ table) (suc pid) page there holds = resident-set table pid page (omega (arith, there)) holds
+resident-set table pid page there holds = map-at (λ (q : KeptPage). kept.is_resident q.kept) (slice_set table pid page) pid page (get_set_there table pid page there) ∙ ap (λ (b : Bool). Some b) holds
 
 pub resident-add : (table : List KeptPage) (page : KeptPage) (node : WholeNode) → page.kept ≡ held.Node node → slice_get (resident_in (table ++ page ∷ [])) (length table) ≡ Some true
-resident-add [] page node holds = ap (λ (q : Kept). Some (kept.is_resident q)) holds
-resident-add (k ∷ table) page node holds = resident-add table page node holds
+resident-add table page node holds = map-at (λ (q : KeptPage). kept.is_resident q.kept) (table ++ page ∷ []) (length table) page (last-at table page) ∙ ap (λ (q : Kept). Some (kept.is_resident q)) holds
 
 -- a page of one message has a chain of one
 pub one-long : (chain : Chain) (page : KeptPage) → IsKept chain page → map (λ (info : CacheInfo). info.ts) page.infos.items ≡ page.stamp ∷ [] → length chain ≡ 1

@@ -1,10 +1,7 @@
 -- The pages that a cache is opened with.
-use Rattle.sled_pagecache.proofs.Names.{◌≡◌, ◌≤◌, ◌<◌, ◌^◌, ℕ, zero, suc, Bool, true, false, cond, List, [], ◌∷◌, ◌++◌, length, map, take, drop, set, get_or, slice_get, slice_index_or, Option, None, Some, is_some, Result, Ok, refl, sym, ◌∙◌, ap, subst, arith, eq-eqb, drop-nil, take-nil, take-append_seam, false≢true, nat_tests, length-append, length-map, append-nil, AllZip-long, slice_get-get_or, slice_get_past, slice_get_within, none-some, same_Some, AllByRecursion, AllZip, IfSome, DiskPtr, Refusal, Io, Corruption, OutOfMemory, is_open, open_after, is_chain, is_empty, changed, Content, Put, Event, Change, Message, Entry, Chain, Messages, unplaced, placed, effect_of, effect_of_entry, holds-made, IsSized, Makes, Holds, Hold, IsLeft, now, unplaced_state, message_of, zip-append, Ghosts, place_of, roots_event, IsLoaded, IsUnread, AreRecovered, AreRead, AreFound, IsFoundAt, IsOwnAt, IfSome_then, IsTable, IsOpenedWith, RefusesOwn, RefusesPages, next_id, counter_event, events_of_roots, events_at_start, stamps_at_start, first_id, HoldsChain, IsKept, is_resident, freed_at, free_ids, Proceeds, refusal_in, is_misfit, AllFit, BeginsMisfit, IsFit, Wrote, IsRoots, IsCounter, IsFreeOrNode, AreOwn, IsConsistent, stamps_in, resident_in, CacheInfo, Config, StickyLog, Kept, Page, get_or_from_slice_get, zip-at}
+use Rattle.sled_pagecache.proofs.Names.{◌≡◌, ◌≤◌, ◌<◌, ◌^◌, ℕ, zero, suc, Bool, true, false, cond, List, [], ◌∷◌, ◌++◌, length, map, take, drop, set, get_or, slice_get, slice_index_or, Option, None, Some, is_some, Result, Ok, refl, sym, ◌∙◌, ap, subst, arith, eq-eqb, drop-nil, take-nil, take-append_seam, nat_tests, length-append, length-map, append-nil, AllZip-long, slice_get-get_or, slice_get_past, slice_get_within, none-some, same_Some, AllByRecursion, AllZip, IfSome, DiskPtr, Refusal, Io, Corruption, OutOfMemory, is_open, open_after, is_chain, is_empty, changed, Content, Put, Event, Change, Message, Entry, Chain, Messages, unplaced, placed, effect_of, effect_of_entry, holds-made, IsSized, Makes, Holds, Hold, IsLeft, now, unplaced_state, message_of, zip-append, Ghosts, place_of, roots_event, IsLoaded, IsUnread, AreRecovered, AreRead, AreFound, IsFoundAt, IsOwnAt, IfSome_then, IsTable, IsOpenedWith, RefusesOwn, RefusesPages, next_id, counter_event, events_of_roots, events_at_start, stamps_at_start, first_id, HoldsChain, IsKept, is_resident, freed_at, free_ids, Proceeds, refusal_in, is_misfit, AllFit, BeginsMisfit, IsFit, Wrote, IsRoots, IsCounter, IsFreeOrNode, AreOwn, IsConsistent, stamps_in, resident_in, CacheInfo, Config, StickyLog, Kept, Page, get_or_from_slice_get, zip-at, begin_page, Counter, Roots, add-by-id, all-by-id, at-id, by-id-all, past-two, zip-first, zip-second}
 use Rattle.sled_base.specs.declared.kinds.LogKind.TheVariants as effects
-use Rattle.sled_log.specs.Chains.{begun as begin_page}
-use Rattle.sled_log.specs.Contents as contents
 use Rattle.sled_node.specs.Meta as meta
-use Rattle.sled_pagecache.proofs.ByIds.{add-by-id, all-by-id, at-id, by-id-all, past-two, zip-first, zip-second}
 use Rattle.sled_pagecache.proofs.ProperPages.{all-append}
 use Rattle.sled_pagecache.proofs.Linked.{full-free}
 use Rattle.sled_pagecache.proofs.OwnPages.{IsOwn, own-one, misfit-unfit, first-pointer}
@@ -19,7 +16,7 @@ new-chain : (held : List Chain) (pid : ℕ) (entry : Entry) → pid ≡ length h
 new-chain held pid entry is = ap (λ b. cond b (held ++ (entry ∷ []) ∷ []) (set held pid (entry ∷ []))) (eq-eqb pid (length held) is)
 
 module _ {L : Type 0} (g : Ghosts L) where
-  module _ (old new : StickyLog L) (pid stamp : ℕ) (content : Content) (info : CacheInfo) (wrote : Wrote g.tells g.state g.moment g.left_since g.counts g.is_full old new pid (Put content) stamp (Ok info)) where
+  module _ (old new : StickyLog L) (pid stamp : ℕ) (content : Content) (info : CacheInfo) (wrote : Wrote g old new pid (Put content) stamp (Ok info)) where
     abbrev entry : Entry
     entry = placed (message_of (Put content)) (place_of info)
 
@@ -39,25 +36,25 @@ module _ {L : Type 0} (g : Ghosts L) where
               let held = now effect_of_entry (g.state old.log) in
               let long : length pages ≡ length held = AllZip-long IsKept held pages (table.kept known) in
               let is : now effect_of_entry (g.state new.log) ≡ held ++ (entry ∷ []) ∷ [] =
-              wrote.chains known ∙ ap (λ kind. changed effect_of_entry kind held pid entry) effect ∙ new-chain held pid entry (last ∙ long) in
+              wrote.writes.chains known ∙ ap (λ kind. changed effect_of_entry kind held pid entry) effect ∙ new-chain held pid entry (last ∙ long) in
               let kept : IsKept (entry ∷ []) page = record { places = λ _. sym (ap (map place_of) infos); long = sym (ap length infos); holds = holds (entry ∷ []) (content, wrote.is, refl) } in
               subst (λ (l : List Chain). AllZip IsKept l (pages ++ page ∷ [])) (sym is) (zip-append IsKept held pages ((entry ∷ []) ∷ []) (page ∷ []) (table.kept known) (kept, tt));
           hold = (add-by-id _ pages page table.hold.0 (subst (λ n. IsOwnAt n page.kept) last own), all-append _ pages (page ∷ []) table.hold.1 ((omega (arith, one)), tt));
           few = let l = length-append pages (page ∷ []) in omega (arith, l, last, few);
-          chains_are = λ known. went-chains g.tells g.state g.moment g.left_since g.counts old new (Change pid (message_of (Put content)) ∷ []) wrote.went known wrote.cause.fault (table.chains_are known);
-          sized = wrote.sized;
+          chains_are = λ known. went-chains g old new (Change pid (message_of (Put content)) ∷ []) wrote.writes.went known wrote.writes.cause.fault (table.chains_are known);
+          sized = wrote.writes.sized;
         })
 
   -- the page of the named roots, of which there are none
   pub wrote-roots : (old new : StickyLog L) (stamp : ℕ) (result : Result CacheInfo Refusal) (roots : meta.Roots) (pages : List Page)
       → ((pages : List Messages) → g.tells → (g.state old.log).usable ≡ true → g.left_since old.log (g.moment old.log) pages → IsLeft effect_of (unplaced_state (g.state old.log)) [] pages)
       → old.fault ≡ false → (g.state old.log).usable ≡ true → roots ≡ [] → pages ≡ []
-      → Wrote g.tells g.state g.moment g.left_since g.counts g.is_full old new 0 (Put (contents.Roots roots)) stamp result
+      → Wrote g old new 0 (Put (Roots roots)) stamp result
       → Proceeds g old new (events_of_roots pages) (refusal_in result)
   wrote-roots old new stamp result roots pages only clear usable none empty wrote =
       subst (λ (l : List Page). Proceeds g old new (events_of_roots l) (refusal_in result)) (sym empty)
-      (subst (λ (r : meta.Roots). Proceeds g old new (Change 0 (message_of (Put (contents.Roots r))) ∷ []) (refusal_in result)) none
-      (proceeds-unplaced g old new (Change 0 (message_of (Put (contents.Roots roots)))) result only clear usable wrote.went wrote.cause))
+      (subst (λ (r : meta.Roots). Proceeds g old new (Change 0 (message_of (Put (Roots r))) ∷ []) (refusal_in result)) none
+      (proceeds-unplaced g old new (Change 0 (message_of (Put (Roots roots)))) result only clear usable wrote.writes.went wrote.writes.cause))
 
 -- ---- the contents of the system pages
 
@@ -74,9 +71,7 @@ loaded-with chain page other content is own makes stamp infos holds = record {
 }
 
 unread-node : (held : Kept) → IsUnread held → IsFreeOrNode held
-unread-node kept.Free unread = tt
-unread-node kept.Away unread = tt
-unread-node held unread = absurd unread
+unread-node held unread = grind arith
 
 -- a page that was recovered
 pub loaded-at : {tells : Type 0} (pid : ℕ) (held then : List Chain) (pages : List Page) (page : Page) → AreRecovered tells held pages → tells → then ≡ held → slice_get pages pid ≡ Some page → IsLoaded (slice_index_or then pid []) page
@@ -94,11 +89,11 @@ second-none [] other none = omega arith
 second-none (x ∷ []) other none = omega arith
 second-none (x ∷ y ∷ pages) other none = absurd cc
 
-module _ {tells : Type 0} (held : List Chain) (roots : meta.Roots) (n : ℕ) (makes : tells → Makes (unplaced (slice_index_or held 0 [])) (contents.Roots roots)) where
+module _ {tells : Type 0} (held : List Chain) (roots : meta.Roots) (n : ℕ) (makes : tells → Makes (unplaced (slice_index_or held 0 [])) (Roots roots)) where
   pub read-both : (then : List Chain) (pages : List Page) (p q first second : Page) → (tells → then ≡ held) → AreRecovered tells held pages → 1 < length pages
       → p ≡ get_or pages 0 p → first.stamp ≡ p.stamp → first.infos.items ≡ p.infos.items → first.kept ≡ kept.Roots roots
       → q ≡ get_or (set pages 0 first) 1 q → second.stamp ≡ q.stamp → second.infos.items ≡ q.infos.items → second.kept ≡ kept.Counter n
-      → (tells → Makes (unplaced (slice_index_or then 1 [])) (contents.Counter n))
+      → (tells → Makes (unplaced (slice_index_or then 1 [])) (Counter n))
       → AreRead tells held (set (set pages 0 first) 1 second) (Some n)
   read-both then (x ∷ y ∷ pages) p q first second same are long p-is p-stamp p-infos p-kept q-is q-stamp q-infos q-kept counts = record {
     kept = λ known. by held (makes known) (same known) (are.kept known) (counts known);
@@ -113,18 +108,18 @@ module _ {tells : Type 0} (held : List Chain) (roots : meta.Roots) (n : ℕ) (ma
       found (suc zero) = (n, q-kept, refl)
       found (suc (suc k)) = all-by-id _ pages are.hold.1.1 k
 
-      by : (held : List Chain) → Makes (unplaced (slice_index_or held 0 [])) (contents.Roots roots) → then ≡ held → AllZip IsLoaded held (x ∷ y ∷ pages) → Makes (unplaced (slice_index_or then 1 [])) (contents.Counter n)
+      by : (held : List Chain) → Makes (unplaced (slice_index_or held 0 [])) (Roots roots) → then ≡ held → AllZip IsLoaded held (x ∷ y ∷ pages) → Makes (unplaced (slice_index_or then 1 [])) (Counter n)
           → AllZip IsLoaded held (set (set (x ∷ y ∷ pages) 0 first) 1 second)
       by (c ∷ d ∷ rest) makes same loaded counts =
-          let counted : Makes (unplaced d) (contents.Counter n) = subst (λ (l : List Chain). Makes (unplaced (slice_index_or l 1 [])) (contents.Counter n)) same counts in (
-            loaded-with c p first (contents.Roots roots) (subst (IsLoaded c) (sym p-is) loaded.0) tt makes p-stamp p-infos (subst (HoldsChain c) (sym p-kept) makes),
-            (loaded-with d q second (contents.Counter n) (subst (IsLoaded d) (sym q-is) loaded.1.0) tt counted q-stamp q-infos (subst (HoldsChain d) (sym q-kept) counted), loaded.1.1),
+          let counted : Makes (unplaced d) (Counter n) = subst (λ (l : List Chain). Makes (unplaced (slice_index_or l 1 [])) (Counter n)) same counts in (
+            loaded-with c p first (Roots roots) (subst (IsLoaded c) (sym p-is) loaded.0) tt makes p-stamp p-infos (subst (HoldsChain c) (sym p-kept) makes),
+            (loaded-with d q second (Counter n) (subst (IsLoaded d) (sym q-is) loaded.1.0) tt counted q-stamp q-infos (subst (HoldsChain d) (sym q-kept) counted), loaded.1.1),
           )
       by held makes same loaded counts = absurd (assumption loaded)
   read-both then pages p q first second same are long p-is p-stamp p-infos p-kept q-is q-stamp q-infos q-kept counts = absurd (omega (arith, long))
 
 -- the first alone, where there is no other
-pub read-first : {tells : Type 0} (held : List Chain) (roots : meta.Roots) (pages : List Page) (p first : Page) → (tells → Makes (unplaced (slice_index_or held 0 [])) (contents.Roots roots)) → AreRecovered tells held pages → length pages < 2
+pub read-first : {tells : Type 0} (held : List Chain) (roots : meta.Roots) (pages : List Page) (p first : Page) → (tells → Makes (unplaced (slice_index_or held 0 [])) (Roots roots)) → AreRecovered tells held pages → length pages < 2
     → slice_get pages 0 ≡ Some p → first.stamp ≡ p.stamp → first.infos.items ≡ p.infos.items → first.kept ≡ kept.Roots roots → AreRead tells held (set pages 0 first) None
 read-first held roots [] p first makes are few at p-stamp p-infos p-kept = absurd cc
 read-first held roots (x ∷ []) p first makes are few at p-stamp p-infos p-kept = record {
@@ -139,15 +134,15 @@ read-first held roots (x ∷ []) p first makes are few at p-stamp p-infos p-kept
     found zero = subst IsRoots (sym p-kept) tt
     found (suc k) = tt
 
-    by : (held : List Chain) → Makes (unplaced (slice_index_or held 0 [])) (contents.Roots roots) → AllZip IsLoaded held (x ∷ []) → AllZip IsLoaded held (first ∷ [])
+    by : (held : List Chain) → Makes (unplaced (slice_index_or held 0 [])) (Roots roots) → AllZip IsLoaded held (x ∷ []) → AllZip IsLoaded held (first ∷ [])
     by (c ∷ rest) makes loaded =
-        (loaded-with c p first (contents.Roots roots) (subst (IsLoaded c) (same_Some x p at) loaded.0) tt makes p-stamp p-infos (subst (HoldsChain c) (sym p-kept) makes), loaded.1)
+        (loaded-with c p first (Roots roots) (subst (IsLoaded c) (same_Some x p at) loaded.0) tt makes p-stamp p-infos (subst (HoldsChain c) (sym p-kept) makes), loaded.1)
     by held makes loaded = absurd (assumption loaded)
 read-first held roots (x ∷ y ∷ pages) p first makes are few at p-stamp p-infos p-kept = absurd (omega (arith, few))
 
 -- ---- why they weren't read
 
-pub first-fits : (held : List Chain) (roots : meta.Roots) → Makes (unplaced (slice_index_or held 0 [])) (contents.Roots roots)
+pub first-fits : (held : List Chain) (roots : meta.Roots) → Makes (unplaced (slice_index_or held 0 [])) (Roots roots)
     → (before : ℕ) → before < 1 → IfSome (slice_get held before) (IsFit before)
 first-fits [] roots makes before lt = tt
 first-fits (c ∷ held) roots makes zero lt = (roots, makes)
@@ -177,10 +172,7 @@ short-by : (pid : ℕ) (page : Page) → is_misfit pid page ≡ false → length
 short-by pid page fits = grind (arith, nat_tests)
 
 kept-fit : (counter : Option ℕ) (pid : ℕ) (chain : Chain) (held : Kept) → HoldsChain chain held → IsFoundAt counter pid held → length chain ≤ 10 → IsFit pid chain
-kept-fit counter zero chain (kept.Roots roots) holds found short = (roots, holds)
-kept-fit counter (suc zero) chain held holds found short = (found.0, subst (HoldsChain chain) found.1 holds)
-kept-fit counter (suc (suc pid)) chain held holds found short = short
-kept-fit counter pid chain held holds found short = absurd found
+kept-fit counter pid chain held h1 h2 h3 = grind arith
 
 fits-at : (held : List Chain) (pages : List Page) (counter : Option ℕ) → AllZip IsLoaded held pages → AreFound pages counter
     → (k : ℕ) → IfSome (slice_get pages k) (λ page. is_misfit k page ≡ false) → IfSome (slice_get held k) (IsFit k)
@@ -255,9 +247,7 @@ pub past-both : (old new : List Page) → length old < 2 → length new ≡ 2 �
 past-both old new few two pid from = slice_get_past new pid (omega (arith, two, from)) ∙ sym (slice_get_past old pid (omega (arith, few, from)))
 
 unread-empty : (chain : Chain) (held : Kept) → HoldsChain chain held → IsUnread held → is_resident held ≡ true → is_empty effect_of_entry chain ≡ true
-unread-empty chain kept.Free holds unread is = holds
-unread-empty chain kept.Away holds unread is = absurd (false≢true is)
-unread-empty chain held holds unread is = absurd unread
+unread-empty chain held holds unread is = grind arith
 
 pub resident-empty : (held : List Chain) (pages : List Page) → AllZip IsKept held pages → (pid : ℕ) → IfSome (slice_get pages pid) (λ page. IsUnread page.kept)
     → slice_get (resident_in pages) pid ≡ Some true → is_empty effect_of_entry (slice_index_or held pid []) ≡ true
@@ -269,8 +259,7 @@ resident-empty (c ∷ held) (p ∷ pages) all (suc pid) unread is = resident-emp
 -- ---- what is told of the pages that are missing
 
 events-split : {X : Type 0} (pages : List X) → length pages < 2 → events_of_roots pages ++ counter_event ∷ [] ≡ events_at_start pages
-events-split (p ∷ q ∷ pages) few = absurd (omega (arith, few))
-events-split pages few = refl
+events-split pages h1 = grind arith
 
 pub events-same : {X Y : Type 0} (pages : List X) (others : List Y) → length pages ≡ length others → events_at_start pages ≡ events_at_start others
 events-same pages others long = ap (λ n. drop n (roots_event ∷ counter_event ∷ [])) long
@@ -340,7 +329,7 @@ zeros pages held long = absurd (omega (arith, long))
 counted : (interval n : ℕ) (own : Kept) (counter : Option ℕ) (chain : Chain) (roots content : Content) (held : List Content)
     → own ≡ kept.Counter n → counter ≡ Some n → HoldsChain chain own → Holds (unplaced chain) content → next_id interval counter ≡ first_id interval (roots ∷ content ∷ held)
 counted interval n own counter chain roots content held is some holds makes =
-    let same : contents.Counter n ≡ content = sym (holds-made (unplaced chain) content (contents.Counter n) makes (subst (HoldsChain chain) is holds)) in
+    let same : Counter n ≡ content = sym (holds-made (unplaced chain) content (Counter n) makes (subst (HoldsChain chain) is holds)) in
     ap (next_id interval) some ∙ ap (λ (c : Content). first_id interval (roots ∷ c ∷ held)) same
 
 pub opened-with : {tells : Type 0} (config : Config) (chains : List Chain) (pages : List Page) (counter : Option ℕ) (stamps : List ℕ) (next : ℕ) (recovered : Bool)

@@ -1,10 +1,13 @@
 -- Pages that stay as a cache leaves them, while messages come.
-use Rattle.sled_pagecache.proofs.Names.{ℕ, zero, suc, List, [], ◌∷◌, ◌++◌, take, drop, chains_from, chains_after, Content, Update, contents_from, contents_after, Event, Message, Messages, effect_of, AreEvents, IsProper, StayProper}
+use Rattle.sled_pagecache.proofs.Names.{ℕ, zero, suc, List, [], ◌∷◌, ◌++◌, take, drop, chains_from, chains_after, Content, Update, contents_from, contents_after, Event, Message, Messages, effect_of, AreEvents, IsProper, StayProper, ◌≡◌, arith}
+
+-- no message is no change
+pub no-changes : (contents : List Content) (messages : List (Event Message)) (changes : List (Event Update)) → messages ≡ [] → AreEvents contents messages changes → changes ≡ []
+no-changes contents messages changes h1 h2 = grind arith
 
 -- no message comes
 pub stay-none : (pages : List Messages) (contents : List Content) → IsProper pages contents → StayProper pages contents [] []
-stay-none pages contents proper zero = proper
-stay-none pages contents proper (suc n) = proper
+stay-none pages contents h1 = grind arith
 
 -- one message comes
 pub stay-one : (pages : List Messages) (contents : List Content) (m : Event Message) (u : Event Update)

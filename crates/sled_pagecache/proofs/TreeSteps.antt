@@ -1,67 +1,31 @@
 -- The calls of an opening of a tree, one after another; and that the swap of its root finds no other root.
-use Rattle.sled_pagecache.proofs.Names.{◌≡◌, ◌==◌, ◌⊎◌, inl, inr, ◌≤◌, ◌<◌, ◌+◌, ◌-◌, ◌^◌, ◌||◌, ◌≢◌, ⊤, ℕ, zero, suc, Bool, true, false, cond, List, [], ◌∷◌, ◌++◌, length, Option, Some, None, Result, Ok, Err, slice_get, slice_set, refl, sym, ◌∙◌, ap, subst, arith, MatchBool, MatchOption, none-some, same_Some, IfOk, OnErr, Error, Write, Content, Roots, Ghosts, WholeNode, Cache, chain_length, HasNoRoom, StepOver, page, State, page_at, free_token, later, greatest_free, IsRefused, Outcome, unchanged, Token, token, Allocated, Allocate, GetMeta, GotMeta, CasRoot, RootSwapped, IsBounded, ReadsNothing, SetsRoot, made-row}
-use Rattle.sled_base.specs.Order.{Bytes}
-use Rattle.sled_base.specs.declared.types.Error.TheVariants.{Io}
+use Rattle.sled_pagecache.proofs.Names.{◌≡◌, ◌==◌, inl, inr, ◌+◌, ◌-◌, ◌^◌, ◌||◌, ◌≢◌, ⊤, ℕ, zero, suc, Bool, false, List, [], ◌∷◌, length, Option, Some, None, Result, Ok, Err, slice_get, refl, sym, ◌∙◌, ap, subst, arith, MatchBool, MatchOption, same_Some, IfOk, OnErr, Error, Roots, Ghosts, WholeNode, Cache, chain_length, HasNoRoom, StepOver, page, State, page_at, greatest_free, IsRefused, Outcome, unchanged, Token, Allocated, Allocate, GetMeta, GotMeta, CasRoot, RootSwapped, IsBounded, ReadsNothing, SetsRoot, made-row, Bytes, empty_leaf, IsMade, AreMade, OnlyNow, StampedPage, ⊎_elim, true≢false, more-at, other-at}
+use Rattle.sled_pagecache.proofs.CallForms.{IsFreeAt, free-at, roots-read}
 use Rattle.sled_node.specs.Meta as meta
 use Rattle.sled_node.specs.Meta.{root_of}
-use Rattle.sled_node.specs.Node.{empty_leaf}
 use Rattle.sled_pagecache.specs.Answers.{is_write_fault, root_swapped}
-use Rattle.sled_pagecache.specs.Rows.{IsMade, AreMade}
-use Rattle.sled_pagecache.specs.RowLaws.{OnlyNow}
-use Rattle.sled_pagecache.specs.State.{StampedPage}
-use Rattle.sled_pagecache.specs.Step.{AddsPage, AreRoots, HoldsRoots, ReusesPage, RootSwap}
+use Rattle.sled_pagecache.specs.Step.{AddsPage, ReusesPage, RootSwap}
 use Rattle.sled_pagecache.specs.Trees.{MadeCalls, EndsSwap, FindsTree, GoesOn, GoesOnOver, GoesOnWith, IsKnown, IsTreeOpened, Looks, MakesTree, NamesRoot, OpensTree, TellsTree, Touches, index_over, stamps_after, stamps_then}
+use Rattle.sled_pagecache.specs.State.{is_free}
 
 -- ---- what is tested and not refused
 
 goes : (A B : Type 0) (test : Bool) → ¬ A → MatchBool test A B → B
-goes A B true never one = absurd (never one)
-goes A B false never other = other
+goes A B test h1 h2 = grind arith
 
 unrefused : {T : Type 0} (s : State) (value : T) (out : Outcome) (e : Error) → ¬ IsRefused s (Ok value) out e
 unrefused s value out e refused = let is = refused.0 in absurd cc
 
--- ---- page 0 stays where a node is put on another page
-
-front-stays : (pages more : List StampedPage) (p : StampedPage) → slice_get pages 0 ≡ Some p → slice_get (pages ++ more) 0 ≡ Some p
-front-stays [] more p at = absurd (none-some p at)
-front-stays (q ∷ pages) more p at = at
-
-others-stay : (pages : List StampedPage) (pid : ℕ) (changed p : StampedPage) → 0 < pid → slice_get pages 0 ≡ Some p → slice_get (slice_set pages pid changed) 0 ≡ Some p
-others-stay [] pid changed p above at = absurd (none-some p at)
-others-stay (q ∷ pages) zero changed p above at = absurd (omega arith)
-others-stay (q ∷ pages) (suc pid) changed p above at = at
-
--- a free page's token has its id
-of-page : (pid : ℕ) (free : Token) (stamp : ℕ) (b : Bool) → cond b (Some (token pid stamp)) None ≡ Some free → free.pid ≡ pid
-of-page pid free stamp true is = ap (λ t. t.pid) (sym (same_Some (token pid stamp) free is))
-of-page pid free stamp false is = absurd (none-some free is)
-
--- the greatest free id isn't below the first
-not-below : (first : ℕ) (pages : List StampedPage) (free : Token) → greatest_free first pages ≡ Some free → first ≤ free.pid
-not-below first [] free is = absurd (none-some free is)
-not-below first (p ∷ pages) free is = by (greatest_free (first + 1) pages) (λ last found. not-below (first + 1) pages last found) is
+-- the greatest free id isn't that of a page 0 which holds named roots
+above-roots : (pages : List StampedPage) (free : Token) (stamp : ℕ) (roots : meta.Roots) → slice_get pages 0 ≡ Some (page stamp (Roots roots)) → greatest_free 0 pages ≡ Some free → 0 ≢ free.pid
+above-roots pages free stamp roots at greatest = by (found.place) found.is found.at
   where
-    by : (rest : Option Token) → ((last : Token) → rest ≡ Some last → first + 1 ≤ last.pid) → later rest (free_token first p) ≡ Some free → first ≤ free.pid
-    by None others is = let same : free.pid ≡ first = of-page first free p.stamp _ is in omega arith
-    by (Some last) others is =
-        let above : first + 1 ≤ last.pid = others last refl in
-        let same : last.pid ≡ free.pid = ap (λ t. t.pid) (same_Some last free is) in
-        omega arith
+    found : IsFreeAt 0 pages free
+    found = free-at 0 pages free greatest
 
--- so it isn't that of a page 0 which holds named roots
-above-roots : (pages : List StampedPage) (free : Token) (stamp : ℕ) (roots : meta.Roots) → slice_get pages 0 ≡ Some (page stamp (Roots roots)) → greatest_free 0 pages ≡ Some free → 0 < free.pid
-above-roots [] free stamp roots at is = absurd (none-some (page stamp (Roots roots)) at)
-above-roots (p ∷ pages) free stamp roots at is =
-    by (greatest_free 1 pages) (λ last found. not-below 1 pages last found)
-    (subst (λ (q : StampedPage). later (greatest_free 1 pages) (free_token 0 q) ≡ Some free) (same_Some p (page stamp (Roots roots)) at) is)
-  where
-    by : (rest : Option Token) → ((last : Token) → rest ≡ Some last → 1 ≤ last.pid) → later rest None ≡ Some free → 0 < free.pid
-    by None others is = absurd (none-some free is)
-    by (Some last) others is =
-        let above : 1 ≤ last.pid = others last refl in
-        let same : last.pid ≡ free.pid = ap (λ t. t.pid) (same_Some last free is) in
-        omega arith
+    by : (place : ℕ) → free.pid ≡ 0 + place → slice_get pages place ≡ Some found.page → 0 ≢ free.pid
+    by zero is there first = true≢false (sym found.empty ∙ ap (λ (p : StampedPage). is_free p.content) (same_Some found.page (page stamp (Roots roots)) (sym there ∙ at)))
+    by (suc place) is there first = absurd (omega (arith, is, first))
 
 module _ {L : Type 0} (g : Ghosts L) where
   abbrev HasRoots : State → ℕ → meta.Roots → Type 0
@@ -77,29 +41,17 @@ module _ {L : Type 0} (g : Ghosts L) where
           → HasRoots out.state stamp roots
       by None none adds =
           let done = goes _ _ (length s.pages == 2 ^ 37) (unrefused s made out _) adds in
-          ap (λ t. page_at t 0) done.1.2 ∙ front-stays s.pages _ (page stamp (Roots roots)) at
+          ap (λ t. page_at t 0) done.1.2 ∙ more-at s.pages _ 0 (page stamp (Roots roots)) at
       by (Some free) some reuses =
           let done = goes _ _ (free.stamp == 2 ^ 64 - 1) (unrefused s made out _) reuses in
-          ap (λ t. page_at t 0) done.1.2 ∙ others-stay s.pages free.pid _ (page stamp (Roots roots)) (above-roots s.pages free stamp roots at some) at
+          ap (λ t. page_at t 0) done.1.2 ∙ other-at s.pages free.pid 0 _ (above-roots s.pages free stamp roots at some) ∙ at
 
   -- the map of named roots that was answered is that of page 0
-  abbrev answered : Token × meta.Roots → Result (Token × meta.Roots) Error
-  answered told = Ok told
-
   roots-told : (cache : Cache L) (s : State) (told : Token × meta.Roots) (out : Outcome) → StepOver g cache s GetMeta (GotMeta (Ok told)) out
       → (stamp : ℕ) × HasRoots s stamp told.1 × (out ≡ unchanged s)
-  roots-told cache s told out step = by (page_at s 0) refl (goes _ _ s.fault (unrefused s told out _) step)
-    where
-      in_content : (stamp : ℕ) (held : Content) → page_at s 0 ≡ Some (page stamp held)
-          → AreRoots held (λ roots. (answered told ≡ Ok (token 0 stamp, roots)) × (out ≡ unchanged s)) → (at : ℕ) × HasRoots s at told.1 × (out ≡ unchanged s)
-      in_content stamp (Roots roots) at holds =
-          let same : roots ≡ told.1 = (let is = holds.0 in cc) in
-          (stamp, at ∙ ap (λ r. Some (page stamp (Roots r))) same, holds.1)
-      in_content stamp held at holds = absurd holds
-
-      by : (found : Option StampedPage) → page_at s 0 ≡ found → HoldsRoots found (λ stamp roots. (answered told ≡ Ok (token 0 stamp, roots)) × (out ≡ unchanged s)) → (stamp : ℕ) × HasRoots s stamp told.1 × (out ≡ unchanged s)
-      by None none holds = absurd holds
-      by (Some p) some holds = in_content p.stamp p.content some holds
+  roots-told cache s told out step =
+      roots-read s _ (goes _ _ s.fault (unrefused s told out _) step)
+      (λ stamp roots at holds. let is = holds.0 in let same : roots ≡ told.1 = cc in (stamp, at ∙ ap (λ r. Some (page stamp (Roots r))) same, holds.1))
 
   -- a name that has no root has none in a swap
   abbrev another_root : Option ℕ → RootSwap
@@ -107,7 +59,8 @@ module _ {L : Type 0} (g : Ghosts L) where
 
   no-other : (cache : Cache L) (s : State) (name : Bytes) (root : ℕ) (another : Option ℕ) (out : Outcome) (stamp : ℕ) (roots : meta.Roots)
       → HasRoots s stamp roots → root_of name roots ≡ None → StepOver g cache s (CasRoot name None (Some root)) (RootSwapped (Ok (Err another))) out → ⊥
-  no-other cache s name root another out stamp roots at none step = by (page_at s 0) at (goes _ _ s.fault (unrefused s (Err another) out _) step)
+  no-other cache s name root another out stamp roots at none step =
+      ⊎_elim (λ other. other.0 none) (λ same. in_map same.1) (rw at at (goes _ _ s.fault (unrefused s (Err another) out _) step))
     where
       in_map : SetsRoot (chain_length g.state cache) (HasNoRoom g cache.log) s stamp name (Some root) roots (another_root another) out → ⊥
       in_map (inl long) = unrefused s (Err another) out _ long.1
@@ -116,23 +69,6 @@ module _ {L : Type 0} (g : Ghosts L) where
           let done = goes _ _ (stamp == 2 ^ 64 - 1) (unrefused s (Err another) out _) puts.1 in
           let is = done.1.0 in
           cc
-
-      in_roots : ((root_of name roots ≢ None) × (another_root another ≡ Ok (Err (root_of name roots))) × (out ≡ unchanged s))
-          ⊎ ((root_of name roots ≡ None) × SetsRoot (chain_length g.state cache) (HasNoRoom g cache.log) s stamp name (Some root) roots (another_root another) out) → ⊥
-      in_roots (inl other) = other.0 none
-      in_roots (inr same) = in_map same.1
-
-      by : (found : Option StampedPage) → found ≡ Some (page stamp (Roots roots))
-          → HoldsRoots found (λ stamp roots.
-          ((root_of name roots ≢ None) × (another_root another ≡ Ok (Err (root_of name roots))) × (out ≡ unchanged s))
-          ⊎ ((root_of name roots ≡ None) × SetsRoot (chain_length g.state cache) (HasNoRoom g cache.log) s stamp name (Some root) roots (another_root another) out))
-          → ⊥
-      by None is holds = absurd (none-some (page stamp (Roots roots)) is)
-      by (Some p) is holds =
-          in_roots (subst (λ (q : StampedPage). HoldsRoots (Some q) (λ stamp roots.
-          ((root_of name roots ≢ None) × (another_root another ≡ Ok (Err (root_of name roots))) × (out ≡ unchanged s))
-          ⊎ ((root_of name roots ≡ None) × SetsRoot (chain_length g.state cache) (HasNoRoom g cache.log) s stamp name (Some root) roots (another_root another) out)))
-          (same_Some p (page stamp (Roots roots)) is) holds)
 
   -- ---- the calls of an opening
 
@@ -207,9 +143,7 @@ module _ {L : Type 0} (g : Ghosts L) where
 -- where the swap found no other root, as it does in each state
 swap-known : (found_another : Type 0) (name : Bytes) (result : Result ℕ Error) (root : ℕ) (answer : RootSwap) → ((another : Option ℕ) → answer ≡ Ok (Err another) → found_another)
     → EndsSwap ⊤ name result root answer → EndsSwap found_another name result root answer
-swap-known found_another name result root (Ok (Ok done)) known ends = ends
-swap-known found_another name result root (Ok (Err another)) known ends = (known another refl, ends.1)
-swap-known found_another name result root (Err e) known ends = ends
+swap-known found_another name result root answer known ends = grind arith
 
 pub tree-known : (found_another : Type 0) (name : Bytes) (result : Result ℕ Error) (calls : MadeCalls)
     → ((first second : ℕ × Token) (another : Option ℕ)
@@ -231,8 +165,7 @@ tree-known found_another name result calls known (answer, others, is, behind) = 
 
 -- an error is a write fault or not, whatever the call answers else
 pub same-fault : (A B : Type 0) (e : Error) → is_write_fault {T = A} (Err e) ≡ is_write_fault {T = B} (Err e)
-same-fault A B (Io Write) = refl
-same-fault A B e = refl
+same-fault A B e = grind arith
 
 module _ {L : Type 0} (g : Ghosts L) (cache : Cache L) (name : Bytes) where
   module _ (only_now : OnlyNow g) where
@@ -278,6 +211,5 @@ module _ {L : Type 0} (g : Ghosts L) (cache : Cache L) (name : Bytes) where
             finds-no-other g cache new name told empty_leaf (index_over first.0) first second second.0 another (lacks (root_of name told.1) finds) (cache, looked, subst (λ calls. AreMade g cache calls new) is rest.made)
           where
             lacks : (root : Option ℕ) → TellsTree name told.1 root (Ok None) → root ≡ None
-            lacks None tells = refl
-            lacks (Some root) tells = absurd (let at = tells in cc)
+            lacks root h1 = grind arith
         unknown first second another is (Err e) looked finds = absurd (let at = finds in cc)

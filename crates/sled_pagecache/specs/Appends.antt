@@ -27,7 +27,7 @@ module _ {L : Type 0} (g : Ghosts L) (pid : ℕ) (update : Update) (old new : St
   -- The update was appended. The page was accessed, and is kept at its next stamp, by this message alone; the others stay.
   pub record MakesAppend (page page_then : Page) (held : Kept) : Type 0 where
     pub is : IsUpdate (message_of update) update
-    pub went : Went g.tells g.state g.moment g.left_since g.counts old new (Change pid (message_of update) ∷ [])
+    pub went : Went g old new (Change pid (message_of update) ∷ [])
     pub fault : new.fault ≡ false
     pub reads : (g.counts new.log).reads ≡ (g.counts old.log).reads
     pub sized : g.tells → AllByRecursion IsSized (now effect_of_entry (g.state new.log))
@@ -42,8 +42,8 @@ module _ {L : Type 0} (g : Ghosts L) (pid : ℕ) (update : Update) (old new : St
   -- log's may have left it so; only a write fault may have left the update in part.
   pub record RefusesAppend (why : Refusal → Type 0) (stays : Type 0) (refusal : Refusal) : Type 0 where
     pub is : IsUpdate (message_of update) update
-    pub went : let told : Result (Unit {0}) Refusal = Err refusal in Went g.tells g.state g.moment g.left_since g.counts old new (begun_by told (Change pid (message_of update) ∷ []))
-    pub cause : let told : Result (Unit {0}) Refusal = Err refusal in IsCaused g.tells g.state g.moment g.left_since g.counts old new (g.is_full old.log (length (message_of update).payload)) told
+    pub went : let told : Result (Unit {0}) Refusal = Err refusal in Went g old new (begun_by told (Change pid (message_of update) ∷ []))
+    pub cause : let told : Result (Unit {0}) Refusal = Err refusal in IsCaused g old new (g.is_full old.log (length (message_of update).payload)) told
     pub reads : (g.counts new.log).reads ≡ (g.counts old.log).reads
     pub same : g.tells → new.fault ≡ false → now effect_of_entry (g.state new.log) ≡ now effect_of_entry (g.state old.log)
     pub refused : g.tells → why refusal
@@ -62,7 +62,7 @@ module _ {L : Type 0} (g : Ghosts L) (node : WholeNode) (old new : StickyLog L) 
   -- The node was appended. The new page was accessed, and is kept behind the others, which stay.
   pub record MakesNewPage : Type 0 where
     pub is : IsUpdate (message_of (Put (Node node))) (Put (Node node))
-    pub went : Went g.tells g.state g.moment g.left_since g.counts old new (Change (length pages) (message_of (Put (Node node))) ∷ [])
+    pub went : Went g old new (Change (length pages) (message_of (Put (Node node))) ∷ [])
     pub fault : new.fault ≡ false
     pub reads : (g.counts new.log).reads ≡ (g.counts old.log).reads
     pub sized : g.tells → AllByRecursion IsSized (now effect_of_entry (g.state new.log))

@@ -13,6 +13,17 @@ use Rattle.sled_pagecache.specs.declared.pagecache.call.Answer.{Answer}
 use Rattle.sled_pagecache.specs.declared.pagecache.call.Answer.TheVariants.{Pinned, Sealed, Cancelled}
 use Rattle.sled_pagecache.specs.declared.pagecache.call.Call.{Call}
 use Rattle.sled_pagecache.specs.declared.pagecache.call.Call.TheVariants.{Pin, Seal, Cancel}
+use Rattle.sled_pagecache.specs.declared.pagecache.sticky_log.Closing.{Closing}
+use Rattle.sled_pagecache.specs.declared.pagecache.sticky_log.Closing.TheVariants as closings
+
+-- the call that closes a batch so, and its answer
+abbrev pub call_of : Closing → Call
+call_of closings.Seal = Seal
+call_of closings.Cancel = Cancel
+
+abbrev pub answer_of : Closing → Result (Unit {0}) Error → Answer
+answer_of closings.Seal = Sealed
+answer_of closings.Cancel = Cancelled
 
 module _ {L : Type 0} (g : Ghosts L) where
   -- A batch was opened, unless one was open or the log refused it. No page changes, in memory neither.

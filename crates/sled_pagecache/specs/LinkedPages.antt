@@ -55,7 +55,7 @@ module _ {L : Type 0} (g : Ghosts L) (old : StickyLog L) (pid : ℕ) (page : Pag
     pub accepts : Accepts node link
     pub below : page.stamp ≢ 2 ^ 64 - 1
     pub is : IsUpdate (message_of (update_by page link node)) (update_by page link node)
-    pub went : Went g.tells g.state g.moment g.left_since g.counts old new (Change pid (message_of (update_by page link node)) ∷ [])
+    pub went : Went g old new (Change pid (message_of (update_by page link node)) ∷ [])
 
   -- The page holds the node that the link makes, at its next stamp.
   pub record TakesLink (new : StickyLog L) (page_then : Page) : Type 0 where
@@ -70,7 +70,7 @@ module _ {L : Type 0} (g : Ghosts L) (old : StickyLog L) (pid : ℕ) (page : Pag
   -- Nothing was appended, or a write failed while the update was.
   abbrev pub RefusesAppended : StickyLog L → Refusal → Type 0
   RefusesAppended new refusal =
-      (Went g.tells g.state g.moment g.left_since g.counts old new [] × RefusesUnappended (chain_at (g.state old.log) pid) page.stamp link refusal)
+      (Went g old new [] × RefusesUnappended (chain_at (g.state old.log) pid) page.stamp link refusal)
       ⊎ ((refusal ≡ Io Write) × AppendsLink new)
 
   -- The log had no room for the update.
@@ -83,7 +83,7 @@ module _ {L : Type 0} (g : Ghosts L) (old : StickyLog L) (pid : ℕ) (page : Pag
 pub record WasBegun {L : Type 0} (g : Ghosts L) (old new : StickyLog L) : Type 0 where
   pub came : List (Event Message)
   pub marks : (was : Bool) → open_after was came ≡ was
-  pub went : Went g.tells g.state g.moment g.left_since g.counts old new came
+  pub went : Went g old new came
 
 module _ {L : Type 0} (g : Ghosts L) (old : StickyLog L) (pid : ℕ) (page : Page) (link : NodeLink) (new : StickyLog L) (accesses then : Accesses) (page_then : Page) where
   -- A link was made: the page took it and was accessed. It was read where its node didn't lie in memory.
@@ -100,7 +100,7 @@ module _ {L : Type 0} (g : Ghosts L) (old : StickyLog L) (pid : ℕ) (page : Pag
     pub begun : WasBegun g old new
     pub refused : g.tells → RefusesAppended g old pid page link new refusal
     pub tested : g.tells → is_resident page.kept ≡ true → RefusesLink page.stamp page.kept link refusal
-    pub cause : let told : Result (Unit {0}) Refusal = Err refusal in IsCaused g.tells g.state g.moment g.left_since g.counts old new (g.tells → HadNoRoom g old pid page link) told
+    pub cause : let told : Result (Unit {0}) Refusal = Err refusal in IsCaused g old new (g.tells → HadNoRoom g old pid page link) told
     pub stamp : page_then.stamp ≡ page.stamp
     pub infos : page_then.infos.items ≡ page.infos.items
     pub same : g.tells → new.fault ≡ false → now effect_of_entry (g.state new.log) ≡ now effect_of_entry (g.state old.log)

@@ -36,13 +36,13 @@ pub record LeavesPages {L : Type 0} (g : Ghosts L) (old new : Cache L) : Type 0 
   pub opening : IsSameOpening old new
   pub stamps : new.stamps ≡ old.stamps
   pub next : new.next ≡ old.next
-  pub went : Went g.tells g.state g.moment g.left_since g.counts (sticky_log_of old) (sticky_log_of new) []
+  pub went : Went g (sticky_log_of old) (sticky_log_of new) []
   pub same : g.tells → new.fault ≡ false → log.now effect_of_entry (g.state new.log) ≡ log.now effect_of_entry (g.state old.log)
 
 -- The page was read where it didn't lie in memory, and is free then or makes a node.
 pub record BringsIn {L : Type 0} (g : Ghosts L) (old : Cache L) (pid : ℕ) (result : Result (Unit {0}) Refusal) (new : Cache L) : Type 0 where
   pub left : LeavesPages g old new
-  pub cause : IsCaused g.tells g.state g.moment g.left_since g.counts (sticky_log_of old) (sticky_log_of new) ⊥ result
+  pub cause : IsCaused g (sticky_log_of old) (sticky_log_of new) ⊥ result
   pub in_memory : OnOk result ((is_reserved pid ≡ false) × ¬ IsAway new pid)
   pub sound : g.tells → OnOk result (¬ IsDamaged (chain_at (g.state old.log) pid))
   pub refused : g.tells → IfErr result (RefusesReading (chain_at (g.state old.log) pid) pid)

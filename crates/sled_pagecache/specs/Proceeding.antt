@@ -25,7 +25,7 @@ is_fault (Some other) = false
 module _ {L : Type 0} (g : Ghosts L) where
   -- the events came
   abbrev pub Comes : StickyLog L → StickyLog L → List (Event Message) → Type 0
-  Comes = Went g.tells g.state g.moment g.left_since g.counts
+  Comes = Went g
 
   -- the log has no room for the message of the first of the events
   abbrev pub LacksRoom : L → List (Event Message) → Type 0

@@ -49,7 +49,7 @@ left-more held first all pages = CrashKeeps-more contents_after contents_after-a
 -- ---- crashes
 
 -- what has come of nothing
-none-came : {E : Type 0} (came : List (Event E)) → IsPrefix came [] → came ≡ []
+pub none-came : {E : Type 0} (came : List (Event E)) → IsPrefix came [] → came ≡ []
 none-came [] b = refl
 none-came (event ∷ came) b = let e = b.1 in absurd cc
 

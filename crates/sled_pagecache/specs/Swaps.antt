@@ -5,17 +5,17 @@ use Rattle.sled_base.specs.declared.types.Bug.TheVariants.{LinkRefused}
 use Rattle.sled_base.specs.declared.types.Refusal.{Refusal}
 use Rattle.sled_base.specs.declared.types.Refusal.TheVariants.{Unsupported, ReportableBug, Corruption}
 use Rattle.sled_base.specs.declared.types.Why.TheVariants.{StampUsedUp}
-use Rattle.sled_log.specs.Calls.{Counts}
 use Rattle.sled_log.specs.Chains.{chains_from}
 use Rattle.sled_log.specs.Contents.{Update}
 use Rattle.sled_log.specs.Contents as content
 use Rattle.sled_log.specs.Events.{Change}
 use Rattle.sled_log.specs.Limits.{head_size, size_limit}
-use Rattle.sled_log.specs.Messages.{Entry, Messages, placed, effect_of_entry}
+use Rattle.sled_log.specs.Messages.{Message, placed, effect_of_entry}
 use Rattle.sled_log.specs.Pages.{IsSized}
 use Rattle.sled_log.specs.Reading.{IsUpdate}
-use Rattle.sled_log.specs.LogState.{LogState, now}
+use Rattle.sled_log.specs.LogState.{now}
 use Rattle.sled_log.specs.Writing.{message_of}
+use Rattle.sled_log.specs.declared.log.Log.{Ghosts}
 use Rattle.sled_node.specs.Links.{Accepts, applied}
 use Rattle.sled_node.specs.Meta as meta
 use Rattle.sled_node.specs.Meta.{IsRootMap}
@@ -90,16 +90,20 @@ RefusesLink stamp Away link refusal = refusal ≡ Corruption None
 RefusesLink stamp (Counter n) link refusal = refusal ≡ Corruption None
 RefusesLink stamp (Roots roots) link refusal = refusal ≡ Corruption None
 
-module _ {L : Type 0} (tells : Type 0) (state : L → LogState Entry) (moment : L → ℕ) (left_since : L → ℕ → List Messages → Type 0) (counts : L → Counts) (is_full : L → ℕ → Type 0) where
-  -- An update of a page was written to the log, and the answer is how it is kept, or why it was refused.
+module _ {L : Type 0} (g : Ghosts L) where
+  -- A message of a page was written to the log, and the answer is how it is kept, or why it was refused.
+  pub record WritesMessage (old new : StickyLog L) (pid : ℕ) (m : Message) (stamp : ℕ) (result : Result CacheInfo Refusal) : Type 0 where
+    pub went : Went g old new (begun_by result (Change pid m ∷ []))
+    pub cause : IsCaused g old new (g.is_full old.log (length m.payload)) result
+    pub of_log : g.tells → IfErr result IsOfLog
+    pub reads : (g.counts new.log).reads ≡ (g.counts old.log).reads
+    pub at : IfOk result (λ info. info.ts ≡ stamp)
+    pub size : IfOk result (λ info. (info.log_size ≡ head_size + length m.payload) × (info.log_size < size_limit))
+    pub chains : g.tells → IfOk result (λ info. now effect_of_entry (g.state new.log) ≡ chains_from effect_of_entry (now effect_of_entry (g.state old.log)) (Change pid (placed m (place_of info))))
+    pub same : g.tells → OnErr result (new.fault ≡ false → now effect_of_entry (g.state new.log) ≡ now effect_of_entry (g.state old.log))
+    pub sized : g.tells → OnOk result (AllByRecursion IsSized (now effect_of_entry (g.state new.log)))
+
+  -- the message is an update
   pub record Wrote (old new : StickyLog L) (pid : ℕ) (update : Update) (stamp : ℕ) (result : Result CacheInfo Refusal) : Type 0 where
     pub is : IsUpdate (message_of update) update
-    pub went : Went tells state moment left_since counts old new (begun_by result (Change pid (message_of update) ∷ []))
-    pub cause : IsCaused tells state moment left_since counts old new (is_full old.log (length (message_of update).payload)) result
-    pub of_log : tells → IfErr result IsOfLog
-    pub reads : (counts new.log).reads ≡ (counts old.log).reads
-    pub at : IfOk result (λ info. info.ts ≡ stamp)
-    pub size : IfOk result (λ info. (info.log_size ≡ head_size + length (message_of update).payload) × (info.log_size < size_limit))
-    pub chains : tells → IfOk result (λ info. now effect_of_entry (state new.log) ≡ chains_from effect_of_entry (now effect_of_entry (state old.log)) (Change pid (placed (message_of update) (place_of info))))
-    pub same : tells → OnErr result (new.fault ≡ false → now effect_of_entry (state new.log) ≡ now effect_of_entry (state old.log))
-    pub sized : tells → OnOk result (AllByRecursion IsSized (now effect_of_entry (state new.log)))
+    pub writes : WritesMessage old new pid (message_of update) stamp result

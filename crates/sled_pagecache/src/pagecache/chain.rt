@@ -28,8 +28,8 @@ pub(super) fn read_chain<L: Log>(
     requires known { L.tells → map said_of (chain_at (L.state sticky_log.old.log) pid) ≡ map place_of infos.now }
     ensures len { IfOk result (λ found. length found.items ≡ length infos.now) }
     ensures found { L.tells → IfOk result (λ found. AllZip IsFoundAs (chain_at (L.state sticky_log.old.log) pid) found.items) }
-    ensures went { Went L.tells L.state L.moment L.left_since L.counts sticky_log.old sticky_log.new [] }
-    ensures cause { IsCaused L.tells L.state L.moment L.left_since L.counts sticky_log.old sticky_log.new ⊥ result }
+    ensures went { Went L.Log sticky_log.old sticky_log.new [] }
+    ensures cause { IsCaused L.Log sticky_log.old sticky_log.new ⊥ result }
     ensures sound { L.tells → IfErr result IsOfLog }
     ensures same { L.tells → sticky_log.new.fault ≡ false → now effect_of_entry (L.state sticky_log.new.log) ≡ now effect_of_entry (L.state sticky_log.old.log) }
     ensures room { (n : ℕ) → L.is_full sticky_log.new.log n → L.is_full sticky_log.old.log n }

@@ -90,7 +90,7 @@ fn write_durably<L: Log>(
     requires usable { (L.state sticky_log.old.log).usable ≡ true }
     requires closed { is_open (L.state sticky_log.old.log).pending ≡ false }
     requires there { L.tells → counter_pid < length (now effect_of_entry (L.state sticky_log.old.log)) }
-    ensures wrote { Wrote L.tells L.state L.moment L.left_since L.counts L.is_full sticky_log.old sticky_log.new counter_pid (contents.Put (contents.Counter n)) stamp result }
+    ensures wrote { Wrote L.Log sticky_log.old sticky_log.new counter_pid (contents.Put (contents.Counter n)) stamp result }
     ensures stable { OnOk result ((L.state sticky_log.new.log).pending ≡ []) }
 {
     let counter = Kept::Counter(n);

@@ -1,50 +1,66 @@
 //! What the token of a swap is worth.
 
 ghost use Rattle.std.specs.Prelude.{◌≡◌};
-ghost use Rattle.sled_pagecache.specs.Judging.{Judges};
+ghost use Rattle.sled_pagecache.specs.Judging.{Judges, answer_to};
 ghost use Rattle.sled_pagecache.specs.Step.{is_reserved};
 
 use super::pagetable::PageTable;
 use super::view::PageView;
 use super::{BATCH_MANIFEST_PID, COUNTER_PID, META_PID};
-use sled_base::{Device, PageId, Refusal, Why};
+use sled_base::{Device, Error, PageId, Refusal, Why};
 
-// What a swap finds at its page.
-pub(super) enum Judgement {
-    // The page is at the token's stamp.
-    Fresh,
-    // It is at another stamp, and this is its token.
+// Why a swap isn't made.
+pub(super) enum Rejection {
+    // A write fault is kept, or the page is the cache's own.
+    Refused(Refusal),
+    // The page is at another stamp, and this is its token.
     Stale(PageView),
     // It is absent or free.
     Gone,
 }
 
+impl Rejection {
+    // What the swap answers. It hands back what it was given where the page is at another stamp.
+    pub(super) fn answer<R: Drop>(
+        self,
+        given: R,
+    ) -> Result<Result<PageView, Option<(PageView, R)>>, Error>
+        ensures { result ≡ answer_to self given }
+    {
+        match self {
+            Rejection::Refused(refusal) => Err(Error::from(refusal)),
+            Rejection::Stale(present) => Ok(Err(Some((present, given)))),
+            Rejection::Gone => Ok(Err(None)),
+        }
+    }
+}
+
 // Judges the token of a swap. In this order: a kept write fault is answered, the cache's own pages are refused, and then the page
-// is gone, stale or fresh.
+// is gone, stale or at the token's stamp.
 pub(super) fn judge(
     fault: bool,
     pages: &PageTable,
     pid: PageId,
     old: PageView,
-) -> Result<Judgement, Refusal>
+) -> Result<(), Rejection>
     ensures { Judges fault pages.now.pages pid old result }
 {
     if fault {
-        return Err(Refusal::Io(Device::Write));
+        return Err(Rejection::Refused(Refusal::Io(Device::Write)));
     }
     if is_reserved(pid) {
-        return Err(Refusal::Unsupported(Why::ReservedId));
+        return Err(Rejection::Refused(Refusal::Unsupported(Why::ReservedId)));
     }
     let Some(page) = pages.get(pid) else {
-        return Ok(Judgement::Gone);
+        return Err(Rejection::Gone);
     };
     if page.is_free() {
-        return Ok(Judgement::Gone);
+        return Err(Rejection::Gone);
     }
     if page.stamp != old.ts() {
-        return Ok(Judgement::Stale(PageView::new(pid, page.stamp)));
+        return Err(Rejection::Stale(PageView::new(pid, page.stamp)));
     }
-    Ok(Judgement::Fresh)
+    Ok(())
 }
 
 // Whether the page is the cache's own.

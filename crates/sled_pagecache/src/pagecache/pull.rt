@@ -47,8 +47,8 @@ pub(super) fn pull<L: Log>(
     ensures is_there { is_resident page.old.kept ≡ true → IsOk result }
     ensures stays { is_resident page.old.kept ≡ true → page.new.kept ≡ page.old.kept }
     ensures unread { is_resident page.old.kept ≡ true → sticky_log.new ≡ sticky_log.old }
-    ensures went { Went L.tells L.state L.moment L.left_since L.counts sticky_log.old sticky_log.new [] }
-    ensures cause { IsCaused L.tells L.state L.moment L.left_since L.counts sticky_log.old sticky_log.new ⊥ result }
+    ensures went { Went L.Log sticky_log.old sticky_log.new [] }
+    ensures cause { IsCaused L.Log sticky_log.old sticky_log.new ⊥ result }
     ensures room { (n : ℕ) → L.is_full sticky_log.new.log n → L.is_full sticky_log.old.log n }
     ensures reads { is_resident page.old.kept ≡ false → OnOk result ((L.counts sticky_log.new.log).reads ≡ more (length page.old.infos.items) (L.counts sticky_log.old.log).reads) }
     ensures at_most { OnErr result ((times : ℕ) × (times ≤ length page.old.infos.items) × ((L.counts sticky_log.new.log).reads ≡ more times (L.counts sticky_log.old.log).reads)) }
@@ -85,8 +85,8 @@ pub(super) fn pull_and_access<L: Log>(
     ensures is_there { is_resident page.old.kept ≡ true → IsListedAt pid page.old accesses.old.lru → IsOk result }
     ensures stays { is_resident page.old.kept ≡ true → page.new.kept ≡ page.old.kept }
     ensures unread { is_resident page.old.kept ≡ true → sticky_log.new ≡ sticky_log.old }
-    ensures went { Went L.tells L.state L.moment L.left_since L.counts sticky_log.old sticky_log.new [] }
-    ensures cause { IsCaused L.tells L.state L.moment L.left_since L.counts sticky_log.old sticky_log.new ⊥ result }
+    ensures went { Went L.Log sticky_log.old sticky_log.new [] }
+    ensures cause { IsCaused L.Log sticky_log.old sticky_log.new ⊥ result }
     ensures reads { is_resident page.old.kept ≡ false → OnOk result ((L.counts sticky_log.new.log).reads ≡ more (length page.old.infos.items) (L.counts sticky_log.old.log).reads) }
     ensures at_most { OnErr result ((times : ℕ) × (times ≤ length page.old.infos.items) × ((L.counts sticky_log.new.log).reads ≡ more times (L.counts sticky_log.old.log).reads)) }
     ensures refused { L.tells → IfErr result (RefusesPull (chain_at (L.state sticky_log.old.log) pid)) }

@@ -1,31 +1,18 @@
 //! The swap of a named root, on the page of the named roots.
 
-ghost use Rattle.std.specs.Prelude.{◌≡◌, ◌≢◌, ◌⊎◌, ◌+◌, ◌<◌, [], ◌∷◌, false, true, length, map, slice_set, None, Some, Ok, Err, IfErr, IfOk, OnOk, OnErr, IsErrOf};
-ghost use Rattle.std.specs.List.{AllByRecursion};
-ghost use Rattle.sled_log.specs.Chains.{chains_from};
-ghost use Rattle.sled_log.specs.Contents as contents;
-ghost use Rattle.sled_log.specs.Events.{Change};
-ghost use Rattle.sled_log.specs.Limits.{head_size, size_limit};
+ghost use Rattle.std.specs.Prelude.{◌≡◌, ◌≢◌, ◌⊎◌, ◌<◌, false, true, length, None, Some, IfErr, OnOk, OnErr};
 ghost use Rattle.sled_log.specs.LogState.{now};
-ghost use Rattle.sled_log.specs.Messages.{effect_of_entry, message, placed};
-ghost use Rattle.sled_log.specs.Pages.{IsSized};
-ghost use Rattle.sled_log.specs.Reading.{IsUpdate};
-ghost use Rattle.sled_log.specs.Writing.{message_of};
-ghost use Rattle.sled_base.specs.declared.types.Device.TheVariants.{Write};
-ghost use Rattle.sled_base.specs.declared.types.Refusal.TheVariants.{Unsupported, Io};
+ghost use Rattle.sled_log.specs.Messages.{effect_of_entry};
+ghost use Rattle.sled_base.specs.declared.types.Refusal.TheVariants.{Unsupported};
 ghost use Rattle.sled_base.specs.declared.types.Why.TheVariants.{TooManyNames, NameTooLong};
-ghost use Rattle.sled_base.specs.declared.kinds.MessageKind.TheVariants.{InlineMeta};
 ghost use Rattle.sled_node.specs.Limits.{bytes_limit};
-ghost use Rattle.sled_node.specs.Meta.{CanChange, HasRoom, IsRootMap, changed_roots};
+ghost use Rattle.sled_node.specs.Meta.{CanChange, HasRoom, changed_roots};
+ghost use Rattle.sled_node.specs.Payloads.Roots.{written_roots};
 ghost use Rattle.sled_node.specs.Pairs.{IsWithinLimit};
-ghost use Rattle.sled_pagecache.specs.Accesses.{WasAccessed, IsTouched, capped};
-ghost use Rattle.sled_pagecache.specs.ChainReads.{chain_at, place_of};
+ghost use Rattle.sled_pagecache.specs.Appends.{Puts};
 ghost use Rattle.sled_pagecache.specs.Limits.{meta_pid};
-ghost use Rattle.sled_pagecache.specs.Pages.{IsKept, access_size};
-ghost use Rattle.sled_pagecache.specs.RootSwaps.{FindsRoots, JudgesRoot, PutsMap};
-ghost use Rattle.sled_pagecache.specs.StickyLog.{Went, IsCaused, IsOfLog, begun_by};
-ghost use Rattle.sled_pagecache.specs.Swaps.{IsRaised, RefusesSwap, Wrote, roots_in};
-ghost use Rattle.sled_pagecache.specs.RootSwaps.{KeepsRoots};
+ghost use Rattle.sled_pagecache.specs.RootSwaps.{FindsRoots, JudgesRoot, KeepsRoots, WritesMap};
+ghost use Rattle.sled_pagecache.specs.Swaps.{roots_in};
 ghost use Rattle.sled_pagecache.specs.Table.{IsRoots};
 ghost use Rattle.sled_pagecache.specs.declared.pagecache.page.Kept.TheVariants as kept;
 
@@ -108,27 +95,14 @@ pub(super) fn swap_root<L: Log>(
     requires ready { sticky_log.old.fault ≡ false }
     requires usable { (L.state sticky_log.old.log).usable ≡ true }
     requires there { L.tells → meta_pid < length (now effect_of_entry (L.state sticky_log.old.log)) }
-    ensures stamp { OnOk result (IsRaised page.old.stamp page.new.stamp) }
-    ensures holds { OnOk result (page.new.kept ≡ kept.Roots (changed_roots name.now root (roots_in page.old.kept))) }
-    ensures kept { L.tells → OnOk result (IsKept (chain_at (L.state sticky_log.new.log) meta_pid) page.new) }
-    ensures stamps { OnOk result (map (λ info. info.ts) page.new.infos.items ≡ page.new.stamp ∷ []) }
-    ensures others { L.tells → OnOk result (now effect_of_entry (L.state sticky_log.new.log) ≡ slice_set (now effect_of_entry (L.state sticky_log.old.log)) meta_pid (chain_at (L.state sticky_log.new.log) meta_pid)) }
-    ensures left { OnErr result (page.new ≡ page.old) }
-    ensures same { L.tells → OnErr result (sticky_log.new.fault ≡ false → now effect_of_entry (L.state sticky_log.new.log) ≡ now effect_of_entry (L.state sticky_log.old.log)) }
-    ensures refused { L.tells → IfErr result (RefusesSwap page.old.stamp) }
-    ensures is { OnOk result (IsUpdate (message_of (contents.Put (contents.Roots (changed_roots name.now root (roots_in page.old.kept))))) (contents.Put (contents.Roots (changed_roots name.now root (roots_in page.old.kept))))) }
-    ensures is_begun { IsErrOf result (Io Write) → IsUpdate (message_of (contents.Put (contents.Roots (changed_roots name.now root (roots_in page.old.kept))))) (contents.Put (contents.Roots (changed_roots name.now root (roots_in page.old.kept)))) }
-    ensures went { Went L.tells L.state L.moment L.left_since L.counts sticky_log.old sticky_log.new (begun_by result (Change meta_pid (message_of (contents.Put (contents.Roots (changed_roots name.now root (roots_in page.old.kept))))) ∷ [])) }
-    ensures cause { IsCaused L.tells L.state L.moment L.left_since L.counts sticky_log.old sticky_log.new (L.is_full sticky_log.old.log (length (message_of (contents.Put (contents.Roots (changed_roots name.now root (roots_in page.old.kept))))).payload)) result }
-    ensures reads { (L.counts sticky_log.new.log).reads ≡ (L.counts sticky_log.old.log).reads }
-    ensures sized { L.tells → OnOk result (AllByRecursion IsSized (now effect_of_entry (L.state sticky_log.new.log))) }
-    ensures accessed { OnOk result (WasAccessed accesses.old meta_pid (access_size page.new) accesses.new) }
-    ensures touched { OnErr result (IsTouched accesses.old meta_pid accesses.new) }
-    ensures unasked { L.tells → IfErr result (λ refusal. IsOfLog refusal ⊎ (accesses.new ≡ accesses.old)) }
+    ensures { Puts L.Log meta_pid (kept.Roots (changed_roots name.now root (roots_in page.old.kept)))
+        sticky_log.old sticky_log.new accesses.old accesses.new page.old page.new result }
 {
     let Kept::Roots(roots) = &mut page.kept else {
         unreachable!()
     };
+    // Every map keeps the limits.
+    let _ = roots.len();
     if page.stamp == u64::MAX {
         return Err(Refusal::Unsupported(Why::StampUsedUp));
     }
@@ -152,8 +126,7 @@ fn put_changed<L: Log>(
     requires ready { sticky_log.old.fault ≡ false }
     requires usable { (L.state sticky_log.old.log).usable ≡ true }
     requires there { L.tells → meta_pid < length (now effect_of_entry (L.state sticky_log.old.log)) }
-    ensures put { PutsMap L.tells L.state L.moment L.left_since L.counts L.is_full sticky_log.old sticky_log.new accesses.old accesses.new (changed_roots name.now root roots.old) stamp result }
-    ensures map { IsRootMap (changed_roots name.now root roots.old) }
+    ensures put { WritesMap L.Log sticky_log.old sticky_log.new accesses.old accesses.new (written_roots (changed_roots name.now root roots.old)) stamp result }
     ensures changed { OnOk result (roots.new ≡ changed_roots name.now root roots.old) }
     ensures left { OnErr result (roots.new ≡ roots.old) }
 {
@@ -174,13 +147,10 @@ fn put_without<L: Log>(
     requires ready { sticky_log.old.fault ≡ false }
     requires usable { (L.state sticky_log.old.log).usable ≡ true }
     requires there { L.tells → meta_pid < length (now effect_of_entry (L.state sticky_log.old.log)) }
-    ensures put { PutsMap L.tells L.state L.moment L.left_since L.counts L.is_full sticky_log.old sticky_log.new accesses.old accesses.new (changed_roots name.now None roots.old) stamp result }
-    ensures map { IsRootMap (changed_roots name.now None roots.old) }
+    ensures put { WritesMap L.Log sticky_log.old sticky_log.new accesses.old accesses.new (written_roots (changed_roots name.now None roots.old)) stamp result }
     ensures changed { OnOk result (roots.new ≡ changed_roots name.now None roots.old) }
     ensures left { OnErr result (roots.new ≡ roots.old) }
 {
-    // Every map keeps the limits.
-    let _ = roots.len();
     let Ok(payload) = roots.serialize_changed(name, None) else {
         return Err(Refusal::OutOfMemory);
     };
@@ -205,8 +175,7 @@ fn put_with<L: Log>(
     requires ready { sticky_log.old.fault ≡ false }
     requires usable { (L.state sticky_log.old.log).usable ≡ true }
     requires there { L.tells → meta_pid < length (now effect_of_entry (L.state sticky_log.old.log)) }
-    ensures put { PutsMap L.tells L.state L.moment L.left_since L.counts L.is_full sticky_log.old sticky_log.new accesses.old accesses.new (changed_roots name.now (Some root) roots.old) stamp result }
-    ensures map { IsRootMap (changed_roots name.now (Some root) roots.old) }
+    ensures put { WritesMap L.Log sticky_log.old sticky_log.new accesses.old accesses.new (written_roots (changed_roots name.now (Some root) roots.old)) stamp result }
     ensures changed { OnOk result (roots.new ≡ changed_roots name.now (Some root) roots.old) }
     ensures left { OnErr result (roots.new ≡ roots.old) }
 {
@@ -245,17 +214,7 @@ fn put_map<L: Log>(
     requires ready { sticky_log.old.fault ≡ false }
     requires usable { (L.state sticky_log.old.log).usable ≡ true }
     requires there { L.tells → meta_pid < length (now effect_of_entry (L.state sticky_log.old.log)) }
-    ensures went { Went L.tells L.state L.moment L.left_since L.counts sticky_log.old sticky_log.new (begun_by result (Change meta_pid (message InlineMeta payload.now) ∷ [])) }
-    ensures cause { IsCaused L.tells L.state L.moment L.left_since L.counts sticky_log.old sticky_log.new (L.is_full sticky_log.old.log (length payload.now)) result }
-    ensures of_log { L.tells → IfErr result IsOfLog }
-    ensures reads { (L.counts sticky_log.new.log).reads ≡ (L.counts sticky_log.old.log).reads }
-    ensures stamp { IfOk result (λ info. info.ts ≡ stamp) }
-    ensures size { IfOk result (λ info. (info.log_size ≡ head_size + length payload.now) × (info.log_size < size_limit)) }
-    ensures chains { L.tells → IfOk result (λ info. now effect_of_entry (L.state sticky_log.new.log) ≡ chains_from effect_of_entry (now effect_of_entry (L.state sticky_log.old.log)) (Change meta_pid (placed (message InlineMeta payload.now) (place_of info)))) }
-    ensures same { L.tells → OnErr result (sticky_log.new.fault ≡ false → now effect_of_entry (L.state sticky_log.new.log) ≡ now effect_of_entry (L.state sticky_log.old.log)) }
-    ensures sized { L.tells → OnOk result (AllByRecursion IsSized (now effect_of_entry (L.state sticky_log.new.log))) }
-    ensures accessed { OnOk result (WasAccessed accesses.old meta_pid (capped (head_size + length payload.now)) accesses.new) }
-    ensures touched { OnErr result (IsTouched accesses.old meta_pid accesses.new) }
+    ensures { WritesMap L.Log sticky_log.old sticky_log.new accesses.old accesses.new payload.now stamp result }
 {
     let Ok(()) = accesses.access(META_PID, size_with(0, payload.len() as u64)) else {
         return Err(Refusal::OutOfMemory);

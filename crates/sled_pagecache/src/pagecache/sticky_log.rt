@@ -8,12 +8,12 @@ ghost use Rattle.sled_log.specs.Batches.{is_open};
 ghost use Rattle.sled_log.specs.Calls.{can_append, one_more};
 ghost use Rattle.sled_log.specs.Calls.{is_write_fault as log_met_fault};
 ghost use Rattle.sled_log.specs.Chains.{chains_from, is_chain};
-ghost use Rattle.sled_log.specs.Events.{Change, Pin, Seal, Cancel};
+ghost use Rattle.sled_log.specs.Events.{Change, Pin};
 ghost use Rattle.sled_log.specs.Limits.{head_size, size_limit};
 ghost use Rattle.sled_log.specs.Messages.{effect_of_entry, message, placed};
 ghost use Rattle.sled_log.specs.Pages.{IsAt, IsPageState, IsRead, IsSized};
 ghost use Rattle.sled_log.specs.LogState.{now};
-ghost use Rattle.sled_pagecache.specs.StickyLog.{Went, IsCaused, IsOfLog, begun_by, cache_answer};
+ghost use Rattle.sled_pagecache.specs.StickyLog.{Went, IsCaused, IsOfLog, begun_by, cache_answer, mark_of};
 
 use sled_base::{DiskPtr, Lsn, MessageKind, PageId, PageState, Refusal};
 use sled_log::{Log, LogError};
@@ -24,6 +24,13 @@ pub(super) struct StickyLog<L> {
     pub(super) log: L,
     pub(super) fault: bool,
     pub(super) batch: bool,
+}
+
+// How a batch is closed: a crash leaves all of it or nothing, or it may leave a part.
+#[derive(Clone, Copy)]
+pub(super) enum Closing {
+    Seal,
+    Cancel,
 }
 
 impl<L: Log> StickyLog<L> {
@@ -37,8 +44,8 @@ impl<L: Log> StickyLog<L> {
         requires ready { self.old.fault ≡ false }
         requires usable { (L.state self.old.log).usable ≡ true }
         requires can { L.tells → can_append effect_of_entry (now effect_of_entry (L.state self.old.log)) pid kind ≡ true }
-        ensures went { Went L.tells L.state L.moment L.left_since L.counts self.old self.new (begun_by result (Change pid (message kind payload.now) ∷ [])) }
-        ensures cause { IsCaused L.tells L.state L.moment L.left_since L.counts self.old self.new (L.is_full self.old.log (length payload.now)) result }
+        ensures went { Went L.Log self.old self.new (begun_by result (Change pid (message kind payload.now) ∷ [])) }
+        ensures cause { IsCaused L.Log self.old self.new (L.is_full self.old.log (length payload.now)) result }
         ensures sound { L.tells → IfErr result IsOfLog }
         ensures reads { (L.counts self.new.log).reads ≡ (L.counts self.old.log).reads }
         ensures chains { L.tells → IfOk result (λ said. now effect_of_entry (L.state self.new.log) ≡ chains_from effect_of_entry (now effect_of_entry (L.state self.old.log)) (Change pid (placed (message kind payload.now) said))) }
@@ -61,8 +68,8 @@ impl<L: Log> StickyLog<L> {
         requires ready { self.old.fault ≡ false }
         requires usable { (L.state self.old.log).usable ≡ true }
         requires known { L.tells → Any (IsAt lsn pointer) (slice_index_or (now effect_of_entry (L.state self.old.log)) pid []) }
-        ensures went { Went L.tells L.state L.moment L.left_since L.counts self.old self.new [] }
-        ensures cause { IsCaused L.tells L.state L.moment L.left_since L.counts self.old self.new ⊥ result }
+        ensures went { Went L.Log self.old self.new [] }
+        ensures cause { IsCaused L.Log self.old self.new ⊥ result }
         ensures sound { L.tells → IfErr result IsOfLog }
         ensures reads { (L.counts self.new.log).reads ≡ one_more (L.counts self.old.log).reads }
         ensures found { L.tells → IfOk result (λ found. All (λ entry. IsAt lsn pointer entry → IsRead entry found) (slice_index_or (now effect_of_entry (L.state self.old.log)) pid [])) }
@@ -78,8 +85,8 @@ impl<L: Log> StickyLog<L> {
         requires ready { self.old.fault ≡ false }
         requires usable { (L.state self.old.log).usable ≡ true }
         requires closed { is_open (L.state self.old.log).pending ≡ false }
-        ensures went { Went L.tells L.state L.moment L.left_since L.counts self.old self.new [] }
-        ensures cause { IsCaused L.tells L.state L.moment L.left_since L.counts self.old self.new ⊥ result }
+        ensures went { Went L.Log self.old self.new [] }
+        ensures cause { IsCaused L.Log self.old self.new ⊥ result }
         ensures sound { L.tells → IfErr result IsOfLog }
         ensures only { IfErr result (λ refusal. refusal ≡ Io Write) }
         ensures reads { (L.counts self.new.log).reads ≡ (L.counts self.old.log).reads }
@@ -96,8 +103,8 @@ impl<L: Log> StickyLog<L> {
         requires ready { self.old.fault ≡ false }
         requires usable { (L.state self.old.log).usable ≡ true }
         requires closed { is_open (L.state self.old.log).pending ≡ false }
-        ensures went { Went L.tells L.state L.moment L.left_since L.counts self.old self.new (begun_by result (Pin ∷ [])) }
-        ensures cause { IsCaused L.tells L.state L.moment L.left_since L.counts self.old self.new (L.is_full_for_batch self.old.log) result }
+        ensures went { Went L.Log self.old self.new (begun_by result (Pin ∷ [])) }
+        ensures cause { IsCaused L.Log self.old self.new (L.is_full_for_batch self.old.log) result }
         ensures sound { L.tells → IfErr result IsOfLog }
         ensures reads { (L.counts self.new.log).reads ≡ (L.counts self.old.log).reads }
         ensures same { L.tells → self.new.fault ≡ false → now effect_of_entry (L.state self.new.log) ≡ now effect_of_entry (L.state self.old.log) }
@@ -106,42 +113,35 @@ impl<L: Log> StickyLog<L> {
         keep_fault(&mut self.fault, outcome)
     }
 
-    // Closes the batch in the log: a crash leaves all of it or nothing. It is refused only for a write fault.
-    pub(super) fn seal(&mut self) -> Result<(), Refusal>
+    // Closes the batch in the log. It is refused only for a write fault.
+    pub(super) fn close(&mut self, closing: Closing) -> Result<(), Refusal>
         requires ready { self.old.fault ≡ false }
         requires usable { (L.state self.old.log).usable ≡ true }
         requires opened { is_open (L.state self.old.log).pending ≡ true }
-        ensures went { Went L.tells L.state L.moment L.left_since L.counts self.old self.new (begun_by result (Seal ∷ [])) }
-        ensures cause { IsCaused L.tells L.state L.moment L.left_since L.counts self.old self.new ⊥ result }
+        ensures went { Went L.Log self.old self.new (begun_by result (mark_of closing ∷ [])) }
+        ensures cause { IsCaused L.Log self.old self.new ⊥ result }
         ensures only { IfErr result (λ refusal. refusal ≡ Io Write) }
         ensures reads { (L.counts self.new.log).reads ≡ (L.counts self.old.log).reads }
         ensures same { L.tells → self.new.fault ≡ false → now effect_of_entry (L.state self.new.log) ≡ now effect_of_entry (L.state self.old.log) }
     {
-        let outcome = self.log.seal();
-        keep_fault(&mut self.fault, outcome)
-    }
-
-    // Closes the batch in the log: a crash may leave a part of it. It is refused only for a write fault.
-    pub(super) fn cancel(&mut self) -> Result<(), Refusal>
-        requires ready { self.old.fault ≡ false }
-        requires usable { (L.state self.old.log).usable ≡ true }
-        requires opened { is_open (L.state self.old.log).pending ≡ true }
-        ensures went { Went L.tells L.state L.moment L.left_since L.counts self.old self.new (begun_by result (Cancel ∷ [])) }
-        ensures cause { IsCaused L.tells L.state L.moment L.left_since L.counts self.old self.new ⊥ result }
-        ensures only { IfErr result (λ refusal. refusal ≡ Io Write) }
-        ensures reads { (L.counts self.new.log).reads ≡ (L.counts self.old.log).reads }
-        ensures same { L.tells → self.new.fault ≡ false → now effect_of_entry (L.state self.new.log) ≡ now effect_of_entry (L.state self.old.log) }
-    {
-        let outcome = self.log.cancel();
-        keep_fault(&mut self.fault, outcome)
+        match closing {
+            Closing::Seal => {
+                let outcome = self.log.seal();
+                keep_fault(&mut self.fault, outcome)
+            }
+            Closing::Cancel => {
+                let outcome = self.log.cancel();
+                keep_fault(&mut self.fault, outcome)
+            }
+        }
     }
 
     // The pages, by id, with the places of their chains.
     pub(super) fn recover(&mut self) -> Result<Vec<PageState>, Refusal>
         requires ready { self.old.fault ≡ false }
         requires usable { (L.state self.old.log).usable ≡ true }
-        ensures went { Went L.tells L.state L.moment L.left_since L.counts self.old self.new [] }
-        ensures cause { IsCaused L.tells L.state L.moment L.left_since L.counts self.old self.new ⊥ result }
+        ensures went { Went L.Log self.old self.new [] }
+        ensures cause { IsCaused L.Log self.old self.new ⊥ result }
         ensures sound { L.tells → IfErr result IsOfLog }
         ensures reads { (L.counts self.new.log).reads ≡ (L.counts self.old.log).reads }
         ensures pages { L.tells → IfOk result (λ pages. AllZip IsPageState (now effect_of_entry (L.state self.old.log)) pages.items) }

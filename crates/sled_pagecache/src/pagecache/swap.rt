@@ -142,8 +142,8 @@ pub(super) fn link_page<L: Log>(
     ensures same { L.tells → OnErr result (sticky_log.new.fault ≡ false → now effect_of_entry (L.state sticky_log.new.log) ≡ now effect_of_entry (L.state sticky_log.old.log)) }
     ensures still { L.tells → OnErr result (sticky_log.new.fault ≡ false → IsKept (chain_at (L.state sticky_log.new.log) pid) page.new) }
     ensures refused { L.tells → IfErr result (RefusesLink page.old.stamp page.old.kept link.now) }
-    ensures went { Went L.tells L.state L.moment L.left_since L.counts sticky_log.old sticky_log.new (begun_by result (Change pid (message_of (update_of (length page.old.infos.items) link.now page.old.kept)) ∷ [])) }
-    ensures cause { IsCaused L.tells L.state L.moment L.left_since L.counts sticky_log.old sticky_log.new (L.is_full sticky_log.old.log (length (message_of (update_of (length page.old.infos.items) link.now page.old.kept)).payload)) result }
+    ensures went { Went L.Log sticky_log.old sticky_log.new (begun_by result (Change pid (message_of (update_of (length page.old.infos.items) link.now page.old.kept)) ∷ [])) }
+    ensures cause { IsCaused L.Log sticky_log.old sticky_log.new (L.is_full sticky_log.old.log (length (message_of (update_of (length page.old.infos.items) link.now page.old.kept)).payload)) result }
     ensures reads { (L.counts sticky_log.new.log).reads ≡ (L.counts sticky_log.old.log).reads }
     ensures is { OnOk result (IsUpdate (message_of (update_of (length page.old.infos.items) link.now page.old.kept)) (update_of (length page.old.infos.items) link.now page.old.kept)) }
     ensures is_begun { IsErrOf result (Io Write) → IsUpdate (message_of (update_of (length page.old.infos.items) link.now page.old.kept)) (update_of (length page.old.infos.items) link.now page.old.kept) }
@@ -276,7 +276,7 @@ fn write_linked<L: Log>(
     requires usable { (L.state sticky_log.old.log).usable ≡ true }
     requires there { L.tells → pid < length (now effect_of_entry (L.state sticky_log.old.log)) }
     requires full { L.tells → is_empty effect_of_entry (chain_at (L.state sticky_log.old.log) pid) ≡ false }
-    ensures { Wrote L.tells L.state L.moment L.left_since L.counts L.is_full sticky_log.old sticky_log.new pid (link_update messages link.now node.now) stamp result }
+    ensures { Wrote L.Log sticky_log.old sticky_log.new pid (link_update messages link.now node.now) stamp result }
 {
     if messages < PAGE_CONSOLIDATION_THRESHOLD {
         return write_link(alloc, sticky_log, pid, link, size, stamp);

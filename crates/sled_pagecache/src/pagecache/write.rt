@@ -1,22 +1,14 @@
 //! The writing of a page's messages to the log.
 
-ghost use Rattle.std.specs.Prelude.{◌≡◌, ◌+◌, ◌<◌, ◌≤◌, ◌^◌, [], ◌∷◌, false, true, length, IfOk, IfErr, OnOk, OnErr};
-ghost use Rattle.std.specs.List.{AllByRecursion};
+ghost use Rattle.std.specs.Prelude.{◌≡◌, ◌<◌, ◌≤◌, false, true, length};
 ghost use Rattle.sled_log.specs.Calls.{can_append};
-ghost use Rattle.sled_log.specs.Chains.{chains_from};
 ghost use Rattle.sled_log.specs.Contents as contents;
-ghost use Rattle.sled_log.specs.Events.{Change};
-ghost use Rattle.sled_log.specs.Limits.{head_size, size_limit};
-ghost use Rattle.sled_log.specs.Messages.{effect_of_entry, message, placed};
-ghost use Rattle.sled_log.specs.Pages.{IsSized};
-ghost use Rattle.sled_log.specs.Reading.{IsUpdate};
+ghost use Rattle.sled_log.specs.Messages.{effect_of_entry, message};
 ghost use Rattle.sled_log.specs.LogState.{now};
 ghost use Rattle.sled_log.specs.Writing.{message_of};
 ghost use Rattle.sled_node.specs.Meta.{IsRootMap};
 ghost use Rattle.sled_node.specs.Payloads.Links.{CanWriteLink};
-ghost use Rattle.sled_pagecache.specs.ChainReads.{place_of};
-ghost use Rattle.sled_pagecache.specs.StickyLog.{Went, IsCaused, IsOfLog, begun_by};
-ghost use Rattle.sled_pagecache.specs.Swaps.{Wrote, CanPut, content_of};
+ghost use Rattle.sled_pagecache.specs.Swaps.{CanPut, WritesMessage, Wrote, content_of};
 
 use super::page::{CacheInfo, Kept};
 use super::sticky_log::StickyLog;
@@ -41,16 +33,7 @@ pub(super) fn write_node<L: Log>(
     requires ready { sticky_log.old.fault ≡ false }
     requires usable { (L.state sticky_log.old.log).usable ≡ true }
     requires can { L.tells → can_append effect_of_entry (now effect_of_entry (L.state sticky_log.old.log)) pid (message_of (contents.Put (contents.Node node.now))).kind ≡ true }
-    ensures is { IsUpdate (message_of (contents.Put (contents.Node node.now))) (contents.Put (contents.Node node.now)) }
-    ensures went { Went L.tells L.state L.moment L.left_since L.counts sticky_log.old sticky_log.new (begun_by result (Change pid (message_of (contents.Put (contents.Node node.now))) ∷ [])) }
-    ensures cause { IsCaused L.tells L.state L.moment L.left_since L.counts sticky_log.old sticky_log.new (L.is_full sticky_log.old.log (length (message_of (contents.Put (contents.Node node.now))).payload)) result }
-    ensures of_log { L.tells → IfErr result IsOfLog }
-    ensures reads { (L.counts sticky_log.new.log).reads ≡ (L.counts sticky_log.old.log).reads }
-    ensures stamp { IfOk result (λ info. info.ts ≡ stamp) }
-    ensures size { IfOk result (λ info. (info.log_size ≡ head_size + length (message_of (contents.Put (contents.Node node.now))).payload) × (info.log_size < size_limit)) }
-    ensures chains { L.tells → IfOk result (λ info. now effect_of_entry (L.state sticky_log.new.log) ≡ chains_from effect_of_entry (now effect_of_entry (L.state sticky_log.old.log)) (Change pid (placed (message_of (contents.Put (contents.Node node.now))) (place_of info)))) }
-    ensures same { L.tells → OnErr result (sticky_log.new.fault ≡ false → now effect_of_entry (L.state sticky_log.new.log) ≡ now effect_of_entry (L.state sticky_log.old.log)) }
-    ensures sized { L.tells → OnOk result (AllByRecursion IsSized (now effect_of_entry (L.state sticky_log.new.log))) }
+    ensures { Wrote L.Log sticky_log.old sticky_log.new pid (contents.Put (contents.Node node.now)) stamp result }
 {
     // Every node is well-formed.
     let _ = node.data();
@@ -79,16 +62,7 @@ pub(super) fn write_link<L: Log>(
     requires ready { sticky_log.old.fault ≡ false }
     requires usable { (L.state sticky_log.old.log).usable ≡ true }
     requires can { L.tells → can_append effect_of_entry (now effect_of_entry (L.state sticky_log.old.log)) pid (message_of (contents.Link link.now)).kind ≡ true }
-    ensures is { IsUpdate (message_of (contents.Link link.now)) (contents.Link link.now) }
-    ensures went { Went L.tells L.state L.moment L.left_since L.counts sticky_log.old sticky_log.new (begun_by result (Change pid (message_of (contents.Link link.now)) ∷ [])) }
-    ensures cause { IsCaused L.tells L.state L.moment L.left_since L.counts sticky_log.old sticky_log.new (L.is_full sticky_log.old.log (length (message_of (contents.Link link.now)).payload)) result }
-    ensures of_log { L.tells → IfErr result IsOfLog }
-    ensures reads { (L.counts sticky_log.new.log).reads ≡ (L.counts sticky_log.old.log).reads }
-    ensures stamp { IfOk result (λ info. info.ts ≡ stamp) }
-    ensures size { IfOk result (λ info. (info.log_size ≡ head_size + length (message_of (contents.Link link.now)).payload) × (info.log_size < size_limit)) }
-    ensures chains { L.tells → IfOk result (λ info. now effect_of_entry (L.state sticky_log.new.log) ≡ chains_from effect_of_entry (now effect_of_entry (L.state sticky_log.old.log)) (Change pid (placed (message_of (contents.Link link.now)) (place_of info)))) }
-    ensures same { L.tells → OnErr result (sticky_log.new.fault ≡ false → now effect_of_entry (L.state sticky_log.new.log) ≡ now effect_of_entry (L.state sticky_log.old.log)) }
-    ensures sized { L.tells → OnOk result (AllByRecursion IsSized (now effect_of_entry (L.state sticky_log.new.log))) }
+    ensures { Wrote L.Log sticky_log.old sticky_log.new pid (contents.Link link.now) stamp result }
 {
     write(
         alloc,
@@ -115,7 +89,7 @@ pub(super) fn write_roots<L: Log>(
     requires ready { sticky_log.old.fault ≡ false }
     requires usable { (L.state sticky_log.old.log).usable ≡ true }
     requires there { L.tells → pid ≤ length (now effect_of_entry (L.state sticky_log.old.log)) }
-    ensures { Wrote L.tells L.state L.moment L.left_since L.counts L.is_full sticky_log.old sticky_log.new pid (contents.Put (contents.Roots roots.now)) stamp result }
+    ensures { Wrote L.Log sticky_log.old sticky_log.new pid (contents.Put (contents.Roots roots.now)) stamp result }
 {
     write(
         alloc,
@@ -139,7 +113,7 @@ pub(super) fn write_counter<L: Log>(
     requires ready { sticky_log.old.fault ≡ false }
     requires usable { (L.state sticky_log.old.log).usable ≡ true }
     requires there { L.tells → pid ≤ length (now effect_of_entry (L.state sticky_log.old.log)) }
-    ensures { Wrote L.tells L.state L.moment L.left_since L.counts L.is_full sticky_log.old sticky_log.new pid (contents.Put (contents.Counter n)) stamp result }
+    ensures { Wrote L.Log sticky_log.old sticky_log.new pid (contents.Put (contents.Counter n)) stamp result }
 {
     write(
         alloc,
@@ -162,7 +136,7 @@ fn write_free<L: Log>(
     requires ready { sticky_log.old.fault ≡ false }
     requires usable { (L.state sticky_log.old.log).usable ≡ true }
     requires there { L.tells → pid < length (now effect_of_entry (L.state sticky_log.old.log)) }
-    ensures { Wrote L.tells L.state L.moment L.left_since L.counts L.is_full sticky_log.old sticky_log.new pid (contents.Put contents.Free) stamp result }
+    ensures { Wrote L.Log sticky_log.old sticky_log.new pid (contents.Put contents.Free) stamp result }
 {
     write(alloc, sticky_log, MessageKind::Free, pid, &(), 0, stamp)
 }
@@ -181,7 +155,7 @@ pub(super) fn write_kept<L: Log>(
     requires ready { sticky_log.old.fault ≡ false }
     requires usable { (L.state sticky_log.old.log).usable ≡ true }
     requires there { L.tells → pid < length (now effect_of_entry (L.state sticky_log.old.log)) }
-    ensures { Wrote L.tells L.state L.moment L.left_since L.counts L.is_full sticky_log.old sticky_log.new pid (contents.Put (content_of kept.now)) stamp result }
+    ensures { Wrote L.Log sticky_log.old sticky_log.new pid (contents.Put (content_of kept.now)) stamp result }
 {
     match kept {
         Kept::Node(node) => write_node(alloc, sticky_log, pid, node, size, stamp),
@@ -207,15 +181,7 @@ fn write<L: Log, T: Serialize>(
     requires ready { sticky_log.old.fault ≡ false }
     requires usable { (L.state sticky_log.old.log).usable ≡ true }
     requires can { L.tells → can_append effect_of_entry (now effect_of_entry (L.state sticky_log.old.log)) pid kind ≡ true }
-    ensures went { Went L.tells L.state L.moment L.left_since L.counts sticky_log.old sticky_log.new (begun_by result (Change pid (message kind (T.written value.now)) ∷ [])) }
-    ensures cause { IsCaused L.tells L.state L.moment L.left_since L.counts sticky_log.old sticky_log.new (L.is_full sticky_log.old.log (length (T.written value.now))) result }
-    ensures of_log { L.tells → IfErr result IsOfLog }
-    ensures reads { (L.counts sticky_log.new.log).reads ≡ (L.counts sticky_log.old.log).reads }
-    ensures stamp { IfOk result (λ info. info.ts ≡ stamp) }
-    ensures size { IfOk result (λ info. (info.log_size ≡ head_size + length (T.written value.now)) × (info.log_size < size_limit)) }
-    ensures chains { L.tells → IfOk result (λ info. now effect_of_entry (L.state sticky_log.new.log) ≡ chains_from effect_of_entry (now effect_of_entry (L.state sticky_log.old.log)) (Change pid (placed (message kind (T.written value.now)) (place_of info)))) }
-    ensures same { L.tells → OnErr result (sticky_log.new.fault ≡ false → now effect_of_entry (L.state sticky_log.new.log) ≡ now effect_of_entry (L.state sticky_log.old.log)) }
-    ensures sized { L.tells → OnOk result (AllByRecursion IsSized (now effect_of_entry (L.state sticky_log.new.log))) }
+    ensures { WritesMessage L.Log sticky_log.old sticky_log.new pid (message kind (T.written value.now)) stamp result }
 {
     let size = size as usize;
     if size <= SHORT_PAYLOAD {
@@ -251,15 +217,7 @@ pub(super) fn write_payload<L: Log>(
     requires ready { sticky_log.old.fault ≡ false }
     requires usable { (L.state sticky_log.old.log).usable ≡ true }
     requires can { L.tells → can_append effect_of_entry (now effect_of_entry (L.state sticky_log.old.log)) pid kind ≡ true }
-    ensures went { Went L.tells L.state L.moment L.left_since L.counts sticky_log.old sticky_log.new (begun_by result (Change pid (message kind payload.now) ∷ [])) }
-    ensures cause { IsCaused L.tells L.state L.moment L.left_since L.counts sticky_log.old sticky_log.new (L.is_full sticky_log.old.log (length payload.now)) result }
-    ensures of_log { L.tells → IfErr result IsOfLog }
-    ensures reads { (L.counts sticky_log.new.log).reads ≡ (L.counts sticky_log.old.log).reads }
-    ensures stamp { IfOk result (λ info. info.ts ≡ stamp) }
-    ensures size { IfOk result (λ info. (info.log_size ≡ head_size + length payload.now) × (info.log_size < size_limit)) }
-    ensures chains { L.tells → IfOk result (λ info. now effect_of_entry (L.state sticky_log.new.log) ≡ chains_from effect_of_entry (now effect_of_entry (L.state sticky_log.old.log)) (Change pid (placed (message kind payload.now) (place_of info)))) }
-    ensures same { L.tells → OnErr result (sticky_log.new.fault ≡ false → now effect_of_entry (L.state sticky_log.new.log) ≡ now effect_of_entry (L.state sticky_log.old.log)) }
-    ensures sized { L.tells → OnOk result (AllByRecursion IsSized (now effect_of_entry (L.state sticky_log.new.log))) }
+    ensures { WritesMessage L.Log sticky_log.old sticky_log.new pid (message kind payload.now) stamp result }
 {
     let (lsn, pointer, log_size) = sticky_log.append(kind, pid, payload)?;
     Ok(CacheInfo {

@@ -1,8 +1,4 @@
-use Rattle.std.proofs.Common.{◌∙◌, List, [], ap}
-use Rattle.sled_log.specs.Chains.{chains_after}
-use Rattle.sled_log.specs.Events.{Event}
-use Rattle.sled_log.specs.LogState.{LogState}
-use Rattle.sled_log.specs.Messages.{Entry, effect_of_entry}
+use Rattle.sled_pagecache.proofs.Names.{◌∙◌, List, [], ap, chains_after, Event, LogState, Entry, effect_of_entry}
 use Rattle.sled_disk.specs.DurableLaws.{one-meaning}
 use Rattle.sled_pagecache.proofs.Crashing.{starts-flushed}
 use Rattle.sled_pagecache.proofs.crashes.start_on_a_new_disk.Goals as goal

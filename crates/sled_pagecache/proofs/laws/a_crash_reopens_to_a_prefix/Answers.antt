@@ -1,7 +1,6 @@
 use Rattle.sled_pagecache.proofs.Reopening.{crash-reopens}
-use Rattle.sled_pagecache.proofs.Names.{changes_of_start, List, [], append-nil, Result, Ok, Err, Error, Update, Event, IsPrefix, Cache, Logged, CrashReopens, Opens, Config, log_after}
+use Rattle.sled_pagecache.proofs.Names.{changes_of, changes_of_start, List, [], append-nil, Result, Ok, Err, Error, Update, Event, IsPrefix, Cache, Logged, CrashReopens, Opens, Config, log_after}
 use Rattle.sled_pagecache.specs.Logged.{now}
-use Rattle.sled_pagecache.specs.Rows.{changes_of}
 use Rattle.sled_pagecache.proofs.laws.a_crash_reopens_to_a_prefix.Goals as goal
 
 pub returns-clause-of_a_call : goal.returns-clause-of_a_call

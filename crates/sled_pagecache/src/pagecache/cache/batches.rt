@@ -1,10 +1,11 @@
 //! Opening and closing a batch of a cache, which its guard does too.
 
 ghost use Rattle.std.specs.Prelude.{◌≡◌, true};
-ghost use Rattle.sled_pagecache.specs.Batches.{OpensBatch, SealsBatch, CancelsBatch};
+ghost use Rattle.sled_pagecache.specs.Batches.{OpensBatch, ClosesBatch, SealsBatch, CancelsBatch, answer_of, call_of};
 ghost use Rattle.sled_pagecache.specs.Memory.{IsBounded};
 
 use super::PageCache;
+use crate::pagecache::sticky_log::Closing;
 use sled_base::{Device, Error, Why};
 use sled_log::Log;
 
@@ -45,11 +46,7 @@ impl<L: Log> PageCache<L> {
         ensures closes { SealsBatch L.Log self.old result self.new }
         ensures bounded { IsBounded L.Log self.new }
     {
-        self.sticky_log.batch = false;
-        if self.sticky_log.fault {
-            return Err(Error::Io(Device::Write));
-        }
-        Ok(self.sticky_log.seal()?)
+        self.close(Closing::Seal)
     }
 
     /// Closes the open batch, of which a crash may leave a part. Its changes stand in the cache: nothing is undone.
@@ -61,10 +58,19 @@ impl<L: Log> PageCache<L> {
         ensures closes { CancelsBatch L.Log self.old result self.new }
         ensures bounded { IsBounded L.Log self.new }
     {
+        self.close(Closing::Cancel)
+    }
+
+    // Closes the open batch so. With a write error kept, the log isn't called.
+    fn close(&mut self, closing: Closing) -> Result<(), Error>
+        requires { self.old.batch ≡ true }
+        ensures closes { ClosesBatch L.Log (call_of closing) (answer_of closing) self.old result self.new }
+        ensures bounded { IsBounded L.Log self.new }
+    {
         self.sticky_log.batch = false;
         if self.sticky_log.fault {
             return Err(Error::Io(Device::Write));
         }
-        Ok(self.sticky_log.cancel()?)
+        Ok(self.sticky_log.close(closing)?)
     }
 }

@@ -26,7 +26,7 @@ ghost use Rattle.sled_pagecache.specs.declared.pagecache.call.Call.TheVariants a
 use super::PageCache;
 use crate::pagecache::add::add_page;
 use crate::pagecache::evict::evict;
-use crate::pagecache::judge::{Judgement, is_reserved, judge};
+use crate::pagecache::judge::{is_reserved, judge};
 use crate::pagecache::page::Kept;
 use crate::pagecache::pull::{pull_and_access, pull_and_link};
 use crate::pagecache::swap::{free_page, put_page};
@@ -137,10 +137,9 @@ impl<L: Log> PageCache<L> {
         ensures leaves { IfErr result (LeavesMemory self.old pid self.new L.tells) }
         ensures unnamed { IfErr result HasNoName }
     {
-        match judge(self.sticky_log.fault, &self.pages, pid, old)? {
-            Judgement::Stale(present) => return Ok(Err(Some((present, link)))),
-            Judgement::Gone => return Ok(Err(None)),
-            Judgement::Fresh => {}
+        match judge(self.sticky_log.fault, &self.pages, pid, old) {
+            Ok(()) => {}
+            Err(rejection) => return rejection.answer(link),
         }
         let (log, accesses) = (&mut self.sticky_log, &mut self.accesses);
         let page = self.pages.get_mut(pid);
@@ -187,10 +186,9 @@ impl<L: Log> PageCache<L> {
         ensures leaves { IfErr result (LeavesMemory self.old pid self.new L.tells) }
         ensures unnamed { IfErr result HasNoName }
     {
-        match judge(self.sticky_log.fault, &self.pages, pid, old)? {
-            Judgement::Stale(present) => return Ok(Err(Some((present, node)))),
-            Judgement::Gone => return Ok(Err(None)),
-            Judgement::Fresh => {}
+        match judge(self.sticky_log.fault, &self.pages, pid, old) {
+            Ok(()) => {}
+            Err(rejection) => return rejection.answer(node),
         }
         let (log, accesses) = (&mut self.sticky_log, &mut self.accesses);
         let page = self.pages.get_mut(pid);
@@ -237,10 +235,9 @@ impl<L: Log> PageCache<L> {
         ensures leaves { IfErr result (LeavesMemory self.old pid self.new L.tells) }
         ensures unnamed { IfErr result HasNoName }
     {
-        match judge(self.sticky_log.fault, &self.pages, pid, old)? {
-            Judgement::Stale(present) => return Ok(Err(Some((present, ())))),
-            Judgement::Gone => return Ok(Err(None)),
-            Judgement::Fresh => {}
+        match judge(self.sticky_log.fault, &self.pages, pid, old) {
+            Ok(()) => {}
+            Err(rejection) => return rejection.answer(()),
         }
         let (log, accesses) = (&mut self.sticky_log, &mut self.accesses);
         let page = self.pages.get_mut(pid);

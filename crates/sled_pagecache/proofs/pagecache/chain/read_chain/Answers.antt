@@ -15,7 +15,7 @@ read-requires-clause-known g c = λ known.
 
 pub returns-in_err-kind-clause-went : goal.returns-in_err-kind-clause-went
 returns-in_err-kind-clause-went g c =
-    Went-then g.L.Log.tells g.L.Log.state g.L.Log.moment g.L.Log.left_since g.L.Log.counts c.args.sticky_log.now c.loop-info.sticky_log c.read.new.self [] []
+    Went-then g.L.Log c.args.sticky_log.now c.loop-info.sticky_log c.read.new.self [] []
     c.loop-info.invariant.went c.loop-info.invariant.ready c.in_err-kind.ensures.went
 
 pub returns-in_err-kind-clause-at_most : goal.returns-in_err-kind-clause-at_most
@@ -41,7 +41,7 @@ loop-info-preserved g c =
     let lt = c.loop-info-test.true in
     record {
       ready = made.cause.fault;
-      went = Went-then g.L.Log.tells g.L.Log.state g.L.Log.moment g.L.Log.left_since g.L.Log.counts c.args.sticky_log.now c.loop-info.sticky_log c.read.new.self [] []
+      went = Went-then g.L.Log c.args.sticky_log.now c.loop-info.sticky_log c.read.new.self [] []
           so_far.went so_far.ready made.went;
       same = λ known. made.same known made.cause.fault ∙ so_far.same known;
       found = λ known.

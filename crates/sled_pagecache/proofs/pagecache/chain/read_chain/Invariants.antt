@@ -5,7 +5,7 @@ use Rattle.sled_pagecache.proofs.pagecache.chain.read_chain.Given as goal
 abbrev pub invariant-loop-info : goal.invariant-loop-info
 invariant-loop-info g l = record {
   ready : l.sticky_log.fault ≡ false;
-  went : Went g.L.Log.tells g.L.Log.state g.L.Log.moment g.L.Log.left_since g.L.Log.counts l.fn.sticky_log l.sticky_log [];
+  went : Went g.L.Log l.fn.sticky_log l.sticky_log [];
   same : g.L.Log.tells → now effect_of_entry (g.L.Log.state l.sticky_log.log) ≡ now effect_of_entry (g.L.Log.state l.fn.sticky_log.log);
   found : g.L.Log.tells → AllZip IsFoundAs (take l.info-index (chain_at (g.L.Log.state l.fn.sticky_log.log) l.fn.pid)) l.found.items;
   reads : (g.L.Log.counts l.sticky_log.log).reads ≡ more l.info-index (g.L.Log.counts l.fn.sticky_log.log).reads;

@@ -1,6 +1,5 @@
-use Rattle.sled_pagecache.proofs.Names.{◌∙◌, List, ℕ, sym, subst, refl}
+use Rattle.sled_pagecache.proofs.Names.{◌∙◌, List, ℕ, sym, subst, refl, AreOut}
 use Rattle.sled_pagecache.proofs.Evicting.{out-last}
-use Rattle.sled_pagecache.specs.Evictions.{AreOut}
 use Rattle.sled_pagecache.proofs.pagecache.evict.evict.Goals as goal
 
 pub returns-in-Some-lost : goal.returns-in-Some-lost

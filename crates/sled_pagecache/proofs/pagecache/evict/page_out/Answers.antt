@@ -1,6 +1,5 @@
-use Rattle.sled_pagecache.proofs.Names.{ℕ, List, take, subst, sym, take_more}
+use Rattle.sled_pagecache.proofs.Names.{ℕ, List, take, subst, sym, take_more, AreOut}
 use Rattle.sled_pagecache.proofs.Evicting.{out-last}
-use Rattle.sled_pagecache.specs.Evictions.{AreOut}
 use Rattle.sled_pagecache.proofs.pagecache.evict.page_out.Goals as goal
 
 pub loop-pid-preserved : goal.loop-pid-preserved

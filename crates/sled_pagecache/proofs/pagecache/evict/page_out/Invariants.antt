@@ -1,5 +1,4 @@
-use Rattle.sled_pagecache.proofs.Names.{take}
-use Rattle.sled_pagecache.specs.Evictions.{AreOut}
+use Rattle.sled_pagecache.proofs.Names.{take, AreOut}
 use Rattle.sled_pagecache.proofs.pagecache.evict.page_out.Given as goal
 
 -- those so far are out

@@ -1,6 +1,5 @@
-use Rattle.sled_pagecache.proofs.Names.{Counter, Put, counter_pid}
+use Rattle.sled_pagecache.proofs.Names.{Counter, Put, counter_pid, refused-is}
 use Rattle.sled_pagecache.proofs.Durable.{durable-done, durable-failed}
-use Rattle.sled_pagecache.proofs.Refused.{refused-is}
 use Rattle.sled_pagecache.proofs.pagecache.ids.write_durably.Goals as goal
 
 pub returns-in_err-make_stable-clause-wrote : goal.returns-in_err-make_stable-clause-wrote

@@ -1,7 +1,6 @@
-use Rattle.sled_pagecache.proofs.Names.{[], ◌∷◌, ◌++◌, List, sym, refl, ap, ◌∙◌, arith, Err, OutOfMemory, Counter, counter_event, CacheInfo}
+use Rattle.sled_pagecache.proofs.Names.{[], ◌∷◌, ◌++◌, List, sym, refl, ap, ◌∙◌, arith, Err, OutOfMemory, Counter, counter_event, CacheInfo, refused-is}
 use Rattle.sled_pagecache.proofs.Proceeding.{proceeds-none, proceeds-refused, proceeds-first, proceeds-unplaced}
 use Rattle.sled_pagecache.proofs.Starting.{own-table}
-use Rattle.sled_pagecache.proofs.Refused.{refused-is}
 use Rattle.sled_pagecache.proofs.pagecache.own.add_counter.Goals as goal
 
 pub returns-in_default-clause-proceeds : goal.returns-in_default-clause-proceeds
@@ -14,7 +13,7 @@ pub returns-in_err-info-clause-proceeds : goal.returns-in_err-info-clause-procee
 returns-in_err-info-clause-proceeds g c =
     let sticky_log = c.args.sticky_log.now in
     rw (refused-is c.from_residual.result _ c.from_residual.ensures.1)
-    (proceeds-unplaced g.L.Log {T = CacheInfo} sticky_log c.write_counter.new.sticky_log counter_event (Err c.in_err-info.field-0.0) (g.met.L.Log.only_now sticky_log.log) c.requires.ready c.requires.usable c.in_err-info.ensures.went c.in_err-info.ensures.cause)
+    (proceeds-unplaced g.L.Log {T = CacheInfo} sticky_log c.write_counter.new.sticky_log counter_event (Err c.in_err-info.field-0.0) (g.met.L.Log.only_now sticky_log.log) c.requires.ready c.requires.usable c.in_err-info.ensures.writes.went c.in_err-info.ensures.writes.cause)
 
 pub returns-clause-table : goal.returns-clause-table
 returns-clause-table g c =

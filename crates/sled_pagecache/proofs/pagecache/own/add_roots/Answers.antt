@@ -1,7 +1,6 @@
-use Rattle.sled_pagecache.proofs.Names.{[], ◌∷◌, ◌++◌, List, length, sym, refl, ap, ◌∙◌, arith, rules, Err, OutOfMemory, Roots, events_of_roots, CacheInfo, nil_from_length}
+use Rattle.sled_pagecache.proofs.Names.{[], ◌∷◌, ◌++◌, List, length, sym, refl, ap, ◌∙◌, arith, rules, Err, OutOfMemory, Roots, events_of_roots, CacheInfo, nil_from_length, refused-is}
 use Rattle.sled_pagecache.proofs.Proceeding.{proceeds-none, proceeds-refused, proceeds-first}
 use Rattle.sled_pagecache.proofs.Starting.{wrote-roots, own-table}
-use Rattle.sled_pagecache.proofs.Refused.{refused-is}
 use Rattle.sled_pagecache.proofs.pagecache.own.add_roots.Goals as goal
 
 pub returns-in_default-clause-proceeds : goal.returns-in_default-clause-proceeds

@@ -1,7 +1,6 @@
 use Rattle.std.proofs.Common.{◌≡◌, ◌++◌, ◌∙◌, false, List, ap, sym, subst, arith, append-nil, lt-ltb}
 use Rattle.sled_pagecache.proofs.PageChunks.{pages-push, filled-one_more, at_last-push}
-use Rattle.sled_pagecache.specs.PageTables.{pages_in, AreFilled, at_last, is_unfilled}
-use Rattle.sled_pagecache.proofs.Names.{Page, chunk_length}
+use Rattle.sled_pagecache.proofs.Names.{Page, chunk_length, pages_in, AreFilled, at_last, is_unfilled}
 use Rattle.sled_pagecache.proofs.pagecache.pagetable.open_last.Goals as goal
 
 pub returns-in_ok-push-clause-same : goal.returns-in_ok-push-clause-same

@@ -1,6 +1,5 @@
-use Rattle.sled_pagecache.proofs.Names.{◌≡◌, false, List, sym, ap, subst, AllZip, is_empty, Node, effect_of_entry, IsFoundAs, chain_at, HoldsChain, is_free, Found}
+use Rattle.sled_pagecache.proofs.Names.{◌≡◌, false, List, sym, ap, subst, AllZip, is_empty, Node, effect_of_entry, IsFoundAs, chain_at, HoldsChain, is_free, Found, refused-is}
 use Rattle.sled_pagecache.proofs.Pulls.{makes-found, unmade}
-use Rattle.sled_pagecache.proofs.Refused.{refused-is}
 use Rattle.sled_pagecache.proofs.pagecache.pull.pull.Goals as goal
 
 pub returns-in_err-node_of-clause-refused : goal.returns-in_err-node_of-clause-refused

@@ -1,6 +1,5 @@
-use Rattle.sled_pagecache.proofs.Names.{rules, [], refl, ◌∙◌, inl, inr, Result, Ok, Err, Refusal}
+use Rattle.sled_pagecache.proofs.Names.{rules, [], refl, ◌∙◌, inl, inr, Result, Ok, Err, Refusal, refused-is}
 use Rattle.sled_pagecache.proofs.Linking.{taken, refused, begun, caused, read-at_most}
-use Rattle.sled_pagecache.proofs.Refused.{refused-is}
 use Rattle.sled_pagecache.proofs.pagecache.pull.pull_and_link.Goals as goal
 
 pub returns-in-Ok : goal.returns-in-Ok

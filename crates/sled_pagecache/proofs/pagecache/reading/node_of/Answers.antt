@@ -1,6 +1,5 @@
-use Rattle.sled_pagecache.proofs.Names.{◌+◌, arith}
+use Rattle.sled_pagecache.proofs.Names.{◌+◌, arith, refused-is}
 use Rattle.sled_pagecache.proofs.FoundMessages.{at_rest, made-first, made-more, made-all, refused-first, refused-more}
-use Rattle.sled_pagecache.proofs.Refused.{refused-is}
 use Rattle.sled_pagecache.proofs.pagecache.reading.node_of.Goals as goal
 
 pub returns-in_err-node-clause-refused : goal.returns-in_err-node-clause-refused

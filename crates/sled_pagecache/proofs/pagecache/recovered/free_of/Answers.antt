@@ -1,5 +1,4 @@
-use Rattle.sled_pagecache.proofs.Names.{◌≡◌, arith, rules, None, slice_get}
-use Rattle.sled_pagecache.proofs.Lookups.{past-end}
+use Rattle.sled_pagecache.proofs.Names.{◌≡◌, arith, rules, None, slice_get, past-end}
 use Rattle.sled_pagecache.proofs.RecoveredPages.{free-taken, free-passed}
 use Rattle.sled_pagecache.proofs.pagecache.recovered.free_of.Goals as goal
 use Rattle.sled_pagecache.proofs.pagecache.recovered.free_of.Goals.{in-Some+then-is_free+in_ok-put, in_default, in_default-via-in-None-1, in_default-via-in-Some+else-is_free}

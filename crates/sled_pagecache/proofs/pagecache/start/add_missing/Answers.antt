@@ -1,7 +1,6 @@
-use Rattle.sled_pagecache.proofs.Names.{◌<◌, List, length, None, subst, sym, rules, Ok, Err, Event, Message, events_at_start, Proceeds}
+use Rattle.sled_pagecache.proofs.Names.{◌<◌, List, length, None, subst, sym, rules, Ok, Err, Event, Message, events_at_start, Proceeds, refused-is}
 use Rattle.sled_pagecache.proofs.Proceeding.{proceeds-none, proceeds-behind}
 use Rattle.sled_pagecache.proofs.Starting.{none-missing, missing-first, missing-both, missing-some, stays-closed, events-closed, past-both}
-use Rattle.sled_pagecache.proofs.Refused.{refused-is}
 use Rattle.sled_pagecache.proofs.pagecache.start.add_missing.Goals as goal
 
 pub returns-then-len-gt1-clause-proceeds : goal.returns-then-len-gt1-clause-proceeds

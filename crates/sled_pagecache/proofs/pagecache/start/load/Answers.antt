@@ -1,8 +1,7 @@
-use Rattle.sled_pagecache.proofs.Names.{List, subst, ◌≡◌, ◌+◌, ℕ, [], length, Option, None, Some, sym, ap, arith, AllZip-long, Corruption, Chain, effect_of_entry, now, own_among, IsLoaded, RefusesPages}
+use Rattle.sled_pagecache.proofs.Names.{List, subst, ◌≡◌, ◌+◌, ℕ, [], length, Option, None, Some, sym, ap, arith, AllZip-long, Corruption, Chain, effect_of_entry, now, own_among, IsLoaded, RefusesPages, refused-is}
 use Rattle.sled_pagecache.proofs.Proceeding.{proceeds-then, proceeds-refused}
 use Rattle.sled_pagecache.proofs.ReadCounts.{read-loaded, read-known, read-handed, read-then}
 use Rattle.sled_pagecache.proofs.Starting.{read-from, begins-amiss}
-use Rattle.sled_pagecache.proofs.Refused.{refused-is}
 use Rattle.sled_pagecache.proofs.pagecache.start.load.Goals as goal
 
 pub returns-in_err-counter-clause-proceeds : goal.returns-in_err-counter-clause-proceeds

@@ -1,8 +1,7 @@
-use Rattle.sled_pagecache.proofs.Names.{List, ◌∙◌, [], refl, ap, on_ok_weaker, AllZip-long, Chain, effect_of_entry, now, IsLoaded, events_at_start}
+use Rattle.sled_pagecache.proofs.Names.{List, ◌∙◌, [], refl, ap, on_ok_weaker, AllZip-long, Chain, effect_of_entry, now, IsLoaded, events_at_start, refused-is}
 use Rattle.sled_pagecache.proofs.Opening.{starts}
 use Rattle.sled_pagecache.proofs.Proceeding.{proceeds-then, proceeds-first}
 use Rattle.sled_pagecache.proofs.Starting.{events-same, read-fewer, stays-closed}
-use Rattle.sled_pagecache.proofs.Refused.{refused-is}
 use Rattle.sled_pagecache.proofs.pagecache.start.open.Goals as goal
 
 pub complete-requires-clause-closed : goal.complete-requires-clause-closed

@@ -1,8 +1,7 @@
-use Rattle.sled_pagecache.proofs.Names.{[], length, refl, sym, ◌∙◌, ap, arith, slice_get_within, get_or_from_slice_get, more, own_among}
+use Rattle.sled_pagecache.proofs.Names.{[], length, refl, sym, ◌∙◌, ap, arith, slice_get_within, get_or_from_slice_get, more, own_among, refused-is}
 use Rattle.sled_pagecache.proofs.Proceeding.{proceeds-then}
 use Rattle.sled_pagecache.proofs.ReadCounts.{own-some, own-one, own-two, read-known, read-handed, read-then}
 use Rattle.sled_pagecache.proofs.Starting.{loaded-at, second-found, second-none, read-first, read-both, first-fits, own-refuses}
-use Rattle.sled_pagecache.proofs.Refused.{refused-is}
 use Rattle.sled_pagecache.proofs.pagecache.start.read_system_pages.Goals as goal
 
 pub returns-in_err-roots-clause-refused : goal.returns-in_err-roots-clause-refused

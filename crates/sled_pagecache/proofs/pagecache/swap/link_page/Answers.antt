@@ -6,15 +6,15 @@ use Rattle.sled_pagecache.proofs.pagecache.swap.link_page.Goals as goal
 
 pub returns-then-not-accepts-clause-went : goal.returns-then-not-accepts-clause-went
 returns-then-not-accepts-clause-went g c =
-    Went-none g.L.Log.tells g.L.Log.state g.L.Log.moment g.L.Log.left_since g.L.Log.counts c.args.sticky_log.now c.requires.usable (search rules)
+    Went-none g.L.Log c.args.sticky_log.now c.requires.usable (search rules)
 
 pub returns-then-page-clause-went : goal.returns-then-page-clause-went
 returns-then-page-clause-went g c =
-    Went-none g.L.Log.tells g.L.Log.state g.L.Log.moment g.L.Log.left_since g.L.Log.counts c.args.sticky_log.now c.requires.usable (search rules)
+    Went-none g.L.Log c.args.sticky_log.now c.requires.usable (search rules)
 
 pub returns-in_default-prepare-clause-went : goal.returns-in_default-prepare-clause-went
 returns-in_default-prepare-clause-went g c =
-    Went-none g.L.Log.tells g.L.Log.state g.L.Log.moment g.L.Log.left_since g.L.Log.counts c.args.sticky_log.now c.requires.usable (search rules)
+    Went-none g.L.Log c.args.sticky_log.now c.requires.usable (search rules)
 
 pub write_linked-requires-clause-full : goal.write_linked-requires-clause-full
 write_linked-requires-clause-full g c = λ told.
@@ -22,18 +22,18 @@ write_linked-requires-clause-full g c = λ told.
 
 pub returns-in-Ok-write_linked-clause-went : goal.returns-in-Ok-write_linked-clause-went
 returns-in-Ok-write_linked-clause-went g c =
-    subst (λ (u : Update). Went g.L.Log.tells g.L.Log.state g.L.Log.moment g.L.Log.left_since g.L.Log.counts c.args.sticky_log.now c.write_linked.new.sticky_log (Change c.args.pid (message_of u) ∷ [])) (update-is c.len-messages.result c.args.page.now.infos.items c.args.link.now c.in-Node.node c.prepare.new.node c.args.page.now.kept (search rules) c.in-Ok.ensures.applied c.in-Node.is) c.in-Ok-write_linked.ensures.went
+    subst (λ (u : Update). Went g.L.Log c.args.sticky_log.now c.write_linked.new.sticky_log (Change c.args.pid (message_of u) ∷ [])) (update-is c.len-messages.result c.args.page.now.infos.items c.args.link.now c.in-Node.node c.prepare.new.node c.args.page.now.kept (search rules) c.in-Ok.ensures.applied c.in-Node.is) c.in-Ok-write_linked.ensures.writes.went
 
 pub returns-in-Ok-write_linked-clause-kept : goal.returns-in-Ok-write_linked-clause-kept
 returns-in-Ok-write_linked-clause-kept g c = λ told.
     let done = c.in-Ok-write_linked in
-    page-kept _ c.args.pid (c.requires.there told) c.args.page.now (c.requires.kept told) c.args.link.now c.in-Node.node c.prepare.new.node c.in-Node.is (c.accepts.ensures.accepted.0 c.if-not-accepts.false) c.in-Ok.ensures.applied c.len-messages.result (search rules) _ done.info (done.ensures.chains told) c.keep_linked.new.page done.ensures.is
+    page-kept _ c.args.pid (c.requires.there told) c.args.page.now (c.requires.kept told) c.args.link.now c.in-Node.node c.prepare.new.node c.in-Node.is (c.accepts.ensures.accepted.0 c.if-not-accepts.false) c.in-Ok.ensures.applied c.len-messages.result (search rules) _ done.info (done.ensures.writes.chains told) c.keep_linked.new.page done.ensures.is
     (c.keep_linked.ensures.infos ∙ ap (λ infos. infos_after infos done.info) c.prepare.ensures.infos) c.keep_linked.ensures.kept
 
 pub returns-in-Ok-write_linked-clause-others : goal.returns-in-Ok-write_linked-clause-others
 returns-in-Ok-write_linked-clause-others g c = λ told.
     let done = c.in-Ok-write_linked in
-    page-others _ c.args.pid (c.requires.there told) c.args.page.now (c.requires.kept told) c.args.link.now c.in-Node.node c.prepare.new.node c.in-Node.is (c.accepts.ensures.accepted.0 c.if-not-accepts.false) c.in-Ok.ensures.applied c.len-messages.result (search rules) _ done.info (done.ensures.chains told)
+    page-others _ c.args.pid (c.requires.there told) c.args.page.now (c.requires.kept told) c.args.link.now c.in-Node.node c.prepare.new.node c.in-Node.is (c.accepts.ensures.accepted.0 c.if-not-accepts.false) c.in-Ok.ensures.applied c.len-messages.result (search rules) _ done.info (done.ensures.writes.chains told)
 
 pub returns-in-Ok-write_linked-clause-len : goal.returns-in-Ok-write_linked-clause-len
 returns-in-Ok-write_linked-clause-len g c =
@@ -45,27 +45,27 @@ returns-in-Ok-write_linked-clause-linked g c =
 
 pub returns-in-Err-clause-went : goal.returns-in-Err-clause-went
 returns-in-Err-clause-went g c =
-    went-handed g.L.Log.tells g.L.Log.state g.L.Log.moment g.L.Log.left_since g.L.Log.counts g.L.Log.is_full c.args.sticky_log.now c.write_linked.new.sticky_log c.args.pid _ _ (update-is c.len-messages.result c.args.page.now.infos.items c.args.link.now c.in-Node.node c.prepare.new.node c.args.page.now.kept (search rules) c.in-Ok.ensures.applied c.in-Node.is)
-    c.in-Err.refusal CacheInfo (Unit {0}) c.in-Err.ensures.went
+    went-handed g.L.Log c.args.sticky_log.now c.write_linked.new.sticky_log c.args.pid _ _ (update-is c.len-messages.result c.args.page.now.infos.items c.args.link.now c.in-Node.node c.prepare.new.node c.args.page.now.kept (search rules) c.in-Ok.ensures.applied c.in-Node.is)
+    c.in-Err.refusal CacheInfo (Unit {0}) c.in-Err.ensures.writes.went
 
 pub returns-in-Err-clause-cause : goal.returns-in-Err-clause-cause
 returns-in-Err-clause-cause g c =
-    cause-handed g.L.Log.tells g.L.Log.state g.L.Log.moment g.L.Log.left_since g.L.Log.counts g.L.Log.is_full c.args.sticky_log.now c.write_linked.new.sticky_log c.args.pid _ _ (update-is c.len-messages.result c.args.page.now.infos.items c.args.link.now c.in-Node.node c.prepare.new.node c.args.page.now.kept (search rules) c.in-Ok.ensures.applied c.in-Node.is)
-    c.in-Err.refusal CacheInfo _ c.in-Err.ensures.cause
+    cause-handed g.L.Log c.args.sticky_log.now c.write_linked.new.sticky_log c.args.pid _ _ (update-is c.len-messages.result c.args.page.now.infos.items c.args.link.now c.in-Node.node c.prepare.new.node c.args.page.now.kept (search rules) c.in-Ok.ensures.applied c.in-Node.is)
+    c.in-Err.refusal CacheInfo _ c.in-Err.ensures.writes.cause
 
 pub returns-in-Err-clause-still : goal.returns-in-Err-clause-still
 returns-in-Err-clause-still g c = λ told.
     λ clear.
-    kept-still _ (now effect_of_entry (g.L.Log.state c.write_linked.new.sticky_log.log)) c.args.pid _ (c.in-Err.ensures.same told clear)
+    kept-still _ (now effect_of_entry (g.L.Log.state c.write_linked.new.sticky_log.log)) c.args.pid _ (c.in-Err.ensures.writes.same told clear)
     (kept-away _ c.args.page.now _ (c.requires.kept told) (page-full _ c.args.pid (c.requires.there told) c.args.page.now (c.requires.kept told) c.args.link.now c.in-Node.node c.prepare.new.node c.in-Node.is (c.accepts.ensures.accepted.0 c.if-not-accepts.false) c.in-Ok.ensures.applied c.len-messages.result (search rules)) c.prepare.ensures.infos refl)
 
 pub returns-in-Err-clause-refused : goal.returns-in-Err-clause-refused
 returns-in-Err-clause-refused g c = λ told.
-    refuses-node c.args.page.now.stamp c.args.page.now.kept c.args.link.now c.in-Node.node c.in-Err.refusal c.in-Node.is (inr (c.accepts.ensures.accepted.0 c.if-not-accepts.false, inr (c.if-page.false, c.in-Err.ensures.of_log told)))
+    refuses-node c.args.page.now.stamp c.args.page.now.kept c.args.link.now c.in-Node.node c.in-Err.refusal c.in-Node.is (inr (c.accepts.ensures.accepted.0 c.if-not-accepts.false, inr (c.if-page.false, c.in-Err.ensures.writes.of_log told)))
 
 pub returns-in_default-access_linked-clause-went : goal.returns-in_default-access_linked-clause-went
 returns-in_default-access_linked-clause-went g c =
-    Went-none g.L.Log.tells g.L.Log.state g.L.Log.moment g.L.Log.left_since g.L.Log.counts c.args.sticky_log.now c.requires.usable (g.met.L.Log.only_now c.args.sticky_log.now.log)
+    Went-none g.L.Log c.args.sticky_log.now c.requires.usable (g.met.L.Log.only_now c.args.sticky_log.now.log)
 
 pub returns-in_default-access_linked-clause-still : goal.returns-in_default-access_linked-clause-still
 returns-in_default-access_linked-clause-still g c = λ told.
@@ -78,5 +78,5 @@ pub returns-in-Ok-write_linked-clause-accessed : goal.returns-in-Ok-write_linked
 returns-in-Ok-write_linked-clause-accessed g c =
     let done = c.in-Ok-write_linked in
     subst (λ n. WasAccessed c.args.accesses.now c.args.pid n c.access_linked.new.accesses)
-    (linked-size c.deref.result.now c.prepare.new.infos.items c.linked_size-size.result c.keep_linked.new.page done.info c.deref.ensures.value c.keep_linked.ensures.infos (done.ensures.size.0 ∙ ap (λ n. head_size + n) (sym c.linked_size-size.ensures)))
+    (linked-size c.deref.result.now c.prepare.new.infos.items c.linked_size-size.result c.keep_linked.new.page done.info c.deref.ensures.value c.keep_linked.ensures.infos (done.ensures.writes.size.0 ∙ ap (λ n. head_size + n) (sym c.linked_size-size.ensures)))
     c.in-Ok-access_linked.ensures.accessed

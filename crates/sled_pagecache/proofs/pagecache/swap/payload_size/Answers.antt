@@ -1,5 +1,4 @@
-use Rattle.sled_pagecache.proofs.Names.{subst, Counter, Roots, Node, Put, written-update}
-use Rattle.sled_pagecache.specs.Swaps.{CanPut}
+use Rattle.sled_pagecache.proofs.Names.{subst, Counter, Roots, Node, Put, written-update, CanPut}
 use Rattle.sled_pagecache.proofs.pagecache.swap.payload_size.Goals as goal
 
 pub returns-in-Node-clause-is : goal.returns-in-Node-clause-is

@@ -14,35 +14,7 @@ pub write_node-requires-clause-sized : goal.write_node-requires-clause-sized
 write_node-requires-clause-sized g c = rw (le-ltb c.args.messages 10 c.if-messages-lt-PAGE_CONSOLIDATION_THRESHOLD.false) at c.requires.sized
 
 pub returns-then-messages-lt-PAGE_CONSOLIDATION_THRESHOLD : goal.returns-then-messages-lt-PAGE_CONSOLIDATION_THRESHOLD
-returns-then-messages-lt-PAGE_CONSOLIDATION_THRESHOLD g c =
-    let wrote = c.write_link.ensures in
-    rw (lt-ltb c.args.messages 10 c.if-messages-lt-PAGE_CONSOLIDATION_THRESHOLD.true)
-    (record {
-      is = wrote.is;
-      went = wrote.went;
-      cause = wrote.cause;
-      of_log = wrote.of_log;
-      reads = wrote.reads;
-      at = wrote.stamp;
-      size = wrote.size;
-      chains = wrote.chains;
-      same = wrote.same;
-      sized = wrote.sized;
-    })
+returns-then-messages-lt-PAGE_CONSOLIDATION_THRESHOLD g c = rw (lt-ltb c.args.messages 10 c.if-messages-lt-PAGE_CONSOLIDATION_THRESHOLD.true) c.write_link.ensures
 
 pub returns : goal.returns
-returns g c =
-    let wrote = c.write_node.ensures in
-    rw (le-ltb c.args.messages 10 c.if-messages-lt-PAGE_CONSOLIDATION_THRESHOLD.false)
-    (record {
-      is = wrote.is;
-      went = wrote.went;
-      cause = wrote.cause;
-      of_log = wrote.of_log;
-      reads = wrote.reads;
-      at = wrote.stamp;
-      size = wrote.size;
-      chains = wrote.chains;
-      same = wrote.same;
-      sized = wrote.sized;
-    })
+returns g c = rw (le-ltb c.args.messages 10 c.if-messages-lt-PAGE_CONSOLIDATION_THRESHOLD.false) c.write_node.ensures

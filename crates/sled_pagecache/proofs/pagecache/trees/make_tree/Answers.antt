@@ -1,8 +1,5 @@
-use Rattle.sled_node.specs.Node.{empty_leaf}
-use Rattle.sled_pagecache.proofs.Names.{ℕ, Token, [], Ok, Err, refl, ⊤}
-use Rattle.sled_pagecache.proofs.Refused.{refused-is}
+use Rattle.sled_pagecache.proofs.Names.{ℕ, Token, [], Ok, Err, refl, ⊤, empty_leaf, MakesTree, PutsIndex, refused-is}
 use Rattle.sled_pagecache.proofs.TreeSteps.{ends-with, goes-on}
-use Rattle.sled_pagecache.specs.Trees.{MakesTree, PutsIndex}
 use Rattle.sled_pagecache.proofs.pagecache.trees.make_tree.Goals as goal
 
 pub returns-in_err-leaf-clause-goes : goal.returns-in_err-leaf-clause-goes

@@ -1,5 +1,4 @@
-use Rattle.sled_pagecache.proofs.Names.{ℕ, Option, Result, Ok, Err, refl}
-use Rattle.sled_pagecache.proofs.Refused.{refused-is}
+use Rattle.sled_pagecache.proofs.Names.{ℕ, Option, Result, Ok, Err, refl, refused-is}
 use Rattle.sled_pagecache.proofs.TreeSteps.{same-fault, swaps-root}
 use Rattle.sled_pagecache.proofs.pagecache.trees.name_root.Goals as goal
 

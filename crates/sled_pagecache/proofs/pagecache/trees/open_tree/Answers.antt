@@ -1,7 +1,5 @@
-use Rattle.sled_pagecache.proofs.Names.{Some, Ok, Err, refl, ⊤}
-use Rattle.sled_pagecache.proofs.Refused.{refused-is}
+use Rattle.sled_pagecache.proofs.Names.{Some, Ok, Err, refl, ⊤, GoesOn, MakesTree, refused-is}
 use Rattle.sled_pagecache.proofs.TreeSteps.{opens-none, opens-tree}
-use Rattle.sled_pagecache.specs.Trees.{GoesOn, MakesTree}
 use Rattle.sled_pagecache.proofs.pagecache.trees.open_tree.Goals as goal
 
 pub returns-in_err-root-clause-opened : goal.returns-in_err-root-clause-opened

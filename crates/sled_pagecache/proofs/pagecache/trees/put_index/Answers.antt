@@ -1,7 +1,5 @@
-use Rattle.sled_pagecache.proofs.Names.{ℕ, Token, [], Ok, Err, inr, refl, ⊤}
-use Rattle.sled_pagecache.proofs.Refused.{refused-is}
+use Rattle.sled_pagecache.proofs.Names.{ℕ, Token, [], Ok, Err, inr, refl, ⊤, NamesRoot, PutsIndex, index_over, refused-is}
 use Rattle.sled_pagecache.proofs.TreeSteps.{ends-with, goes-on}
-use Rattle.sled_pagecache.specs.Trees.{NamesRoot, PutsIndex, index_over}
 use Rattle.sled_pagecache.proofs.pagecache.trees.put_index.Goals as goal
 
 pub returns-in_err-root-clause-goes : goal.returns-in_err-root-clause-goes

@@ -2,15 +2,4 @@ use Rattle.sled_pagecache.proofs.Names.{Counter, Put, written-update}
 use Rattle.sled_pagecache.proofs.pagecache.write.write_counter.Goals as goal
 
 pub returns : goal.returns
-returns g c = record {
-  is = written-update (Put (Counter c.args.n)) c.ranges.n.fits;
-  went = c.write.ensures.went;
-  cause = c.write.ensures.cause;
-  of_log = c.write.ensures.of_log;
-  reads = c.write.ensures.reads;
-  at = c.write.ensures.stamp;
-  size = c.write.ensures.size;
-  chains = c.write.ensures.chains;
-  same = c.write.ensures.same;
-  sized = c.write.ensures.sized;
-}
+returns g c = record { is = written-update (Put (Counter c.args.n)) c.ranges.n.fits; writes = c.write.ensures }

@@ -1,5 +1,5 @@
 use Rattle.sled_pagecache.proofs.Names.{Link, written-update}
 use Rattle.sled_pagecache.proofs.pagecache.write.write_link.Goals as goal
 
-pub returns-clause-is : goal.returns-clause-is
-returns-clause-is g c = written-update (Link c.args.link.now) c.requires.short
+pub returns : goal.returns
+returns g c = record { is = written-update (Link c.args.link.now) c.requires.short; writes = c.write.ensures }

@@ -1,12 +1,11 @@
 use Rattle.sled_base.specs.declared.types.Error.TheVariants.{Io}
-use Rattle.sled_pagecache.proofs.Names.{length, Err, rules, sym, ◌∙◌, refl, arith, slice_get_within, Write, Allocated, Allocate}
+use Rattle.sled_pagecache.proofs.Names.{length, Err, rules, sym, ◌∙◌, refl, arith, slice_get_within, Write, Allocated, Allocate, no_name}
 use Rattle.sled_pagecache.proofs.Allocating.{ends-nowhere, last-at, last-read}
 use Rattle.sled_pagecache.proofs.CacheSteps.{steps-stuck}
 use Rattle.sled_pagecache.proofs.Evicting.{leaves-same}
 use Rattle.sled_pagecache.proofs.InMemory.{past-view}
 use Rattle.sled_pagecache.proofs.Placing.{added, unadded, reused, unreused}
 use Rattle.sled_pagecache.proofs.Standing.{beside-long}
-use Rattle.sled_pagecache.proofs.Refused.{no_name}
 use Rattle.sled_pagecache.proofs.pagecache.cache.PageCache.allocate.Goals as goal
 
 pub returns-then-stuck-clause-step : goal.returns-then-stuck-clause-step

@@ -1,12 +1,11 @@
 use Rattle.sled_base.specs.declared.types.Error.TheVariants.{Io}
-use Rattle.sled_pagecache.proofs.Names.{Err, GenerateId, Generated, Page, Write, ap, arith, le-ltb, refl, rules, same_Some, sym, ◌+◌, ◌-◌, ◌^◌, ◌∙◌, ◌≡◌}
+use Rattle.sled_pagecache.proofs.Names.{Err, GenerateId, Generated, Write, arith, le-ltb, refl, rules, ◌+◌, ◌-◌, ◌^◌, ◌∙◌, no_name}
 use Rattle.sled_pagecache.proofs.CacheSteps.{steps-stuck}
 use Rattle.sled_pagecache.proofs.Counted.{covered-next, whole-next}
 use Rattle.sled_pagecache.proofs.CounterPage.{keeps-counter}
 use Rattle.sled_pagecache.proofs.Evicting.{kept-settled, leaves-same}
 use Rattle.sled_pagecache.proofs.Generating.{few, id-covered, id-too-early, id-used-up, more}
 use Rattle.sled_pagecache.proofs.Giving.{id-made, id-unmade}
-use Rattle.sled_pagecache.proofs.Refused.{no_name}
 use Rattle.sled_pagecache.proofs.Standing.{beside-long}
 use Rattle.sled_pagecache.proofs.pagecache.cache.PageCache.generate_id_inner.Goals as goal
 
@@ -88,31 +87,14 @@ put_counter-requires-clause-there g c = λ told.
 
 -- a new counter is put on its page
 pub invariant_of-self-in-Ok : goal.invariant_of-self-in-Ok
-invariant_of-self-in-Ok g c =
-    let inside = c.self.inside in
-    let found = c.own_counter-counter.ensures in
-    let same : c.get_mut-page.result.now ≡ found.page = same_Some _ _ (sym c.get_mut-page.ensures.page ∙ found.at) in
-    let below = le-ltb (2 ^ 64 - 1) inside.next (omega (arith, c.if-self-2.false)) in
-    let above = more c.interval_start-start.result c.interval_start.result inside.config.idgen_persist_interval inside.next c.own_counter-counter.result.1 c.interval_start-start.ensures c.interval_start.ensures c.if-start-interval_start.false in
-    (id-made g.L.Log c.self.invariant c.if-self.false c.if-self-3.false c.get_mut-page.ensures.page (ap (λ (p : Page). p.kept) same ∙ found.counter) below above c.interval_start-start.ensures c.in-Ok.ensures.put c.in-Ok.ensures.stable c.evict.ensures).is
+invariant_of-self-in-Ok g c = (id-made g.L.Log c.self.invariant c.if-self.false c.if-self-3.false c.get_mut-page.ensures.page c.own_counter-counter.ensures (omega (arith, c.if-self-2.false)) c.interval_start-start.ensures c.interval_start.ensures c.if-start-interval_start.false c.in-Ok.ensures.put c.in-Ok.ensures.stable c.evict.ensures).is
 
 pub invariant_of-self-in-Err : goal.invariant_of-self-in-Err
-invariant_of-self-in-Err g c =
-    let inside = c.self.inside in
-    let found = c.own_counter-counter.ensures in
-    let same : c.get_mut-page.result.now ≡ found.page = same_Some _ _ (sym c.get_mut-page.ensures.page ∙ found.at) in
-    let below = le-ltb (2 ^ 64 - 1) inside.next (omega (arith, c.if-self-2.false)) in
-    let above = more c.interval_start-start.result c.interval_start.result inside.config.idgen_persist_interval inside.next c.own_counter-counter.result.1 c.interval_start-start.ensures c.interval_start.ensures c.if-start-interval_start.false in
-    (id-unmade g.L.Log c.self.invariant c.if-self.false c.if-self-3.false c.get_mut-page.ensures.page (ap (λ (p : Page). p.kept) same ∙ found.counter) below above c.interval_start-start.ensures c.in-Err.ensures.put c.evict-in-Err.ensures).is
+invariant_of-self-in-Err g c = (id-unmade g.L.Log c.self.invariant c.if-self.false c.if-self-3.false c.get_mut-page.ensures.page c.own_counter-counter.ensures (omega (arith, c.if-self-2.false)) c.interval_start-start.ensures c.interval_start.ensures c.if-start-interval_start.false c.in-Err.ensures.put c.evict-in-Err.ensures).is
 
 pub returns-in-Ok : goal.returns-in-Ok
 returns-in-Ok g c =
-    let inside = c.self.inside in
-    let found = c.own_counter-counter.ensures in
-    let same : c.get_mut-page.result.now ≡ found.page = same_Some _ _ (sym c.get_mut-page.ensures.page ∙ found.at) in
-    let below = le-ltb (2 ^ 64 - 1) inside.next (omega (arith, c.if-self-2.false)) in
-    let above = more c.interval_start-start.result c.interval_start.result inside.config.idgen_persist_interval inside.next c.own_counter-counter.result.1 c.interval_start-start.ensures c.interval_start.ensures c.if-start-interval_start.false in
-    let given = id-made g.L.Log c.self.invariant c.if-self.false c.if-self-3.false c.get_mut-page.ensures.page (ap (λ (p : Page). p.kept) same ∙ found.counter) below above c.interval_start-start.ensures c.in-Ok.ensures.put c.in-Ok.ensures.stable c.evict.ensures in
+    let given = id-made g.L.Log c.self.invariant c.if-self.false c.if-self-3.false c.get_mut-page.ensures.page c.own_counter-counter.ensures (omega (arith, c.if-self-2.false)) c.interval_start-start.ensures c.interval_start.ensures c.if-start-interval_start.false c.in-Ok.ensures.put c.in-Ok.ensures.stable c.evict.ensures in
     rw (← c.self.view_is) (record {
       covered = given.covered;
       step = given.step;
@@ -128,12 +110,7 @@ returns-in-Ok g c =
 
 pub returns-in-Err : goal.returns-in-Err
 returns-in-Err g c =
-    let inside = c.self.inside in
-    let found = c.own_counter-counter.ensures in
-    let same : c.get_mut-page.result.now ≡ found.page = same_Some _ _ (sym c.get_mut-page.ensures.page ∙ found.at) in
-    let below = le-ltb (2 ^ 64 - 1) inside.next (omega (arith, c.if-self-2.false)) in
-    let above = more c.interval_start-start.result c.interval_start.result inside.config.idgen_persist_interval inside.next c.own_counter-counter.result.1 c.interval_start-start.ensures c.interval_start.ensures c.if-start-interval_start.false in
-    let refused = id-unmade g.L.Log c.self.invariant c.if-self.false c.if-self-3.false c.get_mut-page.ensures.page (ap (λ (p : Page). p.kept) same ∙ found.counter) below above c.interval_start-start.ensures c.in-Err.ensures.put c.evict-in-Err.ensures in
+    let refused = id-unmade g.L.Log c.self.invariant c.if-self.false c.if-self-3.false c.get_mut-page.ensures.page c.own_counter-counter.ensures (omega (arith, c.if-self-2.false)) c.interval_start-start.ensures c.interval_start.ensures c.if-start-interval_start.false c.in-Err.ensures.put c.evict-in-Err.ensures in
     rw (c.from.ensures, ← c.self.view_is) (record {
       covered = tt;
       step = refused.step;

@@ -1,8 +1,7 @@
 use Rattle.sled_base.specs.declared.types.Error.TheVariants.{Io}
-use Rattle.sled_pagecache.proofs.Names.{Err, GetIdgen, GotIdgen, Page, Write, refl}
+use Rattle.sled_pagecache.proofs.Names.{Err, GetIdgen, GotIdgen, Page, Write, refl, map-at}
 use Rattle.sled_pagecache.proofs.CacheSteps.{steps-stuck}
 use Rattle.sled_pagecache.proofs.CounterPage.{gets-idgen, keeps-counter}
-use Rattle.sled_pagecache.proofs.Lookups.{map-at}
 use Rattle.sled_pagecache.proofs.pagecache.cache.PageCache.get_idgen.Goals as goal
 
 pub returns-then-self-clause-step : goal.returns-then-self-clause-step

@@ -1,7 +1,6 @@
 use Rattle.sled_base.specs.declared.types.Error.TheVariants.{Io}
-use Rattle.sled_pagecache.proofs.Names.{Err, refl, ap, Write, GetMeta, GotMeta, token}
+use Rattle.sled_pagecache.proofs.Names.{Err, refl, ap, Write, GetMeta, GotMeta, token, refused-is}
 use Rattle.sled_pagecache.proofs.CacheSteps.{steps-stuck}
-use Rattle.sled_pagecache.proofs.Refused.{refused-is}
 use Rattle.sled_pagecache.proofs.RootsPage.{keeps-roots, gets-meta}
 use Rattle.sled_pagecache.proofs.pagecache.cache.PageCache.get_meta.Goals as goal
 

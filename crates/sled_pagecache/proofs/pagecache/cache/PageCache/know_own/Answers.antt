@@ -1,6 +1,4 @@
-use Rattle.sled_pagecache.proofs.Names.{◌≤◌, length, length-map, subst, arith}
-use Rattle.sled_pagecache.specs.Cache.{Cache}
-use Rattle.sled_pagecache.specs.declared.pagecache.page.Page.{Page}
+use Rattle.sled_pagecache.proofs.Names.{◌≤◌, length, length-map, subst, arith, Cache, Page}
 use Rattle.sled_pagecache.proofs.pagecache.cache.PageCache.know_own.Goals as goal
 
 pub returns : goal.returns

@@ -1,96 +1,50 @@
-use Rattle.sled_pagecache.proofs.Names.{err_from_is_err_and, Ok, Err, rules, refl, arith, slice_get_within, AllZip-long, effect_of_entry, now, IsKept, Linked, Fresh, Stale, Gone}
-use Rattle.sled_pagecache.proofs.Evicting.{keeps-same, leaves-same}
-use Rattle.sled_pagecache.proofs.Judging.{link-swap, judged-by, judged-refused, judged-gone, judged-stale, fresh-within, fresh-at}
-use Rattle.sled_pagecache.proofs.LinkTests.{judged-tests, damage-judged}
+use Rattle.sled_pagecache.proofs.Names.{rules, refl, arith, slice_get_within, Linked, no_name}
+use Rattle.sled_pagecache.proofs.Evicting.{keeps-same}
+use Rattle.sled_pagecache.proofs.Judging.{link-swap, unswapped, unless-made, handed-back, fresh-at}
+use Rattle.sled_pagecache.proofs.LinkTests.{judged-tests, judged-undamaged}
 use Rattle.sled_pagecache.proofs.PagingIn.{page-kept-at, page-own-at}
-use Rattle.sled_pagecache.proofs.Refused.{no_name, refused-is}
 use Rattle.sled_pagecache.proofs.Relinking.{link-made, link-unmade}
+use Rattle.sled_pagecache.proofs.RootWrites.{on-err}
+use Rattle.sled_pagecache.proofs.Standing.{beside-long}
 use Rattle.sled_pagecache.specs.declared.pagecache.call.Call.TheVariants as call
 use Rattle.sled_pagecache.proofs.pagecache.cache.PageCache.link.Goals as goal
 
-pub returns-in_err-present-clause-step : goal.returns-in_err-present-clause-step
-returns-in_err-present-clause-step g c =
-    rw (refused-is c.from_residual.result _ c.from_residual.ensures.1, ← c.self.view_is)
-    (judged-refused g.L.Log _ _ _ _ _ _ c.self.invariant.whole.consistent.beside (g.met.L.Log.only_now _) c.args.old c.args.pid c.requires c.args.link (call.Link c.args.old c.args.link) Linked _ (link-swap g.L.Log _ c.args.old c.args.link)
-    c.in_err-present.field-0.0 c.in_err-present.ensures)
-
-pub returns-in_err-present-clause-leaves : goal.returns-in_err-present-clause-leaves
-returns-in_err-present-clause-leaves g c =
-    let p = err_from_is_err_and c.from_residual.result c.from_residual.ensures.1 in
-    rw (p.1, p.2) (leaves-same c.args.self.now g.L.Log.tells c.args.pid _)
-
-pub returns-in-Stale-clause-step : goal.returns-in-Stale-clause-step
-returns-in-Stale-clause-step g c =
-    rw (← c.self.view_is)
-    (judged-stale g.L.Log _ _ _ _ _ _ c.self.invariant.whole.consistent.beside (g.met.L.Log.only_now _) c.args.old c.args.pid c.requires c.args.link (call.Link c.args.old c.args.link) Linked _ (link-swap g.L.Log _ c.args.old c.args.link)
-    c.in-Stale.present (judged-by c.self.inside.sticky_log.fault c.self.inside.pages.pages c.args.pid c.args.old _ _ c.in-Stale.is c.in_ok-present.ensures))
-
-pub returns-in-Stale-clause-same : goal.returns-in-Stale-clause-same
-returns-in-Stale-clause-same g c = keeps-same c.args.self.now
-
-pub returns-in-Gone-clause-step : goal.returns-in-Gone-clause-step
-returns-in-Gone-clause-step g c =
-    rw (← c.self.view_is)
-    (judged-gone g.L.Log _ _ _ _ _ _ c.self.invariant.whole.consistent.beside (g.met.L.Log.only_now _) c.args.old c.args.pid c.requires c.args.link (call.Link c.args.old c.args.link) Linked _ (link-swap g.L.Log _ c.args.old c.args.link)
-    (judged-by c.self.inside.sticky_log.fault c.self.inside.pages.pages c.args.pid c.args.old _ _ c.in-Gone.is c.in_ok-present.ensures))
-
-pub returns-in-Gone-clause-same : goal.returns-in-Gone-clause-same
-returns-in-Gone-clause-same g c = keeps-same c.args.self.now
-
-pub returns-in_err-present-clause-bounded : goal.returns-in_err-present-clause-bounded
-returns-in_err-present-clause-bounded g c = rw (← c.self.view_is) c.self.invariant.bounded
-
-pub returns-in-Stale-clause-bounded : goal.returns-in-Stale-clause-bounded
-returns-in-Stale-clause-bounded g c = rw (← c.self.view_is) c.self.invariant.bounded
-
-pub returns-in-Gone-clause-bounded : goal.returns-in-Gone-clause-bounded
-returns-in-Gone-clause-bounded g c = rw (← c.self.view_is) c.self.invariant.bounded
+pub returns-in-Err : goal.returns-in-Err
+returns-in-Err g c =
+    let kept = unswapped g.L.Log _ _ _ _ _ _ c.self.invariant.whole.consistent.beside (g.met.L.Log.only_now _) c.args.old c.args.pid c.requires c.args.link (call.Link c.args.old c.args.link) Linked _ (link-swap g.L.Log _ c.args.old c.args.link) c.in-Err.rejection c.in-Err.ensures c.answer.result c.answer.ensures in
+    rw (← c.self.view_is) (record {
+      tested = judged-tests g.L.Log _ _ _ _ _ _ _ _ c.self.invariant.whole.consistent c.args.old c.requires c.in-Err.rejection c.in-Err.ensures c.args.link _;
+      step = kept.step;
+      blame = kept.blame;
+      keeps = kept.keeps;
+      token = kept.token;
+      damaged = λ meets stamp. absurd (judged-undamaged g.L.Log _ _ _ _ _ _ _ _ c.self.invariant.whole.consistent c.args.old c.in-Err.rejection c.in-Err.ensures meets stamp);
+      reads = search rules;
+      unread = handed-back _ c.answer.result refl;
+      length = λ told. unless-made _ c.answer.result kept.unmade;
+      kept_out = on-err _ c.answer.result (λ away. away);
+      resident = unless-made _ c.answer.result kept.unmade;
+      bounded = c.self.invariant.bounded;
+      accesses = unless-made _ c.answer.result kept.unmade;
+      same = handed-back _ c.answer.result (keeps-same _);
+      leaves = kept.leaves;
+      unnamed = kept.unnamed;
+    })
 
 pub get_mut-page-requires : goal.get_mut-page-requires
-get_mut-page-requires g c =
-    let inside = c.self.inside in
-    fresh-within inside.sticky_log.fault inside.pages.pages c.args.pid c.args.old (judged-by inside.sticky_log.fault inside.pages.pages c.args.pid c.args.old c.in_ok-present.field-0 Fresh c.in-Fresh.is c.in_ok-present.ensures)
-
-pub returns-in_err-present-clause-tested : goal.returns-in_err-present-clause-tested
-returns-in_err-present-clause-tested g c =
-    rw (← c.self.view_is)
-    (judged-tests g.L.Log _ _ _ _ _ _ _ _ c.self.invariant.whole.consistent c.args.old c.requires (Err c.in_err-present.field-0.0) c.in_err-present.ensures (λ h. cc) c.args.link _)
-
-pub returns-in_err-present-clause-damaged : goal.returns-in_err-present-clause-damaged
-returns-in_err-present-clause-damaged g c =
-    rw (← c.self.view_is)
-    (λ meets stamp. absurd (let h = damage-judged g.L.Log _ _ _ _ _ _ _ _ c.self.invariant.whole.consistent c.args.old (Err c.in_err-present.field-0.0) c.in_err-present.ensures meets stamp in cc))
-
-pub returns-in-Stale-clause-tested : goal.returns-in-Stale-clause-tested
-returns-in-Stale-clause-tested g c =
-    rw (← c.self.view_is)
-    (judged-tests g.L.Log _ _ _ _ _ _ _ _ c.self.invariant.whole.consistent c.args.old c.requires (Ok (Stale c.in-Stale.present)) (judged-by c.self.inside.sticky_log.fault c.self.inside.pages.pages c.args.pid c.args.old _ _ c.in-Stale.is c.in_ok-present.ensures) (λ h. cc) c.args.link _)
-
-pub returns-in-Stale-clause-damaged : goal.returns-in-Stale-clause-damaged
-returns-in-Stale-clause-damaged g c =
-    rw (← c.self.view_is)
-    (λ meets stamp. absurd (let h = damage-judged g.L.Log _ _ _ _ _ _ _ _ c.self.invariant.whole.consistent c.args.old (Ok (Stale c.in-Stale.present)) (judged-by c.self.inside.sticky_log.fault c.self.inside.pages.pages c.args.pid c.args.old _ _ c.in-Stale.is c.in_ok-present.ensures) meets stamp in cc))
-
-pub returns-in-Gone-clause-tested : goal.returns-in-Gone-clause-tested
-returns-in-Gone-clause-tested g c =
-    rw (← c.self.view_is)
-    (judged-tests g.L.Log _ _ _ _ _ _ _ _ c.self.invariant.whole.consistent c.args.old c.requires (Ok Gone) (judged-by c.self.inside.sticky_log.fault c.self.inside.pages.pages c.args.pid c.args.old _ _ c.in-Gone.is c.in_ok-present.ensures) (λ h. cc) c.args.link _)
-
-pub returns-in-Gone-clause-damaged : goal.returns-in-Gone-clause-damaged
-returns-in-Gone-clause-damaged g c =
-    rw (← c.self.view_is)
-    (λ meets stamp. absurd (let h = damage-judged g.L.Log _ _ _ _ _ _ _ _ c.self.invariant.whole.consistent c.args.old (Ok Gone) (judged-by c.self.inside.sticky_log.fault c.self.inside.pages.pages c.args.pid c.args.old _ _ c.in-Gone.is c.in_ok-present.ensures) meets stamp in cc))
+get_mut-page-requires g c = slice_get_within _ c.args.pid _ c.in-Ok.ensures.1.at
 
 pub pull_and_link-requires : goal.pull_and_link-requires
 pull_and_link-requires g c =
     let inside = c.self.inside in
     let q = c.get_mut-page.result.now in
-    let fresh = fresh-at inside.sticky_log.fault inside.pages.pages c.args.pid c.args.old c.in_ok-present.field-0 q c.in-Fresh.is c.in_ok-present.ensures c.get_mut-page.ensures.page in
+    let fresh = fresh-at c.in-Ok.ensures c.get_mut-page.ensures.page in
+    let beside = c.self.invariant.whole.consistent.beside fresh.clear in
     record {
       ready = fresh.clear;
-      usable = (c.self.invariant.whole.consistent.beside fresh.clear).usable;
+      usable = beside.usable;
       there = λ told.
-          let long = AllZip-long IsKept (now effect_of_entry (g.L.Log.state inside.sticky_log.log)) inside.pages.pages ((c.self.invariant.whole.consistent.beside fresh.clear).kept told) in
+          let long = beside-long g.L.Log.tells g.L.Log.state inside.sticky_log.log inside.pages.pages beside told in
           let within = slice_get_within inside.pages.pages c.args.pid q fresh.at in
           omega (arith, within, long);
       kept = page-kept-at g.L.Log inside.sticky_log inside.sticky_log inside.pages.pages inside.free.ids.keys c.args.pid q q c.self.invariant.whole.consistent fresh.clear fresh.behind fresh.at;
@@ -99,22 +53,14 @@ pull_and_link-requires g c =
     }
 
 pub invariant_of-self : goal.invariant_of-self
-invariant_of-self g c =
-    let inside = c.self.inside in
-    let fresh = fresh-at inside.sticky_log.fault inside.pages.pages c.args.pid c.args.old c.in_ok-present.field-0 c.get_mut-page.result.now c.in-Fresh.is c.in_ok-present.ensures c.get_mut-page.ensures.page in
-    (link-made g.L.Log c.self.invariant fresh c.requires c.in-Ok.ensures c.evict.ensures _ refl).is
+invariant_of-self g c = (link-made g.L.Log c.self.invariant (fresh-at c.in-Ok.ensures c.get_mut-page.ensures.page) c.requires c.in-Ok-pull_and_link.ensures c.evict.ensures _ refl).is
 
-pub invariant_of-self-in-Err : goal.invariant_of-self-in-Err
-invariant_of-self-in-Err g c =
-    let inside = c.self.inside in
-    let fresh = fresh-at inside.sticky_log.fault inside.pages.pages c.args.pid c.args.old c.in_ok-present.field-0 c.get_mut-page.result.now c.in-Fresh.is c.in_ok-present.ensures c.get_mut-page.ensures.page in
-    (link-unmade g.L.Log c.self.invariant fresh c.requires c.in-Err.ensures c.evict-in-Err.ensures).is
+pub invariant_of-self-in-Err-pull_and_link : goal.invariant_of-self-in-Err-pull_and_link
+invariant_of-self-in-Err-pull_and_link g c = (link-unmade g.L.Log c.self.invariant (fresh-at c.in-Ok.ensures c.get_mut-page.ensures.page) c.requires c.in-Err-pull_and_link.ensures c.evict-in-Err-pull_and_link.ensures).is
 
-pub returns-in-Ok : goal.returns-in-Ok
-returns-in-Ok g c =
-    let inside = c.self.inside in
-    let fresh = fresh-at inside.sticky_log.fault inside.pages.pages c.args.pid c.args.old c.in_ok-present.field-0 c.get_mut-page.result.now c.in-Fresh.is c.in_ok-present.ensures c.get_mut-page.ensures.page in
-    let made = link-made g.L.Log c.self.invariant fresh c.requires c.in-Ok.ensures c.evict.ensures c.new.result c.new.ensures in
+pub returns-in-Ok-pull_and_link : goal.returns-in-Ok-pull_and_link
+returns-in-Ok-pull_and_link g c =
+    let made = link-made g.L.Log c.self.invariant (fresh-at c.in-Ok.ensures c.get_mut-page.ensures.page) c.requires c.in-Ok-pull_and_link.ensures c.evict.ensures c.new.result c.new.ensures in
     rw (← c.self.view_is) (record {
       tested = made.tested;
       step = made.step;
@@ -137,9 +83,7 @@ returns-in-Ok g c =
 -- it was refused
 pub returns : goal.returns
 returns g c =
-    let inside = c.self.inside in
-    let fresh = fresh-at inside.sticky_log.fault inside.pages.pages c.args.pid c.args.old c.in_ok-present.field-0 c.get_mut-page.result.now c.in-Fresh.is c.in_ok-present.ensures c.get_mut-page.ensures.page in
-    let refused = link-unmade g.L.Log c.self.invariant fresh c.requires c.in-Err.ensures c.evict-in-Err.ensures in
+    let refused = link-unmade g.L.Log c.self.invariant (fresh-at c.in-Ok.ensures c.get_mut-page.ensures.page) c.requires c.in-Err-pull_and_link.ensures c.evict-in-Err-pull_and_link.ensures in
     rw (c.from.ensures, ← c.self.view_is) (record {
       tested = refused.tested;
       step = refused.step;
@@ -156,5 +100,5 @@ returns g c =
       accesses = tt;
       same = tt;
       leaves = refused.leaves;
-      unnamed = no_name c.in-Err.refusal;
+      unnamed = no_name c.in-Err-pull_and_link.refusal;
     })

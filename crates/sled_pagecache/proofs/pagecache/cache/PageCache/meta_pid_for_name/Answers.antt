@@ -1,8 +1,6 @@
 use Rattle.sled_base.specs.declared.types.Error.TheVariants.{Io, CollectionNotFound, OutOfMemory}
-use Rattle.sled_node.specs.Meta.{root_of}
-use Rattle.sled_pagecache.proofs.Names.{err_from_is_err_and, Err, refl, sym, ap, ◌∙◌, inl, inr, Write, FoundRoot, MetaPidForName}
+use Rattle.sled_pagecache.proofs.Names.{err_from_is_err_and, Err, refl, sym, ap, ◌∙◌, inl, inr, Write, FoundRoot, MetaPidForName, root_of, refused-is}
 use Rattle.sled_pagecache.proofs.CacheSteps.{steps-stuck}
-use Rattle.sled_pagecache.proofs.Refused.{refused-is}
 use Rattle.sled_pagecache.proofs.RootsPage.{keeps-roots, finds-root, lacks-root}
 use Rattle.sled_pagecache.proofs.pagecache.cache.PageCache.meta_pid_for_name.Goals as goal
 

@@ -1,6 +1,5 @@
-use Rattle.sled_pagecache.proofs.Names.{Some, None, ◌∙◌, ap, subst, IsNodeAt, Kept, Page, HasNode, HasNoNode, node_access_size, access_size, size_if}
+use Rattle.sled_pagecache.proofs.Names.{Some, None, ◌∙◌, ap, subst, IsNodeAt, Kept, Page, HasNode, HasNoNode, node_access_size, access_size, size_if, map-at, past-end}
 use Rattle.sled_pagecache.proofs.InMemory.{past-view, none-at, no-node-in}
-use Rattle.sled_pagecache.proofs.Lookups.{map-at, past-end}
 use Rattle.sled_pagecache.proofs.TableNodes.{no-page, no-node, a-node}
 use Rattle.sled_pagecache.proofs.pagecache.cache.PageCache.node_at.Goals as goal
 

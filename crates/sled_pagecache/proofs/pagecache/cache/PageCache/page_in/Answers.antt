@@ -1,9 +1,8 @@
-use Rattle.sled_pagecache.proofs.Names.{on_err_weaker, None, IsOk, ◌≡◌, inr, true, is_resident, false, [], Result, Ok, refl, sym, ◌∙◌, ap, subst, arith, slice_set, Refusal, BringsIn, is_reserved}
+use Rattle.sled_pagecache.proofs.Names.{on_err_weaker, None, IsOk, ◌≡◌, inr, true, is_resident, false, [], Result, Ok, refl, sym, ◌∙◌, ap, subst, arith, slice_set, Refusal, BringsIn, is_reserved, behind-own}
 use Rattle.sled_pagecache.proofs.Counted.{behind-counter, other-at, whole-then}
 use Rattle.sled_pagecache.proofs.Evicting.{moves, by-found, still-away, moved-reads, moved-same, keeps-same}
 use Rattle.sled_pagecache.proofs.Settling.{brings-moved}
 use Rattle.sled_pagecache.proofs.InMemory.{past-view, listed-at, finds-node, refused-stay}
-use Rattle.sled_pagecache.proofs.Lookups.{behind-own}
 use Rattle.sled_pagecache.proofs.PagingIn.{page-kept-at, page-own-at, same-consistent, brings-none, brings-pulled, kept_out-pulled, reads-pulled, part-pulled, always-pulled}
 use Rattle.sled_pagecache.proofs.pagecache.cache.PageCache.page_in.Goals as goal
 

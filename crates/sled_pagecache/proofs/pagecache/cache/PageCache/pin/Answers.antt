@@ -1,7 +1,6 @@
-use Rattle.sled_pagecache.proofs.Names.{◌∙◌, true, refl, Pin}
+use Rattle.sled_pagecache.proofs.Names.{◌∙◌, true, refl, Pin, refused-is}
 use Rattle.sled_pagecache.proofs.Batching.{opens, opens-refused, opens-stuck, opens-twice, whole-marked, whole-refused}
 use Rattle.sled_pagecache.proofs.Evicting.{kept-settled}
-use Rattle.sled_pagecache.proofs.Refused.{refused-is}
 use Rattle.sled_pagecache.proofs.pagecache.cache.PageCache.pin.Goals as goal
 
 pub returns-then-self-clause-opens : goal.returns-then-self-clause-opens

@@ -1,88 +1,55 @@
-use Rattle.sled_pagecache.proofs.Names.{err_from_is_err_and, rules, sym, ap, ◌∙◌, refl, arith, slice_get_within, Node, is_free, Replaced, Fresh}
+use Rattle.sled_pagecache.proofs.Names.{rules, sym, ap, ◌∙◌, refl, arith, slice_get_within, Node, is_free, Replaced, no_name}
 use Rattle.sled_pagecache.proofs.Appending.{swap-made, swap-refused}
-use Rattle.sled_pagecache.proofs.Evicting.{keeps-same, leaves-same}
-use Rattle.sled_pagecache.proofs.Judging.{replace-swap, judged-by, judged-refused, judged-gone, judged-stale, fresh-within, fresh-at}
-use Rattle.sled_pagecache.proofs.Refused.{no_name, refused-is}
+use Rattle.sled_pagecache.proofs.Evicting.{keeps-same}
+use Rattle.sled_pagecache.proofs.Judging.{replace-swap, unswapped, unless-made, handed-back, fresh-at}
 use Rattle.sled_pagecache.proofs.Standing.{beside-long, one-long}
 use Rattle.sled_pagecache.proofs.Tables.{free-same}
 use Rattle.sled_pagecache.specs.declared.pagecache.call.Call.TheVariants as call
 use Rattle.sled_pagecache.proofs.pagecache.cache.PageCache.replace.Goals as goal
 
-pub returns-in_err-present-clause-step : goal.returns-in_err-present-clause-step
-returns-in_err-present-clause-step g c =
-    rw (refused-is c.from_residual.result _ c.from_residual.ensures.1, ← c.self.view_is)
-    (judged-refused g.L.Log _ _ _ _ _ _ c.self.invariant.whole.consistent.beside (g.met.L.Log.only_now _) c.args.old c.args.pid c.requires c.args.node (call.Replace c.args.old c.args.node) Replaced _ (replace-swap g.L.Log _ c.args.old c.args.node)
-    c.in_err-present.field-0.0 c.in_err-present.ensures)
-
-pub returns-in_err-present-clause-bounded : goal.returns-in_err-present-clause-bounded
-returns-in_err-present-clause-bounded g c = rw (← c.self.view_is) c.self.invariant.bounded
-
-pub returns-in_err-present-clause-leaves : goal.returns-in_err-present-clause-leaves
-returns-in_err-present-clause-leaves g c =
-    let p = err_from_is_err_and c.from_residual.result c.from_residual.ensures.1 in
-    rw (p.1, p.2) (leaves-same c.args.self.now g.L.Log.tells c.args.pid _)
-
-pub returns-in-Stale-clause-step : goal.returns-in-Stale-clause-step
-returns-in-Stale-clause-step g c =
-    rw (← c.self.view_is)
-    (judged-stale g.L.Log _ _ _ _ _ _ c.self.invariant.whole.consistent.beside (g.met.L.Log.only_now _) c.args.old c.args.pid c.requires c.args.node (call.Replace c.args.old c.args.node) Replaced _ (replace-swap g.L.Log _ c.args.old c.args.node)
-    c.in-Stale.present (judged-by c.self.inside.sticky_log.fault c.self.inside.pages.pages c.args.pid c.args.old _ _ c.in-Stale.is c.in_ok-present.ensures))
-
-pub returns-in-Stale-clause-bounded : goal.returns-in-Stale-clause-bounded
-returns-in-Stale-clause-bounded g c = rw (← c.self.view_is) c.self.invariant.bounded
-
-pub returns-in-Stale-clause-same : goal.returns-in-Stale-clause-same
-returns-in-Stale-clause-same g c = keeps-same c.args.self.now
-
-pub returns-in-Gone-clause-step : goal.returns-in-Gone-clause-step
-returns-in-Gone-clause-step g c =
-    rw (← c.self.view_is)
-    (judged-gone g.L.Log _ _ _ _ _ _ c.self.invariant.whole.consistent.beside (g.met.L.Log.only_now _) c.args.old c.args.pid c.requires c.args.node (call.Replace c.args.old c.args.node) Replaced _ (replace-swap g.L.Log _ c.args.old c.args.node)
-    (judged-by c.self.inside.sticky_log.fault c.self.inside.pages.pages c.args.pid c.args.old _ _ c.in-Gone.is c.in_ok-present.ensures))
-
-pub returns-in-Gone-clause-bounded : goal.returns-in-Gone-clause-bounded
-returns-in-Gone-clause-bounded g c = rw (← c.self.view_is) c.self.invariant.bounded
-
-pub returns-in-Gone-clause-same : goal.returns-in-Gone-clause-same
-returns-in-Gone-clause-same g c = keeps-same c.args.self.now
+pub returns-in-Err : goal.returns-in-Err
+returns-in-Err g c =
+    let kept = unswapped g.L.Log _ _ _ _ _ _ c.self.invariant.whole.consistent.beside (g.met.L.Log.only_now _) c.args.old c.args.pid c.requires c.args.node (call.Replace c.args.old c.args.node) Replaced _ (replace-swap g.L.Log _ c.args.old c.args.node) c.in-Err.rejection c.in-Err.ensures c.answer.result c.answer.ensures in
+    rw (← c.self.view_is) (record {
+      step = kept.step;
+      blame = kept.blame;
+      keeps = kept.keeps;
+      token = kept.token;
+      unread = refl;
+      length = λ told. unless-made _ c.answer.result kept.unmade;
+      resident = unless-made _ c.answer.result kept.unmade;
+      bounded = c.self.invariant.bounded;
+      accesses = unless-made _ c.answer.result kept.unmade;
+      same = handed-back _ c.answer.result (keeps-same _);
+      leaves = kept.leaves;
+      unnamed = kept.unnamed;
+    })
 
 pub get_mut-page-requires : goal.get_mut-page-requires
-get_mut-page-requires g c =
-    let inside = c.self.inside in
-    fresh-within inside.sticky_log.fault inside.pages.pages c.args.pid c.args.old (judged-by inside.sticky_log.fault inside.pages.pages c.args.pid c.args.old c.in_ok-present.field-0 Fresh c.in-Fresh.is c.in_ok-present.ensures)
+get_mut-page-requires g c = slice_get_within _ c.args.pid _ c.in-Ok.ensures.1.at
 
 pub put_page-requires-clause-there : goal.put_page-requires-clause-there
 put_page-requires-clause-there g c = λ told.
-    let inside = c.self.inside in
-    let table = inside.pages.pages in
-    let fresh = fresh-at inside.sticky_log.fault table c.args.pid c.args.old c.in_ok-present.field-0 c.get_mut-page.result.now c.in-Fresh.is c.in_ok-present.ensures c.get_mut-page.ensures.page in
-    let within = slice_get_within table c.args.pid _ fresh.at in
-    let long = beside-long g.L.Log.tells g.L.Log.state inside.sticky_log.log table (c.self.invariant.whole.consistent.beside fresh.clear) told in
+    let fresh = c.in-Ok.ensures.1 in
+    let within = slice_get_within _ c.args.pid _ fresh.at in
+    let long = beside-long g.L.Log.tells g.L.Log.state c.self.inside.sticky_log.log c.self.inside.pages.pages (c.self.invariant.whole.consistent.beside fresh.clear) told in
     omega (arith, within, long)
 
 pub invariant_of-self : goal.invariant_of-self
 invariant_of-self g c =
-    let inside = c.self.inside in
-    let table = inside.pages.pages in
-    let fresh = fresh-at inside.sticky_log.fault table c.args.pid c.args.old c.in_ok-present.field-0 c.get_mut-page.result.now c.in-Fresh.is c.in_ok-present.ensures c.get_mut-page.ensures.page in
-    let done = c.in-Ok.ensures in
-    (swap-made g.L.Log c.self.invariant fresh c.requires c.args.node (Node c.args.node) tt (call.Replace c.args.old c.args.node) Replaced (replace-swap g.L.Log _ c.args.old c.args.node) done tt refl
-    (c.self.invariant.whole.consistent.free ∙ sym (free-same 0 table c.args.pid _ _ fresh.at (ap is_free done.holds ∙ sym fresh.full))) c.evict.ensures _ refl).is
+    let fresh = fresh-at c.in-Ok.ensures c.get_mut-page.ensures.page in
+    (swap-made g.L.Log c.self.invariant fresh c.requires c.args.node (Node c.args.node) tt (call.Replace c.args.old c.args.node) Replaced (replace-swap g.L.Log _ c.args.old c.args.node) c.in-Ok-put_page.ensures tt refl
+    (c.self.invariant.whole.consistent.free ∙ sym (free-same 0 _ c.args.pid _ _ fresh.at (ap is_free c.in-Ok-put_page.ensures.holds ∙ sym fresh.full))) c.evict.ensures _ refl).is
 
-pub invariant_of-self-in-Err : goal.invariant_of-self-in-Err
-invariant_of-self-in-Err g c =
-    let inside = c.self.inside in
-    let fresh = fresh-at inside.sticky_log.fault inside.pages.pages c.args.pid c.args.old c.in_ok-present.field-0 c.get_mut-page.result.now c.in-Fresh.is c.in_ok-present.ensures c.get_mut-page.ensures.page in
-    (swap-refused g.L.Log c.self.invariant fresh c.requires c.args.node (Node c.args.node) tt (call.Replace c.args.old c.args.node) Replaced (replace-swap g.L.Log _ c.args.old c.args.node) c.in-Err.ensures refl c.evict-in-Err.ensures).is
+pub invariant_of-self-in-Err-put_page : goal.invariant_of-self-in-Err-put_page
+invariant_of-self-in-Err-put_page g c = (swap-refused g.L.Log c.self.invariant (fresh-at c.in-Ok.ensures c.get_mut-page.ensures.page) c.requires c.args.node (Node c.args.node) tt (call.Replace c.args.old c.args.node) Replaced (replace-swap g.L.Log _ c.args.old c.args.node) c.in-Err-put_page.ensures refl c.evict-in-Err-put_page.ensures).is
 
-pub returns-in-Ok : goal.returns-in-Ok
-returns-in-Ok g c =
-    let inside = c.self.inside in
-    let table = inside.pages.pages in
-    let fresh = fresh-at inside.sticky_log.fault table c.args.pid c.args.old c.in_ok-present.field-0 c.get_mut-page.result.now c.in-Fresh.is c.in_ok-present.ensures c.get_mut-page.ensures.page in
-    let done = c.in-Ok.ensures in
-    let swap = swap-made g.L.Log c.self.invariant fresh c.requires c.args.node (Node c.args.node) tt (call.Replace c.args.old c.args.node) Replaced (replace-swap g.L.Log _ c.args.old c.args.node) done tt refl
-    (c.self.invariant.whole.consistent.free ∙ sym (free-same 0 table c.args.pid _ _ fresh.at (ap is_free done.holds ∙ sym fresh.full))) c.evict.ensures c.new.result c.new.ensures in
+pub returns-in-Ok-put_page : goal.returns-in-Ok-put_page
+returns-in-Ok-put_page g c =
+    let done = c.in-Ok-put_page.ensures in
+    let fresh = fresh-at c.in-Ok.ensures c.get_mut-page.ensures.page in
+    let swap = swap-made g.L.Log c.self.invariant fresh c.requires c.args.node (Node c.args.node) tt (call.Replace c.args.old c.args.node) Replaced (replace-swap g.L.Log _ c.args.old c.args.node) c.in-Ok-put_page.ensures tt refl
+    (c.self.invariant.whole.consistent.free ∙ sym (free-same 0 _ c.args.pid _ _ fresh.at (ap is_free c.in-Ok-put_page.ensures.holds ∙ sym fresh.full))) c.evict.ensures c.new.result c.new.ensures in
     rw (← c.self.view_is) (record {
       step = swap.step;
       blame = search rules;
@@ -99,23 +66,20 @@ returns-in-Ok g c =
     })
 
 -- the log refused it
-pub returns-in-Err : goal.returns-in-Err
-returns-in-Err g c =
-    let inside = c.self.inside in
-    let fresh = fresh-at inside.sticky_log.fault inside.pages.pages c.args.pid c.args.old c.in_ok-present.field-0 c.get_mut-page.result.now c.in-Fresh.is c.in_ok-present.ensures c.get_mut-page.ensures.page in
-    let refused = c.in-Err.ensures in
-    let swap = swap-refused g.L.Log c.self.invariant fresh c.requires c.args.node (Node c.args.node) tt (call.Replace c.args.old c.args.node) Replaced (replace-swap g.L.Log _ c.args.old c.args.node) refused refl c.evict-in-Err.ensures in
+pub returns-in-Err-put_page : goal.returns-in-Err-put_page
+returns-in-Err-put_page g c =
+    let swap = swap-refused g.L.Log c.self.invariant (fresh-at c.in-Ok.ensures c.get_mut-page.ensures.page) c.requires c.args.node (Node c.args.node) tt (call.Replace c.args.old c.args.node) Replaced (replace-swap g.L.Log _ c.args.old c.args.node) c.in-Err-put_page.ensures refl c.evict-in-Err-put_page.ensures in
     rw (c.from.ensures, ← c.self.view_is) (record {
       step = swap.step;
       blame = swap.blame;
       keeps = swap.keeps;
       token = tt;
-      unread = refused.reads;
+      unread = c.in-Err-put_page.ensures.reads;
       length = λ told. tt;
       resident = tt;
       bounded = swap.bounded;
       accesses = tt;
       same = tt;
       leaves = swap.leaves;
-      unnamed = no_name c.in-Err.refusal;
+      unnamed = no_name c.in-Err-put_page.refusal;
     })

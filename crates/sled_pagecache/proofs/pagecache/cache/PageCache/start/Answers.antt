@@ -1,10 +1,9 @@
 use Rattle.sled_base.specs.declared.types.Error.TheVariants as errors
 use Rattle.sled_log.specs.LogState.{now as log_now}
-use Rattle.sled_pagecache.proofs.Names.{◌∙◌, false, [], List, None, Some, subst, sym, refl, Event, Message, effect_of_entry, Proceeds, stamps_in, resident_in, nodes_in, StickyLog, OutOfMemory, events_at_start}
+use Rattle.sled_pagecache.proofs.Names.{◌∙◌, false, [], List, None, Some, subst, sym, refl, Event, Message, effect_of_entry, Proceeds, stamps_in, resident_in, nodes_in, StickyLog, OutOfMemory, events_at_start, holds_now}
 use Rattle.sled_pagecache.proofs.Counted.{positive}
 use Rattle.sled_pagecache.proofs.Opened.{opened-bounded}
 use Rattle.sled_pagecache.proofs.Opening.{opens-refused, opens-done, opened-again}
-use Rattle.sled_pagecache.proofs.PagesAt.{holds_now}
 use Rattle.sled_pagecache.proofs.Proceeding.{proceeds-first, proceeds-refused, proceeds-none}
 use Rattle.sled_pagecache.proofs.Starting.{resident-empty}
 use Rattle.sled_pagecache.specs.Logged.{now}

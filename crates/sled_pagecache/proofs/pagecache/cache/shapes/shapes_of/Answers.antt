@@ -1,8 +1,5 @@
-use Rattle.sled_pagecache.proofs.Names.{◌∙◌, ◌++◌, ◌∷◌, ◌+◌, ◌≡◌, [], List, ap, suc, ℕ, map, take, arith}
+use Rattle.sled_pagecache.proofs.Names.{◌∙◌, ◌++◌, ◌∷◌, ◌+◌, ◌≡◌, [], List, ap, suc, ℕ, map, take, arith, shape_of_kept, Kind, PageShape}
 use Rattle.sled_pagecache.proofs.Shapes.{shapes_more}
-use Rattle.sled_pagecache.specs.Shapes.{shape_of_kept}
-use Rattle.sled_pagecache.specs.declared.pagecache.shape.Kind.{Kind}
-use Rattle.sled_pagecache.specs.declared.pagecache.shape.PageShape.{PageShape}
 use Rattle.sled_pagecache.proofs.pagecache.cache.shapes.shapes_of.Goals as goal
 
 pub loop-pid-preserved : goal.loop-pid-preserved

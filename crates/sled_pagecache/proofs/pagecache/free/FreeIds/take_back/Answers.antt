@@ -1,7 +1,4 @@
-use Rattle.sled_pagecache.proofs.Names.{ap, ◌∙◌, ℕ, List}
-use Rattle.std.specs.BTreeMap.{is_at}
-use Rattle.std.specs.Ordering.{nat_cmp}
-use Rattle.std.specs.Set.{remove_key}
+use Rattle.sled_pagecache.proofs.Names.{ap, ◌∙◌, ℕ, List, is_at, nat_cmp, remove_key}
 use Rattle.sled_pagecache.proofs.FreeIds.{back}
 use Rattle.sled_pagecache.proofs.pagecache.free.FreeIds.take_back.Goals as goal
 

@@ -1,4 +1,4 @@
-use Rattle.std.proofs.Common.{rules}
+use Rattle.sled_pagecache.proofs.Names.{rules}
 use Rattle.sled_pagecache.proofs.pagecache.guard.RecoveryGuard.cancel.Goals as goal
 
 -- A wrong body is refused at this answer, so that no offers are printed.

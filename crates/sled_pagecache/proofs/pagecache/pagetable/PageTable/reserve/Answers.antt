@@ -1,7 +1,6 @@
-use Rattle.sled_pagecache.proofs.Names.{◌-◌, ◌∙◌, ap, arith, on_ok_weaker, chunk_length}
+use Rattle.sled_pagecache.proofs.Names.{◌-◌, ◌∙◌, ap, arith, on_ok_weaker, chunk_length, TableView, is_unfilled}
 use Rattle.sled_pagecache.proofs.PageChunks.{some-last}
 use Rattle.sled_pagecache.proofs.PageTables.{opened, stays-table, pages-stay, room-after}
-use Rattle.sled_pagecache.specs.PageTables.{TableView, is_unfilled}
 use Rattle.sled_pagecache.proofs.pagecache.pagetable.PageTable.reserve.Goals as goal
 
 pub invariant_of-self-2 : goal.invariant_of-self-2

@@ -1,14 +1,13 @@
-use Rattle.sled_log.specs.Calls.{is_write_fault as log_met_fault}
-use Rattle.sled_pagecache.proofs.Names.{refl}
+use Rattle.sled_pagecache.proofs.Names.{refl, log_met_fault}
 use Rattle.sled_pagecache.proofs.StickyLogs.{met, Went-quiet, stays}
 use Rattle.sled_pagecache.proofs.pagecache.sticky_log.StickyLog.recover.Goals as goal
 
 pub returns-clause-went : goal.returns-clause-went
 returns-clause-went g c =
-    Went-quiet g.L.Log.tells g.L.Log.state g.L.Log.moment g.L.Log.left_since g.L.Log.counts c.args.self.now _ _ c.recover-outcome.result c.recover-outcome.ensures.called
+    Went-quiet g.L.Log c.args.self.now _ _ c.recover-outcome.result c.recover-outcome.ensures.called
     (met c.args.self.now.fault c.keep_fault.new.fault (log_met_fault c.recover-outcome.result) c.requires.ready c.keep_fault.ensures.kept) refl
 
 pub returns-clause-same : goal.returns-clause-same
 returns-clause-same g c =
-    stays g.L.Log.tells g.L.Log.state g.L.Log.moment g.L.Log.left_since g.L.Log.counts c.args.self.now.log _ _ _ c.recover-outcome.result c.recover-outcome.ensures.called
+    stays g.L.Log c.args.self.now.log _ _ _ c.recover-outcome.result c.recover-outcome.ensures.called
     (met c.args.self.now.fault c.keep_fault.new.fault (log_met_fault c.recover-outcome.result) c.requires.ready c.keep_fault.ensures.kept)

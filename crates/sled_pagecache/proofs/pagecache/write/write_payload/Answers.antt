@@ -1,0 +1,35 @@
+use Rattle.sled_pagecache.proofs.Names.{rules, [], ◌∷◌, subst, refl, length, DiskPtr, ℕ, ℤ, Change, CacheInfo, message, Went, IsCaused-handed_on, refused-is}
+use Rattle.sled_pagecache.proofs.Linked.{begun-handed}
+use Rattle.sled_pagecache.proofs.pagecache.write.write_payload.Goals as goal
+
+pub returns-in_err-lsn : goal.returns-in_err-lsn
+returns-in_err-lsn g c =
+    let done = c.in_err-lsn.ensures in
+    let old = c.args.sticky_log.now in
+    let log = c.append.new.self in
+    rw (refused-is c.from_residual.result _ c.from_residual.ensures.1) (record {
+      went = subst (Went g.L.Log old log) (begun-handed (ℤ × DiskPtr × ℕ) CacheInfo c.in_err-lsn.field-0.0 (Change c.args.pid (message c.args.kind c.args.payload.now) ∷ [])) done.went;
+      cause = IsCaused-handed_on g.L.Log old log (g.L.Log.is_full old.log (length c.args.payload.now)) c.in_err-lsn.field-0.0 done.cause;
+      of_log = done.sound;
+      reads = done.reads;
+      at = tt;
+      size = tt;
+      chains = λ told. tt;
+      same = done.same;
+      sized = λ told. tt;
+    })
+
+pub returns : goal.returns
+returns g c =
+    let done = c.in_ok-lsn.ensures in
+    record {
+      went = done.went;
+      cause = record { fault = done.cause.fault; read = λ is. absurd cc; write = λ is. absurd cc; full = λ is. absurd cc };
+      of_log = λ told. tt;
+      reads = done.reads;
+      at = refl;
+      size = done.size;
+      chains = search (rules, done.chains);
+      same = λ told. tt;
+      sized = done.sized;
+    }
