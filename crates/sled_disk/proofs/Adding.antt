@@ -10,10 +10,10 @@ use Rattle.sled_base.specs.declared.types.DiskPtr.TheVariants.{Inline}
 use Rattle.sled_log.specs.Calls.{can_append}
 use Rattle.sled_log.specs.Chains.{chains_after}
 use Rattle.sled_log.specs.Events.{Event, Change, Pin, Cancel}
-use Rattle.sled_log.specs.Laws.{chains_after-append}
+use Rattle.sled_log.specs.Inside.Laws.{chains_after-append}
 use Rattle.sled_log.specs.LogState.{now}
-use Rattle.sled_log.specs.Messages.{Entry, Chain, effect_of_entry, message, placed}
-use Rattle.sled_log.specs.SeenLaws.{can_append-seen}
+use Rattle.sled_log.specs.Messages.{Entry, Chain, effect_of_entry, message, placed_entry}
+use Rattle.sled_log.specs.Inside.SeenLaws.{can_append-seen}
 use Rattle.sled_log.specs.declared.log.LogError.{LogError}
 use Rattle.sled_log.specs.declared.log.LogError.TheVariants as errors
 use Rattle.sled_disk.specs.declared.head.Head.{Head}
@@ -41,7 +41,7 @@ record_of kind pid payload = record { kind = byte_of kind; id = pid; payload = p
 
 -- what may be appended is a change
 pub is-change : (kind : MessageKind) (chains : List Chain) (pid place : ℕ) (payload : List ℕ) → can_append effect_of_entry chains pid kind ≡ true
-    → event_at entry_at place (record_of kind pid payload) ≡ Change pid (placed (message kind payload) (pos place, Inline place, 17 + length payload)) ∷ []
+    → event_at entry_at place (record_of kind pid payload) ≡ Change pid (placed_entry (message kind payload) (pos place, Inline place, 17 + length payload)) ∷ []
 is-change kinds.Free chains pid place payload h = refl
 is-change kinds.Counter chains pid place payload h = refl
 is-change kinds.InlineMeta chains pid place payload h = refl
@@ -87,7 +87,7 @@ events-more place (first ∷ rs) r =
 -- what the frame writes with one record more
 pub frame-more : (gate : ℕ) (buffer after : List ℕ) (kind : MessageKind) (pid place : ℕ) (payload : List ℕ) (chains : List Chain)
     → records_behind after ≡ records_behind buffer ++ record_of kind pid payload ∷ [] → place ≡ (gate + 9) + length (body (records_behind buffer)) → can_append effect_of_entry chains pid kind ≡ true
-    → events_at entry_at (gate + 9) (records_behind after) ≡ events_at entry_at (gate + 9) (records_behind buffer) ++ Change pid (placed (message kind payload) (pos place, Inline place, 17 + length payload)) ∷ []
+    → events_at entry_at (gate + 9) (records_behind after) ≡ events_at entry_at (gate + 9) (records_behind buffer) ++ Change pid (placed_entry (message kind payload) (pos place, Inline place, 17 + length payload)) ∷ []
 frame-more gate buffer after kind pid place payload chains records at can =
     ap (events_at entry_at (gate + 9)) records
     ∙ events-more (gate + 9) (records_behind buffer) (record_of kind pid payload)
@@ -98,7 +98,7 @@ frame-more gate buffer after kind pid place payload chains records at can =
 pub pending-more : (gate : ℕ) (ms new : List Mark) (buffer after : List ℕ) (kind : MessageKind) (pid place : ℕ) (payload : List ℕ) (chains : List Chain)
     → count ms ≡ length (records_behind buffer) → new ≡ ms ++ marks.Change ∷ [] → records_behind after ≡ records_behind buffer ++ record_of kind pid payload ∷ [] → place ≡ (gate + 9) + length (body (records_behind buffer))
     → can_append effect_of_entry chains pid kind ≡ true
-    → pending_in gate new after ≡ pending_in gate ms buffer ++ Change pid (placed (message kind payload) (pos place, Inline place, 17 + length payload)) ∷ []
+    → pending_in gate new after ≡ pending_in gate ms buffer ++ Change pid (placed_entry (message kind payload) (pos place, Inline place, 17 + length payload)) ∷ []
 pending-more gate ms new buffer after kind pid place payload chains counted marks_are records at can =
     ap (λ (l : List Mark). pending_events (gate + 9) l (records_behind after)) marks_are
     ∙ ap (λ (rs : List Record). pending_events (gate + 9) (ms ++ marks.Change ∷ []) rs) records

@@ -14,7 +14,7 @@ use Rattle.sled_base.specs.declared.types.DiskPtr.{DiskPtr}
 use Rattle.sled_base.specs.declared.types.DiskPtr.TheVariants.{Inline}
 use Rattle.sled_log.proofs.ChainLaws.{all-append, all-get, Says, AllIn, chains-all}
 use Rattle.sled_log.specs.Events.{Event, Change, Pin, Seal, Cancel}
-use Rattle.sled_log.specs.Laws.{chains_after-append}
+use Rattle.sled_log.specs.Inside.Laws.{chains_after-append}
 use Rattle.sled_log.specs.LogState.{now}
 use Rattle.sled_log.specs.Messages.{Entry, Chain, effect_of_entry}
 use Rattle.sled_log.specs.Pages.{IsAt, IsRead}

@@ -3,14 +3,15 @@ use Rattle.std.proofs.Common.{◌≡◌, ◌≢◌, ◌⊎◌, inl, inr, ⊎_eli
 use Rattle.std.specs.Prelude.{Result, Ok, Err, IfErr, IsErrOf}
 use Rattle.std.proofs.lemmas.Bool.{true≢false}
 use Rattle.std.proofs.lemmas.List.{take_all, drop_all, append-nil, map-append}
-use Rattle.sled_log.specs.Batches.{is_open, open_after, IsFair}
+use Rattle.sled_log.specs.Events.{is_open, open_after, IsFair}
 use Rattle.sled_log.specs.Calls.{Called, Counts, HasCause, HasGrown, begun_by, is_write_fault}
 use Rattle.sled_log.specs.Chains.{chains_after}
 use Rattle.sled_log.specs.Events.{Event}
-use Rattle.sled_log.specs.Laws.{IsFair-none, IsPrefix-all}
+use Rattle.sled_log.specs.Inside.Laws.{IsFair-none, IsPrefix-all}
 use Rattle.sled_log.specs.LogState.{LogState, Adds, IsLeft, CrashesSinceLeave, unplaced_state}
-use Rattle.sled_log.specs.Messages.{Message, Messages, Entry, Chain, unplaced, effect_of, effect_of_entry}
-use Rattle.sled_log.specs.UnplacedLaws.{unplaced_events, chains_after-unplaced, is_open-unplaced}
+use Rattle.sled_log.specs.Messages.{Message, Messages, Entry, Chain, messages_of, effect_of, effect_of_entry}
+use Rattle.sled_log.specs.Messages.{unplaced_events}
+use Rattle.sled_log.specs.Inside.UnplacedLaws.{chains_after-unplaced, is_open-unplaced}
 use Rattle.sled_log.specs.declared.log.LogError.{LogError}
 use Rattle.sled_log.specs.declared.log.LogError.TheVariants.{Memory, Full, ReadFault, WriteFault, Corruption}
 use Rattle.sled_disk.specs.declared.head.Head.{Head}
@@ -41,11 +42,11 @@ module _ (seen : List ℕ) (gate : ℕ) (ms : List Mark) (buffer : List ℕ) (us
   durable = chains_after effect_of_entry [] (events_in seen)
 
   -- a crash leaves what is durable
-  pub left-none : (begun : List (Event Message)) (pages : List Messages) → pages ≡ map unplaced durable → IsLeft effect_of (unplaced_state old) begun pages
+  pub left-none : (begun : List (Event Message)) (pages : List Messages) → pages ≡ map messages_of durable → IsLeft effect_of (unplaced_state old) begun pages
   left-none begun pages is = record { came = []; beginning = (begun, refl); cut = 0; fair = IsFair-none ((unplaced_state old).pending ++ []); is = is }
 
   -- or all that was pending and came
-  pub left-all : (more : List (Event Entry)) (pages : List Messages) → is_open (pending_in gate ms buffer ++ more) ≡ false → pages ≡ map unplaced (chains_after effect_of_entry durable (pending_in gate ms buffer ++ more))
+  pub left-all : (more : List (Event Entry)) (pages : List Messages) → is_open (pending_in gate ms buffer ++ more) ≡ false → pages ≡ map messages_of (chains_after effect_of_entry durable (pending_in gate ms buffer ++ more))
       → IsLeft effect_of (unplaced_state old) (unplaced_events more) pages
   left-all more pages closed is =
       let all : List (Event Message) = unplaced_events (pending_in gate ms buffer) ++ unplaced_events more in
@@ -55,7 +56,7 @@ module _ (seen : List ℕ) (gate : ℕ) (ms : List Mark) (buffer : List ℕ) (us
         beginning = IsPrefix-all (unplaced_events more);
         cut = length all;
         fair = fair-all all (ap is_open (sym whole) ∙ is_open-unplaced (pending_in gate ms buffer ++ more) ∙ closed);
-        is = is ∙ chains_after-unplaced durable (pending_in gate ms buffer ++ more) ∙ ap (chains_after effect_of (map unplaced durable)) (whole ∙ sym (take_all (length all) all (omega arith)));
+        is = is ∙ chains_after-unplaced durable (pending_in gate ms buffer ++ more) ∙ ap (chains_after effect_of (map messages_of durable)) (whole ∙ sym (take_all (length all) all (omega arith)));
       }
 
   pub adds-none : (more : List (Event Entry)) (new : LogState Entry) → new.stable ≡ durable → new.pending ≡ pending_in gate ms buffer ++ more → Adds effect_of_entry old more new
@@ -81,7 +82,7 @@ module _ (seen : List ℕ) (gate : ℕ) (ms : List Mark) (buffer : List ℕ) (us
       → chains_after effect_of_entry [] (events_in seen ++ written) ≡ chains_after effect_of_entry durable (pending_in gate ms buffer ++ more)
       → IsBeforeOrAfter (events_in seen) written bytes → Means bytes pages → IsLeft effect_of (unplaced_state old) (unplaced_events more) pages
   means-frame more written bytes pages closed same (inl before) means = left-none (unplaced_events more) pages (means (events_in seen) before)
-  means-frame more written bytes pages closed same (inr after) means = left-all more pages closed (means (events_in seen ++ written) after ∙ ap (map unplaced) same)
+  means-frame more written bytes pages closed same (inr after) means = left-all more pages closed (means (events_in seen ++ written) after ∙ ap (map messages_of) same)
 
 -- whether a batch is open
 pub opens-by : (gate : ℕ) (ms : List Mark) (buffer : List ℕ) → is_open (pending_in gate ms buffer) ≡ open_by false ms

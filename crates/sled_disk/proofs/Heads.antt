@@ -9,10 +9,10 @@ use Rattle.sled_base.specs.Kinds.{kind_of, log_kind_of}
 use Rattle.sled_base.specs.declared.kinds.LogKind.{LogKind}
 use Rattle.sled_base.specs.declared.kinds.LogKind.TheVariants as effects
 use Rattle.sled_base.specs.declared.kinds.MessageKind.TheVariants as kinds
-use Rattle.sled_log.specs.Chains.{is_empty, begun, chains_after}
+use Rattle.sled_log.specs.Chains.{is_empty, chains_with_new, chains_after}
 use Rattle.sled_log.specs.Events.{Event}
 use Rattle.sled_log.proofs.ChainLaws.{Says, AllIn, chains-all}
-use Rattle.sled_log.specs.ShapeLaws.{AreChains, chains-are}
+use Rattle.sled_log.specs.Inside.ShapeLaws.{AreChains, chains-are}
 use Rattle.std.specs.List.{AllByRecursion}
 use Rattle.sled_disk.specs.Opened.{AllEndBy, AreHeads, AreHeadsBy, EndsBy, IsPlaced}
 use Rattle.sled_disk.specs.Format.{Record, event_by, may_stand}
@@ -36,7 +36,7 @@ not_empty true h = cc
 not_empty false h = refl
 
 -- the chains where a page has a new one
-pub replaced-is : (pages : List (Vec Head)) (page : ℕ) (new : Vec Head) (head : Head) → page < length pages → new.items ≡ head ∷ [] → chains_of (slice_set pages page new) ≡ begun effect_of_head (chains_of pages) page head
+pub replaced-is : (pages : List (Vec Head)) (page : ℕ) (new : Vec Head) (head : Head) → page < length pages → new.items ≡ head ∷ [] → chains_of (slice_set pages page new) ≡ chains_with_new effect_of_head (chains_of pages) page head
 replaced-is pages page new head lt is =
     let other : (page == length (chains_of pages)) ≡ false = ne_eqb page (length (chains_of pages)) (λ e. let l = length-map pages (λ (v : Vec Head). v.items) in absurd (omega arith)) in
     rw (other, ← is) (map-set (λ (v : Vec Head). v.items) pages page new)

@@ -7,7 +7,7 @@ use Rattle.sled_base.specs.declared.kinds.LogKind.{LogKind}
 use Rattle.sled_base.specs.declared.kinds.LogKind.TheVariants as effects
 use Rattle.sled_log.proofs.ChainLaws.{all-get, Says, AllIn, chains-all}
 use Rattle.sled_log.specs.Chains.{chains_after}
-use Rattle.sled_log.specs.ShapeLaws.{AreChains, chains-are}
+use Rattle.sled_log.specs.Inside.ShapeLaws.{AreChains, chains-are}
 use Rattle.sled_disk.specs.declared.head.Head.{Head}
 use Rattle.sled_disk.specs.Format.{Record, size, event_by, event_at, may_stand}
 use Rattle.sled_disk.specs.Opened.{AreHeads, IsPlaced, EndsBy, AllEndBy}

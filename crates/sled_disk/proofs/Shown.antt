@@ -15,8 +15,8 @@ use Rattle.sled_log.specs.Chains.{is_empty}
 use Rattle.sled_log.specs.Events.{Event}
 use Rattle.sled_log.specs.Messages.{effect_of_entry}
 use Rattle.sled_log.specs.Pages.{IsPageState, said_of, freed_of}
-use Rattle.sled_log.specs.ShapeLaws.{AreChains, chains-are}
-use Rattle.sled_log.specs.ZipLaws.{zip-append}
+use Rattle.sled_log.specs.Inside.ShapeLaws.{AreChains, chains-are}
+use Rattle.sled_log.specs.Inside.ZipLaws.{zip-append}
 use Rattle.sled_disk.specs.declared.head.Head.{Head}
 use Rattle.sled_disk.specs.Format.{Record, Frame, size, record_bytes, body, event_by, event_at, events_at, frames_events, frames_good}
 use Rattle.sled_disk.specs.Opened.{AreRead, AreHeads, EndsBy, IsPlaced, IsShown, said_of_head, freed_of_head, entries_in}

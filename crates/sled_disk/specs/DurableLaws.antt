@@ -5,7 +5,7 @@ use Rattle.std.specs.List.{AllByRecursion}
 use Rattle.std.proofs.lemmas.List.{take_at, drop_at, take-append-drop, length-append, append-nil}
 use Rattle.sled_log.specs.Chains.{chains_after}
 use Rattle.sled_log.specs.Events.{Event}
-use Rattle.sled_log.specs.Laws.{chains_after-append}
+use Rattle.sled_log.specs.Inside.Laws.{chains_after-append}
 use Rattle.sled_log.specs.Messages.{Entry, effect_of_entry}
 use Rattle.sled_disk.specs.Format.{opening, Frame, number_bytes, body, frame_bytes, frames_bytes, IsFrame, frames_events, events_at, are_good, frames_good, entry_at, DescribesTo, Describes}
 use Rattle.sled_disk.specs.Reading.{frames_of}

@@ -9,9 +9,9 @@ use Rattle.sled_base.specs.declared.kinds.LogKind.TheVariants as effects
 use Rattle.sled_base.specs.declared.kinds.MessageKind.{MessageKind}
 use Rattle.sled_base.specs.declared.kinds.MessageKind.TheVariants as kinds
 use Rattle.sled_log.specs.Chains.{is_empty, chains_after}
-use Rattle.sled_log.specs.Events.{Event, Change, seen}
-use Rattle.sled_log.specs.Laws.{chains_after-append}
-use Rattle.sled_log.specs.SeenLaws.{is_empty-seen, chains_after-seen}
+use Rattle.sled_log.specs.Events.{Event, Change, seen_event}
+use Rattle.sled_log.specs.Inside.Laws.{chains_after-append}
+use Rattle.sled_log.specs.Inside.SeenLaws.{is_empty-seen, chains_after-seen}
 use Rattle.sled_log.specs.Messages.{Entry, effect_of_entry}
 use Rattle.sled_disk.specs.declared.head.Head.{Head}
 use Rattle.sled_disk.specs.Format.{Record, Frame, size, number_bytes, record_bytes, body, frame_bytes, frames_bytes, marks, may_change, may_stand, event_by, event_at, events_at, frames_events, are_good, frames_good, entry_at}
@@ -107,30 +107,30 @@ FramesSeen see gate [] = Unit {0}
 FramesSeen see gate (frame ∷ frames) = AreSeen see (gate + 9) frame.records × FramesSeen see (gate + (9 + length (body frame.records))) frames
 
 module _ (see : Head → Entry) (same : SameEffect effect_of_head effect_of_entry see) where
-  event_by-seen : (kind : LogKind) (place : ℕ) (r : Record) → see (head_at place r) ≡ entry_at place r → map (seen see) (event_by head_at kind place r) ≡ event_by entry_at kind place r
+  event_by-seen : (kind : LogKind) (place : ℕ) (r : Record) → see (head_at place r) ≡ entry_at place r → map (seen_event see) (event_by head_at kind place r) ≡ event_by entry_at kind place r
   event_by-seen effects.Replace place r is = ap (λ e. Change r.id e ∷ []) is
   event_by-seen effects.Free place r is = ap (λ e. Change r.id e ∷ []) is
   event_by-seen effects.Link place r is = ap (λ e. Change r.id e ∷ []) is
   event_by-seen effects.Skip place r is = refl
   event_by-seen effects.Corrupted place r is = refl
 
-  pub events_at-seen : (place : ℕ) (rs : List Record) → AreSeen see place rs → map (seen see) (events_at head_at place rs) ≡ events_at entry_at place rs
+  pub events_at-seen : (place : ℕ) (rs : List Record) → AreSeen see place rs → map (seen_event see) (events_at head_at place rs) ≡ events_at entry_at place rs
   events_at-seen place [] h = refl
   events_at-seen place (r ∷ rs) h =
-      map-append (seen see) (event_at head_at place r) (events_at head_at (place + size r) rs)
-      ∙ ap (λ (l : List (Event Entry)). l ++ map (seen see) (events_at head_at (place + size r) rs)) (event_by-seen (log_kind_of (kind_of r.kind)) place r h.0)
+      map-append (seen_event see) (event_at head_at place r) (events_at head_at (place + size r) rs)
+      ∙ ap (λ (l : List (Event Entry)). l ++ map (seen_event see) (events_at head_at (place + size r) rs)) (event_by-seen (log_kind_of (kind_of r.kind)) place r h.0)
       ∙ ap (λ (l : List (Event Entry)). event_at entry_at place r ++ l) (events_at-seen (place + size r) rs h.1)
 
-  pub frames_events-seen : (gate : ℕ) (frames : List Frame) → FramesSeen see gate frames → map (seen see) (frames_events head_at gate frames) ≡ frames_events entry_at gate frames
+  pub frames_events-seen : (gate : ℕ) (frames : List Frame) → FramesSeen see gate frames → map (seen_event see) (frames_events head_at gate frames) ≡ frames_events entry_at gate frames
   frames_events-seen gate [] h = refl
   frames_events-seen gate (frame ∷ frames) h =
       let next = gate + (9 + length (body frame.records)) in
-      map-append (seen see) (events_at head_at (gate + 9) frame.records) (frames_events head_at next frames)
-      ∙ ap (λ (l : List (Event Entry)). l ++ map (seen see) (frames_events head_at next frames)) (events_at-seen (gate + 9) frame.records h.0)
+      map-append (seen_event see) (events_at head_at (gate + 9) frame.records) (frames_events head_at next frames)
+      ∙ ap (λ (l : List (Event Entry)). l ++ map (seen_event see) (frames_events head_at next frames)) (events_at-seen (gate + 9) frame.records h.0)
       ∙ ap (λ (l : List (Event Entry)). events_at entry_at (gate + 9) frame.records ++ l) (frames_events-seen next frames h.1)
 
   -- the chains behind events, seen so
-  pub after-seen : (chains : List (List Head)) (heads : List (Event Head)) (entries : List (Event Entry)) → map (seen see) heads ≡ entries → map (map see) (heads_after chains heads) ≡ chains_after effect_of_entry (map (map see) chains) entries
+  pub after-seen : (chains : List (List Head)) (heads : List (Event Head)) (entries : List (Event Entry)) → map (seen_event see) heads ≡ entries → map (map see) (heads_after chains heads) ≡ chains_after effect_of_entry (map (map see) chains) entries
   after-seen chains heads entries is = chains_after-seen effect_of_head effect_of_entry see same chains heads ∙ ap (chains_after effect_of_entry (map (map see) chains)) is
 
   pub are_good-seen : (place : ℕ) (chains : List (List Head)) (rs : List Record) → AreSeen see place rs → are_good entry_at effect_of_entry place (map (map see) chains) rs ≡ are_good head_at effect_of_head place chains rs

@@ -4,10 +4,10 @@ use Rattle.std.proofs.lemmas.List.{length-append, append-nil}
 use Rattle.sled_base.specs.Kinds.{kind_of, log_kind_of}
 use Rattle.sled_base.specs.declared.kinds.LogKind.{LogKind}
 use Rattle.sled_base.specs.declared.kinds.LogKind.TheVariants as effects
-use Rattle.sled_log.specs.Batches.{open_after}
+use Rattle.sled_log.specs.Events.{open_after}
 use Rattle.sled_log.specs.Chains.{chains_after}
 use Rattle.sled_log.specs.Events.{Event, Pin, Seal, Cancel}
-use Rattle.sled_log.specs.Laws.{open_after-append, chains_after-append}
+use Rattle.sled_log.specs.Inside.Laws.{open_after-append, chains_after-append}
 use Rattle.sled_log.specs.Messages.{Chain, Entry, effect_of_entry}
 use Rattle.sled_disk.specs.declared.mark.Mark.{Mark}
 use Rattle.sled_disk.specs.declared.mark.Mark.TheVariants as marks

@@ -3,12 +3,12 @@ use Rattle.std.specs.Prelude.{◌≡◌, ◌⊎◌, ◌+◌, ◌≤◌, ◌^◌,
 use Rattle.sled_log.specs.Chains.{chains_after}
 use Rattle.sled_log.specs.Events.{Event}
 use Rattle.sled_log.specs.LogState.{LogState}
-use Rattle.sled_log.specs.Messages.{Messages, Entry, unplaced, effect_of_entry}
+use Rattle.sled_log.specs.Messages.{Messages, Entry, messages_of, effect_of_entry}
 use Rattle.sled_disk.specs.Format.{Describes}
 
 -- The bytes describe no other pages than these.
 abbrev pub Means : List ℕ → List Messages → Type 0
-Means bytes pages = (events : List (Event Entry)) → Describes bytes events → pages ≡ map unplaced (chains_after effect_of_entry [] events)
+Means bytes pages = (events : List (Event Entry)) → Describes bytes events → pages ≡ map messages_of (chains_after effect_of_entry [] events)
 
 -- A crash leaves these pages where it leaves bytes that describe no others. So where it may leave bytes that describe nothing, it
 -- may leave any pages.

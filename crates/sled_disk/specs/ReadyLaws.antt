@@ -5,9 +5,9 @@ use Rattle.std.proofs.lemmas.Bool.{eq-eqb}
 use Rattle.std.proofs.lemmas.List.{drop_all, get_or_at, length-append}
 use Rattle.sled_log.specs.Chains.{chains_after}
 use Rattle.sled_log.specs.Events.{Event}
-use Rattle.sled_log.specs.Laws.{IsFair-none}
+use Rattle.sled_log.specs.Inside.Laws.{IsFair-none}
 use Rattle.sled_log.specs.LogState.{IsLeft, unplaced_state}
-use Rattle.sled_log.specs.Messages.{Message, Messages, Entry, unplaced, effect_of, effect_of_entry}
+use Rattle.sled_log.specs.Messages.{Message, Messages, Entry, messages_of, effect_of, effect_of_entry}
 use Rattle.sled_disk.specs.declared.head.Head.{Head}
 use Rattle.sled_disk.specs.declared.mark.Mark.{Mark}
 use Rattle.sled_disk.specs.Crash.{IsClosed}
@@ -53,11 +53,11 @@ module _ (seen : List ℕ) (gate : ℕ) (rs : List Record) (heads : List (List H
 
   -- the pages that the open frames make
   abbrev pub durable_pages : List Messages
-  durable_pages = map unplaced (chains_after effect_of_entry [] (events_in seen))
+  durable_pages = map messages_of (chains_after effect_of_entry [] (events_in seen))
 
   -- what its own bytes mean
   pub stands-means : Means seen durable_pages
-  stands-means events describes = ap (λ (l : List (Event Entry)). map unplaced (chains_after effect_of_entry [] l)) (one-meaning seen (events_in seen) events (gate, stands-described) describes)
+  stands-means events describes = ap (λ (l : List (Event Entry)). map messages_of (chains_after effect_of_entry [] l)) (one-meaning seen (events_in seen) events (gate, stands-described) describes)
 
   -- a crash may leave what is durable
   pub ready-keeps : (left : List ℕ → Type 0) → left seen → LeavesPages left durable_pages
@@ -71,7 +71,7 @@ module _ (seen : List ℕ) (gate : ℕ) (rs : List Record) (heads : List (List H
 -- ---- the laws of a log at rest
 
 module _ (seen : List ℕ) (gate : ℕ) (rs : List Record) (heads : List (List Head)) (fits : IsBytes seen) (s : Stands seen gate rs heads) where
-  pub log-keeps : (left : List ℕ → Type 0) → left seen → LeavesPages left (map unplaced (chains_after effect_of_entry [] (events_in seen)))
+  pub log-keeps : (left : List ℕ → Type 0) → left seen → LeavesPages left (map messages_of (chains_after effect_of_entry [] (events_in seen)))
   log-keeps left may = ready-keeps seen gate rs heads fits s left may
 
   pub log-only : (marks : List Mark) (buffer : List ℕ) (usable : Bool) (may_leave : List ℕ → Type 0) → Only seen may_leave → (pages : List Messages) → LeavesPages may_leave pages → IsLeft effect_of (unplaced_state (state_in seen gate marks buffer usable)) [] pages

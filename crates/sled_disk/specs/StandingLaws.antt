@@ -8,7 +8,7 @@ use Rattle.sled_base.specs.Kinds.{kind_of}
 use Rattle.sled_base.specs.declared.kinds.MessageKind.{MessageKind}
 use Rattle.sled_base.specs.declared.kinds.MessageKind.TheVariants as kinds
 use Rattle.sled_log.specs.Chains.{chains_after}
-use Rattle.sled_log.specs.Laws.{chains_after-append}
+use Rattle.sled_log.specs.Inside.Laws.{chains_after-append}
 use Rattle.sled_log.specs.Messages.{Chain, effect_of_entry}
 use Rattle.sled_disk.specs.declared.head.Head.{Head}
 use Rattle.sled_disk.specs.Format.{opening, Record, Fits, Frame, IsFrame, size, number, number_bytes, record_bytes, body, frame_bytes, frames_bytes, is_mark, stands_in, marks, may_stand, event_at, events_at, frames_events, are_good, frames_good, entry_at, DescribesTo, IsBytes}

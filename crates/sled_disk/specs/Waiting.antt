@@ -3,11 +3,11 @@ use Rattle.std.specs.Prelude.{◌≡◌, ◌≤◌, ◌+◌, ◌-◌, false, ℕ
 use Rattle.sled_base.specs.declared.kinds.MessageKind.{MessageKind}
 use Rattle.sled_base.specs.declared.types.DiskPtr.{DiskPtr}
 use Rattle.sled_base.specs.declared.types.DiskPtr.TheVariants.{Inline}
-use Rattle.sled_log.specs.Batches.{is_open}
+use Rattle.sled_log.specs.Events.{is_open}
 use Rattle.sled_log.specs.Events.{Event, Change}
 use Rattle.sled_log.specs.Limits.{head_size}
 use Rattle.sled_log.specs.LogState.{LogState}
-use Rattle.sled_log.specs.Messages.{Entry, message, placed}
+use Rattle.sled_log.specs.Messages.{Entry, message, placed_entry}
 use Rattle.sled_disk.specs.declared.next_frame.NextFrame.{NextFrame}
 use Rattle.sled_disk.specs.Format.{events_at, entry_at}
 use Rattle.sled_disk.specs.Pending.{pending_in, state_in, frame_size}
@@ -47,4 +47,4 @@ abbrev pub events_of : NextFrame → List (Event Entry)
 events_of next = events_at entry_at (next.gate + 9) (records_behind next.buffer.items)
 
 abbrev pub events_with : NextFrame → MessageKind → ℕ → List ℕ → List (Event Entry)
-events_with next kind pid payload = events_of next ++ Change pid (placed (message kind payload) (said_of next payload)) ∷ []
+events_with next kind pid payload = events_of next ++ Change pid (placed_entry (message kind payload) (said_of next payload)) ∷ []

@@ -1,7 +1,7 @@
 //! The whole chain once, at the disk in memory: a log over a disk, a crash, and a log over what it left.
 
 ghost use Rattle.std.specs.Prelude.{◌≡◌, ℕ, ◌+◌, ◌-◌, ◌≤◌, List, [], min, IfOk, IfErr, IsTrue, map, true};
-ghost use Rattle.sled_log.specs.Batches.{is_open};
+ghost use Rattle.sled_log.specs.Events.{is_open};
 ghost use Rattle.sled_log.specs.LogState.{LogState, IsLeft, now, unplaced_state};
 ghost use Rattle.sled_log.specs.Runs.{can_make_all, events_of_all};
 ghost use Rattle.sled_log.specs.Messages.{Messages, Entry, effect_of};

@@ -5,7 +5,7 @@ ghost use Rattle.std.specs.List.{AllByRecursion};
 ghost use Rattle.sled_log.specs.Calls.{HasGrown, HasCause, can_append};
 ghost use Rattle.sled_log.specs.Events.{Event, Change};
 ghost use Rattle.sled_log.specs.LogState.{now};
-ghost use Rattle.sled_log.specs.Messages.{Entry, effect_of_entry, message, placed};
+ghost use Rattle.sled_log.specs.Messages.{Entry, effect_of_entry, message, placed_entry};
 ghost use Rattle.sled_log.specs.declared.log.LogError.TheVariants.{Memory, Full, ReadFault, WriteFault, Corruption};
 ghost use Rattle.sled_disk.specs.Crash.{BytesLeft, IsTornOf};
 ghost use Rattle.sled_disk.specs.Disk.{Only, overlaid, LeavesTheSame};
@@ -244,7 +244,7 @@ impl<D: Disk> DiskLog<D> {
         ensures batch { self.new.next.batch ≡ self.old.next.batch }
         ensures added { D.tells
             → OnOk result (pending_of self.new.next ≡ pending_of self.old.next ++ Change pid
-            (placed (message kind payload.now) (said_of self.old.next payload.now)) ∷ []) }
+            (placed_entry (message kind payload.now) (said_of self.old.next payload.now)) ∷ []) }
         ensures written { D.tells → OnOk result
             (events_of self.new.next ≡ events_with self.old.next kind pid payload.now) }
         ensures kept { OnErr result (pending_of self.new.next ≡ pending_of self.old.next) }

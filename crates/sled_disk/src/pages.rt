@@ -1,7 +1,7 @@
 //! The pages that the records of a file make.
 
 ghost use Rattle.std.specs.Prelude.{◌≡◌, ◌≤◌, ◌<◌, not, length, Some, None, slice_set, slice_index_or, if◌then◌else◌, ◌++◌, ◌∷◌, [], OnOk, OnErr};
-ghost use Rattle.sled_log.specs.Chains.{is_empty, begun};
+ghost use Rattle.sled_log.specs.Chains.{is_empty, chains_with_new};
 ghost use Rattle.sled_disk.specs.Reading.{Made, chains_of, effect_of_head, step_head};
 
 use crate::head::Head;
@@ -62,7 +62,7 @@ fn put(
 ) -> Result<(), AllocError>
     requires { page ≤ length pages.old.items }
     ensures made { OnOk result
-        (chains_of pages.new.items ≡ begun effect_of_head (chains_of pages.old.items) page head) }
+        (chains_of pages.new.items ≡ chains_with_new effect_of_head (chains_of pages.old.items) page head) }
     ensures kept { OnErr result (chains_of pages.new.items ≡ chains_of pages.old.items) }
 {
     let at = page as usize;

@@ -1,5 +1,5 @@
 -- What holds of everything that a log is told holds of everything in its chains.
-use Rattle.sled_log.proofs.Names.{ℕ, zero, suc, Bool, true, false, cond, ◌==◌, List, [], ◌∷◌, ◌++◌, length, set, get_or, slice_set, slice_index_or, AllByRecursion, LogKind, is_empty, linked, begun, changed, chains_from, chains_after, Event, Change, Pin, Seal, Cancel}
+use Rattle.sled_log.proofs.Names.{ℕ, zero, suc, Bool, true, false, cond, ◌==◌, List, [], ◌∷◌, ◌++◌, length, set, get_or, slice_set, slice_index_or, AllByRecursion, LogKind, is_empty, chain_with_link, chains_with_new, chains_with_change, chains_from, chains_after, Event, Change, Pin, Seal, Cancel}
 use Rattle.sled_base.specs.declared.kinds.LogKind.TheVariants as kinds
 
 module _ {X : Type 0} (P : X → Type 0) where
@@ -28,25 +28,25 @@ module _ {E : Type 0} (effect : E → LogKind) (P : E → Type 0) where
   abbrev pub AllIn : List (List E) → Type 0
   AllIn chains = AllByRecursion (AllByRecursion P) chains
 
-  all-linked : (chain : List E) (said : E) → AllByRecursion P chain → P said → AllByRecursion P (linked effect chain said)
+  all-linked : (chain : List E) (said : E) → AllByRecursion P chain → P said → AllByRecursion P (chain_with_link effect chain said)
   all-linked chain said h r = by (is_empty effect chain)
     where
       by : (b : Bool) → AllByRecursion P (cond b chain (chain ++ said ∷ []))
       by true = h
       by false = all-append P chain (said ∷ []) h (r, tt)
 
-  all-begun : (chains : List (List E)) (id : ℕ) (said : E) → AllIn chains → P said → AllIn (begun effect chains id said)
+  all-begun : (chains : List (List E)) (id : ℕ) (said : E) → AllIn chains → P said → AllIn (chains_with_new effect chains id said)
   all-begun chains id said h r = by (id == length chains)
     where
       by : (b : Bool) → AllIn (cond b (chains ++ (said ∷ []) ∷ []) (slice_set chains id (said ∷ [])))
       by true = all-append (AllByRecursion P) chains ((said ∷ []) ∷ []) h ((r, tt), tt)
       by false = all-set (AllByRecursion P) id chains (said ∷ []) h (r, tt)
 
-  all-changed : (kind : LogKind) (chains : List (List E)) (id : ℕ) (said : E) → AllIn chains → P said → AllIn (changed effect kind chains id said)
+  all-changed : (kind : LogKind) (chains : List (List E)) (id : ℕ) (said : E) → AllIn chains → P said → AllIn (chains_with_change effect kind chains id said)
   all-changed kinds.Free chains id said h r = all-begun chains id said h r
   all-changed kinds.Replace chains id said h r = all-begun chains id said h r
   all-changed kinds.Link chains id said h r =
-      all-set (AllByRecursion P) id chains (linked effect (slice_index_or chains id []) said) h
+      all-set (AllByRecursion P) id chains (chain_with_link effect (slice_index_or chains id []) said) h
       (all-linked (slice_index_or chains id []) said (all-get (AllByRecursion P) id chains [] h tt) r)
   all-changed kinds.Skip chains id said h r = h
   all-changed kinds.Corrupted chains id said h r = h

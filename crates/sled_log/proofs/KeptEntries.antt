@@ -1,7 +1,7 @@
 -- Each entry of a chain is kept by an item.
 use Rattle.sled_log.proofs.Names.{◌≡◌, ◌<◌, ℕ, ℤ, zero, suc, Option, Some, IsSomeAnd, List, [], ◌∷◌, length, map, refl, sym, ◌∙◌, ap, subst, slice_index_or, All-from_recursion, Vec, slice_get, AllByRecursion, MessageKind, DiskPtr, chains_after, Event, entry_of, event_of_mark, event_of, state_at, IsInOrder, Entry, Chain, effect_of_entry, IsAt, IsRead, now, KeptChange, LogItem, Mark}
 use Rattle.sled_log.proofs.ChainLaws.{Says, AllIn, chains-all, all-get}
-use Rattle.sled_log.specs.Kept as kept
+use Rattle.sled_log.specs.MemLog.Kept as kept
 use Rattle.sled_log.proofs.Moments.{now_is}
 
 -- an item keeps the entry

@@ -1,5 +1,5 @@
 -- What a call of the log in memory does, for each way in which it ends.
-use Rattle.sled_log.proofs.Names.{◌≡◌, inl, inr, ⊎_elim, ◌≤◌, ◌<◌, ◌+◌, ℕ, false, Result, Ok, Err, List, [], refl, sym, ◌∙◌, ap, subst, arith, ⊤, cases_lt, append-nil, is_open, Called, Event, state_at, all_settled, Adds-none, IsLeft-behind, IsLeft-more, kept_in, state_of, clock_of, was_at, might_have_left, counts_of, Remembers, Entry, Message, Messages, effect_of, effect_of_entry, LogState, Adds, IsLeft, CrashesSinceLeave, unplaced_state, unplaced_events, Adds-unplaced, opened-Adds, LogError, Memory, MemLog}
+use Rattle.sled_log.proofs.Names.{◌≡◌, inl, inr, ⊎_elim, ◌≤◌, ◌<◌, ◌+◌, ℕ, false, Result, Ok, Err, List, [], refl, sym, ◌∙◌, ap, subst, arith, ⊤, cases_lt, append-nil, is_open, Called, Event, state_at, items_settled_at, Adds-none, IsLeft-behind, IsLeft-more, kept_in, state_of, clock_of, was_at, might_have_left, counts_of, Remembers, Entry, Message, Messages, effect_of, effect_of_entry, LogState, Adds, IsLeft, CrashesSinceLeave, unplaced_state, unplaced_events, Adds-unplaced, opened-Adds, LogError, Memory, MemLog}
 use Rattle.sled_log.proofs.Moments.{pending_events, adds-settled, state_at-settled}
 
 -- the log knows whether a batch is open
@@ -86,7 +86,7 @@ module _ (old new : MemLog) where
     pub called_same : {T : Type 0} (answer : T) (count : ℕ) → new.reads ≡ count → Called ⊤ state_of clock_of might_have_left counts_of old new count (λ _. []) [] (Ok answer)
     called_same answer count reads = called_ok answer count (λ _. []) [] refl adds_same remembers_same reads
 
-  module _ (clock : new.clock ≡ old.clock + 1) (kept : kept_in new ≡ all_settled (old.clock + 1) old.stable (kept_in old)) where
+  module _ (clock : new.clock ≡ old.clock + 1) (kept : kept_in new ≡ items_settled_at (old.clock + 1) old.stable (kept_in old)) where
     -- all that was pending became stable, and what the log was before stays
     pub remembers_settled : Remembers old new
     remembers_settled = record {

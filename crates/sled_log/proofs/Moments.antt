@@ -1,5 +1,5 @@
 -- Items that are in order, and what the log was at each moment.
-use Rattle.sled_log.proofs.Names.{◌≡◌, ◌≤◌, ◌<◌, ◌+◌, ℕ, Bool, true, false, not, ◌&&◌, cond, nat_le, Option, Some, None, is_none, List, [], ◌∷◌, ◌++◌, length, take, drop, map, sum, refl, sym, ◌∙◌, ap, arith, filter, list_all, and_parts, and_from, and_left, and_right, leb-true, le-leb, lt-leb, false≢true, not_from_true, append-nil, length-append, length-map, map-append, take-append-drop, take-append-le, drop-append-le, take_all, drop_all, take-map, take-add, filter-append, sum_by-append, sum_by-take-drop, sum-map, LogItem, is_open, IsFair, chains_after, Event, event_of, size_of_mark, log_size, was_by, was_stable, was_pending, is_waiting, settled_at, all_settled, restarted, state_at, IsInOrder, WasLeft, chains_after-append, IsLeft-cut, Entry, Chain, Message, Messages, unplaced, message_in, effect_of, effect_of_entry, IsLeft-seen, LogState, now, Adds, IsLeft}
+use Rattle.sled_log.proofs.Names.{◌≡◌, ◌≤◌, ◌<◌, ◌+◌, ℕ, Bool, true, false, not, ◌&&◌, cond, nat_le, Option, Some, None, is_none, List, [], ◌∷◌, ◌++◌, length, take, drop, map, sum, refl, sym, ◌∙◌, ap, arith, filter, list_all, and_parts, and_from, and_left, and_right, leb-true, le-leb, lt-leb, false≢true, not_from_true, append-nil, length-append, length-map, map-append, take-append-drop, take-append-le, drop-append-le, take_all, drop_all, take-map, take-add, filter-append, sum_by-append, sum_by-take-drop, sum-map, LogItem, is_open, IsFair, chains_after, Event, event_of, size_of_mark, log_size, was_by, was_stable, was_pending, is_waiting, item_settled_at, items_settled_at, item_after_restart, state_at, IsInOrder, WasLeft, chains_after-append, IsLeft-cut, Entry, Chain, Message, Messages, messages_of, message_in, effect_of, effect_of_entry, IsLeft-seen, LogState, now, Adds, IsLeft}
 use Rattle.std.proofs.lemmas.List.Folds.{list_all-append}
 use Rattle.sled_log.proofs.Filters.{list_all-weaker, filter-all, filter-none, filter-map_same, map-map_same}
 
@@ -37,7 +37,7 @@ waiting-later clock later le e h =
     let k = leb-true e.came clock a.0 in
     and_from (nat_le e.came later) (is_none e.settled) (le-leb e.came later (omega arith)) a.1
 
-settled_stable : (clock moment : ℕ) → clock ≤ moment → (e : LogItem) → is_waiting clock e ≡ true → was_stable moment (settled_at moment e) ≡ true
+settled_stable : (clock moment : ℕ) → clock ≤ moment → (e : LogItem) → is_waiting clock e ≡ true → was_stable moment (item_settled_at moment e) ≡ true
 settled_stable clock moment le e h =
     let a = and_parts (nat_le e.came clock) (is_none e.settled) h in
     let k = leb-true e.came clock a.0 in
@@ -45,7 +45,7 @@ settled_stable clock moment le e h =
 
 -- before the moment at which it became stable it was pending, as it is now
 settled_before : (clock moment before : ℕ) → before < moment → (e : LogItem) → is_waiting clock e ≡ true
-    → (was_stable before (settled_at moment e) ≡ was_stable before e) × (was_pending before (settled_at moment e) ≡ was_pending before e)
+    → (was_stable before (item_settled_at moment e) ≡ was_stable before e) × (was_pending before (item_settled_at moment e) ≡ was_pending before e)
 settled_before clock moment before lt e h =
     let a = and_parts (nat_le e.came clock) (is_none e.settled) h in
     let same : nat_le moment before ≡ was_by before e.settled = lt-leb moment before lt ∙ sym (none_never e.settled before a.1) in
@@ -132,54 +132,54 @@ module _ (clock later stable : ℕ) (items : List LogItem) (le : clock ≤ later
       ∙ map-append event_of (drop stable items) (e ∷ [])
       ∙ ap (λ (l : List (Event Entry)). l ++ event_of e ∷ []) (sym (pending_events clock stable items order))
 
-map-settled : (moment : ℕ) (xs : List LogItem) → map event_of (map (settled_at moment) xs) ≡ map event_of xs
-map-settled moment xs = map-map_same event_of (settled_at moment) (λ x. refl) xs
+map-settled : (moment : ℕ) (xs : List LogItem) → map event_of (map (item_settled_at moment) xs) ≡ map event_of xs
+map-settled moment xs = map-map_same event_of (item_settled_at moment) (λ x. refl) xs
 
-list_all-settled : (clock moment : ℕ) → clock ≤ moment → (xs : List LogItem) → list_all (is_waiting clock) xs ≡ true → list_all (was_stable moment) (map (settled_at moment) xs) ≡ true
+list_all-settled : (clock moment : ℕ) → clock ≤ moment → (xs : List LogItem) → list_all (is_waiting clock) xs ≡ true → list_all (was_stable moment) (map (item_settled_at moment) xs) ≡ true
 list_all-settled clock moment le [] all = refl
 list_all-settled clock moment le (x ∷ xs) all =
     let a = and_parts (is_waiting clock x) (list_all (is_waiting clock) xs) all in
-    and_from (was_stable moment (settled_at moment x)) (list_all (was_stable moment) (map (settled_at moment) xs)) (settled_stable clock moment le x a.0) (list_all-settled clock moment le xs a.1)
+    and_from (was_stable moment (item_settled_at moment x)) (list_all (was_stable moment) (map (item_settled_at moment) xs)) (settled_stable clock moment le x a.0) (list_all-settled clock moment le xs a.1)
 
-pub length-all_settled : (moment stable : ℕ) (items : List LogItem) → length (all_settled moment stable items) ≡ length items
+pub length-all_settled : (moment stable : ℕ) (items : List LogItem) → length (items_settled_at moment stable items) ≡ length items
 length-all_settled moment stable items =
-    length-append (take stable items) (map (settled_at moment) (drop stable items))
-    ∙ ap (λ n. length (take stable items) + n) (length-map (drop stable items) (settled_at moment))
+    length-append (take stable items) (map (item_settled_at moment) (drop stable items))
+    ∙ ap (λ n. length (take stable items) + n) (length-map (drop stable items) (item_settled_at moment))
     ∙ sym (length-append (take stable items) (drop stable items))
     ∙ ap length (take-append-drop stable items)
 
 module _ (clock later stable : ℕ) (items : List LogItem) (lt : clock < later) (order : IsInOrder clock stable items) where
-  pub order-settled : IsInOrder later (length items) (all_settled later stable items)
+  pub order-settled : IsInOrder later (length items) (items_settled_at later stable items)
   order-settled = record {
     within = let e = length-all_settled later stable items in omega arith;
     first =
-        ap (list_all (was_stable later)) (take_all (length items) (all_settled later stable items) (let e = length-all_settled later stable items in omega arith))
-        ∙ list_all-append (was_stable later) (take stable items) (map (settled_at later) (drop stable items))
-        ∙ and_from (list_all (was_stable later) (take stable items)) (list_all (was_stable later) (map (settled_at later) (drop stable items)))
+        ap (list_all (was_stable later)) (take_all (length items) (items_settled_at later stable items) (let e = length-all_settled later stable items in omega arith))
+        ∙ list_all-append (was_stable later) (take stable items) (map (item_settled_at later) (drop stable items))
+        ∙ and_from (list_all (was_stable later) (take stable items)) (list_all (was_stable later) (map (item_settled_at later) (drop stable items)))
         (list_all-weaker (was_stable clock) (was_stable later) (was_stable-later clock later (omega arith)) (take stable items) order.first)
         (list_all-settled clock later (omega arith) (drop stable items) order.others);
-    others = ap (list_all (is_waiting later)) (drop_all (length items) (all_settled later stable items) (let e = length-all_settled later stable items in omega arith));
+    others = ap (list_all (is_waiting later)) (drop_all (length items) (items_settled_at later stable items) (let e = length-all_settled later stable items in omega arith));
   }
 
   -- the log was what it was
-  pub state_at-settled : (moment : ℕ) → moment ≤ clock → state_at moment (all_settled later stable items) ≡ state_at moment items
+  pub state_at-settled : (moment : ℕ) → moment ≤ clock → state_at moment (items_settled_at later stable items) ≡ state_at moment items
   state_at-settled moment le = LogState-same _ _ _ _ (ap (chains_after effect_of_entry []) (same (was_stable moment) (λ x h. (settled_before clock later moment (omega arith) x h).0))) (same (was_pending moment) (λ x h. (settled_before clock later moment (omega arith) x h).1))
     where
-      same : (q : LogItem → Bool) → ((x : LogItem) → is_waiting clock x ≡ true → q (settled_at later x) ≡ q x) → map event_of (filter q (all_settled later stable items)) ≡ map event_of (filter q items)
+      same : (q : LogItem → Bool) → ((x : LogItem) → is_waiting clock x ≡ true → q (item_settled_at later x) ≡ q x) → map event_of (filter q (items_settled_at later stable items)) ≡ map event_of (filter q items)
       same q h =
-          ap (map event_of) (filter-append q (take stable items) (map (settled_at later) (drop stable items)))
-          ∙ map-append event_of (filter q (take stable items)) (filter q (map (settled_at later) (drop stable items)))
-          ∙ ap (λ (l : List (Event Entry)). map event_of (filter q (take stable items)) ++ l) (filter-map_same (is_waiting clock) event_of (settled_at later) q q h (λ x. refl) (drop stable items) order.others)
+          ap (map event_of) (filter-append q (take stable items) (map (item_settled_at later) (drop stable items)))
+          ∙ map-append event_of (filter q (take stable items)) (filter q (map (item_settled_at later) (drop stable items)))
+          ∙ ap (λ (l : List (Event Entry)). map event_of (filter q (take stable items)) ++ l) (filter-map_same (is_waiting clock) event_of (item_settled_at later) q q h (λ x. refl) (drop stable items) order.others)
           ∙ sym (map-append event_of (filter q (take stable items)) (filter q (drop stable items)))
           ∙ ap (map event_of) (sym (filter-append q (take stable items) (drop stable items)))
           ∙ ap (λ (l : List LogItem). map event_of (filter q l)) (take-append-drop stable items)
 
-  pub pending-settled : (state_at later (all_settled later stable items)).pending ≡ []
+  pub pending-settled : (state_at later (items_settled_at later stable items)).pending ≡ []
   pending-settled =
-      pending_events later (length items) (all_settled later stable items) order-settled
-      ∙ ap (map event_of) (drop_all (length items) (all_settled later stable items) (let e = length-all_settled later stable items in omega arith))
+      pending_events later (length items) (items_settled_at later stable items) order-settled
+      ∙ ap (map event_of) (drop_all (length items) (items_settled_at later stable items) (let e = length-all_settled later stable items in omega arith))
 
-  pub adds-settled : is_open (map event_of (drop stable items)) ≡ false → Adds effect_of_entry (state_at clock items) [] (state_at later (all_settled later stable items))
+  pub adds-settled : is_open (map event_of (drop stable items)) ≡ false → Adds effect_of_entry (state_at clock items) [] (state_at later (items_settled_at later stable items))
   adds-settled closed =
       let old = state_at clock items in
       let events : List (Event Entry) = old.pending ++ [] in
@@ -188,64 +188,64 @@ module _ (clock later stable : ℕ) (items : List LogItem) (lt : clock < later) 
         cut = length events;
         fair = record { within = omega arith; no_part = λ o. absurd (false≢true (sym closed ∙ ap is_open (sym is) ∙ ap is_open (sym (take_all (length events) events (omega arith))) ∙ o)) };
         stable =
-            stable_chains later (length items) (all_settled later stable items) order-settled
-            ∙ ap (λ (l : List LogItem). chains_after effect_of_entry [] (map event_of l)) (take_all (length items) (all_settled later stable items) (let e = length-all_settled later stable items in omega arith))
-            ∙ ap (chains_after effect_of_entry []) (map-append event_of (take stable items) (map (settled_at later) (drop stable items)) ∙ ap (λ (l : List (Event Entry)). map event_of (take stable items) ++ l) (map-settled later (drop stable items)))
+            stable_chains later (length items) (items_settled_at later stable items) order-settled
+            ∙ ap (λ (l : List LogItem). chains_after effect_of_entry [] (map event_of l)) (take_all (length items) (items_settled_at later stable items) (let e = length-all_settled later stable items in omega arith))
+            ∙ ap (chains_after effect_of_entry []) (map-append event_of (take stable items) (map (item_settled_at later) (drop stable items)) ∙ ap (λ (l : List (Event Entry)). map event_of (take stable items) ++ l) (map-settled later (drop stable items)))
             ∙ chains_after-append effect_of_entry [] (map event_of (take stable items)) (map event_of (drop stable items))
             ∙ ap (λ (l : List Chain). chains_after effect_of_entry l (map event_of (drop stable items))) (sym (stable_chains clock stable items order))
             ∙ ap (chains_after effect_of_entry old.stable) (sym is ∙ sym (take_all (length events) events (omega arith)));
         pending = pending-settled ∙ sym (drop_all (length events) events (omega arith));
       }
 
-log_size-settled : (moment : ℕ) (xs : List LogItem) → log_size (map (settled_at moment) xs) ≡ log_size xs
+log_size-settled : (moment : ℕ) (xs : List LogItem) → log_size (map (item_settled_at moment) xs) ≡ log_size xs
 log_size-settled moment xs =
     let size : LogItem → ℕ = λ item. size_of_mark item.mark in
-    sym (sum-map size (map (settled_at moment) xs)) ∙ ap sum (map-map_same size (settled_at moment) (λ x. refl) xs) ∙ sum-map size xs
+    sym (sum-map size (map (item_settled_at moment) xs)) ∙ ap sum (map-map_same size (item_settled_at moment) (λ x. refl) xs) ∙ sum-map size xs
 
-pub log_size-all_settled : (moment stable : ℕ) (items : List LogItem) → log_size (all_settled moment stable items) ≡ log_size items
+pub log_size-all_settled : (moment stable : ℕ) (items : List LogItem) → log_size (items_settled_at moment stable items) ≡ log_size items
 log_size-all_settled moment stable items =
-    sum_by-append (λ (item : LogItem). size_of_mark item.mark) (take stable items) (map (settled_at moment) (drop stable items))
+    sum_by-append (λ (item : LogItem). size_of_mark item.mark) (take stable items) (map (item_settled_at moment) (drop stable items))
     ∙ ap (λ n. log_size (take stable items) + n) (log_size-settled moment (drop stable items))
     ∙ sum_by-take-drop (λ (item : LogItem). size_of_mark item.mark) items stable
 
-list_all-restarted : (xs : List LogItem) → list_all (was_stable 0) (map restarted xs) ≡ true
+list_all-restarted : (xs : List LogItem) → list_all (was_stable 0) (map item_after_restart xs) ≡ true
 list_all-restarted [] = refl
 list_all-restarted (x ∷ xs) = list_all-restarted xs
 
-pub size-restarted : (items : List LogItem) → log_size (map restarted items) ≡ log_size items
+pub size-restarted : (items : List LogItem) → log_size (map item_after_restart items) ≡ log_size items
 size-restarted items =
     let size : LogItem → ℕ = λ item. size_of_mark item.mark in
-    sym (sum-map size (map restarted items)) ∙ ap sum (map-map_same size restarted (λ x. refl) items) ∙ sum-map size items
+    sym (sum-map size (map item_after_restart items)) ∙ ap sum (map-map_same size item_after_restart (λ x. refl) items) ∙ sum-map size items
 
-pub log_size-restarted : (count : ℕ) (items : List LogItem) → log_size (map restarted (take count items)) ≤ log_size items
+pub log_size-restarted : (count : ℕ) (items : List LogItem) → log_size (map item_after_restart (take count items)) ≤ log_size items
 log_size-restarted count items =
     let size : LogItem → ℕ = λ item. size_of_mark item.mark in
     let same = size-restarted (take count items) in
     let parts : log_size (take count items) + log_size (drop count items) ≡ log_size items = sum_by-take-drop size items count in
     omega arith
 
-pub order-restarted : (xs : List LogItem) → IsInOrder 0 (length (map restarted xs)) (map restarted xs)
+pub order-restarted : (xs : List LogItem) → IsInOrder 0 (length (map item_after_restart xs)) (map item_after_restart xs)
 order-restarted xs =
-    let kept = map restarted xs in
+    let kept = map item_after_restart xs in
     record {
       within = omega arith;
       first = ap (list_all (was_stable 0)) (take_all (length kept) kept (omega arith)) ∙ list_all-restarted xs;
       others = ap (list_all (is_waiting 0)) (drop_all (length kept) kept (omega arith));
     }
 
-pub pending-restarted : (xs : List LogItem) → (state_at 0 (map restarted xs)).pending ≡ []
+pub pending-restarted : (xs : List LogItem) → (state_at 0 (map item_after_restart xs)).pending ≡ []
 pending-restarted xs =
-    let kept = map restarted xs in
+    let kept = map item_after_restart xs in
     pending_events 0 (length kept) kept (order-restarted xs) ∙ ap (map event_of) (drop_all (length kept) kept (omega arith))
 
 -- a crash keeps what was durable and the first of the pending events
 pub stable-restarted : (clock stable n : ℕ) (items : List LogItem) → IsInOrder clock stable items
-    → (state_at 0 (map restarted (take (stable + n) items))).stable ≡ chains_after effect_of_entry (state_at clock items).stable (take n (state_at clock items).pending)
+    → (state_at 0 (map item_after_restart (take (stable + n) items))).stable ≡ chains_after effect_of_entry (state_at clock items).stable (take n (state_at clock items).pending)
 stable-restarted clock stable n items order =
-    let kept = map restarted (take (stable + n) items) in
+    let kept = map item_after_restart (take (stable + n) items) in
     stable_chains 0 (length kept) kept (order-restarted (take (stable + n) items))
     ∙ ap (λ (l : List LogItem). chains_after effect_of_entry [] (map event_of l)) (take_all (length kept) kept (omega arith))
-    ∙ ap (chains_after effect_of_entry []) (map-map_same event_of restarted (λ x. refl) (take (stable + n) items) ∙ ap (map event_of) (take-add stable n items) ∙ map-append event_of (take stable items) (take n (drop stable items)))
+    ∙ ap (chains_after effect_of_entry []) (map-map_same event_of item_after_restart (λ x. refl) (take (stable + n) items) ∙ ap (map event_of) (take-add stable n items) ∙ map-append event_of (take stable items) (take n (drop stable items)))
     ∙ chains_after-append effect_of_entry [] (map event_of (take stable items)) (map event_of (take n (drop stable items)))
     ∙ ap (λ (l : List Chain). chains_after effect_of_entry l (map event_of (take n (drop stable items)))) (sym (stable_chains clock stable items order))
     ∙ ap (chains_after effect_of_entry (state_at clock items).stable) (sym (take-map event_of n (drop stable items)) ∙ ap (take n) (sym (pending_events clock stable items order)))
@@ -254,7 +254,7 @@ stable-restarted clock stable n items order =
 pub left-stopped : (clock n : ℕ) (items : List LogItem) (chains : List Chain)
     → IsFair (state_at clock items).pending n
     → chains ≡ chains_after effect_of_entry (state_at clock items).stable (take n (state_at clock items).pending)
-    → WasLeft clock items clock (map unplaced chains)
+    → WasLeft clock items clock (map messages_of chains)
 left-stopped clock n items chains fair is = record {
   at = clock;
   from = omega arith;

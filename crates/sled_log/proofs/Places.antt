@@ -1,7 +1,7 @@
 -- Where the items of the log in memory stand.
-use Rattle.sled_log.proofs.Names.{◌≡◌, ◌≤◌, ◌<◌, ◌+◌, ℕ, zero, suc, true, ◌==◌, Some, List, [], ◌∷◌, ◌++◌, length, take, map, get_or, refl, sym, ◌∙◌, ap, subst, arith, slice_get, IsNonDecreasingBy, and_parts, and_from, eqb-true, sum_by-cons, offset_of, LogItem, head_size, size_of_mark, log_size, stands_at, is_placed, are_placed, settled_at, all_settled}
-use Rattle.sled_log.specs.Kept.{KeptChange as Change}
-use Rattle.sled_log.specs.Kept as kept
+use Rattle.sled_log.proofs.Names.{◌≡◌, ◌≤◌, ◌<◌, ◌+◌, ℕ, zero, suc, true, ◌==◌, Some, List, [], ◌∷◌, ◌++◌, length, take, map, get_or, refl, sym, ◌∙◌, ap, subst, arith, slice_get, IsNonDecreasingBy, and_parts, and_from, eqb-true, sum_by-cons, offset_of, LogItem, head_size, size_of_mark, log_size, stands_at, is_placed, are_placed, item_settled_at, items_settled_at}
+use Rattle.sled_log.specs.MemLog.Kept.{KeptChange as Change}
+use Rattle.sled_log.specs.MemLog.Kept as kept
 
 log_size-cons : (item : LogItem) (items : List LogItem) → log_size (item ∷ items) ≡ size_of_mark item.mark + log_size items
 log_size-cons item items = sum_by-cons (λ (item : LogItem). size_of_mark item.mark) item items
@@ -35,12 +35,12 @@ pub placed-map : (change : LogItem → LogItem) → ((x : LogItem) → ((change 
 placed-map change same from [] all = refl
 placed-map change same from (x ∷ items) all = rw ((same x).0, (same x).1) (let a = and_parts (is_placed from x) (are_placed x.end items) all in and_from (is_placed from x) (are_placed x.end (map change items)) a.0 (placed-map change same x.end items a.1))
 
-pub placed-settled : (moment stable from : ℕ) (items : List LogItem) → are_placed from items ≡ true → are_placed from (all_settled moment stable items) ≡ true
-placed-settled moment zero from items all = placed-map (settled_at moment) (λ x. (refl, refl)) from items all
+pub placed-settled : (moment stable from : ℕ) (items : List LogItem) → are_placed from items ≡ true → are_placed from (items_settled_at moment stable items) ≡ true
+placed-settled moment zero from items all = placed-map (item_settled_at moment) (λ x. (refl, refl)) from items all
 placed-settled moment (suc stable) from [] all = refl
 placed-settled moment (suc stable) from (x ∷ items) all =
     let a = and_parts (is_placed from x) (are_placed x.end items) all in
-    and_from (is_placed from x) (are_placed x.end (all_settled moment stable items)) a.0 (placed-settled moment stable x.end items a.1)
+    and_from (is_placed from x) (are_placed x.end (items_settled_at moment stable items)) a.0 (placed-settled moment stable x.end items a.1)
 
 -- ---- ends rise, so that a place is found
 

@@ -1,5 +1,5 @@
 -- The log sizes of what a log is told bound those of its chains.
-use Rattle.sled_log.proofs.Names.{◌≤◌, ◌<◌, ◌+◌, ℕ, zero, suc, Bool, true, false, cond, ◌==◌, List, [], ◌∷◌, ◌++◌, length, set, get_or, slice_set, slice_index_or, arith, AllByRecursion, sum_by, sum_by-cons, sum_by-append, LogKind, is_empty, linked, begun, changed, chains_from, chains_after, Event, Change, Pin, Seal, Cancel}
+use Rattle.sled_log.proofs.Names.{◌≤◌, ◌<◌, ◌+◌, ℕ, zero, suc, Bool, true, false, cond, ◌==◌, List, [], ◌∷◌, ◌++◌, length, set, get_or, slice_set, slice_index_or, arith, AllByRecursion, sum_by, sum_by-cons, sum_by-append, LogKind, is_empty, chain_with_link, chains_with_new, chains_with_change, chains_from, chains_after, Event, Change, Pin, Seal, Cancel}
 use Rattle.sled_base.specs.declared.kinds.LogKind.TheVariants as kinds
 
 module _ {E : Type 0} (effect : E → LogKind) (size : E → ℕ) where
@@ -24,25 +24,25 @@ module _ {E : Type 0} (effect : E → LogKind) (size : E → ℕ) where
   set-size (c ∷ chains) zero chain = omega (arith, sum_by-cons chain_size c chains, sum_by-cons chain_size chain chains)
   set-size (c ∷ chains) (suc id) chain = omega (arith, sum_by-cons chain_size c chains, sum_by-cons chain_size c (set chains id chain), set-size chains id chain)
 
-  linked-size : (chain : List E) (said : E) → chain_size (linked effect chain said) ≤ chain_size chain + size said
+  linked-size : (chain : List E) (said : E) → chain_size (chain_with_link effect chain said) ≤ chain_size chain + size said
   linked-size chain said = by (is_empty effect chain)
     where
       by : (b : Bool) → chain_size (cond b chain (chain ++ said ∷ [])) ≤ chain_size chain + size said
       by true = omega arith
       by false = omega (arith, sum_by-append size chain (said ∷ []))
 
-  begun-size : (chains : List (List E)) (id : ℕ) (said : E) → chains_size (begun effect chains id said) ≤ chains_size chains + size said
+  begun-size : (chains : List (List E)) (id : ℕ) (said : E) → chains_size (chains_with_new effect chains id said) ≤ chains_size chains + size said
   begun-size chains id said = by (id == length chains)
     where
       by : (b : Bool) → chains_size (cond b (chains ++ (said ∷ []) ∷ []) (slice_set chains id (said ∷ []))) ≤ chains_size chains + size said
       by true = omega (arith, sum_by-append chain_size chains ((said ∷ []) ∷ []))
       by false = omega (arith, set-size chains id (said ∷ []))
 
-  changed-size : (kind : LogKind) (chains : List (List E)) (id : ℕ) (said : E) → chains_size (changed effect kind chains id said) ≤ chains_size chains + size said
+  changed-size : (kind : LogKind) (chains : List (List E)) (id : ℕ) (said : E) → chains_size (chains_with_change effect kind chains id said) ≤ chains_size chains + size said
   changed-size kinds.Free chains id said = begun-size chains id said
   changed-size kinds.Replace chains id said = begun-size chains id said
   changed-size kinds.Link chains id said =
-      let chain : List E = slice_index_or chains id [] in omega (arith, set-size chains id (linked effect chain said), linked-size chain said)
+      let chain : List E = slice_index_or chains id [] in omega (arith, set-size chains id (chain_with_link effect chain said), linked-size chain said)
   changed-size kinds.Skip chains id said = omega arith
   changed-size kinds.Corrupted chains id said = omega arith
 

@@ -3,7 +3,7 @@ use Rattle.sled_log.proofs.Names.{◌≡◌, ◌<◌, ℕ, List, [], ◌∷◌, 
 use Rattle.sled_log.proofs.ChainLaws.{Says, chains-all}
 use Rattle.sled_log.specs.Messages as messages
 use Rattle.sled_log.proofs.SizeLaws.{chain_size, chains_size, event_size, events_size, chains_after-size, each-below}
-use Rattle.sled_log.specs.Kept as kept
+use Rattle.sled_log.specs.MemLog.Kept as kept
 use Rattle.sled_log.proofs.Moments.{now_is}
 
 abbrev place_size : Entry → ℕ

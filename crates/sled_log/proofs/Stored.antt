@@ -1,9 +1,9 @@
 -- What the log in memory keeps, by its items and their buffer.
-use Rattle.sled_log.proofs.Names.{◌≡◌, ◌≤◌, ◌<◌, ◌+◌, ◌-◌, ℕ, Bool, zero, suc, true, false, cond, ◌==◌, nat_le, Option, Some, None, List, [], ◌∷◌, ◌++◌, length, take, drop, map, set, get_or, refl, sym, ◌∙◌, ap, subst, arith, pos, slice_get, IsNonDecreasingBy, and_parts, and_from, leb-true, le-leb, eqb-true, eq-eqb, length-drop, length-take-le, take-append-le, drop-append-le, take-append-drop, take_all, drop-map, get_or_default, drop-append_seam, sum_by-cons, offset_of, MessageKind, Corrupted, StoredItem, StoredMark, Event, seen, event_of_mark, event_of, size_of_mark, log_size, stands_at, are_placed, settled_at, all_settled, restarted, pointer_at, KeptChange, LogItem, Entry, never, moment_of, part, kept_mark, kept_item, kept_from, are_within, last_of, place_after, start_after, bare_event_of, bare_event, settles_at, restarts, settle_all}
+use Rattle.sled_log.proofs.Names.{◌≡◌, ◌≤◌, ◌<◌, ◌+◌, ◌-◌, ℕ, Bool, zero, suc, true, false, cond, ◌==◌, nat_le, Option, Some, None, List, [], ◌∷◌, ◌++◌, length, take, drop, map, set, get_or, refl, sym, ◌∙◌, ap, subst, arith, pos, slice_get, IsNonDecreasingBy, and_parts, and_from, leb-true, le-leb, eqb-true, eq-eqb, length-drop, length-take-le, take-append-le, drop-append-le, take-append-drop, take_all, drop-map, get_or_default, drop-append_seam, sum_by-cons, offset_of, MessageKind, Corrupted, StoredItem, StoredMark, Event, seen_event, event_of_mark, event_of, size_of_mark, log_size, stands_at, are_placed, item_settled_at, items_settled_at, item_after_restart, pointer_at, KeptChange, LogItem, Entry, no_moment, moment_of, part, kept_mark, kept_item, kept_from, are_within, last_of, place_after, start_after, bare_event_of, bare_event, settles_at, restarts, settle_all}
 use Rattle.std.proofs.lemmas.List.Edits.{map_over_more}
 use Rattle.sled_base.specs.declared.types.DiskPtr.TheVariants.{Inline, Blob}
 use Rattle.sled_log.specs.declared.memory.item.Mark.TheVariants as stored
-use Rattle.sled_log.specs.Kept as kept
+use Rattle.sled_log.specs.MemLog.Kept as kept
 
 -- where no item stands that one asks for
 abbrev pub no_item : StoredItem
@@ -132,25 +132,25 @@ module _ (limit : ℕ) where
     kept-push place start [] x = refl
     kept-push place start (y ∷ items) x = ap (λ (l : List LogItem). kept_item limit place (part start y.payload_end bytes) y ∷ l) (kept-push y.end y.payload_end items x)
 
-    pub kept-restarts : (place start : ℕ) (items : List StoredItem) → kept_of place start (map restarts items) ≡ map restarted (kept_of place start items)
+    pub kept-restarts : (place start : ℕ) (items : List StoredItem) → kept_of place start (map restarts items) ≡ map item_after_restart (kept_of place start items)
     kept-restarts place start [] = refl
-    kept-restarts place start (x ∷ items) = ap (λ (l : List LogItem). restarted (kept_item limit place (part start x.payload_end bytes) x) ∷ l) (kept-restarts x.end x.payload_end items)
+    kept-restarts place start (x ∷ items) = ap (λ (l : List LogItem). item_after_restart (kept_item limit place (part start x.payload_end bytes) x) ∷ l) (kept-restarts x.end x.payload_end items)
 
-    module _ (moment : ℕ) (comes : moment < never) where
+    module _ (moment : ℕ) (comes : moment < no_moment) where
       some : moment_of moment ≡ Some moment
-      some = ap (λ b. cond b None (Some moment)) (by (moment == never) refl)
+      some = ap (λ b. cond b None (Some moment)) (by (moment == no_moment) refl)
         where
-          by : (b : _) → (moment == never) ≡ b → (moment == never) ≡ false
-          by true h = absurd (omega (arith, comes, eqb-true moment never h))
+          by : (b : _) → (moment == no_moment) ≡ b → (moment == no_moment) ≡ false
+          by true h = absurd (omega (arith, comes, eqb-true moment no_moment h))
           by false h = h
 
-      kept-settles : (place start : ℕ) (items : List StoredItem) → kept_of place start (map (settles_at moment) items) ≡ map (settled_at moment) (kept_of place start items)
+      kept-settles : (place start : ℕ) (items : List StoredItem) → kept_of place start (map (settles_at moment) items) ≡ map (item_settled_at moment) (kept_of place start items)
       kept-settles place start [] = refl
       kept-settles place start (x ∷ items) =
           let made : Option ℕ → LogItem = λ settled. record { mark = kept_mark limit place (part start x.payload_end bytes) x.mark; end = x.end; came = x.came; settled = settled } in
           ap (λ (o : Option ℕ). made o ∷ kept_of x.end x.payload_end (map (settles_at moment) items)) some ∙ ap (λ (l : List LogItem). made (Some moment) ∷ l) (kept-settles x.end x.payload_end items)
 
-      pub kept-settle_all : (from place start : ℕ) (items : List StoredItem) → kept_of place start (settle_all moment from items) ≡ all_settled moment from (kept_of place start items)
+      pub kept-settle_all : (from place start : ℕ) (items : List StoredItem) → kept_of place start (settle_all moment from items) ≡ items_settled_at moment from (kept_of place start items)
       kept-settle_all zero place start items = kept-settles place start items
       kept-settle_all (suc from) place start [] = refl
       kept-settle_all (suc from) place start (x ∷ items) = ap (λ (l : List LogItem). kept_item limit place (part start x.payload_end bytes) x ∷ l) (kept-settle_all from x.end x.payload_end items)
@@ -189,24 +189,24 @@ module _ (limit : ℕ) where
 
     -- ---- events
 
-    bare-mark : (place : ℕ) (payload : List ℕ) (mark : StoredMark) → seen kind_of (event_of_mark (kept_mark limit place payload mark)) ≡ bare_event_of mark
+    bare-mark : (place : ℕ) (payload : List ℕ) (mark : StoredMark) → seen_event kind_of (event_of_mark (kept_mark limit place payload mark)) ≡ bare_event_of mark
     bare-mark place payload (stored.Change kind pid) = refl
     bare-mark place payload stored.Pin = refl
     bare-mark place payload stored.Seal = refl
     bare-mark place payload stored.Cancel = refl
 
     -- without their places and payloads the events are those of the items
-    pub bare-events : (place start : ℕ) (items : List StoredItem) → map (seen kind_of) (map event_of (kept_of place start items)) ≡ map bare_event items
+    pub bare-events : (place start : ℕ) (items : List StoredItem) → map (seen_event kind_of) (map event_of (kept_of place start items)) ≡ map bare_event items
     bare-events place start [] = refl
     bare-events place start (x ∷ items) =
-        ap (λ (e : Event MessageKind). e ∷ map (seen kind_of) (map event_of (kept_of x.end x.payload_end items))) (bare-mark place (part start x.payload_end bytes) x.mark) ∙ ap (λ (l : List (Event MessageKind)). bare_event x ∷ l) (bare-events x.end x.payload_end items)
+        ap (λ (e : Event MessageKind). e ∷ map (seen_event kind_of) (map event_of (kept_of x.end x.payload_end items))) (bare-mark place (part start x.payload_end bytes) x.mark) ∙ ap (λ (l : List (Event MessageKind)). bare_event x ∷ l) (bare-events x.end x.payload_end items)
 
-    pub bare-drop : (n place start : ℕ) (items : List StoredItem) → map bare_event (drop n items) ≡ map (seen kind_of) (map event_of (drop n (kept_of place start items)))
+    pub bare-drop : (n place start : ℕ) (items : List StoredItem) → map bare_event (drop n items) ≡ map (seen_event kind_of) (map event_of (drop n (kept_of place start items)))
     bare-drop n place start items =
         sym (drop-map bare_event n items)
         ∙ ap (drop n) (sym (bare-events place start items))
-        ∙ drop-map (seen kind_of) n (map event_of (kept_of place start items))
-        ∙ ap (map (seen kind_of)) (drop-map event_of n (kept_of place start items))
+        ∙ drop-map (seen_event kind_of) n (map event_of (kept_of place start items))
+        ∙ ap (map (seen_event kind_of)) (drop-map event_of n (kept_of place start items))
 
   -- an item that is added with its payload
   pub kept-add : (bytes more : List ℕ) (size : ℕ) (items : List StoredItem) (x : StoredItem) → are_within 0 (length bytes) items ≡ true → are_placed 0 (kept_from limit bytes 0 0 items) ≡ true → size ≡ log_size (kept_from limit bytes 0 0 items)
@@ -221,7 +221,7 @@ module _ (limit : ℕ) where
 
   -- what a crash leaves, with the buffer cut behind its last payload
   pub kept-stopped : (bytes : List ℕ) (n : ℕ) (items : List StoredItem) → are_within 0 (length bytes) items ≡ true → (let left : List StoredItem = map restarts (take n items) in
-      (kept_from limit (take (start_after 0 left) bytes) 0 0 left ≡ map restarted (take n (kept_from limit bytes 0 0 items))) × (are_within 0 (length (take (start_after 0 left) bytes)) left ≡ true))
+      (kept_from limit (take (start_after 0 left) bytes) 0 0 left ≡ map item_after_restart (take n (kept_from limit bytes 0 0 items))) × (are_within 0 (length (take (start_after 0 left) bytes)) left ≡ true))
   kept-stopped bytes n items h =
       let first : List StoredItem = take n items in
       let end : ℕ = start_after 0 first in
@@ -229,7 +229,7 @@ module _ (limit : ℕ) where
       let within_left = within-restarts 0 end first within in
       let same : start_after 0 (map restarts first) ≡ end = (within-ends 0 end (map restarts first) within_left).0 in
       let le = start-take 0 (length bytes) n items h in (
-        ap (λ e. kept_from limit (take e bytes) 0 0 (map restarts first)) same ∙ kept-restarts (take end bytes) 0 0 first ∙ ap (map restarted) (kept-shorter bytes 0 0 end first within le ∙ kept-take bytes 0 0 n items),
+        ap (λ e. kept_from limit (take e bytes) 0 0 (map restarts first)) same ∙ kept-restarts (take end bytes) 0 0 first ∙ ap (map item_after_restart) (kept-shorter bytes 0 0 end first within le ∙ kept-take bytes 0 0 n items),
         ap (λ e. are_within 0 (length (take e bytes)) (map restarts first)) same ∙ ap (λ e. are_within 0 e (map restarts first)) (length-take-le end bytes le) ∙ within_left,
       )
 

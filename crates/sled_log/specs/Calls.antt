@@ -1,16 +1,19 @@
 -- What a call of a log does.
-use Rattle.std.specs.Prelude.{◌≡◌, ◌⊎◌, ◌+◌, ◌<◌, ◌≤◌, ℕ, Bool, true, false, not, nat_lt, nat_le, ◌==◌, List, [], length, slice_index_or, Result, Ok, Err, IfOk, OnErr, IsErrOf, if◌then◌else◌}
+use Rattle.std.specs.Prelude.{◌≡◌, ◌⊎◌, ◌+◌, ◌<◌, ◌≤◌, ℕ, Bool, true, false, not, nat_lt, nat_le, ◌==◌, List, [], length, slice_index_or, Result, Ok, Err, IfOk, OnErr, IsErrOf, if◌then◌else◌, None}
 use Rattle.sled_base.specs.declared.kinds.LogKind.{LogKind}
 use Rattle.sled_base.specs.declared.kinds.MessageKind.{MessageKind}
 use Rattle.sled_base.specs.declared.kinds.MessageKind.TheVariants as kinds
-use Rattle.sled_log.specs.Batches.{is_open, open_after}
+use Rattle.sled_log.specs.Events.{is_open, open_after, Event}
 use Rattle.sled_log.specs.Chains.{is_empty}
-use Rattle.sled_log.specs.Events.{Event}
 use Rattle.sled_log.specs.Limits.{most_count}
 use Rattle.sled_log.specs.Messages.{Message, Entry, Messages, effect_of, effect_of_entry}
 use Rattle.sled_log.specs.LogState.{LogState, Adds, IsLeft, unplaced_state, CrashesSinceLeave}
 use Rattle.sled_log.specs.declared.log.LogError.{LogError}
 use Rattle.sled_log.specs.declared.log.LogError.TheVariants.{Memory, Full, ReadFault, WriteFault, Corruption}
+use Rattle.sled_base.specs.declared.types.Device.TheVariants.{Read, Write}
+use Rattle.sled_base.specs.declared.types.Refusal.{Refusal}
+use Rattle.sled_base.specs.declared.types.Refusal.TheVariants as refusals
+use Rattle.sled_base.specs.declared.types.Why.TheVariants.{LogFull}
 
 -- Whether a message of that kind may be appended for a page: a content where the page is there or is the next new one, one that
 -- frees it where it is there, and a link where it has a content. Blobs are a log's own, and so are the other kinds.
@@ -76,3 +79,11 @@ pub record Called {L T : Type 0} (tells : Type 0) (state : L → LogState Entry)
   pub refused : tells → OnErr result (is_write_fault result ≡ false → Adds effect_of_entry (state old) [] (state new))
   pub stop : tells → CrashesSinceLeave moment left_since old new (IsLeft effect_of (unplaced_state (state old)) (begun_by result begun))
   pub sound : tells → IsErrOf result Corruption → ⊥
+
+-- the refusal that a failed call of a log is
+abbrev pub refusal_of : LogError → Refusal
+refusal_of Memory = refusals.OutOfMemory
+refusal_of Full = refusals.Unsupported LogFull
+refusal_of ReadFault = refusals.Io Read
+refusal_of WriteFault = refusals.Io Write
+refusal_of Corruption = refusals.Corruption None

@@ -27,24 +27,24 @@ module _ {E : Type 0} (effect : E → LogKind) where
   is_empty (said ∷ chain) = is_freeing (effect said)
 
   -- the chain after a link, which a page without a content doesn't take
-  abbrev pub linked : List E → E → List E
-  linked chain said = if is_empty chain then chain else chain ++ said ∷ []
+  abbrev pub chain_with_link : List E → E → List E
+  chain_with_link chain said = if is_empty chain then chain else chain ++ said ∷ []
 
   -- The chains, by id, with a new one. An id that is their number makes a new page; one above it changes nothing.
-  abbrev pub begun : List (List E) → ℕ → E → List (List E)
-  begun chains id said = if id == length chains then chains ++ (said ∷ []) ∷ [] else slice_set chains id (said ∷ [])
+  abbrev pub chains_with_new : List (List E) → ℕ → E → List (List E)
+  chains_with_new chains id said = if id == length chains then chains ++ (said ∷ []) ∷ [] else slice_set chains id (said ∷ [])
 
   -- the chains after one change, by what it does
-  abbrev pub changed : LogKind → List (List E) → ℕ → E → List (List E)
-  changed kinds.Free chains id said = begun chains id said
-  changed kinds.Replace chains id said = begun chains id said
-  changed kinds.Link chains id said = slice_set chains id (linked (slice_index_or chains id []) said)
-  changed kinds.Skip chains id said = chains
-  changed kinds.Corrupted chains id said = chains
+  abbrev pub chains_with_change : LogKind → List (List E) → ℕ → E → List (List E)
+  chains_with_change kinds.Free chains id said = chains_with_new chains id said
+  chains_with_change kinds.Replace chains id said = chains_with_new chains id said
+  chains_with_change kinds.Link chains id said = slice_set chains id (chain_with_link (slice_index_or chains id []) said)
+  chains_with_change kinds.Skip chains id said = chains
+  chains_with_change kinds.Corrupted chains id said = chains
 
   -- the chains after one event; a mark changes none
   abbrev pub chains_from : List (List E) → Event E → List (List E)
-  chains_from chains (Change id said) = changed (effect said) chains id said
+  chains_from chains (Change id said) = chains_with_change (effect said) chains id said
   chains_from chains Pin = chains
   chains_from chains Seal = chains
   chains_from chains Cancel = chains

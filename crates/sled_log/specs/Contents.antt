@@ -31,13 +31,13 @@ after_link link (Node node) = Node (applied link node)
 after_link link Damaged = Damaged
 
 -- The contents after one change. An id that is their number makes a new page; one above it changes nothing.
-abbrev pub updated : List Content → ℕ → Update → List Content
-updated contents id (Put content) = if id == length contents then contents ++ content ∷ [] else slice_set contents id content
-updated contents id (Link link) = slice_set contents id (after_link link (slice_index_or contents id Free))
+abbrev pub contents_with : List Content → ℕ → Update → List Content
+contents_with contents id (Put content) = if id == length contents then contents ++ content ∷ [] else slice_set contents id content
+contents_with contents id (Link link) = slice_set contents id (after_link link (slice_index_or contents id Free))
 
 -- the contents after one event; a mark changes none
 abbrev pub contents_from : List Content → Event Update → List Content
-contents_from contents (Change id update) = updated contents id update
+contents_from contents (Change id update) = contents_with contents id update
 contents_from contents Pin = contents
 contents_from contents Seal = contents
 contents_from contents Cancel = contents

@@ -1,9 +1,8 @@
 -- What a log is, what its calls add to it, and the crash states that a crash at any moment leaves of it.
 use Rattle.std.specs.Prelude.{◌≡◌, ◌⊎◌, ◌≤◌, ℕ, Bool, List, ◌++◌, take, drop, map}
 use Rattle.sled_base.specs.declared.kinds.LogKind.{LogKind}
-use Rattle.sled_log.specs.Batches.{IsFair}
+use Rattle.sled_log.specs.Events.{IsFair, Event, seen_event}
 use Rattle.sled_log.specs.Chains.{chains_after}
-use Rattle.sled_log.specs.Events.{Event, seen}
 use Rattle.sled_log.specs.Messages.{Message, Entry, Messages, message_in}
 
 -- The chains that are durable, the events that came after them, which are pending, and whether the log may be called: not
@@ -49,7 +48,7 @@ module _ {E : Type 0} (effect : E → LogKind) where
 
 -- the state, where each change is seen so
 abbrev pub seen_state : {E F : Type 0} → (E → F) → LogState E → LogState F
-seen_state see state = record { stable = map (map see) state.stable; pending = map (seen see) state.pending; usable = state.usable }
+seen_state see state = record { stable = map (map see) state.stable; pending = map (seen_event see) state.pending; usable = state.usable }
 
 -- the state without the places
 abbrev pub unplaced_state : LogState Entry → LogState Message

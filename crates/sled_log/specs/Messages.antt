@@ -7,6 +7,8 @@ use Rattle.sled_base.specs.declared.kinds.MessageKind.TheVariants as kinds
 use Rattle.sled_base.specs.declared.types.DiskPtr.{DiskPtr}
 use Rattle.sled_base.specs.declared.types.DiskPtr.TheVariants.{Inline, Blob}
 use Rattle.sled_log.specs.Limits.{head_size}
+use Rattle.std.proofs.Common.{ℕ, List, map}
+use Rattle.sled_log.specs.Events.{Event, seen_events}
 
 -- the kind of a message, and the bytes of its payload
 pub record Message : Type 0 where
@@ -37,8 +39,8 @@ Messages = List Message
 abbrev pub message_in : Entry → Message
 message_in entry = entry.message
 
-abbrev pub unplaced : Chain → Messages
-unplaced chain = map message_in chain
+abbrev pub messages_of : Chain → Messages
+messages_of chain = map message_in chain
 
 -- what a message does to its page
 abbrev pub effect_of : Message → LogKind
@@ -64,5 +66,9 @@ kind_at (Inline place) kind = kind
 kind_at (Blob place pointer) kind = blob_kind kind
 
 -- a message at the place that a call answers: its lsn, the pointer to it, and its log size
-abbrev pub placed : Message → ℤ × DiskPtr × ℕ → Entry
-placed message said = record { message = message; place = record { lsn = said.0; pointer = said.1; log_size = said.2 } }
+abbrev pub placed_entry : Message → ℤ × DiskPtr × ℕ → Entry
+placed_entry message said = record { message = message; place = record { lsn = said.0; pointer = said.1; log_size = said.2 } }
+
+-- the events without their places
+abbrev pub unplaced_events : List (Event Entry) → List (Event Message)
+unplaced_events events = seen_events message_in events

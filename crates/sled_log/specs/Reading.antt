@@ -1,20 +1,21 @@
--- Which change of a page a message is: the one that its payload reads.
-use Rattle.std.specs.Prelude.{◌≡◌, ◌<◌, ◌≤◌, ℕ, false, List, [], ◌∷◌, length, slice_get, Some}
+-- Which change of a page a message is: the one that its payload reads, and that is written as it.
+use Rattle.std.specs.Prelude.{◌≡◌, ◌<◌, ◌≤◌, ℕ, false, List, [], ◌∷◌, length, slice_get, Some, ◌^◌, ⊤}
 use Rattle.std.specs.List.{AllZip}
-use Rattle.sled_base.specs.Payloads.Numbers.{ReadsU64}
+use Rattle.sled_base.specs.Payloads.Numbers.{ReadsU64, written_u64}
 use Rattle.sled_base.specs.declared.kinds.MessageKind.{MessageKind}
 use Rattle.sled_base.specs.declared.kinds.MessageKind.TheVariants as kinds
 use Rattle.sled_node.specs.Links.{Accepts, applied}
-use Rattle.sled_node.specs.Node.{WholeNode}
-use Rattle.sled_node.specs.Payloads.Links.{ReadsLink}
-use Rattle.sled_node.specs.Payloads.Nodes.{ReadsNode}
-use Rattle.sled_node.specs.Payloads.Roots.{ReadsRoots}
+use Rattle.sled_node.specs.Node.{WholeNode, IsWellFormed}
+use Rattle.sled_node.specs.Payloads.Links.{ReadsLink, written_link, CanWriteLink}
+use Rattle.sled_node.specs.Payloads.Nodes.{ReadsNode, written_node}
+use Rattle.sled_node.specs.Payloads.Roots.{ReadsRoots, written_roots}
 use Rattle.sled_node.specs.declared.node.link.Link.{Link as NodeLink}
 use Rattle.sled_log.specs.Chains.{is_empty}
 use Rattle.sled_log.specs.Contents.{contents_from, contents_after, Content, Free, Counter, Roots, Node, Damaged, Update, Put, Link}
 use Rattle.sled_log.specs.Events.{Event, Change, Pin, Seal, Cancel}
-use Rattle.sled_log.specs.Messages.{Message, Messages, effect_of}
+use Rattle.sled_log.specs.Messages.{Message, Messages, effect_of, message}
 use Rattle.sled_log.specs.LogState.{CrashKeeps}
+use Rattle.sled_node.specs.Meta.{IsRootMap}
 
 -- The payload of such a kind reads the update, up to the payload's end.
 abbrev pub Decodes : MessageKind → List ℕ → Update → Type 0
@@ -90,3 +91,20 @@ AreEvents contents (message ∷ messages) [] = ⊥
 -- a crash state where these contents were durable, these events pending, and others began to come
 abbrev pub AreLeft : List Content → List (Event Update) → List (Event Update) → List Messages → Type 0
 AreLeft stable pending begun pages = CrashKeeps contents_after stable pending begun (Hold pages)
+
+abbrev pub message_of : Update → Message
+message_of (Put Free) = message kinds.Free []
+message_of (Put (Counter n)) = message kinds.Counter (written_u64 n)
+message_of (Put (Roots roots)) = message kinds.InlineMeta (written_roots roots)
+message_of (Put (Node node)) = message kinds.InlineNode (written_node node)
+message_of (Put Damaged) = message kinds.Corrupted []
+message_of (Link link) = message kinds.InlineLink (written_link link)
+
+-- the limits of what is written
+abbrev pub CanWrite : Update → Type 0
+CanWrite (Put Free) = ⊤
+CanWrite (Put (Counter n)) = n < 2 ^ 64
+CanWrite (Put (Roots roots)) = IsRootMap roots
+CanWrite (Put (Node node)) = IsWellFormed node
+CanWrite (Put Damaged) = ⊥
+CanWrite (Link link) = CanWriteLink link

@@ -7,8 +7,8 @@ ghost use Rattle.sled_log.specs.Events.{Event};
 ghost use Rattle.sled_log.specs.Messages.{Message, Entry, Messages, effect_of, effect_of_entry};
 ghost use Rattle.sled_log.specs.Reading.{IsUpdate, Makes, AreEvents, Hold, AreLeft};
 ghost use Rattle.sled_log.specs.LogState.{LogState, Adds, IsLeft, unplaced_state};
-ghost use Rattle.sled_log.specs.Writing.{message_of, CanWrite};
-ghost use Rattle.sled_log.specs.UnplacedLaws.{unplaced_events};
+ghost use Rattle.sled_log.specs.Reading.{message_of, CanWrite};
+ghost use Rattle.sled_log.specs.Messages.{unplaced_events};
 
 /// Folding chains and folding contents agree: the contents of the chains after events are those of the chains before
 /// them, after the events.

@@ -2,15 +2,15 @@
 
 ghost use Rattle.std.specs.Prelude.{◌≡◌, ℕ, ℤ, ◌+◌, ◌≤◌, ◌<◌, List, [], ◌∷◌, true, false, length, slice_index_or, IfOk, IfErr, OnOk, IsErrOf};
 ghost use Rattle.std.specs.List.{All, AllByRecursion, Any, AllZip};
-ghost use Rattle.sled_log.specs.Batches.{is_open};
+ghost use Rattle.sled_log.specs.Events.{is_open};
 ghost use Rattle.sled_log.specs.Calls.{Called, Counts, can_append, one_more};
 ghost use Rattle.sled_log.specs.Chains.{is_chain};
 ghost use Rattle.sled_log.specs.Events.{Change, Pin, Seal, Cancel};
 ghost use Rattle.sled_log.specs.Limits.{head_size, size_limit};
-ghost use Rattle.sled_log.specs.Messages.{Entry, Messages, message, placed, effect_of, effect_of_entry};
+ghost use Rattle.sled_log.specs.Messages.{Entry, Messages, message, placed_entry, effect_of, effect_of_entry};
 ghost use Rattle.sled_log.specs.Pages.{IsPageState, IsSized, IsAt, IsRead};
 ghost use Rattle.sled_log.specs.LogState.{LogState, now, IsLeft, unplaced_state};
-ghost use Rattle.sled_log.specs.Refusals.{refusal_of};
+ghost use Rattle.sled_log.specs.Calls.{refusal_of};
 ghost use Rattle.sled_base.specs.Errors.{error_of};
 ghost use Rattle.sled_log.specs.declared.log.LogError.TheVariants.{Memory, Full, ReadFault, WriteFault};
 
@@ -125,7 +125,7 @@ pub trait Log: Drop {
         requires can { tells
             → can_append effect_of_entry (now effect_of_entry (state self.old)) pid kind ≡ true }
         ensures called { Called tells state moment left_since counts self.old self.new
-            (counts self.old).reads (λ said. Change pid (placed (message kind payload.now) said)
+            (counts self.old).reads (λ said. Change pid (placed_entry (message kind payload.now) said)
             ∷ []) (Change pid (message kind payload.now) ∷ []) result }
         ensures size { IfOk result (λ said. (said.2 ≡ head_size + length payload.now)
             × (said.2 < size_limit)) }

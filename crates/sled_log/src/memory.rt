@@ -1,15 +1,17 @@
 //! The log in memory.
 
 ghost use Rattle.std.specs.Prelude.{⊤, ◌≡◌, ◌+◌, ◌≤◌, ◌<◌, ◌↔◌, [], ◌∷◌, ◌++◌, length, take, drop, map, true, false, IsTrue, IsOk, IfErr, vec_len, vec_capacity};
-ghost use Rattle.sled_log.specs.Batches.{is_open, open_after, IsFair};
+ghost use Rattle.sled_log.specs.Events.{is_open, open_after, IsFair};
 ghost use Rattle.sled_log.specs.Calls.{one_more};
 ghost use Rattle.sled_log.specs.Chains.{chains_after};
-ghost use Rattle.sled_log.specs.Items.{event_of, event_of_mark, size_of_mark, log_size, IsInOrder, are_placed};
+ghost use Rattle.sled_log.specs.MemLog.Items.{event_of, event_of_mark, size_of_mark, log_size};
+ghost use Rattle.sled_log.specs.Inside.Items.{IsInOrder, are_placed};
 ghost use Rattle.sled_log.specs.Limits.{size_limit};
 ghost use Rattle.sled_log.specs.Messages.{effect_of_entry};
 ghost use Rattle.sled_log.specs.LogState.{LogState, unplaced_state};
-ghost use Rattle.sled_log.specs.Stored.{are_within, kept_items, kept_mark};
-ghost use Rattle.sled_log.specs.UnplacedLaws.{unplaced_events};
+ghost use Rattle.sled_log.specs.Inside.Stored.{are_within};
+ghost use Rattle.sled_log.specs.MemLog.Stored.{kept_items, kept_mark};
+ghost use Rattle.sled_log.specs.Messages.{unplaced_events};
 ghost use Rattle.sled_log.specs.declared.log.LogError.TheVariants.{Memory};
 
 mod calls;
@@ -61,7 +63,8 @@ pub struct MemLog {
 }
 
 impl MemLog {
-    ghost use Rattle.sled_log.specs.Memory.{kept_in, state_of, clock_of, might_have_left, counts_of, settings_of, size_of, stable_size_of, kept_size_of, CalledHere, MovesNothing, Remembers};
+    ghost use Rattle.sled_log.specs.MemLog.State.{kept_in, state_of, clock_of, might_have_left, counts_of, settings_of, size_of, stable_size_of, kept_size_of, CalledHere};
+    ghost use Rattle.sled_log.specs.Inside.Memory.{MovesNothing, Remembers};
 
     /// An empty log. It allocates nothing.
     ///

@@ -1,8 +1,8 @@
 -- Allocating a page, as a step of the machine.
-use Rattle.sled_pagecache.proofs.Names.{Recency, ◌≡◌, ◌≢◌, ◌⊎◌, inl, inr, ⊎_elim, ◌≤◌, ◌<◌, ◌+◌, ◌-◌, ◌^◌, ℕ, zero, suc, Bool, true, false, cond, List, [], ◌∷◌, ◌++◌, length, take, Option, Some, None, Result, Ok, Err, slice_get, slice_set, refl, sym, ◌∙◌, ap, subst, arith, eq-eqb, ne_eqb, false≢true, none-some, same_Some, slice_get-get_or, slice_get_within, Error, Unsupported, Refusal, PagesUsedUp, StampUsedUp, Event, Update, Node, Put, Change, IsUpdate, message_of, Ghosts, WholeNode, RefusesPage, Cache, chain_length, HasNoRoom, StepOver, IsIn, Steps, Went, IsCaused, begun_by, Logged, free_ids, page, State, with_page, free_token, later, greatest_free, Does, Outcome, outcome, unchanged, Allocates, RefusesSwap, IsRoots, IsCounter, AreOwn, IsBeside, IsConsistent, Token, token, Allocated, Allocate, Config, StickyLog, Kept, error_by, StampedPage, KeptPage, at-id, view}
+use Rattle.sled_pagecache.proofs.Names.{Recency, ◌≡◌, ◌≢◌, ◌⊎◌, inl, inr, ⊎_elim, ◌≤◌, ◌<◌, ◌+◌, ◌-◌, ◌^◌, ℕ, zero, suc, Bool, true, false, cond, List, [], ◌∷◌, ◌++◌, length, take, Option, Some, None, Result, Ok, Err, slice_get, slice_set, refl, sym, ◌∙◌, ap, subst, arith, eq-eqb, ne_eqb, false≢true, none-some, same_Some, slice_get-get_or, slice_get_within, Error, Unsupported, Refusal, PagesUsedUp, StampUsedUp, Event, Update, Node, Put, Change, IsUpdate, message_of, Ghosts, WholeNode, RefusesPage, Cache, chain_length, HasNoRoom, StepOver, Represents, Steps, Went, IsCaused, begun_by, Logged, free_ids, page, State, with_page, free_token, later_token, greatest_free, Does, Outcome, outcome, no_change, Allocates, RefusesSwap, IsRoots, IsCounter, AreOwn, IsBeside, IsConsistent, Token, token, Allocated, Allocate, Config, StickyLog, Kept, error_by, StampedPage, KeptPage, at-id, view}
 use Rattle.sled_pagecache.proofs.Putting.{unless-clear, MayPut, may-set, may-add, nothing-appended, put-refused, put-set, put-added}
 use Rattle.sled_pagecache.proofs.Standing.{AreKnown, known-length}
-use Rattle.sled_pagecache.specs.Pages as shown
+use Rattle.sled_pagecache.specs.Table as shown
 use Rattle.sled_pagecache.specs.declared.pagecache.page.Kept.TheVariants as held
 
 -- ---- the last of a list
@@ -38,7 +38,7 @@ none-free first (q ∷ table) none (p ∷ pages) known = by (shown.is_free q.kep
         → (free_ids (first + 1) table ≡ [] → greatest_free (first + 1) pages ≡ None) → greatest_free first (p ∷ pages) ≡ None
     by true free some others = absurd cc
     by false full none others =
-        ap (λ o. later o (free_token first p)) (others none)
+        ap (λ o. later_token o (free_token first p)) (others none)
         ∙ ap (λ b. cond b (Some (token first p.stamp)) None) (known.0.free ∙ full)
 
 -- the last free id, and its page
@@ -63,7 +63,7 @@ module _ (first : ℕ) (q : KeptPage) (table : List KeptPage) (pid : ℕ) where
     taken = λ other no.
         let others = free_ids (first + 1) (slice_set table rest.place other) in
         ap (λ b. cond b (first ∷ others) others) is_b ∙ ap (λ (l : List ℕ). cond b (first ∷ l) l) (rest.taken other no);
-    greatest = elim [ [] ↦ λ known. absurd known | p ∷ pages ↦ λ known. ap (λ o. later o (free_token first p)) (rest.greatest pages known.1) ];
+    greatest = elim [ [] ↦ λ known. absurd known | p ∷ pages ↦ λ known. ap (λ o. later_token o (free_token first p)) (rest.greatest pages known.1) ];
   }
 
   -- this one is
@@ -78,7 +78,7 @@ module _ (first : ℕ) (q : KeptPage) (table : List KeptPage) (pid : ℕ) where
     greatest = elim [
       | [] ↦ λ known. absurd known
       | p ∷ pages ↦ λ known.
-          ap (λ o. later o (free_token first p)) (none-free (first + 1) table none pages known.1)
+          ap (λ o. later_token o (free_token first p)) (none-free (first + 1) table none pages known.1)
           ∙ ap (λ b. cond b (Some (token first p.stamp)) None) (known.0.free ∙ free)
           ∙ ap (λ n. Some (token n p.stamp)) same
           ∙ ap (λ n. Some (token pid n)) known.0.stamp
@@ -123,7 +123,7 @@ free-from table (suc (suc pid)) q own at free = omega arith
 
 module _ (messages : ℕ → ℕ) (no_room : Event Update → Type 0) (s : State) (node : WholeNode) (clear : s.fault ≡ false) where
   module _ (none : greatest_free 0 s.pages ≡ None) where
-    pub allocate_full : length s.pages ≡ 2 ^ 37 → Allocates messages no_room s node (Err (Unsupported PagesUsedUp)) (unchanged s)
+    pub allocate_full : length s.pages ≡ 2 ^ 37 → Allocates messages no_room s node (Err (Unsupported PagesUsedUp)) (no_change s)
     allocate_full many = rw (clear, none, eq-eqb (length s.pages) (2 ^ 37) many) (refl, refl)
 
     pub allocate_adds : length s.pages ≢ 2 ^ 37 → (answer : Result (ℕ × Token) Error) (out : Outcome)
@@ -133,7 +133,7 @@ module _ (messages : ℕ → ℕ) (no_room : Event Update → Type 0) (s : State
     allocate_adds room answer out done = unless-clear s answer out _ clear (rw (none, ne_eqb (length s.pages) (2 ^ 37) room) done)
 
   module _ (free : Token) (some : greatest_free 0 s.pages ≡ Some free) where
-    pub allocate_last : free.stamp ≡ 2 ^ 64 - 1 → Allocates messages no_room s node (Err (Unsupported StampUsedUp)) (unchanged s)
+    pub allocate_last : free.stamp ≡ 2 ^ 64 - 1 → Allocates messages no_room s node (Err (Unsupported StampUsedUp)) (no_change s)
     allocate_last last = rw (clear, some, eq-eqb free.stamp (2 ^ 64 - 1) last) (refl, refl)
 
     pub allocate_reuses : free.stamp ≢ 2 ^ 64 - 1 → (answer : Result (ℕ × Token) Error) (out : Outcome)
@@ -171,7 +171,7 @@ module _ {L : Type 0} (g : Ghosts L) (next : ℕ) (config : Config) (recovered :
         let many = known-length s.pages table are in
         allocate_adds lengths no_room s node clear (none_in s are) (λ all. room (sym many ∙ all)) answer out (rw many done)
 
-    may-new : length table ≢ 2 ^ 37 → (held : Logged) (s : State) → IsIn g (cache before table) held s → s.fault ≡ false → MayPut g before.log held (length table) (Node node)
+    may-new : length table ≢ 2 ^ 37 → (held : Logged) (s : State) → Represents g (cache before table) held s → s.fault ≡ false → MayPut g before.log held (length table) (Node node)
     may-new room held s is clear = may-add g next config recovered lru before table ready beside held s is clear node kept.both (let few = kept.few in omega (arith, few, room))
 
     pub adds-refused : pages ≡ table → (refusal : Refusal) → RefusesPage (length table) refusal
@@ -204,7 +204,7 @@ module _ {L : Type 0} (g : Ghosts L) (next : ℕ) (config : Config) (recovered :
     there : pid < length table
     there = slice_get_within table pid last.page (last-at table front pid last)
 
-    may-reuse : (held : Logged) (s : State) → IsIn g (cache before table) held s → s.fault ≡ false → MayPut g before.log held pid (Node node)
+    may-reuse : (held : Logged) (s : State) → Represents g (cache before table) held s → s.fault ≡ false → MayPut g before.log held pid (Node node)
     may-reuse held s is clear = may-set g next config recovered lru before table ready beside held s is clear pid (Node node) tt from there
 
     pub reuses-refused : pages ≡ table → (refusal : Refusal) → RefusesSwap last.page.stamp refusal

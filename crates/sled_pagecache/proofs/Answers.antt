@@ -1,5 +1,5 @@
 -- What a call keeps, by what it appended to its log.
-use Rattle.sled_pagecache.proofs.Names.{◌≡◌, ◌<◌, ℕ, Bool, true, false, cond, List, [], ◌∷◌, ◌++◌, length, Some, Result, Ok, Err, slice_get, slice_set, refl, sym, ◌∙◌, ap, arith, eq-eqb, false≢true, ne_eqb, length-map, map-append, map-set, slice_get_within, error_of, Write, Error, Refusal, Keeps, stamped, Cache, stamps_in, Token, token, Page, met_fault, map-at, set-at}
+use Rattle.sled_pagecache.proofs.Names.{◌≡◌, ◌<◌, ℕ, Bool, true, false, cond, List, [], ◌∷◌, ◌++◌, length, Some, Result, Ok, Err, slice_get, slice_set, refl, sym, ◌∙◌, ap, arith, eq-eqb, false≢true, ne_eqb, length-map, map-append, map-set, slice_get_within, error_of, Write, Error, Refusal, Keeps, stamps_with, Cache, stamps_in, Token, token, Page, met_fault, map-at, set-at}
 use Rattle.sled_base.specs.declared.types.Error.TheVariants as errors
 use Rattle.sled_pagecache.specs.Answers.{is_write_fault}
 
@@ -35,7 +35,7 @@ module _ {L T : Type 0} (old new : Cache L) (stamps : T → List ℕ) where
 -- ---- the stamps of an answered token
 
 pub stamps-added : (table pages : List Page) (page : Page) (t : Token) → pages ≡ table ++ page ∷ [] → t ≡ token (length table) page.stamp
-    → (stamps_in pages ≡ stamped (stamps_in table) t) × (slice_get (stamps_in pages) (length table) ≡ Some t.stamp)
+    → (stamps_in pages ≡ stamps_with (stamps_in table) t) × (slice_get (stamps_in pages) (length table) ≡ Some t.stamp)
 stamps-added table pages page t is named =
     let long : length (stamps_in table) ≡ length table = length-map table (λ (p : Page). p.stamp) in
     let more : stamps_in (table ++ page ∷ []) ≡ stamps_in table ++ page.stamp ∷ [] = map-append (λ (p : Page). p.stamp) table (page ∷ []) in
@@ -49,7 +49,7 @@ stamps-added table pages page t is named =
     at-end (y ∷ xs) x = at-end xs x
 
 pub stamps-reused : (table : List Page) (pid : ℕ) (page q : Page) (t : Token) → slice_get table pid ≡ Some q → t ≡ token pid page.stamp
-    → (stamps_in (slice_set table pid page) ≡ stamped (stamps_in table) t) × (slice_get (stamps_in (slice_set table pid page)) pid ≡ Some t.stamp)
+    → (stamps_in (slice_set table pid page) ≡ stamps_with (stamps_in table) t) × (slice_get (stamps_in (slice_set table pid page)) pid ≡ Some t.stamp)
 stamps-reused table pid page q t at named =
     let within : pid < length table = slice_get_within table pid q at in
     let long : length (stamps_in table) ≡ length table = length-map table (λ (p : Page). p.stamp) in

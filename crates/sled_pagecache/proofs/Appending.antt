@@ -1,5 +1,5 @@
 -- What follows from an append to one page that was made, or refused, once what the list dropped for it is paged out.
-use Rattle.sled_pagecache.proofs.Names.{IsFresh, ◌≡◌, ◌≤◌, ◌+◌, ℕ, Bool, true, false, List, [], ◌∷◌, Some, None, Result, Ok, Err, slice_get, slice_set, refl, sym, ◌∙◌, ap, subst, arith, slice_get_within, error_of, Error, Refusal, Change, message_of, begun_by, Put, Content, Update, Ghosts, Cache, IsResident, HasNoNode, HasNoRoom, chain_length, IsBounded, AccessesPage, LeavesMemory, MakesAppend, RefusesAppend, RefusesSwap, OnErr, Keeps, Steps, IsBlamed, swapped, Swapped, SwapsContent, stamps_in, is_resident, free_ids, IsFreeOrNode, IsAnswered, Token, token, Answer, Call, Config, StickyLog, Accesses, Page, Kept, IsWhole, Evicts, IsSettled, behind-own, put-back, view}
+use Rattle.sled_pagecache.proofs.Names.{IsFresh, ◌≡◌, ◌≤◌, ◌+◌, ℕ, Bool, true, false, List, [], ◌∷◌, Some, None, Result, Ok, Err, slice_get, slice_set, refl, sym, ◌∙◌, ap, subst, arith, slice_get_within, error_of, Error, Refusal, Change, message_of, begun_by, Put, Content, Update, Ghosts, Cache, IsResident, HasNoNode, HasNoRoom, chain_length, IsBounded, AccessesPage, EvictsAtMost, MakesAppend, RefusesAppend, RefusesSwap, OnErr, Keeps, Steps, IsBlamed, stamps_after_swap, Swapped, SwapsContent, stamps_in, is_resident, free_ids, IsFreeOrNode, IsAnswered, Token, token, Answer, Call, Config, StickyLog, Accesses, Page, Kept, IsWhole, Evicts, IsSettled, behind-own, put-back, view}
 use Rattle.sled_pagecache.proofs.Answers.{keeps-err}
 use Rattle.sled_pagecache.proofs.CacheSteps.{steps-known}
 use Rattle.sled_pagecache.proofs.Counted.{behind-counter, other-at, spares-refused, whole-then}
@@ -32,7 +32,7 @@ pub record AfterMade {L T : Type 0} (g : Ghosts L) (was mid now : Cache L) (sett
 pub record AfterRefused {L T : Type 0} (g : Ghosts L) (was mid now : Cache L) (settled : Type 0) (pid : ℕ) (refusal : Refusal) (result : Result T Error) : Type 0 where
   pub is : settled
   pub evicted : Evicted g was mid now result
-  pub leaves : LeavesMemory was pid now g.tells (error_of refusal)
+  pub leaves : EvictsAtMost was pid now g.tells (error_of refusal)
   pub stuck : was.fault ≡ true → mid ≡ was → now ≡ was
 
 module _ {L : Type 0} (g : Ghosts L) {next : ℕ} {config : Config} {recovered : Bool} {before after : StickyLog L} {table pages : List Page} {free free_then : List ℕ} {accesses between then : Accesses}
@@ -110,7 +110,7 @@ module _ {L : Type 0} (g : Ghosts L) {next : ℕ} {config : Config} {recovered :
 pub record SwapMade {L R : Type 0} (g : Ghosts L) (was mid now : Cache L) (settled : Type 0) (pid : ℕ) (old made : Token) (rejected : R) (call : Call) (answered : Swapped R → Answer) : Type 0 where
   pub is : settled
   pub step : Steps g was call (answered (Ok (Ok made))) now
-  pub keeps : let result : Swapped R = Ok (Ok made) in Keeps was now result (swapped was.stamps)
+  pub keeps : let result : Swapped R = Ok (Ok made) in Keeps was now result (stamps_after_swap was.stamps)
   pub token : IsAnswered was.stamps old rejected (Ok made)
   pub bounded : IsBounded g now
   pub accessed : AccessesPage was pid now
@@ -122,9 +122,9 @@ pub record SwapRefused {L R : Type 0} (g : Ghosts L) (was now : Cache L) (settle
   pub is : settled
   pub step : Steps g was call (answered (Err (error_of refusal))) now
   pub blame : let result : Swapped R = Err (error_of refusal) in IsBlamed g was now result
-  pub keeps : let result : Swapped R = Err (error_of refusal) in Keeps was now result (swapped was.stamps)
+  pub keeps : let result : Swapped R = Err (error_of refusal) in Keeps was now result (stamps_after_swap was.stamps)
   pub bounded : IsBounded g now
-  pub leaves : LeavesMemory was pid now g.tells (error_of refusal)
+  pub leaves : EvictsAtMost was pid now g.tells (error_of refusal)
 
 module _ {L : Type 0} (g : Ghosts L) {next : ℕ} {config : Config} {recovered : Bool} {before after : StickyLog L} {table pages : List Page} {free free_then : List ℕ} {accesses between then : Accesses}
     (is : IsSettled g next config recovered before table free accesses) {pid : ℕ} {old : Token} {q page : Page} (fresh : IsFresh before.fault table pid old q) (same : old.pid ≡ pid) {R : Type 0} (rejected : R) (content : Content) (put : IsPut content)
@@ -142,7 +142,7 @@ module _ {L : Type 0} (g : Ghosts L) {next : ℕ} {config : Config} {recovered :
         step = then_all.evicted.steps call (answered result)
             (swaps-done g next config recovered accesses.lru before table fresh.clear (is.whole.consistent.beside fresh.clear) old pid rejected content put call answered swap same table refl after fresh.behind q fresh.at fresh.full fresh.stamp
             done.is (λ last. let below = done.stamp.0 in omega (arith, below, last)) done.went done.fault page done.stamp.1 made named);
-        keeps = then_all.evicted.keeps (swapped (stamps_in table)) (keeps-fresh next config recovered accesses.lru before table pid old q fresh R after page done.fault done.went.batch done.stamp.1 made named) tt;
+        keeps = then_all.evicted.keeps (stamps_after_swap (stamps_in table)) (keeps-fresh next config recovered accesses.lru before table pid old q fresh R after page done.fault done.went.batch done.stamp.1 made named) tt;
         token = fresh-answered next config recovered accesses.lru before table pid old q fresh same R rejected made (named ∙ ap (λ n. token n (old.stamp + 1)) (sym same));
         bounded = then_all.evicted.bounded;
         accessed = then_all.accessed;
@@ -163,7 +163,7 @@ module _ {L : Type 0} (g : Ghosts L) {next : ℕ} {config : Config} {recovered :
             (steps-known g _ _ _ _ (record { config = refl; recovered = refl }) (λ told. swaps-refused g next config recovered accesses.lru before table fresh.clear (is.whole.consistent.beside fresh.clear) old pid rejected content put call answered swap same (slice_set table pid page) back after
             fresh.behind q fresh.at fresh.full fresh.stamp refused.is refusal (refused.refused told) refused.went refused.cause));
         blame = then_all.evicted.blame (blamed g _ _ _ refusal refused.cause);
-        keeps = then_all.evicted.keeps (swapped (stamps_in table)) (keeps-err _ _ _ (Unit {0}) refusal fresh.clear refused.cause.fault (ap stamps_in back) refused.went.batch) then_all.stuck;
+        keeps = then_all.evicted.keeps (stamps_after_swap (stamps_in table)) (keeps-err _ _ _ (Unit {0}) refusal fresh.clear refused.cause.fault (ap stamps_in back) refused.went.batch) then_all.stuck;
         bounded = then_all.evicted.bounded;
         leaves = then_all.leaves;
       }

@@ -1,5 +1,5 @@
 -- Opening and closing a batch, as steps of the machine.
-use Rattle.sled_pagecache.proofs.Names.{no_name, Recency, ◌≡◌, ℕ, AllByRecursion, effect_of_entry, is_open, is_write_fault, Bool, true, false, List, [], ◌∷◌, Result, Ok, Err, refl, sym, ◌∙◌, subst, false≢true, Read, Write, Error, Refusal, LogFull, chains_from, Content, Update, contents_from, Event, Pin, Message, Messages, effect_of, open_after, Ghosts, Cache, IsIn, Steps, StepOver, Went, Went-none, IsCaused, IsOfLog, begun_by, Logged, State, Outcome, outcome, unchanged, Answer, Call, Config, StickyLog, Page, KeepsMemory, HasGrown, error_of, BatchOpen, IsEvent, MayCome, IsWhole, SparesCounter, Closes, closed, Pinned, view}
+use Rattle.sled_pagecache.proofs.Names.{no_name, Recency, ◌≡◌, ℕ, AllByRecursion, effect_of_entry, is_open, is_write_fault, Bool, true, false, List, [], ◌∷◌, Result, Ok, Err, refl, sym, ◌∙◌, subst, false≢true, Read, Write, Error, Refusal, LogFull, chains_from, Content, Update, contents_from, Event, Pin, Message, Messages, effect_of, open_after, Ghosts, Cache, Represents, Steps, StepOver, Went, Went-none, IsCaused, IsOfLog, begun_by, Logged, State, Outcome, outcome, no_change, Answer, Call, Config, StickyLog, Page, KeepsMemory, HasGrown, error_of, BatchOpen, IsEvent, MayCome, IsWhole, SparesCounter, Closes, with_batch_closed, Pinned, view}
 use Rattle.sled_base.specs.declared.types.Error.TheVariants.{Unsupported, Io, OutOfMemory}
 use Rattle.sled_base.specs.declared.types.Refusal.TheVariants as refusals
 use Rattle.sled_log.specs.LogState as log
@@ -13,7 +13,7 @@ use Rattle.sled_pagecache.proofs.Staying.{stay-one}
 use Rattle.sled_pagecache.proofs.Tables.{consistent-kept}
 use Rattle.sled_pagecache.specs.Batches.{OpensBatch, ClosesBatch, answer_of, call_of}
 use Rattle.sled_pagecache.specs.Logged.{now}
-use Rattle.sled_pagecache.specs.StickyLog.{mark_of}
+use Rattle.sled_pagecache.specs.Inside.StickyLog.{mark_of}
 use Rattle.sled_pagecache.specs.declared.pagecache.call.Call.TheVariants as call
 use Rattle.sled_pagecache.specs.declared.pagecache.sticky_log.Closing.{Closing}
 use Rattle.sled_pagecache.specs.declared.pagecache.sticky_log.Closing.TheVariants as closings
@@ -51,7 +51,7 @@ module _ {L : Type 0} (g : Ghosts L) (next : ℕ) (config : Config) (recovered :
   only_now before = (l : List Messages) → g.tells → (g.state before.log).usable ≡ true → g.left_since before.log (g.moment before.log) l → log.IsLeft effect_of (log.unplaced_state (g.state before.log)) [] l
 
   -- a mark was told, and the batch is open or closed as it says
-  leads-mark : (before after : StickyLog L) (held : Logged) (s : State) (called : Call) (answer : Answer) (message : Event Message) (event : Event Update) → IsMark message event → IsIn g (cache before) held s → s.fault ≡ false
+  leads-mark : (before after : StickyLog L) (held : Logged) (s : State) (called : Call) (answer : Answer) (message : Event Message) (event : Event Update) → IsMark message event → Represents g (cache before) held s → s.fault ≡ false
       → (batch fault : Bool) → StepOver g (cache before) s called answer (outcome (record s { batch = batch; fault = fault }) (event ∷ [])) → batch ≡ after.batch → fault ≡ after.fault → (after.fault ≡ false → open_after s.batch (event ∷ []) ≡ batch)
       → Leads g (cache before) (cache after) held s called answer (message ∷ [])
   leads-mark before after held s called answer message event mark is clear batch fault step same_batch same_fault marks =
@@ -130,7 +130,7 @@ module _ {L : Type 0} (g : Ghosts L) (next : ℕ) (config : Config) (recovered :
           → Steps g (cache before) call.Pin (Pinned (Err (error_of refusal))) (cache after)
       refused-step refusal told of refused = by refusal of refused.0 refused.1
         where
-          quiet : (e : Error) → reaches before after [] → after.fault ≡ false → ((s : State) → s.fault ≡ false → s.batch ≡ false → StepOver g (cache before) s call.Pin (Pinned (Err e)) (unchanged s)) → Steps g (cache before) call.Pin (Pinned (Err e)) (cache after)
+          quiet : (e : Error) → reaches before after [] → after.fault ≡ false → ((s : State) → s.fault ≡ false → s.batch ≡ false → StepOver g (cache before) s call.Pin (Pinned (Err e)) (no_change s)) → Steps g (cache before) call.Pin (Pinned (Err e)) (cache after)
           quiet e went free step =
               steps-went g (cache before) (cache after) before after call.Pin (Pinned (Err e)) [] (record { config = refl; recovered = refl }) refl refl refl ready went
               (λ held s is clear. leads-same g (cache before) (cache after) held s is clear call.Pin (Pinned (Err e)) refl (step s clear (is.batch ∙ none)) refl free)
@@ -174,8 +174,8 @@ module _ {L : Type 0} (g : Ghosts L) (next : ℕ) (config : Config) (recovered :
       step = record {
         opening = record { config = refl; recovered = refl };
         from_each = λ held s is. record {
-          out = unchanged (closed s);
-          step = step-closes closing before s (Err (Io Write)) (unchanged (closed s)) (is.batch ∙ opened, rw (is.fault ∙ kept) (refl, refl));
+          out = no_change (with_batch_closed s);
+          step = step-closes closing before s (Err (Io Write)) (no_change (with_batch_closed s)) (is.batch ∙ opened, rw (is.fault ∙ kept) (refl, refl));
           held_then = held;
           is = record { tells = is.tells; stamps = is.stamps; next = is.next; fault = is.fault; batch = refl; known = λ clear. absurd (false≢true (sym clear ∙ is.fault ∙ kept)) };
           added = λ clear. absurd (false≢true (sym clear ∙ is.fault ∙ kept));
@@ -199,7 +199,7 @@ module _ {L : Type 0} (g : Ghosts L) (next : ℕ) (config : Config) (recovered :
         step =
             steps-marked g (cache before) (cache after) (record before { batch = false }) after (call_of closing) (answer_of closing (Ok tt)) (mark_of closing ∷ []) (record { config = refl; recovered = refl }) refl refl refl ready went
             (λ held s is clear. leads-mark before after held s (call_of closing) (answer_of closing (Ok tt)) (mark_of closing) (mark_of closing) (closing-mark closing) is clear false s.fault
-            (step-closes closing before s (Ok tt) (outcome (closed s) (mark_of closing ∷ [])) (is.batch ∙ opened, rw clear refl)) (sym went.batch) (clear ∙ sym free) (λ _. closing-ends Update closing s.batch));
+            (step-closes closing before s (Ok tt) (outcome (with_batch_closed s) (mark_of closing ∷ [])) (is.batch ∙ opened, rw clear refl)) (sym went.batch) (clear ∙ sym free) (λ _. closing-ends Update closing s.batch));
         blame = record { read = λ is. absurd cc; write = λ is. absurd cc };
         closed = went.batch;
         only = tt;
@@ -215,7 +215,7 @@ module _ {L : Type 0} (g : Ghosts L) (next : ℕ) (config : Config) (recovered :
         step =
             steps-marked g (cache before) (cache after) (record before { batch = false }) after (call_of closing) (answer_of closing (Err (Io Write))) (mark_of closing ∷ []) (record { config = refl; recovered = refl }) refl refl refl ready went
             (λ held s is clear. leads-mark before after held s (call_of closing) (answer_of closing (Err (Io Write))) (mark_of closing) (mark_of closing) (closing-mark closing) is clear false true
-            (step-closes closing before s (Err (Io Write)) (outcome (record (closed s) { fault = true }) (mark_of closing ∷ [])) (is.batch ∙ opened, rw clear (refl, refl))) (sym went.batch) (sym kept) (λ free. absurd (false≢true (sym free ∙ kept))));
+            (step-closes closing before s (Err (Io Write)) (outcome (record (with_batch_closed s) { fault = true }) (mark_of closing ∷ [])) (is.batch ∙ opened, rw clear (refl, refl))) (sym went.batch) (sym kept) (λ free. absurd (false≢true (sym free ∙ kept))));
         blame = record { read = λ is. absurd cc; write = λ is clear. grew };
         closed = went.batch;
         only = refl;

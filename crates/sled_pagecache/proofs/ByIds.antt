@@ -3,8 +3,8 @@ use Rattle.std.proofs.Common.{◌≡◌, ◌≤◌, ℕ, zero, suc, List, [], �
 use Rattle.std.proofs.lemmas.Option.{none-some, same_Some, slice_get_within, get_or_from_slice_get}
 use Rattle.std.specs.Option.{IfSome}
 use Rattle.std.specs.List.{AllByRecursion, AllZip}
-use Rattle.sled_pagecache.specs.ByIds.{AllById, FitsId}
-use Rattle.sled_log.specs.ZipLaws.{zip-at}
+use Rattle.sled_pagecache.specs.Logged.{AllById, FitsId}
+use Rattle.sled_log.specs.Inside.ZipLaws.{zip-at}
 
 module _ {X : Type 0} where
   pub at-id : (P : ℕ → X → Type 0) (xs : List X) (i : ℕ) (x : X) → AllById P xs → slice_get xs i ≡ Some x → P i x

@@ -1,5 +1,5 @@
 -- One call of the cache is one step of the machine.
-use Rattle.sled_pagecache.proofs.Names.{◌≡◌, Bool, true, false, List, [], ◌++◌, refl, sym, ◌∙◌, ap, subst, false≢true, is_open, open_after, Update, contents_after, Event, open_after-append, is_open-drop, Message, effect_of, AreEvents, Ghosts, Cache, IsIn, IsSameOpening, IsStep, StepOver, Steps, Went, Logged, IsLogged, Adds, StayProper, State, Outcome, unchanged, contents_of, stamps_of, Answer, Call, StickyLog, KnowsLog}
+use Rattle.sled_pagecache.proofs.Names.{◌≡◌, Bool, true, false, List, [], ◌++◌, refl, sym, ◌∙◌, ap, subst, false≢true, is_open, open_after, Update, contents_after, Event, open_after-append, is_open-drop, Message, effect_of, AreEvents, Ghosts, Cache, Represents, IsSameOpening, IsStep, StepOver, Steps, Went, Logged, IsLogged, Adds, StayProper, State, Outcome, no_change, contents_of, stamps_of, Answer, Call, StickyLog, KnowsLog}
 use Rattle.sled_log.specs.LogState as log
 use Rattle.sled_pagecache.proofs.Carrying.{carries, leaves, proper-now}
 use Rattle.sled_pagecache.proofs.Staying.{stay-none}
@@ -17,12 +17,12 @@ module _ {L : Type 0} (g : Ghosts L) where
 
   -- with a write fault kept the log isn't called, and nothing changes
   pub steps-stuck : (cache : Cache L) (call : Call) (answer : Answer) → cache.fault ≡ true
-      → ((s : State) → s.fault ≡ true → StepOver g cache s call answer (unchanged s))
+      → ((s : State) → s.fault ≡ true → StepOver g cache s call answer (no_change s))
       → Steps g cache call answer cache
   steps-stuck cache call answer stuck steps = record {
     opening = record { config = refl; recovered = refl };
     from_each = λ held s is. record {
-      out = unchanged s;
+      out = no_change s;
       step = steps s (is.fault ∙ stuck);
       held_then = held;
       is = is;
@@ -50,13 +50,13 @@ module _ {L : Type 0} (g : Ghosts L) where
   LeadsTo old new held s call answer messages = Leads old (record new { batch = s.batch }) held s call answer messages
 
   -- no message stays proper where the cache is in a state
-  pub stays-none : (cache : Cache L) (held : Logged) (s : State) → IsIn g cache held s → s.fault ≡ false → StayProper (log.now effect_of (log.unplaced_state (g.state cache.log))) (now held) [] []
+  pub stays-none : (cache : Cache L) (held : Logged) (s : State) → Represents g cache held s → s.fault ≡ false → StayProper (log.now effect_of (log.unplaced_state (g.state cache.log))) (now held) [] []
   stays-none cache held s is clear = stay-none (log.now effect_of (log.unplaced_state (g.state cache.log))) (now held) (proper-now (log.unplaced_state (g.state cache.log)) held (is.known clear).logged)
 
   module _ (old new : Cache L) (before after : StickyLog L) (call : Call) (answer : Answer) (messages : List (Event Message))
       (old_log : old.log ≡ before.log) (new_log : new.log ≡ after.log) (new_fault : new.fault ≡ after.fault) (ready : old.fault ≡ false)
       (went : Went g before after messages)
-      (held : Logged) (s : State) (is : IsIn g old held s) (way : Leads old new held s call answer messages) where
+      (held : Logged) (s : State) (is : Represents g old held s) (way : Leads old new held s call answer messages) where
     logged : IsLogged (log.unplaced_state (g.state before.log)) held
     logged = subst (λ l. IsLogged (log.unplaced_state (g.state l)) held) old_log (is.known (is.fault ∙ ready)).logged
 
@@ -111,7 +111,7 @@ module _ {L : Type 0} (g : Ghosts L) where
   pub steps-marked : (old new : Cache L) (before after : StickyLog L) (call : Call) (answer : Answer) (messages : List (Event Message))
       → IsSameOpening old new → old.log ≡ before.log → new.log ≡ after.log → new.fault ≡ after.fault → old.fault ≡ false
       → Went g before after messages
-      → ((held : Logged) (s : State) → IsIn g old held s → s.fault ≡ false → Leads old new held s call answer messages)
+      → ((held : Logged) (s : State) → Represents g old held s → s.fault ≡ false → Leads old new held s call answer messages)
       → Steps g old call answer new
   steps-marked old new before after call answer messages same old_log new_log new_fault ready went leads = record {
     opening = same;
@@ -122,7 +122,7 @@ module _ {L : Type 0} (g : Ghosts L) where
   pub steps-went : (old new : Cache L) (before after : StickyLog L) (call : Call) (answer : Answer) (messages : List (Event Message))
       → IsSameOpening old new → ◌≡◌ {A = L × Bool} (old.log, old.batch) (before.log, before.batch) → new.log ≡ after.log → ◌≡◌ {A = Bool × Bool} (new.fault, new.batch) (after.fault, after.batch) → old.fault ≡ false
       → Went g before after messages
-      → ((held : Logged) (s : State) → IsIn g old held s → s.fault ≡ false → LeadsTo old new held s call answer messages)
+      → ((held : Logged) (s : State) → Represents g old held s → s.fault ≡ false → LeadsTo old new held s call answer messages)
       → Steps g old call answer new
   steps-went old new before after call answer messages same old_is new_log new_is ready went way =
       steps-marked old new before after call answer messages same (ap (λ p. p.0) old_is) new_log (ap (λ p. p.0) new_is) ready went

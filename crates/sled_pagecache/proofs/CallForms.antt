@@ -1,5 +1,5 @@
 -- What a call of the machine leaves, in a few forms: most change at most one page, which isn't the counter's, and use no id.
-use Rattle.sled_pagecache.proofs.Names.{CasRoot, FoundRoot, MetaPidForName, RootSwapped, SetsRoot, AllByRecursion, Allocate, Allocated, Allocates, Answer, Bool, Cache, Call, Change, Content, Counter, Does, Err, Error, Event, Fails, Finds, FindsContent, Flush, Flushed, Flushes, Free, Freed, GenerateId, Generated, Get, GetIdgen, GetMeta, Gets, GetsIdgen, GetsMeta, Ghosts, Got, GotIdgen, GotMeta, HasNoRoom, IsCorruption, IsHindered, IsRefused, Linked, Links, LinksContent, List, MatchBool, MatchOption, Node, None, Ok, Option, Outcome, Put, Replace, Replaced, Result, Roots, SizeOnDisk, Sized, Sizes, Some, State, StepOver, Swapped, Swaps, SwapsContent, SwapsPage, Token, Update, WholeNode, [], ap, arith, chain_length, cond, contents_of, false, false≢true, free_token, greatest_free, inl, inr, is_reserved, later, length, ltb-true, none-some, outcome, page_at, refl, same_Some, slice_get, subst, suc, sym, token, true, true≢false, unchanged, ℕ, ⊎_elim, ⊤, ◌+◌, ◌-◌, ◌==◌, ◌^◌, ◌∙◌, ◌∷◌, ◌≡◌, ◌≢◌, ◌≤◌, ◌⊎◌, nat_lt, Bytes, Pin, Seal, Cancel, NodeLink, ClosesNone, SparesCounter, id_in, Pinned, Sealed, Cancelled, map-at}
+use Rattle.sled_pagecache.proofs.Names.{CasRoot, FoundRoot, MetaPidForName, RootSwapped, SetsRoot, AllByRecursion, Allocate, Allocated, Allocates, Answer, Bool, Cache, Call, Change, Content, Counter, Does, Err, Error, Event, Fails, Finds, FindsContent, Flush, Flushed, Flushes, Free, Freed, GenerateId, Generated, Get, GetIdgen, GetMeta, Gets, GetsIdgen, GetsMeta, Ghosts, Got, GotIdgen, GotMeta, HasNoRoom, IsCorruption, IsHindered, IsRefused, Linked, Links, LinksContent, List, MatchBool, MatchOption, Node, None, Ok, Option, Outcome, Put, Replace, Replaced, Result, Roots, SizeOnDisk, Sized, Sizes, Some, State, StepOver, Swapped, Swaps, SwapsContent, SwapsPage, Token, Update, WholeNode, [], ap, arith, chain_length, cond, contents_of, false, false≢true, free_token, greatest_free, inl, inr, is_reserved, later_token, length, ltb-true, none-some, outcome, page_at, refl, same_Some, slice_get, subst, suc, sym, token, true, true≢false, no_change, ℕ, ⊎_elim, ⊤, ◌+◌, ◌-◌, ◌==◌, ◌^◌, ◌∙◌, ◌∷◌, ◌≡◌, ◌≢◌, ◌≤◌, ◌⊎◌, nat_lt, Bytes, Pin, Seal, Cancel, NodeLink, ClosesNone, SparesCounter, id_in, Pinned, Sealed, Cancelled, map-at}
 use Rattle.sled_node.specs.Meta as meta
 use Rattle.sled_pagecache.proofs.Counting.{CountsTo, start-above}
 use Rattle.sled_pagecache.specs.State.{StampedPage, is_free, page, with_page}
@@ -46,13 +46,13 @@ pub record IsRaised (s : State) (ids : List ℕ) (out : Outcome) : Type 0 where
 pub data Form (s : State) (call : Call) (ids : List ℕ) (out : Outcome) : Type 0 where
   Plain : ids ≡ [] → IsQuiet s out → IsInside s out → Form s call ids out
   Marks : ids ≡ [] → IsQuiet s out → (s.batch ≡ true → ClosesNone call → ⊥) → Form s call ids out
-  Next : s.fault ≡ false → ids ≡ s.next ∷ [] → out ≡ unchanged (with_next_id s) → Form s call ids out
+  Next : s.fault ≡ false → ids ≡ s.next ∷ [] → out ≡ no_change (with_next_id s) → Form s call ids out
   Raises : IsRaised s ids out → Form s call ids out
 
 -- ---- what a step tests first
 
-module _ {s : State} {out : Outcome} {P : Type 0} (same : out ≡ unchanged s → P) where
-  unless : (A : Type 0) {B : Type 0} (test : Bool) → MatchBool test (A × (out ≡ unchanged s)) B → (test ≡ false → B → P) → P
+module _ {s : State} {out : Outcome} {P : Type 0} (same : out ≡ no_change s → P) where
+  unless : (A : Type 0) {B : Type 0} (test : Bool) → MatchBool test (A × (out ≡ no_change s)) B → (test ≡ false → B → P) → P
   unless A test h1 h2 = grind arith
 
   module _ (faulty : out ≡ outcome (record s { fault = true }) [] → P) where
@@ -126,7 +126,7 @@ free-at first (p ∷ pages) free is = by (greatest_free (first + 1) pages) refl 
     here true empty is = record { place = 0; is = let same = ap (λ t. t.pid) (same_Some (token first p.stamp) free is) in omega (arith, same); page = p; at = refl; empty = empty }
     here false full is = absurd (none-some free is)
 
-    by : (last : Option Token) → greatest_free (first + 1) pages ≡ last → later last (free_token first p) ≡ Some free → (greatest_free (first + 1) pages ≡ Some free → IsFreeAt (first + 1) pages free) → IsFreeAt first (p ∷ pages) free
+    by : (last : Option Token) → greatest_free (first + 1) pages ≡ last → later_token last (free_token first p) ≡ Some free → (greatest_free (first + 1) pages ≡ Some free → IsFreeAt (first + 1) pages free) → IsFreeAt first (p ∷ pages) free
     by None none is others = here (is_free p.content) refl is
     by (Some last) some is others =
         let rest = others (some ∙ is) in
@@ -153,7 +153,7 @@ module _ (s : State) (out : Outcome) (call : Call) where
   abbrev IsPlain : Type 0
   IsPlain = Form s call [] out
 
-  as-it-was : out ≡ unchanged s → IsPlain
+  as-it-was : out ≡ no_change s → IsPlain
   as-it-was is = subst (Form s call []) (sym is) (Plain refl (record { next = refl; spares = λ n counts. tt }) (record { batch = refl; changes = tt }))
 
   faulty : out ≡ outcome (record s { fault = true }) [] → IsPlain
@@ -178,7 +178,7 @@ module _ (s : State) (out : Outcome) (call : Call) where
   finds-root name answer step = unless as-it-was _ s.fault step (λ _ h. roots-read s _ h (λ stamp roots there h. as-it-was h.1))
 
   gets-idgen : (answer : Result (Token × ℕ) Error) → GetsIdgen s answer out → IsPlain
-  gets-idgen answer step = unless as-it-was _ s.fault step (λ _ h. as-it-was (counter-read s (λ stamp n. (answer ≡ Ok (token 1 stamp, n)) × (out ≡ unchanged s)) h).is.1)
+  gets-idgen answer step = unless as-it-was _ s.fault step (λ _ h. as-it-was (counter-read s (λ stamp n. (answer ≡ Ok (token 1 stamp, n)) × (out ≡ no_change s)) h).is.1)
 
   flushes : (answer : Result ℕ Error) → Flushes s answer out → IsPlain
   flushes answer h1 = grind arith
@@ -243,7 +243,7 @@ module _ (s : State) (out : Outcome) (call : Call) where
     marks : (mark : Event Update) → SparesCounter mark → out.changes ≡ mark ∷ [] → out.state.next ≡ s.next → Form s call [] out
     marks mark spares is next = Marks refl (record { next = next; spares = λ n counts. subst (AllByRecursion SparesCounter) (sym is) (spares, tt) }) leaves
 
-    unmarked : out ≡ unchanged (record s { batch = false }) → Form s call [] out
+    unmarked : out ≡ no_change (record s { batch = false }) → Form s call [] out
     unmarked is = subst (Form s call []) (sym is) (Marks refl (record { next = refl; spares = λ n counts. tt }) leaves)
 
     closes : (mark : Event Update) (answer : Result (Unit {0}) Error) → SparesCounter mark → Closes mark s answer out → Form s call [] out
@@ -263,12 +263,12 @@ module _ (s : State) (out : Outcome) (call : Call) where
     generates interval answer step =
         split s.fault step (λ _ h. refused answer h) (λ clear h. split (nat_lt (2 ^ 64 - 1) s.next) h (λ _ h. refused answer h) (λ _ h. goes_on clear (counter-read s _ h)))
       where
-        next : s.fault ≡ false → (answer : Result ℕ Error) → answer ≡ Ok s.next → out ≡ unchanged (with_next_id s) → Form s call (id_in (Generated answer)) out
+        next : s.fault ≡ false → (answer : Result ℕ Error) → answer ≡ Ok s.next → out ≡ no_change (with_next_id s) → Form s call (id_in (Generated answer)) out
         next clear (Err e) is then = absurd (ok-err s.next e (sym is))
         next clear (Ok id) is then = Next clear (let e : id ≡ s.next = cc in ap (λ i. i ∷ []) e) then
 
         goes_on : s.fault ≡ false
-            → IsRead s (λ stamp n. MatchBool (nat_lt (interval_start interval n) (interval_start interval s.next)) (PutsCounter messages no_room s stamp (interval_start interval s.next) answer out) ((answer ≡ Ok s.next) × (out ≡ unchanged (with_next_id s)))) → Form s call (id_in (Generated answer)) out
+            → IsRead s (λ stamp n. MatchBool (nat_lt (interval_start interval n) (interval_start interval s.next)) (PutsCounter messages no_room s stamp (interval_start interval s.next) answer out) ((answer ≡ Ok s.next) × (out ≡ no_change (with_next_id s)))) → Form s call (id_in (Generated answer)) out
         goes_on clear read =
             split (nat_lt (interval_start interval read.counter) start) read.is (λ lt h.
             split s.batch h (λ _ h. refused answer h) (λ _ h.

@@ -1,17 +1,17 @@
 -- The chain of a page whose places are kept, and what reading it found.
-use Rattle.sled_pagecache.proofs.Names.{◌≡◌, ◌+◌, ◌<◌, ◌≤◌, ℕ, zero, suc, ℤ, List, [], ◌∷◌, ◌++◌, length, map, take, get_or, sym, ◌∙◌, ap, subst, arith, add-one, zero-add, pos, get_or-map, length-map, take_more, take_all, get_or_default, AllZip, Any, DiskPtr, Inline, one_more, Entry, message, said_of, IsAt, IsFoundAs, place_of, more, CacheInfo, Found}
+use Rattle.sled_pagecache.proofs.Names.{◌≡◌, ◌+◌, ◌<◌, ◌≤◌, ℕ, zero, suc, ℤ, List, [], ◌∷◌, ◌++◌, length, map, take, get_or, sym, ◌∙◌, ap, subst, arith, add-one, zero-add, pos, get_or-map, length-map, take_more, take_all, get_or_default, AllZip, Any, DiskPtr, Inline, one_more, Entry, message, said_of, IsAt, IsFoundAs, place_of, count_after, CacheInfo, Found}
 use Rattle.sled_base.specs.declared.kinds.MessageKind.TheVariants as kinds
 
 -- one more after so many more
-pub more-next : (times count : ℕ) → one_more (more times count) ≡ more (times + 1) count
-more-next times count = ap (λ n. more n count) (sym (add-one times))
+pub more-next : (times count : ℕ) → one_more (count_after times count) ≡ count_after (times + 1) count
+more-next times count = ap (λ n. count_after n count) (sym (add-one times))
 
 -- so many more, and so many more
-pub more-add : (times before count : ℕ) → more times (more before count) ≡ more (times + before) count
-more-add zero before count = ap (λ n. more n count) (sym (zero-add before))
+pub more-add : (times before count : ℕ) → count_after times (count_after before count) ≡ count_after (times + before) count
+more-add zero before count = ap (λ n. count_after n count) (sym (zero-add before))
 more-add (suc times) before count =
     let next : suc (times + before) ≡ suc times + before = omega arith in
-    ap one_more (more-add times before count) ∙ ap (λ n. more n count) next
+    ap one_more (more-add times before count) ∙ ap (λ n. count_after n count) next
 
 -- an info that says nothing
 abbrev pub no_info : CacheInfo

@@ -1,5 +1,5 @@
 -- What a call leads to that changes one page at most.
-use Rattle.sled_pagecache.proofs.Names.{◌≡◌, ℕ, true, false, List, [], ◌∷◌, ◌++◌, map, Result, Err, slice_set, refl, sym, ◌∙◌, ap, false≢true, map-append, map-set, Read, Write, Refusal, Io, chains_from, Content, Update, contents_from, Change, Messages, effect_of, IsUpdate, MayChange, message_of, Ghosts, Cache, IsIn, StepOver, is_write_fault, Logged, IsProper, page, State, contents_of, stamps_of, with_page, outcome, unchanged, Answer, Call, StampedPage, Recency, Bool, Config, StickyLog, KeptPage, Went, Went-none, Steps, stamps_in, IsLeft, view}
+use Rattle.sled_pagecache.proofs.Names.{◌≡◌, ℕ, true, false, List, [], ◌∷◌, ◌++◌, map, Result, Err, slice_set, refl, sym, ◌∙◌, ap, false≢true, map-append, map-set, Read, Write, Refusal, Io, chains_from, Content, Update, contents_from, Change, Messages, effect_of, IsUpdate, MayChange, message_of, Ghosts, Cache, Represents, StepOver, is_write_fault, Logged, IsProper, page, State, contents_of, stamps_of, with_page, outcome, no_change, Answer, Call, StampedPage, Recency, Bool, Config, StickyLog, KeptPage, Went, Went-none, Steps, stamps_in, IsLeft, view}
 use Rattle.sled_log.specs.LogState as log
 use Rattle.sled_pagecache.proofs.CacheSteps.{LeadsTo, stays-none, steps-went}
 use Rattle.sled_pagecache.proofs.Carrying.{proper-now}
@@ -8,7 +8,7 @@ use Rattle.sled_pagecache.proofs.Staying.{stay-one}
 use Rattle.sled_pagecache.specs.Logged.{now}
 
 module _ {L : Type 0} (g : Ghosts L) where
-  module _ (old new : Cache L) (held : Logged) (s : State) (is : IsIn g old held s) (clear : s.fault ≡ false) (call : Call) (answer : Answer) (next : new.next ≡ old.next) where
+  module _ (old new : Cache L) (held : Logged) (s : State) (is : Represents g old held s) (clear : s.fault ≡ false) (call : Call) (answer : Answer) (next : new.next ≡ old.next) where
     -- what was pending and stable, with the messages of a page
     abbrev pages_now : List Messages
     pages_now = log.now effect_of (log.unplaced_state (g.state old.log))
@@ -30,7 +30,7 @@ module _ {L : Type 0} (g : Ghosts L) where
     }
 
     -- and nothing changes
-    pub leads-same : StepOver g old s call answer (unchanged s) → new.stamps ≡ old.stamps → new.fault ≡ false → LeadsTo g old new held s call answer []
+    pub leads-same : StepOver g old s call answer (no_change s) → new.stamps ≡ old.stamps → new.fault ≡ false → LeadsTo g old new held s call answer []
     leads-same step stamps free = unappended s step refl refl (clear ∙ sym free) refl stamps
 
     -- or a write fault came before
@@ -101,16 +101,16 @@ module _ {L : Type 0} (g : Ghosts L) (next : ℕ) (config : Config) (recovered :
 
   -- a state that the cache is in before the call
   abbrev InEach : (Logged → State → Type 0) → Type 0
-  InEach P = (held : Logged) (s : State) → IsIn g (cache before table) held s → s.fault ≡ false → P held s
+  InEach P = (held : Logged) (s : State) → Represents g (cache before table) held s → s.fault ≡ false → P held s
 
   module _ (after : StickyLog L) (pages : List KeptPage) (back : pages ≡ table) where
     -- nothing was told, and nothing changes
     pub steps-untold : (answer : Answer) → Went g before after [] → after.fault ≡ false
-        → InEach (λ held s. StepOver g (cache before table) s call answer (unchanged s)) → Steps g (cache before table) call answer (cache after pages)
+        → InEach (λ held s. StepOver g (cache before table) s call answer (no_change s)) → Steps g (cache before table) call answer (cache after pages)
     steps-untold answer went free step =
         steps-went g (cache before table) (cache after pages) before after call answer [] (record { config = refl; recovered = refl }) refl refl refl ready went
         (λ held s is clear. leads-same g (cache before table) (cache after pages) held s is clear call answer refl (step held s is clear) (ap stamps_in back) free)
 
   -- the log isn't called
-  pub steps-uncalled : (answer : Answer) → (g.state before.log).usable ≡ true → KnowsNow g before → InEach (λ held s. StepOver g (cache before table) s call answer (unchanged s)) → Steps g (cache before table) call answer (cache before table)
+  pub steps-uncalled : (answer : Answer) → (g.state before.log).usable ≡ true → KnowsNow g before → InEach (λ held s. StepOver g (cache before table) s call answer (no_change s)) → Steps g (cache before table) call answer (cache before table)
   steps-uncalled answer usable only step = steps-untold before table refl answer (Went-none g before usable only) ready step

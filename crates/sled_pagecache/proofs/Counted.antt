@@ -1,5 +1,5 @@
 -- The counter of generated ids stays durable as far as the next id needs it.
-use Rattle.sled_pagecache.proofs.Names.{AllByRecursion, AllZip-long, AreEvents, AreFound, IsFoundAt, Makes, map, length-map, eqb-false, nat_lt, inl, inr, ◌⊎◌, Bool, Chain, Change, Config, Content, Counter, Err, Event, Ghosts, Holds, HoldsChain, Io, IsConsistent, IsKept, IsLogged, IsPagedOut, Kept, Link, List, Logged, Message, Messages, None, Option, Page, Put, Read, Refusal, Result, Some, StickyLog, Update, Went, Write, [], after_link, ap, arith, begun_by, cond, contents_after, contents_from, drop, effect_of, effect_of_entry, eqb-true, fault_of, false, get_or-map, holds-made, length, next_id, none-some, paged_out, refl, same_Some, slice_get, slice_get-get_or, slice_get_within, slice_index_or, slice_set, suc, sym, subst, true, unplaced, unplaced_events, unplaced_state, zero, ℕ, ⊎_elim, ◌*◌, ◌++◌, ◌+◌, ◌<◌, ◌==◌, ◌∙◌, ◌∷◌, ◌≡◌, true≢false, ◌≢◌, ◌≤◌, Free, cases_lt, lt-div-mul-add, CapacityTooSmall, IntervalZero, SegmentZero, IsEvent, NodeLink, IsCounted, IsWhole, SparesCounter, IsBelowCounter, RefusesAppended, interval_start, is_write_fault, at-id, zip-first, kept-at, other-at as set-other, other-before, holds_now}
+use Rattle.sled_pagecache.proofs.Names.{AllByRecursion, AllZip-long, AreEvents, AreFound, IsFoundAt, Makes, map, length-map, eqb-false, nat_lt, inl, inr, ◌⊎◌, Bool, Chain, Change, Config, Content, Counter, Err, Event, Ghosts, Holds, HoldsChain, Io, IsConsistent, IsKept, IsLogged, IsPagedOut, Kept, Link, List, Logged, Message, Messages, None, Option, Page, Put, Read, Refusal, Result, Some, StickyLog, Update, Went, Write, [], after_link, ap, arith, begun_by, cond, contents_after, contents_from, drop, effect_of, effect_of_entry, eqb-true, fault_of, false, get_or-map, holds-made, length, next_id, none-some, kept_behind_eviction, refl, same_Some, slice_get, slice_get-get_or, slice_get_within, slice_index_or, slice_set, suc, sym, subst, true, messages_of, unplaced_events, unplaced_state, zero, ℕ, ⊎_elim, ◌*◌, ◌++◌, ◌+◌, ◌<◌, ◌==◌, ◌∙◌, ◌∷◌, ◌≡◌, true≢false, ◌≢◌, ◌≤◌, Free, cases_lt, lt-div-mul-add, CapacityTooSmall, IntervalZero, SegmentZero, IsEvent, NodeLink, IsCounted, IsWhole, SparesCounter, IsBelowCounter, RefusesAppended, interval_start, is_write_fault, at-id, zip-first, kept-at, other-at as set-other, other-before, holds_now}
 use Rattle.sled_log.specs.LogState as log
 use Rattle.sled_pagecache.proofs.Counting.{CountsTo}
 use Rattle.sled_pagecache.proofs.ProperPages.{all-append}
@@ -65,7 +65,7 @@ module _ {L : Type 0} (g : Ghosts L) (k next : ℕ) (sticky_log : StickyLog L) (
   pub counted-out : IsCounted g.tells g.state k next sticky_log table → (pid : ℕ) (q out : Page) → slice_get table pid ≡ Some q → IsPagedOut q out → IsCounted g.tells g.state k next sticky_log (slice_set table pid out)
   counted-out counted pid q out there is some clear told page n at holds few = by table pid there at (λ page at holds. counted some clear told page n at holds few)
     where
-      same : (k : Kept) → paged_out k ≡ kept.Counter n → k ≡ kept.Counter n
+      same : (k : Kept) → kept_behind_eviction k ≡ kept.Counter n → k ≡ kept.Counter n
       same k h = grind arith
 
       by : (table : List Page) (pid : ℕ) → slice_get table pid ≡ Some q → slice_get (slice_set table pid out) 1 ≡ Some page
@@ -134,11 +134,11 @@ module _ {L : Type 0} (g : Ghosts L) (k : ℕ) (sticky_log : StickyLog L) (table
       let kept = (c.beside clear).kept told in
       let long = AllZip-long IsKept chains table kept in
       let within = slice_get_within table 1 q at in
-      let long_too = length-map chains unplaced in
-      let found = zip-first Holds (map unplaced chains) (now held) 1 _ (holds_now (g.state sticky_log.log) held logged) (slice_get-get_or (map unplaced chains) 1 [] (omega (arith, long, within, long_too))) in
-      let made : Makes (unplaced (slice_index_or chains 1 [])) (Counter n) = subst (HoldsChain (slice_index_or chains 1 [])) holds (kept-at chains table 1 q kept at).holds in
+      let long_too = length-map chains messages_of in
+      let found = zip-first Holds (map messages_of chains) (now held) 1 _ (holds_now (g.state sticky_log.log) held logged) (slice_get-get_or (map messages_of chains) 1 [] (omega (arith, long, within, long_too))) in
+      let made : Makes (messages_of (slice_index_or chains 1 [])) (Counter n) = subst (HoldsChain (slice_index_or chains 1 [])) holds (kept-at chains table 1 q kept at).holds in
       found.1 ∙ ap (λ (content : Content). Some content)
-      (holds-made (unplaced (slice_index_or chains 1 [])) found.0 (Counter n) (subst (λ (m : Messages). Holds m found.0) (get_or-map unplaced chains 1 []) found.2) made)
+      (holds-made (messages_of (slice_index_or chains 1 [])) found.0 (Counter n) (subst (λ (m : Messages). Holds m found.0) (get_or-map messages_of chains 1 []) found.2) made)
 
   -- an id that the counter covers
   pub below-counter : (next : ℕ) → next < n + k → AllByRecursion SparesCounter (unplaced_state (g.state sticky_log.log)).pending → IsBelowCounter k held.stable next

@@ -1,7 +1,7 @@
 -- The counter of generated ids, through changes of pages: what opens behind them begins no lower than before.
 use Rattle.sled_pagecache.proofs.Names.{AllByRecursion, Bool, Content, Counter, Event, Link, List, Put, Update, [], after_link, ap, arith, changes_of_start, cond, contents_after, contents_from, drop-nil, false, first_id, length, ne_eqb, none-some, refl, slice_get, slice_index_or, slice_set, sym, subst, take, take-append-drop, true, ℕ, ⊤, ◌*◌, ◌++◌, ◌+◌, ◌<◌, ◌==◌, ◌∙◌, ◌∷◌, ◌≡◌, ◌≢◌, ◌≤◌, Some, Change, Free, drop, AreKept, Messages, cond-false, contents_after-append, SparesCounter, interval_start, more-at, other-at}
 use Rattle.sled_pagecache.specs.Logged.{Adds, IsLeft, Logged, now}
-use Rattle.sled_pagecache.specs.Proper.{AreOwn, IsCounter}
+use Rattle.sled_pagecache.specs.Logged.{AreOwn, IsCounter}
 
 -- page 1 holds this counter
 abbrev pub CountsTo : List Content → ℕ → Type 0

@@ -1,8 +1,8 @@
 -- What is left of a log over which no cache was opened, and of a cache that keeps a write fault: for laws on openings one after another.
-use Rattle.sled_pagecache.proofs.Names.{◌≡◌, ◌≢◌, ◌≤◌, ℕ, true, List, [], Option, None, Some, Result, Ok, Err, refl, sym, ◌∙◌, ap, subst, arith, ⊎_elim, IsErrAnd, Error, Write, Unsupported, Update, Event, Messages, unplaced_state, IsPrefix, IsPrefix-none, IsPrefix-all, Ghosts, Why, fault_of, changes_of_start, Cache, IsIn, StepOver, Logged, IsLogged, Started, Opens, Config, State, Outcome, Answer, Call, HoldsCrash, IsMade, LeavesUnopened, MayBeOpened, OnlyNow, left-now, step-stuck, log_after}
+use Rattle.sled_pagecache.proofs.Names.{◌≡◌, ◌≢◌, ◌≤◌, ℕ, true, List, [], Option, None, Some, Result, Ok, Err, refl, sym, ◌∙◌, ap, subst, arith, ⊎_elim, IsErrAnd, Error, Write, Unsupported, Update, Event, Messages, unplaced_state, IsPrefix, IsPrefix-none, IsPrefix-all, Ghosts, Why, fault_of, changes_of_start, Cache, Represents, StepOver, Logged, IsLogged, Started, Opens, Config, State, Outcome, Answer, Call, HoldsCrash, IsMade, LeavesUnopened, MayBeOpened, OnlyNow, left-now, step-stuck, log_after}
 use Rattle.sled_base.specs.declared.types.Error.TheVariants.{Io}
 use Rattle.sled_pagecache.specs.Logged.{Adds, IsLeft, now}
-use Rattle.sled_pagecache.specs.RowLaws.{adds-none}
+use Rattle.sled_pagecache.specs.Inside.SequenceLaws.{adds-none}
 
 -- the settings are wrong, or sound
 pub by-settings : {P : Type 0} (config : Config) → ((why : Why) → fault_of config ≡ Some why → P) → (fault_of config ≡ None → P) → P
@@ -22,7 +22,7 @@ module _ {L : Type 0} (g : Ghosts L) where
   -- a write fault is kept, and what crashes leave since the call that met it is known
   pub record IsFaulty (Survives : List Messages → Type 0) (cache : Cache L) (s : State) : Type 0 where
     pub held : Logged
-    pub is : IsIn g cache held s
+    pub is : Represents g cache held s
     pub kept : s.fault ≡ true
     pub since : ℕ
     pub earlier : since ≤ g.moment cache.log

@@ -1,5 +1,5 @@
 -- What leaves memory behind a call, told of the table, and in the words of the cache's model.
-use Rattle.sled_pagecache.proofs.Names.{IsErrOf, Write, Refusal, Call, Answer, Token, Steps, IsBlamed, Keeps, IfOk, IfErr, OnOk, OnErr, IsResident, IsAway, ReadsPage, MeetsDamage, ReportsDamage, AllStay, TakesNode, TakesPage, FindsNode, LosesAtMost, LosesNone, stamps_in, Vec, Contains, Contains-append_cases, Contains-append_left, Contains-append_right, ◌++◌, ◌≡◌, ◌⊎◌, inl, inr, ℕ, zero, suc, Bool, true, List, [], ◌∷◌, Option, Some, None, Result, slice_get, slice_set, refl, sym, ap, subst, arith, same_Some, none-some, Ghosts, Cache, HasNoNode, KeepsMemory, LeavesMemory, IsPagedOut, Config, StickyLog, Page, Accesses, Recency, Error, IsBounded, MatchOption, IsWhole, IsOutAt, AreOut, those, Evicts, IsSettled, past-end, view}
+use Rattle.sled_pagecache.proofs.Names.{IsErrOf, Write, Refusal, Call, Answer, Token, Steps, IsBlamed, Keeps, IfOk, IfErr, OnOk, OnErr, IsResident, IsAway, ReadsPage, MeetsDamage, ReportsDamage, AllStay, TakesNode, TakesPage, FindsNode, LosesAtMost, LosesNone, stamps_in, Vec, Contains, Contains-append_cases, Contains-append_left, Contains-append_right, ◌++◌, ◌≡◌, ◌⊎◌, inl, inr, ℕ, zero, suc, Bool, true, List, [], ◌∷◌, Option, Some, None, Result, slice_get, slice_set, refl, sym, ap, subst, arith, same_Some, none-some, Ghosts, Cache, HasNoNode, KeepsMemory, EvictsAtMost, IsPagedOut, Config, StickyLog, Page, Accesses, Recency, Error, IsBounded, MatchOption, IsWhole, IsOutAt, AreOut, lost_pages, Evicts, IsSettled, past-end, view}
 use Rattle.sled_pagecache.proofs.Counted.{counted-out}
 use Rattle.sled_pagecache.proofs.InMemory.{past-view, stays-same}
 use Rattle.sled_pagecache.proofs.PagingOut.{PagesOut, consistent-out, out-page, out-listed, out-none, out-then}
@@ -60,9 +60,9 @@ module _ {L : Type 0} (g : Ghosts L) (next : ℕ) (config : Config) (recovered :
     pub evicted-whole : IsWhole g.tells g.state config.idgen_persist_interval next sticky_log old free → IsWhole g.tells g.state config.idgen_persist_interval next sticky_log new free
     evicted-whole is = by accesses.dropped evicts.out
       where
-        by : (dropped : Option (Vec ℕ)) → MatchOption dropped (new ≡ old) (λ dropped. AreOut (dropped.items ++ those lost) old new) → IsWhole g.tells g.state config.idgen_persist_interval next sticky_log new free
+        by : (dropped : Option (Vec ℕ)) → MatchOption dropped (new ≡ old) (λ dropped. AreOut (dropped.items ++ lost_pages lost) old new) → IsWhole g.tells g.state config.idgen_persist_interval next sticky_log new free
         by None same = subst (λ l. IsWhole g.tells g.state config.idgen_persist_interval next sticky_log l free) (sym same) is
-        by (Some dropped) out = whole-out free (dropped.items ++ those lost) old new is out
+        by (Some dropped) out = whole-out free (dropped.items ++ lost_pages lost) old new is out
 
     pub evicted : IsWhole g.tells g.state config.idgen_persist_interval next sticky_log old free → Settles g accesses lost (over old) (view next config recovered then.lru sticky_log new)
     evicted is = record {
@@ -71,29 +71,29 @@ module _ {L : Type 0} (g : Ghosts L) (next : ℕ) (config : Config) (recovered :
       sized = sized-view g next config recovered then.lru sticky_log new free (evicted-whole is).consistent;
     }
       where
-        those-in : (lost : Option ℕ) (pid : ℕ) → Contains (those lost) pid → lost ≡ Some pid
+        those-in : (lost : Option ℕ) (pid : ℕ) → Contains (lost_pages lost) pid → lost ≡ Some pid
         those-in None pid within = absurd (let lt = within.1 in omega (arith, lt))
         those-in (Some own) pid (zero, lt, is) = ap (λ (n : ℕ). Some n) is
         those-in (Some own) pid (suc k, lt, is) = absurd (omega (arith, lt))
 
-        in-those : (lost : Option ℕ) (pid : ℕ) → lost ≡ Some pid → Contains (those lost) pid
+        in-those : (lost : Option ℕ) (pid : ℕ) → lost ≡ Some pid → Contains (lost_pages lost) pid
         in-those None pid is = absurd (none-some pid is)
         in-those (Some own) pid is = (0, omega arith, same_Some own pid is)
 
-        by : (dropped : Option (Vec ℕ)) → MatchOption dropped (new ≡ old) (λ dropped. AreOut (dropped.items ++ those lost) old new)
+        by : (dropped : Option (Vec ℕ)) → MatchOption dropped (new ≡ old) (λ dropped. AreOut (dropped.items ++ lost_pages lost) old new)
             → let now = view next config recovered then.lru sticky_log new in MatchOption dropped (now ≡ record (over old) { lru = then.lru }) (λ dropped. PagesOut (λ pid. Contains dropped.items pid ⊎ (lost ≡ Some pid)) (over old) now)
         by None same = ap (λ pages. view next config recovered then.lru sticky_log pages) same
         by (Some dropped) out =
             out-listed (λ pid. Contains dropped.items pid ⊎ (lost ≡ Some pid)) (over old) (over new) then.lru
-            (out-then (Contains (dropped.items ++ those lost)) (λ _. ⊥) (λ pid. Contains dropped.items pid ⊎ (lost ≡ Some pid)) (over old) (over new) (over new)
-            (λ pid leaves. inl (into pid leaves)) (λ pid within. from pid (Contains-append_cases dropped.items (those lost) pid within)) (λ pid never. absurd never)
-            (outs (dropped.items ++ those lost) old new out) (out-none (λ _. ⊥) (over new) (λ pid never. absurd never)))
+            (out-then (Contains (dropped.items ++ lost_pages lost)) (λ _. ⊥) (λ pid. Contains dropped.items pid ⊎ (lost ≡ Some pid)) (over old) (over new) (over new)
+            (λ pid leaves. inl (into pid leaves)) (λ pid within. from pid (Contains-append_cases dropped.items (lost_pages lost) pid within)) (λ pid never. absurd never)
+            (outs (dropped.items ++ lost_pages lost) old new out) (out-none (λ _. ⊥) (over new) (λ pid never. absurd never)))
           where
-            into : (pid : ℕ) → Contains dropped.items pid ⊎ (lost ≡ Some pid) → Contains (dropped.items ++ those lost) pid
-            into pid (inl within) = Contains-append_left dropped.items (those lost) pid within
-            into pid (inr is) = Contains-append_right dropped.items (those lost) pid (in-those lost pid is)
+            into : (pid : ℕ) → Contains dropped.items pid ⊎ (lost ≡ Some pid) → Contains (dropped.items ++ lost_pages lost) pid
+            into pid (inl within) = Contains-append_left dropped.items (lost_pages lost) pid within
+            into pid (inr is) = Contains-append_right dropped.items (lost_pages lost) pid (in-those lost pid is)
 
-            from : (pid : ℕ) → Contains dropped.items pid ⊎ Contains (those lost) pid → Contains dropped.items pid ⊎ (lost ≡ Some pid)
+            from : (pid : ℕ) → Contains dropped.items pid ⊎ Contains (lost_pages lost) pid → Contains dropped.items pid ⊎ (lost ≡ Some pid)
             from pid (inl within) = inl within
             from pid (inr within) = inr (those-in lost pid within)
 
@@ -102,7 +102,7 @@ module _ {L : Type 0} (cache : Cache L) where
   pub keeps-same : KeepsMemory cache cache
   keeps-same = record { stay = stays-same cache; lru = refl }
 
-  pub leaves-same : (tells : Type 0) (pid : ℕ) (error : Error) → LeavesMemory cache pid cache tells error
+  pub leaves-same : (tells : Type 0) (pid : ℕ) (error : Error) → EvictsAtMost cache pid cache tells error
   leaves-same tells pid error = record { others = inr (record { lru = refl; others = λ other _. stays-same cache other }); unasked = λ _. inr keeps-same }
 
 -- A call changed the table, and then what the list dropped for it was paged out.

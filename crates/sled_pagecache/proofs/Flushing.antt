@@ -1,13 +1,13 @@
 -- A flush, and the size of the log, as steps of the machine.
-use Rattle.sled_pagecache.proofs.Names.{Recency, ◌≡◌, ℕ, Bool, true, false, List, [], Ok, Err, refl, ◌∙◌, Write, Ghosts, Cache, Steps, Went, State, Flushes, outcome, unchanged, Flushed, Sized, Flush, SizeOnDisk, Config, StickyLog, Page, BatchOpen, view}
+use Rattle.sled_pagecache.proofs.Names.{Recency, ◌≡◌, ℕ, Bool, true, false, List, [], Ok, Err, refl, ◌∙◌, Write, Ghosts, Cache, Steps, Went, State, Flushes, outcome, no_change, Flushed, Sized, Flush, SizeOnDisk, Config, StickyLog, Page, BatchOpen, view}
 use Rattle.sled_base.specs.declared.types.Error.TheVariants.{Unsupported, Io}
 use Rattle.sled_pagecache.proofs.CacheSteps.{steps-went}
 use Rattle.sled_pagecache.proofs.Changing.{KnowsNow, leads-fault, steps-uncalled, steps-untold}
 
-flush_step : (s : State) (n : ℕ) → s.fault ≡ false → s.batch ≡ false → Flushes s (Ok n) (unchanged s)
+flush_step : (s : State) (n : ℕ) → s.fault ≡ false → s.batch ≡ false → Flushes s (Ok n) (no_change s)
 flush_step s n clear closed = rw (clear, closed) refl
 
-flush_early : (s : State) → s.fault ≡ false → s.batch ≡ true → Flushes s (Err (Unsupported BatchOpen)) (unchanged s)
+flush_early : (s : State) → s.fault ≡ false → s.batch ≡ true → Flushes s (Err (Unsupported BatchOpen)) (no_change s)
 flush_early s clear opened = rw (clear, opened) (refl, refl)
 
 flush_fails : (s : State) → s.fault ≡ false → s.batch ≡ false → Flushes s (Err (Io Write)) (outcome (record s { fault = true }) [])

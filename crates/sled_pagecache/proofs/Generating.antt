@@ -1,5 +1,5 @@
 -- An id, as a step of the machine, told of the table that the cache keeps.
-use Rattle.sled_pagecache.proofs.Names.{Recency, AllByRecursion, Bool, Cache, Change, Config, Content, Counter, Does, Err, Error, Event, GenerateId, Generated, Ghosts, HasNoRoom, IsBeside, IsCaused, IsConsistent, IsCounter, IsIn, IsKept, IsSized, IsUpdate, List, Logged, MatchBool, Message, Ok, Outcome, Put, Refusal, RefusesSwap, Result, Some, StampUsedUp, State, StepOver, Steps, StickyLog, Unsupported, Update, Went, Went-none, [], ap, arith, begun_by, chain_at, chain_length, effect_of, effect_of_entry, eq-eqb, false, inl, inr, is_free, le-ltb, length, lt-ltb, map-set, message_of, ne_eqb, outcome, page, page_at, refl, slice_get, slice_get_within, slice_set, stamps_in, subst, sym, true, unchanged, with_page, ℕ, ◌+◌, ◌-◌, ◌<◌, ◌^◌, ◌∙◌, ◌∷◌, ◌≡◌, ◌≢◌, ◌≤◌, nat_lt, error_by, BatchOpen, IdsUsedUp, StampedPage, Generates, interval_start, with_next_id, KeptPage, view}
+use Rattle.sled_pagecache.proofs.Names.{Recency, AllByRecursion, Bool, Cache, Change, Config, Content, Counter, Does, Err, Error, Event, GenerateId, Generated, Ghosts, HasNoRoom, IsBeside, IsCaused, IsConsistent, IsCounter, Represents, IsKept, IsSized, IsUpdate, List, Logged, MatchBool, Message, Ok, Outcome, Put, Refusal, RefusesSwap, Result, Some, StampUsedUp, State, StepOver, Steps, StickyLog, Unsupported, Update, Went, Went-none, [], ap, arith, begun_by, chain_at, chain_length, effect_of, effect_of_entry, eq-eqb, false, inl, inr, is_free, le-ltb, length, lt-ltb, map-set, message_of, ne_eqb, outcome, page, page_at, refl, slice_get, slice_get_within, slice_set, stamps_in, subst, sym, true, no_change, with_page, ℕ, ◌+◌, ◌-◌, ◌<◌, ◌^◌, ◌∙◌, ◌∷◌, ◌≡◌, ◌≢◌, ◌≤◌, nat_lt, error_by, BatchOpen, IdsUsedUp, StampedPage, Generates, interval_start, with_next_id, KeptPage, view}
 use Rattle.sled_log.specs.LogState as log
 use Rattle.sled_pagecache.proofs.CacheSteps.{stays-none, steps-went}
 use Rattle.sled_pagecache.proofs.Carrying.{proper-now}
@@ -18,18 +18,18 @@ on-false : (A : Type 0) {B : Type 0} (test : Bool) → test ≡ false → B → 
 on-false A {B} test is h = subst (λ b. MatchBool b A B) (sym is) h
 
 module _ (messages : ℕ → ℕ) (no_room : Event Update → Type 0) (interval : ℕ) (s : State) (clear : s.fault ≡ false) where
-  used-up : nat_lt (2 ^ 64 - 1) s.next ≡ true → Generates messages no_room interval s (Err (Unsupported IdsUsedUp)) (unchanged s)
+  used-up : nat_lt (2 ^ 64 - 1) s.next ≡ true → Generates messages no_room interval s (Err (Unsupported IdsUsedUp)) (no_change s)
   used-up used = rw (clear, used) (refl, refl)
 
   module _ (below : nat_lt (2 ^ 64 - 1) s.next ≡ false) (stamp n : ℕ) (at : page_at s 1 ≡ Some (page stamp (Counter n))) where
-    covered : nat_lt (interval_start interval n) (interval_start interval s.next) ≡ false → Generates messages no_room interval s (Ok s.next) (unchanged (with_next_id s))
+    covered : nat_lt (interval_start interval n) (interval_start interval s.next) ≡ false → Generates messages no_room interval s (Ok s.next) (no_change (with_next_id s))
     covered few = rw (clear, below, at, few) (refl, refl)
 
-    early : nat_lt (interval_start interval n) (interval_start interval s.next) ≡ true → s.batch ≡ true → Generates messages no_room interval s (Err (Unsupported BatchOpen)) (unchanged s)
+    early : nat_lt (interval_start interval n) (interval_start interval s.next) ≡ true → s.batch ≡ true → Generates messages no_room interval s (Err (Unsupported BatchOpen)) (no_change s)
     early more opened = rw (clear, below, at, more, opened) (refl, refl)
 
     module _ (more : nat_lt (interval_start interval n) (interval_start interval s.next) ≡ true) (closed : s.batch ≡ false) where
-      last-stamp : stamp ≡ 2 ^ 64 - 1 → Generates messages no_room interval s (Err (Unsupported StampUsedUp)) (unchanged s)
+      last-stamp : stamp ≡ 2 ^ 64 - 1 → Generates messages no_room interval s (Err (Unsupported StampUsedUp)) (no_change s)
       last-stamp last = rw (clear, below, at, more, closed, eq-eqb stamp (2 ^ 64 - 1) last) (refl, refl)
 
       puts : stamp ≢ 2 ^ 64 - 1 → (answer : Result ℕ Error) (out : Outcome)
@@ -63,7 +63,7 @@ module _ {L : Type 0} (g : Ghosts L) (next : ℕ) (config : Config) (recovered :
   beside : IsBeside g.tells g.state before.log table
   beside = c.beside ready
 
-  there : (held : Logged) (s : State) → IsIn g (cache next before table) held s → s.fault ≡ false → page_at s 1 ≡ Some (page q.stamp (Counter n))
+  there : (held : Logged) (s : State) → Represents g (cache next before table) held s → s.fault ≡ false → page_at s 1 ≡ Some (page q.stamp (Counter n))
   there held s is clear = counter-at g next config recovered lru before table free c ready q n at holds held s is clear
 
   -- no id is left
@@ -79,7 +79,7 @@ module _ {L : Type 0} (g : Ghosts L) (next : ℕ) (config : Config) (recovered :
       (Went-none g before beside.usable only_now)
       (λ held s is clear. record {
         out = outcome (with_next_id s) [];
-        step = subst (λ id. Generates lengths no_room k s (Ok id) (unchanged (with_next_id s))) is.next
+        step = subst (λ id. Generates lengths no_room k s (Ok id) (no_change (with_next_id s))) is.next
             (covered lengths no_room k s clear (ap (nat_lt (2 ^ 64 - 1)) is.next ∙ below) q.stamp n (there held s is clear) (ap (λ i. nat_lt (interval_start k n) (interval_start k i)) is.next ∙ few));
         told = tt;
         stays = stays-none g (cache next before table) held s is clear;
@@ -102,7 +102,7 @@ module _ {L : Type 0} (g : Ghosts L) (next : ℕ) (config : Config) (recovered :
   -- a new counter is put on its page
   module _ (below : nat_lt (2 ^ 64 - 1) next ≡ false) (more : nat_lt (interval_start k n) (interval_start k next) ≡ true) (after : StickyLog L)
       (reads : IsUpdate (message_of (Put (Counter (interval_start k next)))) (Put (Counter (interval_start k next)))) (none : before.batch ≡ false) where
-    closed : (held : Logged) (s : State) → IsIn g (cache next before table) held s → s.fault ≡ false → s.batch ≡ false
+    closed : (held : Logged) (s : State) → Represents g (cache next before table) held s → s.fault ≡ false → s.batch ≡ false
     closed held s is clear = is.batch ∙ none
 
     abbrev start : ℕ
@@ -111,24 +111,24 @@ module _ {L : Type 0} (g : Ghosts L) (next : ℕ) (config : Config) (recovered :
     abbrev change : Event Update
     change = Change 1 (Put (Counter start))
 
-    long : (held : Logged) (s : State) → IsIn g (cache next before table) held s → s.fault ≡ false → 1 < length (now held)
+    long : (held : Logged) (s : State) → Represents g (cache next before table) held s → s.fault ≡ false → 1 < length (now held)
     long held s is clear = let same = many g next config recovered lru before table ready beside held s is clear in let within = slice_get_within table 1 q at in omega (arith, same, within)
 
-    may : (held : Logged) (s : State) → IsIn g (cache next before table) held s → s.fault ≡ false → MayPut g before.log held 1 (Counter start)
+    may : (held : Logged) (s : State) → Represents g (cache next before table) held s → s.fault ≡ false → MayPut g before.log held 1 (Counter start)
     may held s is clear = record {
       may = omega (arith, long held s is clear);
       proper = put-own (log.now effect_of (log.unplaced_state (g.state before.log))) (now held) (holds_unplaced g (cache next before table) held s is clear) (proper-now (log.unplaced_state (g.state before.log)) held (is.known clear).logged) 1
           (message_of (Put (Counter start))) (Counter start) tt (long held s is clear);
     }
 
-    does : (held : Logged) (s : State) → IsIn g (cache next before table) held s → s.fault ≡ false → q.stamp ≢ 2 ^ 64 - 1 → (answer : Result ℕ Error) (out : Outcome)
+    does : (held : Logged) (s : State) → Represents g (cache next before table) held s → s.fault ≡ false → q.stamp ≢ 2 ^ 64 - 1 → (answer : Result ℕ Error) (out : Outcome)
         → Does lengths no_room s change answer out (λ id t. (id ≡ next) × (t ≡ with_next_id (with_page s 1 (page (q.stamp + 1) (Counter start)))))
         → StepOver g (cache next before table) s GenerateId (Generated answer) out
     does held s is clear risen answer out done =
         puts lengths no_room k s clear (ap (nat_lt (2 ^ 64 - 1)) is.next ∙ below) q.stamp n (there held s is clear) (ap (λ i. nat_lt (interval_start k n) (interval_start k i)) is.next ∙ more) (closed held s is clear) risen answer out
         (subst (λ i. Does lengths no_room s (Change 1 (Put (Counter (interval_start k i)))) answer out (λ id t. (id ≡ i) × (t ≡ with_next_id (with_page s 1 (page (q.stamp + 1) (Counter (interval_start k i))))))) (sym is.next) done)
 
-    last : (held : Logged) (s : State) → IsIn g (cache next before table) held s → s.fault ≡ false → q.stamp ≡ 2 ^ 64 - 1 → StepOver g (cache next before table) s GenerateId (Generated (Err (Unsupported StampUsedUp))) (unchanged s)
+    last : (held : Logged) (s : State) → Represents g (cache next before table) held s → s.fault ≡ false → q.stamp ≡ 2 ^ 64 - 1 → StepOver g (cache next before table) s GenerateId (Generated (Err (Unsupported StampUsedUp))) (no_change s)
     last held s is clear risen =
         last-stamp lengths no_room k s clear (ap (nat_lt (2 ^ 64 - 1)) is.next ∙ below) q.stamp n (there held s is clear) (ap (λ i. nat_lt (interval_start k n) (interval_start k i)) is.next ∙ more) (closed held s is clear) risen
 

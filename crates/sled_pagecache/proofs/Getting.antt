@@ -1,5 +1,5 @@
 -- A get as a step of the machine: a page is brought in, and then its node is lent.
-use Rattle.sled_pagecache.proofs.Names.{MatchOption, HasNode, HasNoNode, IsBounded, KeepsMemory, AccessesPage, FindsPage, ◌≡◌, inl, inr, ℕ, Bool, true, false, List, [], Option, Some, None, Result, Ok, Err, slice_get, slice_index_or, refl, sym, ◌∙◌, ap, subst, false≢true, false_from_ne_true, error_of, IsOk, IsErrOf, Write, Error, Refusal, Io, ReservedId, Content, Free, Node, Damaged, Chain, unplaced, holds-made, Makes, Holds, Ghosts, WholeNode, Keeps, Cache, IsIn, IsResident, IsAway, Steps, IsBlamed, chain_at, ReportsWrong, is_write_fault, Logged, sticky_log_of, RefusesReading, BringsIn, IsNodeAt, IsUsers, RefusesPull, ReadsPage, page, State, page_at, is_reserved, Finds, FindsContent, Token, Got, Get, NodeView, IsGot, Outcome, unchanged, Gets, IfSome, StampedPage, answered, arith, behind-own}
+use Rattle.sled_pagecache.proofs.Names.{MatchOption, HasNode, HasNoNode, IsBounded, KeepsMemory, AccessesPage, FindsPage, ◌≡◌, inl, inr, ℕ, Bool, true, false, List, [], Option, Some, None, Result, Ok, Err, slice_get, slice_index_or, refl, sym, ◌∙◌, ap, subst, false≢true, false_from_ne_true, error_of, IsOk, IsErrOf, Write, Error, Refusal, Io, ReservedId, Content, Free, Node, Damaged, Chain, messages_of, holds-made, Makes, Holds, Ghosts, WholeNode, Keeps, Cache, Represents, IsResident, IsAway, Steps, IsBlamed, chain_at, ReportsWrong, is_write_fault, Logged, sticky_log_of, RefusesReading, BringsIn, IsNodeAt, IsUsers, RefusesPull, ReadsPage, page, State, page_at, is_reserved, Finds, FindsContent, Token, Got, Get, NodeView, IsGot, Outcome, no_change, Gets, IfSome, StampedPage, answered, arith, behind-own}
 use Rattle.sled_base.specs.declared.types.Error.TheVariants as error
 use Rattle.sled_pagecache.proofs.Answers.{keeps-stuck, keeps-err, keeps-ok}
 use Rattle.sled_pagecache.proofs.CacheSteps.{LeadsTo, steps-stuck, steps-known, steps-went}
@@ -27,7 +27,7 @@ module _ {L : Type 0} (g : Ghosts L) where
 
   module _ (old new : Cache L) (pid : ℕ) (ready : old.fault ≡ false) where
     -- the page wasn't read
-    module _ (next : new.next ≡ old.next) (stamps : new.stamps ≡ old.stamps) (held : Logged) (s : State) (is : IsIn g old held s) (clear : s.fault ≡ false) where
+    module _ (next : new.next ≡ old.next) (stamps : new.stamps ≡ old.stamps) (held : Logged) (s : State) (is : Represents g old held s) (clear : s.fault ≡ false) where
       refused-leads : (refusal : Refusal) → RefusesReading (chain_at (g.state old.log) pid) pid refusal
           → (let err : Result (Unit {0}) Refusal = Err refusal in new.fault ≡ is_write_fault err)
           → LeadsTo g old new held s (Get pid) (Got (Err (error_of refusal))) []
@@ -53,20 +53,20 @@ module _ {L : Type 0} (g : Ghosts L) where
       chain-same : chain_at (g.state new.log) pid ≡ chain_at (g.state old.log) pid
       chain-same = ap (λ (l : List Chain). slice_index_or l pid []) (brings.left.same known brings.cause.fault)
 
-      module _ (held : Logged) (s : State) (is : IsIn g old held s) (clear : s.fault ≡ false) where
-        node-is : (stamp : ℕ) (node : WholeNode) → Makes (unplaced (chain_at (g.state new.log) pid)) (Node node) → (found : StampedAt s.pages pid stamp) → page_at s pid ≡ Some (page stamp (Node node))
+      module _ (held : Logged) (s : State) (is : Represents g old held s) (clear : s.fault ≡ false) where
+        node-is : (stamp : ℕ) (node : WholeNode) → Makes (messages_of (chain_at (g.state new.log) pid)) (Node node) → (found : StampedAt s.pages pid stamp) → page_at s pid ≡ Some (page stamp (Node node))
         node-is stamp node made found =
             found.there ∙ ap (λ (content : Content). Some (page stamp content))
-            (holds-made (unplaced (chain_at (g.state old.log) pid)) found.content (Node node) (state-page g old held s is clear pid (page stamp found.content) found.there)
-            (subst (λ (chain : Chain). Makes (unplaced chain) (Node node)) chain-same made))
+            (holds-made (messages_of (chain_at (g.state old.log) pid)) found.content (Node node) (state-page g old held s is clear pid (page stamp found.content) found.there)
+            (subst (λ (chain : Chain). Makes (messages_of chain) (Node node)) chain-same made))
 
-        nothing-is : ((node : WholeNode) → ¬ Makes (unplaced (chain_at (g.state new.log) pid)) (Node node)) → (o : Option StampedPage) → page_at s pid ≡ o → Finds s pid o (Ok None) (unchanged s)
+        nothing-is : ((node : WholeNode) → ¬ Makes (messages_of (chain_at (g.state new.log) pid)) (Node node)) → (o : Option StampedPage) → page_at s pid ≡ o → Finds s pid o (Ok None) (no_change s)
         nothing-is unmade None at = (refl, refl)
         nothing-is unmade (Some p) at = by p.content (state-page g old held s is clear pid p at) (state-own g old held s is clear pid (behind-own pid brings.in_memory.0) p at)
           where
-            by : (content : Content) → Holds (unplaced (chain_at (g.state old.log) pid)) content → IsUsers content → FindsContent s pid p.stamp content (Ok None) (unchanged s)
+            by : (content : Content) → Holds (messages_of (chain_at (g.state old.log) pid)) content → IsUsers content → FindsContent s pid p.stamp content (Ok None) (no_change s)
             by Free made own = (refl, refl)
-            by (Node node) made own = absurd (unmade node (subst (λ (chain : Chain). Makes (unplaced chain) (Node node)) (sym chain-same) made))
+            by (Node node) made own = absurd (unmade node (subst (λ (chain : Chain). Makes (messages_of chain) (Node node)) (sym chain-same) made))
             by Damaged holds own = absurd (brings.sound known (sym (full-unplaced (chain_at (g.state old.log) pid)) ∙ holds.0, λ made. holds.1 (Node made.0) made.1))
             by content made own = absurd own
 
@@ -74,13 +74,13 @@ module _ {L : Type 0} (g : Ghosts L) where
         found-leads (Some view) (is_token, at, resident, made) =
             let stamped = stamped-at s.pages pid view.token.stamp (ap (λ (l : List ℕ). slice_get l pid) (is.stamps ∙ sym brings.left.stamps) ∙ at) in
             leads-same g old new held s is clear (Get pid) (Got (Ok (Some (view.token, view.node.now)))) brings.left.next
-            (at-page s pid clear brings.in_memory.0 (Ok (Some (view.token, view.node.now))) (unchanged s) view.token.stamp (Node view.node.now)
+            (at-page s pid clear brings.in_memory.0 (Ok (Some (view.token, view.node.now))) (no_change s) view.token.stamp (Node view.node.now)
             (node-is view.token.stamp view.node.now (made known brings.cause.fault) stamped) (refl, ap (λ (t : Token). Some (t, view.node.now)) is_token))
             brings.left.stamps brings.cause.fault
         found-leads None (inl away) = absurd (brings.in_memory.1 away)
         found-leads None (inr unmade) =
             leads-same g old new held s is clear (Get pid) (Got (Ok None)) brings.left.next
-            (passes s pid (finds s pid) (Ok None) (unchanged s) clear brings.in_memory.0 (nothing-is (unmade known brings.cause.fault) (page_at s pid) refl))
+            (passes s pid (finds s pid) (Ok None) (no_change s) clear brings.in_memory.0 (nothing-is (unmade known brings.cause.fault) (page_at s pid) refl))
             brings.left.stamps brings.cause.fault
 
       pub get-found : (found : Option NodeView) → IsNodeAt g new pid found → Steps g old (Get pid) (Got (answered (Ok found))) new

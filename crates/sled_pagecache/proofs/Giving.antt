@@ -1,5 +1,5 @@
 -- What follows of giving an id where a new counter was put on its page, or was refused, once what the list dropped for it is paged out.
-use Rattle.sled_pagecache.proofs.Names.{◌≡◌, ◌+◌, ◌-◌, ◌^◌, ℕ, Bool, false, List, [], Some, None, Result, Ok, Err, slice_get, slice_set, refl, sym, ◌∙◌, ap, subst, arith, inl, error_of, Error, Refusal, Put, Counter, Ghosts, Cache, MakesAppend, RefusesAppend, RefusesSwap, IsBlamed, IsBounded, Keeps, LeavesMemory, Steps, GenerateId, Generated, is_free, stamps_in, Config, StickyLog, Accesses, Page, IsWhole, Evicts, IsSettled, GivesId, IsCovered, interval_start, view, ◌≤◌, ◌<◌, le-ltb, same_Some, Token, put-back, set-at}
+use Rattle.sled_pagecache.proofs.Names.{◌≡◌, ◌+◌, ◌-◌, ◌^◌, ℕ, Bool, false, List, [], Some, None, Result, Ok, Err, slice_get, slice_set, refl, sym, ◌∙◌, ap, subst, arith, inl, error_of, Error, Refusal, Put, Counter, Ghosts, Cache, MakesAppend, RefusesAppend, RefusesSwap, IsBlamed, IsBounded, Keeps, EvictsAtMost, Steps, GenerateId, Generated, is_free, stamps_in, Config, StickyLog, Accesses, Page, IsWhole, Evicts, IsSettled, GivesId, IsCovered, interval_start, view, ◌≤◌, ◌<◌, le-ltb, same_Some, Token, put-back, set-at}
 use Rattle.sled_pagecache.proofs.Answers.{keeps-err, keeps-ok}
 use Rattle.sled_pagecache.proofs.Appending.{after-whole, after-refused}
 use Rattle.sled_pagecache.proofs.CacheSteps.{steps-known}
@@ -7,7 +7,7 @@ use Rattle.sled_pagecache.proofs.Counted.{counted-stable, covered-put}
 use Rattle.sled_pagecache.proofs.Generating.{consistent-counter, id-put, id-refused, more}
 use Rattle.sled_pagecache.proofs.Putting.{blamed}
 use Rattle.sled_pagecache.proofs.Standing.{one-short}
-use Rattle.sled_pagecache.specs.CounterPages.{IsCounterIn}
+use Rattle.sled_pagecache.specs.Inside.CounterPage.{IsCounterIn}
 use Rattle.sled_pagecache.specs.declared.pagecache.page.Kept.TheVariants as kept
 
 -- What a call answers that put a new counter on its page.
@@ -26,7 +26,7 @@ pub record IdRefused {L : Type 0} (g : Ghosts L) (was now : Cache L) (settled : 
   pub blame : let result : Result ℕ Error = Err (error_of refusal) in IsBlamed g was now result
   pub keeps : let result : Result ℕ Error = Err (error_of refusal) in Keeps was now result (λ _. now.stamps)
   pub bounded : IsBounded g now
-  pub leaves : LeavesMemory was 1 now g.tells (error_of refusal)
+  pub leaves : EvictsAtMost was 1 now g.tells (error_of refusal)
 
 counter-kept : {table : List Page} {q : Page} {counter : Token × ℕ} → slice_get table 1 ≡ Some q → IsCounterIn table counter → q.kept ≡ kept.Counter counter.1
 counter-kept {q = q} at found = ap (λ (p : Page). p.kept) (same_Some q found.page (sym at ∙ found.at)) ∙ found.counter

@@ -1,10 +1,10 @@
 -- The page of a state at an id beside the chain that the log has of it.
-use Rattle.sled_pagecache.proofs.Names.{◌≡◌, ◌≤◌, ℕ, zero, suc, true, false, List, [], ◌∷◌, map, Some, Result, Err, slice_get, refl, sym, ◌∙◌, ap, subst, false≢true, none-some, same_Some, error_of, Read, Write, Error, Refusal, Io, Corruption, OutOfMemory, is_empty, Content, Free, Node, Damaged, Chain, unplaced, effect_of_entry, Holds, Hold, Ghosts, WholeNode, Cache, IsIn, chain_at, Logged, RefusesPull, IsUsers, page, State, contents_of, page_at, Outcome, outcome, unchanged, IsCorruption, IsHindered, map-at, content-own, holds-at, stands-full, holds_now}
+use Rattle.sled_pagecache.proofs.Names.{◌≡◌, ◌≤◌, ℕ, zero, suc, true, false, List, [], ◌∷◌, map, Some, Result, Err, slice_get, refl, sym, ◌∙◌, ap, subst, false≢true, none-some, same_Some, error_of, Read, Write, Error, Refusal, Io, Corruption, OutOfMemory, is_empty, Content, Free, Node, Damaged, Chain, messages_of, effect_of_entry, Holds, Hold, Ghosts, WholeNode, Cache, Represents, chain_at, Logged, RefusesPull, IsUsers, page, State, contents_of, page_at, Outcome, outcome, no_change, IsCorruption, IsHindered, map-at, content-own, holds-at, stands-full, holds_now}
 use Rattle.sled_log.specs.LogState as log
 use Rattle.sled_pagecache.proofs.Carrying.{proper-now}
 use Rattle.sled_pagecache.proofs.FoundMessages.{wrong-none}
 use Rattle.sled_pagecache.proofs.Standing.{holds-free}
-use Rattle.sled_pagecache.specs.Proper.{AreOwn}
+use Rattle.sled_pagecache.specs.Logged.{AreOwn}
 use Rattle.sled_pagecache.specs.State.{StampedPage, is_free}
 
 -- the page at an id is at this stamp
@@ -22,20 +22,20 @@ pub record FullStands (s : State) (pid : ℕ) (chain : Chain) : Type 0 where
   pub stamp : ℕ
   pub content : Content
   pub there : page_at s pid ≡ Some (page stamp content)
-  pub holds : Holds (unplaced chain) content
+  pub holds : Holds (messages_of chain) content
   pub own : IsUsers content
   pub full : is_free content ≡ false
 
 -- what is left where the page couldn't be read
 abbrev pub unread : State → Refusal → Outcome
 unread s (Io Write) = outcome (record s { fault = true }) []
-unread s refusal = unchanged s
+unread s refusal = no_change s
 
 module _ (s : State) (pid : ℕ) (chain : Chain) (stands : FullStands s pid chain) (P : Content → Type 0) where
-  full-content : ((node : WholeNode) → Holds (unplaced chain) (Node node) → P (Node node)) → P Damaged → P stands.content
+  full-content : ((node : WholeNode) → Holds (messages_of chain) (Node node) → P (Node node)) → P Damaged → P stands.content
   full-content of_node damaged = by stands.content stands.own stands.full stands.holds
     where
-      by : (content : Content) → IsUsers content → is_free content ≡ false → Holds (unplaced chain) content → P content
+      by : (content : Content) → IsUsers content → is_free content ≡ false → Holds (messages_of chain) content → P content
       by Free own full holds = absurd (false≢true (sym full))
       by (Node node) own full holds = of_node node holds
       by Damaged own full holds = damaged
@@ -50,12 +50,12 @@ module _ (s : State) (pid : ℕ) (chain : Chain) (stands : FullStands s pid chai
   unread-content T (Corruption (Some pointer)) why of_node damaged = full-content (λ node holds. absurd (wrong-none _ _ chain pointer why (node, holds))) (damaged refl)
   unread-content T refusal why of_node damaged = absurd why
 
-module _ {L : Type 0} (g : Ghosts L) (cache : Cache L) (held : Logged) (s : State) (is : IsIn g cache held s) (clear : s.fault ≡ false) (pid : ℕ) where
+module _ {L : Type 0} (g : Ghosts L) (cache : Cache L) (held : Logged) (s : State) (is : Represents g cache held s) (clear : s.fault ≡ false) (pid : ℕ) where
   abbrev chains : List Chain
   chains = log.now effect_of_entry (g.state cache.log)
 
-  pub state-holds : Hold (map unplaced chains) (contents_of s)
-  state-holds = subst (λ (l : List Content). Hold (map unplaced chains) l) (sym (is.known clear).contents) (holds_now (g.state cache.log) held (is.known clear).logged)
+  pub state-holds : Hold (map messages_of chains) (contents_of s)
+  state-holds = subst (λ (l : List Content). Hold (map messages_of chains) l) (sym (is.known clear).contents) (holds_now (g.state cache.log) held (is.known clear).logged)
 
   pub state-own : 2 ≤ pid → (p : StampedPage) → page_at s pid ≡ Some p → IsUsers p.content
   state-own from p at =
@@ -64,7 +64,7 @@ module _ {L : Type 0} (g : Ghosts L) (cache : Cache L) (held : Logged) (s : Stat
       from (map-at (λ (p : StampedPage). p.content) s.pages pid p at)
 
   -- the page holds what its chain makes, or is damaged
-  pub state-page : (p : StampedPage) → page_at s pid ≡ Some p → Holds (unplaced (chain_at (g.state cache.log) pid)) p.content
+  pub state-page : (p : StampedPage) → page_at s pid ≡ Some p → Holds (messages_of (chain_at (g.state cache.log) pid)) p.content
   state-page p at = holds-at s.pages chains pid p state-holds at
 
   -- where the chain isn't empty

@@ -1,5 +1,5 @@
 -- Why no generated id is given twice: what opens over a log, however a cache over it ended, begins above every id that was answered.
-use Rattle.sled_pagecache.proofs.Names.{Answer, Cache, Call, Config, Content, Error, Generated, Ghosts, IsIn, IsLogged, IsStep, List, Logged, Messages, Ok, Result, Started, State, [], ap, append_assoc, arith, changes_of_start, contents_after, contents_of, false, first_id, inl, inr, length, Message, only_stable_contents, opened, refl, slice_index_or, subst, suc, sym, true, true≢false, unplaced_state, zero, ℕ, ⊎_elim, ◌++◌, ◌+◌, ◌<◌, ◌∙◌, ◌∷◌, ◌≡◌, ◌≤◌, ◌⊎◌, ⊤, LogState, AreRising, Crashed, CrashedIn, Ending, HandedOn, IsEmpty, IsRun, KeepIntervals, Lasted, Leaves, LeavesUnopened, Opening, id_in, ids_in, ids_of, HoldsCrash, OnlyNow, left-now, AreMade, CoversId, IsMade, MayBeOpened, cases_Bool, IsPrefix, Update, Event}
+use Rattle.sled_pagecache.proofs.Names.{Answer, Cache, Call, Config, Content, Error, Generated, Ghosts, Represents, IsLogged, IsStep, List, Logged, Messages, Ok, Result, Started, State, [], ap, append_assoc, arith, changes_of_start, contents_after, contents_of, false, first_id, inl, inr, length, Message, stable_contents, opened_state, refl, slice_index_or, subst, suc, sym, true, true≢false, unplaced_state, zero, ℕ, ⊎_elim, ◌++◌, ◌+◌, ◌<◌, ◌∙◌, ◌∷◌, ◌≡◌, ◌≤◌, ◌⊎◌, ⊤, LogState, AreRising, Crashed, CrashedIn, Ending, HandedOn, IsEmpty, IsRun, KeepIntervals, Lasted, Leaves, LeavesUnopened, Opening, id_in, ids_in, ids_of, HoldsCrash, OnlyNow, left-now, AreMade, CoversId, IsMade, MayBeOpened, cases_Bool, IsPrefix, Update, Event}
 use Rattle.sled_pagecache.specs.Openings.{Refused}
 use Rattle.sled_pagecache.proofs.Endings.{ByCrash, ByReturn, IsFaulty, IsLeftUnopened, crash-since, left-unopened, sound-settings, stays-faulty}
 use Rattle.sled_pagecache.proofs.Carrying.{proper-now}
@@ -39,9 +39,9 @@ module _ {L : Type 0} (g : Ghosts L) (tells : g.tells)
   crash-found least bound since crashed l crash each =
       let left = each crash.pages (since_earlier crashed since crash.at crash.pages tells crash.later crash.left) in
       record {
-        held = only_stable_contents left.contents;
+        held = stable_contents left.contents;
         logged =
-            subst (λ (s : LogState Message). IsLogged s (only_stable_contents left.contents)) (sym crash.holds)
+            subst (λ (s : LogState Message). IsLogged s (stable_contents left.contents)) (sym crash.holds)
             (kept-logged crash.pages left.contents left.kept true);
         safe = record { rises = tt; above = left.above };
       }
@@ -52,7 +52,7 @@ module _ {L : Type 0} (g : Ghosts L) (tells : g.tells)
   record GoesOn (interval bound : ℕ) (cache : Cache L) : Type 0 where
     pub held : Logged
     pub s : State
-    pub is : IsIn g cache held s
+    pub is : Represents g cache held s
     pub clear : s.fault ≡ false
     pub interval_is : cache.config.idgen_persist_interval ≡ interval
     pub next : bound ≤ s.next
@@ -192,7 +192,7 @@ module _ {L : Type 0} (g : Ghosts L) (tells : g.tells)
         let counts = start-counts (now found.held) (proper-now (unplaced_state (g.state l)) found.held found.logged).own in
         record {
           held = start.held_then;
-          s = opened config (now found.held);
+          s = opened_state config (now found.held);
           is = start.is;
           clear = refl;
           interval_is = ap (λ (c : Config). c.idgen_persist_interval) start.config_is;
@@ -252,8 +252,8 @@ module _ {L : Type 0} (g : Ghosts L) (tells : g.tells)
       rising 0 (ids_of openings)
       (runs-rise 0 0 l openings
       (record {
-        held = only_stable_contents [];
-        logged = subst (λ (s : LogState Message). IsLogged s (only_stable_contents [])) (sym empty) (empty-logged true);
+        held = stable_contents [];
+        logged = subst (λ (s : LogState Message). IsLogged s (stable_contents [])) (sym empty) (empty-logged true);
         safe = record { rises = tt; above = λ interval wide. omega arith };
       })
       run wide)

@@ -1,5 +1,5 @@
 -- What the tests of a swap answer is a step of the machine, for each call that makes them.
-use Rattle.sled_pagecache.proofs.Names.{Recency, ◌≡◌, ◌+◌, ℕ, Bool, true, false, List, [], Option, Some, None, Ok, Err, slice_get, slice_set, refl, sym, ◌∙◌, ap, subst, ne_eqb, map-set, MatchBool, Write, Unsupported, Refusal, ReservedId, Content, Free, Put, Node, Messages, effect_of, Ghosts, WholeNode, Keeps, swapped, Cache, chain_length, HasNoRoom, StepOver, Steps, Went-none, Judges, IsRejected, IsFresh, State, page_at, Outcome, unchanged, is_reserved, Swapped, SwapsPage, Swaps, SwapsContent, LinksContent, stamps_in, IsBeside, Token, token, IsAnswered, Answer, Freed, Linked, Replaced, Call, Config, StickyLog, Rejection, Refused, Stale, Gone, answer_to, IfOk, IfErr, OnOk, OnErr, IsBlamed, HasNoName, LeavesMemory, false≢true, same_Some, Page, error_by, NodeLink, map-at, view, IsLeft, unplaced_state}
+use Rattle.sled_pagecache.proofs.Names.{Recency, ◌≡◌, ◌+◌, ℕ, Bool, true, false, List, [], Option, Some, None, Ok, Err, slice_get, slice_set, refl, sym, ◌∙◌, ap, subst, ne_eqb, map-set, MatchBool, Write, Unsupported, Refusal, ReservedId, Content, Free, Put, Node, Messages, effect_of, Ghosts, WholeNode, Keeps, stamps_after_swap, Cache, chain_length, HasNoRoom, StepOver, Steps, Went-none, Judges, IsRejected, IsFresh, State, page_at, Outcome, no_change, is_reserved, Swapped, SwapsPage, Swaps, SwapsContent, LinksContent, stamps_in, IsBeside, Token, token, IsAnswered, Answer, Freed, Linked, Replaced, Call, Config, StickyLog, Rejection, Refused, Stale, Gone, answer_to, IfOk, IfErr, OnOk, OnErr, IsBlamed, HasNoName, EvictsAtMost, false≢true, same_Some, Page, error_by, NodeLink, map-at, view, IsLeft, unplaced_state}
 use Rattle.sled_base.specs.declared.types.Error.TheVariants.{Io}
 use Rattle.sled_base.specs.declared.types.Refusal.TheVariants as refusals
 use Rattle.sled_pagecache.proofs.Answers.{keeps-err, keeps-ok, keeps-stuck}
@@ -28,10 +28,10 @@ module _ {L : Type 0} (g : Ghosts L) (cache : Cache L) (old : Token) where
 pub record Unswapped {L R : Type 0} (g : Ghosts L) (cache : Cache L) (pid : ℕ) (old : Token) (given : R) (call : Call) (answered : Swapped R → Answer) (answer : Swapped R) : Type 0 where
   pub step : Steps g cache call (answered answer) cache
   pub blame : IsBlamed g cache cache answer
-  pub keeps : Keeps cache cache answer (swapped cache.stamps)
+  pub keeps : Keeps cache cache answer (stamps_after_swap cache.stamps)
   pub token : IfOk answer (IsAnswered cache.stamps old given)
   pub unmade : IfOk answer (λ swapped. OnOk swapped ⊥)
-  pub leaves : IfErr answer (LeavesMemory cache pid cache g.tells)
+  pub leaves : IfErr answer (EvictsAtMost cache pid cache g.tells)
   pub unnamed : IfErr answer HasNoName
 
 -- what is said of a swap that wasn't made
@@ -57,7 +57,7 @@ module _ {L : Type 0} (g : Ghosts L) (next : ℕ) (config : Config) (recovered :
   abbrev tests_then : State → Swapped R → Outcome → Type 0
   tests_then s answer out = SwapsPage s old rejected (page_at s old.pid) answer out (goes_on s answer out)
 
-  still : (answer : Swapped R) → sticky_log.fault ≡ false → ((s : State) → s.fault ≡ false → AreKnown s.pages table → StepOver g cache s call (answered answer) (unchanged s)) → Steps g cache call (answered answer) cache
+  still : (answer : Swapped R) → sticky_log.fault ≡ false → ((s : State) → s.fault ≡ false → AreKnown s.pages table → StepOver g cache s call (answered answer) (no_change s)) → Steps g cache call (answered answer) cache
   still answer ready step =
       nothing-appended g next config recovered lru sticky_log table ready (beside ready) sticky_log call table refl (answered answer)
       (Went-none g sticky_log (beside ready).usable only) ready (λ held s is clear are. step s clear are)
@@ -69,9 +69,9 @@ module _ {L : Type 0} (g : Ghosts L) (next : ℕ) (config : Config) (recovered :
       by : (fault : Bool) → sticky_log.fault ≡ fault → MatchBool fault (refusal ≡ refusals.Io Write) ((is_reserved pid ≡ true) × (refusal ≡ refusals.Unsupported ReservedId))
           → Unswapped g cache pid old rejected call answered (Err (error_by refusal))
       by true kept is = rw is (record {
-        step = steps-stuck g cache call (answered (Err (Io Write))) kept (λ s stuck. swap.step s (Err (Io Write)) (unchanged s) (stuck-passes s old.pid (tests_then s) stuck));
+        step = steps-stuck g cache call (answered (Err (Io Write))) kept (λ s stuck. swap.step s (Err (Io Write)) (no_change s) (stuck-passes s old.pid (tests_then s) stuck));
         blame = record { read = λ is. absurd cc; write = λ is clear. absurd (false≢true (sym clear ∙ kept)) };
-        keeps = keeps-stuck cache cache (swapped (stamps_in table)) kept refl;
+        keeps = keeps-stuck cache cache (stamps_after_swap (stamps_in table)) kept refl;
         token = tt;
         unmade = tt;
         leaves = leaves-same cache g.tells pid (Io Write);
@@ -79,9 +79,9 @@ module _ {L : Type 0} (g : Ghosts L) (next : ℕ) (config : Config) (recovered :
       })
       by false ready (own, is) = rw is (record {
         step = still (Err (Unsupported ReservedId)) ready
-            (λ s clear are. swap.step s (Err (Unsupported ReservedId)) (unchanged s) (reserved-passes s old.pid (tests_then s) clear (ap is_reserved same ∙ own)));
+            (λ s clear are. swap.step s (Err (Unsupported ReservedId)) (no_change s) (reserved-passes s old.pid (tests_then s) clear (ap is_reserved same ∙ own)));
         blame = record { read = λ is. absurd cc; write = λ is. absurd cc };
-        keeps = keeps-err cache cache (swapped (stamps_in table)) (Unit {0}) (refusals.Unsupported ReservedId) ready ready refl refl;
+        keeps = keeps-err cache cache (stamps_after_swap (stamps_in table)) (Unit {0}) (refusals.Unsupported ReservedId) ready ready refl refl;
         token = tt;
         unmade = tt;
         leaves = leaves-same cache g.tells pid (Unsupported ReservedId);
@@ -90,16 +90,16 @@ module _ {L : Type 0} (g : Ghosts L) (next : ℕ) (config : Config) (recovered :
 
   -- the token is handed back, or nothing is
   hands : (back : Option (Token × R)) → is_reserved pid ≡ false → sticky_log.fault ≡ false → IsAnswered (stamps_in table) old rejected (Err back)
-      → (let answer : Swapped R = Ok (Err back) in ((s : State) → AreKnown s.pages table → SwapsPage s old rejected (page_at s pid) answer (unchanged s) (goes_on s answer (unchanged s))) → Unswapped g cache pid old rejected call answered answer)
+      → (let answer : Swapped R = Ok (Err back) in ((s : State) → AreKnown s.pages table → SwapsPage s old rejected (page_at s pid) answer (no_change s) (goes_on s answer (no_change s))) → Unswapped g cache pid old rejected call answered answer)
   hands back free ready token is =
       let answer : Swapped R = Ok (Err back) in
       record {
         step = still answer ready
-            (λ s clear are. swap.step s answer (unchanged s)
-            (passes s old.pid (tests_then s) answer (unchanged s) clear (ap is_reserved same ∙ free)
-            (subst (λ (n : ℕ). SwapsPage s old rejected (page_at s n) answer (unchanged s) (goes_on s answer (unchanged s))) (sym same) (is s are))));
+            (λ s clear are. swap.step s answer (no_change s)
+            (passes s old.pid (tests_then s) answer (no_change s) clear (ap is_reserved same ∙ free)
+            (subst (λ (n : ℕ). SwapsPage s old rejected (page_at s n) answer (no_change s) (goes_on s answer (no_change s))) (sym same) (is s are))));
         blame = record { read = λ is. absurd cc; write = λ is. absurd cc };
-        keeps = keeps-ok cache cache (swapped (stamps_in table)) (Err back) ready ready refl refl;
+        keeps = keeps-ok cache cache (stamps_after_swap (stamps_in table)) (Err back) ready ready refl refl;
         token = token;
         unmade = tt;
         leaves = tt;
@@ -110,7 +110,7 @@ module _ {L : Type 0} (g : Ghosts L) (next : ℕ) (config : Config) (recovered :
   gone (ready, free, judged) = hands None free ready tt (λ s are. by s are (slice_get table pid) refl judged)
     where
       by : (s : State) → AreKnown s.pages table → (o : Option Page) → slice_get table pid ≡ o → IsRejected o pid old Gone
-          → SwapsPage s old rejected (page_at s pid) (Ok (Err None)) (unchanged s) (goes_on s (Ok (Err None)) (unchanged s))
+          → SwapsPage s old rejected (page_at s pid) (Ok (Err None)) (no_change s) (goes_on s (Ok (Err None)) (no_change s))
       by s are None at judged = rw (found-none s.pages table pid are at) (refl, refl)
       by s are (Some q) at judged = let found = found-known s.pages table pid q are at in rw (found.is, found.known.free, judged) (refl, refl)
 
@@ -143,7 +143,7 @@ module _ {L : Type 0} (next : ℕ) (config : Config) (recovered : Bool) (lru : R
 
   -- and has risen
   pub keeps-fresh : (R : Type 0) (after : StickyLog L) (page : Page) → after.fault ≡ false → after.batch ≡ sticky_log.batch → page.stamp ≡ q.stamp + 1 → (made : Token) → made ≡ token pid (old.stamp + 1)
-      → (let answer : Swapped R = Ok (Ok made) in Keeps (view next config recovered lru sticky_log table) (view next config recovered lru after (slice_set table pid page)) answer (swapped (stamps_in table)))
+      → (let answer : Swapped R = Ok (Ok made) in Keeps (view next config recovered lru sticky_log table) (view next config recovered lru after (slice_set table pid page)) answer (stamps_after_swap (stamps_in table)))
   keeps-fresh R after page free batch raised made is =
-      keeps-ok (view next config recovered lru sticky_log table) (view next config recovered lru after (slice_set table pid page)) (swapped {R = R} (stamps_in table)) (Ok made) fresh.clear free
+      keeps-ok (view next config recovered lru sticky_log table) (view next config recovered lru after (slice_set table pid page)) (stamps_after_swap {R = R} (stamps_in table)) (Ok made) fresh.clear free
       (rw is (map-set (λ (p : Page). p.stamp) table pid page ∙ ap (λ n. slice_set (stamps_in table) pid n) (raised ∙ ap (λ n. n + 1) fresh.stamp))) batch

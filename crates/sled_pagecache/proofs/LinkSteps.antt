@@ -1,5 +1,5 @@
 -- A link as a step of the machine.
-use Rattle.sled_pagecache.proofs.Names.{Recency, ◌≡◌, ◌≢◌, ◌≤◌, ◌<◌, ◌+◌, ◌-◌, ◌^◌, inl, inr, ℕ, Bool, true, false, cond, ltb, List, [], ◌∷◌, ◌++◌, length, Option, Some, Result, Ok, Err, slice_get, slice_set, slice_index_or, refl, sym, ◌∙◌, ap, subst, arith, eq-eqb, get_or-map, ne_eqb, ltb-true, length-map, map-set, same_Some, slice_get_within, get_or_from_slice_get, error_of, LinkRefused, Write, Error, Refusal, ReportableBug, Io, Corruption, OutOfMemory, StampUsedUp, LogFull, chains_from, Content, Free, Node, Update, Put, Link, after_link, contents_from, Event, Change, Entry, Chain, Messages, unplaced, effect_of, effect_of_entry, holds-made, one_content, Makes, Hold, MayChange, now-unplaced, message_of, Ghosts, Accepts, applied, WholeNode, Cache, chain_length, IsIn, HasNoRoom, StepOver, Steps, link_update, chain_at, IsCaused, is_write_fault, RefusesUnappended, RefusesPull, update_by, AppendsLink, TakesLink, RefusesAppended, Logged, HoldsChain, is_free, IsProper, page, State, page_at, with_page, Outcome, outcome, unchanged, is_reserved, Does, Links, LinksNode, LinksContent, stamps_in, IsConsistent, Token, token, Linked, Config, StickyLog, NodeLink, StampedPage, is_free_content, KeptPage, map-at, behind-own, holds_now}
+use Rattle.sled_pagecache.proofs.Names.{Recency, ◌≡◌, ◌≢◌, ◌≤◌, ◌<◌, ◌+◌, ◌-◌, ◌^◌, inl, inr, ℕ, Bool, true, false, cond, ltb, List, [], ◌∷◌, ◌++◌, length, Option, Some, Result, Ok, Err, slice_get, slice_set, slice_index_or, refl, sym, ◌∙◌, ap, subst, arith, eq-eqb, get_or-map, ne_eqb, ltb-true, length-map, map-set, same_Some, slice_get_within, get_or_from_slice_get, error_of, LinkRefused, Write, Error, Refusal, ReportableBug, Io, Corruption, OutOfMemory, StampUsedUp, LogFull, chains_from, Content, Free, Node, Update, Put, Link, after_link, contents_from, Event, Change, Entry, Chain, Messages, messages_of, effect_of, effect_of_entry, holds-made, one_content, Makes, Hold, MayChange, now-unplaced, message_of, Ghosts, Accepts, applied, WholeNode, Cache, chain_length, Represents, HasNoRoom, StepOver, Steps, link_update, chain_at, IsCaused, is_write_fault, RefusesUnappended, RefusesPull, update_by, AppendsLink, TakesLink, RefusesAppended, Logged, HoldsChain, is_free, IsProper, page, State, page_at, with_page, Outcome, outcome, no_change, is_reserved, Does, Links, LinksNode, LinksContent, stamps_in, IsConsistent, Token, token, Linked, Config, StickyLog, NodeLink, StampedPage, is_free_content, KeptPage, map-at, behind-own, holds_now}
 use Rattle.sled_base.specs.declared.types.Error.TheVariants as error
 use Rattle.sled_base.specs.declared.types.Refusal.TheVariants.{Unsupported}
 use Rattle.sled_log.specs.LogState as log
@@ -12,7 +12,7 @@ use Rattle.sled_pagecache.proofs.Putting.{unless-clear}
 use Rattle.sled_pagecache.proofs.ProperPages.{link-proper, put-proper}
 use Rattle.sled_pagecache.proofs.TableNodes.{view}
 use Rattle.sled_pagecache.proofs.Standing.{kept-free}
-use Rattle.sled_pagecache.specs.LinkedPages as linked
+use Rattle.sled_pagecache.specs.Inside.LinkWrites as linked
 use Rattle.sled_pagecache.specs.Logged.{now}
 use Rattle.sled_pagecache.specs.declared.pagecache.call.Call.TheVariants as call
 
@@ -92,7 +92,7 @@ module _ {L : Type 0} (g : Ghosts L) where
         held_chain known = (page-kept-at g before before pages free pid q q c ready behind at known).holds
 
         module _ (not : is_free q.kept ≡ false) where
-          module _ (held : Logged) (s : State) (is : IsIn g old held s) (clear : s.fault ≡ false) where
+          module _ (held : Logged) (s : State) (is : Represents g old held s) (clear : s.fault ≡ false) where
             -- the page of the state
             stands : FullStands s pid chain
             stands = full-stands g old held s is clear pid (behind-own pid behind) (kept-free chain q.kept (held_chain is.tells) ∙ not)
@@ -107,7 +107,7 @@ module _ {L : Type 0} (g : Ghosts L) where
             abbrev new : Cache L
             new = view next config recovered lru after (slice_set pages pid page_then)
 
-            module _ (held : Logged) (s : State) (is : IsIn g old held s) (clear : s.fault ≡ false) (node : WholeNode) (made : Makes (unplaced chain) (Node node)) where
+            module _ (held : Logged) (s : State) (is : Represents g old held s) (clear : s.fault ≡ false) (node : WholeNode) (made : Makes (messages_of chain) (Node node)) where
               abbrev update : Update
               update = update_by q link node
 
@@ -120,7 +120,7 @@ module _ {L : Type 0} (g : Ghosts L) where
               there : page_at s pid ≡ Some (page (stands held s is clear).stamp (Node node))
               there =
                   (stands held s is clear).there
-                  ∙ ap (λ (content : Content). Some (page (stands held s is clear).stamp content)) (holds-made (unplaced chain) (stands held s is clear).content (Node node) (stands held s is clear).holds made)
+                  ∙ ap (λ (content : Content). Some (page (stands held s is clear).stamp content)) (holds-made (messages_of chain) (stands held s is clear).content (Node node) (stands held s is clear).holds made)
 
               content-there : slice_get (now held) pid ≡ Some (Node node)
               content-there =
@@ -135,7 +135,7 @@ module _ {L : Type 0} (g : Ghosts L) where
               count : length (slice_index_or pages_now pid []) ≡ length q.infos.items
               count =
                   ap (λ (l : List Messages). length (slice_index_or l pid [])) (sym (now-unplaced (g.state before.log)))
-                  ∙ ap length (get_or-map unplaced (log.now effect_of_entry (g.state before.log)) pid []) ∙ length-map chain (λ (e : Entry). e.message)
+                  ∙ ap length (get_or-map messages_of (log.now effect_of_entry (g.state before.log)) pid []) ∙ length-map chain (λ (e : Entry). e.message)
                   ∙ places-length chain q (page-kept-at g before before pages free pid q q c ready behind at is.tells)
 
               module _ (accepts : Accepts node link) where
@@ -160,7 +160,7 @@ module _ {L : Type 0} (g : Ghosts L) where
 
             -- ---- nothing was told
 
-            module _ (stamp : page_then.stamp ≡ q.stamp) (held : Logged) (s : State) (is : IsIn g old held s) (clear : s.fault ≡ false) where
+            module _ (stamp : page_then.stamp ≡ q.stamp) (held : Logged) (s : State) (is : Represents g old held s) (clear : s.fault ≡ false) where
               stamps : new.stamps ≡ old.stamps
               stamps = stamps-same g next config recovered lru before after pages free pid q page_then c ready behind at stamp
 
@@ -175,10 +175,10 @@ module _ {L : Type 0} (g : Ghosts L) where
                   (unread-content s pid chain found (λ content. LinksContent lengths no_room s t link (Err e) out content) (Result Token (Option (Token × NodeLink))) refusal why (λ node h. inl h) (λ h. h)))
                   stamps fault
 
-              module _ (node : WholeNode) (made : Makes (unplaced chain) (Node node)) (e : Error) where
+              module _ (node : WholeNode) (made : Makes (messages_of chain) (Node node)) (e : Error) where
                 -- the node was read
-                still : LinksNode lengths no_room s t link node (Err e) (unchanged s) → after.fault ≡ false → LeadsTo g old new held s (call.Link t link) (Linked (Err e)) []
-                still h fault = leads-same g old new held s is clear (call.Link t link) (Linked (Err e)) refl (node-step held s is clear node made (Err e) (unchanged s) h) stamps fault
+                still : LinksNode lengths no_room s t link node (Err e) (no_change s) → after.fault ≡ false → LeadsTo g old new held s (call.Link t link) (Linked (Err e)) []
+                still h fault = leads-same g old new held s is clear (call.Link t link) (Linked (Err e)) refl (node-step held s is clear node made (Err e) (no_change s) h) stamps fault
 
               unappended : (refusal : Refusal) → RefusesUnappended chain q.stamp link refusal
                   → (let err : Result (Unit {0}) Refusal = Err refusal in after.fault ≡ is_write_fault err)
@@ -192,17 +192,17 @@ module _ {L : Type 0} (g : Ghosts L) where
                   still node made (error.Unsupported StampUsedUp) (inr (inr (accepts, rw (eq-eqb t.stamp (2 ^ 64 - 1) (sym is_fresh ∙ most)) (refl, refl)))) fault
               unappended (Unsupported LogFull) (node, made, accepts, below) fault full =
                   let had = full refl in
-                  let one : had.node ≡ node = (let e : Node had.node ≡ Node node = one_content (unplaced chain) (Node had.node) (Node node) (had.made is.tells) made in cc) in
+                  let one : had.node ≡ node = (let e : Node had.node ≡ Node node = one_content (messages_of chain) (Node had.node) (Node node) (had.made is.tells) made in cc) in
                   leads-same g old new held s is clear (call.Link t link) (Linked (Err (error.Unsupported LogFull))) refl
-                  (accepted-step held s is clear node made accepts below (Err (error.Unsupported LogFull)) (unchanged s)
+                  (accepted-step held s is clear node made accepts below (Err (error.Unsupported LogFull)) (no_change s)
                   (subst (λ (n : WholeNode). g.is_full before.log (length (message_of (update_by q link n)).payload)) one had.full, refl))
                   stamps fault
               unappended refusal why fault full = absurd why
 
             -- ---- an update was told
 
-            module _ (held : Logged) (s : State) (is : IsIn g old held s) (clear : s.fault ≡ false) (tells : AppendsLink g before pid q link after) where
-              made : Makes (unplaced chain) (Node tells.node)
+            module _ (held : Logged) (s : State) (is : Represents g old held s) (clear : s.fault ≡ false) (tells : AppendsLink g before pid q link after) where
+              made : Makes (messages_of chain) (Node tells.node)
               made = tells.made is.tells
 
               failed : page_then.stamp ≡ q.stamp → after.fault ≡ true

@@ -1,5 +1,5 @@
 -- A link that is tested, and one of a damaged page.
-use Rattle.sled_pagecache.proofs.Names.{Recency, ◌≡◌, inl, inr, ℕ, Bool, true, false, List, Option, Some, None, Err, slice_get, slice_set, refl, sym, ◌∙◌, ap, subst, false≢true, option_map, slice_get-map, none-some, same_Some, MatchBool, error_of, LinkRefused, Write, Refusal, ReportableBug, Io, Corruption, OutOfMemory, ReservedId, StampUsedUp, LogFull, is_empty, Node, Chain, unplaced, effect_of_entry, Makes, one_content, Ghosts, Accepts, WholeNode, Cache, IsIn, IsResident, chain_at, ReportsWrong, MeetsDamage, ReportsDamage, Judges, IsFresh, IsRejected, IsTested, TestsFirst, RefusesUnappended, TakesLink, RefusesAppended, Logged, HoldsChain, is_resident, is_free, State, page, page_at, Swapped, is_reserved, RefusesLink, stamps_in, resident_in, IsFreeOrNode, IsConsistent, Token, Config, StickyLog, Rejection, Refused, Stale, Gone, Kept, NodeLink, StampedPage, KeptPage, map-at, kept-at, own-at, behind-own}
+use Rattle.sled_pagecache.proofs.Names.{Recency, ◌≡◌, inl, inr, ℕ, Bool, true, false, List, Option, Some, None, Err, slice_get, slice_set, refl, sym, ◌∙◌, ap, subst, false≢true, option_map, slice_get-map, none-some, same_Some, MatchBool, error_of, LinkRefused, Write, Refusal, ReportableBug, Io, Corruption, OutOfMemory, ReservedId, StampUsedUp, LogFull, is_empty, Node, Chain, messages_of, effect_of_entry, Makes, one_content, Ghosts, Accepts, WholeNode, Cache, Represents, IsResident, chain_at, ReportsWrong, MeetsDamage, ReportsDamage, Judges, IsFresh, IsRejected, IsTested, TestsFirst, RefusesUnappended, TakesLink, RefusesAppended, Logged, HoldsChain, is_resident, is_free, State, page, page_at, Swapped, is_reserved, RefusesLink, stamps_in, resident_in, IsFreeOrNode, IsConsistent, Token, Config, StickyLog, Rejection, Refused, Stale, Gone, Kept, NodeLink, StampedPage, KeptPage, map-at, kept-at, own-at, behind-own}
 use Rattle.sled_base.specs.declared.types.Refusal.TheVariants.{Unsupported}
 use Rattle.sled_log.specs.LogState as log
 use Rattle.sled_pagecache.proofs.Held.{state-page}
@@ -42,12 +42,12 @@ module _ {L : Type 0} (g : Ghosts L) (next : ℕ) (config : Config) (recovered :
 
   -- ---- a state that the cache is in
 
-  module _ (same : t.pid ≡ pid) (held : Logged) (s : State) (node : WholeNode) (is : IsIn g old held s) (clear : s.fault ≡ false) (own : is_reserved t.pid ≡ false)
+  module _ (same : t.pid ≡ pid) (held : Logged) (s : State) (node : WholeNode) (is : Represents g old held s) (clear : s.fault ≡ false) (own : is_reserved t.pid ≡ false)
       (there : page_at s t.pid ≡ Some (page t.stamp (Node node))) where
     found : page_at s pid ≡ Some (page t.stamp (Node node))
     found = ap (page_at s) (sym same) ∙ there
 
-    makes : Makes (unplaced chain) (Node node)
+    makes : Makes (messages_of chain) (Node node)
     makes = state-page g old held s is clear pid (page t.stamp (Node node)) found
 
     tests-judged : (rejection : Rejection) → Judges before.fault pages pid t (Err rejection) → ⊥
@@ -65,9 +65,9 @@ module _ {L : Type 0} (g : Ghosts L) (next : ℕ) (config : Config) (recovered :
     kept-holds : g.tells → HoldsChain chain q.kept
     kept-holds known = (kept-at (log.now effect_of_entry (g.state before.log)) pages pid q ((c.beside fresh.clear).kept known) fresh.at).holds
 
-    module _ (node : WholeNode) (made : Makes (unplaced chain) (Node node)) where
-      same-node : (other : WholeNode) → Makes (unplaced chain) (Node other) → other ≡ node
-      same-node other makes = (let e : Node other ≡ Node node = one_content (unplaced chain) (Node other) (Node node) makes made in cc)
+    module _ (node : WholeNode) (made : Makes (messages_of chain) (Node node)) where
+      same-node : (other : WholeNode) → Makes (messages_of chain) (Node other) → other ≡ node
+      same-node other makes = (let e : Node other ≡ Node node = one_content (messages_of chain) (Node other) (Node node) makes made in cc)
 
       refused-by : (k : Kept) → HoldsChain chain k → IsFreeOrNode k → is_free k ≡ false → is_resident k ≡ true → (refusal : Refusal) → RefusesLink q.stamp k link refusal → IsTested node link t.stamp (Err (error_of refusal))
       refused-by kept.Free holds own full resident refusal why = absurd (false≢true (sym full))

@@ -1,5 +1,5 @@
 -- What a link makes of the chain of its page.
-use Rattle.sled_pagecache.proofs.Names.{Ghosts, ◌≡◌, ◌+◌, ◌<◌, ℤ, ℕ, Bool, true, false, cond, ltb, List, [], ◌∷◌, ◌++◌, length, map, refl, sym, ◌∙◌, ap, subst, slice_set, slice_index_or, length-map, length-append, map-append, ◌⊎◌, Result, Err, LinkRefused, Read, Write, DiskPtr, Refusal, ReportableBug, Io, is_empty, chains_from, Node, Update, Put, Link, Event, Change, Message, Entry, Chain, Messages, unplaced, placed, effect_of_entry, said_of, IsUpdate, Makes, message_of, Accepts, applied, WholeNode, place_of, Went, IsCaused, begun_by, IsCaused-handed_on, HoldsChain, IsKept, is_free, RefusesSwap, RefusesLink, link_update, infos_after, linked_length, update_of, CacheInfo, StickyLog, Kept, Page, NodeLink}
+use Rattle.sled_pagecache.proofs.Names.{Ghosts, ◌≡◌, ◌+◌, ◌<◌, ℤ, ℕ, Bool, true, false, cond, ltb, List, [], ◌∷◌, ◌++◌, length, map, refl, sym, ◌∙◌, ap, subst, slice_set, slice_index_or, length-map, length-append, map-append, ◌⊎◌, Result, Err, LinkRefused, Read, Write, DiskPtr, Refusal, ReportableBug, Io, is_empty, chains_from, Node, Update, Put, Link, Event, Change, Message, Entry, Chain, Messages, messages_of, placed_entry, effect_of_entry, said_of, IsUpdate, Makes, message_of, Accepts, applied, WholeNode, place_of, Went, IsCaused, begun_by, IsCaused-handed_on, HoldsChain, IsKept, is_free, RefusesSwap, RefusesLink, link_update, infos_after, linked_length, update_of, CacheInfo, StickyLog, Kept, Page, NodeLink}
 use Rattle.sled_pagecache.specs.declared.pagecache.page.Kept.TheVariants as kept
 use Rattle.sled_pagecache.proofs.FoundMessages.{makes-more}
 use Rattle.sled_pagecache.proofs.Swaps.{at-page, other-pages, put-chains}
@@ -10,19 +10,19 @@ use Rattle.sled_pagecache.proofs.Standing.{node-full, kept-free}
 -- the chain after a link
 abbrev pub chain_after : ℕ → Chain → NodeLink → WholeNode → CacheInfo → Chain
 chain_after messages chain link after info =
-    cond (ltb messages 10) (chain ++ placed (message_of (Link link)) (place_of info) ∷ []) (placed (message_of (Put (Node after))) (place_of info) ∷ [])
+    cond (ltb messages 10) (chain ++ placed_entry (message_of (Link link)) (place_of info) ∷ []) (placed_entry (message_of (Put (Node after))) (place_of info) ∷ [])
 
 pub written-chains : (chains : List Chain) (pid : ℕ) → pid < length chains → (messages : ℕ) (link : NodeLink) (after : WholeNode) (info : CacheInfo)
     → is_empty effect_of_entry (slice_index_or chains pid []) ≡ false
-    → chains_from effect_of_entry chains (Change pid (placed (message_of (link_update messages link after)) (place_of info)))
+    → chains_from effect_of_entry chains (Change pid (placed_entry (message_of (link_update messages link after)) (place_of info)))
     ≡ slice_set chains pid (chain_after messages (slice_index_or chains pid []) link after info)
 written-chains chains pid there messages link after info full = by (ltb messages 10)
   where
     by : (b : Bool)
-        → chains_from effect_of_entry chains (Change pid (placed (message_of (cond b (Link link) (Put (Node after)))) (place_of info)))
+        → chains_from effect_of_entry chains (Change pid (placed_entry (message_of (cond b (Link link) (Put (Node after)))) (place_of info)))
         ≡ slice_set chains pid
-        (cond b (slice_index_or chains pid [] ++ placed (message_of (Link link)) (place_of info) ∷ []) (placed (message_of (Put (Node after))) (place_of info) ∷ []))
-    by true = ap (λ b. slice_set chains pid (cond b (slice_index_or chains pid []) (slice_index_or chains pid [] ++ placed (message_of (Link link)) (place_of info) ∷ []))) full
+        (cond b (slice_index_or chains pid [] ++ placed_entry (message_of (Link link)) (place_of info) ∷ []) (placed_entry (message_of (Put (Node after))) (place_of info) ∷ []))
+    by true = ap (λ b. slice_set chains pid (cond b (slice_index_or chains pid []) (slice_index_or chains pid [] ++ placed_entry (message_of (Link link)) (place_of info) ∷ []))) full
     by false = put-chains chains pid there (kept.Node after) tt info
 
 pub places-after : (chain : Chain) (infos : List CacheInfo) (link : NodeLink) (after : WholeNode) (info : CacheInfo)
@@ -30,25 +30,25 @@ pub places-after : (chain : Chain) (infos : List CacheInfo) (link : NodeLink) (a
 places-after chain infos link after info known = by (ltb (length infos) 10)
   where
     by : (b : Bool)
-        → map said_of (cond b (chain ++ placed (message_of (Link link)) (place_of info) ∷ []) (placed (message_of (Put (Node after))) (place_of info) ∷ []))
+        → map said_of (cond b (chain ++ placed_entry (message_of (Link link)) (place_of info) ∷ []) (placed_entry (message_of (Put (Node after))) (place_of info) ∷ []))
         ≡ map place_of (cond b (infos ++ info ∷ []) (info ∷ []))
     by true =
-        map-append said_of chain (placed (message_of (Link link)) (place_of info) ∷ [])
+        map-append said_of chain (placed_entry (message_of (Link link)) (place_of info) ∷ [])
         ∙ ap (λ (places : List (ℤ × DiskPtr × ℕ)). places ++ place_of info ∷ []) known
         ∙ sym (map-append place_of infos (info ∷ []))
     by false = refl
 
 pub makes-after : (messages : ℕ) (chain : Chain) (link : NodeLink) (before made : WholeNode) (info : CacheInfo)
-    → Makes (unplaced chain) (Node before) → Accepts before link → made ≡ applied link before
-    → IsUpdate (message_of (link_update messages link made)) (link_update messages link made) → Makes (unplaced (chain_after messages chain link made info)) (Node made)
+    → Makes (messages_of chain) (Node before) → Accepts before link → made ≡ applied link before
+    → IsUpdate (message_of (link_update messages link made)) (link_update messages link made) → Makes (messages_of (chain_after messages chain link made info)) (Node made)
 makes-after messages chain link before made info makes accepts applies reads = by (ltb messages 10) reads
   where
     by : (b : Bool)
         → IsUpdate (message_of (cond b (Link link) (Put (Node made)))) (cond b (Link link) (Put (Node made)))
-        → Makes (unplaced (cond b (chain ++ placed (message_of (Link link)) (place_of info) ∷ []) (placed (message_of (Put (Node made))) (place_of info) ∷ []))) (Node made)
+        → Makes (messages_of (cond b (chain ++ placed_entry (message_of (Link link)) (place_of info) ∷ []) (placed_entry (message_of (Put (Node made))) (place_of info) ∷ []))) (Node made)
     by true reads =
-        subst (λ (messages : Messages). Makes messages (Node made)) (sym (map-append (λ (entry : Entry). entry.message) chain (placed (message_of (Link link)) (place_of info) ∷ [])))
-        (makes-more (unplaced chain) before (message_of (Link link)) made makes (link, reads, accepts, applies))
+        subst (λ (messages : Messages). Makes messages (Node made)) (sym (map-append (λ (entry : Entry). entry.message) chain (placed_entry (message_of (Link link)) (place_of info) ∷ [])))
+        (makes-more (messages_of chain) before (message_of (Link link)) made makes (link, reads, accepts, applies))
     by false reads = (Node made, reads, refl)
 
 -- what a link wrote, in the words of the page before it
@@ -114,7 +114,7 @@ kept-still old new pid page same is = subst (λ (chains : List Chain). IsKept (s
 module _ (chains : List Chain) (pid : ℕ) (there : pid < length chains) (page : Page) (is : IsKept (slice_index_or chains pid []) page)
     (link : NodeLink) (before made : WholeNode) (holds : page.kept ≡ kept.Node before) (accepts : Accepts before link) (applies : made ≡ applied link before)
     (messages : ℕ) (count : messages ≡ length page.infos.items) where
-  makes : Makes (unplaced (slice_index_or chains pid [])) (Node before)
+  makes : Makes (messages_of (slice_index_or chains pid [])) (Node before)
   makes = subst (HoldsChain (slice_index_or chains pid [])) holds is.holds
 
   pub page-full : is_empty effect_of_entry (slice_index_or chains pid []) ≡ false
@@ -124,12 +124,12 @@ module _ (chains : List Chain) (pid : ℕ) (there : pid < length chains) (page :
   written : link_update messages link made ≡ link_update (length page.infos.items) link made
   written = ap (λ n. link_update n link made) count
 
-  module _ (after : List Chain) (info : CacheInfo) (came : after ≡ chains_from effect_of_entry chains (Change pid (placed (message_of (link_update messages link made)) (place_of info)))) where
+  module _ (after : List Chain) (info : CacheInfo) (came : after ≡ chains_from effect_of_entry chains (Change pid (placed_entry (message_of (link_update messages link made)) (place_of info)))) where
     abbrev chain : Chain
     chain = chain_after (length page.infos.items) (slice_index_or chains pid []) link made info
 
     set-so : after ≡ slice_set chains pid chain
-    set-so = came ∙ ap (λ (u : Update). chains_from effect_of_entry chains (Change pid (placed (message_of u) (place_of info)))) written ∙ written-chains chains pid there (length page.infos.items) link made info page-full
+    set-so = came ∙ ap (λ (u : Update). chains_from effect_of_entry chains (Change pid (placed_entry (message_of u) (place_of info)))) written ∙ written-chains chains pid there (length page.infos.items) link made info page-full
 
     pub page-others : after ≡ slice_set chains pid (slice_index_or after pid [])
     page-others = other-pages chains pid there after chain set-so
@@ -143,6 +143,6 @@ module _ (chains : List Chain) (pid : ℕ) (there : pid < length chains) (page :
           places = λ _. places;
           long = sym (length-map (slice_index_or after pid []) said_of) ∙ ap length places ∙ length-map new.infos.items place_of;
           holds = subst (HoldsChain (slice_index_or after pid [])) (sym held)
-              (subst (λ (c : Chain). Makes (unplaced c) (Node made)) (sym same)
+              (subst (λ (c : Chain). Makes (messages_of c) (Node made)) (sym same)
               (makes-after (length page.infos.items) (slice_index_or chains pid []) link before made info makes accepts applies (subst (λ (u : Update). IsUpdate (message_of u) u) written reads)));
         }

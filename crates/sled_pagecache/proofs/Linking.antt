@@ -1,5 +1,5 @@
 -- A link of a page that is read first: what the two calls of the log make together.
-use Rattle.sled_pagecache.proofs.Names.{◌≡◌, ◌≢◌, ◌≤◌, ◌-◌, ◌^◌, inl, inr, ℕ, Bool, true, false, List, [], ◌∷◌, length, Result, Ok, Err, slice_set, refl, sym, ◌∙◌, ap, subst, arith, false≢true, AllByRecursion, IfErr, OnOk, OnErr, IsErrOf, Read, Write, Refusal, Io, OutOfMemory, LogFull, Event, Change, Message, Chain, unplaced, effect_of_entry, IsSized, IsUpdate, Makes, now, message_of, Ghosts, Accepts, applied, WholeNode, chain_at, more, Went, IsCaused, IsOfLog, begun_by, Went-then, IsCaused-since, AppendsLink, TakesLink, RefusesAppended, HadNoRoom, WasBegun, HoldsChain, IsKept, is_free, is_resident, IsRaised, IsLinked, RefusesLink, update_of, link_update, linked_length, IsFreeOrNode, StickyLog, Kept, Page, NodeLink}
+use Rattle.sled_pagecache.proofs.Names.{◌≡◌, ◌≢◌, ◌≤◌, ◌-◌, ◌^◌, inl, inr, ℕ, Bool, true, false, List, [], ◌∷◌, length, Result, Ok, Err, slice_set, refl, sym, ◌∙◌, ap, subst, arith, false≢true, AllByRecursion, IfErr, OnOk, OnErr, IsErrOf, Read, Write, Refusal, Io, OutOfMemory, LogFull, Event, Change, Message, Chain, messages_of, effect_of_entry, IsSized, IsUpdate, Makes, now, message_of, Ghosts, Accepts, applied, WholeNode, chain_at, count_after, Went, IsCaused, IsOfLog, begun_by, Went-then, IsCaused-since, AppendsLink, TakesLink, RefusesAppended, HadNoRoom, WasBegun, HoldsChain, IsKept, is_free, is_resident, IsRaised, IsLinked, RefusesLink, update_of, link_update, linked_length, IsFreeOrNode, StickyLog, Kept, Page, NodeLink}
 use Rattle.sled_base.specs.declared.types.Refusal.TheVariants.{Unsupported}
 use Rattle.sled_log.specs.Contents as content
 use Rattle.sled_pagecache.proofs.Tables.{marks-begun}
@@ -21,7 +21,7 @@ module _ {L : Type 0} (g : Ghosts L) (old mid new : StickyLog L) (pid : ℕ) (q 
   joined : (more : List (Event Message)) → Went g mid new more → Went g old new more
   joined more second = Went-then g old mid new [] more went clear second
 
-  tells : (node : WholeNode) → (g.tells → Makes (unplaced chain) (content.Node node)) → Accepts node link → q.stamp ≢ 2 ^ 64 - 1 → IsUpdate (message_of (update (kept.Node node))) (update (kept.Node node))
+  tells : (node : WholeNode) → (g.tells → Makes (messages_of chain) (content.Node node)) → Accepts node link → q.stamp ≢ 2 ^ 64 - 1 → IsUpdate (message_of (update (kept.Node node))) (update (kept.Node node))
       → Went g mid new (events (kept.Node node)) → AppendsLink g old pid q link new
   tells node made accepts below reads second =
       let n : length page.infos.items ≡ length q.infos.items = ap length infos in
@@ -61,7 +61,7 @@ module _ {L : Type 0} (g : Ghosts L) (old mid new : StickyLog L) (pid : ℕ) (q 
 
   -- ---- refused
 
-  of-log : (node : WholeNode) (refusal : Refusal) → Makes (unplaced chain) (content.Node node) → Accepts node link → q.stamp ≢ 2 ^ 64 - 1 → IsOfLog refusal
+  of-log : (node : WholeNode) (refusal : Refusal) → Makes (messages_of chain) (content.Node node) → Accepts node link → q.stamp ≢ 2 ^ 64 - 1 → IsOfLog refusal
       → (let err : Result (Unit {0}) Refusal = Err refusal in Went g mid new (begun_by err (events (kept.Node node))))
       → (refusal ≡ Io Write → IsUpdate (message_of (update (kept.Node node))) (update (kept.Node node)))
       → RefusesAppended g old pid q link new refusal
@@ -125,12 +125,12 @@ module _ {L : Type 0} (g : Ghosts L) (old mid new : StickyLog L) (pid : ℕ) (q 
   -- ---- how often the log was read
 
   pub read-at_most : (result : Result (Unit {0}) Refusal) → (is_resident q.kept ≡ true → mid ≡ old)
-      → (is_resident q.kept ≡ false → (g.counts mid.log).reads ≡ more (length q.infos.items) (g.counts old.log).reads)
+      → (is_resident q.kept ≡ false → (g.counts mid.log).reads ≡ count_after (length q.infos.items) (g.counts old.log).reads)
       → (g.counts new.log).reads ≡ (g.counts mid.log).reads
-      → OnErr result ((times : ℕ) × (times ≤ length q.infos.items) × ((g.counts new.log).reads ≡ more times (g.counts old.log).reads))
+      → OnErr result ((times : ℕ) × (times ≤ length q.infos.items) × ((g.counts new.log).reads ≡ count_after times (g.counts old.log).reads))
   read-at_most (Ok done) unread whole quiet = tt
   read-at_most (Err refusal) unread whole quiet = by (is_resident q.kept) refl
     where
-      by : (b : Bool) → is_resident q.kept ≡ b → (times : ℕ) × (times ≤ length q.infos.items) × ((g.counts new.log).reads ≡ more times (g.counts old.log).reads)
+      by : (b : Bool) → is_resident q.kept ≡ b → (times : ℕ) × (times ≤ length q.infos.items) × ((g.counts new.log).reads ≡ count_after times (g.counts old.log).reads)
       by true held = (0, omega arith, quiet ∙ ap (λ (j : StickyLog L). (g.counts j.log).reads) (unread held))
       by false held = (length q.infos.items, omega arith, quiet ∙ whole held)

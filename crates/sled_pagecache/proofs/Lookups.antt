@@ -2,15 +2,15 @@
 use Rattle.sled_base.proofs.LinkedLists.Linking.{get_set_other, get_set_there}
 use Rattle.sled_log.specs.Chains.{is_empty}
 use Rattle.sled_log.specs.Contents.{Content}
-use Rattle.sled_log.specs.HoldingLaws.{holds-after}
+use Rattle.sled_log.specs.Inside.HoldingLaws.{holds-after}
 use Rattle.sled_log.specs.LogState.{LogState, now, unplaced_state}
-use Rattle.sled_log.specs.Messages.{Chain, Entry, Messages, effect_of_entry, unplaced}
+use Rattle.sled_log.specs.Messages.{Chain, Entry, Messages, effect_of_entry, messages_of}
 use Rattle.sled_log.specs.Reading.{Hold, Holds}
-use Rattle.sled_log.specs.UnplacedLaws.{now-unplaced}
+use Rattle.sled_log.specs.Inside.UnplacedLaws.{now-unplaced}
 use Rattle.sled_pagecache.specs.Limits.{batch_manifest_pid, counter_pid, meta_pid}
 use Rattle.sled_pagecache.specs.Logged.{IsLogged, Logged}
-use Rattle.sled_pagecache.specs.Pages.{IsKept}
-use Rattle.sled_pagecache.specs.Proper.{IsUsers}
+use Rattle.sled_pagecache.specs.Inside.PageEntry.{IsKept}
+use Rattle.sled_pagecache.specs.Logged.{IsUsers}
 use Rattle.sled_pagecache.specs.State.{StampedPage}
 use Rattle.sled_pagecache.specs.Step.{is_reserved}
 use Rattle.sled_pagecache.specs.declared.pagecache.page.Page.{Page as KeptPage}
@@ -23,8 +23,8 @@ use Rattle.std.specs.List.{AllByRecursion, AllZip}
 use Rattle.std.specs.Option.{option_map}
 use Rattle.sled_pagecache.proofs.ByIds.{all-by-id, at-id, past-two, zip-second}
 use Rattle.sled_pagecache.specs.Logged.{now as held_now}
-use Rattle.sled_pagecache.specs.Proper.{AreOwn, AreRoots, IsCounter, IsOwnAt}
-use Rattle.sled_pagecache.specs.Table as table
+use Rattle.sled_pagecache.specs.Logged.{AreOwn, AreRoots, IsCounter, IsOwnAt}
+use Rattle.sled_pagecache.specs.Inside.Invariant as table
 
 -- ---- lists
 
@@ -100,20 +100,20 @@ pub content-own : (contents : List Content) (pid : ℕ) (content : Content) → 
 content-own contents pid content own from at = (past-two AreRoots IsCounter IsUsers pid content from).1 (at-id IsOwnAt contents pid content own at)
 
 -- what the log holds now makes the contents of the state
-pub holds_now : (state : LogState Entry) (held : Logged) → IsLogged (unplaced_state state) held → Hold (map unplaced (now effect_of_entry state)) (held_now held)
+pub holds_now : (state : LogState Entry) (held : Logged) → IsLogged (unplaced_state state) held → Hold (map messages_of (now effect_of_entry state)) (held_now held)
 holds_now state held logged =
     subst (λ (l : List (List _)). Hold l (held_now held)) (sym (now-unplaced state))
     (holds-after (unplaced_state state).stable held.stable (unplaced_state state).pending held.pending logged.stable logged.pending)
 
 -- a page of the state holds what its chain makes, or is damaged
-pub holds-at : (pages : List StampedPage) (chains : List Chain) (pid : ℕ) (p : StampedPage) → Hold (map unplaced chains) (map (λ (p : StampedPage). p.content) pages)
-    → slice_get pages pid ≡ Some p → Holds (unplaced (slice_index_or chains pid [])) p.content
+pub holds-at : (pages : List StampedPage) (chains : List Chain) (pid : ℕ) (p : StampedPage) → Hold (map messages_of chains) (map (λ (p : StampedPage). p.content) pages)
+    → slice_get pages pid ≡ Some p → Holds (messages_of (slice_index_or chains pid [])) p.content
 holds-at pages chains pid p hold at =
-    subst (λ (t : Messages). Holds t p.content) (get_or-map unplaced chains pid [])
-    (zip-second Holds (map unplaced chains) (map (λ (p : StampedPage). p.content) pages) pid p.content [] hold (map-at (λ (p : StampedPage). p.content) pages pid p at))
+    subst (λ (t : Messages). Holds t p.content) (get_or-map messages_of chains pid [])
+    (zip-second Holds (map messages_of chains) (map (λ (p : StampedPage). p.content) pages) pid p.content [] hold (map-at (λ (p : StampedPage). p.content) pages pid p at))
 
 -- the page stands where its chain isn't empty
-pub stands-full : (pages : List StampedPage) (chains : List Chain) (pid : ℕ) → Hold (map unplaced chains) (map (λ (p : StampedPage). p.content) pages)
+pub stands-full : (pages : List StampedPage) (chains : List Chain) (pid : ℕ) → Hold (map messages_of chains) (map (λ (p : StampedPage). p.content) pages)
     → is_empty effect_of_entry (slice_index_or chains pid []) ≡ false → (p : StampedPage) × (slice_get pages pid ≡ Some p)
 stands-full [] [] pid hold full = absurd (false≢true (sym full))
 stands-full [] (chain ∷ chains) pid hold full = absurd hold

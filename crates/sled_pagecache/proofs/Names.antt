@@ -22,27 +22,28 @@ pub use Rattle.sled_base.specs.declared.types.Why.TheVariants.{BatchOpen, Capaci
 pub use Rattle.sled_base.specs.declared.types.Why.{Why}
 pub use Rattle.sled_base.specs.declared.types.page_state.PageState.{PageState}
 pub use Rattle.sled_log.proofs.Faulty.{called_over, called_unread, called_unwritten}
-pub use Rattle.sled_log.specs.Batches.{IsFair, is_cancelled, is_open, open_after}
+pub use Rattle.sled_log.specs.Events.{IsFair, is_cancelled, is_open, open_after}
 pub use Rattle.sled_log.specs.Calls.{Called, Counts, HasGrown, begun_by as begun_of, is_write_fault as log_met_fault, one_more}
-pub use Rattle.sled_log.specs.Chains.{begun as begin_page, chains_after, chains_from, changed, is_chain, is_empty, is_freeing, is_linking, linked, may_follow}
+pub use Rattle.sled_log.specs.Chains.{chains_with_new as begin_page, chains_after, chains_from, chains_with_change, is_chain, is_empty, is_freeing, is_linking, chain_with_link, may_follow}
 pub use Rattle.sled_log.specs.Contents.{Content, Counter, Damaged, Free, Link, Node, Put, Roots, Update, after_link, contents_after, contents_from, effect_of_update}
-pub use Rattle.sled_log.specs.Events.{Cancel, Change, Event, Pin, Seal, seen}
-pub use Rattle.sled_log.specs.HoldingLaws.{holds-added, holds-after, holds-made, may-append}
-pub use Rattle.sled_log.specs.Items.{left_now}
-pub use Rattle.sled_log.specs.Laws.{Adds-none, AddsEvents-then, CrashKeeps-added, CrashKeeps-more, CrashesSinceLeave-none, IsFair-none, IsLeft-more, IsPrefix-all, IsPrefix-none, is_open-drop, now-Adds, open_after-append}
+pub use Rattle.sled_log.specs.Events.{Cancel, Change, Event, Pin, Seal, seen_event}
+pub use Rattle.sled_log.specs.Inside.HoldingLaws.{holds-added, holds-after, holds-made, may-append}
+pub use Rattle.sled_log.specs.Inside.Items.{left_now}
+pub use Rattle.sled_log.specs.Inside.Laws.{Adds-none, AddsEvents-then, CrashKeeps-added, CrashKeeps-more, CrashesSinceLeave-none, IsFair-none, IsLeft-more, IsPrefix-all, IsPrefix-none, is_open-drop, now-Adds, open_after-append}
 pub use Rattle.sled_log.specs.Limits.{head_size}
-pub use Rattle.sled_log.specs.Memory.{clock_of, counts_of, might_have_left, state_of}
-pub use Rattle.sled_log.specs.Messages.{Chain, Entry, Message, Messages, blob_kind, effect_of, effect_of_entry, kind_at, message, message_in, placed, unplaced}
+pub use Rattle.sled_log.specs.MemLog.State.{clock_of, counts_of, might_have_left, state_of}
+pub use Rattle.sled_log.specs.Messages.{Chain, Entry, Message, Messages, blob_kind, effect_of, effect_of_entry, kind_at, message, message_in, placed_entry, messages_of}
 pub use Rattle.sled_log.specs.Pages.{IsAt, IsPageState, IsRead, IsSized, freed_of, said_of}
 pub use Rattle.sled_log.specs.Reading.{AreEvents, Decodes, Hold, Holds, IsEvent, IsUpdate, LeadTo, Makes, MayChange, MayCome}
-pub use Rattle.sled_log.specs.ReadingLaws.{contents_after-append, events-append, events-take, one_content, one_update, reads-fair, reads-open, reads_effect}
-pub use Rattle.sled_log.specs.RunLaws.{CrashesSinceLeave-weaker}
-pub use Rattle.sled_log.specs.ShapeLaws.{AreChains, chains-are}
+pub use Rattle.sled_log.specs.Inside.ReadingLaws.{contents_after-append, events-append, events-take, one_content, one_update, reads-fair, reads-open, reads_effect}
+pub use Rattle.sled_log.specs.Inside.RunLaws.{CrashesSinceLeave-weaker}
+pub use Rattle.sled_log.specs.Inside.ShapeLaws.{AreChains, chains-are}
 pub use Rattle.sled_log.specs.LogState.{CrashesSinceLeave, IsLeft, IsPrefix, LogState, now, now as log_now, unplaced_state}
-pub use Rattle.sled_log.specs.UnplacedLaws.{Adds-unplaced, is_open-unplaced, now-unplaced, unplaced_events}
-pub use Rattle.sled_log.specs.Writing.{CanWrite, message_of}
-pub use Rattle.sled_log.specs.WritingLaws.{written-update}
-pub use Rattle.sled_log.specs.ZipLaws.{zip-append, zip-at, zip-set}
+pub use Rattle.sled_log.specs.Inside.UnplacedLaws.{Adds-unplaced, is_open-unplaced, now-unplaced}
+pub use Rattle.sled_log.specs.Messages.{unplaced_events}
+pub use Rattle.sled_log.specs.Reading.{CanWrite, message_of}
+pub use Rattle.sled_log.specs.Inside.WritingLaws.{written-update}
+pub use Rattle.sled_log.specs.Inside.ZipLaws.{zip-append, zip-at, zip-set}
 pub use Rattle.sled_log.specs.declared.log.Log.{Ghosts}
 pub use Rattle.sled_log.specs.declared.log.LogError.TheVariants.{ReadFault, WriteFault}
 pub use Rattle.sled_log.specs.declared.log.LogError.{LogError}
@@ -52,49 +53,61 @@ pub use Rattle.sled_node.specs.Node.{WholeNode, empty_leaf}
 pub use Rattle.sled_node.specs.Payloads.Nodes.{ReadsNode}
 pub use Rattle.sled_node.specs.Payloads.Roots.{ReadsRoots}
 pub use Rattle.sled_pagecache.proofs.Refused.{no_name, refused-is}
-pub use Rattle.sled_pagecache.specs.Accesses.{IsTouched, WasAccessed, capped}
-pub use Rattle.sled_pagecache.specs.Adding.{HasOneMore, RefusesPage}
-pub use Rattle.sled_pagecache.specs.Appends.{MakesAppend, MakesNewPage, Puts, PutsOnNewPage, RefusesAppend}
-pub use Rattle.sled_pagecache.specs.Answers.{HasNoName, Keeps, NamesOnly, root_swapped, stamped, swapped}
-pub use Rattle.sled_pagecache.specs.ByIds.{AllById, FitsId}
-pub use Rattle.sled_pagecache.specs.Cache.{Cache, IsAway, IsIn, IsResident, KnowsLog, chain_length, chain_size}
+pub use Rattle.sled_pagecache.specs.Inside.PageEntry.{IsTouched, WasAccessed, capped_size}
+pub use Rattle.sled_pagecache.specs.Inside.NewPages.{HasOneMore, RefusesPage}
+pub use Rattle.sled_pagecache.specs.Inside.Appends.{MakesAppend, MakesNewPage, Puts, PutsOnNewPage, RefusesAppend}
+pub use Rattle.sled_pagecache.specs.Answers.{HasNoName, Keeps, NamesOnly, stamps_after_root_swap, stamps_with, stamps_after_swap}
+pub use Rattle.sled_pagecache.specs.Logged.{AllById, FitsId}
+pub use Rattle.sled_pagecache.specs.Cache.{Cache, IsAway, Represents, IsResident, KnowsLog, chain_length, chain_size}
 pub use Rattle.sled_pagecache.specs.Calls.{HasNoRoom, IsBlamed, IsSameOpening, IsStep, StepOver, Steps}
-pub use Rattle.sled_pagecache.specs.ChainReads.{IsFoundAs, chain_at, more, place_of}
-pub use Rattle.sled_pagecache.specs.Changes.{link_update}
+pub use Rattle.sled_pagecache.specs.Inside.PageIn.{IsFoundAs}
+pub use Rattle.sled_pagecache.specs.Cache.{chain_at}
+pub use Rattle.sled_pagecache.specs.Memory.{count_after}
+pub use Rattle.sled_pagecache.specs.Infos.{place_of}
+pub use Rattle.sled_pagecache.specs.Step.{link_update}
 pub use Rattle.sled_pagecache.specs.Damage.{MeetsDamage, ReportsDamage, ReportsWrong}
-pub use Rattle.sled_pagecache.specs.RootSwaps.{AreKeptRoots, FindsRoots, JudgesRoot, KeepsRoots, WritesMap}
-pub use Rattle.sled_pagecache.specs.StickyLog.{IsCaused, IsOfLog, Went, begun_by, cache_answer, is_write_fault, is_write_fault as met_fault, mark_of}
-pub use Rattle.sled_pagecache.specs.StickyLogLaws.{HasGrown-since, IsCaused-handed_on, IsCaused-since, Went-last, Went-none, Went-then, now-Went}
-pub use Rattle.sled_pagecache.specs.Judging.{IsFresh, IsRejected, Judges, answer_to}
+pub use Rattle.sled_pagecache.specs.Inside.RootWrites.{AreKeptRoots, FindsRoots, JudgesRoot, KeepsRoots, WritesMap}
+pub use Rattle.sled_pagecache.specs.Inside.StickyLog.{IsCaused, IsOfLog, Went, begun_by, cache_answer, is_write_fault, is_write_fault as met_fault, mark_of}
+pub use Rattle.sled_pagecache.specs.Inside.StickyLogLaws.{HasGrown-since, IsCaused-handed_on, IsCaused-since, Went-last, Went-none, Went-then, now-Went}
+pub use Rattle.sled_pagecache.specs.Inside.TokenCheck.{IsFresh, IsRejected, Judges, answer_to}
 pub use Rattle.sled_pagecache.specs.Lending.{IsGot, lent_answer as answered}
 pub use Rattle.sled_pagecache.specs.Limits.{batch_manifest_pid, chunk_length, chunk_length as fan, counter_pid, meta_pid, most_pages}
-pub use Rattle.sled_pagecache.specs.LinkTests.{IsTested, TestsFirst}
-pub use Rattle.sled_pagecache.specs.LinkedPages.{AppendsLink, HadNoRoom, MakesLink, RefusesAppended, RefusesLinkOf, RefusesUnappended, TakesLink, WasBegun, update_by}
-pub use Rattle.sled_pagecache.specs.Loading.{AreFound, AreRead, AreRecovered, IsFoundAt, IsLoaded, IsOpenedWith, IsTable, IsUnread, RefusesOwn, RefusesPages, counter_event, events_at_start, events_of_roots, next_id, roots_event, stamps_at_start}
+pub use Rattle.sled_pagecache.specs.Answers.{IsTested, TestsFirst}
+pub use Rattle.sled_pagecache.specs.Inside.LinkWrites.{AppendsLink, HadNoRoom, MakesLink, RefusesAppended, RefusesLinkOf, RefusesUnappended, TakesLink, WasBegun, update_by}
+pub use Rattle.sled_pagecache.specs.Inside.Loading.{AreFound, AreRead, AreRecovered, IsFoundAt, IsLoaded, IsOpenedWith, IsTable, IsUnread, RefusesOwn, RefusesPages, counter_event, events_at_start, events_of_roots, next_id, roots_event, stamps_at_start}
 pub use Rattle.sled_pagecache.specs.Logged.{Adds, AreKept, IsLogged, Logged}
-pub use Rattle.sled_pagecache.specs.Memory.{AccessesPage, AreListed, AreSized, FindsPage, HasNoNode, HasNode, IsBounded, KeepsMemory, LeavesMemory, LeavesNodes, LeavesOthers, ListsResident, StaysAt}
-pub use Rattle.sled_pagecache.specs.Opening.{changes_of_start, fault_of, first_id, missing, opened}
-pub use Rattle.sled_pagecache.specs.PageTables.{AreFilled, IsPageTable, TableView, at_last, has_room, is_unfilled, pages_in, view_of}
-pub use Rattle.sled_pagecache.specs.Pages.{HoldsChain, IsKept, access_size, free_ids, freed_at, is_free, is_resident, node_access_size, size_if, size_in, size_linked}
-pub use Rattle.sled_pagecache.specs.PagesIn.{BringsIn, IsNodeAt, LeavesPages, RefusesReading, sticky_log_of}
-pub use Rattle.sled_pagecache.specs.PagingOut.{IsPagedOut, paged_out}
-pub use Rattle.sled_pagecache.specs.Proceeding.{Comes, IsCutShort, LacksRoom, Proceeds, Reaches, TakesNoRoom, is_fault, refusal_in}
-pub use Rattle.sled_pagecache.specs.Proper.{AreRoots, IsProper, IsUsers, StayProper}
-pub use Rattle.sled_pagecache.specs.Pulling.{RefusesPull}
-pub use Rattle.sled_pagecache.specs.Reading.{BeginsFree, IsDamaged, IsFirstWrong, IsFoundWrong, IsWrongAt, Leads, MakesNode, RefusesMessage, RefusesNode, found_message}
-pub use Rattle.sled_pagecache.specs.Reads.{HasRead, ReadsNothing, ReadsPage, own_among}
-pub use Rattle.sled_pagecache.specs.Recovered.{AllFit, BeginsMisfit, IsRecovered, info_at, is_misfit, kept_by}
+pub use Rattle.sled_pagecache.specs.Memory.{AccessesPage, AreListed, AreSized, HasNoNode, HasNode, IsBounded, KeepsMemory, EvictsAtMost, LeavesNodes, LeavesOthers, ListsResident, StaysAt}
+pub use Rattle.sled_pagecache.specs.Inside.RecentUse.{FindsPage}
+pub use Rattle.sled_pagecache.specs.Opening.{changes_of_start, fault_of, first_id, missing_pages, opened_state}
+pub use Rattle.sled_pagecache.specs.Inside.PageTable.{AreFilled, IsPageTable, at_last, has_room, is_unfilled, pages_in, view_of}
+pub use Rattle.sled_pagecache.specs.Table.{TableView}
+pub use Rattle.sled_pagecache.specs.Inside.PageEntry.{HoldsChain, IsKept, access_size, free_ids, is_resident, node_access_size, size_if, size_in, size_after_link}
+pub use Rattle.sled_pagecache.specs.Infos.{place_of_freeing}
+pub use Rattle.sled_pagecache.specs.Table.{is_free}
+pub use Rattle.sled_pagecache.specs.Inside.PageIn.{BringsIn, IsNodeAt, RefusesReading, sticky_log_of}
+pub use Rattle.sled_pagecache.specs.Damage.{LeavesPages}
+pub use Rattle.sled_pagecache.specs.Inside.Eviction.{IsPagedOut, kept_behind_eviction}
+pub use Rattle.sled_pagecache.specs.Inside.LogCalls.{Comes, IsCutShort, LacksRoom, Proceeds, Reaches, TakesNoRoom, is_fault, refusal_in}
+pub use Rattle.sled_pagecache.specs.Logged.{AreRoots, IsProper, IsUsers, StayProper}
+pub use Rattle.sled_pagecache.specs.Inside.PageIn.{RefusesPull}
+pub use Rattle.sled_pagecache.specs.Inside.PageIn.{BeginsFree, IsFoundWrong, Leads, RefusesMessage, RefusesNode, found_message}
+pub use Rattle.sled_pagecache.specs.Damage.{IsDamaged, IsFirstWrong, IsWrongAt, MakesNode}
+pub use Rattle.sled_pagecache.specs.Memory.{HasRead, ReadsNothing, ReadsPage, own_among}
+pub use Rattle.sled_pagecache.specs.Inside.Recovery.{AllFit, BeginsMisfit, IsRecovered, info_at, is_misfit, kept_by}
 pub use Rattle.sled_pagecache.specs.Reopening.{AreAfterPrefix, CrashReopens, CrashReopensTo, HoldsCrash, Reopens, ReopensTo, Started}
-pub use Rattle.sled_pagecache.specs.RowLaws.{IsLonger, OnlyNow, left-now, made-row, none-came, one-longer, row-none, row-one, row-then, step-stuck}
-pub use Rattle.sled_pagecache.specs.Stamps.{stamps_to}
-pub use Rattle.sled_pagecache.specs.Starting.{Starts}
-pub use Rattle.sled_pagecache.specs.Starts.{CrashLeaves, HasAdded, IsBlamedOpening, IsFit, IsHindrance, IsOpened, IsUnopened, LacksRoomFor, MayBeOpened, Opens, RefusesOpening, WasFull, has_own, log_after, only_stable, only_stable_contents}
-pub use Rattle.sled_pagecache.specs.State.{StampedPage, State, contents_of, free_token, greatest_free, is_free as is_free_content, later, page, page_at, stamps_of, with_page}
-pub use Rattle.sled_pagecache.specs.Step.{AddsPage, Allocates, Closes, Does, Fails, Finds, FindsContent, FindsRoot, Flushes, Frees, Generates, Gets, GetsIdgen, GetsMeta, HoldsCounter, HoldsRoots, IsCorruption, IsCounterAnd, IsGone, IsHindered, IsRefused, Links, LinksContent, LinksNode, Outcome, Pins, PutsCounter, PutsRoots, Reads, Replaces, ReusesPage, RootSwap, SetsRoot, Sizes, Swapped, Swaps, SwapsContent, SwapsPage, SwapsRoot, TellsRoot, UnlessFaulty, UnlessReserved, UnlessStale, closed, interval_start, is_reserved, outcome, unchanged, with_next_id}
-pub use Rattle.sled_pagecache.specs.Swaps.{CanPut, IsLinked, IsRaised, RefusesLink, RefusesSwap, WritesMessage, Wrote, content_of, infos_after, linked_length, roots_in, update_of}
-pub use Rattle.sled_pagecache.specs.Table.{AreOwn, IsBeside, IsConsistent, IsCounter, IsFreeOrNode, IsOwnAt, IsRoots, nodes_in, resident_in, stamps_in}
-pub use Rattle.sled_pagecache.specs.Token.{IsAnswered, Token, pid_of, stamp_of, token}
-pub use Rattle.sled_pagecache.specs.Touching.{AccessesNode, IsListedAt}
+pub use Rattle.sled_pagecache.specs.Inside.SequenceLaws.{IsLonger, OnlyNow, left-now, made-row, none-came, one-longer, row-none, row-one, row-then, step-stuck}
+pub use Rattle.sled_pagecache.specs.Infos.{stamps_to}
+pub use Rattle.sled_pagecache.specs.Inside.SystemPages.{Starts}
+pub use Rattle.sled_pagecache.specs.Opening.{CrashLeaves, HasAdded, IsBlamedOpening, IsFit, IsOpened, IsUnopened, LacksRoomFor, MayBeOpened, Opens, RefusesOpening, WasFull, has_own, log_after, stable_state, stable_contents}
+pub use Rattle.sled_pagecache.specs.Memory.{IsHindrance}
+pub use Rattle.sled_pagecache.specs.State.{StampedPage, State, contents_of, free_token, greatest_free, is_free as is_free_content, later_token, page, page_at, stamps_of, with_page}
+pub use Rattle.sled_pagecache.specs.Step.{AddsPage, Allocates, Closes, Does, Fails, Finds, FindsContent, FindsRoot, Flushes, Frees, Generates, Gets, GetsIdgen, GetsMeta, HoldsCounter, HoldsRoots, IsCorruption, IsCounterAnd, IsGone, IsHindered, IsRefused, Links, LinksContent, LinksNode, Outcome, Pins, PutsCounter, PutsRoots, Reads, Replaces, ReusesPage, RootSwap, SetsRoot, Sizes, Swapped, Swaps, SwapsContent, SwapsPage, SwapsRoot, TellsRoot, UnlessFaulty, UnlessReserved, UnlessStale, with_batch_closed, interval_start, is_reserved, outcome, no_change, with_next_id}
+pub use Rattle.sled_pagecache.specs.Inside.PageWrites.{CanPut, IsLinked, IsRaised, RefusesLink, RefusesSwap, WritesMessage, Wrote, content_of, roots_in, update_of}
+pub use Rattle.sled_pagecache.specs.Inside.Infos.{infos_after}
+pub use Rattle.sled_pagecache.specs.Answers.{linked_length}
+pub use Rattle.sled_pagecache.specs.Inside.Invariant.{AreOwn, IsBeside, IsConsistent, IsCounter, IsFreeOrNode, IsOwnAt, IsRoots, nodes_in, resident_in, stamps_in}
+pub use Rattle.sled_pagecache.specs.State.{IsAnswered, Token, pid_of, stamp_of, token}
+pub use Rattle.sled_pagecache.specs.Inside.RecentUse.{AccessesNode, IsListedAt}
 pub use Rattle.sled_pagecache.proofs.Touched.{AllStay, FindsNode, LacksNodes, LosesAtMost, LosesNone, TakesNode, TakesPage}
 pub use Rattle.sled_pagecache.specs.declared.pagecache.accesses.Accesses.{Accesses}
 pub use Rattle.sled_pagecache.specs.declared.pagecache.call.Answer.TheVariants.{Allocated, Cancelled, Flushed, FoundRoot, Freed, Generated, Got, GotIdgen, GotMeta, Linked, Pinned, Replaced, RootSwapped, Sealed, Sized}
@@ -134,22 +147,23 @@ pub use Rattle.std.specs.Prelude.{Contains, IfErr, IfOk, IsErrOf, IsOk, IsSomeAn
 pub use Rattle.std.specs.Result.{IsErrAnd, is_err}
 pub use Rattle.std.specs.Slice.{IsItemAt}
 pub use Rattle.std.specs.Vec.{with_item}
-pub use Rattle.sled_pagecache.specs.Atomic.{AreThoseOf, AreWithout, ClosesNone, RunsBatch, StandsInPart, StandsWhole, with_pin}
+pub use Rattle.sled_pagecache.specs.Batches.{AreThoseOf, AreWithout, ClosesNone, RunsBatch, StandsInPart, StandsWhole, with_pin}
 pub use Rattle.sled_pagecache.specs.Rows.{AreMade, AreSteps, CoversId, IsMade, IsRow, ReportsBytes, StepInRow, changes_of}
-pub use Rattle.sled_pagecache.specs.Counted.{IsCounted, IsWhole, SparesCounter}
+pub use Rattle.sled_pagecache.specs.Inside.Invariant.{IsCounted, IsWhole, SparesCounter}
 pub use Rattle.sled_base.specs.Order.{Bytes}
 pub use Rattle.sled_node.specs.declared.node.link.Link.{Link as NodeLink}
 pub use Rattle.sled_pagecache.specs.Openings.{AreRising, Crashed, CrashedIn, Ending, HandedOn, IsEmpty, IsRun, KeepIntervals, Lasted, Leaves, LeavesUnopened, Opening, id_in, ids_in, ids_of}
 pub use Rattle.std.proofs.Math.Nat.{add-mul-div_right, div-mul-le_self, lt-div-mul-add, mul-le-mul_right, suc-mul}
-pub use Rattle.sled_pagecache.specs.Ids.{GivesId, IsBelowCounter, IsCovered}
+pub use Rattle.sled_pagecache.specs.Answers.{GivesId, IsBelowCounter, IsCovered}
 pub use Rattle.std.specs.BTreeSet.{insert_key}
 pub use Rattle.std.specs.Ordering.{nat_cmp}
-pub use Rattle.sled_pagecache.specs.Evictions.{AreOut, Evicts, IsOutAt, IsSettled, cache_of, cache_of as view, those}
+pub use Rattle.sled_pagecache.specs.Inside.Eviction.{AreOut, Evicts, IsOutAt, IsSettled, cache_of, cache_of as view, lost_pages}
 pub use Rattle.sled_node.specs.Meta.{IsRootMap, changed_roots, root_of, with_root, without_root}
-pub use Rattle.sled_pagecache.specs.CounterPages.{IsCounterIn, KeepsCounter}
+pub use Rattle.sled_pagecache.specs.Inside.CounterPage.{IsCounterIn, KeepsCounter}
 pub use Rattle.std.specs.BTreeMap.{is_at}
 pub use Rattle.std.specs.Set.{remove_key}
 pub use Rattle.sled_pagecache.specs.declared.pagecache.shape.Kind.{Kind}
 pub use Rattle.sled_pagecache.specs.declared.pagecache.shape.PageShape.{PageShape}
-pub use Rattle.sled_pagecache.specs.Trees.{EndsSwap, FindsTree, GoesOn, GoesOnOver, GoesOnWith, IsKnown, IsTreeOpened, Looks, MadeCalls, MakesTree, NamesRoot, OpensTree, PutsIndex, TellsTree, Touches, index_over, stamps_after, stamps_then}
-pub use Rattle.sled_pagecache.specs.Shapes.{shape_of_kept}
+pub use Rattle.sled_pagecache.specs.Trees.{EndsSwap, FindsTree, GoesOnOver, GoesOnWith, IsKnown, IsTreeOpened, MadeCalls, MakesTree, NamesRoot, OpensTree, PutsIndex, TellsTree, Touches, index_over, stamps_after, stamps_then}
+pub use Rattle.sled_pagecache.specs.Inside.Trees.{GoesOn, Looks}
+pub use Rattle.sled_pagecache.specs.Inside.Shapes.{shape_of_kept}

@@ -1,5 +1,5 @@
 -- What a page more makes of the chains, and of the table.
-use Rattle.sled_pagecache.proofs.Names.{◌≡◌, ℕ, cond, List, [], ◌∷◌, ◌++◌, length, map, refl, sym, ◌∙◌, ap, eq-eqb, slice_set, slice_index_or, chains_from, Node, Put, Change, Entry, Chain, placed, effect_of_entry, IsUpdate, message_of, WholeNode, HasOneMore, place_of, IsKept, CacheInfo, Page}
+use Rattle.sled_pagecache.proofs.Names.{◌≡◌, ℕ, cond, List, [], ◌∷◌, ◌++◌, length, map, refl, sym, ◌∙◌, ap, eq-eqb, slice_set, slice_index_or, chains_from, Node, Put, Change, Entry, Chain, placed_entry, effect_of_entry, IsUpdate, message_of, WholeNode, HasOneMore, place_of, IsKept, CacheInfo, Page}
 use Rattle.sled_pagecache.proofs.Swaps.{kept-put}
 use Rattle.sled_pagecache.specs.declared.pagecache.page.Kept.TheVariants as kept
 
@@ -12,9 +12,9 @@ pub only-one : (infos before : List CacheInfo) (info : CacheInfo) → infos ≡ 
 only-one infos before info is none = is ∙ ap (λ (l : List CacheInfo). l ++ info ∷ []) none
 
 module _ (chains : List Chain) (pid : ℕ) (last : pid ≡ length chains) (after : List Chain) (node : WholeNode) (info : CacheInfo)
-    (came : after ≡ chains_from effect_of_entry chains (Change pid (placed (message_of (Put (Node node))) (place_of info)))) where
+    (came : after ≡ chains_from effect_of_entry chains (Change pid (placed_entry (message_of (Put (Node node))) (place_of info)))) where
   abbrev entry : Entry
-  entry = placed (message_of (Put (Node node))) (place_of info)
+  entry = placed_entry (message_of (Put (Node node))) (place_of info)
 
   added : after ≡ chains ++ (entry ∷ []) ∷ []
   added = came ∙ ap (λ b. cond b (chains ++ (entry ∷ []) ∷ []) (slice_set chains pid (entry ∷ []))) (eq-eqb pid (length chains) last)

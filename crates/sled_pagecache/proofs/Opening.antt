@@ -1,5 +1,5 @@
 -- Opening a cache over a log.
-use Rattle.sled_pagecache.proofs.Names.{Recency, Option, ⊎_elim, ◌≡◌, ◌≢◌, ◌≤◌, ◌<◌, ◌^◌, ℕ, zero, suc, Bool, false, List, [], ◌∷◌, ◌++◌, length, map, take, drop, None, Some, Result, Ok, Err, refl, sym, ◌∙◌, ap, subst, arith, drop-nil, take-append_seam, drop-append_seam, length-map, take-append-drop, take-map, drop-map, none-some, AllZip-long, error_of, Read, Write, Error, Refusal, ReportableBug, Io, Corruption, LogFull, is_open, open_after, Content, Counter, Roots, Update, Put, contents_after, Event, Change, Pin, Seal, Cancel, seen, holds-after, Message, Entry, Chain, Messages, unplaced, effect_of, effect_of_entry, Holds, Hold, AreEvents, events-take, reads-open, unplaced_state, is_open-unplaced, now-unplaced, message_of, CanWrite, written-update, Ghosts, Cache, IsOpenedWith, counter_event, events_at_start, Logged, IsLogged, fault_of, missing, changes_of_start, opened, is_fault, Comes, LacksRoom, Proceeds, IsProper, StayProper, Starts, IsFit, RefusesOpening, IsHindrance, HasAdded, CrashLeaves, LacksRoomFor, WasFull, Opens, IsBlamedOpening, MayBeOpened, page, contents_of, Config, StickyLog, slice_get, StampedPage, add-by-id, at-id, zip-first, all-at, map-at, holds_now}
+use Rattle.sled_pagecache.proofs.Names.{Recency, Option, ⊎_elim, ◌≡◌, ◌≢◌, ◌≤◌, ◌<◌, ◌^◌, ℕ, zero, suc, Bool, false, List, [], ◌∷◌, ◌++◌, length, map, take, drop, None, Some, Result, Ok, Err, refl, sym, ◌∙◌, ap, subst, arith, drop-nil, take-append_seam, drop-append_seam, length-map, take-append-drop, take-map, drop-map, none-some, AllZip-long, error_of, Read, Write, Error, Refusal, ReportableBug, Io, Corruption, LogFull, is_open, open_after, Content, Counter, Roots, Update, Put, contents_after, Event, Change, Pin, Seal, Cancel, seen_event, holds-after, Message, Entry, Chain, Messages, messages_of, effect_of, effect_of_entry, Holds, Hold, AreEvents, events-take, reads-open, unplaced_state, is_open-unplaced, now-unplaced, message_of, CanWrite, written-update, Ghosts, Cache, IsOpenedWith, counter_event, events_at_start, Logged, IsLogged, fault_of, missing_pages, changes_of_start, opened_state, is_fault, Comes, LacksRoom, Proceeds, IsProper, StayProper, Starts, IsFit, RefusesOpening, IsHindrance, HasAdded, CrashLeaves, LacksRoomFor, WasFull, Opens, IsBlamedOpening, MayBeOpened, page, contents_of, Config, StickyLog, slice_get, StampedPage, add-by-id, at-id, zip-first, all-at, map-at, holds_now}
 use Rattle.sled_base.specs.declared.types.Error.TheVariants as errors
 use Rattle.sled_base.specs.declared.types.Refusal.TheVariants.{Unsupported}
 use Rattle.sled_log.specs.LogState as log
@@ -7,8 +7,8 @@ use Rattle.sled_pagecache.proofs.Carrying.{Carries, carries, leaves, proper-now}
 use Rattle.sled_pagecache.proofs.Staying.{no-changes, stay-none, stay-one, stay-take}
 use Rattle.sled_pagecache.proofs.Starting.{events-same, changes-closed}
 use Rattle.sled_pagecache.specs.Logged.{now}
-use Rattle.sled_pagecache.specs.Proceeding as proceeding
-use Rattle.sled_pagecache.specs.Proper.{AreOwn, IsOwnAt}
+use Rattle.sled_pagecache.specs.Inside.LogCalls as proceeding
+use Rattle.sled_pagecache.specs.Logged.{AreOwn, IsOwnAt}
 
 -- ---- what is told of the system pages that are missing
 
@@ -55,25 +55,25 @@ no-fault refusal other = grind arith
 
 -- ---- a log that a cache left refuses no opening but for a hindrance
 
-content-fit : (pid : ℕ) (content : Content) (chain : Chain) → IsOwnAt pid content → Holds (unplaced chain) content → length chain ≤ 10 → IsFit pid chain
+content-fit : (pid : ℕ) (content : Content) (chain : Chain) → IsOwnAt pid content → Holds (messages_of chain) content → length chain ≤ 10 → IsFit pid chain
 content-fit pid content chain own holds short = grind arith
 
 -- each page of a log that a cache left is fit
-fit-at : (chains : List Chain) (held : List Content) → Hold (map unplaced chains) held → IsProper (map unplaced chains) held
+fit-at : (chains : List Chain) (held : List Content) → Hold (map messages_of chains) held → IsProper (map messages_of chains) held
     → (pid : ℕ) (chain : Chain) → slice_get chains pid ≡ Some chain → IsFit pid chain
 fit-at chains held hold proper pid chain is =
-    let at = map-at unplaced chains pid chain is in
-    let holds = zip-first Holds (map unplaced chains) held pid (unplaced chain) hold at in
-    let fits : length (unplaced chain) ≤ 10 = all-at (λ (unplaced : Messages). length unplaced ≤ 10) (map unplaced chains) pid (unplaced chain) proper.short at in
+    let at = map-at messages_of chains pid chain is in
+    let holds = zip-first Holds (map messages_of chains) held pid (messages_of chain) hold at in
+    let fits : length (messages_of chain) ≤ 10 = all-at (λ (unplaced : Messages). length unplaced ≤ 10) (map messages_of chains) pid (messages_of chain) proper.short at in
     let same = length-map chain (λ (entry : Entry). entry.message) in
     content-fit pid holds.0 chain (at-id IsOwnAt held pid holds.0 proper.own holds.1) holds.2 (omega (arith, fits, same))
 
 hindrance : (config : Config) (chains : List Chain) (held : List Content) (refusal : Refusal) → fault_of config ≡ None
-    → Hold (map unplaced chains) held → IsProper (map unplaced chains) held → RefusesOpening config chains (error_of refusal) → IsHindrance (error_of refusal)
+    → Hold (map messages_of chains) held → IsProper (map messages_of chains) held → RefusesOpening config chains (error_of refusal) → IsHindrance (error_of refusal)
 hindrance config chains held (ReportableBug bug) sound hold proper r = absurd r
 hindrance config chains held (Corruption None) sound hold proper r =
-    let long : length held ≡ length (map unplaced chains) = AllZip-long Holds (map unplaced chains) held hold in
-    let same = length-map chains unplaced in
+    let long : length held ≡ length (map messages_of chains) = AllZip-long Holds (map messages_of chains) held hold in
+    let same = length-map chains messages_of in
     let few = proper.few in
     let many : 2 ^ 37 < length chains = r in
     absurd (omega (arith, long, same, few, many))
@@ -91,11 +91,11 @@ contents-kept : (held : List Content) → map (λ (p : StampedPage). p.content) 
 contents-kept [] = refl
 contents-kept (content ∷ held) = ap (λ (l : List Content). content ∷ l) (contents-kept held)
 
-contents-start : (config : Config) (held : List Content) → contents_of (opened config held) ≡ contents_after held (changes_of_start held)
+contents-start : (config : Config) (held : List Content) → contents_of (opened_state config held) ≡ contents_after held (changes_of_start held)
 contents-start config (roots ∷ counter ∷ held) = rw (drop-nil {A = Content} (length held), drop-nil {A = Event Update} (length held)) (contents-kept (roots ∷ counter ∷ held))
 contents-start config held = refl
 
-missing-few : (held : List Content) → missing held ≢ [] → length held < 2
+missing-few : (held : List Content) → missing_pages held ≢ [] → length held < 2
 missing-few (roots ∷ counter ∷ held) some = absurd (some (drop-nil (length held)))
 missing-few held some = omega arith
 
@@ -108,8 +108,8 @@ module _ {L : Type 0} (g : Ghosts L) (known : g.tells) (config : Config) (old : 
 
   long-now : length chains ≡ length (now held)
   long-now =
-      let long : length (now held) ≡ length (map unplaced chains) = AllZip-long Holds (map unplaced chains) (now held) (holds_now (g.state old.log) held logged) in
-      let same = length-map chains unplaced in
+      let long : length (now held) ≡ length (map messages_of chains) = AllZip-long Holds (map messages_of chains) (now held) (holds_now (g.state old.log) held logged) in
+      let same = length-map chains messages_of in
       omega (arith, long, same)
 
   events-now : events_at_start chains ≡ events_at_start (now held)
@@ -217,7 +217,7 @@ module _ {L : Type 0} (g : Ghosts L) (known : g.tells) (config : Config) (old : 
             let few = missing-few (now held) some in
             let long = long-now in
             no-changes carried.held_then.stable (unplaced_state (g.state new.log)).pending carried.held_then.pending
-            (ap (map (seen (λ (entry : Entry). entry.message))) (stable (omega (arith, few, long)))) carried.logged.pending;
+            (ap (map (seen_event (λ (entry : Entry). entry.message))) (stable (omega (arith, few, long)))) carried.logged.pending;
         config_is = refl;
         recovered = with_it.recovered_is;
       }

@@ -1,5 +1,5 @@
 -- The cache's own pages, as they are read from a log, and as they are made.
-use Rattle.sled_pagecache.proofs.Names.{◌≡◌, ◌≤◌, ◌<◌, ◌&&◌, ◌||◌, ℤ, ℕ, zero, suc, Bool, true, false, List, [], ◌∷◌, length, map, get_or, ltb, Some, refl, sym, ◌∙◌, ap, subst, arith, false≢true, nat_tests, none-some, AllZip-long, AllZip, MessageKind, DiskPtr, Refusal, Corruption, OutOfMemory, ReadsU64, is_freeing, is_empty, Content, Counter, Roots, Node, Put, effect_of_update, Entry, Chain, Messages, unplaced, effect_of_entry, freed_of, Decodes, IsUpdate, LeadTo, Makes, reads_effect, applied, WholeNode, ReadsRoots, IsFoundAs, IsLoaded, RefusesOwn, is_free, freed_at, found_message, RefusesMessage, is_misfit, IsFit, CacheInfo, Page, Found, slice_get}
+use Rattle.sled_pagecache.proofs.Names.{◌≡◌, ◌≤◌, ◌<◌, ◌&&◌, ◌||◌, ℤ, ℕ, zero, suc, Bool, true, false, List, [], ◌∷◌, length, map, get_or, ltb, Some, refl, sym, ◌∙◌, ap, subst, arith, false≢true, nat_tests, none-some, AllZip-long, AllZip, MessageKind, DiskPtr, Refusal, Corruption, OutOfMemory, ReadsU64, is_freeing, is_empty, Content, Counter, Roots, Node, Put, effect_of_update, Entry, Chain, Messages, messages_of, effect_of_entry, freed_of, Decodes, IsUpdate, LeadTo, Makes, reads_effect, applied, WholeNode, ReadsRoots, IsFoundAs, IsLoaded, RefusesOwn, is_free, place_of_freeing, found_message, RefusesMessage, is_misfit, IsFit, CacheInfo, Page, Found, slice_get}
 use Rattle.sled_base.specs.declared.kinds.MessageKind.TheVariants as kinds
 use Rattle.sled_node.specs.Meta as meta
 use Rattle.sled_pagecache.proofs.Linked.{full-free}
@@ -22,18 +22,18 @@ node-leads : (node : WholeNode) (messages : Messages) (content : Content) → Is
 node-leads node [] content own h = subst IsOwn (sym h) own
 node-leads node (m ∷ messages) content own h = node-leads (applied h.1 h.0) messages content own h.5
 
-pub own-one : (chain : Chain) (content : Content) → IsOwn content → Makes (unplaced chain) content → (length chain ≡ 1) × (is_empty effect_of_entry chain ≡ false)
+pub own-one : (chain : Chain) (content : Content) → IsOwn content → Makes (messages_of chain) content → (length chain ≡ 1) × (is_empty effect_of_entry chain ≡ false)
 own-one [] content own h = absurd h
 own-one (entry ∷ []) content own h =
     (refl, ap is_freeing (reads_effect entry.message.kind entry.message.payload (Put h.0) h.1) ∙ ap (λ (c : Content). is_freeing (effect_of_update (Put c))) h.2 ∙ own-effect content own)
-own-one (entry ∷ next ∷ chain) content own h = absurd (node-leads (applied h.2.1 h.2.0) (unplaced chain) content own h.2.5)
+own-one (entry ∷ next ∷ chain) content own h = absurd (node-leads (applied h.2.1 h.2.0) (messages_of chain) content own h.2.5)
 
 -- ---- which pages are so
 
 abbrev misfit_by : ℕ → ℕ → Bool → Bool
 misfit_by pid len free = ltb 10 len || (ltb pid 2 && (free || ltb 1 len))
 
-own-fits : (pid : ℕ) (chain : Chain) (page : Page) (content : Content) → IsLoaded chain page → IsOwn content → Makes (unplaced chain) content → is_misfit pid page ≡ false
+own-fits : (pid : ℕ) (chain : Chain) (page : Page) (content : Content) → IsLoaded chain page → IsOwn content → Makes (messages_of chain) content → is_misfit pid page ≡ false
 own-fits pid chain page content is own makes =
     let one = own-one chain content own makes in
     let sole = is.kept.long in
@@ -71,15 +71,15 @@ found-full pid chain page found first own some is fits zip first-is frees =
 
 -- ---- the pointer of the first message
 
-pub first-pointer : (chain : Chain) (infos : List CacheInfo) (pointer : DiskPtr) → map freed_of chain ≡ map freed_at infos
+pub first-pointer : (chain : Chain) (infos : List CacheInfo) (pointer : DiskPtr) → map freed_of chain ≡ map place_of_freeing infos
     → slice_get (map (λ (info : CacheInfo). info.pointer) infos) 0 ≡ Some pointer → slice_get (map (λ (entry : Entry). entry.place.pointer) chain) 0 ≡ Some pointer
 first-pointer chain [] pointer at is = absurd (none-some pointer is)
 first-pointer [] (info ∷ infos) pointer at is = (let e = at in cc)
 first-pointer (entry ∷ chain) (info ∷ infos) pointer at is =
-    let same : freed_of entry ≡ freed_at info = (let e = at in cc) in
+    let same : freed_of entry ≡ place_of_freeing info = (let e = at in cc) in
     ap (λ (at : ℤ × DiskPtr). Some at.1) same ∙ is
 
-pub begins-at : (chain : Chain) (infos : List CacheInfo) (info : CacheInfo) → map freed_of chain ≡ map freed_at infos → 0 < length infos → info ≡ get_or infos 0 info
+pub begins-at : (chain : Chain) (infos : List CacheInfo) (info : CacheInfo) → map freed_of chain ≡ map place_of_freeing infos → 0 < length infos → info ≡ get_or infos 0 info
     → slice_get (map (λ (entry : Entry). entry.place.pointer) chain) 0 ≡ Some info.pointer
 begins-at chain infos info at some is = first-pointer chain infos info.pointer at (first-place infos info some is)
 
@@ -89,10 +89,10 @@ found-at (entry ∷ chain) first zip = ap (λ (p : DiskPtr). Some p) (sym zip.0.
 
 -- ---- what one message makes
 
-pub made-one : (chain : Chain) (first : Found) (content : Content) → AllZip IsFoundAs chain (first ∷ []) → IsUpdate (found_message first) (Put content) → Makes (unplaced chain) content
+pub made-one : (chain : Chain) (first : Found) (content : Content) → AllZip IsFoundAs chain (first ∷ []) → IsUpdate (found_message first) (Put content) → Makes (messages_of chain) content
 made-one chain first content zip reads = makes-found chain (first ∷ []) content zip (content, reads, refl)
 
-one-made : (chain : Chain) (first : Found) (content : Content) → AllZip IsFoundAs chain (first ∷ []) → Makes (unplaced chain) content → IsUpdate (found_message first) (Put content)
+one-made : (chain : Chain) (first : Found) (content : Content) → AllZip IsFoundAs chain (first ∷ []) → Makes (messages_of chain) content → IsUpdate (found_message first) (Put content)
 one-made chain first content zip makes =
     let made = found-makes chain (first ∷ []) content zip makes in
     subst (λ (c : Content). IsUpdate (found_message first) (Put c)) made.2 made.1

@@ -1,7 +1,7 @@
 -- What a table keeps at an id, and what a change of one of its chunks makes of it.
 use Rattle.sled_pagecache.proofs.Names.{◌≡◌, ◌+◌, ◌-◌, ◌*◌, ◌/◌, ◌%◌, ◌<◌, ◌≤◌, ℕ, Bool, true, List, [], ◌∷◌, ◌++◌, length, Some, None, slice_get, get_or, set, vec_len, vec_capacity, nat_lt, refl, sym, ◌∙◌, ap, arith, lt-ltb, ltb-true, and_parts, and_from, slice_get_past, slice_get_within, get_or_from_slice_get, Vec, option_and_then, with_item, Page, TableView, pages_in, AreFilled, at_last, is_unfilled, has_room, view_of, IsPageTable, fan, most_pages}
 use Rattle.sled_pagecache.proofs.PageChunks as of_chunks
-use Rattle.sled_pagecache.specs.TableLoans.{with_page}
+use Rattle.sled_pagecache.specs.Lending.{with_page}
 
 -- ---- the page at an id
 

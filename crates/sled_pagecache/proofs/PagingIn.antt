@@ -1,5 +1,5 @@
 -- A page that is brought into memory: the table beside its log, and what one sees who knows the cache by its model.
-use Rattle.sled_pagecache.proofs.Names.{Recency, ◌≡◌, ◌≤◌, inr, ℕ, Bool, true, false, List, [], length, Some, Result, Ok, Err, slice_get, slice_set, slice_index_or, refl, sym, ◌∙◌, ap, subst, arith, false≢true, false_from_ne_true, map-set, set-get_or, length-map, get_or_past, none-some, same_Some, slice_get_past, AllZip-long, AllByRecursion, IfErr, OnOk, OnErr, IsOk, Refusal, is_open, open_after, is_empty, is_chain, Event, Message, Chain, effect_of, effect_of_entry, IsSized, Ghosts, Cache, chain_length, IsResident, IsAway, chain_at, more, Went, IsCaused, Went-none, HoldsChain, IsKept, is_free, is_resident, RefusesReading, BringsIn, RefusesPull, IsDamaged, ReadsPage, is_reserved, stamps_in, resident_in, IsFreeOrNode, IsConsistent, Config, StickyLog, Kept, Page, unplaced_state, IsLeft, now, view, map-at, set-at, put-back, all-at, behind-own, kept-at, own-at}
+use Rattle.sled_pagecache.proofs.Names.{Recency, ◌≡◌, ◌≤◌, inr, ℕ, Bool, true, false, List, [], length, Some, Result, Ok, Err, slice_get, slice_set, slice_index_or, refl, sym, ◌∙◌, ap, subst, arith, false≢true, false_from_ne_true, map-set, set-get_or, length-map, get_or_past, none-some, same_Some, slice_get_past, AllZip-long, AllByRecursion, IfErr, OnOk, OnErr, IsOk, Refusal, is_open, open_after, is_empty, is_chain, Event, Message, Chain, effect_of, effect_of_entry, IsSized, Ghosts, Cache, chain_length, IsResident, IsAway, chain_at, count_after, Went, IsCaused, Went-none, HoldsChain, IsKept, is_free, is_resident, RefusesReading, BringsIn, RefusesPull, IsDamaged, ReadsPage, is_reserved, stamps_in, resident_in, IsFreeOrNode, IsConsistent, Config, StickyLog, Kept, Page, unplaced_state, IsLeft, now, view, map-at, set-at, put-back, all-at, behind-own, kept-at, own-at}
 use Rattle.sled_pagecache.proofs.ReadCounts.{reads-none, reads-whole, reads-part}
 use Rattle.sled_pagecache.proofs.Tables.{IsSet, consistent-set, free-same}
 
@@ -162,14 +162,14 @@ module _ {L : Type 0} (g : Ghosts L) (next : ℕ) (config : Config) (recovered :
     -- how often the log was read, where a page was pulled, and nothing is read then
     pub reads-pulled : (result : Result (Unit {0}) Refusal)
         → (is_resident q.kept ≡ true → (g.counts after.log).reads ≡ (g.counts before.log).reads)
-        → (is_resident q.kept ≡ false → OnOk result ((g.counts after.log).reads ≡ more (length q.infos.items) (g.counts before.log).reads))
-        → (is_resident q.kept ≡ false → OnErr result ((is_resident page.kept ≡ false) × (times : ℕ) × (times ≤ length q.infos.items) × ((g.counts after.log).reads ≡ more times (g.counts before.log).reads)))
+        → (is_resident q.kept ≡ false → OnOk result ((g.counts after.log).reads ≡ count_after (length q.infos.items) (g.counts before.log).reads))
+        → (is_resident q.kept ≡ false → OnErr result ((is_resident page.kept ≡ false) × (times : ℕ) × (times ≤ length q.infos.items) × ((g.counts after.log).reads ≡ count_after times (g.counts before.log).reads)))
         → ReadsPage g (cache before pages) pid (cache after (slice_set pages pid page))
     reads-pulled result unread whole part = by (is_resident q.kept) refl result whole part
       where
         by : (b : Bool) → is_resident q.kept ≡ b → (result : Result (Unit {0}) Refusal)
-            → (is_resident q.kept ≡ false → OnOk result ((g.counts after.log).reads ≡ more (length q.infos.items) (g.counts before.log).reads))
-            → (is_resident q.kept ≡ false → OnErr result ((is_resident page.kept ≡ false) × (times : ℕ) × (times ≤ length q.infos.items) × ((g.counts after.log).reads ≡ more times (g.counts before.log).reads)))
+            → (is_resident q.kept ≡ false → OnOk result ((g.counts after.log).reads ≡ count_after (length q.infos.items) (g.counts before.log).reads))
+            → (is_resident q.kept ≡ false → OnErr result ((is_resident page.kept ≡ false) × (times : ℕ) × (times ≤ length q.infos.items) × ((g.counts after.log).reads ≡ count_after times (g.counts before.log).reads)))
             → ReadsPage g (cache before pages) pid (cache after (slice_set pages pid page))
         by true held result whole part =
             reads-none g (cache before pages) (cache after (slice_set pages pid page)) pid (unread held) (λ away _. false≢true (sym (before-is false away) ∙ held))

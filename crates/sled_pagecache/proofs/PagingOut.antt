@@ -1,5 +1,5 @@
 -- A page leaves memory, and its cache stays as it always is.
-use Rattle.sled_pagecache.proofs.Names.{set-get_or, slice_index_or, zip-set, Recency, eqb_tells, ◌≡◌, ◌≢◌, ◌⊎◌, ◌≤◌, inl, inr, ℕ, Bool, true, false, List, [], length, length-set, ◌^◌, map, Some, None, slice_get, slice_set, refl, sym, ◌∙◌, ap, subst, same_Some, map-set, AllZip, Chain, effect_of_entry, Ghosts, Cache, IsResident, IsAway, HoldsChain, IsKept, place_of, is_free, is_resident, AreOwn, IsRoots, IsCounter, IsFreeOrNode, IsOwnAt, IsConsistent, stamps_in, Config, CacheInfo, StickyLog, Kept, Page, HasNode, HasNoNode, StaysAt, access_size, size_if, paged_out, IsPagedOut, now, view, each-set, arith, at-id, set-by-id, kept-at, map-at, set-at, put-back, all-at}
+use Rattle.sled_pagecache.proofs.Names.{set-get_or, slice_index_or, zip-set, Recency, eqb_tells, ◌≡◌, ◌≢◌, ◌⊎◌, ◌≤◌, inl, inr, ℕ, Bool, true, false, List, [], length, length-set, ◌^◌, map, Some, None, slice_get, slice_set, refl, sym, ◌∙◌, ap, subst, same_Some, map-set, AllZip, Chain, effect_of_entry, Ghosts, Cache, IsResident, IsAway, HoldsChain, IsKept, place_of, is_free, is_resident, AreOwn, IsRoots, IsCounter, IsFreeOrNode, IsOwnAt, IsConsistent, stamps_in, Config, CacheInfo, StickyLog, Kept, Page, HasNode, HasNoNode, StaysAt, access_size, size_if, kept_behind_eviction, IsPagedOut, now, view, each-set, arith, at-id, set-by-id, kept-at, map-at, set-at, put-back, all-at}
 use Rattle.sled_pagecache.proofs.InMemory.{stays-same, stays-then, set-others, set-none}
 use Rattle.sled_pagecache.proofs.Standing.{node-full}
 use Rattle.sled_pagecache.proofs.Tables.{free-same}
@@ -7,29 +7,29 @@ use Rattle.sled_pagecache.specs.declared.pagecache.page.Kept.TheVariants as kept
 
 -- ---- what a page holds then
 
-holds-out : (chain : Chain) (k : Kept) → HoldsChain chain k → HoldsChain chain (paged_out k)
+holds-out : (chain : Chain) (k : Kept) → HoldsChain chain k → HoldsChain chain (kept_behind_eviction k)
 holds-out chain (kept.Node node) holds = node-full chain node holds
 holds-out chain k holds = holds
 
-free-out : (k : Kept) → is_free (paged_out k) ≡ is_free k
+free-out : (k : Kept) → is_free (kept_behind_eviction k) ≡ is_free k
 free-out k = grind arith
 
-roots-out : (k : Kept) → IsRoots k → IsRoots (paged_out k)
+roots-out : (k : Kept) → IsRoots k → IsRoots (kept_behind_eviction k)
 roots-out k is = grind arith
 
-counter-out : (k : Kept) → IsCounter k → IsCounter (paged_out k)
+counter-out : (k : Kept) → IsCounter k → IsCounter (kept_behind_eviction k)
 counter-out k is = grind arith
 
-own-out : (k : Kept) → IsFreeOrNode k → IsFreeOrNode (paged_out k)
+own-out : (k : Kept) → IsFreeOrNode k → IsFreeOrNode (kept_behind_eviction k)
 own-out k is = grind arith
 
-no-node-out : (size : ℕ) (k : Kept) → size_if size (paged_out k) ≡ None
+no-node-out : (size : ℕ) (k : Kept) → size_if size (kept_behind_eviction k) ≡ None
 no-node-out size k = grind arith
 
-resident-out : (k : Kept) → is_resident (paged_out k) ≡ true → is_resident k ≡ true
+resident-out : (k : Kept) → is_resident (kept_behind_eviction k) ≡ true → is_resident k ≡ true
 resident-out k is = grind arith
 
-away-out : (k : Kept) → is_resident k ≡ false → is_resident (paged_out k) ≡ false
+away-out : (k : Kept) → is_resident k ≡ false → is_resident (kept_behind_eviction k) ≡ false
 away-out k is = grind arith
 
 kept-out : (chain : Chain) (q page : Page) → IsKept chain q → IsPagedOut q page → IsKept chain page
@@ -46,7 +46,7 @@ zip-out chains pages pid q page zip at out =
     subst (λ (l : List Chain). AllZip IsKept l (slice_set pages pid page)) (set-get_or chains pid [])
     (zip-set IsKept pid chains pages (slice_index_or chains pid []) page zip (kept-out (slice_index_or chains pid []) q page (kept-at chains pages pid q zip at) out))
 
-own-kept : (pid : ℕ) (k : Kept) → IsOwnAt pid k → IsOwnAt pid (paged_out k)
+own-kept : (pid : ℕ) (k : Kept) → IsOwnAt pid k → IsOwnAt pid (kept_behind_eviction k)
 own-kept pid k h1 = grind arith
 
 owns-out : (pages : List Page) (pid : ℕ) (q page : Page) → AreOwn pages → slice_get pages pid ≡ Some q → IsPagedOut q page → AreOwn (slice_set pages pid page)
@@ -144,7 +144,7 @@ module _ {L : Type 0} where
     was-is : (b : Bool) → slice_get old.resident pid ≡ Some b → is_resident q.kept ≡ b
     was-is b is = same_Some (is_resident q.kept) b (sym (map-at (λ (p : Page). is_resident p.kept) pages pid q at) ∙ is)
 
-    out-is : (b : Bool) → slice_get new.resident pid ≡ Some b → is_resident (paged_out q.kept) ≡ b
+    out-is : (b : Bool) → slice_get new.resident pid ≡ Some b → is_resident (kept_behind_eviction q.kept) ≡ b
     out-is b is = ap is_resident (sym out.kept) ∙ same_Some (is_resident page.kept) b (sym new-at ∙ is)
 
     either : {P : Type 0} (other : ℕ) → (other ≡ pid → P) → (other ≢ pid → P) → P

@@ -1,5 +1,5 @@
 -- A node that was put on a page that had none, or was refused, once what the list dropped for it is paged out: what an allocation answers.
-use Rattle.sled_pagecache.proofs.Names.{◌≡◌, ◌<◌, ◌+◌, ◌^◌, ℕ, Bool, false, List, [], ◌∷◌, ◌++◌, length, Some, None, Result, Ok, Err, slice_get, slice_set, refl, sym, ◌∙◌, ap, subst, arith, same_Some, error_of, Error, Refusal, Change, message_of, begun_by, Put, Node, Ghosts, WholeNode, Cache, IsResident, HasNoNode, IsBounded, AccessesPage, LeavesNodes, RefusesSwap, RefusesPage, MakesAppend, MakesNewPage, RefusesAppend, Keeps, Steps, IsBlamed, stamped, stamps_in, resident_in, is_free, IsFreeOrNode, IsConsistent, Token, token, pid_of, stamp_of, Allocate, Allocated, Config, StickyLog, Accesses, Page, IsWhole, Evicts, IsSettled, put-back, view}
+use Rattle.sled_pagecache.proofs.Names.{◌≡◌, ◌<◌, ◌+◌, ◌^◌, ℕ, Bool, false, List, [], ◌∷◌, ◌++◌, length, Some, None, Result, Ok, Err, slice_get, slice_set, refl, sym, ◌∙◌, ap, subst, arith, same_Some, error_of, Error, Refusal, Change, message_of, begun_by, Put, Node, Ghosts, WholeNode, Cache, IsResident, HasNoNode, IsBounded, AccessesPage, LeavesNodes, RefusesSwap, RefusesPage, MakesAppend, MakesNewPage, RefusesAppend, Keeps, Steps, IsBlamed, stamps_with, stamps_in, resident_in, is_free, IsFreeOrNode, IsConsistent, Token, token, pid_of, stamp_of, Allocate, Allocated, Config, StickyLog, Accesses, Page, IsWhole, Evicts, IsSettled, put-back, view}
 use Rattle.sled_pagecache.proofs.Allocating.{IsLastFree, last-at, taken-last, free-from, adds-refused, adds-done, reuses-refused, reuses-done}
 use Rattle.sled_pagecache.proofs.Answers.{keeps-err, keeps-ok, stamps-added, stamps-reused}
 use Rattle.sled_pagecache.proofs.Appending.{after-made}
@@ -16,7 +16,7 @@ use Rattle.sled_pagecache.specs.declared.pagecache.page.Kept.TheVariants as kept
 pub record PageMade {L : Type 0} (g : Ghosts L) (was now : Cache L) (settled : Type 0) (node : WholeNode) (pid : ℕ) (made : Token) : Type 0 where
   pub is : settled
   pub step : Steps g was (Allocate node) (Allocated (Ok (pid, made))) now
-  pub keeps : let result : Result (ℕ × Token) Error = Ok (pid, made) in Keeps was now result (λ made. stamped was.stamps made.1)
+  pub keeps : let result : Result (ℕ × Token) Error = Ok (pid, made) in Keeps was now result (λ made. stamps_with was.stamps made.1)
   pub token : (pid_of made ≡ pid) × (slice_get now.stamps pid ≡ Some (stamp_of made))
   pub bounded : IsBounded g now
   pub accessed : AccessesPage was pid now
@@ -27,7 +27,7 @@ pub record PageRefused {L : Type 0} (g : Ghosts L) (was now : Cache L) (settled 
   pub is : settled
   pub step : Steps g was (Allocate node) (Allocated (Err (error_of refusal))) now
   pub blame : let result : Result (ℕ × Token) Error = Err (error_of refusal) in IsBlamed g was now result
-  pub keeps : let result : Result (ℕ × Token) Error = Err (error_of refusal) in Keeps was now result (λ made. stamped was.stamps made.1)
+  pub keeps : let result : Result (ℕ × Token) Error = Err (error_of refusal) in Keeps was now result (λ made. stamps_with was.stamps made.1)
   pub bounded : IsBounded g now
   pub leaves : LeavesNodes g.tells was now (error_of refusal)
 
@@ -55,7 +55,7 @@ module _ {L : Type 0} (g : Ghosts L) {next : ℕ} {config : Config} {recovered :
         is = move.settled page.bounded;
         step = move.steps (Allocate node) (Allocated result) step;
         blame = move.blame (blamed g _ _ _ refusal refused.cause);
-        keeps = move.keeps (λ made. stamped (stamps_in table) made.1) (keeps-err _ _ _ (Unit {0}) refusal clear refused.cause.fault (ap stamps_in back) refused.went.batch) page.stuck;
+        keeps = move.keeps (λ made. stamps_with (stamps_in table) made.1) (keeps-err _ _ _ (Unit {0}) refusal clear refused.cause.fault (ap stamps_in back) refused.went.batch) page.stuck;
         bounded = page.bounded;
         leaves = page.leaves;
       }
@@ -84,7 +84,7 @@ module _ {L : Type 0} (g : Ghosts L) {next : ℕ} {config : Config} {recovered :
         is = move.settled page.bounded;
         step = move.steps (Allocate node) (Allocated result) (steps-known g _ _ _ _ (record { config = refl; recovered = refl }) (λ told. adds-done g next config recovered accesses.lru before table free clear is.whole.consistent node after changed done.is
             none done.room done.went done.fault new.page new.stamp new.is pid last made is_made));
-        keeps = move.keeps (λ made. stamped (stamps_in table) made.1) (keeps-ok _ _ _ _ clear done.fault stamps.0 done.went.batch) tt;
+        keeps = move.keeps (λ made. stamps_with (stamps_in table) made.1) (keeps-ok _ _ _ _ clear done.fault stamps.0 done.went.batch) tt;
         token = (ap pid_of is_made, ap (λ (l : List ℕ). slice_get l pid) move.stamps ∙ ap (slice_get (stamps_in changed)) last ∙ stamps.1);
         bounded = page.bounded;
         accessed = page.accessed;
@@ -114,7 +114,7 @@ module _ {L : Type 0} (g : Ghosts L) {next : ℕ} {config : Config} {recovered :
         is = after_all.is;
         step = after_all.evicted.steps (Allocate node) (Allocated result) (steps-known g _ _ _ _ (record { config = refl; recovered = refl }) (λ told. reuses-done g next config recovered accesses.lru before table free clear is.whole.consistent node after (slice_set table pid page) done.is
             front pid last (λ greatest. let below = done.stamp.0 in omega (arith, below, greatest, stamp)) done.went done.fault page (done.stamp.1 ∙ ap (λ n. n + 1) stamp) refl made is_made));
-        keeps = after_all.evicted.keeps (λ made. stamped (stamps_in table) made.1) (keeps-ok _ _ _ _ clear done.fault stamps.0 done.went.batch) tt;
+        keeps = after_all.evicted.keeps (λ made. stamps_with (stamps_in table) made.1) (keeps-ok _ _ _ _ clear done.fault stamps.0 done.went.batch) tt;
         token = (ap pid_of is_made, ap (λ (l : List ℕ). slice_get l pid) after_all.evicted.stamps ∙ stamps.1);
         bounded = after_all.evicted.bounded;
         accessed = after_all.accessed;

@@ -1,6 +1,6 @@
 -- Calls of a log, one after another up to the first that is refused.
 use Rattle.sled_pagecache.proofs.Names.{◌≡◌, true, false, List, [], ◌∷◌, ◌++◌, Option, None, Some, Result, Ok, Err, refl, sym, ◌∙◌, ap, subst, append_assoc, append-nil, Write, Refusal, ReportableBug, Io, Corruption, OutOfMemory, Event, Message, Messages, effect_of, IsLeft, unplaced_state, Ghosts, IsCaused, is_write_fault, begun_by, HasGrown-since, IsCaused-since, Went-none, Went-then, Went-last, refusal_in, is_fault, Comes, TakesNoRoom, LacksRoom, Reaches, Proceeds, StickyLog, arith}
-use Rattle.sled_pagecache.specs.Proceeding.{WasFull}
+use Rattle.sled_pagecache.specs.Inside.LogCalls.{WasFull}
 
 fault-same : {T : Type 0} (result : Result T Refusal) → is_write_fault result ≡ is_fault (refusal_in result)
 fault-same result = grind arith

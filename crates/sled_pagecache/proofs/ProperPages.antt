@@ -1,7 +1,7 @@
 -- What a change of a page from 2 on makes of pages as a cache leaves them.
-use Rattle.sled_pagecache.proofs.Names.{◌≡◌, ◌≤◌, ◌<◌, ◌^◌, ℕ, Bool, true, false, cond, List, [], ◌∷◌, ◌++◌, length, Some, slice_get, slice_set, slice_index_or, sym, subst, arith, eq-eqb, ne_eqb, length-append, length-set, get_or_from_slice_get, AllZip-long, applied, WholeNode, is_empty, linked, chains_from, Content, Free, Node, Put, Link, after_link, contents_from, Change, Message, Messages, effect_of, Holds, Hold, message_of, IsUsers, IsProper, if◌then◌else◌, ◌==◌, NodeLink, each-set, add-by-id, past-two, set-by-id}
+use Rattle.sled_pagecache.proofs.Names.{◌≡◌, ◌≤◌, ◌<◌, ◌^◌, ℕ, Bool, true, false, cond, List, [], ◌∷◌, ◌++◌, length, Some, slice_get, slice_set, slice_index_or, sym, subst, arith, eq-eqb, ne_eqb, length-append, length-set, get_or_from_slice_get, AllZip-long, applied, WholeNode, is_empty, chain_with_link, chains_from, Content, Free, Node, Put, Link, after_link, contents_from, Change, Message, Messages, effect_of, Holds, Hold, message_of, IsUsers, IsProper, if◌then◌else◌, ◌==◌, NodeLink, each-set, add-by-id, past-two, set-by-id}
 pub use Rattle.sled_node.proofs.Edits.{all_append as all-append}
-use Rattle.sled_pagecache.specs.Proper.{AreRoots, IsCounter, IsOwnAt}
+use Rattle.sled_pagecache.specs.Logged.{AreRoots, IsCounter, IsOwnAt}
 
 -- ---- a page changes, or is added
 
@@ -66,7 +66,7 @@ module _ (pages : List Messages) (contents : List Content) (hold : Hold pages co
       rw (eq-eqb pid (length pages) (omega (arith, last, long)), eq-eqb pid (length contents) last)
       (proper-add pages contents (message_of (Put (Node node)) ∷ []) (Node node) proper (omega (arith, from, last)) room (omega arith) tt)
 
-  linked-fits : (told : Messages) (m : Message) → length told < 10 → length (linked effect_of told m) ≤ 10
+  linked-fits : (told : Messages) (m : Message) → length told < 10 → length (chain_with_link effect_of told m) ≤ 10
   linked-fits told m short = by (is_empty effect_of told)
     where
       by : (b : Bool) → length (cond b told (told ++ m ∷ [])) ≤ 10
@@ -79,5 +79,5 @@ module _ (pages : List Messages) (contents : List Content) (hold : Hold pages co
   link-proper link node at short =
       subst (λ content. IsProper (chains_from effect_of pages (Change pid (message_of (Link link)))) (slice_set contents pid (after_link link content)))
       (sym (get_or_from_slice_get contents pid (Node node) Free at))
-      (proper-set pages contents pid (linked effect_of (slice_index_or pages pid []) (message_of (Link link))) (Node (applied link node)) proper from
+      (proper-set pages contents pid (chain_with_link effect_of (slice_index_or pages pid []) (message_of (Link link))) (Node (applied link node)) proper from
       (linked-fits (slice_index_or pages pid []) (message_of (Link link)) short) tt)

@@ -1,5 +1,5 @@
 -- What was found of a page makes what the messages of its chain make, and why no node is read.
-use Rattle.sled_pagecache.proofs.Names.{◌≡◌, ◌⊎◌, inl, inr, ℕ, false, List, [], ◌∷◌, ◌++◌, map, Some, refl, sym, ◌∙◌, ap, subst, AllZip, log_kind_of, MessageKind, FreeInPull, DiskPtr, Refusal, ReportableBug, Corruption, OutOfMemory, is_empty, Content, Node, Update, Put, Link, Message, Entry, Chain, Messages, unplaced, effect_of_entry, blob_kind, kind_at, Decodes, IsUpdate, LeadTo, Makes, zip-append, applied, IsFoundAs, RefusesPull, found_message, MakesNode, IsFoundWrong, IsWrongAt, BeginsFree, RefusesNode, Found, arith}
+use Rattle.sled_pagecache.proofs.Names.{◌≡◌, ◌⊎◌, inl, inr, ℕ, false, List, [], ◌∷◌, ◌++◌, map, Some, refl, sym, ◌∙◌, ap, subst, AllZip, log_kind_of, MessageKind, FreeInPull, DiskPtr, Refusal, ReportableBug, Corruption, OutOfMemory, is_empty, Content, Node, Update, Put, Link, Message, Entry, Chain, Messages, messages_of, effect_of_entry, blob_kind, kind_at, Decodes, IsUpdate, LeadTo, Makes, zip-append, applied, IsFoundAs, RefusesPull, found_message, MakesNode, IsFoundWrong, IsWrongAt, BeginsFree, RefusesNode, Found, arith}
 
 -- ---- a kind, and that of its blob
 
@@ -39,22 +39,22 @@ found-is entry found is u =
     ap (λ (kind : MessageKind). Decodes kind found.payload.items u) is.0.0 ∙ ap (λ (payload : List ℕ). Decodes (kind_at entry.place.pointer entry.message.kind) payload u) is.0.1
     ∙ reads-at entry.place.pointer entry.message.kind entry.message.payload u
 
-all-found : (chain : Chain) (found : List Found) → AllZip IsFoundAs chain found → AllZip IsToo (unplaced chain) (map found_message found)
+all-found : (chain : Chain) (found : List Found) → AllZip IsFoundAs chain found → AllZip IsToo (messages_of chain) (map found_message found)
 all-found [] [] zip = tt
 all-found (e ∷ chain) (x ∷ found) zip = ((λ u. subst (λ (T : Type 0). T) (sym (found-is e x zip.0 u))), all-found chain found zip.1)
 all-found chain found zip = absurd zip
 
-found-all : (chain : Chain) (found : List Found) → AllZip IsFoundAs chain found → AllZip IsToo (map found_message found) (unplaced chain)
+found-all : (chain : Chain) (found : List Found) → AllZip IsFoundAs chain found → AllZip IsToo (map found_message found) (messages_of chain)
 found-all [] [] zip = tt
 found-all (e ∷ chain) (x ∷ found) zip = ((λ u. subst (λ (T : Type 0). T) (found-is e x zip.0 u)), found-all chain found zip.1)
 found-all chain found zip = absurd zip
 
 -- what was found makes what the chain makes, and nothing else
-pub makes-found : (chain : Chain) (found : List Found) (content : Content) → AllZip IsFoundAs chain found → Makes (map found_message found) content → Makes (unplaced chain) content
-makes-found chain found content zip h = makes-too (map found_message found) (unplaced chain) content (found-all chain found zip) h
+pub makes-found : (chain : Chain) (found : List Found) (content : Content) → AllZip IsFoundAs chain found → Makes (map found_message found) content → Makes (messages_of chain) content
+makes-found chain found content zip h = makes-too (map found_message found) (messages_of chain) content (found-all chain found zip) h
 
-pub found-makes : (chain : Chain) (found : List Found) (content : Content) → AllZip IsFoundAs chain found → Makes (unplaced chain) content → Makes (map found_message found) content
-found-makes chain found content zip h = makes-too (unplaced chain) (map found_message found) content (all-found chain found zip) h
+pub found-makes : (chain : Chain) (found : List Found) (content : Content) → AllZip IsFoundAs chain found → Makes (messages_of chain) content → Makes (map found_message found) content
+found-makes chain found content zip h = makes-too (messages_of chain) (map found_message found) content (all-found chain found zip) h
 
 -- what was found of a page that isn't free doesn't begin so
 pub begins-full : (chain : Chain) (found : List Found) → AllZip IsFoundAs chain found → is_empty effect_of_entry chain ≡ false → ¬ BeginsFree found
@@ -81,7 +81,7 @@ wrong-at : (chain : Chain) (found : List Found) (pointer : DiskPtr) → AllZip I
 wrong-at chain found pointer zip r =
     let at = split chain r.before r.first r.after (subst (λ (l : List Found). AllZip IsFoundAs chain l) r.is zip) in
     let both : AllZip IsFoundAs (at.0 ++ at.1 ∷ []) (r.before ++ r.first ∷ []) = zip-append IsFoundAs at.0 r.before (at.1 ∷ []) (r.first ∷ []) at.4 (at.5, tt) in
-    let sound : (r.before ≡ []) ⊎ MakesNode (map found_message r.before) → (at.0 ≡ []) ⊎ MakesNode (unplaced at.0) =
+    let sound : (r.before ≡ []) ⊎ MakesNode (map found_message r.before) → (at.0 ≡ []) ⊎ MakesNode (messages_of at.0) =
     elim [ inl none ↦ inl (none-found at.0 r.before at.4 none) | inr made ↦ inr (made.0, makes-found at.0 r.before (Node made.0) at.4 made.1) ] in
     record {
       before = at.0;

@@ -1,5 +1,5 @@
 -- A call that puts a content on one page, as a step of the machine, told of the table that the cache keeps.
-use Rattle.sled_pagecache.proofs.Names.{Recency, ◌≡◌, ◌≤◌, ◌<◌, ◌^◌, ℕ, Bool, true, false, List, [], ◌∷◌, ◌++◌, length, Result, Err, slice_set, refl, sym, ◌∙◌, ap, subst, arith, eq-eqb, ne_eqb, length-map, map-append, map-set, MatchBool, Read, Write, Error, Unsupported, Refusal, LogFull, chains_from, Node, Update, Put, contents_from, Content, Free, Event, Change, holds-after, effect_of, IsUpdate, MayChange, Hold, message_of, Ghosts, WholeNode, Cache, chain_length, IsIn, HasNoRoom, StepOver, Steps, IsBlamed, Went, IsCaused, IsOfLog, begun_by, Logged, sticky_log_of, IsProper, page, State, with_page, Outcome, outcome, unchanged, IsRefused, UnlessFaulty, Fails, stamps_in, IsBeside, Answer, Call, Config, StickyLog, error_by, StampedPage, KeptPage, view, log_now, unplaced_state}
+use Rattle.sled_pagecache.proofs.Names.{Recency, ◌≡◌, ◌≤◌, ◌<◌, ◌^◌, ℕ, Bool, true, false, List, [], ◌∷◌, ◌++◌, length, Result, Err, slice_set, refl, sym, ◌∙◌, ap, subst, arith, eq-eqb, ne_eqb, length-map, map-append, map-set, MatchBool, Read, Write, Error, Unsupported, Refusal, LogFull, chains_from, Node, Update, Put, contents_from, Content, Free, Event, Change, holds-after, effect_of, IsUpdate, MayChange, Hold, message_of, Ghosts, WholeNode, Cache, chain_length, Represents, HasNoRoom, StepOver, Steps, IsBlamed, Went, IsCaused, IsOfLog, begun_by, Logged, sticky_log_of, IsProper, page, State, with_page, Outcome, outcome, no_change, IsRefused, UnlessFaulty, Fails, stamps_in, IsBeside, Answer, Call, Config, StickyLog, error_by, StampedPage, KeptPage, view, log_now, unplaced_state}
 use Rattle.sled_base.specs.declared.types.Error.TheVariants.{Io, OutOfMemory}
 use Rattle.sled_base.specs.declared.types.Refusal.TheVariants as refusals
 use Rattle.sled_pagecache.proofs.CacheSteps.{steps-went}
@@ -20,7 +20,7 @@ module _ {L : Type 0} (g : Ghosts L) where
     pub proper : IsProper (chains_from effect_of (log_now effect_of (unplaced_state (g.state l))) (Change pid (message_of (Put content)))) (contents_from (now held) (Change pid (Put content)))
 
   -- what the log holds makes the contents, which are as many as the pages
-  pub holds_unplaced : (cache : Cache L) (held : Logged) (s : State) → IsIn g cache held s → s.fault ≡ false → Hold (log_now effect_of (unplaced_state (g.state cache.log))) (now held)
+  pub holds_unplaced : (cache : Cache L) (held : Logged) (s : State) → Represents g cache held s → s.fault ≡ false → Hold (log_now effect_of (unplaced_state (g.state cache.log))) (now held)
   holds_unplaced cache held s is clear =
       let logged = (is.known clear).logged in
       holds-after (unplaced_state (g.state cache.log)).stable held.stable (unplaced_state (g.state cache.log)).pending held.pending logged.stable logged.pending
@@ -30,15 +30,15 @@ module _ {L : Type 0} (g : Ghosts L) where
     cache sticky_log table = view next config recovered lru sticky_log table
 
     module _ (before : StickyLog L) (table : List KeptPage) (ready : before.fault ≡ false) (beside : IsBeside g.tells g.state before.log table) where
-      known : (held : Logged) (s : State) → IsIn g (cache before table) held s → s.fault ≡ false → AreKnown s.pages table
+      known : (held : Logged) (s : State) → Represents g (cache before table) held s → s.fault ≡ false → AreKnown s.pages table
       known held s is clear = known-in g (cache before table) table held s is clear refl beside
 
-      pub many : (held : Logged) (s : State) → IsIn g (cache before table) held s → s.fault ≡ false → length (now held) ≡ length table
+      pub many : (held : Logged) (s : State) → Represents g (cache before table) held s → s.fault ≡ false → length (now held) ≡ length table
       many held s is clear =
           ap length (sym (is.known clear).contents) ∙ length-map s.pages (λ (p : StampedPage). p.content) ∙ known-length s.pages table (known held s is clear)
 
       -- on a page from 2 on, or on the next new one
-      pub may-set : (held : Logged) (s : State) → IsIn g (cache before table) held s → s.fault ≡ false → (pid : ℕ) (content : Content) → IsPut content → 2 ≤ pid → pid < length table → MayPut before.log held pid content
+      pub may-set : (held : Logged) (s : State) → Represents g (cache before table) held s → s.fault ≡ false → (pid : ℕ) (content : Content) → IsPut content → 2 ≤ pid → pid < length table → MayPut before.log held pid content
       may-set held s is clear pid content put from there =
           let same = many held s is clear in
           let within : pid < length (now held) = omega (arith, same, there) in
@@ -52,7 +52,7 @@ module _ {L : Type 0} (g : Ghosts L) where
           may-change (Node node) put within = omega (arith, within)
           may-change content put within = absurd put
 
-      pub may-add : (held : Logged) (s : State) → IsIn g (cache before table) held s → s.fault ≡ false → (node : WholeNode) → 2 ≤ length table → length table < 2 ^ 37 → MayPut before.log held (length table) (Node node)
+      pub may-add : (held : Logged) (s : State) → Represents g (cache before table) held s → s.fault ≡ false → (node : WholeNode) → 2 ≤ length table → length table < 2 ^ 37 → MayPut before.log held (length table) (Node node)
       may-add held s is clear node from room =
           let same = many held s is clear in
           record {
@@ -63,20 +63,20 @@ module _ {L : Type 0} (g : Ghosts L) where
       module _ (after : StickyLog L) (call : Call) where
         -- nothing was told to the log, and nothing changes
         pub nothing-appended : (pages : List KeptPage) → pages ≡ table → (answer : Answer) → Went g before after [] → after.fault ≡ false
-            → ((held : Logged) (s : State) → IsIn g (cache before table) held s → s.fault ≡ false → AreKnown s.pages table → StepOver g (cache before table) s call answer (unchanged s))
+            → ((held : Logged) (s : State) → Represents g (cache before table) held s → s.fault ≡ false → AreKnown s.pages table → StepOver g (cache before table) s call answer (no_change s))
             → Steps g (cache before table) call answer (cache after pages)
         nothing-appended pages back answer went free step =
             steps-went g (cache before table) (cache after pages) before after call answer [] (record { config = refl; recovered = refl }) refl refl refl ready went
             (λ held s is clear. leads-same g (cache before table) (cache after pages) held s is clear call answer refl (step held s is clear (known held s is clear)) (ap stamps_in back) free)
 
         module _ (pid : ℕ) (content : Content) (reads : IsUpdate (message_of (Put content)) (Put content))
-            (may : (held : Logged) (s : State) → IsIn g (cache before table) held s → s.fault ≡ false → MayPut before.log held pid content) where
+            (may : (held : Logged) (s : State) → Represents g (cache before table) held s → s.fault ≡ false → MayPut before.log held pid content) where
           abbrev change : Event Update
           change = Change pid (Put content)
 
           -- a write fault came while the content was told
           put-failed : (pages : List KeptPage) → pages ≡ table → (answer : Answer) → Went g before after (Change pid (message_of (Put content)) ∷ []) → after.fault ≡ true
-              → ((held : Logged) (s : State) → IsIn g (cache before table) held s → s.fault ≡ false → AreKnown s.pages table → StepOver g (cache before table) s call answer (outcome (record s { fault = true }) (change ∷ [])))
+              → ((held : Logged) (s : State) → Represents g (cache before table) held s → s.fault ≡ false → AreKnown s.pages table → StepOver g (cache before table) s call answer (outcome (record s { fault = true }) (change ∷ [])))
               → Steps g (cache before table) call answer (cache after pages)
           put-failed pages back answer went kept step =
               steps-went g (cache before table) (cache after pages) before after call answer (Change pid (message_of (Put content)) ∷ []) (record { config = refl; recovered = refl }) refl refl refl ready went
@@ -86,24 +86,24 @@ module _ {L : Type 0} (g : Ghosts L) where
 
           -- the log refused it, or failed
           pub put-refused : (T : Type 0) (pages : List KeptPage) → pages ≡ table → (answer : Error → Answer)
-              → ((held : Logged) (s : State) → IsIn g (cache before table) held s → s.fault ≡ false → AreKnown s.pages table → (e : Error) (out : Outcome) → Fails (chain_length g.state (cache before table)) (HasNoRoom g before.log) s change e out → StepOver g (cache before table) s call (answer e) out)
+              → ((held : Logged) (s : State) → Represents g (cache before table) held s → s.fault ≡ false → AreKnown s.pages table → (e : Error) (out : Outcome) → Fails (chain_length g.state (cache before table)) (HasNoRoom g before.log) s change e out → StepOver g (cache before table) s call (answer e) out)
               → (refusal : Refusal) → IsOfLog refusal
               → (let told : Result T Refusal = Err refusal in Went g before after (begun_by told (Change pid (message_of (Put content)) ∷ [])))
               → (let told : Result T Refusal = Err refusal in IsCaused g before after (g.is_full before.log (length (message_of (Put content)).payload)) told)
               → Steps g (cache before table) call (answer (error_by refusal)) (cache after pages)
           put-refused T pages back answer step refusals.OutOfMemory of went cause =
-              nothing-appended pages back (answer OutOfMemory) went cause.fault (λ held s is clear are. step held s is clear are OutOfMemory (unchanged s) refl)
+              nothing-appended pages back (answer OutOfMemory) went cause.fault (λ held s is clear are. step held s is clear are OutOfMemory (no_change s) refl)
           put-refused T pages back answer step (refusals.Io Read) of went cause =
-              nothing-appended pages back (answer (Io Read)) went cause.fault (λ held s is clear are. step held s is clear are (Io Read) (unchanged s) refl)
+              nothing-appended pages back (answer (Io Read)) went cause.fault (λ held s is clear are. step held s is clear are (Io Read) (no_change s) refl)
           put-refused T pages back answer step (refusals.Io Write) of went cause =
               put-failed pages back (answer (Io Write)) went cause.fault (λ held s is clear are. step held s is clear are (Io Write) (outcome (record s { fault = true }) (change ∷ [])) refl)
           put-refused T pages back answer step (refusals.Unsupported LogFull) of went cause =
-              nothing-appended pages back (answer (Unsupported LogFull)) went cause.fault (λ held s is clear are. step held s is clear are (Unsupported LogFull) (unchanged s) (cause.full refl, refl))
+              nothing-appended pages back (answer (Unsupported LogFull)) went cause.fault (λ held s is clear are. step held s is clear are (Unsupported LogFull) (no_change s) (cause.full refl, refl))
           put-refused T pages back answer step refusal of went cause = absurd of
 
           module _ (went : Went g before after (Change pid (message_of (Put content)) ∷ [])) (free : after.fault ≡ false) (answer : Answer) (stamp : ℕ) (q : KeptPage) (at : q.stamp ≡ stamp) where
             -- the page that was there holds it
-            pub put-set : pid < length table → ((held : Logged) (s : State) → IsIn g (cache before table) held s → s.fault ≡ false → AreKnown s.pages table → StepOver g (cache before table) s call answer (outcome (with_page s pid (page stamp content)) (change ∷ [])))
+            pub put-set : pid < length table → ((held : Logged) (s : State) → Represents g (cache before table) held s → s.fault ≡ false → AreKnown s.pages table → StepOver g (cache before table) s call answer (outcome (with_page s pid (page stamp content)) (change ∷ [])))
                 → Steps g (cache before table) call answer (cache after (slice_set table pid q))
             put-set there step =
                 steps-went g (cache before table) (cache after (slice_set table pid q)) before after call answer (Change pid (message_of (Put content)) ∷ []) (record { config = refl; recovered = refl }) refl refl refl ready went
@@ -116,7 +116,7 @@ module _ {L : Type 0} (g : Ghosts L) where
                 free)
 
             -- a new page holds it
-            pub put-added : pid ≡ length table → ((held : Logged) (s : State) → IsIn g (cache before table) held s → s.fault ≡ false → AreKnown s.pages table → StepOver g (cache before table) s call answer (outcome (record s { pages = s.pages ++ page stamp content ∷ [] }) (change ∷ [])))
+            pub put-added : pid ≡ length table → ((held : Logged) (s : State) → Represents g (cache before table) held s → s.fault ≡ false → AreKnown s.pages table → StepOver g (cache before table) s call answer (outcome (record s { pages = s.pages ++ page stamp content ∷ [] }) (change ∷ [])))
                 → Steps g (cache before table) call answer (cache after (table ++ q ∷ []))
             put-added last step =
                 steps-went g (cache before table) (cache after (table ++ q ∷ [])) before after call answer (Change pid (message_of (Put content)) ∷ []) (record { config = refl; recovered = refl }) refl refl refl ready went

@@ -1,5 +1,5 @@
 -- Pages as they are recovered are kept as their chains say, and the first of them that no cache leaves so.
-use Rattle.sled_pagecache.proofs.Names.{◌≡◌, ◌+◌, ◌<◌, ◌≤◌, ℕ, ℤ, true, false, List, [], ◌∷◌, ◌++◌, length, map, take, drop, get_or, Option, Some, refl, sym, ◌∙◌, ap, subst, inl, inr, arith, false≢true, length-map, take_more, slice_get_cases, zip-append, AllZip, AllByRecursion, IfSome, DiskPtr, PageState, Chain, IsPageState, said_of, freed_of, place_of, IsLoaded, IsUnread, HoldsChain, IsKept, is_free, freed_at, info_at, kept_by, IsRecovered, is_misfit, AllFit, BeginsMisfit, CacheInfo, Kept, Page, Bool, drop_more, free_ids, append_assoc, slice_get_within, get_or_from_slice_get, if◌then◌else◌, slice_get, insert_key, nat_cmp}
+use Rattle.sled_pagecache.proofs.Names.{◌≡◌, ◌+◌, ◌<◌, ◌≤◌, ℕ, ℤ, true, false, List, [], ◌∷◌, ◌++◌, length, map, take, drop, get_or, Option, Some, refl, sym, ◌∙◌, ap, subst, inl, inr, arith, false≢true, length-map, take_more, slice_get_cases, zip-append, AllZip, AllByRecursion, IfSome, DiskPtr, PageState, Chain, IsPageState, said_of, freed_of, place_of, IsLoaded, IsUnread, HoldsChain, IsKept, is_free, place_of_freeing, info_at, kept_by, IsRecovered, is_misfit, AllFit, BeginsMisfit, CacheInfo, Kept, Page, Bool, drop_more, free_ids, append_assoc, slice_get_within, get_or_from_slice_get, if◌then◌else◌, slice_get, insert_key, nat_cmp}
 use Rattle.sled_base.specs.declared.types.page_state.PageState.TheVariants as said
 use Rattle.sled_pagecache.proofs.FreeIds.{behind, later}
 use Rattle.sled_pagecache.proofs.ProperPages.{all-append}
@@ -27,14 +27,14 @@ is-kept chain (said.Free lsn pointer) page from is = record {
   holds = subst (λ (kept : Kept). HoldsChain chain kept) (sym from.kept) is.0;
 }
 
-freed-said : (chain : Chain) → map freed_of chain ≡ map freed_at (map info_at (map said_of chain))
+freed-said : (chain : Chain) → map freed_of chain ≡ map place_of_freeing (map info_at (map said_of chain))
 freed-said [] = refl
 freed-said (entry ∷ chain) = ap (λ (l : List (ℤ × DiskPtr)). freed_of entry ∷ l) (freed-said chain)
 
-at-places : (chain : Chain) (state : PageState) (page : Page) → IsRecovered state page → IsPageState chain state → map freed_of chain ≡ map freed_at page.infos.items
+at-places : (chain : Chain) (state : PageState) (page : Page) → IsRecovered state page → IsPageState chain state → map freed_of chain ≡ map place_of_freeing page.infos.items
 at-places chain (said.Present base frags) page from is =
-    freed-said chain ∙ ap (λ (places : List Place). map freed_at (map info_at places)) is.1 ∙ sym (ap (map freed_at) from.infos)
-at-places chain (said.Free lsn pointer) page from is = is.1 ∙ sym (ap (map freed_at) from.infos)
+    freed-said chain ∙ ap (λ (places : List Place). map place_of_freeing (map info_at places)) is.1 ∙ sym (ap (map place_of_freeing) from.infos)
+at-places chain (said.Free lsn pointer) page from is = is.1 ∙ sym (ap (map place_of_freeing) from.infos)
 
 by-state : (state : PageState) → IsUnread (kept_by state)
 by-state state = grind arith

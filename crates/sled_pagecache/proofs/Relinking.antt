@@ -1,5 +1,5 @@
 -- A link that was made, or refused, once what the list dropped for it is paged out: what it answers.
-use Rattle.sled_pagecache.proofs.Names.{IsFresh, ◌≡◌, ◌+◌, ℕ, Bool, List, Some, None, Result, Ok, Err, slice_set, refl, sym, ◌∙◌, ap, error_of, Refusal, Ghosts, Cache, IsResident, IsAway, IsBounded, AccessesPage, LeavesMemory, MeetsDamage, ReportsDamage, ReadsPage, MakesLink, RefusesLinkOf, Keeps, Steps, IsBlamed, TestsFirst, swapped, Swapped, stamps_in, is_free, chain_length, linked_length, IsAnswered, Token, token, Linked, Config, StickyLog, Accesses, Page, NodeLink, IsWhole, Evicts, IsSettled, behind-own, view}
+use Rattle.sled_pagecache.proofs.Names.{IsFresh, ◌≡◌, ◌+◌, ℕ, Bool, List, Some, None, Result, Ok, Err, slice_set, refl, sym, ◌∙◌, ap, error_of, Refusal, Ghosts, Cache, IsResident, IsAway, IsBounded, AccessesPage, EvictsAtMost, MeetsDamage, ReportsDamage, ReadsPage, MakesLink, RefusesLinkOf, Keeps, Steps, IsBlamed, TestsFirst, stamps_after_swap, Swapped, stamps_in, is_free, chain_length, linked_length, IsAnswered, Token, token, Linked, Config, StickyLog, Accesses, Page, NodeLink, IsWhole, Evicts, IsSettled, behind-own, view}
 use Rattle.sled_pagecache.proofs.Answers.{keeps-err}
 use Rattle.sled_pagecache.proofs.CacheSteps.{steps-known}
 use Rattle.sled_pagecache.proofs.Counted.{behind-counter, other-at, spares-link, whole-then}
@@ -18,7 +18,7 @@ pub record LinkMade {L : Type 0} (g : Ghosts L) (was now : Cache L) (settled : T
   pub is : settled
   pub tested : let result : Swapped NodeLink = Ok (Ok made) in TestsFirst g was old link result
   pub step : Steps g was (call.Link old link) (Linked (Ok (Ok made))) now
-  pub keeps : let result : Swapped NodeLink = Ok (Ok made) in Keeps was now result (swapped was.stamps)
+  pub keeps : let result : Swapped NodeLink = Ok (Ok made) in Keeps was now result (stamps_after_swap was.stamps)
   pub token : IsAnswered was.stamps old link (Ok made)
   pub damaged : ¬ MeetsDamage g was pid
   pub reads : ReadsPage g was pid now
@@ -33,12 +33,12 @@ pub record LinkRefused {L : Type 0} (g : Ghosts L) (was now : Cache L) (settled 
   pub tested : let result : Swapped NodeLink = Err (error_of refusal) in TestsFirst g was old link result
   pub step : Steps g was (call.Link old link) (Linked (Err (error_of refusal))) now
   pub blame : let result : Swapped NodeLink = Err (error_of refusal) in IsBlamed g was now result
-  pub keeps : let result : Swapped NodeLink = Err (error_of refusal) in Keeps was now result (swapped was.stamps)
+  pub keeps : let result : Swapped NodeLink = Err (error_of refusal) in Keeps was now result (stamps_after_swap was.stamps)
   pub damaged : let result : Swapped NodeLink = Err (error_of refusal) in MeetsDamage g was pid → ReportsDamage g was pid result now
   pub reads : ReadsPage g was pid now
   pub kept_out : IsAway was pid → IsAway now pid
   pub bounded : IsBounded g now
-  pub leaves : LeavesMemory was pid now g.tells (error_of refusal)
+  pub leaves : EvictsAtMost was pid now g.tells (error_of refusal)
 
 module _ {L : Type 0} (g : Ghosts L) {next : ℕ} {config : Config} {recovered : Bool} {before after : StickyLog L} {table pages : List Page} {free : List ℕ} {accesses between then : Accesses}
     (is : IsSettled g next config recovered before table free accesses) {pid : ℕ} {old : Token} {q page : Page} (fresh : IsFresh before.fault table pid old q) (same : old.pid ≡ pid) {link : NodeLink} where
@@ -61,7 +61,7 @@ module _ {L : Type 0} (g : Ghosts L) {next : ℕ} {config : Config} {recovered :
         is = move.settled swap.bounded;
         tested = taken-tests g next config recovered accesses.lru before table free pid kept old q fresh link same after page done.taken _;
         step = move.steps (call.Link old link) (Linked result) (rw named (link-taken g next config recovered accesses.lru before table free pid kept fresh.clear old same link fresh.behind q fresh.at fresh.full after page fresh.stamp done.taken done.fault));
-        keeps = move.keeps (swapped (stamps_in table)) (keeps-fresh next config recovered accesses.lru before table pid old q fresh _ after page done.fault done.taken.tells.went.batch done.taken.raised.1 made named) tt;
+        keeps = move.keeps (stamps_after_swap (stamps_in table)) (keeps-fresh next config recovered accesses.lru before table pid old q fresh _ after page done.fault done.taken.tells.went.batch done.taken.raised.1 made named) tt;
         token = fresh-answered next config recovered accesses.lru before table pid old q fresh same _ link made (named ∙ ap (λ n. token n (old.stamp + 1)) (sym same));
         damaged = λ meets. taken-damage g next config recovered accesses.lru before table free pid kept old q fresh link meets after page done.taken;
         reads = moved-reads g next next config recovered before after table changed pages free free accesses between then is whole None evicts pid (reads-pulled g next config recovered accesses.lru before after table free pid q page kept fresh.clear fresh.behind fresh.at pulled done.unread done.reads (λ away. tt));
@@ -92,7 +92,7 @@ module _ {L : Type 0} (g : Ghosts L) {next : ℕ} {config : Config} {recovered :
         step = move.steps (call.Link old link) (Linked result) (steps-known g _ _ _ _ (record { config = refl; recovered = refl }) (λ told. link-refused g next config recovered accesses.lru before table free pid kept fresh.clear old same link fresh.behind q fresh.at fresh.full
             after page fresh.stamp refusal (refused.refused told) refused.cause refused.stamp));
         blame = move.blame (blamed g _ _ _ refusal refused.cause);
-        keeps = move.keeps (swapped (stamps_in table)) (keeps-err _ _ _ (Unit {0}) refusal fresh.clear refused.cause.fault stamps refused.begun.went.batch) swap.stuck;
+        keeps = move.keeps (stamps_after_swap (stamps_in table)) (keeps-err _ _ _ (Unit {0}) refusal fresh.clear refused.cause.fault stamps refused.begun.went.batch) swap.stuck;
         damaged = moved-damage g next next config recovered before after table changed pages free free accesses between then is whole (Some pid) evicts pid result
             (λ meets. refused-damage g next config recovered accesses.lru before table free pid kept old q fresh link meets after page refusal (refused.refused meets.tells) refused.stamp refused.same);
         reads = moved-reads g next next config recovered before after table changed pages free free accesses between then is whole (Some pid) evicts pid

@@ -1,5 +1,5 @@
 -- A cache that is opened over a crash state is what is opened of the pages after a prefix of the changes.
-use Rattle.sled_pagecache.proofs.Names.{◌≡◌, ◌≤◌, ℕ, Bool, true, List, [], ◌++◌, arith, take, refl, sym, subst, Result, Ok, Err, IfOk, Error, Update, contents_after, Event, Message, Messages, unplaced_state, Ghosts, Cache, Logged, IsLogged, Started, Content, AreKept, CrashReopens, only_stable, only_stable_contents, Config, LogState, AreAfterPrefix, CrashReopensTo, ReopensTo}
+use Rattle.sled_pagecache.proofs.Names.{◌≡◌, ◌≤◌, ℕ, Bool, true, List, [], ◌++◌, arith, take, refl, sym, subst, Result, Ok, Err, IfOk, Error, Update, contents_after, Event, Message, Messages, unplaced_state, Ghosts, Cache, Logged, IsLogged, Started, Content, AreKept, CrashReopens, stable_state, stable_contents, Config, LogState, AreAfterPrefix, CrashReopensTo, ReopensTo}
 use Rattle.sled_pagecache.proofs.Endings.{sound-settings}
 use Rattle.sled_pagecache.proofs.Staying.{stay-none}
 use Rattle.sled_pagecache.specs.Logged.{IsLeft}
@@ -16,7 +16,7 @@ kept-prefix held begun pages left = (
   record { came = left.came; beginning = left.beginning; cut = left.cut; fair = left.fair; is = refl },
 )
 
-pub kept-logged : (pages : List Messages) (contents : List Content) → AreKept pages contents → (usable : Bool) → IsLogged (only_stable pages usable) (only_stable_contents contents)
+pub kept-logged : (pages : List Messages) (contents : List Content) → AreKept pages contents → (usable : Bool) → IsLogged (stable_state pages usable) (stable_contents contents)
 kept-logged pages contents kept usable = record {
   stable = kept.holds;
   pending = tt;
@@ -24,19 +24,19 @@ kept-logged pages contents kept usable = record {
 }
 
 -- a log to which nothing was appended holds no page
-pub empty-logged : (usable : Bool) → IsLogged (only_stable [] usable) (only_stable_contents [])
+pub empty-logged : (usable : Bool) → IsLogged (stable_state [] usable) (stable_contents [])
 empty-logged = kept-logged [] [] (record { holds = tt; proper = record { own = λ pid. tt; short = tt; few = omega arith } })
 
 -- what a crash leaves is a log again that a cache can be opened over
-pub crashed-logged : (held : Logged) (changes : List (Event Update)) (pages : List Messages) (left : IsLeft held changes pages) (usable : Bool) → IsLogged (only_stable pages usable) (only_stable_contents (contents_after held.stable (take left.cut (held.pending ++ left.came))))
+pub crashed-logged : (held : Logged) (changes : List (Event Update)) (pages : List Messages) (left : IsLeft held changes pages) (usable : Bool) → IsLogged (stable_state pages usable) (stable_contents (contents_after held.stable (take left.cut (held.pending ++ left.came))))
 crashed-logged held changes pages left usable = kept-logged pages (contents_after held.stable (take left.cut (held.pending ++ left.came))) left.is usable
 
 module _ {L : Type 0} (g : Ghosts L) (since_earlier : (log : L) (t u : ℕ) (pages : List Messages) → t ≤ u → g.left_since log u pages → g.left_since log t pages) where
-  reopens : (Are : List Content → Type 0) (log : L) (pages : List Messages) → unplaced_state (g.state log) ≡ only_stable pages true → IsKeptAs pages Are → (config : Config) (result : Result (Cache L) (Error × L)) → Started g log config result → IfOk result (ReopensTo g Are config)
+  reopens : (Are : List Content → Type 0) (log : L) (pages : List Messages) → unplaced_state (g.state log) ≡ stable_state pages true → IsKeptAs pages Are → (config : Config) (result : Result (Cache L) (Error × L)) → Started g log config result → IfOk result (ReopensTo g Are config)
   reopens Are log pages holds left config (Err refused) started = tt
   reopens Are log pages holds (contents, kept, are) config (Ok cache) started =
-      let logged = subst (λ (s : LogState Message). IsLogged s (only_stable_contents contents)) (sym holds) (kept-logged pages contents kept true) in
-      let opened = started.opens (sound-settings g log config cache started) (only_stable_contents contents) logged in
+      let logged = subst (λ (s : LogState Message). IsLogged s (stable_contents contents)) (sym holds) (kept-logged pages contents kept true) in
+      let opened = started.opens (sound-settings g log config cache started) (stable_contents contents) logged in
       record { contents = contents; are = are; held_then = opened.held_then; is = opened.is }
 
   pub crash-reopens-to : (crashed : L) (since : ℕ) (Are : List Content → Type 0) → ((pages : List Messages) → g.left_since crashed since pages → IsKeptAs pages Are) → CrashReopensTo g crashed since Are

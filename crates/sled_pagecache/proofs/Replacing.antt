@@ -1,10 +1,10 @@
 -- Putting another content on a page, as a step of the machine.
-use Rattle.sled_pagecache.proofs.Names.{Recency, ◌≡◌, ◌≢◌, inl, inr, ◌≤◌, ◌<◌, ◌+◌, ◌-◌, ◌^◌, ℕ, Bool, false, List, [], ◌∷◌, length, Some, Result, Ok, Err, slice_get, slice_set, refl, sym, ◌∙◌, ap, eq-eqb, ne_eqb, slice_get_within, Unsupported, Refusal, StampUsedUp, Content, Event, Update, Put, Change, IsUpdate, message_of, Ghosts, Cache, chain_length, HasNoRoom, StepOver, IsIn, Steps, Went, IsCaused, begun_by, Logged, page, State, page_at, with_page, is_reserved, Does, Outcome, outcome, unchanged, Swapped, Swaps, SwapsContent, RefusesSwap, IsBeside, Token, token, Answer, Call, Config, StickyLog, error_by, KeptPage, behind-own, view}
+use Rattle.sled_pagecache.proofs.Names.{Recency, ◌≡◌, ◌≢◌, inl, inr, ◌≤◌, ◌<◌, ◌+◌, ◌-◌, ◌^◌, ℕ, Bool, false, List, [], ◌∷◌, length, Some, Result, Ok, Err, slice_get, slice_set, refl, sym, ◌∙◌, ap, eq-eqb, ne_eqb, slice_get_within, Unsupported, Refusal, StampUsedUp, Content, Event, Update, Put, Change, IsUpdate, message_of, Ghosts, Cache, chain_length, HasNoRoom, StepOver, Represents, Steps, Went, IsCaused, begun_by, Logged, page, State, page_at, with_page, is_reserved, Does, Outcome, outcome, no_change, Swapped, Swaps, SwapsContent, RefusesSwap, IsBeside, Token, token, Answer, Call, Config, StickyLog, error_by, KeptPage, behind-own, view}
 use Rattle.sled_pagecache.proofs.Judging.{IsSwap}
 use Rattle.sled_pagecache.proofs.ProperPages.{IsPut}
 use Rattle.sled_pagecache.proofs.Putting.{unless-clear, MayPut, may-set, nothing-appended, put-refused, put-set}
 use Rattle.sled_pagecache.proofs.Standing.{AreKnown, found-known}
-use Rattle.sled_pagecache.specs.Pages as kept
+use Rattle.sled_pagecache.specs.Table as kept
 use Rattle.sled_pagecache.specs.State.{StampedPage, is_free}
 
 -- ---- what the machine tests
@@ -14,7 +14,7 @@ module _ (messages : ℕ → ℕ) (no_room : Event Update → Type 0) (s : State
   abbrev Puts : Swapped R → Outcome → Type 0
   Puts answer out = Swaps s old rejected answer out (λ _. SwapsContent messages no_room s old (Put content) content answer out)
 
-  swap_last : p.stamp ≡ 2 ^ 64 - 1 → Puts (Err (Unsupported StampUsedUp)) (unchanged s)
+  swap_last : p.stamp ≡ 2 ^ 64 - 1 → Puts (Err (Unsupported StampUsedUp)) (no_change s)
   swap_last last = rw (clear, free, at, full, eq-eqb p.stamp old.stamp same) (rw (eq-eqb old.stamp (2 ^ 64 - 1) (sym same ∙ last)) (refl, refl))
 
   swap_does : (answer : Swapped R) (out : Outcome) → p.stamp ≢ 2 ^ 64 - 1
@@ -41,7 +41,7 @@ module _ {L : Type 0} (g : Ghosts L) (next : ℕ) (config : Config) (recovered :
     there : pid < length table
     there = slice_get_within table pid q at
 
-    may : (held : Logged) (s : State) → IsIn g (cache before table) held s → s.fault ≡ false → MayPut g before.log held pid content
+    may : (held : Logged) (s : State) → Represents g (cache before table) held s → s.fault ≡ false → MayPut g before.log held pid content
     may held s is clear = may-set g next config recovered lru before table ready beside held s is clear pid content put from there
 
     module _ (s : State) (clear : s.fault ≡ false) (are : AreKnown s.pages table) where
@@ -54,10 +54,10 @@ module _ {L : Type 0} (g : Ghosts L) (next : ℕ) (config : Config) (recovered :
           (swap_does (chain_length g.state (cache before table)) (HasNoRoom g before.log) s old rejected content clear (ap is_reserved same ∙ free) found.page (ap (page_at s) same ∙ found.is) (found.known.free ∙ full)
           (found.known.stamp ∙ stamp) answer out (λ last. below (sym found.known.stamp ∙ last)) (rw same done))
 
-      last-step : q.stamp ≡ 2 ^ 64 - 1 → StepOver g (cache before table) s call (answered (Err (Unsupported StampUsedUp))) (unchanged s)
+      last-step : q.stamp ≡ 2 ^ 64 - 1 → StepOver g (cache before table) s call (answered (Err (Unsupported StampUsedUp))) (no_change s)
       last-step last =
           let found = found-known s.pages table pid q are at in
-          swap.step s (Err (Unsupported StampUsedUp)) (unchanged s)
+          swap.step s (Err (Unsupported StampUsedUp)) (no_change s)
           (swap_last (chain_length g.state (cache before table)) (HasNoRoom g before.log) s old rejected content clear (ap is_reserved same ∙ free) found.page (ap (page_at s) same ∙ found.is) (found.known.free ∙ full)
           (found.known.stamp ∙ stamp) (found.known.stamp ∙ last))
 

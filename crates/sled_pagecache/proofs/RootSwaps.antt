@@ -1,5 +1,5 @@
 -- A swap of a named root that was written, or refused, once what the list dropped for it is paged out: what it answers.
-use Rattle.sled_pagecache.proofs.Names.{◌≡◌, ◌+◌, ℕ, Bool, false, List, Option, Some, None, Result, Ok, Err, slice_set, refl, sym, ◌∙◌, ap, subst, arith, get_or_from_slice_get, map-set, error_of, Error, Refusal, Roots, Put, message_of, Ghosts, Cache, MakesAppend, RefusesAppend, RefusesSwap, IsBlamed, IsBounded, AccessesPage, Keeps, LeavesMemory, Steps, CasRoot, RootSwapped, root_swapped, is_free, IsRoots, stamps_in, Config, StickyLog, Accesses, Page, Bytes, changed_roots, IsWhole, Evicts, IsSettled, roots_in, map-at, put-back, view}
+use Rattle.sled_pagecache.proofs.Names.{◌≡◌, ◌+◌, ℕ, Bool, false, List, Option, Some, None, Result, Ok, Err, slice_set, refl, sym, ◌∙◌, ap, subst, arith, get_or_from_slice_get, map-set, error_of, Error, Refusal, Roots, Put, message_of, Ghosts, Cache, MakesAppend, RefusesAppend, RefusesSwap, IsBlamed, IsBounded, AccessesPage, Keeps, EvictsAtMost, Steps, CasRoot, RootSwapped, stamps_after_root_swap, is_free, IsRoots, stamps_in, Config, StickyLog, Accesses, Page, Bytes, changed_roots, IsWhole, Evicts, IsSettled, roots_in, map-at, put-back, view}
 use Rattle.sled_pagecache.proofs.Answers.{keeps-err, keeps-ok}
 use Rattle.sled_pagecache.proofs.Appending.{after-whole, after-refused}
 use Rattle.sled_pagecache.proofs.CacheSteps.{steps-known}
@@ -14,7 +14,7 @@ use Rattle.sled_pagecache.specs.declared.pagecache.page.Kept.TheVariants as kept
 pub record RootMade {L : Type 0} (g : Ghosts L) (was now : Cache L) (settled : Type 0) (name : Bytes) (old new : Option ℕ) : Type 0 where
   pub is : settled
   pub step : Steps g was (CasRoot name old new) (RootSwapped (Ok (Ok tt))) now
-  pub keeps : let result : Result (Result (Unit {0}) (Option ℕ)) Error = Ok (Ok tt) in Keeps was now result (root_swapped was.stamps)
+  pub keeps : let result : Result (Result (Unit {0}) (Option ℕ)) Error = Ok (Ok tt) in Keeps was now result (stamps_after_root_swap was.stamps)
   pub bounded : IsBounded g now
   pub accessed : AccessesPage was 0 now
 
@@ -23,9 +23,9 @@ pub record RootRefused {L : Type 0} (g : Ghosts L) (was now : Cache L) (settled 
   pub is : settled
   pub step : Steps g was (CasRoot name old new) (RootSwapped (Err (error_of refusal))) now
   pub blame : let result : Result (Result (Unit {0}) (Option ℕ)) Error = Err (error_of refusal) in IsBlamed g was now result
-  pub keeps : let result : Result (Result (Unit {0}) (Option ℕ)) Error = Err (error_of refusal) in Keeps was now result (root_swapped was.stamps)
+  pub keeps : let result : Result (Result (Unit {0}) (Option ℕ)) Error = Err (error_of refusal) in Keeps was now result (stamps_after_root_swap was.stamps)
   pub bounded : IsBounded g now
-  pub leaves : LeavesMemory was 0 now g.tells (error_of refusal)
+  pub leaves : EvictsAtMost was 0 now g.tells (error_of refusal)
 
 module _ {L : Type 0} (g : Ghosts L) {next : ℕ} {config : Config} {recovered : Bool} {before after : StickyLog L} {table pages : List Page} {free : List ℕ} {accesses between then : Accesses}
     (is : IsSettled g next config recovered before table free accesses) (clear : before.fault ≡ false) {name : Bytes} {old new : Option ℕ} {q page : Page} (swaps : IsSwappable table q name old new) where
@@ -45,7 +45,7 @@ module _ {L : Type 0} (g : Ghosts L) {next : ℕ} {config : Config} {recovered :
         step = then_all.evicted.steps (CasRoot name old new) (RootSwapped result)
             (root-swapped g next config recovered accesses.lru before table free consistent clear (roots_in q.kept) q.stamp (own-roots table q name old new swaps) name old new swaps.same swaps.can after
             made.is (λ last. let below = made.stamp.0 in omega (arith, below, last)) made.went made.fault page made.stamp.1);
-        keeps = then_all.evicted.keeps (root_swapped (stamps_in table)) (keeps-ok _ _ (root_swapped (stamps_in table)) (Ok tt) clear made.fault
+        keeps = then_all.evicted.keeps (stamps_after_root_swap (stamps_in table)) (keeps-ok _ _ (stamps_after_root_swap (stamps_in table)) (Ok tt) clear made.fault
             (map-set (λ (p : Page). p.stamp) table 0 page ∙ ap (λ n. slice_set (stamps_in table) 0 n) (made.stamp.1 ∙ ap (λ n. n + 1) (sym stamp))) made.went.batch) tt;
         bounded = then_all.evicted.bounded;
         accessed = then_all.accessed;
@@ -63,7 +63,7 @@ module _ {L : Type 0} (g : Ghosts L) {next : ℕ} {config : Config} {recovered :
             (steps-known g _ _ _ _ (record { config = refl; recovered = refl }) (λ told. root-refused g next config recovered accesses.lru before table free is.whole.consistent clear (roots_in q.kept) q.stamp (own-roots table q name old new swaps)
             name old new swaps.same swaps.can after (slice_set table 0 page) back refused.is refusal (refused.refused told) refused.went refused.cause));
         blame = then_all.evicted.blame (blamed g _ _ _ refusal refused.cause);
-        keeps = then_all.evicted.keeps (root_swapped (stamps_in table)) (keeps-err _ _ _ (Unit {0}) refusal clear refused.cause.fault (ap stamps_in back) refused.went.batch) then_all.stuck;
+        keeps = then_all.evicted.keeps (stamps_after_root_swap (stamps_in table)) (keeps-err _ _ _ (Unit {0}) refusal clear refused.cause.fault (ap stamps_in back) refused.went.batch) then_all.stuck;
         bounded = then_all.evicted.bounded;
         leaves = then_all.leaves;
       }

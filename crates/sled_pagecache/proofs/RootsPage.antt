@@ -1,5 +1,5 @@
 -- The page of the named roots, in the table and in the state that the cache is in, and the calls of it as steps of the machine.
-use Rattle.sled_pagecache.proofs.Names.{Recency, ◌≡◌, ◌≢◌, ◌≤◌, ◌+◌, ◌-◌, ◌^◌, ◌⊎◌, inl, inr, ℕ, Bool, false, arith, List, [], ◌∷◌, length, Option, Some, None, Result, Ok, Err, refl, sym, ◌∙◌, ap, subst, slice_get, slice_set, slice_index_or, eq-eqb, ne_eqb, same_Some, Error, Unsupported, Refusal, StampUsedUp, Content, Roots, Put, Event, Update, Change, unplaced, effect_of_entry, Makes, holds-made, effect_of, IsUpdate, message_of, Ghosts, Cache, IsIn, Steps, StepOver, HasNoRoom, chain_length, Went, IsCaused, begun_by, Logged, IsConsistent, HoldsChain, page, State, page_at, with_page, Outcome, outcome, unchanged, Does, RefusesSwap, token, Token, Config, StickyLog, Kept, GotMeta, GetMeta, FoundRoot, MetaPidForName, RootSwapped, CasRoot, PutsRoots, IsRoots, KeepsRoots, AreKeptRoots, Answer, Call, error_by, Bytes, NameTooLong, TooManyNames, roots_in, AreOwn, KeptPage, view, kept-at}
+use Rattle.sled_pagecache.proofs.Names.{Recency, ◌≡◌, ◌≢◌, ◌≤◌, ◌+◌, ◌-◌, ◌^◌, ◌⊎◌, inl, inr, ℕ, Bool, false, arith, List, [], ◌∷◌, length, Option, Some, None, Result, Ok, Err, refl, sym, ◌∙◌, ap, subst, slice_get, slice_set, slice_index_or, eq-eqb, ne_eqb, same_Some, Error, Unsupported, Refusal, StampUsedUp, Content, Roots, Put, Event, Update, Change, messages_of, effect_of_entry, Makes, holds-made, effect_of, IsUpdate, message_of, Ghosts, Cache, Represents, Steps, StepOver, HasNoRoom, chain_length, Went, IsCaused, begun_by, Logged, IsConsistent, HoldsChain, page, State, page_at, with_page, Outcome, outcome, no_change, Does, RefusesSwap, token, Token, Config, StickyLog, Kept, GotMeta, GetMeta, FoundRoot, MetaPidForName, RootSwapped, CasRoot, PutsRoots, IsRoots, KeepsRoots, AreKeptRoots, Answer, Call, error_by, Bytes, NameTooLong, TooManyNames, roots_in, AreOwn, KeptPage, view, kept-at}
 use Rattle.sled_base.specs.declared.types.Error.TheVariants.{CollectionNotFound, OutOfMemory}
 use Rattle.sled_base.specs.declared.types.Refusal.TheVariants as refusals
 use Rattle.sled_log.specs.LogState as log
@@ -31,21 +31,21 @@ module _ {L : Type 0} (g : Ghosts L) (next : ℕ) (config : Config) (recovered :
   abbrev q : KeptPage
   q = kept_roots.page
 
-  made : g.tells → Makes (unplaced (slice_index_or (log.now effect_of_entry (g.state before.log)) 0 [])) (Roots roots)
+  made : g.tells → Makes (messages_of (slice_index_or (log.now effect_of_entry (g.state before.log)) 0 [])) (Roots roots)
   made known = subst (HoldsChain (slice_index_or (log.now effect_of_entry (g.state before.log)) 0 [])) kept_roots.kept (kept-at (log.now effect_of_entry (g.state before.log)) table 0 q ((c.beside ready).kept known) kept_roots.at).holds
 
   -- the state has them too
-  roots-at : (held : Logged) (s : State) → IsIn g (cache before table) held s → s.fault ≡ false → page_at s 0 ≡ Some (page stamp (Roots roots))
+  roots-at : (held : Logged) (s : State) → Represents g (cache before table) held s → s.fault ≡ false → page_at s 0 ≡ Some (page stamp (Roots roots))
   roots-at held s is clear =
       let found = found-known s.pages table 0 q (known-in g (cache before table) table held s is clear refl (c.beside ready)) kept_roots.at in
       found.is ∙ ap (λ n. Some (page n found.page.content)) (found.known.stamp ∙ kept_roots.stamp)
       ∙ ap (λ (content : Content). Some (page stamp content))
-      (holds-made (unplaced (slice_index_or (log.now effect_of_entry (g.state before.log)) 0 [])) found.page.content (Roots roots) (state-page g (cache before table) held s is clear 0 found.page found.is) (made is.tells))
+      (holds-made (messages_of (slice_index_or (log.now effect_of_entry (g.state before.log)) 0 [])) found.page.content (Roots roots) (state-page g (cache before table) held s is clear 0 found.page found.is) (made is.tells))
 
   -- ---- calls that change nothing
 
   module _ (only : KnowsNow g before) where
-    still : (call : Call) (answer : Answer) → ((s : State) → s.fault ≡ false → page_at s 0 ≡ Some (page stamp (Roots roots)) → StepOver g (cache before table) s call answer (unchanged s)) → Steps g (cache before table) call answer (cache before table)
+    still : (call : Call) (answer : Answer) → ((s : State) → s.fault ≡ false → page_at s 0 ≡ Some (page stamp (Roots roots)) → StepOver g (cache before table) s call answer (no_change s)) → Steps g (cache before table) call answer (cache before table)
     still call answer step = steps-uncalled g next config recovered lru before table ready call answer (c.beside ready).usable only (λ held s is clear. step s clear (roots-at held s is clear))
 
     pub gets-meta : (t : Token) → t ≡ token 0 stamp → Steps g (cache before table) GetMeta (GotMeta (Ok (t, roots))) (cache before table)
@@ -84,7 +84,7 @@ module _ {L : Type 0} (g : Ghosts L) (next : ℕ) (config : Config) (recovered :
     abbrev Reads : Type 0
     Reads = IsUpdate (message_of (Put content)) (Put content)
 
-    may : (held : Logged) (s : State) → IsIn g (cache before table) held s → s.fault ≡ false → MayPut g before.log held 0 content
+    may : (held : Logged) (s : State) → Represents g (cache before table) held s → s.fault ≡ false → MayPut g before.log held 0 content
     may held s is clear =
         let long = many g next config recovered lru before table ready (c.beside ready) held s is clear in
         let both = c.both in
@@ -110,7 +110,7 @@ module _ {L : Type 0} (g : Ghosts L) (next : ℕ) (config : Config) (recovered :
         → Steps g (cache before table) call (RootSwapped (Err (error_by refusal))) (cache after pages)
     root-refused pages back reads refusal (inl (last, is)) =
         rw is (λ went cause. nothing-appended g next config recovered lru before table ready (c.beside ready) after call pages back (RootSwapped (Err (Unsupported StampUsedUp))) went cause.fault
-        (λ held s is clear are. does s clear (roots-at held s is clear) (Err (Unsupported StampUsedUp)) (unchanged s) (rw (eq-eqb stamp (2 ^ 64 - 1) last) (refl, refl))))
+        (λ held s is clear are. does s clear (roots-at held s is clear) (Err (Unsupported StampUsedUp)) (no_change s) (rw (eq-eqb stamp (2 ^ 64 - 1) last) (refl, refl))))
     root-refused pages back reads refusal (inr (below, of)) =
         put-refused g next config recovered lru before table ready (c.beside ready) after call 0 content reads may (Unit {0}) pages back (λ e. RootSwapped (Err e))
         (λ held s is clear are e out fails. risen s clear (roots-at held s is clear) below (Err e) out fails)

@@ -1,5 +1,5 @@
 -- What holds of a cache holds of it once what the list of recent use dropped is paged out, and what a call makes of memory then.
-use Rattle.sled_pagecache.proofs.Names.{eqb, eqb_tells, Vec, Contains, IfOk, IfErr, IsSomeAnd, MatchOption, OnOk, OnErr, Recency, IsAccessed, IsListed, IsSound, rounded, itself_stays, itself_is_listed, others_stay_or_leave, ◌≡◌, ◌≢◌, ◌⊎◌, inl, inr, ℕ, Bool, true, false, List, Option, Some, None, Result, Ok, Err, refl, sym, ◌∙◌, ap, subst, same_Some, none-some, IsErrOf, Error, Write, Refusal, Ghosts, Keeps, Cache, IsIn, IsResident, IsAway, chain_length, IsBlamed, IsCaused, Steps, is_reserved, ReadsNothing, ReadsPage, MeetsDamage, ReportsDamage, BringsIn, sticky_log_of, Logged, State, Answer, Call, Token, IsHindrance, more, WasAccessed, IsTouched, HasNode, HasNoNode, AreSized, IsBounded, StaysAt, KeepsMemory, AccessesPage, FindsPage, LeavesOthers, LeavesMemory, LeavesNodes, LeavesPages, AllStay, TakesNode, TakesPage, FindsNode, LosesAtMost, LosesNone, Accesses}
+use Rattle.sled_pagecache.proofs.Names.{eqb, eqb_tells, Vec, Contains, IfOk, IfErr, IsSomeAnd, MatchOption, OnOk, OnErr, Recency, IsAccessed, IsListed, IsSound, rounded, itself_stays, itself_is_listed, others_stay_or_leave, ◌≡◌, ◌≢◌, ◌⊎◌, inl, inr, ℕ, Bool, true, false, List, Option, Some, None, Result, Ok, Err, refl, sym, ◌∙◌, ap, subst, same_Some, none-some, IsErrOf, Error, Write, Refusal, Ghosts, Keeps, Cache, Represents, IsResident, IsAway, chain_length, IsBlamed, IsCaused, Steps, is_reserved, ReadsNothing, ReadsPage, MeetsDamage, ReportsDamage, BringsIn, sticky_log_of, Logged, State, Answer, Call, Token, IsHindrance, count_after, WasAccessed, IsTouched, HasNode, HasNoNode, AreSized, IsBounded, StaysAt, KeepsMemory, AccessesPage, FindsPage, LeavesOthers, EvictsAtMost, LeavesNodes, LeavesPages, AllStay, TakesNode, TakesPage, FindsNode, LosesAtMost, LosesNone, Accesses}
 use Rattle.sled_base.specs.declared.types.Error.TheVariants.{Io}
 use Rattle.sled_base.specs.declared.types.Refusal.TheVariants as refusal
 use Rattle.sled_pagecache.proofs.InMemory.{stays-then, stays-has, stay-is}
@@ -48,7 +48,7 @@ module _ {L : Type 0} (g : Ghosts L) (old mid : Cache L) where
     abbrev moved : Cache L
     moved = record mid { resident = resident; nodes = nodes; lru = lru }
 
-    in-moved : (held : Logged) (s : State) → IsIn g mid held s → IsIn g moved held s
+    in-moved : (held : Logged) (s : State) → Represents g mid held s → Represents g moved held s
     in-moved held s is = record {
       tells = is.tells;
       stamps = is.stamps;
@@ -99,10 +99,10 @@ module _ {L : Type 0} (g : Ghosts L) (old mid : Cache L) where
     pub reads-moved : (pid : ℕ) → (IsResident new pid → IsResident mid pid) → ReadsPage g old pid mid → ReadsPage g old pid new
     reads-moved pid back reads = record {
       in_memory = λ not_away. unread-moved (reads.in_memory not_away);
-      whole = λ known away there. carried (λ cache. (g.counts cache.log).reads ≡ more (chain_length g.state old pid) (g.counts old.log).reads) (reads.whole known away (back there));
+      whole = λ known away there. carried (λ cache. (g.counts cache.log).reads ≡ count_after (chain_length g.state old pid) (g.counts old.log).reads) (reads.whole known away (back there));
       times = reads.times;
       most = reads.most;
-      is = carried (λ cache. (g.counts cache.log).reads ≡ more reads.times (g.counts old.log).reads) reads.is;
+      is = carried (λ cache. (g.counts cache.log).reads ≡ count_after reads.times (g.counts old.log).reads) reads.is;
     }
 
     pub damaged-moved : {T : Type 0} (pid : ℕ) (result : Result T Error) → (MeetsDamage g old pid → ReportsDamage g old pid result mid) → MeetsDamage g old pid → ReportsDamage g old pid result new
@@ -289,7 +289,7 @@ module _ {L : Type 0} (g : Ghosts L) (old mid new : Cache L) (accesses between :
           by (inl same) = same-bounded same back
           by (inr (size, accessed)) = let was = drops size accessed in accessed-bounded size was loses.others only (λ its has. absurd (no-node size was its has))
 
-      pub loses-memory : LeavesMemory old pid new tells error
+      pub loses-memory : EvictsAtMost old pid new tells error
       loses-memory = record { others = by loses.touched; unasked = λ told. or (loses.unasked told) }
         where
           by : IsTouched accesses pid between → AccessesPage old pid new ⊎ LeavesOthers old pid new
@@ -315,7 +315,7 @@ module _ {L : Type 0} (g : Ghosts L) (old mid new : Cache L) where
     pub bounded : IsBounded g new
     pub accessed : IfOk result (λ swapped. OnOk swapped (AccessesPage old pid new))
     pub same : IfOk result (λ swapped. OnErr swapped (KeepsMemory old new))
-    pub leaves : IfErr result (LeavesMemory old pid new g.tells)
+    pub leaves : IfErr result (EvictsAtMost old pid new g.tells)
     pub resident : IfOk result (λ swapped. OnOk swapped (IsResident new pid))
     pub stuck : OnErr result (old.fault ≡ true → mid ≡ old → new ≡ old)
 

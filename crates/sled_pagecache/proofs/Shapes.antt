@@ -2,9 +2,10 @@
 use Rattle.sled_pagecache.proofs.Names.{none-some, same_Some, take, ◌++◌, ◌≡◌, ℕ, zero, suc, Bool, false, List, [], ◌∷◌, map, Some, slice_get, refl, sym, ◌∙◌, ap, subst, Ghosts, Cache, Content, stamps_in, resident_in, nodes_in, is_resident, node_access_size, access_size, size_if, IsBeside, Kept, Option, None, slice_get-map, option_map, IfSome, KeptPage, unplaced_state, IsFreeOrNode, IsCounter, AreOwn, IsRoots, IsOwnAt, arith}
 use Rattle.sled_pagecache.proofs.Carrying.{proper-now}
 use Rattle.sled_pagecache.proofs.Standing.{IsKnown, AreKnown, known-in}
-use Rattle.sled_pagecache.specs.Pages as kept
-use Rattle.sled_pagecache.specs.Proper as proper
-use Rattle.sled_pagecache.specs.Shapes.{Shape, kind_at, kind_of, kind_of_kept, shape_of_page, shape_of_kept, Shows}
+use Rattle.sled_pagecache.specs.Table as kept
+use Rattle.sled_pagecache.specs.Logged as proper
+use Rattle.sled_pagecache.specs.Shapes.{Shape, kind_at, kind_of, shape_of_page, Shows}
+use Rattle.sled_pagecache.specs.Inside.Shapes.{kind_of_kept, shape_of_kept}
 use Rattle.sled_pagecache.specs.State.{StampedPage, is_free}
 use Rattle.sled_pagecache.specs.declared.pagecache.shape.Kind.{Kind}
 use Rattle.sled_pagecache.specs.declared.pagecache.shape.PageShape.{PageShape}

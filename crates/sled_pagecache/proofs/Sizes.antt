@@ -1,5 +1,5 @@
 -- How much of the log the messages of a page take, beside those of its chain.
-use Rattle.sled_pagecache.proofs.Names.{Recency, ◌≡◌, ◌<◌, ◌^◌, ◌+◌, ℕ, ℤ, false, true, Bool, List, [], ◌∷◌, ◌++◌, map, Option, None, Some, slice_get, refl, sym, ◌∙◌, ap, arith, none-some, same_Some, slice_get-map, option_map, slice_index_or, length, ◌-◌, sum_by, sum_by-cons, DiskPtr, Chain, Entry, effect_of_entry, said_of, IsSized, Ghosts, chain_size, place_of, IsKept, is_free, IsConsistent, infos_after, Config, CacheInfo, StickyLog, Kept, Page, sum_by_push, head_size, capped, AreSized, size_in, access_size, size_if, node_access_size, size_linked, nat_lt, min, if◌then◌else◌, now, AllZip-long, slice_get_within, slice_get-get_or, view, all-at, kept-at}
+use Rattle.sled_pagecache.proofs.Names.{Recency, ◌≡◌, ◌<◌, ◌^◌, ◌+◌, ℕ, ℤ, false, true, Bool, List, [], ◌∷◌, ◌++◌, map, Option, None, Some, slice_get, refl, sym, ◌∙◌, ap, arith, none-some, same_Some, slice_get-map, option_map, slice_index_or, length, ◌-◌, sum_by, sum_by-cons, DiskPtr, Chain, Entry, effect_of_entry, said_of, IsSized, Ghosts, chain_size, place_of, IsKept, is_free, IsConsistent, infos_after, Config, CacheInfo, StickyLog, Kept, Page, sum_by_push, head_size, capped_size, AreSized, size_in, access_size, size_if, node_access_size, size_after_link, nat_lt, min, if◌then◌else◌, now, AllZip-long, slice_get_within, slice_get-get_or, view, all-at, kept-at}
 use Rattle.sled_pagecache.specs.declared.pagecache.page.Kept.TheVariants as kept
 
 abbrev Place : Type 0
@@ -18,9 +18,9 @@ page-size : (chain : Chain) (page : Page) → IsKept chain page → IsSized chai
 page-size chain page is sized full =
     let same : size_in page.infos.items ≡ sum_by (λ (entry : Entry). entry.place.log_size) chain = sym (places-kept page.infos.items) ∙ ap (λ (l : List Place). sum_by (λ (place : Place). place.2) l) (sym (is.places full)) ∙ places-said chain in
     let few = sized.total in
-    ap capped same ∙ fits (sum_by (λ (entry : Entry). entry.place.log_size) chain) few
+    ap capped_size same ∙ fits (sum_by (λ (entry : Entry). entry.place.log_size) chain) few
   where
-    fits : (size : ℕ) → size < 2 ^ 63 → capped size ≡ size
+    fits : (size : ℕ) → size < 2 ^ 63 → capped_size size ≡ size
     fits size few = omega (arith, few)
 
 node-full : (size its : ℕ) (k : Kept) → size_if size k ≡ Some its → (is_free k ≡ false) × (its ≡ size)
@@ -52,22 +52,22 @@ sized-view g next config recovered lru sticky_log pages free is told clear pid s
 -- ---- what is accessed
 
 -- a page of one message, which is so long
-pub size-alone : (infos : List CacheInfo) (info : CacheInfo) (payload : ℕ) → infos ≡ info ∷ [] → info.log_size ≡ head_size + payload → capped (head_size + payload) ≡ capped (size_in infos)
+pub size-alone : (infos : List CacheInfo) (info : CacheInfo) (payload : ℕ) → infos ≡ info ∷ [] → info.log_size ≡ head_size + payload → capped_size (head_size + payload) ≡ capped_size (size_in infos)
 size-alone infos info payload alone is =
     let one : size_in (info ∷ []) ≡ head_size + payload = sum_by-cons (λ (info : CacheInfo). info.log_size) info [] ∙ omega (arith, is) in
-    ap capped (sym one) ∙ ap (λ (infos : List CacheInfo). capped (size_in infos)) (sym alone)
+    ap capped_size (sym one) ∙ ap (λ (infos : List CacheInfo). capped_size (size_in infos)) (sym alone)
 
 -- a page with the message of a link
-pub size-link : (infos : List CacheInfo) (page : Page) (info : CacheInfo) (payload : ℕ) → page.infos.items ≡ infos_after infos info → info.log_size ≡ head_size + payload → capped (size_linked infos payload) ≡ access_size page
-size-link infos page info payload after is = ap capped (by (nat_lt (length infos) 10)) ∙ ap (λ (infos : List CacheInfo). capped (size_in infos)) (sym after)
+pub size-link : (infos : List CacheInfo) (page : Page) (info : CacheInfo) (payload : ℕ) → page.infos.items ≡ infos_after infos info → info.log_size ≡ head_size + payload → capped_size (size_after_link infos payload) ≡ access_size page
+size-link infos page info payload after is = ap capped_size (by (nat_lt (length infos) 10)) ∙ ap (λ (infos : List CacheInfo). capped_size (size_in infos)) (sym after)
   where
     by : (few : Bool) → (if few then size_in infos else 0) + head_size + payload ≡ size_in (if few then infos ++ info ∷ [] else info ∷ [])
     by true = let last = sum_by_push (λ (info : CacheInfo). info.log_size) infos info in omega (arith, last, is)
     by false = let one = sum_by-cons (λ (info : CacheInfo). info.log_size) info [] in omega (arith, one, is)
 
 -- the same, of what is lent
-pub linked-size : (lent infos : List CacheInfo) (payload : ℕ) (page : Page) (info : CacheInfo) → lent ≡ infos → page.infos.items ≡ infos_after infos info → info.log_size ≡ head_size + payload → capped (size_linked lent payload) ≡ access_size page
-linked-size lent infos payload page info same after is = ap (λ (l : List CacheInfo). capped (size_linked l payload)) same ∙ size-link infos page info payload after is
+pub linked-size : (lent infos : List CacheInfo) (payload : ℕ) (page : Page) (info : CacheInfo) → lent ≡ infos → page.infos.items ≡ infos_after infos info → info.log_size ≡ head_size + payload → capped_size (size_after_link lent payload) ≡ access_size page
+linked-size lent infos payload page info same after is = ap (λ (l : List CacheInfo). capped_size (size_after_link l payload)) same ∙ size-link infos page info payload after is
 
-pub capped-total : (size total : ℕ) → total ≡ min size (2 ^ 64 - 1) → capped total ≡ capped size
+pub capped-total : (size total : ℕ) → total ≡ min size (2 ^ 64 - 1) → capped_size total ≡ capped_size size
 capped-total size total is = omega (arith, is)

@@ -1,6 +1,7 @@
 -- The pages of the state that a cache is in, beside those of its table.
-use Rattle.sled_pagecache.proofs.Names.{◌≡◌, ◌≤◌, ◌<◌, ℕ, zero, suc, Bool, true, false, List, [], ◌∷◌, ◌++◌, length, map, Some, None, slice_get, slice_set, refl, sym, ◌∙◌, ap, subst, arith, length-map, none-some, same_Some, AllZip-long, AllZip, is_freeing, is_empty, Content, Counter, Roots, Node, Damaged, Put, effect_of_update, Chain, Entry, Messages, unplaced, effect_of, effect_of_entry, LeadTo, Makes, Holds, Hold, reads_effect, Ghosts, applied, WholeNode, Cache, IsIn, Logged, HoldsChain, IsKept, State, stamps_in, resident_in, IsBeside, CacheInfo, Kept, KeptPage, LogState, now, slice_get_past, get_set_there, last-at, map-at, past-end, holds_now}
-use Rattle.sled_pagecache.specs.Pages as kept
+use Rattle.sled_pagecache.proofs.Names.{◌≡◌, ◌≤◌, ◌<◌, ℕ, zero, suc, Bool, true, false, List, [], ◌∷◌, ◌++◌, length, map, Some, None, slice_get, slice_set, refl, sym, ◌∙◌, ap, subst, arith, length-map, none-some, same_Some, AllZip-long, AllZip, is_freeing, is_empty, Content, Counter, Roots, Node, Damaged, Put, effect_of_update, Chain, Entry, Messages, messages_of, effect_of, effect_of_entry, LeadTo, Makes, Holds, Hold, reads_effect, Ghosts, applied, WholeNode, Cache, Represents, Logged, HoldsChain, IsKept, State, stamps_in, resident_in, IsBeside, CacheInfo, Kept, KeptPage, LogState, now, slice_get_past, get_set_there, last-at, map-at, past-end, holds_now}
+use Rattle.sled_pagecache.specs.Table as kept_table
+use Rattle.sled_pagecache.specs.Inside.PageEntry as kept
 use Rattle.sled_pagecache.specs.State.{StampedPage, is_free}
 use Rattle.sled_pagecache.specs.declared.pagecache.page.Kept.TheVariants as held
 
@@ -17,24 +18,24 @@ lead-free : (first : Content) (messages : Messages) (content : Content) → Lead
 lead-free first [] content leads = ap is_free leads
 lead-free first (m ∷ messages) content (node, link, is, reads, accepts, leads) = ap is_free is ∙ sym (linked-full (applied link node) messages content leads)
 
-chain-free : (chain : Chain) (content : Content) → Makes (unplaced chain) content → is_empty effect_of_entry chain ≡ is_free content
+chain-free : (chain : Chain) (content : Content) → Makes (messages_of chain) content → is_empty effect_of_entry chain ≡ is_free content
 chain-free [] content makes = absurd makes
 chain-free (entry ∷ chain) content (first, reads, leads) =
-    ap is_freeing (reads_effect entry.message.kind entry.message.payload (Put first) reads) ∙ put-free first ∙ lead-free first (unplaced chain) content leads
+    ap is_freeing (reads_effect entry.message.kind entry.message.payload (Put first) reads) ∙ put-free first ∙ lead-free first (messages_of chain) content leads
 
 -- a chain that makes a node isn't
-pub node-full : (chain : Chain) (node : WholeNode) → Makes (unplaced chain) (Node node) → is_empty effect_of_entry chain ≡ false
+pub node-full : (chain : Chain) (node : WholeNode) → Makes (messages_of chain) (Node node) → is_empty effect_of_entry chain ≡ false
 node-full chain node makes = chain-free chain (Node node) makes
 
-pub full-unplaced : (chain : Chain) → is_empty effect_of (unplaced chain) ≡ is_empty effect_of_entry chain
+pub full-unplaced : (chain : Chain) → is_empty effect_of (messages_of chain) ≡ is_empty effect_of_entry chain
 full-unplaced chain = grind arith
 
 -- the same of what its page holds
-pub holds-free : (chain : Chain) (content : Content) → Holds (unplaced chain) content → is_empty effect_of_entry chain ≡ is_free content
+pub holds-free : (chain : Chain) (content : Content) → Holds (messages_of chain) content → is_empty effect_of_entry chain ≡ is_free content
 holds-free chain Damaged (full, none) = sym (full-unplaced chain) ∙ full
 holds-free chain content holds = chain-free chain content holds
 
-pub kept-free : (chain : Chain) (page : Kept) → HoldsChain chain page → is_empty effect_of_entry chain ≡ kept.is_free page
+pub kept-free : (chain : Chain) (page : Kept) → HoldsChain chain page → is_empty effect_of_entry chain ≡ kept_table.is_free page
 kept-free chain (held.Counter n) holds = chain-free chain (Counter n) holds
 kept-free chain (held.Roots roots) holds = chain-free chain (Roots roots) holds
 kept-free chain (held.Node node) holds = chain-free chain (Node node) holds
@@ -45,13 +46,13 @@ kept-free chain page holds = holds
 -- the page is at the stamp of the one that is kept, and free where that is
 pub record IsKnown (page : StampedPage) (kept_page : KeptPage) : Type 0 where
   pub stamp : page.stamp ≡ kept_page.stamp
-  pub free : is_free page.content ≡ kept.is_free kept_page.kept
+  pub free : is_free page.content ≡ kept_table.is_free kept_page.kept
 
 abbrev pub AreKnown : List StampedPage → List KeptPage → Type 0
 AreKnown = AllZip IsKnown
 
 are-known : (pages : List StampedPage) (chains : List Chain) (table : List KeptPage)
-    → map (λ (p : StampedPage). p.stamp) pages ≡ stamps_in table → Hold (map unplaced chains) (map (λ (p : StampedPage). p.content) pages) → AllZip IsKept chains table → AreKnown pages table
+    → map (λ (p : StampedPage). p.stamp) pages ≡ stamps_in table → Hold (map messages_of chains) (map (λ (p : StampedPage). p.content) pages) → AllZip IsKept chains table → AreKnown pages table
 are-known [] chains [] same holds beside = tt
 are-known [] chains (q ∷ table) same holds beside = absurd cc
 are-known (p ∷ pages) chains [] same holds beside = absurd cc
@@ -64,10 +65,10 @@ are-known (p ∷ pages) (chain ∷ chains) (q ∷ table) same holds beside = (
 module _ {L : Type 0} (g : Ghosts L) where
   -- in whatever state the cache is
   pub known-in : (cache : Cache L) (table : List KeptPage) (held_by : Logged) (s : State)
-      → IsIn g cache held_by s → s.fault ≡ false → cache.stamps ≡ stamps_in table → IsBeside g.tells g.state cache.log table → AreKnown s.pages table
+      → Represents g cache held_by s → s.fault ≡ false → cache.stamps ≡ stamps_in table → IsBeside g.tells g.state cache.log table → AreKnown s.pages table
   known-in cache table held_by s is clear same beside =
       are-known s.pages (now effect_of_entry (g.state cache.log)) table (is.stamps ∙ same)
-      (subst (λ (l : List Content). Hold (map unplaced (now effect_of_entry (g.state cache.log))) l) (sym (is.known clear).contents) (holds_now (g.state cache.log) held_by (is.known clear).logged))
+      (subst (λ (l : List Content). Hold (map messages_of (now effect_of_entry (g.state cache.log))) l) (sym (is.known clear).contents) (holds_now (g.state cache.log) held_by (is.known clear).logged))
       (beside.kept is.tells)
 
 -- ---- one of them

@@ -1,5 +1,5 @@
 -- The pages that a cache is opened with.
-use Rattle.sled_pagecache.proofs.Names.{◌≡◌, ◌≤◌, ◌<◌, ◌^◌, ℕ, zero, suc, Bool, true, false, cond, List, [], ◌∷◌, ◌++◌, length, map, take, drop, set, get_or, slice_get, slice_index_or, Option, None, Some, is_some, Result, Ok, refl, sym, ◌∙◌, ap, subst, arith, eq-eqb, drop-nil, take-nil, take-append_seam, nat_tests, length-append, length-map, append-nil, AllZip-long, slice_get-get_or, slice_get_past, slice_get_within, none-some, same_Some, AllByRecursion, AllZip, IfSome, DiskPtr, Refusal, Io, Corruption, OutOfMemory, is_open, open_after, is_chain, is_empty, changed, Content, Put, Event, Change, Message, Entry, Chain, Messages, unplaced, placed, effect_of, effect_of_entry, holds-made, IsSized, Makes, Holds, Hold, IsLeft, now, unplaced_state, message_of, zip-append, Ghosts, place_of, roots_event, IsLoaded, IsUnread, AreRecovered, AreRead, AreFound, IsFoundAt, IsOwnAt, IfSome_then, IsTable, IsOpenedWith, RefusesOwn, RefusesPages, next_id, counter_event, events_of_roots, events_at_start, stamps_at_start, first_id, HoldsChain, IsKept, is_resident, freed_at, free_ids, Proceeds, refusal_in, is_misfit, AllFit, BeginsMisfit, IsFit, Wrote, IsRoots, IsCounter, IsFreeOrNode, AreOwn, IsConsistent, stamps_in, resident_in, CacheInfo, Config, StickyLog, Kept, Page, get_or_from_slice_get, zip-at, begin_page, Counter, Roots, add-by-id, all-by-id, at-id, by-id-all, past-two, zip-first, zip-second}
+use Rattle.sled_pagecache.proofs.Names.{◌≡◌, ◌≤◌, ◌<◌, ◌^◌, ℕ, zero, suc, Bool, true, false, cond, List, [], ◌∷◌, ◌++◌, length, map, take, drop, set, get_or, slice_get, slice_index_or, Option, None, Some, is_some, Result, Ok, refl, sym, ◌∙◌, ap, subst, arith, eq-eqb, drop-nil, take-nil, take-append_seam, nat_tests, length-append, length-map, append-nil, AllZip-long, slice_get-get_or, slice_get_past, slice_get_within, none-some, same_Some, AllByRecursion, AllZip, IfSome, DiskPtr, Refusal, Io, Corruption, OutOfMemory, is_open, open_after, is_chain, is_empty, chains_with_change, Content, Put, Event, Change, Message, Entry, Chain, Messages, messages_of, placed_entry, effect_of, effect_of_entry, holds-made, IsSized, Makes, Holds, Hold, IsLeft, now, unplaced_state, message_of, zip-append, Ghosts, place_of, roots_event, IsLoaded, IsUnread, AreRecovered, AreRead, AreFound, IsFoundAt, IsOwnAt, IfSome_then, IsTable, IsOpenedWith, RefusesOwn, RefusesPages, next_id, counter_event, events_of_roots, events_at_start, stamps_at_start, first_id, HoldsChain, IsKept, is_resident, place_of_freeing, free_ids, Proceeds, refusal_in, is_misfit, AllFit, BeginsMisfit, IsFit, Wrote, IsRoots, IsCounter, IsFreeOrNode, AreOwn, IsConsistent, stamps_in, resident_in, CacheInfo, Config, StickyLog, Kept, Page, get_or_from_slice_get, zip-at, begin_page, Counter, Roots, add-by-id, all-by-id, at-id, by-id-all, past-two, zip-first, zip-second}
 use Rattle.sled_base.specs.declared.kinds.LogKind.TheVariants as effects
 use Rattle.sled_node.specs.Meta as meta
 use Rattle.sled_pagecache.proofs.ProperPages.{all-append}
@@ -18,14 +18,14 @@ new-chain held pid entry is = ap (λ b. cond b (held ++ (entry ∷ []) ∷ []) (
 module _ {L : Type 0} (g : Ghosts L) where
   module _ (old new : StickyLog L) (pid stamp : ℕ) (content : Content) (info : CacheInfo) (wrote : Wrote g old new pid (Put content) stamp (Ok info)) where
     abbrev entry : Entry
-    entry = placed (message_of (Put content)) (place_of info)
+    entry = placed_entry (message_of (Put content)) (place_of info)
 
     pub own-table : (pages before after : List Page) (page : Page) → IsTable g.tells (now effect_of_entry (g.state old.log)) pages
         → after ≡ before ++ page ∷ [] → before ≡ pages
         → pid ≡ length pages → pid < 2
         → effect_of (message_of (Put content)) ≡ effects.Replace
         → page.infos.items ≡ info ∷ []
-        → ((chain : Chain) → Makes (unplaced chain) content → HoldsChain chain page.kept)
+        → ((chain : Chain) → Makes (messages_of chain) content → HoldsChain chain page.kept)
         → IsOwnAt pid page.kept
         → IsTable g.tells (now effect_of_entry (g.state new.log)) after
     own-table pages before after page table more same last few effect infos holds own =
@@ -36,7 +36,7 @@ module _ {L : Type 0} (g : Ghosts L) where
               let held = now effect_of_entry (g.state old.log) in
               let long : length pages ≡ length held = AllZip-long IsKept held pages (table.kept known) in
               let is : now effect_of_entry (g.state new.log) ≡ held ++ (entry ∷ []) ∷ [] =
-              wrote.writes.chains known ∙ ap (λ kind. changed effect_of_entry kind held pid entry) effect ∙ new-chain held pid entry (last ∙ long) in
+              wrote.writes.chains known ∙ ap (λ kind. chains_with_change effect_of_entry kind held pid entry) effect ∙ new-chain held pid entry (last ∙ long) in
               let kept : IsKept (entry ∷ []) page = record { places = λ _. sym (ap (map place_of) infos); long = sym (ap length infos); holds = holds (entry ∷ []) (content, wrote.is, refl) } in
               subst (λ (l : List Chain). AllZip IsKept l (pages ++ page ∷ [])) (sym is) (zip-append IsKept held pages ((entry ∷ []) ∷ []) (page ∷ []) (table.kept known) (kept, tt));
           hold = (add-by-id _ pages page table.hold.0 (subst (λ n. IsOwnAt n page.kept) last own), all-append _ pages (page ∷ []) table.hold.1 ((omega (arith, one)), tt));
@@ -58,7 +58,7 @@ module _ {L : Type 0} (g : Ghosts L) where
 
 -- ---- the contents of the system pages
 
-loaded-with : (chain : Chain) (page other : Page) (content : Content) → IsLoaded chain page → IsOwn content → Makes (unplaced chain) content
+loaded-with : (chain : Chain) (page other : Page) (content : Content) → IsLoaded chain page → IsOwn content → Makes (messages_of chain) content
     → other.stamp ≡ page.stamp → other.infos.items ≡ page.infos.items → HoldsChain chain other.kept → IsLoaded chain other
 loaded-with chain page other content is own makes stamp infos holds = record {
   kept = record {
@@ -66,7 +66,7 @@ loaded-with chain page other content is own makes stamp infos holds = record {
     long = is.kept.long ∙ sym (ap length infos);
     holds = holds;
   };
-  at = is.at ∙ sym (ap (map freed_at) infos);
+  at = is.at ∙ sym (ap (map place_of_freeing) infos);
   stamp = stamp ∙ is.stamp;
 }
 
@@ -89,11 +89,11 @@ second-none [] other none = omega arith
 second-none (x ∷ []) other none = omega arith
 second-none (x ∷ y ∷ pages) other none = absurd cc
 
-module _ {tells : Type 0} (held : List Chain) (roots : meta.Roots) (n : ℕ) (makes : tells → Makes (unplaced (slice_index_or held 0 [])) (Roots roots)) where
+module _ {tells : Type 0} (held : List Chain) (roots : meta.Roots) (n : ℕ) (makes : tells → Makes (messages_of (slice_index_or held 0 [])) (Roots roots)) where
   pub read-both : (then : List Chain) (pages : List Page) (p q first second : Page) → (tells → then ≡ held) → AreRecovered tells held pages → 1 < length pages
       → p ≡ get_or pages 0 p → first.stamp ≡ p.stamp → first.infos.items ≡ p.infos.items → first.kept ≡ kept.Roots roots
       → q ≡ get_or (set pages 0 first) 1 q → second.stamp ≡ q.stamp → second.infos.items ≡ q.infos.items → second.kept ≡ kept.Counter n
-      → (tells → Makes (unplaced (slice_index_or then 1 [])) (Counter n))
+      → (tells → Makes (messages_of (slice_index_or then 1 [])) (Counter n))
       → AreRead tells held (set (set pages 0 first) 1 second) (Some n)
   read-both then (x ∷ y ∷ pages) p q first second same are long p-is p-stamp p-infos p-kept q-is q-stamp q-infos q-kept counts = record {
     kept = λ known. by held (makes known) (same known) (are.kept known) (counts known);
@@ -108,10 +108,10 @@ module _ {tells : Type 0} (held : List Chain) (roots : meta.Roots) (n : ℕ) (ma
       found (suc zero) = (n, q-kept, refl)
       found (suc (suc k)) = all-by-id _ pages are.hold.1.1 k
 
-      by : (held : List Chain) → Makes (unplaced (slice_index_or held 0 [])) (Roots roots) → then ≡ held → AllZip IsLoaded held (x ∷ y ∷ pages) → Makes (unplaced (slice_index_or then 1 [])) (Counter n)
+      by : (held : List Chain) → Makes (messages_of (slice_index_or held 0 [])) (Roots roots) → then ≡ held → AllZip IsLoaded held (x ∷ y ∷ pages) → Makes (messages_of (slice_index_or then 1 [])) (Counter n)
           → AllZip IsLoaded held (set (set (x ∷ y ∷ pages) 0 first) 1 second)
       by (c ∷ d ∷ rest) makes same loaded counts =
-          let counted : Makes (unplaced d) (Counter n) = subst (λ (l : List Chain). Makes (unplaced (slice_index_or l 1 [])) (Counter n)) same counts in (
+          let counted : Makes (messages_of d) (Counter n) = subst (λ (l : List Chain). Makes (messages_of (slice_index_or l 1 [])) (Counter n)) same counts in (
             loaded-with c p first (Roots roots) (subst (IsLoaded c) (sym p-is) loaded.0) tt makes p-stamp p-infos (subst (HoldsChain c) (sym p-kept) makes),
             (loaded-with d q second (Counter n) (subst (IsLoaded d) (sym q-is) loaded.1.0) tt counted q-stamp q-infos (subst (HoldsChain d) (sym q-kept) counted), loaded.1.1),
           )
@@ -119,7 +119,7 @@ module _ {tells : Type 0} (held : List Chain) (roots : meta.Roots) (n : ℕ) (ma
   read-both then pages p q first second same are long p-is p-stamp p-infos p-kept q-is q-stamp q-infos q-kept counts = absurd (omega (arith, long))
 
 -- the first alone, where there is no other
-pub read-first : {tells : Type 0} (held : List Chain) (roots : meta.Roots) (pages : List Page) (p first : Page) → (tells → Makes (unplaced (slice_index_or held 0 [])) (Roots roots)) → AreRecovered tells held pages → length pages < 2
+pub read-first : {tells : Type 0} (held : List Chain) (roots : meta.Roots) (pages : List Page) (p first : Page) → (tells → Makes (messages_of (slice_index_or held 0 [])) (Roots roots)) → AreRecovered tells held pages → length pages < 2
     → slice_get pages 0 ≡ Some p → first.stamp ≡ p.stamp → first.infos.items ≡ p.infos.items → first.kept ≡ kept.Roots roots → AreRead tells held (set pages 0 first) None
 read-first held roots [] p first makes are few at p-stamp p-infos p-kept = absurd cc
 read-first held roots (x ∷ []) p first makes are few at p-stamp p-infos p-kept = record {
@@ -134,7 +134,7 @@ read-first held roots (x ∷ []) p first makes are few at p-stamp p-infos p-kept
     found zero = subst IsRoots (sym p-kept) tt
     found (suc k) = tt
 
-    by : (held : List Chain) → Makes (unplaced (slice_index_or held 0 [])) (Roots roots) → AllZip IsLoaded held (x ∷ []) → AllZip IsLoaded held (first ∷ [])
+    by : (held : List Chain) → Makes (messages_of (slice_index_or held 0 [])) (Roots roots) → AllZip IsLoaded held (x ∷ []) → AllZip IsLoaded held (first ∷ [])
     by (c ∷ rest) makes loaded =
         (loaded-with c p first (Roots roots) (subst (IsLoaded c) (same_Some x p at) loaded.0) tt makes p-stamp p-infos (subst (HoldsChain c) (sym p-kept) makes), loaded.1)
     by held makes loaded = absurd (assumption loaded)
@@ -142,7 +142,7 @@ read-first held roots (x ∷ y ∷ pages) p first makes are few at p-stamp p-inf
 
 -- ---- why they weren't read
 
-pub first-fits : (held : List Chain) (roots : meta.Roots) → Makes (unplaced (slice_index_or held 0 [])) (Roots roots)
+pub first-fits : (held : List Chain) (roots : meta.Roots) → Makes (messages_of (slice_index_or held 0 [])) (Roots roots)
     → (before : ℕ) → before < 1 → IfSome (slice_get held before) (IsFit before)
 first-fits [] roots makes before lt = tt
 first-fits (c ∷ held) roots makes zero lt = (roots, makes)
@@ -327,24 +327,24 @@ zeros (p ∷ pages) (c ∷ held) long = ap (λ (l : List ℕ). 0 ∷ l) (zeros p
 zeros pages held long = absurd (omega (arith, long))
 
 counted : (interval n : ℕ) (own : Kept) (counter : Option ℕ) (chain : Chain) (roots content : Content) (held : List Content)
-    → own ≡ kept.Counter n → counter ≡ Some n → HoldsChain chain own → Holds (unplaced chain) content → next_id interval counter ≡ first_id interval (roots ∷ content ∷ held)
+    → own ≡ kept.Counter n → counter ≡ Some n → HoldsChain chain own → Holds (messages_of chain) content → next_id interval counter ≡ first_id interval (roots ∷ content ∷ held)
 counted interval n own counter chain roots content held is some holds makes =
-    let same : Counter n ≡ content = sym (holds-made (unplaced chain) content (Counter n) makes (subst (HoldsChain chain) is holds)) in
+    let same : Counter n ≡ content = sym (holds-made (messages_of chain) content (Counter n) makes (subst (HoldsChain chain) is holds)) in
     ap (next_id interval) some ∙ ap (λ (c : Content). first_id interval (roots ∷ c ∷ held)) same
 
 pub opened-with : {tells : Type 0} (config : Config) (chains : List Chain) (pages : List Page) (counter : Option ℕ) (stamps : List ℕ) (next : ℕ) (recovered : Bool)
     → AreRead tells chains pages counter → tells → stamps ≡ stamps_at_start pages → next ≡ next_id config.idgen_persist_interval counter → recovered ≡ is_some counter
-    → (held : List Content) → Hold (map unplaced chains) held → IsOpenedWith config held stamps next recovered
+    → (held : List Content) → Hold (map messages_of chains) held → IsOpenedWith config held stamps next recovered
 opened-with config chains pages counter stamps next recovered are known stamps-are next-is recovered-is = by chains pages (are.kept known) are.hold stamps-are
   where
     by : (chains : List Chain) (pages : List Page) → AllZip IsLoaded chains pages → AreFound pages counter → stamps ≡ stamps_at_start pages
-        → (held : List Content) → Hold (map unplaced chains) held → IsOpenedWith config held stamps next recovered
+        → (held : List Content) → Hold (map messages_of chains) held → IsOpenedWith config held stamps next recovered
     by [] [] loaded found stamps-are [] hold = record { stamps_are = stamps-are; next_is = next-is ∙ ap (next_id config.idgen_persist_interval) (found.1 (omega arith)); recovered_is = recovered-is ∙ ap is_some (found.1 (omega arith)) }
     by (c ∷ []) (p ∷ []) loaded found stamps-are (x ∷ []) hold = record { stamps_are = stamps-are; next_is = next-is ∙ ap (next_id config.idgen_persist_interval) (found.1 (omega arith)); recovered_is = recovered-is ∙ ap is_some (found.1 (omega arith)) }
     by (c ∷ d ∷ chains) (p ∷ q ∷ pages) loaded found stamps-are (x ∷ y ∷ held) hold =
         let wide : length pages ≡ length chains = AllZip-long IsLoaded chains pages loaded.1.1 in
-        let long : length held ≡ length (map unplaced chains) = AllZip-long Holds (map unplaced chains) held hold.1.1 in
-        let same = length-map chains unplaced in
+        let long : length held ≡ length (map messages_of chains) = AllZip-long Holds (map messages_of chains) held hold.1.1 in
+        let same = length-map chains messages_of in
         let read = found.0 1 in
         record {
           stamps_are = rw (drop-nil {A = Content} (length held)) (stamps-are ∙ zeros (p ∷ q ∷ pages) (x ∷ y ∷ held) (omega (arith, wide, long, same)));

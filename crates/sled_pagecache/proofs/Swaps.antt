@@ -1,5 +1,5 @@
 -- What a swap makes of the chain of its page.
-use Rattle.sled_pagecache.proofs.Names.{◌≡◌, ◌<◌, ℕ, cond, List, [], ◌∷◌, ◌++◌, length, map, refl, sym, ◌∙◌, ap, subst, arith, slice_set, slice_index_or, ne_eqb, get_or-set_same, chains_from, Free, Counter, Roots, Node, Put, Change, Entry, Kept, Chain, placed, effect_of_entry, said_of, IsUpdate, message_of, place_of, CanPut, content_of, HoldsChain, IsKept, CacheInfo, Page, if◌then◌else◌, ◌==◌}
+use Rattle.sled_pagecache.proofs.Names.{◌≡◌, ◌<◌, ℕ, cond, List, [], ◌∷◌, ◌++◌, length, map, refl, sym, ◌∙◌, ap, subst, arith, slice_set, slice_index_or, ne_eqb, get_or-set_same, chains_from, Free, Counter, Roots, Node, Put, Change, Entry, Kept, Chain, placed_entry, effect_of_entry, said_of, IsUpdate, message_of, place_of, CanPut, content_of, HoldsChain, IsKept, CacheInfo, Page, if◌then◌else◌, ◌==◌}
 use Rattle.sled_pagecache.specs.declared.pagecache.page.Kept.TheVariants as kept
 
 -- ---- the chain of a page after a change of it
@@ -16,16 +16,16 @@ module _ (chains : List Chain) (pid : ℕ) (there : pid < length chains) where
   begun-chains entry = ap (λ b. cond b (chains ++ (entry ∷ []) ∷ []) (slice_set chains pid (entry ∷ []))) (ne_eqb pid (length chains) (λ e. absurd (omega (arith, there, e))))
 
   pub put-chains : (k : Kept) → CanPut k → (info : CacheInfo)
-      → chains_from effect_of_entry chains (Change pid (placed (message_of (Put (content_of k))) (place_of info))) ≡ slice_set chains pid (placed (message_of (Put (content_of k))) (place_of info) ∷ [])
-  put-chains kept.Free can info = begun-chains (placed (message_of (Put Free)) (place_of info))
-  put-chains (kept.Counter n) can info = begun-chains (placed (message_of (Put (Counter n))) (place_of info))
-  put-chains (kept.Roots roots) can info = begun-chains (placed (message_of (Put (Roots roots))) (place_of info))
-  put-chains (kept.Node node) can info = begun-chains (placed (message_of (Put (Node node))) (place_of info))
+      → chains_from effect_of_entry chains (Change pid (placed_entry (message_of (Put (content_of k))) (place_of info))) ≡ slice_set chains pid (placed_entry (message_of (Put (content_of k))) (place_of info) ∷ [])
+  put-chains kept.Free can info = begun-chains (placed_entry (message_of (Put Free)) (place_of info))
+  put-chains (kept.Counter n) can info = begun-chains (placed_entry (message_of (Put (Counter n))) (place_of info))
+  put-chains (kept.Roots roots) can info = begun-chains (placed_entry (message_of (Put (Roots roots))) (place_of info))
+  put-chains (kept.Node node) can info = begun-chains (placed_entry (message_of (Put (Node node))) (place_of info))
   put-chains k can info = absurd can
 
 -- ---- how its page is kept
 
-put-holds : (k : Kept) → CanPut k → (info : CacheInfo) → IsUpdate (message_of (Put (content_of k))) (Put (content_of k)) → HoldsChain (placed (message_of (Put (content_of k))) (place_of info) ∷ []) k
+put-holds : (k : Kept) → CanPut k → (info : CacheInfo) → IsUpdate (message_of (Put (content_of k))) (Put (content_of k)) → HoldsChain (placed_entry (message_of (Put (content_of k))) (place_of info) ∷ []) k
 put-holds kept.Free can info reads = refl
 put-holds (kept.Counter n) can info reads = (Counter n, reads, refl)
 put-holds (kept.Roots roots) can info reads = (Roots roots, reads, refl)
@@ -34,7 +34,7 @@ put-holds k can info reads = absurd can
 
 -- a page that holds what was put there
 pub kept-put : (chain : Chain) (page : Page) (k : Kept) → CanPut k → (info : CacheInfo)
-    → chain ≡ placed (message_of (Put (content_of k))) (place_of info) ∷ [] → page.infos.items ≡ info ∷ [] → page.kept ≡ k
+    → chain ≡ placed_entry (message_of (Put (content_of k))) (place_of info) ∷ [] → page.infos.items ≡ info ∷ [] → page.kept ≡ k
     → IsUpdate (message_of (Put (content_of k))) (Put (content_of k)) → IsKept chain page
 kept-put chain page k can info is infos holds reads =
     record {

@@ -1,6 +1,6 @@
 -- The node that the table of a cache keeps at an id, in the words of the cache's model.
-pub use Rattle.sled_pagecache.specs.Evictions.{cache_of as view}
-use Rattle.sled_pagecache.proofs.Names.{Recency, ◌≡◌, ◌≤◌, inl, inr, ℕ, Bool, false, List, [], length, Some, None, slice_get, refl, sym, ◌∙◌, ap, subst, arith, false≢true, get_or_past, AllZip-long, Chain, unplaced, effect_of_entry, Makes, one_content, Ghosts, WholeNode, Cache, chain_at, HoldsChain, IsKept, is_resident, IsNodeAt, IsConsistent, Token, token, Config, StickyLog, Kept, Page, NodeView, Counter, Roots, Node, now, map-at, kept-at}
+pub use Rattle.sled_pagecache.specs.Inside.Eviction.{cache_of as view}
+use Rattle.sled_pagecache.proofs.Names.{Recency, ◌≡◌, ◌≤◌, inl, inr, ℕ, Bool, false, List, [], length, Some, None, slice_get, refl, sym, ◌∙◌, ap, subst, arith, false≢true, get_or_past, AllZip-long, Chain, messages_of, effect_of_entry, Makes, one_content, Ghosts, WholeNode, Cache, chain_at, HoldsChain, IsKept, is_resident, IsNodeAt, IsConsistent, Token, token, Config, StickyLog, Kept, Page, NodeView, Counter, Roots, Node, now, map-at, kept-at}
 use Rattle.sled_pagecache.proofs.Standing.{node-full}
 use Rattle.sled_pagecache.specs.declared.pagecache.page.Kept.TheVariants as kept
 
@@ -17,7 +17,7 @@ module _ {L : Type 0} (g : Ghosts L) (next : ℕ) (config : Config) (recovered :
   no-page past =
       inr (λ known clear node made.
       let long = AllZip-long IsKept (now effect_of_entry (g.state sticky_log.log)) pages ((is.beside clear).kept known) in
-      subst (λ (c : Chain). Makes (unplaced c) (Node node)) (get_or_past (now effect_of_entry (g.state sticky_log.log)) pid [] (omega (arith, past, long))) made)
+      subst (λ (c : Chain). Makes (messages_of c) (Node node)) (get_or_past (now effect_of_entry (g.state sticky_log.log)) pid [] (omega (arith, past, long))) made)
 
   module _ (q : Page) (at : slice_get pages pid ≡ Some q) where
     holds : g.tells → sticky_log.fault ≡ false → HoldsChain chain q.kept
@@ -30,8 +30,8 @@ module _ {L : Type 0} (g : Ghosts L) (next : ℕ) (config : Config) (recovered :
         by : (k : Kept) → q.kept ≡ k → IsNodeAt g cache pid None
         by kept.Away held = inl (map-at (λ (page : Page). is_resident page.kept) pages pid q at ∙ ap (λ (k : Kept). Some (is_resident k)) held)
         by kept.Free held = inr (λ known clear node made. false≢true (sym (node-full chain node made) ∙ subst (HoldsChain chain) held (holds known clear)))
-        by (kept.Counter n) held = inr (λ known clear node made. absurd (let h = one_content (unplaced chain) (Counter n) (Node node) (subst (HoldsChain chain) held (holds known clear)) made in cc))
-        by (kept.Roots roots) held = inr (λ known clear node made. absurd (let h = one_content (unplaced chain) (Roots roots) (Node node) (subst (HoldsChain chain) held (holds known clear)) made in cc))
+        by (kept.Counter n) held = inr (λ known clear node made. absurd (let h = one_content (messages_of chain) (Counter n) (Node node) (subst (HoldsChain chain) held (holds known clear)) made in cc))
+        by (kept.Roots roots) held = inr (λ known clear node made. absurd (let h = one_content (messages_of chain) (Roots roots) (Node node) (subst (HoldsChain chain) held (holds known clear)) made in cc))
         by (kept.Node node) held = absurd (none node held)
 
     -- the page holds a node
@@ -41,5 +41,5 @@ module _ {L : Type 0} (g : Ghosts L) (next : ℕ) (config : Config) (recovered :
           is_token ∙ ap (token pid) stamp,
           map-at (λ (page : Page). page.stamp) pages pid q at ∙ ap (λ n. Some n) stamp,
           map-at (λ (page : Page). is_resident page.kept) pages pid q at ∙ ap (λ (k : Kept). Some (is_resident k)) held,
-          λ known clear. subst (λ (n : WholeNode). Makes (unplaced chain) (Node n)) (sym is_node) (subst (HoldsChain chain) held (holds known clear)),
+          λ known clear. subst (λ (n : WholeNode). Makes (messages_of chain) (Node n)) (sym is_node) (subst (HoldsChain chain) held (holds known clear)),
         )

@@ -1,28 +1,28 @@
 -- What always holds of a cache's table stays so where a page changes, or one is added.
-use Rattle.sled_pagecache.proofs.Names.{Ghosts, ◌≡◌, ◌≤◌, ◌<◌, ◌+◌, ◌^◌, ℕ, zero, suc, Bool, true, false, cond, List, [], ◌∷◌, ◌++◌, length, map, Some, Result, slice_get, slice_set, refl, sym, ◌∙◌, ap, subst, arith, length-append, length-set, none-some, same_Some, AllByRecursion, AllZip, list_all, LogKind, Refusal, is_open, open_after, is_linking, may_follow, is_chain, Event, Change, Message, Entry, Chain, unplaced, effect_of, effect_of_entry, IsSized, AreChains, chains-are, now-unplaced, zip-append, zip-set, chain_at, Went, begun_by, now-Went, IsKept, is_free, free_ids, IsCounter, IsFreeOrNode, IsRoots, IsOwnAt, IsConsistent, StickyLog, Page, LogState, unplaced_state, now, each-set, add-by-id, past-two, set-by-id}
+use Rattle.sled_pagecache.proofs.Names.{Ghosts, ◌≡◌, ◌≤◌, ◌<◌, ◌+◌, ◌^◌, ℕ, zero, suc, Bool, true, false, cond, List, [], ◌∷◌, ◌++◌, length, map, Some, Result, slice_get, slice_set, refl, sym, ◌∙◌, ap, subst, arith, length-append, length-set, none-some, same_Some, AllByRecursion, AllZip, list_all, LogKind, Refusal, is_open, open_after, is_linking, may_follow, is_chain, Event, Change, Message, Entry, Chain, messages_of, effect_of, effect_of_entry, IsSized, AreChains, chains-are, now-unplaced, zip-append, zip-set, chain_at, Went, begun_by, now-Went, IsKept, is_free, free_ids, IsCounter, IsFreeOrNode, IsRoots, IsOwnAt, IsConsistent, StickyLog, Page, LogState, unplaced_state, now, each-set, add-by-id, past-two, set-by-id}
 use Rattle.sled_base.specs.declared.kinds.LogKind.TheVariants as kinds
 use Rattle.sled_pagecache.proofs.ProperPages.{all-append}
 
 -- ---- chains, with their places and without
 
-links-unplaced : (chain : Chain) → list_all (λ (m : Message). is_linking (effect_of m)) (unplaced chain) ≡ list_all (λ (e : Entry). is_linking (effect_of_entry e)) chain
+links-unplaced : (chain : Chain) → list_all (λ (m : Message). is_linking (effect_of m)) (messages_of chain) ≡ list_all (λ (e : Entry). is_linking (effect_of_entry e)) chain
 links-unplaced [] = refl
 links-unplaced (entry ∷ chain) = rw (links-unplaced chain) refl
 
-follow-unplaced : (kind : LogKind) (chain : Chain) → may_follow effect_of kind (unplaced chain) ≡ may_follow effect_of_entry kind chain
+follow-unplaced : (kind : LogKind) (chain : Chain) → may_follow effect_of kind (messages_of chain) ≡ may_follow effect_of_entry kind chain
 follow-unplaced kinds.Replace chain = links-unplaced chain
 follow-unplaced kinds.Free [] = refl
 follow-unplaced kind chain = refl
 
-is_chain-unplaced : (chain : Chain) → is_chain effect_of (unplaced chain) ≡ is_chain effect_of_entry chain
+is_chain-unplaced : (chain : Chain) → is_chain effect_of (messages_of chain) ≡ is_chain effect_of_entry chain
 is_chain-unplaced [] = refl
 is_chain-unplaced (entry ∷ chain) = follow-unplaced (effect_of_entry entry) chain
 
-unplaced-chains : (chains : List Chain) → AreChains effect_of_entry chains → AreChains effect_of (map unplaced chains)
+unplaced-chains : (chains : List Chain) → AreChains effect_of_entry chains → AreChains effect_of (map messages_of chains)
 unplaced-chains [] h = tt
 unplaced-chains (chain ∷ chains) h = (is_chain-unplaced chain ∙ h.0, unplaced-chains chains h.1)
 
-chains-unplaced : (chains : List Chain) → AreChains effect_of (map unplaced chains) → AreChains effect_of_entry chains
+chains-unplaced : (chains : List Chain) → AreChains effect_of (map messages_of chains) → AreChains effect_of_entry chains
 chains-unplaced [] h = tt
 chains-unplaced (chain ∷ chains) h = (sym (is_chain-unplaced chain) ∙ h.0, chains-unplaced chains h.1)
 

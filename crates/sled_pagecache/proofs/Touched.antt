@@ -1,10 +1,10 @@
 -- What a call makes of a cache and of its accesses, before what the list of recent use dropped is paged out.
 use Rattle.std.specs.Prelude.{◌≡◌, ◌≢◌, ◌⊎◌, ℕ, true}
 use Rattle.sled_base.specs.declared.types.Error.{Error}
-use Rattle.sled_pagecache.specs.Accesses.{WasAccessed, IsTouched}
+use Rattle.sled_pagecache.specs.Inside.PageEntry.{WasAccessed, IsTouched}
 use Rattle.sled_pagecache.specs.Cache.{Cache}
 use Rattle.sled_pagecache.specs.Memory.{HasNode, HasNoNode, StaysAt}
-use Rattle.sled_pagecache.specs.Starts.{IsHindrance}
+use Rattle.sled_pagecache.specs.Memory.{IsHindrance}
 use Rattle.sled_pagecache.specs.declared.pagecache.accesses.Accesses.{Accesses}
 
 -- no node lies in memory

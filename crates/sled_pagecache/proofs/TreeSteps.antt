@@ -1,11 +1,12 @@
 -- The calls of an opening of a tree, one after another; and that the swap of its root finds no other root.
-use Rattle.sled_pagecache.proofs.Names.{◌≡◌, ◌==◌, inl, inr, ◌+◌, ◌-◌, ◌^◌, ◌||◌, ◌≢◌, ⊤, ℕ, zero, suc, Bool, false, List, [], ◌∷◌, length, Option, Some, None, Result, Ok, Err, slice_get, refl, sym, ◌∙◌, ap, subst, arith, MatchBool, MatchOption, same_Some, IfOk, OnErr, Error, Roots, Ghosts, WholeNode, Cache, chain_length, HasNoRoom, StepOver, page, State, page_at, greatest_free, IsRefused, Outcome, unchanged, Token, Allocated, Allocate, GetMeta, GotMeta, CasRoot, RootSwapped, IsBounded, ReadsNothing, SetsRoot, made-row, Bytes, empty_leaf, IsMade, AreMade, OnlyNow, StampedPage, ⊎_elim, true≢false, more-at, other-at}
+use Rattle.sled_pagecache.proofs.Names.{◌≡◌, ◌==◌, inl, inr, ◌+◌, ◌-◌, ◌^◌, ◌||◌, ◌≢◌, ⊤, ℕ, zero, suc, Bool, false, List, [], ◌∷◌, length, Option, Some, None, Result, Ok, Err, slice_get, refl, sym, ◌∙◌, ap, subst, arith, MatchBool, MatchOption, same_Some, IfOk, OnErr, Error, Roots, Ghosts, WholeNode, Cache, chain_length, HasNoRoom, StepOver, page, State, page_at, greatest_free, IsRefused, Outcome, no_change, Token, Allocated, Allocate, GetMeta, GotMeta, CasRoot, RootSwapped, IsBounded, ReadsNothing, SetsRoot, made-row, Bytes, empty_leaf, IsMade, AreMade, OnlyNow, StampedPage, ⊎_elim, true≢false, more-at, other-at}
 use Rattle.sled_pagecache.proofs.CallForms.{IsFreeAt, free-at, roots-read}
 use Rattle.sled_node.specs.Meta as meta
 use Rattle.sled_node.specs.Meta.{root_of}
-use Rattle.sled_pagecache.specs.Answers.{is_write_fault, root_swapped}
+use Rattle.sled_pagecache.specs.Answers.{is_write_fault, stamps_after_root_swap}
 use Rattle.sled_pagecache.specs.Step.{AddsPage, ReusesPage, RootSwap}
-use Rattle.sled_pagecache.specs.Trees.{MadeCalls, EndsSwap, FindsTree, GoesOn, GoesOnOver, GoesOnWith, IsKnown, IsTreeOpened, Looks, MakesTree, NamesRoot, OpensTree, TellsTree, Touches, index_over, stamps_after, stamps_then}
+use Rattle.sled_pagecache.specs.Trees.{MadeCalls, EndsSwap, FindsTree, GoesOnOver, GoesOnWith, IsKnown, IsTreeOpened, MakesTree, NamesRoot, OpensTree, TellsTree, Touches, index_over, stamps_after, stamps_then}
+use Rattle.sled_pagecache.specs.Inside.Trees.{GoesOn, Looks}
 use Rattle.sled_pagecache.specs.State.{is_free}
 
 -- ---- what is tested and not refused
@@ -48,7 +49,7 @@ module _ {L : Type 0} (g : Ghosts L) where
 
   -- the map of named roots that was answered is that of page 0
   roots-told : (cache : Cache L) (s : State) (told : Token × meta.Roots) (out : Outcome) → StepOver g cache s GetMeta (GotMeta (Ok told)) out
-      → (stamp : ℕ) × HasRoots s stamp told.1 × (out ≡ unchanged s)
+      → (stamp : ℕ) × HasRoots s stamp told.1 × (out ≡ no_change s)
   roots-told cache s told out step =
       roots-read s _ (goes _ _ s.fault (unrefused s told out _) step)
       (λ stamp roots at holds. let is = holds.0 in let same : roots ≡ told.1 = cc in (stamp, at ∙ ap (λ r. Some (page stamp (Roots r))) same, holds.1))
@@ -136,7 +137,7 @@ module _ {L : Type 0} (g : Ghosts L) where
     bounded = bounded;
   }
     where
-      by : (swap : RootSwap) → IfOk swap (λ done. new.stamps ≡ root_swapped old.stamps done) → OnErr swap (new.stamps ≡ old.stamps) → new.stamps ≡ stamps_after old.stamps (RootSwapped swap)
+      by : (swap : RootSwap) → IfOk swap (λ done. new.stamps ≡ stamps_after_root_swap old.stamps done) → OnErr swap (new.stamps ≡ old.stamps) → new.stamps ≡ stamps_after old.stamps (RootSwapped swap)
       by (Ok done) swapped left = swapped
       by (Err e) swapped left = left
 

@@ -1,20 +1,31 @@
--- Opening and closing a batch.
-use Rattle.std.specs.Prelude.{◌≡◌, ◌||◌, true, false, Result, IfErr, OnOk, OnErr, IsErrOf}
+-- Opening and closing a batch, its guard, and what a crash leaves of one.
+use Rattle.std.specs.Prelude.{◌≡◌, ◌||◌, true, false, Result, IfErr, OnOk, OnErr, IsErrOf, Ok, Err, ⊤, [], ◌⊎◌, List, ◌∷◌}
 use Rattle.sled_base.specs.declared.types.Device.TheVariants.{Write}
 use Rattle.sled_base.specs.declared.types.Error.{Error}
 use Rattle.sled_base.specs.declared.types.Error.TheVariants.{Io}
 use Rattle.sled_log.specs.declared.log.Log.{Ghosts}
 use Rattle.sled_pagecache.specs.Answers.{HasNoName, is_write_fault}
-use Rattle.sled_pagecache.specs.Cache.{Cache}
+use Rattle.sled_pagecache.specs.Cache.{Cache, Represents}
 use Rattle.sled_pagecache.specs.Calls.{Steps, IsBlamed}
-use Rattle.sled_pagecache.specs.Memory.{KeepsMemory}
-use Rattle.sled_pagecache.specs.Reads.{ReadsNothing}
+use Rattle.sled_pagecache.specs.Memory.{KeepsMemory, ReadsNothing}
 use Rattle.sled_pagecache.specs.declared.pagecache.call.Answer.{Answer}
 use Rattle.sled_pagecache.specs.declared.pagecache.call.Answer.TheVariants.{Pinned, Sealed, Cancelled}
 use Rattle.sled_pagecache.specs.declared.pagecache.call.Call.{Call}
 use Rattle.sled_pagecache.specs.declared.pagecache.call.Call.TheVariants.{Pin, Seal, Cancel}
 use Rattle.sled_pagecache.specs.declared.pagecache.sticky_log.Closing.{Closing}
 use Rattle.sled_pagecache.specs.declared.pagecache.sticky_log.Closing.TheVariants as closings
+use Rattle.std.specs.Borrow.{Fml, RattleType, MutBor, RestsIfErr, Lends}
+use mir.Syntax.{named}
+use Rattle.sled_pagecache.specs.declared.pagecache.guard.RecoveryGuard.{RecoveryGuard}
+use Rattle.sled_pagecache.specs.contracts.pagecache.cache.PageCache as cache
+use Rattle.sled_pagecache.specs.contracts.pagecache.guard.RecoveryGuard as guard
+use Rattle.std.specs.List.{AllByRecursion}
+use Rattle.sled_log.specs.Contents.{Content}
+use Rattle.sled_pagecache.specs.Logged.{Logged}
+use Rattle.sled_pagecache.specs.Reopening.{AreAfterPrefix, CrashReopens, CrashReopensTo}
+use Rattle.sled_pagecache.specs.Rows.{AreSteps, StepInRow, changes_of}
+use Rattle.sled_pagecache.specs.State.{State, contents_of}
+use Rattle.sled_pagecache.specs.Step.{Outcome}
 
 -- the call that closes a batch so, and its answer
 abbrev pub call_of : Closing → Call
@@ -57,3 +68,66 @@ module _ {L : Type 0} (g : Ghosts L) where
 
   abbrev pub CancelsBatch : Cache L → Result (Unit {0}) Error → Cache L → Type 0
   CancelsBatch = ClosesBatch Cancel Cancelled
+
+-- the reference to the cache
+abbrev pub cache_lent : {L : Type 0} → RecoveryGuard L → MutBor (Cache L)
+cache_lent guard = guard.cache
+
+-- what a refused call leaves
+abbrev pub RefusesBatch : {L T : Type 0} → Ghosts L → Cache L → Result T Error → Cache L → Type 0
+RefusesBatch g old (Ok done) new = ⊤
+RefusesBatch g old (Err e) new = OpensBatch g old (Err e) new
+
+module _ (L : RattleType) (g : Ghosts L.Denot) where
+  -- where no batch was opened, the cache rests as it was refused
+  abbrev pub RestsIfRefused : MutBor (Cache L.Denot) → Result (RecoveryGuard L.Denot) Error → Fml
+  RestsIfRefused c result = RestsIfErr (cache.the_row L g) c (λ guard. (cache_lent guard).ghost_name) result (λ last. RefusesBatch g c.now result last)
+
+  -- the guard lends its cache, and holds it as it comes back
+  abbrev pub LendsCache : MutBor (RecoveryGuard L.Denot) → MutBor (Cache L.Denot) → Fml
+  LendsCache it result = Lends (guard.the_row (record { mir = named 1; lft = [] }) L g) (cache.the_row L g) it result (λ last. record it.now { cache = record it.now.cache { now = last } })
+
+-- the call closes no batch; those that do are made by a batch's guard alone, which they spend
+abbrev pub ClosesNone : Call → Type 0
+ClosesNone Seal = ⊥
+ClosesNone Cancel = ⊥
+ClosesNone other = ⊤
+
+-- The pages have nothing of what came since the log held this: they are those after a prefix of what was pending then.
+abbrev pub AreWithout : Logged → List Content → Type 0
+AreWithout held contents = AreAfterPrefix held [] contents
+
+-- they are as the state has them
+abbrev pub AreThoseOf : State → List Content → Type 0
+AreThoseOf s contents = contents ≡ contents_of s
+
+-- the calls of a batch, and the one that opened it
+abbrev pub with_pin : List (Call × Answer) → List (Call × Answer)
+with_pin calls = (Pin, Pinned (Ok tt)) ∷ calls
+
+module _ {L : Type 0} (g : Ghosts L) where
+  -- a batch was opened, and these calls were made inside it
+  pub record RunsBatch (old : Cache L) (calls : List (Call × Answer)) (new : Cache L) : Type 0 where
+    pub pinned : Cache L
+    pub pin : Steps g old Pin (Pinned (Ok tt)) pinned
+    pub row : StepInRow g pinned calls new
+    pub inside : AllByRecursion (λ made. ClosesNone made.0) calls
+
+  -- The calls are steps to another state, in which the cache is. A crash since the first of them reopens to pages that have nothing of
+  -- them, or to those as they are then: whole, or not at all.
+  pub record StandsWhole (old : Cache L) (calls : List (Call × Answer)) (new : Cache L) (held : Logged) (s : State) : Type 0 where
+    pub held_then : Logged
+    pub t : State
+    pub is : Represents g new held_then t
+    pub outs : List Outcome
+    pub steps : AreSteps g (Steps g) old s calls outs new t
+    pub crash : CrashReopensTo g new.log (g.moment old.log) (λ contents. AreWithout held contents ⊎ AreThoseOf t contents)
+
+  -- The same of calls that may stand in part: a crash reopens to the pages after a prefix of what they write.
+  pub record StandsInPart (old : Cache L) (calls : List (Call × Answer)) (new : Cache L) (held : Logged) (s : State) : Type 0 where
+    pub held_then : Logged
+    pub t : State
+    pub is : Represents g new held_then t
+    pub outs : List Outcome
+    pub steps : AreSteps g (Steps g) old s calls outs new t
+    pub crash : CrashReopens g new.log (g.moment old.log) held (changes_of outs)

@@ -1,14 +1,18 @@
 -- What contracts see of a page cache over a log, and which state it is in.
-use Rattle.std.specs.Prelude.{◌≡◌, ℕ, Bool, true, false, List, [], length, Option, Some, slice_get, slice_index_or}
+use Rattle.std.specs.Prelude.{◌≡◌, ℕ, [], slice_index_or, Bool, true, false, List, length, Option, Some, slice_get}
+use Rattle.sled_log.specs.Messages.{Entry, Chain, effect_of_entry}
 use Rattle.std.specs.List.{sum_by}
 use Rattle.sled_base.specs.Lru.{Recency}
-use Rattle.sled_log.specs.Batches.{is_open}
-use Rattle.sled_log.specs.Messages.{Entry, effect_of_entry}
+use Rattle.sled_log.specs.Events.{is_open}
 use Rattle.sled_log.specs.LogState as log
 use Rattle.sled_log.specs.declared.log.Log.{Ghosts}
 use Rattle.sled_pagecache.specs.Logged.{Logged, IsLogged, now}
 use Rattle.sled_pagecache.specs.State.{State, contents_of, stamps_of}
 use Rattle.sled_pagecache.specs.declared.pagecache.config.Config.{Config}
+
+-- the chain of a page
+abbrev pub chain_at : log.LogState Entry → ℕ → Chain
+chain_at state pid = slice_index_or (log.now effect_of_entry state) pid []
 
 -- The stamps of the pages, which of them lie in memory, how much of the log the messages of each page take whose node does, the
 -- next generated id, whether a batch is open, whether a write fault is kept, the settings, whether both system pages were found in
@@ -35,11 +39,11 @@ IsAway cache pid = slice_get cache.resident pid ≡ Some false
 module _ {L : Type 0} (state : L → log.LogState Entry) where
   -- how many messages make a page
   abbrev pub chain_length : Cache L → ℕ → ℕ
-  chain_length cache pid = length (slice_index_or (log.now effect_of_entry (state cache.log)) pid [])
+  chain_length cache pid = length (chain_at (state cache.log) pid)
 
   -- how much of the log they take together
   abbrev pub chain_size : Cache L → ℕ → ℕ
-  chain_size cache pid = sum_by (λ entry. entry.place.log_size) (slice_index_or (log.now effect_of_entry (state cache.log)) pid [])
+  chain_size cache pid = sum_by (λ entry. entry.place.log_size) (chain_at (state cache.log) pid)
 
 module _ {L : Type 0} (g : Ghosts L) where
   -- what is known of the log, which holds that
@@ -50,7 +54,7 @@ module _ {L : Type 0} (g : Ghosts L) where
     pub opened : s.batch ≡ is_open held.pending
 
   -- The cache is in this state, and its log, which tells its bytes, holds that. After a write error nothing is known of the log.
-  pub record IsIn (cache : Cache L) (held : Logged) (s : State) : Type 0 where
+  pub record Represents (cache : Cache L) (held : Logged) (s : State) : Type 0 where
     pub tells : g.tells
     pub stamps : stamps_of s ≡ cache.stamps
     pub next : s.next ≡ cache.next

@@ -8,9 +8,9 @@ use Rattle.sled_log.specs.Calls.{HasGrown}
 use Rattle.sled_log.specs.Contents.{Update}
 use Rattle.sled_log.specs.Events.{Event, Change, Pin, Seal, Cancel}
 use Rattle.sled_log.specs.LogState as log
-use Rattle.sled_log.specs.Writing.{message_of}
+use Rattle.sled_log.specs.Reading.{message_of}
 use Rattle.sled_log.specs.declared.log.Log.{Ghosts}
-use Rattle.sled_pagecache.specs.Cache.{Cache, chain_length, IsIn}
+use Rattle.sled_pagecache.specs.Cache.{Cache, chain_length, Represents}
 use Rattle.sled_pagecache.specs.Logged.{Logged, Adds, IsLeft}
 use Rattle.sled_pagecache.specs.State.{State}
 use Rattle.sled_pagecache.specs.Step.{Outcome, Step}
@@ -40,7 +40,7 @@ module _ {L : Type 0} (g : Ghosts L) where
     pub out : Outcome
     pub step : StepOver old s call answer out
     pub held_then : Logged
-    pub is : IsIn g new held_then out.state
+    pub is : Represents g new held_then out.state
     pub added : out.state.fault ≡ false → Adds held out.changes held_then
     pub stop : s.fault ≡ false → log.CrashesSinceLeave g.moment g.left_since old.log new.log (IsLeft held out.changes)
     pub stuck : s.fault ≡ true → new.log ≡ old.log
@@ -48,7 +48,7 @@ module _ {L : Type 0} (g : Ghosts L) where
   -- The call is one step, in whatever state the cache is.
   pub record Steps (old : Cache L) (call : Call) (answer : Answer) (new : Cache L) : Type 0 where
     pub opening : IsSameOpening old new
-    pub from_each : (held : Logged) (s : State) → IsIn g old held s → IsStep old call answer new held s
+    pub from_each : (held : Logged) (s : State) → Represents g old held s → IsStep old call answer new held s
 
 -- A fault is reported only where its count grew in the call, or a write fault was kept.
 pub record IsBlamed {L T : Type 0} (g : Ghosts L) (old new : Cache L) (result : Result T Error) : Type 0 where

@@ -1,15 +1,53 @@
 -- What is answered for a damaged page.
-use Rattle.std.specs.Prelude.{◌≡◌, ℕ, false, Some, Result, ⊤}
+use Rattle.std.specs.Prelude.{◌≡◌, ℕ, List, [], ◌∷◌, ◌++◌, ◌⊎◌, map, false, Some, ⊤, Result}
+use Rattle.sled_base.specs.declared.types.DiskPtr.{DiskPtr}
+use Rattle.sled_base.specs.declared.types.Refusal.TheVariants.{Corruption, OutOfMemory}
+use Rattle.sled_log.specs.Chains.{is_empty}
+use Rattle.sled_log.specs.Contents.{Node}
+use Rattle.sled_log.specs.Messages.{Message, Chain, Messages, messages_of, message, effect_of_entry}
+use Rattle.sled_log.specs.Reading.{Makes}
+use Rattle.sled_node.specs.Node.{WholeNode}
+use Rattle.sled_log.specs.LogState as log
+use Rattle.sled_log.specs.declared.log.Log.{Ghosts}
+use Rattle.sled_pagecache.specs.Cache.{Cache, chain_at}
+use Rattle.sled_pagecache.specs.Calls.{IsSameOpening}
+use Rattle.sled_pagecache.specs.Inside.StickyLog.{Went}
+use Rattle.sled_pagecache.specs.Inside.PageIn.{sticky_log_of}
+use Rattle.sled_pagecache.specs.Step.{is_reserved}
 use Rattle.std.specs.Result.{IsErrAnd}
 use Rattle.sled_base.specs.declared.types.Error.{Error}
 use Rattle.sled_base.specs.declared.types.Error.TheVariants.{Io, Corruption, OutOfMemory}
-use Rattle.sled_log.specs.Messages.{Chain}
-use Rattle.sled_log.specs.declared.log.Log.{Ghosts}
-use Rattle.sled_pagecache.specs.Cache.{Cache}
-use Rattle.sled_pagecache.specs.ChainReads.{chain_at}
-use Rattle.sled_pagecache.specs.PagesIn.{LeavesPages}
-use Rattle.sled_pagecache.specs.Reading.{IsDamaged, IsWrongAt}
-use Rattle.sled_pagecache.specs.Step.{is_reserved}
+
+-- the messages make some node
+abbrev pub MakesNode : Messages → Type 0
+MakesNode unplaced = (node : WholeNode) × Makes unplaced (Node node)
+
+-- The message kept there is the first that doesn't belong where it stands: those before it make a node, where there are any,
+-- and with it they make none.
+pub record IsFirstWrong {M : Type 0} (message : M → Message) (kept_at : M → DiskPtr) (messages : List M) (pointer : DiskPtr) : Type 0 where
+  pub before : List M
+  pub first : M
+  pub after : List M
+  pub is : messages ≡ before ++ first ∷ after
+  pub kept : kept_at first ≡ pointer
+  pub sound : (before ≡ []) ⊎ MakesNode (map message before)
+  pub wrong : ¬ MakesNode (map message (before ++ first ∷ []))
+
+-- the page has a content, and its messages make no node
+abbrev pub IsDamaged : Chain → Type 0
+IsDamaged chain = (is_empty effect_of_entry chain ≡ false) × ¬ MakesNode (messages_of chain)
+
+-- it is the first wrong one of a page's chain, or of what was found of it
+abbrev pub IsWrongAt : Chain → DiskPtr → Type 0
+IsWrongAt chain pointer = IsFirstWrong (λ entry. entry.message) (λ entry. entry.place.pointer) chain pointer
+
+-- No page changes, and nothing is appended to the log.
+pub record LeavesPages {L : Type 0} (g : Ghosts L) (old new : Cache L) : Type 0 where
+  pub opening : IsSameOpening old new
+  pub stamps : new.stamps ≡ old.stamps
+  pub next : new.next ≡ old.next
+  pub went : Went g (sticky_log_of old) (sticky_log_of new) []
+  pub same : g.tells → new.fault ≡ false → log.now effect_of_entry (g.state new.log) ≡ log.now effect_of_entry (g.state old.log)
 
 -- the first wrong message of the page, unless memory ran out or the device failed
 abbrev pub ReportsWrong : Chain → Error → Type 0

@@ -1,6 +1,10 @@
--- What a page cache lends, and what it is once the loan is over.
-use Rattle.std.specs.Prelude.{◌≡◌, ℕ, false, ⊤, Option, Some, None, Result, Ok, Err, IsOk, OnErr, IfOk, IfSome, MatchOption}
-use Rattle.std.specs.Borrow.{Fml, RattleType, MutBor, follows_so}
+-- What a page cache and its table lend, and what they are once the loan is over.
+use Rattle.std.specs.Prelude.{ℕ, slice_set, ◌≡◌, false, ⊤, Option, Some, None, Result, Ok, Err, IsOk, OnErr, IfOk, IfSome, MatchOption}
+use Rattle.std.specs.Borrow.{Lends, MutBor, Fml, RattleType, follows_so}
+use Rattle.sled_pagecache.specs.Table.{TableView}
+use Rattle.sled_pagecache.specs.declared.pagecache.page.Page.{Page}
+use Rattle.sled_pagecache.specs.contracts.pagecache.page.Page.{the_row as page_row}
+use Rattle.sled_pagecache.specs.contracts.pagecache.pagetable.PageTable.{the_row as table_row}
 use mathlib.Core.Option.{none}
 use Rattle.sled_base.specs.Errors.{error_of}
 use Rattle.sled_base.specs.declared.types.Error.{Error}
@@ -12,15 +16,22 @@ use Rattle.sled_pagecache.specs.Answers.{Keeps}
 use Rattle.sled_pagecache.specs.Cache.{Cache, IsResident, IsAway}
 use Rattle.sled_pagecache.specs.Calls.{Steps, IsBlamed}
 use Rattle.sled_pagecache.specs.Damage.{MeetsDamage, ReportsDamage}
-use Rattle.sled_pagecache.specs.Memory.{IsBounded, KeepsMemory, AccessesPage}
-use Rattle.sled_pagecache.specs.Reads.{ReadsPage}
+use Rattle.sled_pagecache.specs.Memory.{IsBounded, KeepsMemory, AccessesPage, ReadsPage}
 use Rattle.sled_pagecache.specs.Step.{is_reserved}
-use Rattle.sled_pagecache.specs.Token.{Token}
+use Rattle.sled_pagecache.specs.State.{Token}
 use Rattle.sled_pagecache.specs.declared.pagecache.call.Answer.TheVariants.{Got}
 use Rattle.sled_pagecache.specs.declared.pagecache.call.Call.TheVariants.{Get}
 use Rattle.sled_pagecache.specs.declared.pagecache.view.MetaView.{MetaView}
 use Rattle.sled_pagecache.specs.declared.pagecache.view.NodeView.{NodeView}
 use Rattle.sled_pagecache.specs.contracts.pagecache.cache.PageCache.{the_row}
+
+-- the table with another page at the id
+abbrev pub with_page : TableView → ℕ → Page → TableView
+with_page table pid page = record table { pages = slice_set table.pages pid page }
+
+-- the page at the id is what was left there
+abbrev pub LendsPage : MutBor TableView → ℕ → MutBor Page → Fml
+LendsPage table pid page = Lends table_row page_row table page (with_page table.now pid)
 
 -- the answer of a call that lends a node
 abbrev pub lent_answer : Result (Option NodeView) Refusal → Result (Option (Token × WholeNode)) Error
@@ -29,9 +40,9 @@ lent_answer (Ok (Some view)) = Ok (Some (view.token, view.node.now))
 lent_answer (Err refusal) = Err (error_of refusal)
 
 -- the same of the map of named roots
-abbrev pub told_meta : Result MetaView Refusal → Result (Token × Roots) Error
-told_meta (Ok view) = Ok (view.token, view.meta.now)
-told_meta (Err refusal) = Err (error_of refusal)
+abbrev pub lent_meta : Result MetaView Refusal → Result (Token × Roots) Error
+lent_meta (Ok view) = Ok (view.token, view.meta.now)
+lent_meta (Err refusal) = Err (error_of refusal)
 
 -- The call is one step, and reads the page's messages where the page doesn't lie in memory; then it does. What a refused call
 -- has read isn't kept.
@@ -54,5 +65,5 @@ pub record IsGot {L : Type 0} (g : Ghosts L) (old : Cache L) (pid : ℕ) (result
   pub bounded : IsBounded g new
 
 -- The cache is so once what it lent has come back. (`follows_so` is the toolchain's word for what a loan becomes at its end.)
-abbrev pub OnceGivenBack : (L : RattleType) (g : Ghosts L.Denot) → MutBor (Cache L.Denot) → (Cache L.Denot → Type 0) → Fml
-OnceGivenBack L g cache Is = follows_so (the_row L g) (the_row L g) cache.ghost_name none (λ _ _. ⊤) Is
+abbrev pub AfterLoan : (L : RattleType) (g : Ghosts L.Denot) → MutBor (Cache L.Denot) → (Cache L.Denot → Type 0) → Fml
+AfterLoan L g cache Is = follows_so (the_row L g) (the_row L g) cache.ghost_name none (λ _ _. ⊤) Is

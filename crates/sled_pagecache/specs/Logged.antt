@@ -1,12 +1,56 @@
 -- What the log of a cache holds, as one knows it who knows contents and no messages.
-use Rattle.std.specs.Prelude.{List}
-use Rattle.sled_log.specs.Contents.{Content, Update, contents_after}
+use Rattle.std.specs.Prelude.{ℕ, zero, suc, List, slice_get, IfSome, ◌≤◌, length, take}
+use Rattle.std.specs.List.{AllByRecursion}
+use Rattle.sled_log.specs.Chains.{chains_after}
+use Rattle.sled_log.specs.Contents.{Content, Free, Counter, Roots, Node, Damaged, Update, contents_after}
 use Rattle.sled_log.specs.Events.{Event}
-use Rattle.sled_log.specs.Messages.{Message, Messages}
+use Rattle.sled_log.specs.Messages.{Message, Messages, effect_of}
+use Rattle.sled_pagecache.specs.Limits.{most_messages, most_pages}
 use Rattle.sled_log.specs.Reading.{Hold, AreEvents}
 use Rattle.sled_log.specs.LogState as log
 use Rattle.sled_log.specs.LogState.{AddsEvents, CrashKeeps}
-use Rattle.sled_pagecache.specs.Proper.{IsProper, StayProper}
+
+-- each item is so by its id
+abbrev pub AllById : {X : Type 0} → (ℕ → X → Type 0) → List X → Type 0
+AllById Is items = (id : ℕ) → IfSome (slice_get items id) (Is id)
+
+-- the item at 0 is so, that at 1 so, and each other one so
+abbrev pub FitsId : {X : Type 0} → (X → Type 0) → (X → Type 0) → (X → Type 0) → ℕ → X → Type 0
+FitsId First Second Other zero item = First item
+FitsId First Second Other (suc zero) item = Second item
+FitsId First Second Other (suc (suc id)) item = Other item
+
+abbrev pub AreRoots : Content → Type 0
+AreRoots (Roots roots) = Unit {0}
+AreRoots other = ⊥
+
+abbrev pub IsCounter : Content → Type 0
+IsCounter (Counter n) = Unit {0}
+IsCounter other = ⊥
+
+-- what a page of the callers holds: it is free, has a node, or is damaged
+abbrev pub IsUsers : Content → Type 0
+IsUsers Free = Unit {0}
+IsUsers (Node node) = Unit {0}
+IsUsers Damaged = Unit {0}
+IsUsers other = ⊥
+
+-- page 0 holds the named roots and page 1 the counter, as far as they are there, and no other page does
+abbrev pub IsOwnAt : ℕ → Content → Type 0
+IsOwnAt = FitsId AreRoots IsCounter IsUsers
+
+abbrev pub AreOwn : List Content → Type 0
+AreOwn contents = AllById IsOwnAt contents
+
+-- at most 10 messages make a page, and there are at most 2^37 pages
+pub record IsProper (pages : List Messages) (contents : List Content) : Type 0 where
+  pub own : AreOwn contents
+  pub short : AllByRecursion (λ told. length told ≤ most_messages) pages
+  pub few : length contents ≤ most_pages
+
+-- however many of these messages have come, which are these changes, the pages are so
+abbrev pub StayProper : List Messages → List Content → List (Event Message) → List (Event Update) → Type 0
+StayProper pages contents messages changes = (n : ℕ) → IsProper (chains_after effect_of pages (take n messages)) (contents_after contents (take n changes))
 
 -- the contents of the pages that are stable, and the changes that are pending
 pub record Logged : Type 0 where

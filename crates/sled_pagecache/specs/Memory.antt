@@ -1,10 +1,20 @@
--- Which pages of a cache lie in memory, beside the list of their recent use.
-use Rattle.std.specs.Prelude.{◌≡◌, ◌≢◌, ◌⊎◌, ℕ, false, List, Some, slice_get, Contains}
-use Rattle.sled_base.specs.Lru.{Recency, IsAccessed, IsListed, IsSound, rounded}
+-- Which pages of a cache lie in memory, beside the list of their recent use, and how often a call reads the log.
+use Rattle.std.specs.Prelude.{◌≡◌, ◌≢◌, ◌⊎◌, ◌≤◌, ℕ, false, List, slice_get, Some, Result, ⊤, Contains, zero, suc, OnOk, OnErr}
 use Rattle.sled_base.specs.declared.types.Error.{Error}
+use Rattle.sled_base.specs.declared.types.Error.TheVariants.{Unsupported, Io, OutOfMemory}
+use Rattle.sled_base.specs.declared.types.Why.TheVariants.{LogFull}
+use Rattle.sled_log.specs.Calls.{one_more, Counts}
 use Rattle.sled_log.specs.declared.log.Log.{Ghosts}
-use Rattle.sled_pagecache.specs.Cache.{Cache, IsResident, chain_size}
-use Rattle.sled_pagecache.specs.Starts.{IsHindrance}
+use Rattle.sled_pagecache.specs.Cache.{Cache, IsResident, chain_size, chain_length, IsAway}
+use Rattle.sled_pagecache.specs.Limits.{most_messages}
+use Rattle.sled_base.specs.Lru.{Recency, IsAccessed, IsListed, IsSound, rounded}
+
+-- out of memory, a device that failed, or a full log
+abbrev pub IsHindrance : Error → Type 0
+IsHindrance OutOfMemory = ⊤
+IsHindrance (Io device) = ⊤
+IsHindrance (Unsupported LogFull) = ⊤
+IsHindrance other = ⊥
 
 -- the node of the page lies in memory, and the messages of the page take so much of the log
 abbrev pub HasNode : {L : Type 0} → Cache L → ℕ → ℕ → Type 0
@@ -51,10 +61,6 @@ module _ {L : Type 0} (old : Cache L) (pid : ℕ) (new : Cache L) where
     pub accessed : IsAccessed pid (rounded size) old.lru new.lru dropped
     pub others : (other : ℕ) → other ≢ pid → ¬ Contains dropped other → StaysAt old new other
 
-  -- the page was accessed and its node lies in memory, or there is none and nothing changes
-  abbrev pub FindsPage : Type 0
-  FindsPage = (AccessesPage × ((size : ℕ) × HasNode new pid size)) ⊎ (KeepsMemory old new × HasNoNode new pid)
-
   -- nothing was accessed, and all other pages stay as they were
   pub record LeavesOthers : Type 0 where
     pub lru : new.lru ≡ old.lru
@@ -62,10 +68,40 @@ module _ {L : Type 0} (old : Cache L) (pid : ℕ) (new : Cache L) where
 
   -- What an error leaves in memory: no page leaves it but that of a refused append, and what its access drops. Other errors leave
   -- all as it was.
-  pub record LeavesMemory (tells : Type 0) (error : Error) : Type 0 where
+  pub record EvictsAtMost (tells : Type 0) (error : Error) : Type 0 where
     pub others : AccessesPage ⊎ LeavesOthers
     pub unasked : tells → IsHindrance error ⊎ KeepsMemory old new
 
 -- the same of a page that has no node in memory
 abbrev pub LeavesNodes : {L : Type 0} → Type 0 → Cache L → Cache L → Error → Type 0
-LeavesNodes tells old new error = (pid : ℕ) × HasNoNode old pid × LeavesMemory old pid new tells error
+LeavesNodes tells old new error = (pid : ℕ) × HasNoNode old pid × EvictsAtMost old pid new tells error
+
+-- a count after so many more
+abbrev pub count_after : ℕ → ℕ → ℕ
+count_after zero count = count
+count_after (suc times) count = one_more (count_after times count)
+
+-- not at all
+abbrev pub ReadsNothing : {L : Type 0} → Ghosts L → Cache L → Cache L → Type 0
+ReadsNothing g old new = (g.counts new.log).reads ≡ (g.counts old.log).reads
+
+module _ {L : Type 0} (g : Ghosts L) where
+  -- Once for each message that makes the page, and at most ten times, where the page wasn't in memory and is then; fewer times
+  -- where the call is refused; and else not at all.
+  pub record ReadsPage (old : Cache L) (pid : ℕ) (new : Cache L) : Type 0 where
+    pub in_memory : ¬ IsAway old pid → ReadsNothing g old new
+    pub whole : g.tells → IsAway old pid → IsResident new pid → (g.counts new.log).reads ≡ count_after (chain_length g.state old pid) (g.counts old.log).reads
+    pub times : ℕ
+    pub most : times ≤ most_messages
+    pub is : (g.counts new.log).reads ≡ count_after times (g.counts old.log).reads
+
+-- how many of so many pages are the cache's own
+abbrev pub own_among : ℕ → ℕ
+own_among zero = 0
+own_among (suc zero) = 1
+own_among (suc (suc pages)) = 2
+
+-- the log was read so often, or, where the call is refused, at most so often
+pub record HasRead {L T E : Type 0} (counts : L → Counts) (old new : L) (n : ℕ) (result : Result T E) : Type 0 where
+  pub whole : OnOk result ((counts new).reads ≡ count_after n (counts old).reads)
+  pub part : OnErr result ((times : ℕ) × (times ≤ n) × ((counts new).reads ≡ count_after times (counts old).reads))

@@ -1,11 +1,28 @@
--- What a page cache is when it is opened.
-use Rattle.std.specs.Prelude.{◌==◌, ◌+◌, ◌*◌, ℕ, false, List, [], ◌∷◌, ◌++◌, length, map, drop, nat_lt, if◌then◌else◌, Option, Some, None}
+-- What a page cache is when it is opened, and what opening one over a log does.
+use Rattle.std.specs.Prelude.{◌==◌, ◌+◌, ◌*◌, ℕ, false, List, [], ◌∷◌, ◌++◌, length, map, drop, nat_lt, if◌then◌else◌, Option, Some, None, ◌≡◌, ◌≢◌, ◌⊎◌, ◌<◌, ◌≤◌, Bool, true, slice_get, Result, Ok, Err, IfErr, IfSome, ⊤}
 use Rattle.sled_base.specs.declared.types.Why.{Why}
-use Rattle.sled_base.specs.declared.types.Why.TheVariants.{CapacityTooSmall, IntervalZero, SegmentZero}
+use Rattle.sled_base.specs.declared.types.Why.TheVariants.{CapacityTooSmall, IntervalZero, SegmentZero, LogFull}
 use Rattle.sled_log.specs.Contents.{Content, Counter, Roots, Update, Put}
-use Rattle.sled_log.specs.Events.{Event, Change}
+use Rattle.sled_log.specs.Events.{Event, Change, is_open}
 use Rattle.sled_pagecache.specs.State.{page, State}
 use Rattle.sled_pagecache.specs.declared.pagecache.config.Config.{Config}
+use Rattle.sled_base.specs.declared.types.Device.TheVariants.{Read, Write}
+use Rattle.sled_base.specs.declared.types.DiskPtr.{DiskPtr}
+use Rattle.sled_base.specs.declared.types.Error.{Error}
+use Rattle.sled_base.specs.declared.types.Error.TheVariants.{Unsupported, Io, Corruption, OutOfMemory}
+use Rattle.sled_node.specs.Meta as meta
+use Rattle.sled_log.specs.Calls.{HasGrown}
+use Rattle.sled_log.specs.Chains.{is_empty}
+use Rattle.sled_log.specs.Contents as content
+use Rattle.sled_log.specs.Messages.{Message, Chain, Messages, messages_of, effect_of_entry}
+use Rattle.sled_log.specs.Reading.{Makes}
+use Rattle.sled_log.specs.LogState.{LogState, CrashesSinceLeave, unplaced_state}
+use Rattle.sled_log.specs.declared.log.Log.{Ghosts}
+use Rattle.sled_pagecache.specs.Logged.{FitsId, Logged, IsLogged, Adds, IsLeft, now}
+use Rattle.sled_pagecache.specs.Cache.{Cache, IsResident, Represents, chain_at}
+use Rattle.sled_pagecache.specs.Calls.{HasNoRoom}
+use Rattle.sled_pagecache.specs.Limits.{most_messages, most_pages}
+use Rattle.sled_pagecache.specs.Memory.{IsHindrance}
 
 -- what is wrong with a config, by the first of its faults
 abbrev pub fault_of : Config → Option Why
@@ -16,8 +33,8 @@ fault_of config =
 
 -- The system pages are that of the named roots, of which there are none at first, and the counter of generated ids. These are
 -- missing.
-abbrev pub missing : List Content → List Content
-missing contents = drop (length contents) (Roots [] ∷ Counter 0 ∷ [])
+abbrev pub missing_pages : List Content → List Content
+missing_pages contents = drop (length contents) (Roots [] ∷ Counter 0 ∷ [])
 
 -- the changes that put them there
 abbrev pub changes_of_start : List Content → List (Event Update)
@@ -30,10 +47,116 @@ first_id interval (roots ∷ Counter n ∷ contents) = n + 2 * interval
 first_id interval contents = 0
 
 -- A cache that is opened over such contents: each page is at stamp 0, and those that were missing at stamp 1.
-abbrev pub opened : Config → List Content → State
-opened config contents = record {
-  pages = map (page 0) contents ++ map (page 1) (missing contents);
+abbrev pub opened_state : Config → List Content → State
+opened_state config contents = record {
+  pages = map (page 0) contents ++ map (page 1) (missing_pages contents);
   next = first_id config.idgen_persist_interval contents;
   batch = false;
   fault = false;
 }
+
+-- the log that is left, in the cache or beside the error
+abbrev pub log_after : {L : Type 0} → Result (Cache L) (Error × L) → L
+log_after (Ok cache) = cache.log
+log_after (Err refused) = refused.1
+
+-- a log that holds these pages, of which nothing is pending, and what it holds
+abbrev pub stable_state : List Messages → Bool → LogState Message
+stable_state pages usable = record { stable = pages; pending = []; usable = usable }
+
+abbrev pub stable_contents : List content.Content → Logged
+stable_contents contents = record { stable = contents; pending = [] }
+
+-- whether both system pages are there
+abbrev pub has_own : List content.Content → Bool
+has_own [] = false
+has_own (roots ∷ []) = false
+has_own (roots ∷ counter ∷ contents) = true
+
+-- the chain is that of a page as a cache leaves it at this id
+abbrev pub IsFit : ℕ → Chain → Type 0
+IsFit = FitsId (λ chain. (roots : meta.Roots) × Makes (messages_of chain) (content.Roots roots)) (λ chain. (n : ℕ) × Makes (messages_of chain) (content.Counter n)) (λ chain. length chain ≤ most_messages)
+
+-- the pointer is that of the first message of the first page, by id, that isn't so
+pub record BeginsAmiss (chains : List Chain) (pointer : DiskPtr) : Type 0 where
+  pub pid : ℕ
+  pub chain : Chain
+  pub is : slice_get chains pid ≡ Some chain
+  pub amiss : ¬ IsFit pid chain
+  pub first : (before : ℕ) → before < pid → IfSome (slice_get chains before) (IsFit before)
+  pub begins : slice_get (map (λ entry. entry.place.pointer) chain) 0 ≡ Some pointer
+
+-- Why no cache is opened over a log that holds such chains.
+abbrev pub RefusesOpening : Config → List Chain → Error → Type 0
+RefusesOpening config chains OutOfMemory = ⊤
+RefusesOpening config chains (Io device) = ⊤
+RefusesOpening config chains (Unsupported why) = (why ≡ LogFull) ⊎ (fault_of config ≡ Some why)
+RefusesOpening config chains (Corruption None) = most_pages < length chains
+RefusesOpening config chains (Corruption (Some pointer)) = (length chains ≤ most_pages) × BeginsAmiss chains pointer
+-- there is no other reason
+RefusesOpening config chains other = ⊥
+
+module _ {L : Type 0} (g : Ghosts L) where
+  -- the log holds what was held and, behind it, the changes
+  pub record HasAdded (held : Logged) (changes : List (Event Update)) (log : L) : Type 0 where
+    pub held_then : Logged
+    pub logged : IsLogged (unplaced_state (g.state log)) held_then
+    pub added : Adds held changes held_then
+
+  -- A crash at any moment of the call leaves what was held and a prefix of the changes that splits no batch.
+  abbrev pub CrashLeaves : L → Logged → List (Event Update) → L → Type 0
+  CrashLeaves log held changes after = CrashesSinceLeave g.moment g.left_since log after (IsLeft held changes)
+
+  -- the log has no room for the message of the first change
+  abbrev pub LacksRoomFor : L → List (Event Update) → Type 0
+  LacksRoomFor log [] = ⊥
+  LacksRoomFor log (change ∷ changes) = HasNoRoom g log change
+
+  -- The log was full. Where no change had begun, it lacked room as it was given; else it did once those that began were added
+  -- to it. From then on nothing was added.
+  pub record WasFull (log : L) (held : Logged) (begun rest : List (Event Update)) (after : L) : Type 0 where
+    pub given : begun ≡ [] → LacksRoomFor log rest
+    pub at : L
+    pub came : CrashLeaves log held begun at
+    pub added : HasAdded held begun at
+    pub room : LacksRoomFor at rest
+    pub nothing : CrashLeaves at added.held_then [] after × HasAdded added.held_then [] after
+
+  -- A cache was opened: the missing system pages were added, and where one was missing, all is durable.
+  pub record IsOpened (log : L) (config : Config) (held : Logged) (cache : Cache L) : Type 0 where
+    pub stop : CrashLeaves log held (changes_of_start (now held)) cache.log
+    pub held_then : Logged
+    pub added : Adds held (changes_of_start (now held)) held_then
+    pub stable : missing_pages (now held) ≢ [] → held_then.pending ≡ []
+    pub is : Represents g cache held_then (opened_state config (now held))
+    pub config_is : cache.config ≡ config
+    pub recovered : cache.recovered ≡ has_own (now held)
+
+  -- An error was answered, and the log comes back. A prefix of the missing changes had begun, and no other change: a crash
+  -- leaves no more. They were added, unless the error is that of a write.
+  pub record IsUnopened (log : L) (held : Logged) (error : Error) (after : L) : Type 0 where
+    pub why : IsHindrance error
+    pub begun : List (Event Update)
+    pub rest : List (Event Update)
+    pub are : begun ++ rest ≡ changes_of_start (now held)
+    pub stop : CrashLeaves log held begun after
+    pub added : error ≢ Io Write → HasAdded held begun after
+    pub full : error ≡ Unsupported LogFull → WasFull log held begun rest after
+
+  -- What opening a cache makes of a log that held this.
+  abbrev pub Opens : L → Config → Logged → Result (Cache L) (Error × L) → Type 0
+  Opens log config held (Ok cache) = IsOpened log config held cache
+  Opens log config held (Err refused) = IsUnopened log held refused.0 refused.1
+
+  -- A fault is reported only where its count grew.
+  pub record IsBlamedOpening (log : L) (result : Result (Cache L) (Error × L)) : Type 0 where
+    pub read : IfErr result (λ e. e.0 ≡ Io Read → HasGrown (g.counts log).failed_reads (g.counts e.1).failed_reads)
+    pub write : IfErr result (λ e. e.0 ≡ Io Write → HasGrown (g.counts log).write_faults (g.counts e.1).write_faults)
+
+  -- A log that comes back may be opened again, but after a write fault.
+  abbrev pub MayBeOpened : L → Type 0
+  MayBeOpened log = ((g.state log).usable ≡ true) × (is_open (g.state log).pending ≡ false)
+
+  -- No node lies in memory: of the pages that aren't the cache's own only those do that are free.
+  abbrev pub HoldsNoNode : Cache L → Type 0
+  HoldsNoNode cache = (pid : ℕ) → 2 ≤ pid → IsResident cache pid → is_empty effect_of_entry (chain_at (g.state cache.log) pid) ≡ true

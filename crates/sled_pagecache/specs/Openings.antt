@@ -9,7 +9,7 @@ use Rattle.sled_log.specs.declared.log.Log.{Ghosts}
 use Rattle.sled_pagecache.specs.Cache.{Cache}
 use Rattle.sled_pagecache.specs.Reopening.{HoldsCrash, Started}
 use Rattle.sled_pagecache.specs.Rows.{IsMade, AreMade}
-use Rattle.sled_pagecache.specs.Starts.{MayBeOpened, log_after, only_stable}
+use Rattle.sled_pagecache.specs.Opening.{MayBeOpened, log_after, stable_state}
 use Rattle.sled_pagecache.specs.declared.pagecache.call.Answer.{Answer}
 use Rattle.sled_pagecache.specs.declared.pagecache.call.Answer.TheVariants.{Generated}
 use Rattle.sled_pagecache.specs.declared.pagecache.call.Call.{Call}
@@ -30,7 +30,7 @@ pub data Opening (L : Type 0) : Type 0 where
 module _ {L : Type 0} (g : Ghosts L) where
   -- nothing was appended to the log
   abbrev pub IsEmpty : L → Type 0
-  IsEmpty log = unplaced_state (g.state log) ≡ only_stable [] true
+  IsEmpty log = unplaced_state (g.state log) ≡ stable_state [] true
 
   -- `start` answered so, over a log that may be opened
   abbrev pub Starts : L → Config → Result (Cache L) (Error × L) → Type 0

@@ -1,24 +1,90 @@
 -- What every run of openings shows: pages after a prefix of the changes, which holds all that was flushed, and the answers of the
 -- machine from there.
-use Rattle.std.specs.Prelude.{◌≡◌, ◌≢◌, ◌⊎◌, false, List, [], ◌∷◌, IfErr, ⊤}
+use Rattle.std.specs.Prelude.{◌≡◌, ◌≤◌, ℕ, Bool, true, false, List, [], ◌∷◌, ◌++◌, length, Ok, ◌≢◌, ◌⊎◌, IfErr, ⊤}
+use Rattle.sled_log.specs.Contents.{Content, Update, contents_after}
+use Rattle.sled_log.specs.Events.{Event}
+use Rattle.sled_pagecache.specs.Opening.{changes_of_start, opened_state, has_own}
+use Rattle.sled_pagecache.specs.Reopening.{AreAfterPrefix, RefusesReopening}
+use Rattle.sled_pagecache.specs.Step.{Outcome}
+use Rattle.sled_pagecache.specs.declared.pagecache.call.Answer.{Answer}
+use Rattle.sled_pagecache.specs.declared.pagecache.call.Answer.TheVariants.{Flushed, Generated}
+use Rattle.sled_pagecache.specs.declared.pagecache.call.Call.{Call}
 use Rattle.sled_base.specs.declared.types.Error.{Error}
 use Rattle.sled_base.specs.declared.types.Error.TheVariants.{Unsupported}
 use Rattle.sled_base.specs.declared.types.Why.TheVariants.{LogFull}
-use Rattle.sled_log.specs.Contents.{Update}
-use Rattle.sled_log.specs.Events.{Event}
 use Rattle.sled_log.specs.LogState.{IsPrefix}
 use Rattle.sled_log.specs.declared.log.Log.{Ghosts}
 use Rattle.sled_pagecache.specs.Cache.{Cache}
 use Rattle.sled_pagecache.specs.Calls.{StepOver}
-use Rattle.sled_pagecache.specs.Crashes.{RefusesReopening}
-use Rattle.sled_pagecache.specs.History.{History, Crashes, begins, begun_by_start, behind_calls, made, pages_by_now, started}
-use Rattle.sled_pagecache.specs.Opening.{opened}
 use Rattle.sled_pagecache.specs.Openings.{Ending, Crashed, CrashedIn, HandedOn, Opening, Refused, Lasted}
 use Rattle.sled_pagecache.specs.Rows.{AreSteps, IsInState, IsMade}
-use Rattle.sled_pagecache.specs.Starts.{has_own}
 use Rattle.sled_pagecache.specs.State.{State, contents_of}
-use Rattle.sled_pagecache.specs.Step.{Outcome}
 use Rattle.sled_pagecache.specs.declared.pagecache.config.Config.{Config}
+
+-- The pages as the last crash left them, the changes that were made since, in order, how many of those are flushed, and the changes
+-- that had begun when a write failed. Marks of batches count as changes.
+pub record History : Type 0 where
+  pub pages : List Content
+  pub changes : List (Event Update)
+  pub flushed : ℕ
+  pub begun : List (Event Update)
+
+-- nothing came since
+abbrev pub history_from : List Content → History
+history_from pages = record { pages = pages; changes = []; flushed = 0; begun = [] }
+
+-- the pages by now, where no write failed
+abbrev pub pages_by_now : History → List Content
+pages_by_now h = contents_after h.pages h.changes
+
+abbrev pub with_made : List (Event Update) → History → History
+with_made changes h = record h { changes = h.changes ++ changes }
+
+abbrev pub with_all_flushed : History → History
+with_all_flushed h = record h { flushed = length h.changes }
+
+-- they began, and it isn't known how far they came
+abbrev pub with_begun : List (Event Update) → History → History
+with_begun changes h = record h { begun = h.begun ++ changes }
+
+-- The pages are those after a prefix of all that was made and of what had begun, which splits no batch and holds all that was flushed.
+pub record Survives (h : History) (pages : List Content) : Type 0 where
+  pub prefix : AreAfterPrefix (record { stable = h.pages; pending = h.changes }) h.begun pages
+  pub holds : h.flushed ≤ prefix.cut
+
+-- a crash: the next history begins with pages that survive
+abbrev pub Crashes : History → History → Type 0
+Crashes h after = (pages : List Content) × Survives h pages × (after ≡ history_from pages)
+
+-- the missing system pages are made by an opening, and then all is flushed
+abbrev pub begun_by_start : History → List (Event Update)
+begun_by_start h = changes_of_start (pages_by_now h)
+
+abbrev pub history_after_start_with : List (Event Update) → History → History
+history_after_start_with [] h = h
+history_after_start_with (change ∷ changes) h = with_all_flushed (with_made (change ∷ changes) h)
+
+abbrev pub history_after_start : History → History
+history_after_start h = history_after_start_with (begun_by_start h) h
+
+-- A call was answered so and wrote these changes: they are made. A flush that was done flushes all, and so does an id that wrote a counter.
+abbrev pub history_after_answer : Answer → List (Event Update) → History → History
+history_after_answer (Flushed (Ok written)) changes h = with_all_flushed (with_made changes h)
+history_after_answer (Generated (Ok id)) (change ∷ changes) h = with_all_flushed (with_made (change ∷ changes) h)
+history_after_answer answer changes h = with_made changes h
+
+-- the same, or with a write fault kept they had begun
+abbrev pub history_after_changes : Bool → Answer → List (Event Update) → History → History
+history_after_changes true answer changes h = with_begun changes h
+history_after_changes false answer changes h = history_after_answer answer changes h
+
+abbrev pub history_after_call : Answer → Outcome → History → History
+history_after_call answer out h = history_after_changes out.state.fault answer out.changes h
+
+-- behind calls with these outcomes
+abbrev pub history_after_calls : List (Call × Answer) → List Outcome → History → History
+history_after_calls (call ∷ calls) (out ∷ outs) h = history_after_calls calls outs (history_after_call call.1 out h)
+history_after_calls calls outs h = h
 
 -- Why no cache is opened: an allocation or the device failed, the settings have that fault, or a system page was missing for which the
 -- log had no room.
@@ -27,7 +93,7 @@ RefusesAfter h config error = RefusesReopening config error ⊎ ((error ≡ Unsu
 
 -- Where no cache was opened a crash came, or a prefix of the missing system pages was made.
 abbrev pub EndsUnopened : History → History → Type 0
-EndsUnopened h after = Crashes (begins (begun_by_start h) h) after ⊎ ((part : List (Event Update)) × IsPrefix part (begun_by_start h) × (after ≡ made part h))
+EndsUnopened h after = Crashes (with_begun (begun_by_start h) h) after ⊎ ((part : List (Event Update)) × IsPrefix part (begun_by_start h) × (after ≡ with_made part h))
 
 -- where no write failed, the state has the pages by now
 abbrev pub HasPagesOf : History → State → Type 0
@@ -36,14 +102,14 @@ HasPagesOf h t = t.fault ≡ false → contents_of t ≡ pages_by_now h
 module _ {L : Type 0} (g : Ghosts L) where
   -- the cache is what is opened of the pages by now
   pub record IsOpenedOf (h : History) (config : Config) (cache : Cache L) : Type 0 where
-    pub state : IsInState g cache (opened config (pages_by_now h))
+    pub state : IsInState g cache (opened_state config (pages_by_now h))
     pub config_is : cache.config ≡ config
     pub recovered : cache.recovered ≡ has_own (pages_by_now h)
 
   -- How an opening ends: a crash inside a call may leave what the call began, and a log is handed on only where no write failed.
   abbrev pub Ends : Cache L → State → History → Ending → History → Type 0
   Ends last t h Crashed after = Crashes h after
-  Ends last t h (CrashedIn call answer) after = (out : Outcome) × StepOver g last t call answer out × Crashes (begins out.changes h) after
+  Ends last t h (CrashedIn call answer) after = (out : Outcome) × StepOver g last t call answer out × Crashes (with_begun out.changes h) after
   Ends last t h HandedOn after = (t.fault ≡ false) × (after ≡ h)
 
   -- Each cache is what is opened of the pages by then, and its calls are answered as the machine may from there, one after another.
@@ -53,6 +119,6 @@ module _ {L : Type 0} (g : Ghosts L) where
       IfErr result (λ e. RefusesAfter h config e.0) × (after : History) × EndsUnopened h after × ShowPrefixes after openings
   ShowPrefixes h (Lasted config first calls last ending left ∷ openings) =
       IsOpenedOf h config first
-      × (outs : List Outcome) × (t : State) × AreSteps g (IsMade g) first (opened config (pages_by_now h)) calls outs last t
-      × HasPagesOf (behind_calls calls outs (started h)) t
-      × (after : History) × Ends last t (behind_calls calls outs (started h)) ending after × ShowPrefixes after openings
+      × (outs : List Outcome) × (t : State) × AreSteps g (IsMade g) first (opened_state config (pages_by_now h)) calls outs last t
+      × HasPagesOf (history_after_calls calls outs (history_after_start h)) t
+      × (after : History) × Ends last t (history_after_calls calls outs (history_after_start h)) ending after × ShowPrefixes after openings

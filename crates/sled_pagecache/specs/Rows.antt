@@ -4,10 +4,9 @@ use Rattle.sled_log.specs.Contents.{Update}
 use Rattle.sled_log.specs.Events.{Event}
 use Rattle.sled_log.specs.LogState as log
 use Rattle.sled_log.specs.declared.log.Log.{Ghosts}
-use Rattle.sled_pagecache.specs.Answers.{Keeps, KeepsStamps, root_swapped, stamped, swapped}
-use Rattle.sled_pagecache.specs.Cache.{Cache, IsIn}
+use Rattle.sled_pagecache.specs.Answers.{Keeps, KeepsStamps, stamps_after_root_swap, stamps_with, stamps_after_swap, IsCovered}
+use Rattle.sled_pagecache.specs.Cache.{Cache, Represents}
 use Rattle.sled_pagecache.specs.Calls.{IsSameOpening, StepOver, Steps, IsBlamed}
-use Rattle.sled_pagecache.specs.Ids.{IsCovered}
 use Rattle.sled_pagecache.specs.Logged.{Logged, Adds, IsLeft}
 use Rattle.sled_pagecache.specs.State.{State}
 use Rattle.sled_pagecache.specs.Step.{Outcome}
@@ -22,7 +21,7 @@ changes_of outs = flat_map (λ out. out.changes) outs
 module _ {L : Type 0} (g : Ghosts L) where
   -- the cache is in this state, whatever its log holds
   abbrev pub IsInState : Cache L → State → Type 0
-  IsInState cache s = (held : Logged) × IsIn g cache held s
+  IsInState cache s = (held : Logged) × Represents g cache held s
 
   -- The calls were made one after another, each of the very cache that the one before it left; `Makes` says what is known of one. Each is a
   -- step over that cache, from the state that it is in, with the outcome that stands at its place, and leaves a cache in the state of that.
@@ -37,7 +36,7 @@ module _ {L : Type 0} (g : Ghosts L) where
   pub record IsRow (old : Cache L) (calls : List (Call × Answer)) (new : Cache L) (held : Logged) (s : State) : Type 0 where
     pub held_then : Logged
     pub t : State
-    pub is : IsIn g new held_then t
+    pub is : Represents g new held_then t
     pub outs : List Outcome
     pub steps : AreSteps (Steps g) old s calls outs new t
     pub added : t.fault ≡ false → Adds held (changes_of outs) held_then
@@ -47,7 +46,7 @@ module _ {L : Type 0} (g : Ghosts L) where
   -- The calls are steps in a row, in whatever state the cache is.
   pub record StepInRow (old : Cache L) (calls : List (Call × Answer)) (new : Cache L) : Type 0 where
     pub opening : IsSameOpening old new
-    pub from_each : (held : Logged) (s : State) → IsIn g old held s → IsRow old calls new held s
+    pub from_each : (held : Logged) (s : State) → Represents g old held s → IsRow old calls new held s
 
   -- A flush that was made reports how many bytes were to be written, and nothing is pending behind it. Nothing is behind an id either,
   -- unless that only took the next number. A size is that of the log.
@@ -82,14 +81,14 @@ module _ {L : Type 0} (g : Ghosts L) where
 
   -- What is known of an answer over any log: what it leaves of the stamps, of the batch and of a write fault.
   abbrev pub KeepsBehind : Cache L → Answer → Cache L → Type 0
-  KeepsBehind old (Allocated result) new = Keeps old new result (λ made. stamped old.stamps made.1)
+  KeepsBehind old (Allocated result) new = Keeps old new result (λ made. stamps_with old.stamps made.1)
   KeepsBehind old (Got result) new = Keeps old new result (λ _. old.stamps)
-  KeepsBehind old (Linked result) new = Keeps old new result (swapped old.stamps)
-  KeepsBehind old (Replaced result) new = Keeps old new result (swapped old.stamps)
-  KeepsBehind old (Freed result) new = Keeps old new result (swapped old.stamps)
+  KeepsBehind old (Linked result) new = Keeps old new result (stamps_after_swap old.stamps)
+  KeepsBehind old (Replaced result) new = Keeps old new result (stamps_after_swap old.stamps)
+  KeepsBehind old (Freed result) new = Keeps old new result (stamps_after_swap old.stamps)
   KeepsBehind old (GotMeta result) new = Keeps old new result (λ _. old.stamps)
   KeepsBehind old (FoundRoot result) new = Keeps old new result (λ _. old.stamps)
-  KeepsBehind old (RootSwapped result) new = Keeps old new result (root_swapped old.stamps)
+  KeepsBehind old (RootSwapped result) new = Keeps old new result (stamps_after_root_swap old.stamps)
   KeepsBehind old (GotIdgen result) new = Keeps old new result (λ _. old.stamps)
   KeepsBehind old (Generated result) new = Keeps old new result (λ _. new.stamps) × IfOk result (λ id. (id ≡ old.next) × (new.next ≡ old.next + 1))
   KeepsBehind old (Flushed result) new = Keeps old new result (λ _. old.stamps)

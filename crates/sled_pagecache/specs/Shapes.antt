@@ -3,13 +3,9 @@ use Rattle.std.specs.Prelude.{◌≡◌, ℕ, zero, suc, Bool, true, false, List
 use Rattle.sled_log.specs.Contents.{Content}
 use Rattle.sled_log.specs.Contents as contents
 use Rattle.sled_log.specs.declared.log.Log.{Ghosts}
-use Rattle.sled_pagecache.specs.ByIds.{AllById}
-use Rattle.sled_pagecache.specs.Cache.{Cache, IsIn}
-use Rattle.sled_pagecache.specs.Logged.{Logged}
+use Rattle.sled_pagecache.specs.Logged.{AllById, Logged}
+use Rattle.sled_pagecache.specs.Cache.{Cache, Represents}
 use Rattle.sled_pagecache.specs.State.{StampedPage, State}
-use Rattle.sled_pagecache.specs.declared.pagecache.page.Kept.{Kept}
-use Rattle.sled_pagecache.specs.declared.pagecache.page.Kept.TheVariants as kept
-use Rattle.sled_pagecache.specs.declared.pagecache.page.Page.{Page}
 use Rattle.sled_pagecache.specs.declared.pagecache.shape.Kind.{Kind}
 use Rattle.sled_pagecache.specs.declared.pagecache.shape.Kind.TheVariants as kinds
 use Rattle.sled_pagecache.specs.declared.pagecache.shape.PageShape.{PageShape}
@@ -28,18 +24,8 @@ kind_of (contents.Roots roots) = kinds.Roots
 kind_of (contents.Node node) = kinds.Node
 kind_of contents.Damaged = kinds.Node
 
-abbrev pub kind_of_kept : Kept → Kind
-kind_of_kept kept.Free = kinds.Free
-kind_of_kept (kept.Counter n) = kinds.Counter
-kind_of_kept (kept.Roots roots) = kinds.Roots
-kind_of_kept (kept.Node node) = kinds.Node
-kind_of_kept kept.Away = kinds.Node
-
 abbrev pub shape_of_page : StampedPage → PageShape
 shape_of_page page = record { stamp = page.stamp; kind = kind_of page.content }
-
-abbrev pub shape_of_kept : Page → PageShape
-shape_of_kept page = record { stamp = page.stamp; kind = kind_of_kept page.kept }
 
 abbrev pub shape_of : State → Shape
 shape_of s = record { pages = map shape_of_page s.pages; next = s.next; fault = s.fault }
@@ -58,4 +44,4 @@ pub record Shows {L : Type 0} (g : Ghosts L) (cache : Cache L) (shape : Shape) :
   pub next : shape.next ≡ cache.next
   pub fault : shape.fault ≡ cache.fault
   pub kinds : AllById (λ pid page. page.kind ≡ kind_at pid (slice_get cache.resident pid) (slice_get cache.nodes pid)) shape.pages
-  pub is : (held : Logged) (s : State) → IsIn g cache held s → s.fault ≡ false → shape_of s ≡ shape
+  pub is : (held : Logged) (s : State) → Represents g cache held s → s.fault ≡ false → shape_of s ≡ shape

@@ -1,7 +1,26 @@
 -- What a page cache is: a list of stamped pages, the next generated id, whether a batch is open, and a kept write fault.
-use Rattle.std.specs.Prelude.{ℕ, ◌+◌, Bool, true, false, List, [], ◌∷◌, map, Option, None, Some, slice_get, slice_set, if◌then◌else◌}
+use Rattle.std.specs.Prelude.{◌≡◌, ◌≢◌, ◌+◌, ℕ, List, Option, Some, None, Result, Ok, Err, slice_get, ⊤, Bool, true, false, [], ◌∷◌, map, slice_set, if◌then◌else◌}
+use Rattle.sled_pagecache.specs.declared.pagecache.view.PageView.{PageView}
 use Rattle.sled_log.specs.Contents.{Content, Free, Counter, Roots, Node, Damaged}
-use Rattle.sled_pagecache.specs.Token.{Token, token}
+
+abbrev pub Token : Type 0
+Token = PageView
+
+abbrev pub token : ℕ → ℕ → Token
+token pid stamp = record { pid = pid; stamp = stamp }
+
+abbrev pub pid_of : Token → ℕ
+pid_of t = t.pid
+
+abbrev pub stamp_of : Token → ℕ
+stamp_of t = t.stamp
+
+-- What a swap answers, whatever the log, where these are the stamps: the page's token at the next stamp; or its token, which is at
+-- another stamp, with what was given; or neither.
+abbrev pub IsAnswered : {R : Type 0} → List ℕ → Token → R → Result Token (Option (Token × R)) → Type 0
+IsAnswered stamps old given (Ok made) = (slice_get stamps old.pid ≡ Some old.stamp) × (made ≡ token old.pid (old.stamp + 1))
+IsAnswered stamps old given (Err (Some back)) = (back.0.pid ≡ old.pid) × (slice_get stamps old.pid ≡ Some back.0.stamp) × (back.0.stamp ≢ old.stamp) × (back.1 ≡ given)
+IsAnswered stamps old given (Err None) = ⊤
 
 -- each change of a page raises its stamp
 pub record StampedPage : Type 0 where
@@ -43,11 +62,11 @@ is_free Damaged = false
 abbrev pub free_token : ℕ → StampedPage → Option Token
 free_token pid p = if is_free p.content then Some (token pid p.stamp) else None
 
-abbrev pub later : Option Token → Option Token → Option Token
-later None first = first
-later (Some last) first = Some last
+abbrev pub later_token : Option Token → Option Token → Option Token
+later_token None first = first
+later_token (Some last) first = Some last
 
 -- the token of the free page with the greatest id, of pages of which the first has this id
 abbrev pub greatest_free : ℕ → List StampedPage → Option Token
 greatest_free pid [] = None
-greatest_free pid (p ∷ pages) = later (greatest_free (pid + 1) pages) (free_token pid p)
+greatest_free pid (p ∷ pages) = later_token (greatest_free (pid + 1) pages) (free_token pid p)

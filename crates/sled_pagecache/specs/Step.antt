@@ -1,5 +1,9 @@
 -- The page cache as a machine: which answer a call may get in a state, which state it leaves, and what it begins to write.
-use Rattle.std.specs.Prelude.{◌≡◌, ◌==◌, ◌||◌, ℕ, ◌+◌, ◌-◌, ◌*◌, ◌/◌, ◌^◌, ◌⊎◌, nat_lt, Bool, false, true, List, [], ◌∷◌, ◌++◌, length, Option, Some, None, Result, Ok, Err, MatchBool, MatchOption, IsOkAnd, ◌≢◌}
+use Rattle.std.specs.Prelude.{ℕ, nat_lt, if◌then◌else◌, ◌≡◌, ◌==◌, ◌||◌, ◌+◌, ◌-◌, ◌*◌, ◌/◌, ◌^◌, ◌⊎◌, Bool, false, true, List, [], ◌∷◌, ◌++◌, length, Option, Some, None, Result, Ok, Err, MatchBool, MatchOption, IsOkAnd, ◌≢◌}
+use Rattle.sled_log.specs.Contents.{Update, Link, Put, Node, Content, Free, Counter, Roots, Damaged}
+use Rattle.sled_node.specs.Node.{WholeNode}
+use Rattle.sled_node.specs.declared.node.link.Link.{Link as NodeLink}
+use Rattle.sled_pagecache.specs.Limits.{most_messages, meta_pid, counter_pid, batch_manifest_pid, most_pages}
 use Rattle.sled_base.specs.declared.types.Bug.TheVariants.{LinkRefused}
 use Rattle.sled_base.specs.declared.types.Device.TheVariants.{Read, Write}
 use Rattle.sled_base.specs.declared.types.Error.{Error}
@@ -9,19 +13,17 @@ use Rattle.sled_base.specs.Order.{Bytes}
 use Rattle.sled_node.specs.Links.{Accepts, applied}
 use Rattle.sled_node.specs.Meta as meta
 use Rattle.sled_node.specs.Meta.{IsTooLong, LacksRoom, CanChange}
-use Rattle.sled_node.specs.Node.{WholeNode}
-use Rattle.sled_node.specs.declared.node.link.Link.{Link as NodeLink}
-use Rattle.sled_pagecache.specs.Changes.{link_update}
-use Rattle.sled_pagecache.specs.Limits.{meta_pid, counter_pid, batch_manifest_pid, most_pages}
 use Rattle.sled_pagecache.specs.declared.pagecache.call.Answer.{Answer}
 use Rattle.sled_pagecache.specs.declared.pagecache.call.Answer.TheVariants.{Allocated, Got, Linked, Replaced, Freed, GotMeta, GotIdgen, Generated, Flushed, Sized, FoundRoot, RootSwapped, Pinned, Sealed, Cancelled}
 use Rattle.sled_pagecache.specs.declared.pagecache.call.Call.{Call}
 use Rattle.sled_pagecache.specs.declared.pagecache.call.Call.TheVariants.{Allocate, Get, Link, Replace, GetMeta, GetIdgen, GenerateId, Flush, SizeOnDisk, MetaPidForName, CasRoot}
 use Rattle.sled_pagecache.specs.declared.pagecache.call.Call.TheVariants as call
-use Rattle.sled_log.specs.Contents.{Content, Free, Counter, Roots, Node, Damaged, Update, Put}
 use Rattle.sled_log.specs.Events.{Event, Change, Pin, Seal, Cancel}
-use Rattle.sled_pagecache.specs.State.{StampedPage, page, State, page_at, with_page, is_free, greatest_free}
-use Rattle.sled_pagecache.specs.Token.{Token, token}
+use Rattle.sled_pagecache.specs.State.{StampedPage, page, State, page_at, with_page, is_free, greatest_free, Token, token}
+
+-- What is written where a link made this node of a page: the link, or the node where there are as many messages as may be.
+abbrev pub link_update : ℕ → NodeLink → WholeNode → Update
+link_update messages link after = if nat_lt messages most_messages then Link link else Put (Node after)
 
 -- What a call leaves: the state, and the changes that it has begun to write.
 pub record Outcome : Type 0 where
@@ -32,8 +34,8 @@ abbrev pub outcome : State → List (Event Update) → Outcome
 outcome state changes = record { state = state; changes = changes }
 
 -- nothing changes, and nothing is written
-abbrev pub unchanged : State → Outcome
-unchanged s = outcome s []
+abbrev pub no_change : State → Outcome
+no_change s = outcome s []
 
 -- the ids of the pages that are the cache's own
 abbrev pub is_reserved : ℕ → Bool
@@ -41,7 +43,7 @@ is_reserved pid = (pid == meta_pid) || (pid == counter_pid) || (pid == batch_man
 
 -- the answer is this error, and nothing changes
 abbrev pub IsRefused : {T : Type 0} → State → Result T Error → Outcome → Error → Type 0
-IsRefused s answer out e = (answer ≡ Err e) × (out ≡ unchanged s)
+IsRefused s answer out e = (answer ≡ Err e) × (out ≡ no_change s)
 
 -- ---- What a call tests, in the order of the tests, before it goes on.
 
@@ -59,32 +61,32 @@ UnlessLastStamp s stamp answer out goes_on = MatchBool (stamp == 2 ^ 64 - 1) (Is
 
 -- An allocation failed, or a read failed, and the state is left; or a write failed, which is kept. Nothing is written.
 abbrev pub IsHindered : State → Error → Outcome → Type 0
-IsHindered s OutOfMemory out = out ≡ unchanged s
-IsHindered s (Io Read) out = out ≡ unchanged s
+IsHindered s OutOfMemory out = out ≡ no_change s
+IsHindered s (Io Read) out = out ≡ no_change s
 IsHindered s (Io Write) out = out ≡ outcome (record s { fault = true }) []
 IsHindered s e out = ⊥
 
 -- something is read, and nothing changes
 abbrev pub Reads : {T : Type 0} → State → Result T Error → Outcome → (T → Type 0) → Type 0
-Reads s (Ok value) out read = (out ≡ unchanged s) × read value
+Reads s (Ok value) out read = (out ≡ no_change s) × read value
 Reads s (Err e) out read = IsHindered s e out
 
 -- the page is damaged, or of a kind that can't stand at its id
 abbrev pub IsCorruption : {T : Type 0} → State → Result T Error → Outcome → Type 0
-IsCorruption s (Err (Corruption pointer)) out = out ≡ unchanged s
+IsCorruption s (Err (Corruption pointer)) out = out ≡ no_change s
 IsCorruption s answer out = Reads s answer out (λ _. ⊥)
 
 -- ---- get: the node and the token of a page, and none where the page is absent or free
 
 abbrev pub FindsContent : State → ℕ → ℕ → Content → Result (Option (Token × WholeNode)) Error → Outcome → Type 0
-FindsContent s pid stamp Free answer out = (answer ≡ Ok None) × (out ≡ unchanged s)
+FindsContent s pid stamp Free answer out = (answer ≡ Ok None) × (out ≡ no_change s)
 FindsContent s pid stamp (Node node) answer out = Reads s answer out (λ found. found ≡ Some (token pid stamp, node))
 FindsContent s pid stamp (Counter n) answer out = IsCorruption s answer out
 FindsContent s pid stamp (Roots roots) answer out = IsCorruption s answer out
 FindsContent s pid stamp Damaged answer out = IsCorruption s answer out
 
 abbrev pub Finds : State → ℕ → Option StampedPage → Result (Option (Token × WholeNode)) Error → Outcome → Type 0
-Finds s pid None answer out = (answer ≡ Ok None) × (out ≡ unchanged s)
+Finds s pid None answer out = (answer ≡ Ok None) × (out ≡ no_change s)
 Finds s pid (Some found) answer out = FindsContent s pid found.stamp found.content answer out
 
 abbrev pub Gets : State → ℕ → Result (Option (Token × WholeNode)) Error → Outcome → Type 0
@@ -101,7 +103,7 @@ HoldsRoots None holds = ⊥
 HoldsRoots (Some found) holds = AreRoots found.content (λ roots. holds found.stamp roots)
 
 abbrev pub GetsMeta : State → Result (Token × meta.Roots) Error → Outcome → Type 0
-GetsMeta s answer out = UnlessFaulty s answer out (HoldsRoots (page_at s meta_pid) (λ stamp roots. (answer ≡ Ok (token meta_pid stamp, roots)) × (out ≡ unchanged s)))
+GetsMeta s answer out = UnlessFaulty s answer out (HoldsRoots (page_at s meta_pid) (λ stamp roots. (answer ≡ Ok (token meta_pid stamp, roots)) × (out ≡ no_change s)))
 
 -- the error holds a copy of the name
 abbrev pub TellsRoot : Bytes → Option ℕ → Result ℕ Error → Type 0
@@ -109,7 +111,7 @@ TellsRoot name None answer = (answer ≡ Err (CollectionNotFound name)) ⊎ (ans
 TellsRoot name (Some root) answer = answer ≡ Ok root
 
 abbrev pub FindsRoot : State → Bytes → Result ℕ Error → Outcome → Type 0
-FindsRoot s name answer out = UnlessFaulty s answer out (HoldsRoots (page_at s meta_pid) (λ stamp roots. TellsRoot name (meta.root_of name roots) answer × (out ≡ unchanged s)))
+FindsRoot s name answer out = UnlessFaulty s answer out (HoldsRoots (page_at s meta_pid) (λ stamp roots. TellsRoot name (meta.root_of name roots) answer × (out ≡ no_change s)))
 
 -- what a swap of a root answers: another root that stands there comes back
 abbrev pub RootSwap : Type 0
@@ -126,7 +128,7 @@ HoldsCounter None holds = ⊥
 HoldsCounter (Some found) holds = IsCounterAnd found.content (λ n. holds found.stamp n)
 
 abbrev pub GetsIdgen : State → Result (Token × ℕ) Error → Outcome → Type 0
-GetsIdgen s answer out = UnlessFaulty s answer out (HoldsCounter (page_at s counter_pid) (λ stamp n. (answer ≡ Ok (token counter_pid stamp, n)) × (out ≡ unchanged s)))
+GetsIdgen s answer out = UnlessFaulty s answer out (HoldsCounter (page_at s counter_pid) (λ stamp n. (answer ≡ Ok (token counter_pid stamp, n)) × (out ≡ no_change s)))
 
 -- the first number of the interval that a number is in
 abbrev pub interval_start : ℕ → ℕ → ℕ
@@ -142,24 +144,24 @@ abbrev pub Flushes : State → Result ℕ Error → Outcome → Type 0
 Flushes s answer out = UnlessFaulty s answer out (MatchBool s.batch (IsRefused s answer out (Unsupported BatchOpen)) (FlushesLog answer))
   where
     FlushesLog : Result ℕ Error → Type 0
-    FlushesLog (Ok written) = out ≡ unchanged s
+    FlushesLog (Ok written) = out ≡ no_change s
     FlushesLog (Err e) = (e ≡ Io Write) × (out ≡ outcome (record s { fault = true }) [])
 
 abbrev pub Sizes : State → Result ℕ Error → Outcome → Type 0
-Sizes s answer out = UnlessFaulty s answer out (IsOkAnd answer (λ size. out ≡ unchanged s))
+Sizes s answer out = UnlessFaulty s answer out (IsOkAnd answer (λ size. out ≡ no_change s))
 
 -- ---- seal and cancel: the batch that is open is closed, whatever comes
 
-abbrev pub closed : State → State
-closed s = record s { batch = false }
+abbrev pub with_batch_closed : State → State
+with_batch_closed s = record s { batch = false }
 
 -- With a write fault kept nothing is written. Else the mark is; where that fails, it may have been.
 abbrev pub Closes : Event Update → State → Result (Unit {0}) Error → Outcome → Type 0
-Closes mark s answer out = (s.batch ≡ true) × MatchBool s.fault ((answer ≡ Err (Io Write)) × (out ≡ unchanged (closed s))) (WritesMark answer)
+Closes mark s answer out = (s.batch ≡ true) × MatchBool s.fault ((answer ≡ Err (Io Write)) × (out ≡ no_change (with_batch_closed s))) (WritesMark answer)
   where
     WritesMark : Result (Unit {0}) Error → Type 0
-    WritesMark (Ok done) = out ≡ outcome (closed s) (mark ∷ [])
-    WritesMark (Err e) = (e ≡ Io Write) × (out ≡ outcome (record (closed s) { fault = true }) (mark ∷ []))
+    WritesMark (Ok done) = out ≡ outcome (with_batch_closed s) (mark ∷ [])
+    WritesMark (Err e) = (e ≡ Io Write) × (out ≡ outcome (record (with_batch_closed s) { fault = true }) (mark ∷ []))
 
 -- ---- a swap: a page that is there, and at the stamp of the token, is changed
 
@@ -168,12 +170,12 @@ Swapped Rejected = Result (Result Token (Option (Token × Rejected))) Error
 
 -- the page is absent or free
 abbrev pub IsGone : {R : Type 0} → State → Swapped R → Outcome → Type 0
-IsGone s answer out = (answer ≡ Ok (Err None)) × (out ≡ unchanged s)
+IsGone s answer out = (answer ≡ Ok (Err None)) × (out ≡ no_change s)
 
 -- at another stamp the present token comes back, with the rejected change
 abbrev pub UnlessStale : {R : Type 0} → State → Token → R → ℕ → Swapped R → Outcome → Type 0 → Type 0
 UnlessStale s old rejected stamp answer out goes_on =
-    MatchBool (stamp == old.stamp) goes_on ((answer ≡ Ok (Err (Some (token old.pid stamp, rejected)))) × (out ≡ unchanged s))
+    MatchBool (stamp == old.stamp) goes_on ((answer ≡ Ok (Err (Some (token old.pid stamp, rejected)))) × (out ≡ no_change s))
 
 abbrev pub SwapsPage : {R : Type 0} → State → Token → R → Option StampedPage → Swapped R → Outcome → (Content → Type 0) → Type 0
 SwapsPage s old rejected None answer out goes_on = IsGone s answer out
@@ -187,7 +189,7 @@ Swaps s old rejected answer out goes_on = UnlessFaulty s answer out (UnlessReser
 module _ (messages : ℕ → ℕ) (no_room : Event Update → Type 0) where
   -- The log has no room for the change, or the call is hindered. Where a write failed, the change may have been written.
   abbrev pub Fails : State → Event Update → Error → Outcome → Type 0
-  Fails s change (Unsupported LogFull) out = no_room change × (out ≡ unchanged s)
+  Fails s change (Unsupported LogFull) out = no_room change × (out ≡ no_change s)
   Fails s change (Io Write) out = out ≡ outcome (record s { fault = true }) (change ∷ [])
   Fails s change e out = IsHindered s e out
 
@@ -263,7 +265,7 @@ module _ (messages : ℕ → ℕ) (no_room : Event Update → Type 0) where
   SwapsRoot s name old new answer out =
       UnlessFaulty s answer out
       (HoldsRoots (page_at s meta_pid) (λ stamp roots.
-      ((meta.root_of name roots ≢ old) × (answer ≡ Ok (Err (meta.root_of name roots))) × (out ≡ unchanged s))
+      ((meta.root_of name roots ≢ old) × (answer ≡ Ok (Err (meta.root_of name roots))) × (out ≡ no_change s))
       ⊎ ((meta.root_of name roots ≡ old) × SetsRoot s stamp name new roots answer out)))
 
   -- ---- generate_id_inner: the next id. One in a later interval than the counter first makes the start of its interval the counter.
@@ -281,7 +283,7 @@ module _ (messages : ℕ → ℕ) (no_room : Event Update → Type 0) where
       (HoldsCounter (page_at s counter_pid) (λ stamp n.
       MatchBool (nat_lt (interval_start interval n) (interval_start interval s.next))
       (PutsCounter s stamp (interval_start interval s.next) answer out)
-      ((answer ≡ Ok s.next) × (out ≡ unchanged (with_next_id s))))))
+      ((answer ≡ Ok s.next) × (out ≡ no_change (with_next_id s))))))
 
   -- ---- pin: a batch is opened, unless one is open
 

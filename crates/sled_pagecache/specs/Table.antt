@@ -1,63 +1,25 @@
--- What always holds of a page cache: its table of pages beside what its log holds.
-use Rattle.std.specs.Prelude.{◌≡◌, ◌≤◌, ℕ, Bool, false, true, List, length, map, Option}
-use Rattle.std.specs.List.{AllByRecursion, AllZip}
-use Rattle.sled_log.specs.Batches.{is_open}
-use Rattle.sled_log.specs.Chains.{is_chain}
-use Rattle.sled_log.specs.Messages.{Entry, effect_of_entry}
-use Rattle.sled_log.specs.Pages.{IsSized}
-use Rattle.sled_log.specs.LogState as log
-use Rattle.sled_pagecache.specs.ByIds.{AllById, FitsId}
-use Rattle.sled_pagecache.specs.Pages.{IsKept, is_resident, free_ids, node_access_size}
-use Rattle.sled_pagecache.specs.Limits.{most_messages, most_pages}
-use Rattle.sled_pagecache.specs.declared.pagecache.sticky_log.StickyLog.{StickyLog}
+-- Pages, and the table of them, as types of their own.
+use Rattle.std.specs.Prelude.{◌≡◌, Bool, true, false, List, ◌∷◌, map, slice_get, Some}
+use Rattle.sled_base.specs.declared.types.page_state.PageState.{PageState}
+use Rattle.sled_base.specs.declared.types.page_state.PageState.TheVariants as said
+use Rattle.sled_pagecache.specs.Infos.{place_of, place_of_freeing}
 use Rattle.sled_pagecache.specs.declared.pagecache.page.Kept.{Kept}
 use Rattle.sled_pagecache.specs.declared.pagecache.page.Kept.TheVariants.{Free, Away, Counter, Roots, Node}
 use Rattle.sled_pagecache.specs.declared.pagecache.page.Page.{Page}
 
-abbrev pub stamps_in : List Page → List ℕ
-stamps_in pages = map (λ page. page.stamp) pages
+abbrev pub is_free : Kept → Bool
+is_free Free = true
+is_free Away = false
+is_free (Counter n) = false
+is_free (Roots roots) = false
+is_free (Node node) = false
 
-abbrev pub resident_in : List Page → List Bool
-resident_in pages = map (λ page. is_resident page.kept) pages
+-- A free page is said by the place of the first of its messages, which freed it, and another by the places of all of them.
+abbrev pub IsSaidBy : Page → PageState → Type 0
+IsSaidBy page (said.Present base frags) = (is_free page.kept ≡ false) × (map place_of page.infos.items ≡ base ∷ frags.items)
+IsSaidBy page (said.Free lsn pointer) = (is_free page.kept ≡ true) × (slice_get (map place_of_freeing page.infos.items) 0 ≡ Some (lsn, pointer))
 
-abbrev pub nodes_in : List Page → List (Option ℕ)
-nodes_in pages = map (λ page. node_access_size page) pages
-
-abbrev pub IsRoots : Kept → Type 0
-IsRoots (Roots roots) = Unit {0}
-IsRoots other = ⊥
-
-abbrev pub IsCounter : Kept → Type 0
-IsCounter (Counter n) = Unit {0}
-IsCounter other = ⊥
-
-abbrev pub IsFreeOrNode : Kept → Type 0
-IsFreeOrNode Free = Unit {0}
-IsFreeOrNode Away = Unit {0}
-IsFreeOrNode (Node node) = Unit {0}
-IsFreeOrNode other = ⊥
-
--- the named roots are on page 0 and the counter on page 1, in memory, as far as they are there; no other page is kept so
-abbrev pub IsOwnAt : ℕ → Kept → Type 0
-IsOwnAt = FitsId IsRoots IsCounter IsFreeOrNode
-
-abbrev pub AreOwn : List Page → Type 0
-AreOwn pages = AllById (λ pid page. IsOwnAt pid page.kept) pages
-
-module _ {L : Type 0} (tells : Type 0) (state : L → log.LogState Entry) where
-  -- What the log is beside the table. Where its device tells its bytes, the pages are kept as their chains say.
-  pub record IsBeside (l : L) (pages : List Page) : Type 0 where
-    pub usable : (state l).usable ≡ true
-    pub kept : tells → AllZip IsKept (log.now effect_of_entry (state l)) pages
-    pub chains : tells → AllByRecursion (λ chain. is_chain effect_of_entry chain ≡ true) (log.now effect_of_entry (state l))
-    pub sized : tells → AllByRecursion IsSized (log.now effect_of_entry (state l))
-
-  -- With a write fault kept nothing is known of the log.
-  pub record IsConsistent (sticky_log : StickyLog L) (pages : List Page) (free_pids : List ℕ) : Type 0 where
-    pub beside : sticky_log.fault ≡ false → IsBeside sticky_log.log pages
-    pub opened : sticky_log.fault ≡ false → is_open (state sticky_log.log).pending ≡ sticky_log.batch
-    pub own : AreOwn pages
-    pub both : 2 ≤ length pages
-    pub short : AllByRecursion (λ page. length page.infos.items ≤ most_messages) pages
-    pub few : length pages ≤ most_pages
-    pub free : free_pids ≡ free_ids 0 pages
+-- the pages by their ids, and whether one more page can be put in without memory
+pub record TableView : Type 0 where
+  pub pages : List Page
+  pub room : Bool

@@ -10,16 +10,14 @@ use Rattle.sled_log.specs.declared.log.Log.{Ghosts}
 use Rattle.sled_node.specs.Children.{index_of}
 use Rattle.sled_node.specs.Meta.{Roots, root_of, IsTooLong, LacksRoom, CanChange}
 use Rattle.sled_node.specs.Node.{Child, WholeNode, empty_leaf}
-use Rattle.sled_pagecache.specs.Answers.{Keeps, is_write_fault, stamped, root_swapped}
-use Rattle.sled_pagecache.specs.Cache.{Cache, IsIn, IsResident}
+use Rattle.sled_pagecache.specs.Answers.{is_write_fault, stamps_with, stamps_after_root_swap}
+use Rattle.sled_pagecache.specs.Cache.{Cache, Represents, IsResident}
 use Rattle.sled_pagecache.specs.Limits.{meta_pid}
 use Rattle.sled_pagecache.specs.Logged.{Logged}
-use Rattle.sled_pagecache.specs.Memory.{AccessesPage, IsBounded, KeepsMemory, LeavesMemory, LeavesNodes}
-use Rattle.sled_pagecache.specs.Reads.{ReadsNothing}
-use Rattle.sled_pagecache.specs.Rows.{IsMade, AreMade, StepInRow}
-use Rattle.sled_pagecache.specs.State.{State}
+use Rattle.sled_pagecache.specs.Memory.{AccessesPage, KeepsMemory, EvictsAtMost, LeavesNodes}
+use Rattle.sled_pagecache.specs.Rows.{AreMade, StepInRow}
+use Rattle.sled_pagecache.specs.State.{State, Token}
 use Rattle.sled_pagecache.specs.Step.{RootSwap}
-use Rattle.sled_pagecache.specs.Token.{Token}
 use Rattle.sled_pagecache.specs.declared.pagecache.call.Answer.{Answer}
 use Rattle.sled_pagecache.specs.declared.pagecache.call.Answer.TheVariants.{Allocated, GotMeta, RootSwapped}
 use Rattle.sled_pagecache.specs.declared.pagecache.call.Call.{Call}
@@ -93,8 +91,8 @@ module _ (found_another : Type 0) (name : Bytes) (result : Result ℕ Error) whe
 
 -- the stamps after an answer of these calls, and after several
 abbrev pub stamps_after : List ℕ → Answer → List ℕ
-stamps_after stamps (Allocated (Ok made)) = stamped stamps made.1
-stamps_after stamps (RootSwapped (Ok swapped)) = root_swapped stamps swapped
+stamps_after stamps (Allocated (Ok made)) = stamps_with stamps made.1
+stamps_after stamps (RootSwapped (Ok swapped)) = stamps_after_root_swap stamps swapped
 stamps_after stamps other = stamps
 
 abbrev pub stamps_then : List ℕ → MadeCalls → List ℕ
@@ -102,21 +100,13 @@ stamps_then stamps [] = stamps
 stamps_then stamps (made ∷ calls) = stamps_then (stamps_after stamps made.1) calls
 
 module _ {L : Type 0} (g : Ghosts L) where
-  -- the look was made, without memory and without the log
-  pub record Looks (cache : Cache L) (name : Bytes) (found : Result (Option ℕ) Error) : Type 0 where
-    pub look : Result (Token × Roots) Error
-    pub made : IsMade g cache GetMeta (GotMeta look) cache
-    pub always : cache.fault ≡ false → IsOk look
-    pub keeps : Keeps cache cache look (λ _. cache.stamps)
-    pub finds : FindsTree name look found
-
   -- What such a call does in memory: it accesses its page; or it is refused.
   abbrev pub Touches : Cache L → Answer → Cache L → Type 0
   Touches old (Allocated (Ok made)) new = AccessesPage old made.0 new × IsResident new made.0
   Touches old (Allocated (Err e)) new = LeavesNodes g.tells old new e
   Touches old (RootSwapped (Ok (Ok done))) new = AccessesPage old meta_pid new
   Touches old (RootSwapped (Ok (Err another))) new = KeepsMemory old new
-  Touches old (RootSwapped (Err e)) new = LeavesMemory old meta_pid new g.tells e
+  Touches old (RootSwapped (Err e)) new = EvictsAtMost old meta_pid new g.tells e
   Touches old answer new = ⊥
 
   -- and what several do, one after another
@@ -124,21 +114,9 @@ module _ {L : Type 0} (g : Ghosts L) where
   AreTouched old [] new = new ≡ old
   AreTouched old (made ∷ calls) new = (mid : Cache L) × Touches old made.1 mid × AreTouched mid calls new
 
-  -- These calls were made of a cache that kept no write fault, and an opening of a tree that goes on with them answers so.
-  pub record GoesOn (old : Cache L) (Are : MadeCalls → Type 0) (result : Result ℕ Error) (new : Cache L) : Type 0 where
-    pub calls : MadeCalls
-    pub are : Are calls
-    pub made : AreMade g old calls new
-    pub batch : new.batch ≡ old.batch
-    pub fault : new.fault ≡ is_write_fault result
-    pub stamps : new.stamps ≡ stamps_then old.stamps calls
-    pub touched : AreTouched old calls new
-    pub unread : ReadsNothing g old new
-    pub bounded : IsBounded g new
-
   -- the cache is in some state
   abbrev pub IsKnown : Cache L → Type 0
-  IsKnown cache = (held : Logged) × (s : State) × IsIn g cache held s
+  IsKnown cache = (held : Logged) × (s : State) × Represents g cache held s
 
   -- The named roots are looked at, and then come the calls that make a tree, where the name has none. Where it has, or can be given
   -- none, nothing changes, and no memory and no log is asked.

@@ -3,10 +3,10 @@
 ghost use Rattle.std.specs.Prelude.{◌≡◌, ◌≤◌, ◌<◌, ◌-◌, ◌^◌, ℕ, [], false, List, IfOk, IfErr};
 ghost use Rattle.sled_disk.specs.declared.disk.memory.MemDisk.{MemDisk};
 ghost use Rattle.sled_disk.specs.declared.log.DiskLog.{DiskLog};
-ghost use Rattle.sled_pagecache.specs.Cache.{Cache, IsIn};
-ghost use Rattle.sled_pagecache.specs.Crashes.{IsFlushed, ReopensAfter, HasFlushed, RefusesReopening};
+ghost use Rattle.sled_pagecache.specs.Cache.{Cache, Represents};
+ghost use Rattle.sled_pagecache.specs.Reopening.{IsFlushed, ReopensAfter, HasFlushed, RefusesReopening};
 ghost use Rattle.sled_pagecache.specs.Logged.{Logged};
-ghost use Rattle.sled_pagecache.specs.Opening.{opened};
+ghost use Rattle.sled_pagecache.specs.Opening.{opened_state};
 ghost use Rattle.sled_pagecache.specs.Rows.{StepInRow};
 ghost use Rattle.sled_pagecache.specs.State.{State};
 ghost use Rattle.sled_pagecache.specs.declared.pagecache.call.Answer.{Answer};
@@ -22,7 +22,7 @@ use std::alloc::Global;
 /// A cache of which nothing is pending, and that keeps no write fault, is flushed, in whatever state it is.
 pub fn a_cache_is_flushed<L: Log>(cache: &PageCache<L>)
     ensures { cache.now.fault ≡ false → (L.state cache.now.log).pending ≡ []
-        → (held : Logged) (s : State) → IsIn L.Log cache.now held s → IsFlushed L.Log cache.now s }
+        → (held : Logged) (s : State) → Represents L.Log cache.now held s → IsFlushed L.Log cache.now s }
 {
     cache.know_own();
 }
@@ -36,7 +36,7 @@ pub fn start_on_a_new_disk(
     clean_every: u64,
 ) -> Result<PageCache<DiskLog<MemDisk>>, Error>
     ensures { IfOk result
-        (λ cache. IsFlushed ⟦<DiskLog<MemDisk> as Log>⟧ cache (opened config [])) }
+        (λ cache. IsFlushed ⟦<DiskLog<MemDisk> as Log>⟧ cache (opened_state config [])) }
 {
     let segment_size = config.segment_size as u64;
     let mut disk = MemDisk::new(alloc, limit)?;
@@ -104,7 +104,7 @@ pub fn what_was_flushed_is_there(
     requires clear { cache.fault ≡ false }
     requires flushed { (⟦<DiskLog<MemDisk> as Log>⟧.state cache.log).pending ≡ [] }
     ensures { (held : Logged) (s : State)
-        → IsIn ⟦<DiskLog<MemDisk> as Log>⟧ cache held s
+        → Represents ⟦<DiskLog<MemDisk> as Log>⟧ cache held s
         → ⟦<DiskLog<MemDisk> as Log>⟧.moment cache.log ≤ n - 1
         → IfOk result (HasFlushed ⟦<DiskLog<MemDisk> as Log>⟧ s config)
         × IfErr result (RefusesReopening config) }

@@ -5,14 +5,14 @@ ghost use Rattle.sled_log.specs.Contents.{Update, contents_after};
 ghost use Rattle.sled_log.specs.Events.{Event};
 ghost use Rattle.sled_log.specs.Messages.{Messages};
 ghost use Rattle.sled_log.specs.LogState.{IsPrefix};
-ghost use Rattle.sled_pagecache.specs.Cache.{Cache, IsIn};
+ghost use Rattle.sled_pagecache.specs.Cache.{Cache, Represents};
 ghost use Rattle.sled_pagecache.specs.Calls.{StepOver, Steps};
 ghost use Rattle.sled_pagecache.specs.Limits.{meta_pid, counter_pid, batch_manifest_pid, most_messages, pid_bits, chunk_bits, chunk_length};
 ghost use Rattle.sled_pagecache.specs.Logged.{Logged, IsLogged, IsLeft, now};
 ghost use Rattle.sled_pagecache.specs.Opening.{changes_of_start};
 ghost use Rattle.sled_pagecache.specs.Reopening.{CrashReopens};
 ghost use Rattle.sled_pagecache.specs.Rows.{AreSteps, StepInRow, changes_of};
-ghost use Rattle.sled_pagecache.specs.Starts.{Opens, log_after, only_stable, only_stable_contents};
+ghost use Rattle.sled_pagecache.specs.Opening.{Opens, log_after, stable_state, stable_contents};
 ghost use Rattle.sled_pagecache.specs.State.{State};
 ghost use Rattle.sled_pagecache.specs.Step.{Outcome};
 ghost use Rattle.sled_pagecache.specs.declared.pagecache.call.Answer.{Answer};
@@ -39,14 +39,14 @@ pub fn constants_are_the_numbers()
 
 /// A log to which nothing was appended holds no page.
 pub fn an_empty_log_is_logged()
-    ensures { (usable : Bool) → IsLogged (only_stable [] usable) (only_stable_contents []) }
+    ensures { (usable : Bool) → IsLogged (stable_state [] usable) (stable_contents []) }
 {}
 
 /// What a crash leaves is a log again that a cache can be opened over, and holds the contents that the crash left.
 pub fn what_a_crash_leaves_is_logged()
     ensures { (held : Logged) (changes : List (Event Update)) (pages : List Messages)
         (left : IsLeft held changes pages) (usable : Bool)
-        → IsLogged (only_stable pages usable) (only_stable_contents
+        → IsLogged (stable_state pages usable) (stable_contents
         (contents_after held.stable (take left.cut (held.pending ++ left.came)))) }
 {}
 
@@ -60,14 +60,14 @@ pub fn a_crash_reopens_to_a_prefix<L: Log>()
     ensures of_a_call { (old new : Cache L) (call : Call) (answer : Answer)
         → Steps L.Log old call answer new
         → (held : Logged) (s : State)
-        → IsIn L.Log old held s
+        → Represents L.Log old held s
         → s.fault ≡ false
         → (out : Outcome) × StepOver L.Log old s call answer out
         × CrashReopens L.Log new.log (L.moment old.log) held out.changes }
     ensures of_calls { (old new : Cache L) (calls : List (Call × Answer))
         → StepInRow L.Log old calls new
         → (held : Logged) (s : State)
-        → IsIn L.Log old held s
+        → Represents L.Log old held s
         → s.fault ≡ false
         → (outs : List Outcome) × (t : State) × AreSteps L.Log (Steps L.Log) old s calls outs new t
         × CrashReopens L.Log new.log (L.moment old.log) held (changes_of outs) }

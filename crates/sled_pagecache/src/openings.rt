@@ -3,7 +3,7 @@
 ghost use Rattle.std.specs.Prelude.{List, []};
 ghost use Rattle.sled_disk.specs.declared.disk.memory.MemDisk.{MemDisk};
 ghost use Rattle.sled_disk.specs.declared.log.DiskLog.{DiskLog};
-ghost use Rattle.sled_pagecache.specs.History.{starting_at};
+ghost use Rattle.sled_pagecache.specs.Prefixes.{history_from};
 ghost use Rattle.sled_pagecache.specs.Openings.{Opening, IsEmpty, IsRun, KeepIntervals, ids_of, AreRising};
 ghost use Rattle.sled_pagecache.specs.Prefixes.{ShowPrefixes};
 
@@ -21,7 +21,7 @@ use sled_log::Log;
 /// has no room for a missing system page refuses an opening. That is all that is asked, of any log that tells its bytes.
 pub fn every_opening_shows_a_prefix<L: Log>()
     ensures { L.tells → (log : L) (openings : List (Opening L)) → IsEmpty L.Log log
-        → IsRun L.Log log openings → ShowPrefixes L.Log (starting_at []) openings }
+        → IsRun L.Log log openings → ShowPrefixes L.Log (history_from []) openings }
 {}
 
 /// The same over a log on a disk in memory, which tells its bytes: whatever is torn, and wherever the disk stops.
@@ -30,7 +30,7 @@ pub fn every_opening_of_a_disk_shows_a_prefix()
         (openings : List (Opening (DiskLog MemDisk ⟦<MemDisk as Disk>⟧)))
         → IsEmpty ⟦<DiskLog<MemDisk> as Log>⟧ log
         → IsRun ⟦<DiskLog<MemDisk> as Log>⟧ log openings
-        → ShowPrefixes ⟦<DiskLog<MemDisk> as Log>⟧ (starting_at []) openings }
+        → ShowPrefixes ⟦<DiskLog<MemDisk> as Log>⟧ (history_from []) openings }
 {
     every_opening_shows_a_prefix::<DiskLog<MemDisk>>();
 }

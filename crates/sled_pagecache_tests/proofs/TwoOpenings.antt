@@ -7,15 +7,15 @@ use Rattle.sled_log.specs.LogState.{IsPrefix}
 use Rattle.sled_log.specs.declared.log.Log.{Ghosts}
 use Rattle.sled_node.specs.Node.{WholeNode}
 use Rattle.sled_pagecache.specs.Cache.{Cache}
-use Rattle.sled_pagecache.specs.History.{History, Survives, all_flushed, behind_calls, behind_changes, made, pages_by_now, started, starting_at}
+use Rattle.sled_pagecache.specs.Prefixes.{History, Survives, with_all_flushed, history_after_calls, history_after_changes, with_made, pages_by_now, history_after_start, history_from}
 use Rattle.sled_pagecache.specs.Limits.{most_pages}
-use Rattle.sled_pagecache.specs.Opening.{opened}
+use Rattle.sled_pagecache.specs.Opening.{opened_state}
 use Rattle.sled_pagecache.specs.Openings.{Crashed, Lasted, Opening}
 use Rattle.sled_pagecache.specs.Prefixes.{ShowPrefixes}
 use Rattle.sled_pagecache.specs.Rows.{AreSteps, IsMade}
 use Rattle.sled_pagecache.specs.State.{State, greatest_free}
 use Rattle.sled_pagecache.specs.Step.{Outcome}
-use Rattle.sled_pagecache.specs.Token.{Token}
+use Rattle.sled_pagecache.specs.State.{Token}
 use Rattle.sled_pagecache.specs.declared.pagecache.call.Answer.{Answer}
 use Rattle.sled_pagecache.specs.declared.pagecache.call.Answer.TheVariants.{Allocated, Flushed}
 use Rattle.sled_pagecache.specs.declared.pagecache.call.Call.{Call}
@@ -30,14 +30,14 @@ abbrev change_of : ℕ → WholeNode → List (Event Update)
 change_of pid node = Change pid (Put (Node node)) ∷ []
 
 abbrev history_of : ℕ → WholeNode → History → History
-history_of pid node h = all_flushed (made [] (made (change_of pid node) h))
+history_of pid node h = with_all_flushed (with_made [] (with_made (change_of pid node) h))
 
 none-came : {E : Type 0} (came : List (Event E)) → IsPrefix came [] → came ≡ []
 none-came [] prefix = refl
 none-came (event ∷ came) prefix = let e = prefix.1 in absurd cc
 
 -- what a crash leaves of the first opening
-survivors : (node : WholeNode) (pages : List Content) → Survives (history_of 2 node (started (starting_at []))) pages → pages ≡ Roots [] ∷ Counter 0 ∷ Node node ∷ []
+survivors : (node : WholeNode) (pages : List Content) → Survives (history_of 2 node (history_after_start (history_from []))) pages → pages ≡ Roots [] ∷ Counter 0 ∷ Node node ∷ []
 survivors node pages left =
     let all : List (Event Update) = Change 0 (Put (Roots [])) ∷ Change 1 (Put (Counter 0)) ∷ change_of 2 node in
     let none = none-came left.prefix.came left.prefix.beginning in
@@ -50,7 +50,7 @@ module _ {L : Type 0} (g : Ghosts L) where
   -- the page that such calls add, and what came by then
   record IsAdded (s : State) (h : History) (node : WholeNode) (page : ℕ × Token) (written : ℕ) (outs : List Outcome) : Type 0 where
     pub pid : page.0 ≡ length s.pages
-    pub came : behind_calls (calls_of node page written) outs h ≡ history_of (length s.pages) node h
+    pub came : history_after_calls (calls_of node page written) outs h ≡ history_of (length s.pages) node h
 
   is-added : (first last : Cache L) (s t : State) (h : History) (node : WholeNode) (page : ℕ × Token) (written : ℕ) (outs : List Outcome)
       → s.fault ≡ false → s.batch ≡ false → greatest_free 0 s.pages ≡ None → (length s.pages == most_pages) ≡ false
@@ -68,9 +68,9 @@ module _ {L : Type 0} (g : Ghosts L) where
       record {
         pid = done.1.0;
         came =
-            ap (λ (b : Bool). behind_changes two.state.fault (Flushed (Ok written)) two.changes (behind_changes b (Allocated (Ok page)) one.changes h)) free
-            ∙ ap (λ (l : List (Event Update)). behind_changes two.state.fault (Flushed (Ok written)) two.changes (made l h)) done.0
-            ∙ ap (λ (o : Outcome). behind_changes o.state.fault (Flushed (Ok written)) o.changes (made change h)) flushed;
+            ap (λ (b : Bool). history_after_changes two.state.fault (Flushed (Ok written)) two.changes (history_after_changes b (Allocated (Ok page)) one.changes h)) free
+            ∙ ap (λ (l : List (Event Update)). history_after_changes two.state.fault (Flushed (Ok written)) two.changes (with_made l h)) done.0
+            ∙ ap (λ (o : Outcome). history_after_changes o.state.fault (Flushed (Ok written)) o.changes (with_made change h)) flushed;
       }
 
   -- an opening that makes these calls, and crashes
@@ -78,12 +78,12 @@ module _ {L : Type 0} (g : Ghosts L) where
   opening_of config first node page written last left = Lasted config first (calls_of node page written) last Crashed left
 
   pub in-order : (config : Config) (first first_then second second_then : Cache L) (node other : WholeNode) (page next : ℕ × Token) (written written_then : ℕ) (left left_then : L)
-      → ShowPrefixes g (starting_at []) (opening_of config first node page written first_then left ∷ opening_of config second other next written_then second_then left_then ∷ [])
+      → ShowPrefixes g (history_from []) (opening_of config first node page written first_then left ∷ opening_of config second other next written_then second_then left_then ∷ [])
       → (page.0 ≡ 2) × (next.0 ≡ 3)
   in-order config first first_then second second_then node other page next written written_then left left_then (is_opened, outs, t, steps, agrees, after, (pages, survive, is), (reopened, more, u, steps_then, agrees_then, last_left, last_crash, done)) =
-      let one = is-added first first_then (opened config []) t (started (starting_at [])) node page written outs refl refl refl refl steps in
+      let one = is-added first first_then (opened_state config []) t (history_after_start (history_from [])) node page written outs refl refl refl refl steps in
       let by_now : pages_by_now after ≡ Roots [] ∷ Counter 0 ∷ Node node ∷ [] = ap pages_by_now is ∙ survivors node pages (subst (λ (h : History). Survives h pages) one.came survive) in
       let two =
-      is-added second second_then (opened config (Roots [] ∷ Counter 0 ∷ Node node ∷ [])) u (started after) other next written_then more refl refl refl refl
-      (subst (λ (contents : List Content). AreSteps g (IsMade g) second (opened config contents) (calls_of other next written_then) more second_then u) by_now steps_then) in
+      is-added second second_then (opened_state config (Roots [] ∷ Counter 0 ∷ Node node ∷ [])) u (history_after_start after) other next written_then more refl refl refl refl
+      (subst (λ (contents : List Content). AreSteps g (IsMade g) second (opened_state config contents) (calls_of other next written_then) more second_then u) by_now steps_then) in
       (one.pid, two.pid)

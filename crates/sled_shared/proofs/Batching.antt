@@ -2,11 +2,11 @@
 use Rattle.std.proofs.Common.{append_assoc, append-nil, ◌≡◌, inl, inr, List, [], ◌∷◌, ◌++◌, Result, Ok, Err, refl, sym, ◌∙◌, ap, subst}
 use Rattle.sled_base.specs.declared.types.Error.{Error}
 use Rattle.sled_log.specs.declared.log.Log.{Ghosts}
-use Rattle.sled_pagecache.specs.Atomic.{with_pin}
+use Rattle.sled_pagecache.specs.Batches.{with_pin}
 use Rattle.sled_pagecache.specs.Batches.{CancelsBatch, OpensBatch, SealsBatch}
 use Rattle.sled_pagecache.specs.Cache.{Cache}
-use Rattle.sled_pagecache.specs.MadeLaws.{cancel-made, pin-made, seal-made}
-use Rattle.sled_pagecache.specs.RowLaws.{made-more}
+use Rattle.sled_pagecache.specs.Inside.MadeLaws.{cancel-made, pin-made, seal-made}
+use Rattle.sled_pagecache.specs.Inside.SequenceLaws.{made-more}
 use Rattle.sled_pagecache.specs.Rows.{AreMade, IsMade}
 use Rattle.sled_pagecache.specs.Trees.{MadeCalls}
 use Rattle.sled_pagecache.specs.declared.pagecache.call.Answer.{Answer}

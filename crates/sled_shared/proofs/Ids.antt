@@ -12,11 +12,11 @@ use Rattle.sled_node.specs.Links.{applied}
 use Rattle.sled_node.specs.Meta as meta
 use Rattle.sled_node.specs.Node.{WholeNode}
 use Rattle.sled_node.specs.declared.node.link.Link.{Link as NodeLink}
-use Rattle.sled_pagecache.specs.Changes.{link_update}
+use Rattle.sled_pagecache.specs.Step.{link_update}
 use Rattle.sled_pagecache.specs.Shapes.{Shape}
 use Rattle.sled_pagecache.specs.State.{StampedPage, State, page_at, is_free, greatest_free}
-use Rattle.sled_pagecache.specs.Step.{AddsPage, Allocates, Closes, Does, Fails, Finds, FindsContent, Flushes, Frees, Generates, Gets, HoldsCounter, HoldsRoots, IsCorruption, IsCounterAnd, AreRoots, IsHindered, IsRefused, Links, LinksContent, Outcome, Pins, PutsCounter, Reads, Replaces, ReusesPage, RootSwap, SetsRoot, Step, Swapped, Swaps, SwapsContent, SwapsPage, SwapsRoot, interval_start, is_reserved, unchanged, with_next_id}
-use Rattle.sled_pagecache.specs.Token.{Token}
+use Rattle.sled_pagecache.specs.Step.{AddsPage, Allocates, Closes, Does, Fails, Finds, FindsContent, Flushes, Frees, Generates, Gets, HoldsCounter, HoldsRoots, IsCorruption, IsCounterAnd, AreRoots, IsHindered, IsRefused, Links, LinksContent, Outcome, Pins, PutsCounter, Reads, Replaces, ReusesPage, RootSwap, SetsRoot, Step, Swapped, Swaps, SwapsContent, SwapsPage, SwapsRoot, interval_start, is_reserved, no_change, with_next_id}
+use Rattle.sled_pagecache.specs.State.{Token}
 use Rattle.sled_pagecache.specs.Trees.{MadeCalls}
 use Rattle.sled_pagecache.specs.declared.pagecache.call.Answer.{Answer}
 use Rattle.sled_pagecache.specs.declared.pagecache.call.Answer.TheVariants.{Allocated, Got, Linked, Replaced, Freed, GotMeta, GotIdgen, Generated, Flushed, Sized, FoundRoot, RootSwapped, Pinned, Sealed, Cancelled}
@@ -138,7 +138,7 @@ module _ (messages : ℕ → ℕ) where
       sets stamp roots (inr (inr h)) = either-way (stamp == 2 ^ 64 - 1) (refused s answer out _) (does s (Change 0 (Put (Roots (meta.changed_roots name new roots)))) answer out _ (λ value k. of-state s _ out.state refl k.1)) h.1
 
       goes : (stamp : ℕ) (roots : meta.Roots)
-          → ((meta.root_of name roots ≢ old) × (answer ≡ Ok (Err (meta.root_of name roots))) × (out ≡ unchanged s)) ⊎ ((meta.root_of name roots ≡ old) × SetsRoot messages any_room s stamp name new roots answer out) → Stays s out
+          → ((meta.root_of name roots ≢ old) × (answer ≡ Ok (Err (meta.root_of name roots))) × (out ≡ no_change s)) ⊎ ((meta.root_of name roots ≡ old) × SetsRoot messages any_room s stamp name new roots answer out) → Stays s out
       goes stamp roots (inl h) = stays s s out [] refl h.2
       goes stamp roots (inr h) = sets stamp roots h.1
 
@@ -166,7 +166,7 @@ module _ (messages : ℕ → ℕ) where
   generates interval s answer out = either-way s.fault (gives-refused s answer out _) (either-way (nat_lt (2 ^ 64 - 1) s.next) (gives-refused s answer out _) (finds (page_at s 1)))
     where
       Goes : ℕ → ℕ → Type 0
-      Goes stamp n = MatchBool (nat_lt (interval_start interval n) (interval_start interval s.next)) (PutsCounter messages any_room s stamp (interval_start interval s.next) answer out) ((answer ≡ Ok s.next) × (out ≡ unchanged (with_next_id s)))
+      Goes stamp n = MatchBool (nat_lt (interval_start interval n) (interval_start interval s.next)) (PutsCounter messages any_room s stamp (interval_start interval s.next) answer out) ((answer ≡ Ok s.next) × (out ≡ no_change (with_next_id s)))
 
       goes : (stamp n : ℕ) → Goes stamp n → Gives s answer out
       goes stamp n =
@@ -194,7 +194,7 @@ module _ (messages : ℕ → ℕ) where
   flushes s (Ok n) out = either-way s.fault (refused {T = ℕ} s (Ok n) out _) (either-way s.batch (refused {T = ℕ} s (Ok n) out _) (λ h. stays s s out [] refl h))
   flushes s (Err e) out = either-way s.fault (refused {T = ℕ} s (Err e) out _) (either-way s.batch (refused {T = ℕ} s (Err e) out _) (λ h. stays s (record s { fault = true }) out [] refl h.1))
 
-  sizes : (s : State) (answer : Result ℕ Error) (out : Outcome) → IsOkAnd answer (λ size. out ≡ unchanged s) → Stays s out
+  sizes : (s : State) (answer : Result ℕ Error) (out : Outcome) → IsOkAnd answer (λ size. out ≡ no_change s) → Stays s out
   sizes s (Ok n) out h = stays s s out [] refl h
   sizes s (Err e) out h = absurd h
 

@@ -14,15 +14,15 @@ use Rattle.sled_node.specs.Links.{applied}
 use Rattle.sled_node.specs.Meta as meta
 use Rattle.sled_node.specs.Node.{WholeNode}
 use Rattle.sled_node.specs.declared.node.link.Link.{Link as NodeLink}
-use Rattle.sled_pagecache.specs.Cache.{Cache, chain_length, IsIn}
+use Rattle.sled_pagecache.specs.Cache.{Cache, chain_length, Represents}
 use Rattle.sled_pagecache.specs.Calls.{HasNoRoom}
-use Rattle.sled_pagecache.specs.Changes.{link_update}
+use Rattle.sled_pagecache.specs.Step.{link_update}
 use Rattle.sled_pagecache.specs.Logged.{Logged}
 use Rattle.sled_pagecache.specs.Rows.{AreMade}
 use Rattle.sled_pagecache.specs.Shapes.{Shape, Shows, shape_of, shape_of_page, kind_of}
 use Rattle.sled_pagecache.specs.State.{StampedPage, State, page, page_at, is_free, greatest_free}
-use Rattle.sled_pagecache.specs.Step.{AddsPage, Allocates, Does, Fails, Frees, Generates, HoldsCounter, HoldsRoots, IsCounterAnd, AreRoots, Links, LinksContent, Outcome, Pins, PutsCounter, PutsRoots, Replaces, ReusesPage, RootSwap, SetsRoot, Step, Swapped, Swaps, SwapsContent, SwapsPage, SwapsRoot, interval_start, is_reserved, unchanged, with_next_id}
-use Rattle.sled_pagecache.specs.Token.{Token}
+use Rattle.sled_pagecache.specs.Step.{AddsPage, Allocates, Does, Fails, Frees, Generates, HoldsCounter, HoldsRoots, IsCounterAnd, AreRoots, Links, LinksContent, Outcome, Pins, PutsCounter, PutsRoots, Replaces, ReusesPage, RootSwap, SetsRoot, Step, Swapped, Swaps, SwapsContent, SwapsPage, SwapsRoot, interval_start, is_reserved, no_change, with_next_id}
+use Rattle.sled_pagecache.specs.State.{Token}
 use Rattle.sled_pagecache.specs.Trees.{IsKnown, MadeCalls}
 use Rattle.sled_pagecache.specs.declared.pagecache.call.Answer.{Answer}
 use Rattle.sled_pagecache.specs.declared.pagecache.call.Answer.TheVariants.{Allocated, Got, Linked, Replaced, Freed, GotMeta, GotIdgen, Generated, Flushed, Sized, FoundRoot, RootSwapped, Pinned, Sealed, Cancelled}
@@ -99,10 +99,10 @@ module _ (messages : ℕ → ℕ) (no_room : Event Update → Type 0) where
   swaps-root s name old new answer out = both s.fault (λ h. h) (finds (page_at s 0))
     where
       Goes : ℕ → meta.Roots → Type 0
-      Goes stamp roots = ((meta.root_of name roots ≢ old) × (answer ≡ Ok (Err (meta.root_of name roots))) × (out ≡ unchanged s)) ⊎ ((meta.root_of name roots ≡ old) × SetsRoot messages no_room s stamp name new roots answer out)
+      Goes stamp roots = ((meta.root_of name roots ≢ old) × (answer ≡ Ok (Err (meta.root_of name roots))) × (out ≡ no_change s)) ⊎ ((meta.root_of name roots ≡ old) × SetsRoot messages no_room s stamp name new roots answer out)
 
       On : ℕ → meta.Roots → Type 0
-      On stamp roots = ((meta.root_of name roots ≢ old) × (answer ≡ Ok (Err (meta.root_of name roots))) × (out ≡ unchanged s)) ⊎ ((meta.root_of name roots ≡ old) × SetsRoot messages any_room s stamp name new roots answer out)
+      On stamp roots = ((meta.root_of name roots ≢ old) × (answer ≡ Ok (Err (meta.root_of name roots))) × (out ≡ no_change s)) ⊎ ((meta.root_of name roots ≡ old) × SetsRoot messages any_room s stamp name new roots answer out)
 
       goes : (stamp : ℕ) (roots : meta.Roots) → Goes stamp roots → On stamp roots
       goes stamp roots (inl h) = inl h
@@ -122,10 +122,10 @@ module _ (messages : ℕ → ℕ) (no_room : Event Update → Type 0) where
   generates interval s answer out = both s.fault (λ h. h) (both (nat_lt (2 ^ 64 - 1) s.next) (λ h. h) (finds (page_at s 1)))
     where
       Goes : ℕ → ℕ → Type 0
-      Goes stamp n = MatchBool (nat_lt (interval_start interval n) (interval_start interval s.next)) (PutsCounter messages no_room s stamp (interval_start interval s.next) answer out) ((answer ≡ Ok s.next) × (out ≡ unchanged (with_next_id s)))
+      Goes stamp n = MatchBool (nat_lt (interval_start interval n) (interval_start interval s.next)) (PutsCounter messages no_room s stamp (interval_start interval s.next) answer out) ((answer ≡ Ok s.next) × (out ≡ no_change (with_next_id s)))
 
       On : ℕ → ℕ → Type 0
-      On stamp n = MatchBool (nat_lt (interval_start interval n) (interval_start interval s.next)) (PutsCounter messages any_room s stamp (interval_start interval s.next) answer out) ((answer ≡ Ok s.next) × (out ≡ unchanged (with_next_id s)))
+      On stamp n = MatchBool (nat_lt (interval_start interval n) (interval_start interval s.next)) (PutsCounter messages any_room s stamp (interval_start interval s.next) answer out) ((answer ≡ Ok s.next) × (out ≡ no_change (with_next_id s)))
 
       goes : (stamp n : ℕ) → Goes stamp n → On stamp n
       goes stamp n = both (nat_lt (interval_start interval n) (interval_start interval s.next)) (both s.batch (λ h. h) (both (stamp == 2 ^ 64 - 1) (λ h. h) (does s (Change 1 (Put (Counter (interval_start interval s.next)))) answer out _))) (λ h. h)
@@ -206,13 +206,13 @@ module _ {L : Type 0} (g : Ghosts L) where
   record RunTo (interval : ℕ) (Run : State → Type 0) (old new : Cache L) : Type 0 where
     at : Logged
     last : State
-    is : IsIn g new at last
+    is : Represents g new at last
     run : Run last
     config : new.config ≡ old.config
 
-  calls-run : (old new : Cache L) (calls : MadeCalls) (held : Logged) (s : State) → AreMade g old calls new → IsIn g old held s
+  calls-run : (old new : Cache L) (calls : MadeCalls) (held : Logged) (s : State) → AreMade g old calls new → Represents g old held s
       → RunTo old.config.idgen_persist_interval (RunsCalls old.config.idgen_persist_interval s calls) old new
-  calls-run old new [] held s same is = record { at = held; last = s; is = subst (λ cache. IsIn g cache held s) (sym same) is; run = refl; config = ap (λ (cache : Cache L). cache.config) same }
+  calls-run old new [] held s same is = record { at = held; last = s; is = subst (λ cache. Represents g cache held s) (sym same) is; run = refl; config = ap (λ (cache : Cache L). cache.config) same }
   calls-run old new (made ∷ calls) held s (mid, first, others) is =
       let one = first.step.from_each held s is in
       let rest = calls-run mid new calls one.held_then one.out.state others one.is in
@@ -235,11 +235,11 @@ module _ {L : Type 0} (g : Ghosts L) where
       let rest = made-split next new calls others made in
       (rest.0, (next, first, rest.1), rest.2)
 
-  entries-run : (old new : Cache L) (entries : List Entry) (calls : MadeCalls) (held : Logged) (s : State) → AreEntries entries calls → AreMade g old calls new → IsIn g old held s
+  entries-run : (old new : Cache L) (entries : List Entry) (calls : MadeCalls) (held : Logged) (s : State) → AreEntries entries calls → AreMade g old calls new → Represents g old held s
       → RunTo old.config.idgen_persist_interval (Runs old.config.idgen_persist_interval s entries) old new
   entries-run old new [] calls held s none made is =
       let same : new ≡ old = subst (λ (l : MadeCalls). AreMade g old l new) none made in
-      record { at = held; last = s; is = subst (λ cache. IsIn g cache held s) (sym same) is; run = refl; config = ap (λ (cache : Cache L). cache.config) same }
+      record { at = held; last = s; is = subst (λ cache. Represents g cache held s) (sym same) is; run = refl; config = ap (λ (cache : Cache L). cache.config) same }
   entries-run old new (e ∷ entries) calls held s (first, rest, entered, are, others) made is =
       let parts = made-split old new first rest (subst (λ (l : MadeCalls). AreMade g old l new) are made) in
       let one = calls-run old parts.0 first held s parts.1 is in
@@ -259,13 +259,13 @@ module _ {L : Type 0} (g : Ghosts L) where
   -- ---- so the book replays
 
   module _ (known : Type 0) (b : Book) (cache : Cache L) (of : IsBookOf g known b cache) where
-    replays-from : (held : Logged) (s : State) → IsIn g of.opened held s → shape_of s ≡ b.opening → ReplaysIn g b cache
+    replays-from : (held : Logged) (s : State) → Represents g of.opened held s → shape_of s ≡ b.opening → ReplaysIn g b cache
     replays-from held s is shape =
         let run = entries-run of.opened cache b.entries of.calls held s of.are of.made is in
         (run.at, run.last, run.is, (s, shape, is.batch ∙ of.closed, subst (λ (c : Config). Runs c.idgen_persist_interval s b.entries run.last) (sym run.config) run.run))
 
     -- Behind a write error nothing is known of what the pages hold, so any state of the shape will do.
-    is-shaped : g.tells → of.opened.fault ≡ true → IsIn g of.opened (record { stable = []; pending = [] }) (state_of b.opening)
+    is-shaped : g.tells → of.opened.fault ≡ true → Represents g of.opened (record { stable = []; pending = [] }) (state_of b.opening)
     is-shaped tells kept = record {
       tells = tells;
       stamps = stamps-back b.opening.pages ∙ of.shows.stamps;

@@ -6,7 +6,7 @@ use Rattle.sled_base.specs.declared.types.Error.TheVariants.{Unsupported, OutOfM
 use Rattle.sled_base.specs.declared.types.Why.TheVariants.{BookFull}
 use Rattle.sled_log.specs.declared.log.Log.{Ghosts}
 use Rattle.sled_pagecache.specs.Cache.{Cache}
-use Rattle.sled_pagecache.specs.RowLaws.{OnlyNow, made-row, made-then}
+use Rattle.sled_pagecache.specs.Inside.SequenceLaws.{OnlyNow, made-row, made-then}
 use Rattle.sled_pagecache.specs.Rows.{AreMade, IsMade}
 use Rattle.sled_pagecache.specs.Trees.{MadeCalls}
 use Rattle.sled_pagecache.specs.declared.pagecache.call.Answer.{Answer}

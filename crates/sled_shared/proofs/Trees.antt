@@ -7,7 +7,7 @@ use Rattle.sled_log.specs.declared.log.Log.{Ghosts}
 use Rattle.sled_pagecache.specs.Cache.{Cache}
 use Rattle.sled_pagecache.specs.Rows.{AreMade}
 use Rattle.sled_pagecache.specs.Step.{RootSwap}
-use Rattle.sled_pagecache.specs.Token.{Token}
+use Rattle.sled_pagecache.specs.State.{Token}
 use Rattle.sled_pagecache.specs.Trees.{AreCallsOf, EndsSwap, GoesOnOver, GoesOnWith, IsTreeOpened, MadeCalls, NamesRoot, OpensTree, PutsIndex}
 use Rattle.sled_pagecache.specs.declared.pagecache.call.Answer.TheVariants.{GotMeta}
 use Rattle.sled_pagecache.specs.declared.pagecache.call.Call.TheVariants.{GetMeta}

@@ -11,7 +11,7 @@ use Rattle.sled_pagecache.specs.Calls.{Steps}
 use Rattle.sled_pagecache.specs.Rows.{IsMade}
 use Rattle.sled_pagecache.specs.State.{StampedPage, State, page_at}
 use Rattle.sled_pagecache.specs.Step.{Finds, FindsContent, Gets, Outcome, is_reserved}
-use Rattle.sled_pagecache.specs.Token.{Token}
+use Rattle.sled_pagecache.specs.State.{Token}
 use Rattle.sled_pagecache.specs.declared.pagecache.call.Answer.TheVariants.{Got}
 use Rattle.sled_pagecache.specs.declared.pagecache.call.Call.TheVariants.{Get}
 use Rattle.sled_shared.proofs.Replaying.{both}

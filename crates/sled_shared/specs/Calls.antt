@@ -5,7 +5,7 @@ use Rattle.sled_base.specs.Errors.{error_of}
 use Rattle.sled_base.specs.Order.{Bytes}
 use Rattle.sled_base.specs.declared.types.Error.{Error}
 use Rattle.sled_base.specs.declared.types.Refusal.{Refusal}
-use Rattle.sled_pagecache.specs.Atomic.{with_pin}
+use Rattle.sled_pagecache.specs.Batches.{with_pin}
 use Rattle.sled_pagecache.specs.Trees.{MadeCalls, AreCallsOf}
 use Rattle.sled_pagecache.specs.declared.pagecache.call.Answer.{Answer}
 use Rattle.sled_pagecache.specs.declared.pagecache.call.Answer.TheVariants.{Allocated, Got, Linked, Replaced, Freed, FoundRoot, RootSwapped, Generated, Flushed, Pinned, Sealed, Cancelled}

@@ -3,7 +3,7 @@ use Rattle.std.specs.Prelude.{◌≡◌, ◌==◌, ℕ, ◌+◌, ◌-◌, ◌^�
 use Rattle.sled_base.specs.declared.types.Error.TheVariants.{Unsupported, OutOfMemory}
 use Rattle.sled_base.specs.declared.types.Why.TheVariants.{BookFull}
 use Rattle.sled_log.specs.declared.log.Log.{Ghosts}
-use Rattle.sled_pagecache.specs.Cache.{Cache, IsIn}
+use Rattle.sled_pagecache.specs.Cache.{Cache, Represents}
 use Rattle.sled_pagecache.specs.Logged.{Logged}
 use Rattle.sled_pagecache.specs.Rows.{AreMade, StepInRow}
 use Rattle.sled_pagecache.specs.Shapes.{Shows}
@@ -52,11 +52,11 @@ module _ {L : Type 0} (g : Ghosts L) (known : Type 0) where
 
 -- The book is legal by a replay that ends in a state in which the cache is.
 abbrev pub ReplaysIn : {L : Type 0} → Ghosts L → Book → Cache L → Type 0
-ReplaysIn g b cache = (at : Logged) × (last : State) × IsIn g cache at last × ReplaysTo cache.config.idgen_persist_interval b last
+ReplaysIn g b cache = (at : Logged) × (last : State) × Represents g cache at last × ReplaysTo cache.config.idgen_persist_interval b last
 
 -- The same, and the next book opens in that state's shape.
 abbrev pub EndsBefore : {L : Type 0} → Ghosts L → Book → Cache L → Book → Type 0
-EndsBefore g b cache next = (at : Logged) × (last : State) × IsIn g cache at last × ReplaysTo cache.config.idgen_persist_interval b last × IsShapeOf last next.opening
+EndsBefore g b cache next = (at : Logged) × (last : State) × Represents g cache at last × ReplaysTo cache.config.idgen_persist_interval b last × IsShapeOf last next.opening
 
 -- the book has no room for a call: it is at its limit, or the number of calls would pass the greatest u64
 abbrev pub is_full : {L : Type 0} → Held L → Bool

@@ -2,7 +2,7 @@
 
 ghost use Rattle.std.specs.Prelude.{◌≡◌, ℕ, ◌<◌, false, IfOk, IfErr, IfSome, sum};
 ghost use Rattle.sled_base.specs.declared.types.Error.TheVariants.{OutOfMemory};
-ghost use Rattle.sled_pagecache.specs.Token.{pid_of};
+ghost use Rattle.sled_pagecache.specs.State.{pid_of};
 ghost use Rattle.sled_pagecache.specs.Trees.{IsKnown};
 ghost use Rattle.sled_shared.specs.Book.{IsLegal};
 ghost use Rattle.sled_pagecache.specs.declared.pagecache.call.Answer.TheVariants.{Allocated, Got, Linked, Replaced, Freed, FoundRoot, RootSwapped, Generated, Flushed};

@@ -4,7 +4,7 @@ ghost use Rattle.std.specs.Prelude.{◌≡◌, List, ℕ, Ok, IfOk, IfErr, IsSom
 ghost use Rattle.sled_base.specs.Errors.{error_of};
 ghost use Rattle.sled_base.specs.Order.{Bytes};
 ghost use Rattle.sled_pagecache.specs.Answers.{HasNoName, NamesOnly};
-ghost use Rattle.sled_pagecache.specs.Token.{Token, IsAnswered};
+ghost use Rattle.sled_pagecache.specs.State.{Token, IsAnswered};
 ghost use Rattle.sled_shared.specs.Kept.{answer_kept, ended, root_kept, swap_kept};
 
 use crate::entry::{Ending, Kept};

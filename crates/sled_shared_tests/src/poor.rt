@@ -1,7 +1,7 @@
 //! A shared cache over a log that has room for one message, and of which a page is damaged.
 
 ghost use Rattle.std.specs.Prelude.{⊤, ◌≡◌, ◌<◌, ℕ, [], pos, false, true, IfOk};
-ghost use Rattle.sled_log.specs.Marks.{marks};
+ghost use Rattle.sled_log.specs.Inside.Marks.{marks};
 
 use crate::entered::texts_of;
 use crate::faults::{CONFIG, add};

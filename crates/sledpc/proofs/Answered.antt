@@ -8,10 +8,10 @@ use Rattle.sled_log.specs.Messages.{Messages, effect_of}
 use Rattle.sled_log.specs.LogState.{IsLeft, unplaced_state}
 use Rattle.sled_log.specs.declared.log.Log.{Ghosts}
 use Rattle.sled_pagecache.specs.Cache.{Cache}
-use Rattle.sled_pagecache.specs.RowLaws.{OnlyNow, made-then, row-none, row-one, row-then}
+use Rattle.sled_pagecache.specs.Inside.SequenceLaws.{OnlyNow, made-then, row-none, row-one, row-then}
 use Rattle.sled_pagecache.specs.Rows.{StepInRow, AreMade}
 use Rattle.sled_pagecache.specs.Step.{RootSwap}
-use Rattle.sled_pagecache.specs.Token.{Token}
+use Rattle.sled_pagecache.specs.State.{Token}
 use Rattle.sled_pagecache.specs.Trees.{EndsSwap, GoesOnOver, GoesOnWith, IsKnown, OpensTree}
 use Rattle.sled_pagecache.specs.declared.pagecache.call.Answer.{Answer}
 use Rattle.sled_pagecache.specs.declared.pagecache.call.Call.{Call}

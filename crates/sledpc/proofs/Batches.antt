@@ -9,8 +9,8 @@ use Rattle.sled_base.specs.declared.types.Error.{Error}
 use Rattle.sled_log.specs.declared.log.Log.{Ghosts}
 use Rattle.sled_pagecache.specs.Batches.{OpensBatch}
 use Rattle.sled_pagecache.specs.Cache.{Cache}
-use Rattle.sled_pagecache.specs.MadeLaws.{pin-made}
-use Rattle.sled_pagecache.specs.RowLaws.{OnlyNow, made-then, row-one, row-then}
+use Rattle.sled_pagecache.specs.Inside.MadeLaws.{pin-made}
+use Rattle.sled_pagecache.specs.Inside.SequenceLaws.{OnlyNow, made-then, row-one, row-then}
 use Rattle.sled_pagecache.specs.Rows.{IsMade, StepInRow, AreMade}
 use Rattle.sled_pagecache.specs.Trees.{IsKnown}
 use Rattle.sled_pagecache.specs.declared.pagecache.call.Answer.TheVariants.{Cancelled}

@@ -13,7 +13,7 @@ use Rattle.sled_base.specs.Order.{Bytes}
 use Rattle.sled_node.specs.declared.node.link.Link.TheVariants.{Set, Del, ParentMergeIntention, ParentMergeConfirm, ChildMergeCap}
 use Rattle.sled_node.specs.Node.{Value, WholeNode, leaf_of}
 use Rattle.sled_node.specs.Pairs.{IsWithinLimit, HasPairs}
-use Rattle.sled_pagecache.specs.Token.{Token, token, pid_of, stamp_of}
+use Rattle.sled_pagecache.specs.State.{Token, token, pid_of, stamp_of}
 use Rattle.sled_pagecache.specs.declared.pagecache.call.Call.{Call}
 use Rattle.sled_pagecache.specs.declared.pagecache.call.Call.TheVariants.{Allocate, Get, Link, Replace, Free, GetMeta, MetaPidForName, CasRoot, GetIdgen, GenerateId, Flush, SizeOnDisk, Pin, Seal, Cancel}
 use Rattle.sledpc.specs.Asked.{AsksBehind, AreTwo, BeginsWithToken, EncodeLeaf, EncodeRoots, at_the_end}

@@ -10,8 +10,8 @@ use Rattle.sledpc.specs.Settings.{status_of, ended}
 use Rattle.sled_log.specs.Messages.{Message}
 use Rattle.sled_log.specs.LogState as log
 use Rattle.sled_pagecache.specs.Logged.{Logged, IsLogged}
-use Rattle.sled_pagecache.specs.Opening.{missing}
-use Rattle.sled_pagecache.specs.Proper.{IsProper, StayProper}
+use Rattle.sled_pagecache.specs.Opening.{missing_pages}
+use Rattle.sled_pagecache.specs.Logged.{IsProper, StayProper}
 
 pub only_one : {A B : Type 0} (f : A → B) (xs : List A) (x : A) (y : B) → 1 ≤ length xs → length xs < 2 → x ≡ get_or xs 0 x → f x ≡ y → map f xs ≡ y ∷ []
 only_one f [] x y some few at e = absurd (omega arith)
@@ -48,7 +48,7 @@ pub empty_logged : IsLogged empty nothing
 empty_logged = record { stable = tt; pending = tt; proper = stay-none }
 
 -- its own pages are missing
-pub some_missing : missing [] ≢ []
+pub some_missing : missing_pages [] ≢ []
 some_missing e = cc
 
 -- ---- the calls of a crew

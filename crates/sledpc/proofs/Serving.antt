@@ -5,7 +5,7 @@ use Rattle.sled_base.specs.Order.{Bytes}
 use Rattle.sled_log.specs.declared.log.Log.{Ghosts}
 use Rattle.sled_pagecache.specs.Cache.{Cache}
 use Rattle.sled_pagecache.specs.Trees.{IsKnown}
-use Rattle.sled_pagecache.specs.RowLaws.{OnlyNow}
+use Rattle.sled_pagecache.specs.Inside.SequenceLaws.{OnlyNow}
 use Rattle.sledpc.specs.Commands.{IsCommand, mark_word}
 use Rattle.sledpc.specs.declared.script.command.Command.{Command}
 use Rattle.sledpc.specs.declared.script.command.Command.TheVariants as command

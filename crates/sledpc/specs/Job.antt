@@ -4,9 +4,9 @@ use Rattle.std.specs.Fmt.{decimal}
 use Rattle.sled_base.specs.Order.{Bytes}
 use Rattle.sled_log.specs.contracts.memory.calls.MemLogLog.TheImpl as mem
 use Rattle.sled_log.specs.declared.memory.MemLog.{MemLog}
-use Rattle.sled_pagecache.specs.Cache.{Cache, IsIn}
+use Rattle.sled_pagecache.specs.Cache.{Cache, Represents}
 use Rattle.sled_pagecache.specs.Logged.{Logged}
-use Rattle.sled_pagecache.specs.Opening.{opened}
+use Rattle.sled_pagecache.specs.Opening.{opened_state}
 use Rattle.sled_pagecache.specs.declared.pagecache.config.Config.{Config}
 use Rattle.sledpc.specs.declared.program.Job.{Job}
 use Rattle.sledpc.specs.declared.program.Job.TheVariants as job
@@ -43,6 +43,6 @@ crew_text made = decimal made ++ (codes " calls" ++ 10 ∷ [])
 pub record IsNew (config : Config) (cache : Cache MemLog) : Type 0 where
   pub settings : cache.config ≡ config
   pub held : Logged
-  pub is : IsIn mem.ghosts cache held (opened config [])
+  pub is : Represents mem.ghosts cache held (opened_state config [])
   pub stable : held.pending ≡ []
   pub closed : cache.batch ≡ false

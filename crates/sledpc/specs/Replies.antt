@@ -7,7 +7,7 @@ use Rattle.sled_base.specs.declared.types.Device.TheVariants.{Read, Write}
 use Rattle.sled_base.specs.declared.types.Error.{Error}
 use Rattle.sled_base.specs.declared.types.Error.TheVariants.{CollectionNotFound, Unsupported, ReportableBug, Io, Corruption, OutOfMemory}
 use Rattle.sled_node.specs.Node.{Item, Value, Child, WholeNode}
-use Rattle.sled_pagecache.specs.Token.{stamp_of}
+use Rattle.sled_pagecache.specs.State.{stamp_of}
 use Rattle.sled_pagecache.specs.declared.pagecache.call.Answer.{Answer}
 use Rattle.sled_pagecache.specs.declared.pagecache.call.Answer.TheVariants.{Allocated, Got, Linked, Replaced, Freed, GotMeta, FoundRoot, RootSwapped, GotIdgen, Generated, Flushed, Sized, Pinned, Sealed, Cancelled}
 use Rattle.sledpc.specs.Words.{bytes_word}

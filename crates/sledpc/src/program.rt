@@ -4,7 +4,7 @@ ghost use Rattle.std.specs.Prelude.{◌≡◌, ◌↔◌, ℕ, ◌*◌, ◌+◌,
 ghost use Rattle.std.specs.Option.{option_map};
 ghost use Rattle.std.specs.String.{string_bytes};
 ghost use Rattle.std.specs.Io.KnownBytes.{Appends};
-ghost use Rattle.sled_log.specs.Memory.{state_of, settings_of};
+ghost use Rattle.sled_log.specs.MemLog.State.{state_of, settings_of};
 ghost use Rattle.sledpc.specs.Job.{AskFor, AskForCrew, AskForJob, EncodeCrew, IsNew, crew_text};
 ghost use Rattle.sledpc.specs.Output.{Writes};
 ghost use Rattle.sledpc.specs.Settings.{settings, log_settings, status_of, ended, wrong_words};

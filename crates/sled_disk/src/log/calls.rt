@@ -2,13 +2,13 @@
 
 ghost use Rattle.std.specs.Prelude.{◌≡◌, ◌≤◌, ◌<◌, ◌+◌, ◌^◌, ◌⊎◌, ◌↔◌, ℕ, ℤ, pos, [], ◌∷◌, true, false, length, slice_index_or, IfOk, IfErr, OnOk, IsErrOf, IsOk, IfSome};
 ghost use Rattle.std.specs.List.{All, AllByRecursion, AllZip, Any};
-ghost use Rattle.sled_log.specs.Batches.{is_open};
+ghost use Rattle.sled_log.specs.Events.{is_open};
 ghost use Rattle.sled_log.specs.Calls.{Called, can_append, one_more};
 ghost use Rattle.sled_log.specs.Chains.{is_chain};
 ghost use Rattle.sled_log.specs.Events.{Change, Pin, Seal, Cancel};
 ghost use Rattle.sled_log.specs.Limits.{head_size, size_limit};
 ghost use Rattle.sled_log.specs.LogState.{now};
-ghost use Rattle.sled_log.specs.Messages.{effect_of_entry, message, placed};
+ghost use Rattle.sled_log.specs.Messages.{effect_of_entry, message, placed_entry};
 ghost use Rattle.sled_log.specs.Pages.{IsPageState, IsSized, IsAt, IsRead};
 ghost use Rattle.sled_log.specs.declared.log.LogError.TheVariants.{Memory, Full, WriteFault, Corruption};
 ghost use Rattle.sled_base.specs.declared.types.DiskPtr.TheVariants.{Inline};
@@ -75,7 +75,7 @@ impl<D: Disk> Log for DiskLog<D> {
             (now effect_of_entry (⟦<Self as Log>⟧.state self.old)) pid kind ≡ true }
         ensures called { Called D.tells ⟦<Self as Log>⟧.state ⟦<Self as Log>⟧.moment
             ⟦<Self as Log>⟧.left_since ⟦<Self as Log>⟧.counts self.old self.new self.old.reads
-            (λ said. Change pid (placed (message kind payload.now) said) ∷ [])
+            (λ said. Change pid (placed_entry (message kind payload.now) said) ∷ [])
             (Change pid (message kind payload.now) ∷ []) result }
         ensures any_moment { D.tells
             → BytesLeft D.moment D.left_since self.old.disk self.new.disk (IsBeforeOrAfter

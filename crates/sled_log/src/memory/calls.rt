@@ -2,13 +2,14 @@
 
 ghost use Rattle.std.specs.Prelude.{⊤, ◌≡◌, ℕ, ◌+◌, ◌≤◌, ◌<◌, ◌↔◌, pos, [], ◌∷◌, length, true, false, slice_index_or, IfOk, IfErr, OnOk, IsOk, IsErrOf};
 ghost use Rattle.std.specs.List.{All, AllByRecursion, AllZip, Any};
-ghost use Rattle.sled_log.specs.Batches.{is_open};
+ghost use Rattle.sled_log.specs.Events.{is_open};
 ghost use Rattle.sled_log.specs.Calls.{Called, one_more};
 ghost use Rattle.sled_log.specs.Chains.{is_chain};
 ghost use Rattle.sled_log.specs.Events.{Change, Pin, Seal, Cancel};
-ghost use Rattle.sled_log.specs.Items.{left_now, left_earlier, stable_left, pointer_at};
+ghost use Rattle.sled_log.specs.Inside.Items.{left_now, left_earlier, stable_left};
+ghost use Rattle.sled_log.specs.MemLog.Items.{pointer_at};
 ghost use Rattle.sled_log.specs.Limits.{head_size, size_limit};
-ghost use Rattle.sled_log.specs.Messages.{effect_of_entry, message, placed};
+ghost use Rattle.sled_log.specs.Messages.{effect_of_entry, message, placed_entry};
 ghost use Rattle.sled_log.specs.Pages.{IsPageState, IsSized, IsAt, IsRead};
 ghost use Rattle.sled_log.specs.LogState.{now};
 ghost use Rattle.sled_log.specs.declared.log.LogError.TheVariants.{Memory, Full};
@@ -23,7 +24,8 @@ use sled_base::{DiskPtr, Lsn, MessageKind, PageId};
 const MAX_SIZE: u64 = i64::MAX as u64;
 
 impl Log for MemLog {
-    ghost use Rattle.sled_log.specs.Memory.{kept_in, state_of, clock_of, might_have_left, counts_of, size_of, stable_size_of, pending_size_of, settings_of, CalledHere, MovesNothing, Remembers};
+    ghost use Rattle.sled_log.specs.MemLog.State.{kept_in, state_of, clock_of, might_have_left, counts_of, size_of, stable_size_of, settings_of, CalledHere};
+    ghost use Rattle.sled_log.specs.Inside.Memory.{pending_size_of, MovesNothing, Remembers};
 
     ghost tells = { ⊤ };
 
@@ -59,7 +61,7 @@ impl Log for MemLog {
         payload: &[u8],
     ) -> Result<(Lsn, DiskPtr, u64), LogError>
         ensures called { CalledHere self.old self.new
-            (λ said. Change pid (placed (message kind payload.now) said) ∷ [])
+            (λ said. Change pid (placed_entry (message kind payload.now) said) ∷ [])
             (Change pid (message kind payload.now) ∷ []) result }
         ensures size { IfOk result (λ said. (said.2 ≡ head_size + length payload.now)
             × (said.2 < size_limit)) }
@@ -69,7 +71,7 @@ impl Log for MemLog {
         ensures pointer { IfOk result
             (λ said. said.1 ≡ pointer_at (settings_of self.old).0 (size_of self.old) payload.now) }
         ensures moves { MovesNothing self.old self.new
-            (λ said. Change pid (placed (message kind payload.now) said) ∷ []) result }
+            (λ said. Change pid (placed_entry (message kind payload.now) said) ∷ []) result }
         ensures full { IsErrOf result Full
             ↔ (size_limit ≤ size_of self.old + head_size + length payload.now) }
         ensures past { Remembers self.old self.new }

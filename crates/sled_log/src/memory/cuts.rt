@@ -1,8 +1,8 @@
 // Where a crash may cut the items of the log in memory.
 
 ghost use Rattle.std.specs.Prelude.{◌≡◌, ◌↔◌, map, IsTrue};
-ghost use Rattle.sled_log.specs.Batches.{is_open, is_cancelled, IsFair};
-ghost use Rattle.sled_log.specs.Stored.{bare_event};
+ghost use Rattle.sled_log.specs.Events.{is_open, is_cancelled, IsFair};
+ghost use Rattle.sled_log.specs.Inside.Stored.{bare_event};
 
 use super::item::{LogItem, Mark};
 

@@ -2,12 +2,12 @@
 
 ghost use Rattle.std.specs.Prelude.{◌≡◌, ℕ, Some, IfOk, slice_get, IsSomeAnd};
 ghost use Rattle.sled_base.specs.Pointers.{offset_of};
-ghost use Rattle.sled_log.specs.Items.{entry_of};
-ghost use Rattle.sled_log.specs.Kept.{LogItem as KeptItem, KeptChange};
-ghost use Rattle.sled_log.specs.Kept as kept;
+ghost use Rattle.sled_log.specs.MemLog.Items.{entry_of};
+ghost use Rattle.sled_log.specs.MemLog.Kept.{LogItem as KeptItem, KeptChange};
+ghost use Rattle.sled_log.specs.MemLog.Kept as kept;
 ghost use Rattle.sled_log.specs.Messages.{kind_at};
 ghost use Rattle.sled_log.specs.Pages.{IsRead};
-ghost use Rattle.sled_log.specs.Stored.{place_after, start_after};
+ghost use Rattle.sled_log.specs.Inside.Stored.{place_after, start_after};
 
 use super::MemLog;
 use super::item::{LogItem, Mark};
@@ -38,7 +38,7 @@ pub(super) fn behind(items: &[LogItem]) -> (LogOffset, usize)
 }
 
 impl MemLog {
-    ghost use Rattle.sled_log.specs.Memory.{kept_in};
+    ghost use Rattle.sled_log.specs.MemLog.State.{kept_in};
 
     // Where the message at that place stands among the items, if there is one.
     fn index_of(&self, place: LogOffset) -> usize

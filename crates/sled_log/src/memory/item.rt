@@ -1,9 +1,9 @@
 // What the log in memory keeps.
 
 ghost use Rattle.std.specs.Prelude.{◌≡◌, List, length, ℕ, ◌<◌};
-ghost use Rattle.sled_log.specs.Items.{size_of_mark};
+ghost use Rattle.sled_log.specs.MemLog.Items.{size_of_mark};
 ghost use Rattle.sled_log.specs.Limits.{size_limit};
-ghost use Rattle.sled_log.specs.Stored.{kept_mark};
+ghost use Rattle.sled_log.specs.MemLog.Stored.{kept_mark};
 
 use sled_base::{MessageKind, PageId};
 

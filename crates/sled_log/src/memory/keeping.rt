@@ -1,7 +1,7 @@
 // How the items of the log in memory are added and become stable, and what a crash does to them.
 
 ghost use Rattle.std.specs.Prelude.{◌≡◌, ◌≤◌, ◌<◌, ◌+◌, [], ◌∷◌, ◌++◌, length, take, map, true, false, vec_len, vec_capacity};
-ghost use Rattle.sled_log.specs.Stored.{settles_at, settle_all, restarts};
+ghost use Rattle.sled_log.specs.Inside.Stored.{settles_at, settle_all, restarts};
 
 use super::item::LogItem;
 

@@ -3,9 +3,9 @@
 ghost use Rattle.std.specs.Prelude.{◌≡◌, ◌==◌, ◌≤◌, ◌<◌, ◌+◌, ℕ, pos, ◌∷◌, [], ◌++◌, List, length, slice_set, if◌then◌else◌, OnOk};
 ghost use Rattle.std.specs.List.{AllZip};
 ghost use Rattle.sled_base.specs.declared.types.page_state.PageState.TheVariants.{Free};
-ghost use Rattle.sled_log.specs.Chains.{linked, chains_from};
+ghost use Rattle.sled_log.specs.Chains.{chain_with_link, chains_from};
 ghost use Rattle.sled_log.specs.Events as events;
-ghost use Rattle.sled_log.specs.Items.{pointer_at};
+ghost use Rattle.sled_log.specs.MemLog.Items.{pointer_at};
 ghost use Rattle.sled_log.specs.Limits.{head_size, size_limit};
 ghost use Rattle.sled_log.specs.Messages.{Chain, Entry, effect_of_entry};
 ghost use Rattle.sled_log.specs.Pages.{said_of, IsPageState};
@@ -56,7 +56,7 @@ fn put(pages: &mut Vec<PageState>, pid: PageId, page: PageState) -> Result<(), A
 // Adds a link to a page that has a content.
 fn link(page: &mut PageState, said: (Lsn, DiskPtr, u64)) -> Result<(), AllocError>
     ensures { OnOk result ((chain : Chain) (entry : Entry) → said_of entry ≡ said
-        → IsPageState chain page.old → IsPageState (linked effect_of_entry chain entry) page.new) }
+        → IsPageState chain page.old → IsPageState (chain_with_link effect_of_entry chain entry) page.new) }
 {
     if let PageState::Present { frags, .. } = page {
         frags.push(said)?;

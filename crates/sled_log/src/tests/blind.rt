@@ -4,7 +4,7 @@
 ghost use Rattle.std.specs.Prelude.{◌≡◌, ℕ, ◌+◌, ◌-◌, ◌≤◌, ◌<◌, ◌==◌, pos};
 ghost use Rattle.sled_log.specs.Calls.{one_more};
 ghost use Rattle.sled_log.specs.Limits.{head_size, size_limit};
-ghost use Rattle.sled_log.specs.Marks.{marks};
+ghost use Rattle.sled_log.specs.Inside.Marks.{marks};
 ghost use Rattle.std.specs.Prelude.{⊤, IfErr, [], true, false};
 ghost use Rattle.sled_log.specs.declared.log.LogError.TheVariants.{Memory};
 

@@ -3,9 +3,10 @@
 ghost use Rattle.std.proofs.Common.{refl, ◌∙◌, ap, le_trans};
 ghost use Rattle.std.proofs.Math.Nat.{le_refl, le_antisymm};
 ghost use Rattle.std.specs.Prelude.{⊤, ◌≡◌, ℕ, ◌+◌, ◌≤◌, pos, [], true};
-ghost use Rattle.sled_log.specs.Laws.{IsFair-none};
+ghost use Rattle.sled_log.specs.Inside.Laws.{IsFair-none};
 ghost use Rattle.sled_log.specs.Limits.{head_size, size_limit};
-ghost use Rattle.sled_log.specs.Memory.{state_of, clock_of, was_at, counts_of, size_of, stable_size_of, pending_size_of};
+ghost use Rattle.sled_log.specs.MemLog.State.{state_of, clock_of, counts_of, size_of, stable_size_of};
+ghost use Rattle.sled_log.specs.Inside.Memory.{was_at, pending_size_of};
 ghost use Rattle.sled_log.specs.LogState.{unplaced_state};
 
 use super::*;

@@ -2,10 +2,11 @@
 // promises no more than such a log can keep.
 
 ghost use Rattle.std.specs.Prelude.{⊤, ◌≡◌, ◌+◌, ◌≤◌, pos, [], true, false};
-ghost use Rattle.sled_log.specs.Batches.{is_open};
-ghost use Rattle.sled_log.specs.Items.{left_now, left_earlier, stable_left};
+ghost use Rattle.sled_log.specs.Events.{is_open};
+ghost use Rattle.sled_log.specs.Inside.Items.{left_now, left_earlier, stable_left};
 ghost use Rattle.sled_log.specs.Limits.{head_size, size_limit};
-ghost use Rattle.sled_log.specs.Memory.{kept_in, state_of, clock_of, might_have_left, counts_of, size_of, stable_size_of, pending_size_of};
+ghost use Rattle.sled_log.specs.MemLog.State.{kept_in, state_of, clock_of, might_have_left, counts_of, size_of, stable_size_of};
+ghost use Rattle.sled_log.specs.Inside.Memory.{pending_size_of};
 ghost use Rattle.sled_log.specs.Messages.{effect_of, effect_of_entry};
 ghost use Rattle.sled_log.specs.LogState.{LogState, Adds, IsLeft, CrashesSinceLeave, unplaced_state};
 

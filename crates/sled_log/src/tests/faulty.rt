@@ -2,9 +2,10 @@
 
 ghost use Rattle.std.specs.Prelude.{⊤, ◌≡◌, ◌==◌, ℕ, ◌+◌, ◌≤◌, pos, [], true};
 ghost use Rattle.sled_log.specs.Calls.{one_more};
-ghost use Rattle.sled_log.specs.Items.{left_now, left_earlier, stable_left};
+ghost use Rattle.sled_log.specs.Inside.Items.{left_now, left_earlier, stable_left};
 ghost use Rattle.sled_log.specs.Limits.{head_size, size_limit};
-ghost use Rattle.sled_log.specs.Memory.{kept_in, state_of, clock_of, might_have_left, size_of, stable_size_of, pending_size_of};
+ghost use Rattle.sled_log.specs.MemLog.State.{kept_in, state_of, clock_of, might_have_left, size_of, stable_size_of};
+ghost use Rattle.sled_log.specs.Inside.Memory.{pending_size_of};
 
 use super::*;
 use sled_base::PageId;

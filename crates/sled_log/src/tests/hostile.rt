@@ -1,8 +1,8 @@
 // Logs that leave what they like at moments that no other clause names. The law of earlier moments refuses them.
 
 ghost use Rattle.std.specs.Prelude.{◌≡◌, ℕ, ◌≤◌, List, [], ◌∷◌};
-ghost use Rattle.sled_log.specs.Hostile.{left_skipping, left_losing};
-ghost use Rattle.sled_log.specs.Memory.{kept_in, state_of};
+ghost use Rattle.sled_log.specs.Inside.Hostile.{left_skipping, left_losing};
+ghost use Rattle.sled_log.specs.MemLog.State.{kept_in, state_of};
 ghost use Rattle.sled_log.specs.Messages.{Messages, Chain};
 
 use super::*;

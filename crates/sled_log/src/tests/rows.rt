@@ -1,7 +1,7 @@
 // What each log of the tests answers to all calls in a row.
 
 ghost use Rattle.std.specs.Prelude.{[], false};
-ghost use Rattle.sled_log.specs.Walks.{Stands};
+ghost use Rattle.sled_log.specs.Inside.Walks.{Stands};
 
 use super::faulty::{Faults, FaultyLog};
 use super::walks::{Answer, Status, shape_of, status_of, walk};

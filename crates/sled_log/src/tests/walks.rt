@@ -1,12 +1,12 @@
 // All calls of a log in a row, and what they answer.
 
 ghost use Rattle.std.specs.Prelude.{◌≡◌, ◌≢◌, [], Bool, List, true, false, length, nat_lt, slice_index_or, OnOk};
-ghost use Rattle.sled_log.specs.Batches.{is_open};
+ghost use Rattle.sled_log.specs.Events.{is_open};
 ghost use Rattle.std.specs.List.{Any};
 ghost use Rattle.sled_log.specs.Messages.{Chain, effect_of_entry};
 ghost use Rattle.sled_log.specs.Pages.{IsAt};
 ghost use Rattle.sled_log.specs.LogState.{now};
-ghost use Rattle.sled_log.specs.Walks.{Stands};
+ghost use Rattle.sled_log.specs.Inside.Walks.{Stands};
 ghost use Rattle.sled_log.specs.declared.log.LogError.TheVariants.{WriteFault};
 
 use super::*;

@@ -4,7 +4,7 @@ ghost use Rattle.std.specs.Prelude.{◌≡◌, ◌+◌, ◌-◌, ◌^◌, min, I
 ghost use Rattle.sled_base.specs.Lru.{IsListed, rounded};
 ghost use Rattle.sled_base.specs.declared.types.Refusal.TheVariants as refusal;
 ghost use Rattle.sled_log.specs.Limits.{head_size};
-ghost use Rattle.sled_pagecache.specs.Accesses.{WasAccessed, capped};
+ghost use Rattle.sled_pagecache.specs.Inside.PageEntry.{WasAccessed, capped_size};
 
 use sled_base::{Lru, PageId, Refusal};
 
@@ -24,10 +24,10 @@ pub(super) struct Accesses {
 impl Accesses {
     // Accesses a page whose messages take so much of the log. A refusal leaves both.
     pub(super) fn access(&mut self, pid: PageId, size: u64) -> Result<(), Refusal>
-        ensures accessed { OnOk result (WasAccessed self.old pid (capped size) self.new) }
+        ensures accessed { OnOk result (WasAccessed self.old pid (capped_size size) self.new) }
         ensures err { OnErr result (self.new ≡ self.old) }
         ensures refused { IfErr result (λ why. why ≡ refusal.OutOfMemory) }
-        ensures always { IsListed pid (rounded (capped size)) self.old.lru → IsOk result }
+        ensures always { IsListed pid (rounded (capped_size size)) self.old.lru → IsOk result }
     {
         let Ok(dropped) = self.lru.accessed(pid, size.min(MAX_SIZE)) else {
             return Err(Refusal::OutOfMemory);

@@ -4,7 +4,7 @@ ghost use Rattle.std.specs.Prelude.{◌≡◌, ◌≢◌, ◌≤◌, [], false, 
 ghost use Rattle.sled_base.specs.declared.types.Device.TheVariants.{Write};
 ghost use Rattle.sled_base.specs.declared.types.Error.TheVariants.{Unsupported, Io};
 ghost use Rattle.sled_base.specs.declared.types.Why.{Why};
-ghost use Rattle.sled_log.specs.Batches.{is_open};
+ghost use Rattle.sled_log.specs.Events.{is_open};
 ghost use Rattle.sled_log.specs.Messages.{effect_of_entry};
 ghost use Rattle.sled_log.specs.LogState.{now, unplaced_state};
 ghost use Rattle.sled_pagecache.specs.Answers.{HasNoName, Keeps};
@@ -12,8 +12,8 @@ ghost use Rattle.sled_pagecache.specs.Calls.{Steps, IsBlamed};
 ghost use Rattle.sled_pagecache.specs.Logged.{Logged, IsLogged};
 ghost use Rattle.sled_pagecache.specs.Memory.{IsBounded, ListsResident, KeepsMemory};
 ghost use Rattle.sled_pagecache.specs.Opening.{fault_of};
-ghost use Rattle.sled_pagecache.specs.Reads.{ReadsNothing, HasRead, own_among};
-ghost use Rattle.sled_pagecache.specs.Starts.{RefusesOpening, Opens, IsBlamedOpening, MayBeOpened, HoldsNoNode, log_after};
+ghost use Rattle.sled_pagecache.specs.Memory.{ReadsNothing, HasRead, own_among};
+ghost use Rattle.sled_pagecache.specs.Opening.{RefusesOpening, Opens, IsBlamedOpening, MayBeOpened, HoldsNoNode, log_after};
 ghost use Rattle.sled_pagecache.specs.declared.pagecache.call.Answer.TheVariants.{Flushed, Sized};
 ghost use Rattle.sled_pagecache.specs.declared.pagecache.call.Call.TheVariants.{Flush, SizeOnDisk};
 
@@ -61,7 +61,7 @@ impl<L: Log> Model for PageCache<L> {
 
     ghost Value = { Cache L };
 
-    ghost use Rattle.sled_pagecache.specs.Evictions.{cache_of, IsSettled};
+    ghost use Rattle.sled_pagecache.specs.Inside.Eviction.{cache_of, IsSettled};
 
     ghost view = { λ c. cache_of c.next c.config c.recovered c.accesses.lru c.sticky_log c.pages.pages };
 

@@ -5,8 +5,11 @@ ghost use Rattle.std.specs.List.{AllZip};
 ghost use Rattle.sled_log.specs.Messages.{effect_of_entry};
 ghost use Rattle.sled_log.specs.Pages.{said_of};
 ghost use Rattle.sled_log.specs.LogState.{now};
-ghost use Rattle.sled_pagecache.specs.ChainReads.{IsFoundAs, chain_at, place_of, more};
-ghost use Rattle.sled_pagecache.specs.StickyLog.{Went, IsCaused, IsOfLog};
+ghost use Rattle.sled_pagecache.specs.Inside.PageIn.{IsFoundAs};
+ghost use Rattle.sled_pagecache.specs.Cache.{chain_at};
+ghost use Rattle.sled_pagecache.specs.Infos.{place_of};
+ghost use Rattle.sled_pagecache.specs.Memory.{count_after};
+ghost use Rattle.sled_pagecache.specs.Inside.StickyLog.{Went, IsCaused, IsOfLog};
 
 use super::page::CacheInfo;
 use super::reading::Found;
@@ -33,8 +36,8 @@ pub(super) fn read_chain<L: Log>(
     ensures sound { L.tells → IfErr result IsOfLog }
     ensures same { L.tells → sticky_log.new.fault ≡ false → now effect_of_entry (L.state sticky_log.new.log) ≡ now effect_of_entry (L.state sticky_log.old.log) }
     ensures room { (n : ℕ) → L.is_full sticky_log.new.log n → L.is_full sticky_log.old.log n }
-    ensures reads { OnOk result ((L.counts sticky_log.new.log).reads ≡ more (length infos.now) (L.counts sticky_log.old.log).reads) }
-    ensures at_most { OnErr result ((times : ℕ) × (times ≤ length infos.now) × ((L.counts sticky_log.new.log).reads ≡ more times (L.counts sticky_log.old.log).reads)) }
+    ensures reads { OnOk result ((L.counts sticky_log.new.log).reads ≡ count_after (length infos.now) (L.counts sticky_log.old.log).reads) }
+    ensures at_most { OnErr result ((times : ℕ) × (times ≤ length infos.now) × ((L.counts sticky_log.new.log).reads ≡ count_after times (L.counts sticky_log.old.log).reads)) }
 {
     let Ok(mut found) = Vec::with_capacity(alloc, infos.len()) else {
         return Err(Refusal::OutOfMemory);

@@ -1,6 +1,6 @@
 //! What leaves memory behind a call.
 
-ghost use Rattle.sled_pagecache.specs.Evictions.{IsOutAt, AreOut, Evicts};
+ghost use Rattle.sled_pagecache.specs.Inside.Eviction.{IsOutAt, AreOut, Evicts};
 
 use super::accesses::Accesses;
 use super::pagetable::PageTable;

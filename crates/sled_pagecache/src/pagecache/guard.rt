@@ -4,7 +4,7 @@ ghost use Rattle.std.specs.Prelude.{◌≡◌, true, Ok, Err, IfOk, IfErr, OnOk,
 ghost use Rattle.std.specs.Borrow.{sem};
 ghost use Rattle.sled_base.specs.declared.types.Error.{Error};
 ghost use Rattle.sled_pagecache.specs.Batches.{OpensBatch, SealsBatch, CancelsBatch};
-ghost use Rattle.sled_pagecache.specs.Guard.{lent, RestsIfRefused, LendsCache};
+ghost use Rattle.sled_pagecache.specs.Batches.{cache_lent, RestsIfRefused, LendsCache};
 
 use super::cache::PageCache;
 use sled_base::Error;
@@ -28,8 +28,8 @@ impl<L: Log> PageCache<L> {
     pub fn pin_log(&mut self) -> Result<RecoveryGuard<'_, L>, Error>
         ensures* refused { sem 𝓛 (RestsIfRefused L.row L.Log self.entry result) }
         ensures same_reference { IfOk result
-            (λ guard. (lent guard).ghost_name ≡ self.entry.ghost_name) }
-        ensures pinned { IfOk result (λ guard. OpensBatch L.Log self.old (Ok tt) (lent guard).now) }
+            (λ guard. (cache_lent guard).ghost_name ≡ self.entry.ghost_name) }
+        ensures pinned { IfOk result (λ guard. OpensBatch L.Log self.old (Ok tt) (cache_lent guard).now) }
     {
         self.pin()?;
         Ok(RecoveryGuard { cache: self })
@@ -40,7 +40,7 @@ impl<'a, L: Log> RecoveryGuard<'a, L> {
     /// The cache, lent. Its changes are the batch's.
     pub fn cache(&mut self) -> &mut PageCache<L>
         ensures* lends { sem 𝓛 (LendsCache L.row L.Log self.entry result) }
-        ensures value { result.now ≡ (lent self.old).now }
+        ensures value { result.now ≡ (cache_lent self.old).now }
     {
         &mut *self.cache
     }
@@ -50,8 +50,8 @@ impl<'a, L: Log> RecoveryGuard<'a, L> {
     /// It allocates nothing, and fails only for a write error, which is sticky. The batch is closed then too; with one kept from before,
     /// the log isn't called.
     pub fn seal_batch(self) -> Result<(), Error>
-        requires { (lent self).now.batch ≡ true }
-        ensures { SealsBatch L.Log (lent self.entry).now result self.exit.0.now }
+        requires { (cache_lent self).now.batch ≡ true }
+        ensures { SealsBatch L.Log (cache_lent self.entry).now result self.exit.0.now }
     {
         let RecoveryGuard { cache } = self;
         cache.seal()
@@ -62,8 +62,8 @@ impl<'a, L: Log> RecoveryGuard<'a, L> {
     /// It allocates nothing, and fails only for a write error, which is sticky. The batch is closed then too; with one kept from before,
     /// the log isn't called.
     pub fn cancel(self) -> Result<(), Error>
-        requires { (lent self).now.batch ≡ true }
-        ensures { CancelsBatch L.Log (lent self.entry).now result self.exit.0.now }
+        requires { (cache_lent self).now.batch ≡ true }
+        ensures { CancelsBatch L.Log (cache_lent self.entry).now result self.exit.0.now }
     {
         let RecoveryGuard { cache } = self;
         cache.cancel()
@@ -74,13 +74,13 @@ impl<'a, L: Log> RecoveryGuard<'a, L> {
     ///
     /// The changes are a function of the cache, in which `?` is free: `let done = change(guard.cache()); guard.settle(done)`.
     pub fn settle<T: Drop>(self, outcome: Result<T, Error>) -> Result<T, Error>
-        requires { (lent self).now.batch ≡ true }
+        requires { (cache_lent self).now.batch ≡ true }
         ensures sealed { IfOk outcome (λ x. IfOk result (λ y. (y ≡ x)
-            × SealsBatch L.Log (lent self.entry).now (Ok tt) self.exit.0.now)) }
+            × SealsBatch L.Log (cache_lent self.entry).now (Ok tt) self.exit.0.now)) }
         ensures stuck { OnOk outcome (IfErr result (λ e. (let failed : Result (Unit {0}) Error = Err
-            e in SealsBatch L.Log (lent self.entry).now failed self.exit.0.now))) }
+            e in SealsBatch L.Log (cache_lent self.entry).now failed self.exit.0.now))) }
         ensures cancelled { OnErr outcome ((result ≡ outcome) × ((r : Result (Unit {0}) Error)
-            × CancelsBatch L.Log (lent self.entry).now r self.exit.0.now)) }
+            × CancelsBatch L.Log (cache_lent self.entry).now r self.exit.0.now)) }
     {
         match outcome {
             Ok(x) => match self.seal_batch() {

@@ -1,16 +1,16 @@
 //! The counter of generated ids, on its page.
 
 ghost use Rattle.std.specs.Prelude.{◌≡◌, ◌<◌, [], false, true, length, OnOk};
-ghost use Rattle.sled_log.specs.Batches.{is_open};
+ghost use Rattle.sled_log.specs.Events.{is_open};
 ghost use Rattle.sled_log.specs.Contents as contents;
 ghost use Rattle.sled_log.specs.LogState.{now};
 ghost use Rattle.sled_log.specs.Messages.{effect_of_entry};
-ghost use Rattle.sled_log.specs.Writing.{message_of};
-ghost use Rattle.sled_pagecache.specs.Appends.{Puts};
-ghost use Rattle.sled_pagecache.specs.CounterPages.{IsCounterIn, KeepsCounter};
+ghost use Rattle.sled_log.specs.Reading.{message_of};
+ghost use Rattle.sled_pagecache.specs.Inside.Appends.{Puts};
+ghost use Rattle.sled_pagecache.specs.Inside.CounterPage.{IsCounterIn, KeepsCounter};
 ghost use Rattle.sled_pagecache.specs.Limits.{counter_pid};
 ghost use Rattle.sled_pagecache.specs.Step.{interval_start};
-ghost use Rattle.sled_pagecache.specs.Swaps.{Wrote};
+ghost use Rattle.sled_pagecache.specs.Inside.PageWrites.{Wrote};
 ghost use Rattle.sled_pagecache.specs.declared.pagecache.page.Kept.TheVariants as kept;
 
 use super::COUNTER_PID;

@@ -1,7 +1,7 @@
 //! What the token of a swap is worth.
 
 ghost use Rattle.std.specs.Prelude.{◌≡◌};
-ghost use Rattle.sled_pagecache.specs.Judging.{Judges, answer_to};
+ghost use Rattle.sled_pagecache.specs.Inside.TokenCheck.{Judges, answer_to};
 ghost use Rattle.sled_pagecache.specs.Step.{is_reserved};
 
 use super::pagetable::PageTable;

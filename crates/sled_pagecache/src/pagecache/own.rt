@@ -3,17 +3,18 @@
 ghost use Rattle.std.specs.Prelude.{◌≡◌, ◌<◌, ℕ, [], ◌∷◌, ◌++◌, false, true, length, map, IfOk, IfErr, OnOk};
 ghost use Rattle.std.specs.List.{AllZip};
 ghost use Rattle.sled_log.specs.Contents as contents;
-ghost use Rattle.sled_log.specs.Messages.{effect_of_entry, unplaced};
+ghost use Rattle.sled_log.specs.Messages.{effect_of_entry, messages_of};
 ghost use Rattle.sled_log.specs.Reading.{IsUpdate, Makes};
 ghost use Rattle.sled_log.specs.LogState.{now};
 ghost use Rattle.sled_node.specs.Meta as meta;
-ghost use Rattle.sled_pagecache.specs.ChainReads.{IsFoundAs, chain_at};
-ghost use Rattle.sled_pagecache.specs.StickyLog.{IsOfLog};
-ghost use Rattle.sled_pagecache.specs.Loading.{IsLoaded, IsTable, RefusesOwn, events_of_roots, counter_event, stamps_at_start};
-ghost use Rattle.sled_pagecache.specs.Proceeding.{Proceeds, refusal_in};
-ghost use Rattle.sled_pagecache.specs.Reading.{found_message, RefusesMessage};
-ghost use Rattle.sled_pagecache.specs.Reads.{HasRead};
-ghost use Rattle.sled_pagecache.specs.Table.{stamps_in};
+ghost use Rattle.sled_pagecache.specs.Inside.PageIn.{IsFoundAs};
+ghost use Rattle.sled_pagecache.specs.Cache.{chain_at};
+ghost use Rattle.sled_pagecache.specs.Inside.StickyLog.{IsOfLog};
+ghost use Rattle.sled_pagecache.specs.Inside.Loading.{IsLoaded, IsTable, RefusesOwn, events_of_roots, counter_event, stamps_at_start};
+ghost use Rattle.sled_pagecache.specs.Inside.LogCalls.{Proceeds, refusal_in};
+ghost use Rattle.sled_pagecache.specs.Inside.PageIn.{found_message, RefusesMessage};
+ghost use Rattle.sled_pagecache.specs.Memory.{HasRead};
+ghost use Rattle.sled_pagecache.specs.Inside.Invariant.{stamps_in};
 
 use super::chain::read_chain;
 use super::page::{Kept, Page};
@@ -39,7 +40,7 @@ pub(super) fn read_roots<L: Log>(
     requires loaded { L.tells → IsLoaded (chain_at (L.state sticky_log.old.log) 0) page.now }
     ensures proceeds { Proceeds L.Log sticky_log.old sticky_log.new [] (refusal_in result) }
     ensures same { L.tells → sticky_log.new.fault ≡ false → now effect_of_entry (L.state sticky_log.new.log) ≡ now effect_of_entry (L.state sticky_log.old.log) }
-    ensures read { L.tells → IfOk result (λ roots. Makes (unplaced (chain_at (L.state sticky_log.old.log) 0)) (contents.Roots roots)) }
+    ensures read { L.tells → IfOk result (λ roots. Makes (messages_of (chain_at (L.state sticky_log.old.log) 0)) (contents.Roots roots)) }
     ensures refused { L.tells → IfErr result (RefusesOwn 0 (chain_at (L.state sticky_log.old.log) 0)) }
     ensures reads { HasRead L.counts sticky_log.old.log sticky_log.new.log 1 result }
 {
@@ -58,7 +59,7 @@ pub(super) fn read_counter<L: Log>(
     requires loaded { L.tells → IsLoaded (chain_at (L.state sticky_log.old.log) 1) page.now }
     ensures proceeds { Proceeds L.Log sticky_log.old sticky_log.new [] (refusal_in result) }
     ensures same { L.tells → sticky_log.new.fault ≡ false → now effect_of_entry (L.state sticky_log.new.log) ≡ now effect_of_entry (L.state sticky_log.old.log) }
-    ensures read { L.tells → IfOk result (λ n. Makes (unplaced (chain_at (L.state sticky_log.old.log) 1)) (contents.Counter n)) }
+    ensures read { L.tells → IfOk result (λ n. Makes (messages_of (chain_at (L.state sticky_log.old.log) 1)) (contents.Counter n)) }
     ensures refused { L.tells → IfErr result (RefusesOwn 1 (chain_at (L.state sticky_log.old.log) 1)) }
     ensures reads { HasRead L.counts sticky_log.old.log sticky_log.new.log 1 result }
 {

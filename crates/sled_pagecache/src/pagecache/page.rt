@@ -2,10 +2,10 @@
 
 ghost use Rattle.std.specs.Prelude.{◌≡◌, ◌+◌, ◌<◌, ◌-◌, ◌^◌, ◌++◌, [], ◌∷◌, min, length, vec_len, vec_capacity, map, IfOk};
 ghost use Rattle.std.specs.List.{sum_by};
-ghost use Rattle.sled_pagecache.specs.ChainReads.{place_of};
+ghost use Rattle.sled_pagecache.specs.Infos.{place_of};
 ghost use Rattle.sled_pagecache.specs.Limits.{most_messages};
-ghost use Rattle.sled_pagecache.specs.Stamps.{stamps_to};
-ghost use Rattle.sled_pagecache.specs.Swaps.{infos_after};
+ghost use Rattle.sled_pagecache.specs.Infos.{stamps_to};
+ghost use Rattle.sled_pagecache.specs.Inside.Infos.{infos_after};
 
 use super::PAGE_CONSOLIDATION_THRESHOLD;
 use sled_base::{DiskPtr, Lsn, PageState};
@@ -46,8 +46,9 @@ pub(super) enum Kept {
 }
 
 impl Page {
-    ghost use Rattle.sled_pagecache.specs.Pages.{is_free, IsLast, IsSaidBy};
-    ghost use Rattle.sled_pagecache.specs.PagingOut.{IsPagedOut};
+    ghost use Rattle.sled_pagecache.specs.Table.{is_free, IsSaidBy};
+    ghost use Rattle.sled_pagecache.specs.Infos.{IsLast};
+    ghost use Rattle.sled_pagecache.specs.Inside.Eviction.{IsPagedOut};
 
     /// Where the log keeps the messages that make the page, in the order of its chain.
     pub fn cache_infos(&self) -> &[CacheInfo]
@@ -104,7 +105,7 @@ impl Page {
 }
 
 impl Clone for Page {
-    ghost use Rattle.sled_pagecache.specs.Pages.{IsSame};
+    ghost use Rattle.sled_pagecache.specs.Inside.PageEntry.{IsSame};
 
     ghost is_clone = { IsSame };
 

@@ -7,7 +7,7 @@
 ghost use Rattle.std.specs.Prelude.{◌≡◌, ◌<◌, ◌≤◌, ◌/◌, ◌%◌, ◌++◌, [], ◌∷◌, true, length, slice_get, MatchOption, IfErr, IsOk, OnOk};
 ghost use Rattle.std.specs.Borrow.{sem};
 ghost use Rattle.sled_pagecache.specs.Limits.{chunk_length, most_pages};
-ghost use Rattle.sled_pagecache.specs.PageTables.{pages_in, AreFilled, at_last, is_unfilled};
+ghost use Rattle.sled_pagecache.specs.Inside.PageTable.{pages_in, AreFilled, at_last, is_unfilled};
 
 use super::MAX_PID_BITS;
 use super::page::Page;
@@ -34,7 +34,8 @@ pub struct PageTable {
 }
 
 impl Model for PageTable {
-    ghost use Rattle.sled_pagecache.specs.PageTables.{TableView, view_of, IsPageTable};
+    ghost use Rattle.sled_pagecache.specs.Table.{TableView};
+    ghost use Rattle.sled_pagecache.specs.Inside.PageTable.{view_of, IsPageTable};
 
     ghost Value = { TableView };
 
@@ -44,7 +45,7 @@ impl Model for PageTable {
 }
 
 impl PageTable {
-    ghost use Rattle.sled_pagecache.specs.TableLoans.{LendsPage};
+    ghost use Rattle.sled_pagecache.specs.Lending.{LendsPage};
 
     /// A table with no pages. It takes no memory.
     pub fn default(alloc: Global) -> PageTable

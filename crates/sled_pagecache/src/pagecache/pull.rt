@@ -2,17 +2,19 @@
 
 ghost use Rattle.std.specs.Prelude.{◌≡◌, ◌⊎◌, ℕ, ◌≤◌, ◌<◌, [], false, true, length, IfErr, IsOk, OnOk, OnErr};
 ghost use Rattle.sled_base.specs.declared.types.Refusal.TheVariants as refusal;
-ghost use Rattle.sled_log.specs.Messages.{effect_of_entry, unplaced};
+ghost use Rattle.sled_log.specs.Messages.{effect_of_entry, messages_of};
 ghost use Rattle.sled_log.specs.LogState.{now};
-ghost use Rattle.sled_pagecache.specs.Accesses.{WasAccessed, IsTouched};
-ghost use Rattle.sled_pagecache.specs.ChainReads.{chain_at, more};
-ghost use Rattle.sled_pagecache.specs.StickyLog.{Went, IsCaused, IsOfLog};
-ghost use Rattle.sled_pagecache.specs.LinkedPages.{PutsLink};
-ghost use Rattle.sled_pagecache.specs.Pages.{IsKept, is_free, is_resident, access_size};
-ghost use Rattle.sled_pagecache.specs.Pulling.{RefusesPull};
-ghost use Rattle.sled_pagecache.specs.Swaps.{RefusesLink};
-ghost use Rattle.sled_pagecache.specs.Table.{IsFreeOrNode};
-ghost use Rattle.sled_pagecache.specs.Touching.{IsListedAt, AccessesNode};
+ghost use Rattle.sled_pagecache.specs.Inside.PageEntry.{WasAccessed, IsTouched};
+ghost use Rattle.sled_pagecache.specs.Cache.{chain_at};
+ghost use Rattle.sled_pagecache.specs.Memory.{count_after};
+ghost use Rattle.sled_pagecache.specs.Inside.StickyLog.{Went, IsCaused, IsOfLog};
+ghost use Rattle.sled_pagecache.specs.Inside.LinkWrites.{PutsLink};
+ghost use Rattle.sled_pagecache.specs.Inside.PageEntry.{IsKept, is_resident, access_size};
+ghost use Rattle.sled_pagecache.specs.Table.{is_free};
+ghost use Rattle.sled_pagecache.specs.Inside.PageIn.{RefusesPull};
+ghost use Rattle.sled_pagecache.specs.Inside.PageWrites.{RefusesLink};
+ghost use Rattle.sled_pagecache.specs.Inside.Invariant.{IsFreeOrNode};
+ghost use Rattle.sled_pagecache.specs.Inside.RecentUse.{IsListedAt, AccessesNode};
 ghost use Rattle.sled_pagecache.specs.declared.pagecache.page.Kept.TheVariants as kept;
 
 use super::accesses::Accesses;
@@ -50,8 +52,8 @@ pub(super) fn pull<L: Log>(
     ensures went { Went L.Log sticky_log.old sticky_log.new [] }
     ensures cause { IsCaused L.Log sticky_log.old sticky_log.new ⊥ result }
     ensures room { (n : ℕ) → L.is_full sticky_log.new.log n → L.is_full sticky_log.old.log n }
-    ensures reads { is_resident page.old.kept ≡ false → OnOk result ((L.counts sticky_log.new.log).reads ≡ more (length page.old.infos.items) (L.counts sticky_log.old.log).reads) }
-    ensures at_most { OnErr result ((times : ℕ) × (times ≤ length page.old.infos.items) × ((L.counts sticky_log.new.log).reads ≡ more times (L.counts sticky_log.old.log).reads)) }
+    ensures reads { is_resident page.old.kept ≡ false → OnOk result ((L.counts sticky_log.new.log).reads ≡ count_after (length page.old.infos.items) (L.counts sticky_log.old.log).reads) }
+    ensures at_most { OnErr result ((times : ℕ) × (times ≤ length page.old.infos.items) × ((L.counts sticky_log.new.log).reads ≡ count_after times (L.counts sticky_log.old.log).reads)) }
     ensures refused { L.tells → IfErr result (RefusesPull (chain_at (L.state sticky_log.old.log) pid)) }
 {
     if let Kept::Away = page.kept {
@@ -87,8 +89,8 @@ pub(super) fn pull_and_access<L: Log>(
     ensures unread { is_resident page.old.kept ≡ true → sticky_log.new ≡ sticky_log.old }
     ensures went { Went L.Log sticky_log.old sticky_log.new [] }
     ensures cause { IsCaused L.Log sticky_log.old sticky_log.new ⊥ result }
-    ensures reads { is_resident page.old.kept ≡ false → OnOk result ((L.counts sticky_log.new.log).reads ≡ more (length page.old.infos.items) (L.counts sticky_log.old.log).reads) }
-    ensures at_most { OnErr result ((times : ℕ) × (times ≤ length page.old.infos.items) × ((L.counts sticky_log.new.log).reads ≡ more times (L.counts sticky_log.old.log).reads)) }
+    ensures reads { is_resident page.old.kept ≡ false → OnOk result ((L.counts sticky_log.new.log).reads ≡ count_after (length page.old.infos.items) (L.counts sticky_log.old.log).reads) }
+    ensures at_most { OnErr result ((times : ℕ) × (times ≤ length page.old.infos.items) × ((L.counts sticky_log.new.log).reads ≡ count_after times (L.counts sticky_log.old.log).reads)) }
     ensures refused { L.tells → IfErr result (RefusesPull (chain_at (L.state sticky_log.old.log) pid)) }
     ensures accessed { OnOk result (AccessesNode accesses.old pid page.new accesses.new) }
 {

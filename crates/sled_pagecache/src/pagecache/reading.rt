@@ -8,7 +8,8 @@ ghost use Rattle.sled_log.specs.Contents as contents;
 ghost use Rattle.sled_log.specs.Reading.{IsUpdate, Makes};
 ghost use Rattle.sled_node.specs.Node.{WholeNode};
 ghost use Rattle.sled_node.specs.declared.node.link.Link.{Link as NodeLink};
-ghost use Rattle.sled_pagecache.specs.Reading.{found_message, MakesNode, BeginsFree, RefusesNode, EncodesNothing, Leads, RefusesMessage};
+ghost use Rattle.sled_pagecache.specs.Inside.PageIn.{found_message, BeginsFree, RefusesNode, EncodesNothing, Leads, RefusesMessage};
+ghost use Rattle.sled_pagecache.specs.Damage.{MakesNode};
 
 use sled_base::{Bug, DiskPtr, Error, MessageKind, Refusal};
 use sled_node::{Link, Node, Serialize};

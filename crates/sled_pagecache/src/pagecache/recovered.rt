@@ -5,9 +5,9 @@ ghost use Rattle.std.specs.List.{AllByRecursion, AllZip};
 ghost use Rattle.sled_log.specs.Messages.{Chain};
 ghost use Rattle.sled_log.specs.Pages.{IsPageState};
 ghost use Rattle.sled_pagecache.specs.Limits.{most_pages};
-ghost use Rattle.sled_pagecache.specs.Loading.{IsLoaded, IsUnread};
-ghost use Rattle.sled_pagecache.specs.Pages.{free_ids};
-ghost use Rattle.sled_pagecache.specs.Recovered.{IsRecovered, info_at, is_misfit, AllFit, BeginsMisfit};
+ghost use Rattle.sled_pagecache.specs.Inside.Loading.{IsLoaded, IsUnread};
+ghost use Rattle.sled_pagecache.specs.Inside.PageEntry.{free_ids};
+ghost use Rattle.sled_pagecache.specs.Inside.Recovery.{IsRecovered, info_at, is_misfit, AllFit, BeginsMisfit};
 
 use super::free::FreeIds;
 use super::page::{CacheInfo, Kept, Page};

@@ -9,11 +9,11 @@ ghost use Rattle.sled_node.specs.Limits.{bytes_limit};
 ghost use Rattle.sled_node.specs.Meta.{CanChange, HasRoom, changed_roots};
 ghost use Rattle.sled_node.specs.Payloads.Roots.{written_roots};
 ghost use Rattle.sled_node.specs.Pairs.{IsWithinLimit};
-ghost use Rattle.sled_pagecache.specs.Appends.{Puts};
+ghost use Rattle.sled_pagecache.specs.Inside.Appends.{Puts};
 ghost use Rattle.sled_pagecache.specs.Limits.{meta_pid};
-ghost use Rattle.sled_pagecache.specs.RootSwaps.{FindsRoots, JudgesRoot, KeepsRoots, WritesMap};
-ghost use Rattle.sled_pagecache.specs.Swaps.{roots_in};
-ghost use Rattle.sled_pagecache.specs.Table.{IsRoots};
+ghost use Rattle.sled_pagecache.specs.Inside.RootWrites.{FindsRoots, JudgesRoot, KeepsRoots, WritesMap};
+ghost use Rattle.sled_pagecache.specs.Inside.PageWrites.{roots_in};
+ghost use Rattle.sled_pagecache.specs.Inside.Invariant.{IsRoots};
 ghost use Rattle.sled_pagecache.specs.declared.pagecache.page.Kept.TheVariants as kept;
 
 use super::META_PID;

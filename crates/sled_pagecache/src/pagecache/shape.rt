@@ -1,7 +1,7 @@
 //! The shape of a cache: what one knows of it who doesn't know the contents of its pages.
 
 ghost use Rattle.std.specs.Prelude.{◌≡◌};
-ghost use Rattle.sled_pagecache.specs.Shapes.{kind_of_kept};
+ghost use Rattle.sled_pagecache.specs.Inside.Shapes.{kind_of_kept};
 
 use super::page::Kept;
 use std::marker::Model;

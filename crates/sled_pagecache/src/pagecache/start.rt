@@ -2,20 +2,20 @@
 
 ghost use Rattle.std.specs.Prelude.{◌≡◌, ◌<◌, ◌≤◌, ℕ, [], List, false, true, length, map, slice_get, IfOk, IfErr, IfSome, OnOk};
 ghost use Rattle.sled_base.specs.Errors.{error_of};
-ghost use Rattle.sled_log.specs.Batches.{is_open};
+ghost use Rattle.sled_log.specs.Events.{is_open};
 ghost use Rattle.sled_log.specs.Contents.{Content};
-ghost use Rattle.sled_log.specs.Messages.{effect_of_entry, unplaced};
+ghost use Rattle.sled_log.specs.Messages.{effect_of_entry, messages_of};
 ghost use Rattle.sled_log.specs.Reading.{Hold};
 ghost use Rattle.sled_log.specs.LogState.{now};
-ghost use Rattle.sled_pagecache.specs.Counted.{IsCounted};
-ghost use Rattle.sled_pagecache.specs.StickyLog.{IsOfLog};
-ghost use Rattle.sled_pagecache.specs.Loading.{AreRecovered, AreRead, IsTable, IsUnread, IsOpenedWith, RefusesPages, next_id, events_at_start, stamps_at_start};
-ghost use Rattle.sled_pagecache.specs.Proceeding.{Proceeds, refusal_in};
-ghost use Rattle.sled_pagecache.specs.Starting.{Starts};
-ghost use Rattle.sled_pagecache.specs.Reads.{HasRead, own_among};
-ghost use Rattle.sled_pagecache.specs.Recovered.{AllFit};
-ghost use Rattle.sled_pagecache.specs.Starts.{RefusesOpening};
-ghost use Rattle.sled_pagecache.specs.Table.{IsConsistent, stamps_in};
+ghost use Rattle.sled_pagecache.specs.Inside.Invariant.{IsCounted};
+ghost use Rattle.sled_pagecache.specs.Inside.StickyLog.{IsOfLog};
+ghost use Rattle.sled_pagecache.specs.Inside.Loading.{AreRecovered, AreRead, IsTable, IsUnread, IsOpenedWith, RefusesPages, next_id, events_at_start, stamps_at_start};
+ghost use Rattle.sled_pagecache.specs.Inside.LogCalls.{Proceeds, refusal_in};
+ghost use Rattle.sled_pagecache.specs.Inside.SystemPages.{Starts};
+ghost use Rattle.sled_pagecache.specs.Memory.{HasRead, own_among};
+ghost use Rattle.sled_pagecache.specs.Inside.Recovery.{AllFit};
+ghost use Rattle.sled_pagecache.specs.Opening.{RefusesOpening};
+ghost use Rattle.sled_pagecache.specs.Inside.Invariant.{IsConsistent, stamps_in};
 
 use super::config::Config;
 use super::free::FreeIds;
@@ -52,7 +52,7 @@ pub(super) fn open<L: Log>(
     ensures proceeds { Starts L.Log sticky_log.old sticky_log.new (refusal_in result) }
     ensures refused { L.tells → IfErr result (λ refusal. RefusesOpening config (now effect_of_entry (L.state sticky_log.old.log)) (error_of refusal)) }
     ensures consistent { IfOk result (λ opening. IsConsistent L.tells L.state sticky_log.new opening.pages.pages opening.free.ids.keys) }
-    ensures opened { L.tells → IfOk result (λ opening. (held : List Content) → Hold (map unplaced (now effect_of_entry (L.state sticky_log.old.log))) held → IsOpenedWith config held (stamps_in opening.pages.pages) opening.next opening.recovered) }
+    ensures opened { L.tells → IfOk result (λ opening. (held : List Content) → Hold (map messages_of (now effect_of_entry (L.state sticky_log.old.log))) held → IsOpenedWith config held (stamps_in opening.pages.pages) opening.next opening.recovered) }
     ensures counted { IfOk result (λ opening. IsCounted L.tells L.state config.idgen_persist_interval opening.next sticky_log.new opening.pages.pages) }
     ensures stable { L.tells → OnOk result (length (now effect_of_entry (L.state sticky_log.old.log)) < 2 → (L.state sticky_log.new.log).pending ≡ []) }
     ensures unread { IfOk result (λ opening. (pid : ℕ) → 2 ≤ pid → IfSome (slice_get opening.pages.pages pid) (λ page. IsUnread page.kept)) }
@@ -101,7 +101,7 @@ fn complete<L: Log>(
     ensures proceeds { Proceeds L.Log sticky_log.old sticky_log.new (events_at_start pages.pages) (refusal_in result) }
     ensures of_log { L.tells → IfErr result IsOfLog }
     ensures consistent { IfOk result (λ opening. IsConsistent L.tells L.state sticky_log.new opening.pages.pages opening.free.ids.keys) }
-    ensures opened { L.tells → IfOk result (λ opening. (held : List Content) → Hold (map unplaced (now effect_of_entry (L.state sticky_log.old.log))) held → IsOpenedWith config held (stamps_in opening.pages.pages) opening.next opening.recovered) }
+    ensures opened { L.tells → IfOk result (λ opening. (held : List Content) → Hold (map messages_of (now effect_of_entry (L.state sticky_log.old.log))) held → IsOpenedWith config held (stamps_in opening.pages.pages) opening.next opening.recovered) }
     ensures counted { IfOk result (λ opening. IsCounted L.tells L.state config.idgen_persist_interval opening.next sticky_log.new opening.pages.pages) }
     ensures stable { OnOk result (length pages.pages < 2 → (L.state sticky_log.new.log).pending ≡ []) }
     ensures unread { IfOk result (λ opening. (pid : ℕ) → 2 ≤ pid → IfSome (slice_get opening.pages.pages pid) (λ page. IsUnread page.kept)) }

@@ -4,16 +4,16 @@ ghost use Rattle.std.specs.Prelude.{◌≡◌, ℕ, ◌+◌, ◌<◌, ◌^◌, �
 ghost use Rattle.std.specs.List.{All, AllByRecursion, AllZip, Any};
 ghost use Rattle.sled_base.specs.declared.types.Device.TheVariants.{Write};
 ghost use Rattle.sled_base.specs.declared.types.Refusal.TheVariants.{Io};
-ghost use Rattle.sled_log.specs.Batches.{is_open};
+ghost use Rattle.sled_log.specs.Events.{is_open};
 ghost use Rattle.sled_log.specs.Calls.{can_append, one_more};
 ghost use Rattle.sled_log.specs.Calls.{is_write_fault as log_met_fault};
 ghost use Rattle.sled_log.specs.Chains.{chains_from, is_chain};
 ghost use Rattle.sled_log.specs.Events.{Change, Pin};
 ghost use Rattle.sled_log.specs.Limits.{head_size, size_limit};
-ghost use Rattle.sled_log.specs.Messages.{effect_of_entry, message, placed};
+ghost use Rattle.sled_log.specs.Messages.{effect_of_entry, message, placed_entry};
 ghost use Rattle.sled_log.specs.Pages.{IsAt, IsPageState, IsRead, IsSized};
 ghost use Rattle.sled_log.specs.LogState.{now};
-ghost use Rattle.sled_pagecache.specs.StickyLog.{Went, IsCaused, IsOfLog, begun_by, cache_answer, mark_of};
+ghost use Rattle.sled_pagecache.specs.Inside.StickyLog.{Went, IsCaused, IsOfLog, begun_by, cache_answer, mark_of};
 
 use sled_base::{DiskPtr, Lsn, MessageKind, PageId, PageState, Refusal};
 use sled_log::{Log, LogError};
@@ -48,7 +48,7 @@ impl<L: Log> StickyLog<L> {
         ensures cause { IsCaused L.Log self.old self.new (L.is_full self.old.log (length payload.now)) result }
         ensures sound { L.tells → IfErr result IsOfLog }
         ensures reads { (L.counts self.new.log).reads ≡ (L.counts self.old.log).reads }
-        ensures chains { L.tells → IfOk result (λ said. now effect_of_entry (L.state self.new.log) ≡ chains_from effect_of_entry (now effect_of_entry (L.state self.old.log)) (Change pid (placed (message kind payload.now) said))) }
+        ensures chains { L.tells → IfOk result (λ said. now effect_of_entry (L.state self.new.log) ≡ chains_from effect_of_entry (now effect_of_entry (L.state self.old.log)) (Change pid (placed_entry (message kind payload.now) said))) }
         ensures same { L.tells → OnErr result (self.new.fault ≡ false → now effect_of_entry (L.state self.new.log) ≡ now effect_of_entry (L.state self.old.log)) }
         ensures size { IfOk result (λ said. (said.2 ≡ head_size + length payload.now) × (said.2 < size_limit)) }
         ensures sized { L.tells → OnOk result (AllByRecursion IsSized (now effect_of_entry (L.state self.new.log))) }

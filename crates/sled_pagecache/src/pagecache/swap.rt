@@ -13,18 +13,20 @@ ghost use Rattle.sled_log.specs.Messages.{effect_of_entry};
 ghost use Rattle.sled_log.specs.Pages.{IsSized};
 ghost use Rattle.sled_log.specs.Reading.{IsUpdate};
 ghost use Rattle.sled_log.specs.LogState.{now};
-ghost use Rattle.sled_log.specs.Writing.{message_of};
+ghost use Rattle.sled_log.specs.Reading.{message_of};
 ghost use Rattle.sled_node.specs.Links.{Accepts, applied};
 ghost use Rattle.sled_node.specs.Payloads.Links.{CanWriteLink};
-ghost use Rattle.sled_pagecache.specs.Appends.{Puts};
-ghost use Rattle.sled_pagecache.specs.Accesses.{WasAccessed, IsTouched, capped};
-ghost use Rattle.sled_pagecache.specs.ChainReads.{chain_at};
-ghost use Rattle.sled_pagecache.specs.StickyLog.{Went, IsCaused, IsOfLog, begun_by};
+ghost use Rattle.sled_pagecache.specs.Inside.Appends.{Puts};
+ghost use Rattle.sled_pagecache.specs.Inside.PageEntry.{WasAccessed, IsTouched, capped_size};
+ghost use Rattle.sled_pagecache.specs.Cache.{chain_at};
+ghost use Rattle.sled_pagecache.specs.Inside.StickyLog.{Went, IsCaused, IsOfLog, begun_by};
 ghost use Rattle.sled_pagecache.specs.Limits.{most_messages};
-ghost use Rattle.sled_pagecache.specs.Pages.{IsKept, is_free, access_size, size_linked};
-ghost use Rattle.sled_pagecache.specs.Swaps.{CanPut, content_of, IsRaised, IsLinked, RefusesSwap, RefusesLink, Wrote, linked_length, update_of};
-ghost use Rattle.sled_pagecache.specs.Changes.{link_update};
-ghost use Rattle.sled_pagecache.specs.Table.{IsFreeOrNode};
+ghost use Rattle.sled_pagecache.specs.Inside.PageEntry.{IsKept, access_size, size_after_link};
+ghost use Rattle.sled_pagecache.specs.Table.{is_free};
+ghost use Rattle.sled_pagecache.specs.Inside.PageWrites.{CanPut, content_of, IsRaised, IsLinked, RefusesSwap, RefusesLink, Wrote, update_of};
+ghost use Rattle.sled_pagecache.specs.Answers.{linked_length};
+ghost use Rattle.sled_pagecache.specs.Step.{link_update};
+ghost use Rattle.sled_pagecache.specs.Inside.Invariant.{IsFreeOrNode};
 ghost use Rattle.sled_pagecache.specs.declared.pagecache.page.Kept.TheVariants as kept;
 
 use super::PAGE_CONSOLIDATION_THRESHOLD;
@@ -250,7 +252,7 @@ fn access_linked(
     infos: &[CacheInfo],
     payload: u64,
 ) -> Result<(), Refusal>
-    ensures accessed { OnOk result (WasAccessed accesses.old pid (capped (size_linked infos.now payload)) accesses.new) }
+    ensures accessed { OnOk result (WasAccessed accesses.old pid (capped_size (size_after_link infos.now payload)) accesses.new) }
     ensures err { OnErr result (accesses.new ≡ accesses.old) }
 {
     if infos.len() < PAGE_CONSOLIDATION_THRESHOLD {

@@ -3,8 +3,9 @@
 ghost use Rattle.std.specs.Prelude.{◌≡◌, ⊤, false, IfErr};
 ghost use Rattle.sled_pagecache.specs.Answers.{HasNoName};
 ghost use Rattle.sled_pagecache.specs.Memory.{IsBounded};
-ghost use Rattle.sled_pagecache.specs.Reads.{ReadsNothing};
-ghost use Rattle.sled_pagecache.specs.Trees.{IsTreeOpened, KeepsFault, Looks, GoesOn, MakesTree, PutsIndex, NamesRoot};
+ghost use Rattle.sled_pagecache.specs.Memory.{ReadsNothing};
+ghost use Rattle.sled_pagecache.specs.Trees.{IsTreeOpened, KeepsFault, MakesTree, PutsIndex, NamesRoot};
+ghost use Rattle.sled_pagecache.specs.Inside.Trees.{Looks, GoesOn};
 
 use super::cache::PageCache;
 use super::roots::judge_name;

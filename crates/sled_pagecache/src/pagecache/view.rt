@@ -1,7 +1,7 @@
 //! What the cache hands out: tokens, and what it lends, nodes and the map of named roots.
 
 ghost use Rattle.std.specs.Prelude.{◌≡◌};
-ghost use Rattle.sled_pagecache.specs.Token.{token, pid_of, stamp_of};
+ghost use Rattle.sled_pagecache.specs.State.{token, pid_of, stamp_of};
 
 use sled_base::PageId;
 use sled_node::{Meta, Node};

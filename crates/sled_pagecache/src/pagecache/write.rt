@@ -5,10 +5,10 @@ ghost use Rattle.sled_log.specs.Calls.{can_append};
 ghost use Rattle.sled_log.specs.Contents as contents;
 ghost use Rattle.sled_log.specs.Messages.{effect_of_entry, message};
 ghost use Rattle.sled_log.specs.LogState.{now};
-ghost use Rattle.sled_log.specs.Writing.{message_of};
+ghost use Rattle.sled_log.specs.Reading.{message_of};
 ghost use Rattle.sled_node.specs.Meta.{IsRootMap};
 ghost use Rattle.sled_node.specs.Payloads.Links.{CanWriteLink};
-ghost use Rattle.sled_pagecache.specs.Swaps.{CanPut, WritesMessage, Wrote, content_of};
+ghost use Rattle.sled_pagecache.specs.Inside.PageWrites.{CanPut, WritesMessage, Wrote, content_of};
 
 use super::page::{CacheInfo, Kept};
 use super::sticky_log::StickyLog;

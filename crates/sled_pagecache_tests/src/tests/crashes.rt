@@ -1,11 +1,11 @@
 // Crashes of caches over the log in memory, and a caller of the law on them.
 
 ghost use Rattle.std.specs.Prelude.{◌≡◌, false, IfOk, IfSome};
-ghost use Rattle.sled_log.specs.Batches.{IsFair};
-ghost use Rattle.sled_log.specs.Memory.{state_of};
+ghost use Rattle.sled_log.specs.Events.{IsFair};
+ghost use Rattle.sled_log.specs.MemLog.State.{state_of};
 ghost use Rattle.sled_log.specs.contracts.memory.calls.MemLogLog.TheImpl as mem;
 ghost use Rattle.sled_log.specs.declared.memory.MemLog.{MemLog};
-ghost use Rattle.sled_pagecache.specs.Cache.{Cache as CacheModel, IsIn};
+ghost use Rattle.sled_pagecache.specs.Cache.{Cache as CacheModel, Represents};
 ghost use Rattle.sled_pagecache.specs.Calls.{StepOver, Steps};
 ghost use Rattle.sled_pagecache.specs.Logged.{Logged};
 ghost use Rattle.sled_pagecache.specs.Openings.{Crashed, Leaves};
@@ -42,7 +42,7 @@ pub(super) fn reopen(
     n: usize,
 ) -> Result<PageCache<MemLog>, (Error, MemLog)>
     requires { IsFair (state_of log).pending n }
-    ensures { (old new : CacheModel MemLog) (call : Call) (answer : Answer) (held : Logged) (s : State) → new.log ≡ log → Steps mem.ghosts old call answer new → IsIn mem.ghosts old held s → s.fault ≡ false → (out : Outcome) × StepOver mem.ghosts old s call answer out × IfOk result (Reopens mem.ghosts held out.changes config) }
+    ensures { (old new : CacheModel MemLog) (call : Call) (answer : Answer) (held : Logged) (s : State) → new.log ≡ log → Steps mem.ghosts old call answer new → Represents mem.ghosts old held s → s.fault ≡ false → (out : Outcome) × StepOver mem.ghosts old s call answer out × IfOk result (Reopens mem.ghosts held out.changes config) }
 {
     a_crash_reopens_to_a_prefix::<MemLog>();
     PageCache::start(alloc, config, log.stop(n))

@@ -4,10 +4,10 @@ ghost use Rattle.std.specs.Prelude.{◌≡◌, ◌≤◌, ◌-◌, List, Ok, OnO
 ghost use Rattle.sled_disk.specs.declared.disk.memory.MemDisk.{MemDisk};
 ghost use Rattle.sled_disk.specs.declared.log.DiskLog.{DiskLog};
 ghost use Rattle.sled_pagecache.specs.Cache.{Cache as CacheModel};
-ghost use Rattle.sled_pagecache.specs.Crashes.{IsFlushed, ReopensAfter, HasFlushed};
+ghost use Rattle.sled_pagecache.specs.Reopening.{IsFlushed, ReopensAfter, HasFlushed};
 ghost use Rattle.sled_pagecache.specs.Rows.{StepInRow};
 ghost use Rattle.sled_pagecache.specs.State.{State};
-ghost use Rattle.sled_pagecache.specs.Token.{pid_of};
+ghost use Rattle.sled_pagecache.specs.State.{pid_of};
 ghost use Rattle.sled_pagecache.specs.declared.pagecache.call.Answer.{Answer};
 ghost use Rattle.sled_pagecache.specs.declared.pagecache.call.Call.{Call};
 

@@ -1,7 +1,7 @@
 // What a caller knows of a cache over any log, of which nothing else is known.
 
 ghost use Rattle.std.specs.Prelude.{◌≡◌, None, IfOk, IfErr, IfSome};
-ghost use Rattle.sled_pagecache.specs.Token.{pid_of};
+ghost use Rattle.sled_pagecache.specs.State.{pid_of};
 
 use super::*;
 

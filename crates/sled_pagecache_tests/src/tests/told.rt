@@ -1,7 +1,7 @@
 // Caches over a log whose device tells nothing of its bytes: it gives the pages and the messages that it was told to give.
 
 ghost use Rattle.std.specs.Prelude.{⊤, ◌≡◌, ℕ, [], pos, false, true};
-ghost use Rattle.sled_log.specs.Marks.{marks};
+ghost use Rattle.sled_log.specs.Inside.Marks.{marks};
 
 use super::failing::one_more;
 use super::*;

@@ -4,7 +4,7 @@ ghost use Rattle.std.specs.Prelude.{◌≡◌, ◌++◌, ◌∷◌, [], true, fa
 ghost use Rattle.sled_base.specs.Order.{Bytes};
 ghost use Rattle.sled_pagecache.specs.Batches.{OpensBatch};
 ghost use Rattle.sled_pagecache.specs.Cache.{Cache};
-ghost use Rattle.sled_pagecache.specs.Guard.{lent};
+ghost use Rattle.sled_pagecache.specs.Batches.{cache_lent};
 ghost use Rattle.sled_pagecache.specs.Rows.{IsMade};
 ghost use Rattle.sledpc.specs.Output.{Gathers};
 ghost use Rattle.sledpc.specs.Replies.{reply_of_mark};
@@ -81,9 +81,9 @@ fn serve_inside<L: Log, R: BufRead, W: Write>(
 
 // Closes the batch by a mark that does.
 fn close<L: Log>(guard: RecoveryGuard<'_, L>, mark: Mark) -> Result<(), Error>
-    requires open { (lent guard).now.batch ≡ true }
-    requires closing { Turns (lent guard).now.batch mark }
-    ensures made { IsMade L.Log (lent guard.entry).now (call_of_mark mark result).0
+    requires open { (cache_lent guard).now.batch ≡ true }
+    requires closing { Turns (cache_lent guard).now.batch mark }
+    ensures made { IsMade L.Log (cache_lent guard.entry).now (call_of_mark mark result).0
         (call_of_mark mark result).1 guard.exit.0.now }
     ensures batch { guard.exit.0.now.batch ≡ false }
 {

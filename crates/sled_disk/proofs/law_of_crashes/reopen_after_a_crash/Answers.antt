@@ -3,7 +3,7 @@ use Rattle.std.specs.Prelude.{IfOk, IfErr, min}
 use Rattle.sled_log.specs.Chains.{chains_after}
 use Rattle.sled_log.specs.Events.{Event}
 use Rattle.sled_log.specs.LogState.{LogState}
-use Rattle.sled_log.specs.Messages.{Entry, unplaced, effect_of_entry}
+use Rattle.sled_log.specs.Messages.{Entry, messages_of, effect_of_entry}
 use Rattle.sled_disk.specs.declared.disk.memory.MemDisk.{MemDisk}
 use Rattle.sled_disk.specs.DiskMemory.{bytes_of, clock_of, might_have_left}
 use Rattle.sled_disk.specs.DurableLaws.{one-meaning}
@@ -25,7 +25,7 @@ returns-clause-left c =
     (λ new opened. (
       bytes,
       left,
-      λ events other. ap (λ (state : LogState Entry). map unplaced state.stable) opened.2 ∙ ap (λ (l : List (Event Entry)). map unplaced (chains_after effect_of_entry [] l)) (one-meaning bytes opened.0 events opened.1 other),
+      λ events other. ap (λ (state : LogState Entry). map messages_of state.stable) opened.2 ∙ ap (λ (l : List (Event Entry)). map messages_of (chains_after effect_of_entry [] l)) (one-meaning bytes opened.0 events opened.1 other),
     ))
     (c.open.ensures.opened tt)
 

@@ -1,4 +1,4 @@
-use Rattle.sled_log.specs.ContentLaws.{chains-contents}
+use Rattle.sled_log.specs.Inside.ContentLaws.{chains-contents}
 use Rattle.sled_log.proofs.laws.chains_fold_to_contents.Goals as goal
 
 pub returns : goal.returns

@@ -1,4 +1,4 @@
-use Rattle.sled_log.specs.WritingLaws.{written-update}
+use Rattle.sled_log.specs.Inside.WritingLaws.{written-update}
 use Rattle.sled_log.proofs.laws.what_was_written_is_read.Goals as goal
 
 pub returns : goal.returns

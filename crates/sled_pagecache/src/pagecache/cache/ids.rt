@@ -3,11 +3,11 @@
 ghost use Rattle.std.specs.Prelude.{◌≡◌, false, slice_get, IfOk, IfErr, IsOk, Some, ◌+◌};
 ghost use Rattle.sled_pagecache.specs.Answers.{HasNoName, Keeps};
 ghost use Rattle.sled_pagecache.specs.Calls.{Steps, IsBlamed};
-ghost use Rattle.sled_pagecache.specs.Ids.{GivesId, IsCovered};
+ghost use Rattle.sled_pagecache.specs.Answers.{GivesId, IsCovered};
 ghost use Rattle.sled_pagecache.specs.Limits.{counter_pid};
-ghost use Rattle.sled_pagecache.specs.Memory.{IsBounded, LeavesMemory};
-ghost use Rattle.sled_pagecache.specs.Reads.{ReadsNothing};
-ghost use Rattle.sled_pagecache.specs.Token.{pid_of, stamp_of};
+ghost use Rattle.sled_pagecache.specs.Memory.{IsBounded, EvictsAtMost};
+ghost use Rattle.sled_pagecache.specs.Memory.{ReadsNothing};
+ghost use Rattle.sled_pagecache.specs.State.{pid_of, stamp_of};
 ghost use Rattle.sled_pagecache.specs.declared.pagecache.call.Answer.TheVariants.{GotIdgen, Generated};
 ghost use Rattle.sled_pagecache.specs.declared.pagecache.call.Call.TheVariants.{GetIdgen, GenerateId};
 
@@ -55,7 +55,7 @@ impl<L: Log> PageCache<L> {
         ensures unread { ReadsNothing L.Log self.old self.new }
         ensures bounded { IsBounded L.Log self.new }
         ensures gives { IfOk result (λ _. GivesId L.Log self.old self.new) }
-        ensures leaves { IfErr result (LeavesMemory self.old counter_pid self.new L.tells) }
+        ensures leaves { IfErr result (EvictsAtMost self.old counter_pid self.new L.tells) }
         ensures unnamed { IfErr result HasNoName }
     {
         if self.sticky_log.fault {

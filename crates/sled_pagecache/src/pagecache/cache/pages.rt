@@ -7,18 +7,19 @@ ghost use Rattle.sled_base.specs.declared.types.Error.TheVariants.{Unsupported, 
 ghost use Rattle.sled_base.specs.declared.types.Refusal.TheVariants as refusal;
 ghost use Rattle.sled_base.specs.declared.types.Why.{Why};
 ghost use Rattle.sled_log.specs.LogState.{now};
-ghost use Rattle.sled_pagecache.specs.Answers.{HasNoName, Keeps, stamped, swapped};
+ghost use Rattle.sled_pagecache.specs.Answers.{HasNoName, Keeps, stamps_with, stamps_after_swap};
 ghost use Rattle.sled_pagecache.specs.Cache.{IsResident, IsAway, chain_length};
 ghost use Rattle.sled_pagecache.specs.Calls.{Steps, IsBlamed};
 ghost use Rattle.sled_pagecache.specs.Damage.{MeetsDamage, ReportsDamage};
-ghost use Rattle.sled_pagecache.specs.LinkTests.{TestsFirst};
-ghost use Rattle.sled_pagecache.specs.Lending.{IsGot, OnceGivenBack};
-ghost use Rattle.sled_pagecache.specs.Memory.{HasNode, HasNoNode, IsBounded, KeepsMemory, AccessesPage, FindsPage, LeavesMemory, LeavesNodes};
-ghost use Rattle.sled_pagecache.specs.PagesIn.{BringsIn, IsNodeAt};
-ghost use Rattle.sled_pagecache.specs.Reads.{ReadsNothing, ReadsPage};
+ghost use Rattle.sled_pagecache.specs.Answers.{TestsFirst};
+ghost use Rattle.sled_pagecache.specs.Lending.{IsGot, AfterLoan};
+ghost use Rattle.sled_pagecache.specs.Memory.{HasNode, HasNoNode, IsBounded, KeepsMemory, AccessesPage, EvictsAtMost, LeavesNodes};
+ghost use Rattle.sled_pagecache.specs.Inside.RecentUse.{FindsPage};
+ghost use Rattle.sled_pagecache.specs.Inside.PageIn.{BringsIn, IsNodeAt};
+ghost use Rattle.sled_pagecache.specs.Memory.{ReadsNothing, ReadsPage};
 ghost use Rattle.sled_pagecache.specs.Step.{is_reserved};
-ghost use Rattle.sled_pagecache.specs.Swaps.{linked_length};
-ghost use Rattle.sled_pagecache.specs.Token.{pid_of, stamp_of, IsAnswered};
+ghost use Rattle.sled_pagecache.specs.Answers.{linked_length};
+ghost use Rattle.sled_pagecache.specs.State.{pid_of, stamp_of, IsAnswered};
 ghost use Rattle.sled_pagecache.specs.declared.pagecache.call.Answer.TheVariants.{Allocated, Linked, Replaced, Freed};
 ghost use Rattle.sled_pagecache.specs.declared.pagecache.call.Call.TheVariants.{Allocate};
 ghost use Rattle.sled_pagecache.specs.declared.pagecache.call.Call.TheVariants as call;
@@ -46,7 +47,7 @@ impl<L: Log> PageCache<L> {
         ensures step { Steps L.Log self.old (Allocate node) (Allocated result) self.new }
         ensures blame { IsBlamed L.Log self.old self.new result }
         ensures unread { ReadsNothing L.Log self.old self.new }
-        ensures keeps { Keeps self.old self.new result (λ made. stamped self.old.stamps made.1) }
+        ensures keeps { Keeps self.old self.new result (λ made. stamps_with self.old.stamps made.1) }
         ensures token { IfOk result (λ made. (pid_of made.1 ≡ made.0)
             × (slice_get self.new.stamps made.0 ≡ Some (stamp_of made.1))) }
         ensures resident { IfOk result (λ made. IsResident self.new made.0) }
@@ -93,7 +94,7 @@ impl<L: Log> PageCache<L> {
     /// `ReservedId` comes for the cache's own pages, and `Corruption` where the messages of the page make no node, with the pointer
     /// of the first wrong one. These, `Io` and `OutOfMemory` leave every page unchanged.
     pub fn get(&mut self, pid: PageId) -> Result<Option<NodeView<'_>>, Refusal>
-        ensures* got { sem 𝓛 (OnceGivenBack L.row L.Log self.entry (IsGot L.Log self.entry.now pid result)) }
+        ensures* got { sem 𝓛 (AfterLoan L.row L.Log self.entry (IsGot L.Log self.entry.now pid result)) }
     {
         self.page_in(pid)?;
         let found = self.node_at(pid);
@@ -119,7 +120,7 @@ impl<L: Log> PageCache<L> {
         ensures tested { TestsFirst L.Log self.old old link result }
         ensures step { Steps L.Log self.old (call.Link old link) (Linked result) self.new }
         ensures blame { IsBlamed L.Log self.old self.new result }
-        ensures keeps { Keeps self.old self.new result (swapped self.old.stamps) }
+        ensures keeps { Keeps self.old self.new result (stamps_after_swap self.old.stamps) }
         ensures token { IfOk result (IsAnswered self.old.stamps old link) }
         ensures damaged { MeetsDamage L.Log self.old pid → slice_get self.old.stamps pid
             ≡ Some (stamp_of old) → ReportsDamage L.Log self.old pid result self.new }
@@ -134,7 +135,7 @@ impl<L: Log> PageCache<L> {
         ensures accesses { IfOk result
             (λ swapped. OnOk swapped (AccessesPage self.old pid self.new)) }
         ensures same { IfOk result (λ swapped. OnErr swapped (KeepsMemory self.old self.new)) }
-        ensures leaves { IfErr result (LeavesMemory self.old pid self.new L.tells) }
+        ensures leaves { IfErr result (EvictsAtMost self.old pid self.new L.tells) }
         ensures unnamed { IfErr result HasNoName }
     {
         match judge(self.sticky_log.fault, &self.pages, pid, old) {
@@ -173,7 +174,7 @@ impl<L: Log> PageCache<L> {
         requires { pid_of old ≡ pid }
         ensures step { Steps L.Log self.old (call.Replace old node) (Replaced result) self.new }
         ensures blame { IsBlamed L.Log self.old self.new result }
-        ensures keeps { Keeps self.old self.new result (swapped self.old.stamps) }
+        ensures keeps { Keeps self.old self.new result (stamps_after_swap self.old.stamps) }
         ensures token { IfOk result (IsAnswered self.old.stamps old node) }
         ensures unread { ReadsNothing L.Log self.old self.new }
         ensures length { L.tells
@@ -183,7 +184,7 @@ impl<L: Log> PageCache<L> {
         ensures accesses { IfOk result
             (λ swapped. OnOk swapped (AccessesPage self.old pid self.new)) }
         ensures same { IfOk result (λ swapped. OnErr swapped (KeepsMemory self.old self.new)) }
-        ensures leaves { IfErr result (LeavesMemory self.old pid self.new L.tells) }
+        ensures leaves { IfErr result (EvictsAtMost self.old pid self.new L.tells) }
         ensures unnamed { IfErr result HasNoName }
     {
         match judge(self.sticky_log.fault, &self.pages, pid, old) {
@@ -221,7 +222,7 @@ impl<L: Log> PageCache<L> {
         requires { pid_of old ≡ pid }
         ensures step { Steps L.Log self.old (call.Free old) (Freed result) self.new }
         ensures blame { IsBlamed L.Log self.old self.new result }
-        ensures keeps { Keeps self.old self.new result (swapped self.old.stamps) }
+        ensures keeps { Keeps self.old self.new result (stamps_after_swap self.old.stamps) }
         ensures token { IfOk result (IsAnswered self.old.stamps old tt) }
         ensures unread { ReadsNothing L.Log self.old self.new }
         ensures length { L.tells
@@ -232,7 +233,7 @@ impl<L: Log> PageCache<L> {
         ensures accesses { IfOk result
             (λ swapped. OnOk swapped (AccessesPage self.old pid self.new)) }
         ensures same { IfOk result (λ swapped. OnErr swapped (KeepsMemory self.old self.new)) }
-        ensures leaves { IfErr result (LeavesMemory self.old pid self.new L.tells) }
+        ensures leaves { IfErr result (EvictsAtMost self.old pid self.new L.tells) }
         ensures unnamed { IfErr result HasNoName }
     {
         match judge(self.sticky_log.fault, &self.pages, pid, old) {

@@ -1,12 +1,12 @@
 //! The named roots of a cache: which page is the root of each named tree.
 
 ghost use Rattle.std.specs.Prelude.{◌≡◌, false, slice_get, IfOk, IfErr, IsOk, OnOk, OnErr, Some};
-ghost use Rattle.sled_pagecache.specs.Answers.{HasNoName, NamesOnly, Keeps, root_swapped};
+ghost use Rattle.sled_pagecache.specs.Answers.{HasNoName, NamesOnly, Keeps, stamps_after_root_swap};
 ghost use Rattle.sled_pagecache.specs.Calls.{Steps, IsBlamed};
-ghost use Rattle.sled_pagecache.specs.Lending.{told_meta};
+ghost use Rattle.sled_pagecache.specs.Lending.{lent_meta};
 ghost use Rattle.sled_pagecache.specs.Limits.{meta_pid};
-ghost use Rattle.sled_pagecache.specs.Memory.{IsBounded, KeepsMemory, AccessesPage, LeavesMemory};
-ghost use Rattle.sled_pagecache.specs.Reads.{ReadsNothing};
+ghost use Rattle.sled_pagecache.specs.Memory.{IsBounded, KeepsMemory, AccessesPage, EvictsAtMost};
+ghost use Rattle.sled_pagecache.specs.Memory.{ReadsNothing};
 ghost use Rattle.sled_pagecache.specs.declared.pagecache.call.Answer.TheVariants.{GotMeta, FoundRoot, RootSwapped};
 ghost use Rattle.sled_pagecache.specs.declared.pagecache.call.Call.TheVariants.{GetMeta, MetaPidForName, CasRoot};
 
@@ -21,8 +21,8 @@ use sled_log::Log;
 impl<L: Log> PageCache<L> {
     /// The map of named roots with the token of its page, lent. It lies in memory, so nothing is read and nothing allocated.
     pub fn get_meta(&self) -> Result<MetaView<'_>, Refusal>
-        ensures step { Steps L.Log self.now GetMeta (GotMeta (told_meta result)) self.now }
-        ensures keeps { Keeps self.now self.now (told_meta result) (λ _. self.now.stamps) }
+        ensures step { Steps L.Log self.now GetMeta (GotMeta (lent_meta result)) self.now }
+        ensures keeps { Keeps self.now self.now (lent_meta result) (λ _. self.now.stamps) }
         ensures token { IfOk result (λ view. (view.token.pid ≡ meta_pid)
             × (slice_get self.now.stamps meta_pid ≡ Some view.token.stamp)) }
         ensures always { self.now.fault ≡ false → IsOk result }
@@ -68,13 +68,13 @@ impl<L: Log> PageCache<L> {
         ensures step { Steps L.Log self.old (CasRoot name.now old new) (RootSwapped result)
             self.new }
         ensures blame { IsBlamed L.Log self.old self.new result }
-        ensures keeps { Keeps self.old self.new result (root_swapped self.old.stamps) }
+        ensures keeps { Keeps self.old self.new result (stamps_after_root_swap self.old.stamps) }
         ensures unread { ReadsNothing L.Log self.old self.new }
         ensures bounded { IsBounded L.Log self.new }
         ensures accesses { IfOk result
             (λ swapped. OnOk swapped (AccessesPage self.old meta_pid self.new)) }
         ensures same { IfOk result (λ swapped. OnErr swapped (KeepsMemory self.old self.new)) }
-        ensures leaves { IfErr result (LeavesMemory self.old meta_pid self.new L.tells) }
+        ensures leaves { IfErr result (EvictsAtMost self.old meta_pid self.new L.tells) }
         ensures unnamed { IfErr result HasNoName }
     {
         let view = own_roots(self.sticky_log.fault, &self.pages)?;

@@ -1,7 +1,8 @@
 //! The shape of a cache.
 
 ghost use Rattle.std.specs.Prelude.{◌≡◌, IfOk, map};
-ghost use Rattle.sled_pagecache.specs.Shapes.{Shows, shape_of_kept};
+ghost use Rattle.sled_pagecache.specs.Shapes.{Shows};
+ghost use Rattle.sled_pagecache.specs.Inside.Shapes.{shape_of_kept};
 
 use super::PageCache;
 use crate::pagecache::pagetable::PageTable;

@@ -1,7 +1,7 @@
 use Rattle.std.proofs.Common.{rules, Ok, Err}
 use Rattle.sled_base.specs.Errors.{error_of}
 use Rattle.sled_pagecache.specs.Batches.{OpensBatch}
-use Rattle.sled_pagecache.specs.RowLaws.{also-of}
+use Rattle.sled_pagecache.specs.Inside.SequenceLaws.{also-of}
 use Rattle.sled_shared.proofs.Batching.{BatchMade, batch-cancelled, batch-sealed, batch-unopened, batch-unsealed, ended-none}
 use Rattle.sled_shared.proofs.batch.swap_in_batch.Goals as goal
 

@@ -3,7 +3,7 @@
 ghost use Rattle.std.specs.Prelude.{◌≡◌, ◌≢◌, ℕ, Option, IfSome, IfNone};
 ghost use Rattle.std.specs.Option.{option_map};
 ghost use Rattle.sled_base.specs.Order.{Bytes};
-ghost use Rattle.sled_pagecache.specs.Token.{Token};
+ghost use Rattle.sled_pagecache.specs.State.{Token};
 ghost use Rattle.sledpc.specs.Asked.{AreTwo, BeginsWithToken, EncodeRoots};
 ghost use Rattle.sledpc.specs.Commands.{IsRootNumber, root_word};
 

@@ -1,4 +1,4 @@
-use Rattle.sled_log.proofs.Names.{◌≡◌, ◌+◌, ◌≤◌, ℕ, true, false, None, List, [], ◌∷◌, ◌++◌, length, take, drop, map, refl, sym, ◌∙◌, ap, subst, arith, le-leb, and_from, eq-eqb, false≢true, length-append, take-append-le, drop-append-le, map-append, sum_by-append, err_from_is_err_and, is_open, open_after, event_of, event_of_mark, size_of_mark, is_waiting, log_size, stands_at, is_placed, are_placed, state_at, IsInOrder, open_after-append, IsFair-none, effect_of_entry, Adds, Mark, LogItem, kept_in, state_of, never, are_within, kept_mark, kept_items, StoredItem}
+use Rattle.sled_log.proofs.Names.{◌≡◌, ◌+◌, ◌≤◌, ℕ, true, false, None, List, [], ◌∷◌, ◌++◌, length, take, drop, map, refl, sym, ◌∙◌, ap, subst, arith, le-leb, and_from, eq-eqb, false≢true, length-append, take-append-le, drop-append-le, map-append, sum_by-append, err_from_is_err_and, is_open, open_after, event_of, event_of_mark, size_of_mark, is_waiting, log_size, stands_at, is_placed, are_placed, state_at, IsInOrder, open_after-append, IsFair-none, effect_of_entry, Adds, Mark, LogItem, kept_in, state_of, no_moment, are_within, kept_mark, kept_items, StoredItem}
 use Rattle.sled_log.proofs.MemCalls.{batch-says, called_ok, called_memory}
 use Rattle.sled_log.proofs.Stored.{kept-add, within-push, stands-at}
 use Rattle.sled_log.proofs.Moments.{order-push, stable-push, pending-push, state_at-push}
@@ -69,7 +69,7 @@ returns-in_err-reserve-2-clause-called c =
 
 -- what is stored then, and what is kept
 abbrev added_item : After-push → StoredItem
-added_item c = record { mark = c.args.mark; end = c.args.self.now.size + c.size.result; payload_end = c.len.result + length c.args.payload.now; came = c.args.self.now.clock + 1; settled = never }
+added_item c = record { mark = c.args.mark; end = c.args.self.now.size + c.size.result; payload_end = c.len.result + length c.args.payload.now; came = c.args.self.now.clock + 1; settled = no_moment }
 
 pushed : (c : After-push) → c.push.new.items.items ≡ c.args.self.now.items.items ++ added_item c ∷ []
 pushed c = c.push.ensures.items ∙ ap (λ (l : List StoredItem). l ++ added_item c ∷ []) c.reserve.ensures.items

@@ -1,4 +1,4 @@
-use Rattle.sled_log.proofs.Names.{◌≡◌, ◌+◌, ℕ, List, length, take, drop, map, refl, sym, ◌∙◌, ap, subst, arith, true, false≢true, length-map, length-drop, take_all, drop_all, is_open, event_of, log_size, restarted, state_at, IsInOrder, are_placed, LogItem, kept_in, place_after, start_after, are_within, restarts, kept_items}
+use Rattle.sled_log.proofs.Names.{◌≡◌, ◌+◌, ℕ, List, length, take, drop, map, refl, sym, ◌∙◌, ap, subst, arith, true, false≢true, length-map, length-drop, take_all, drop_all, is_open, event_of, log_size, item_after_restart, state_at, IsInOrder, are_placed, LogItem, kept_in, place_after, start_after, are_within, restarts, kept_items}
 use Rattle.sled_log.proofs.Moments.{pending_events, size-restarted, log_size-restarted, left-stopped, order-restarted, pending-restarted, stable-restarted}
 use Rattle.sled_log.proofs.Places.{placed-take, placed-map}
 use Rattle.sled_log.proofs.Stored.{kept-length, kept-stopped, placed-after}
@@ -23,14 +23,14 @@ module _ (c : After-len-stable) where
   abbrev kept : List LogItem
   kept = kept_items c.args.self.blob_limit c.truncate.new.self.items c.keep_first.new.items.items
 
-  kept_is : kept ≡ map restarted (take (c.args.self.stable + c.args.n) (kept_in c.args.self))
+  kept_is : kept ≡ map item_after_restart (take (c.args.self.stable + c.args.n) (kept_in c.args.self))
   kept_is = let self = c.args.self in rw (c.keep_first.ensures, cut) (kept-stopped self.blob_limit self.bytes.items (self.stable + c.args.n) self.items.items self.within).0
 
   within : are_within 0 (length c.truncate.new.self.items) c.keep_first.new.items.items ≡ true
   within = let self = c.args.self in rw (c.keep_first.ensures, cut) (kept-stopped self.blob_limit self.bytes.items (self.stable + c.args.n) self.items.items self.within).1
 
   placed : are_placed 0 kept ≡ true
-  placed = let left : List LogItem = kept_in c.args.self in let n : ℕ = c.args.self.stable + c.args.n in ap (are_placed 0) kept_is ∙ placed-map restarted (λ x. (refl, refl)) 0 (take n left) (placed-take 0 n left c.args.self.placed)
+  placed = let left : List LogItem = kept_in c.args.self in let n : ℕ = c.args.self.stable + c.args.n in ap (are_placed 0) kept_is ∙ placed-map item_after_restart (λ x. (refl, refl)) 0 (take n left) (placed-take 0 n left c.args.self.placed)
 
   size_is : c.behind-size.result.0 ≡ log_size kept
   size_is = let behind = placed-after c.args.self.blob_limit c.truncate.new.self.items 0 0 c.keep_first.new.items.items placed in let e = c.behind-size.ensures.place ∙ ap (place_after 0) c.deref.ensures.value in omega arith

@@ -1,4 +1,4 @@
-use Rattle.sled_log.proofs.Names.{ℤ, ℕ, [], ◌∷◌, List, sym, ◌∙◌, ap, subst, arith, slice_index_or, on_ok_weaker, log_kind_of, DiskPtr, PageState, is_freeing, changed, chains_from, Change, effect_of_entry, IsPageState, zip-at}
+use Rattle.sled_log.proofs.Names.{ℤ, ℕ, [], ◌∷◌, List, sym, ◌∙◌, ap, subst, arith, slice_index_or, on_ok_weaker, log_kind_of, DiskPtr, PageState, is_freeing, chains_with_change, chains_from, Change, effect_of_entry, IsPageState, zip-at}
 use Rattle.sled_log.proofs.PageStates.{Shows, begun-shows, linked-shows, absent-shows}
 use Rattle.sled_log.proofs.memory.pages.apply.Goals as goal
 
@@ -8,7 +8,7 @@ returns-in-Free c =
     (λ is chains entry kind said h.
     let frees = c.in-Free.ensures ∙ ap log_kind_of (sym kind) in
     subst (λ (l : List PageState). Shows (chains_from effect_of_entry chains (Change c.args.pid entry)) l) (sym is)
-    (begun-shows _ chains c.args.pages.now.items c.args.pid entry _ (ap (λ k. changed effect_of_entry k chains c.args.pid entry) (sym frees)) h (rw c.freed.ensures (ap is_freeing (sym frees), ap (λ (s : ℤ × DiskPtr × ℕ). (s.0, s.1) ∷ []) said))))
+    (begun-shows _ chains c.args.pages.now.items c.args.pid entry _ (ap (λ k. chains_with_change effect_of_entry k chains c.args.pid entry) (sym frees)) h (rw c.freed.ensures (ap is_freeing (sym frees), ap (λ (s : ℤ × DiskPtr × ℕ). (s.0, s.1) ∷ []) said))))
     c.put.ensures
 
 pub returns-in-Replace : goal.returns-in-Replace
@@ -17,7 +17,7 @@ returns-in-Replace c =
     (λ is chains entry kind said h.
     let replaces = c.in-Replace.ensures ∙ ap log_kind_of (sym kind) in
     subst (λ (l : List PageState). Shows (chains_from effect_of_entry chains (Change c.args.pid entry)) l) (sym is)
-    (begun-shows _ chains c.args.pages.now.items c.args.pid entry _ (ap (λ k. changed effect_of_entry k chains c.args.pid entry) (sym replaces)) h (ap is_freeing (sym replaces), rw c.new.ensures.items (ap (λ (s : ℤ × DiskPtr × ℕ). s ∷ []) said))))
+    (begun-shows _ chains c.args.pages.now.items c.args.pid entry _ (ap (λ k. chains_with_change effect_of_entry k chains c.args.pid entry) (sym replaces)) h (ap is_freeing (sym replaces), rw c.new.ensures.items (ap (λ (s : ℤ × DiskPtr × ℕ). s ∷ []) said))))
     c.put-in-Replace.ensures
 
 pub returns-in_ok-link-in-Link : goal.returns-in_ok-link-in-Link

@@ -1,5 +1,5 @@
 use Rattle.sled_log.proofs.Names.{false, nat_lt, List, length, refl, ap, ◌∙◌, Chain, effect_of_entry, now, stands-on}
-use Rattle.sled_log.specs.Walks.{Stands}
+use Rattle.sled_log.specs.Inside.Walks.{Stands}
 use Rattle.sled_log.proofs.tests.walks.cancel_batch.Goals as goal
 
 pub append-requires-clause-can : goal.append-requires-clause-can

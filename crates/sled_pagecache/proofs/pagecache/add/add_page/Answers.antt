@@ -1,4 +1,4 @@
-use Rattle.sled_pagecache.proofs.Names.{inl, inr, subst, sym, ◌+◌, ◌≡◌, [], ◌∷◌, length, ◌∙◌, refl, rules, arith, le-leb, effect_of_entry, now, Node, Put, message_of, written-update, PagesUsedUp, head_size, WasAccessed, capped, refused-is}
+use Rattle.sled_pagecache.proofs.Names.{inl, inr, subst, sym, ◌+◌, ◌≡◌, [], ◌∷◌, length, ◌∙◌, refl, rules, arith, le-leb, effect_of_entry, now, Node, Put, message_of, written-update, PagesUsedUp, head_size, WasAccessed, capped_size, refused-is}
 use Rattle.sled_pagecache.proofs.InMemory.{accessed-added}
 use Rattle.sled_pagecache.proofs.Sizes.{size-alone}
 use Rattle.sled_pagecache.proofs.NewPages.{only-one, added-others, new-kept, has-one-more}
@@ -43,7 +43,7 @@ returns g c =
     let infos = c.push_reserved.new.self.items in
     let pages = c.push_reserved-2.new.self.pages in
     let payload = length (message_of (Put (Node c.args.node))).payload in
-    let takes : capped c.size_with.result ≡ capped (head_size + payload) = omega (arith, c.size_with.ensures, c.serialized_size-size.ensures) in
+    let takes : capped_size c.size_with.result ≡ capped_size (head_size + payload) = omega (arith, c.size_with.ensures, c.serialized_size-size.ensures) in
     let alone : infos ≡ info ∷ [] = only-one infos c.in-Ok-with_capacity.infos.items info c.push_reserved.ensures.items c.in-Ok-with_capacity.ensures.items in (
       at,
       record {

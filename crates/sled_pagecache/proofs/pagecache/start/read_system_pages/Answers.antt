@@ -1,4 +1,4 @@
-use Rattle.sled_pagecache.proofs.Names.{[], length, refl, sym, ◌∙◌, ap, arith, slice_get_within, get_or_from_slice_get, more, own_among, refused-is}
+use Rattle.sled_pagecache.proofs.Names.{[], length, refl, sym, ◌∙◌, ap, arith, slice_get_within, get_or_from_slice_get, count_after, own_among, refused-is}
 use Rattle.sled_pagecache.proofs.Proceeding.{proceeds-then}
 use Rattle.sled_pagecache.proofs.ReadCounts.{own-some, own-one, own-two, read-known, read-handed, read-then}
 use Rattle.sled_pagecache.proofs.Starting.{loaded-at, second-found, second-none, read-first, read-both, first-fits, own-refuses}
@@ -53,10 +53,10 @@ pub returns-clause-reads : goal.returns-clause-reads
 returns-clause-reads g c =
     let count = (g.L.Log.counts c.args.sticky_log.now.log).reads in
     read-known g.L.Log.counts c.args.sticky_log.now.log c.read_counter.new.sticky_log.log (own_among (length c.args.pages.now.pages)) _
-    (c.in_ok-n.ensures.reads.whole ∙ ap (more 1) c.in_ok-roots.ensures.reads.whole ∙ ap (λ n. more n count) (own-two (length c.args.pages.now.pages) (slice_get_within _ 1 _ (second-found _ _ _ c.in-Some-get.ensures))))
+    (c.in_ok-n.ensures.reads.whole ∙ ap (count_after 1) c.in_ok-roots.ensures.reads.whole ∙ ap (λ n. count_after n count) (own-two (length c.args.pages.now.pages) (slice_get_within _ 1 _ (second-found _ _ _ c.in-Some-get.ensures))))
 
 pub returns-in_default-get-clause-reads : goal.returns-in_default-get-clause-reads
 returns-in_default-get-clause-reads g c =
     let count = (g.L.Log.counts c.args.sticky_log.now.log).reads in
     read-known g.L.Log.counts c.args.sticky_log.now.log c.read_roots.new.sticky_log.log (own_among (length c.args.pages.now.pages)) _
-    (c.in_ok-roots.ensures.reads.whole ∙ ap (λ n. more n count) (own-one (length c.args.pages.now.pages) (slice_get_within _ 0 _ c.in-Some.ensures) (second-none _ _ c.in_default-get.ensures)))
+    (c.in_ok-roots.ensures.reads.whole ∙ ap (λ n. count_after n count) (own-one (length c.args.pages.now.pages) (slice_get_within _ 0 _ c.in-Some.ensures) (second-none _ _ c.in_default-get.ensures)))

@@ -1,6 +1,6 @@
 -- What the log in memory leaves.
 use Rattle.std.proofs.Common.{arith}
-use Rattle.sled_pagecache.proofs.Names.{◌≡◌, List, map, true, ap, subst, Event, seen, state_of, clock_of, might_have_left, Entry, Messages, message_in, unplaced_state, MemLog, only_stable}
+use Rattle.sled_pagecache.proofs.Names.{◌≡◌, List, map, true, ap, subst, Event, seen_event, state_of, clock_of, might_have_left, Entry, Messages, message_in, unplaced_state, MemLog, stable_state}
 use Rattle.sled_pagecache_tests.proofs.tests.crashes.crashed.Goals as goal
 
 pub returns : goal.returns
@@ -13,5 +13,5 @@ returns c =
       later = omega arith;
       pages = pages;
       left = subst (λ (log : MemLog). might_have_left log (clock_of log) pages) same c.stop.ensures.left;
-      holds = ap (λ (events : List (Event Entry)). record (only_stable pages true) { pending = map (seen message_in) events }) c.stop.ensures.pending;
+      holds = ap (λ (events : List (Event Entry)). record (stable_state pages true) { pending = map (seen_event message_in) events }) c.stop.ensures.pending;
     }

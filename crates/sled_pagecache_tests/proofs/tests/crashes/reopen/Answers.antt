@@ -1,4 +1,4 @@
-use Rattle.sled_pagecache.proofs.Names.{List, map, true, ap, subst, sym, Event, seen, state_of, clock_of, might_have_left, Entry, Messages, message_in, unplaced_state, MemLog, only_stable}
+use Rattle.sled_pagecache.proofs.Names.{List, map, true, ap, subst, sym, Event, seen_event, state_of, clock_of, might_have_left, Entry, Messages, message_in, unplaced_state, MemLog, stable_state}
 use Rattle.sled_pagecache_tests.proofs.tests.crashes.reopen.Goals as goal
 
 pub returns : goal.returns
@@ -13,7 +13,7 @@ returns c = λ old new call answer held s same steps is clear.
             later = ((steps.from_each held s is).stop clear).later;
             pages = pages;
             left = subst (λ (log : MemLog). might_have_left log (clock_of log) pages) (sym same) c.stop.ensures.left;
-            holds = ap (λ (events : List (Event Entry)). record (only_stable pages true) { pending = map (seen message_in) events }) c.stop.ensures.pending;
+            holds = ap (λ (events : List (Event Entry)). record (stable_state pages true) { pending = map (seen_event message_in) events }) c.stop.ensures.pending;
           })
           c.args.config c.start.result
           (record { settings = c.start.ensures.settings; opens = λ sound held logged. c.start.ensures.opens sound tt held logged }),

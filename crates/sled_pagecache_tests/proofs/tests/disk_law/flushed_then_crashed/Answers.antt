@@ -3,7 +3,7 @@ use Rattle.std.specs.Prelude.{◌||◌, IfOk}
 use Rattle.sled_base.specs.declared.types.Error.{Error}
 use Rattle.sled_log.specs.declared.log.Log.{Ghosts}
 use Rattle.sled_pagecache.specs.Cache.{Cache}
-use Rattle.sled_pagecache.specs.Crashes.{IsFlushed, HasFlushed}
+use Rattle.sled_pagecache.specs.Reopening.{IsFlushed, HasFlushed}
 use Rattle.sled_pagecache.specs.State.{State}
 use Rattle.sled_pagecache.specs.declared.pagecache.config.Config.{Config}
 use Rattle.sled_pagecache_tests.proofs.tests.disk_law.flushed_then_crashed.Goals as goal

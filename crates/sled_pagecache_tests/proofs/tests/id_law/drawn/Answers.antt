@@ -2,7 +2,7 @@
 use Rattle.std.proofs.Common.{rules}
 use Rattle.sled_pagecache.proofs.Names.{refl}
 use Rattle.sled_log.specs.contracts.memory.calls.MemLogLog.TheImpl as mem
-use Rattle.sled_pagecache.specs.MadeLaws.{id-made}
+use Rattle.sled_pagecache.specs.Inside.MadeLaws.{id-made}
 use Rattle.sled_pagecache_tests.proofs.tests.id_law.drawn.Goals as goal
 
 pub returns : goal.returns

@@ -5,9 +5,9 @@ use Rattle.sled_pagecache.specs.Batches.{OpensBatch}
 use Rattle.sledpc.specs.Served.{ServesAll, ServesBatch}
 use Rattle.sledpc.specs.declared.script.command.Mark.TheVariants as mark
 use Rattle.sledpc.specs.declared.script.run.RunError.TheVariants.{Write}
-use Rattle.sled_pagecache.specs.RowLaws.{also-of}
+use Rattle.sled_pagecache.specs.Inside.SequenceLaws.{also-of}
 use Rattle.sledpc.proofs.Batches.{batch_closed, batch_untold, cancelled_all, closed_all, is_pinned, mark_done, mark_stops, opened_batch}
-use Rattle.sled_pagecache.specs.MadeLaws.{cancel-made, pin-made}
+use Rattle.sled_pagecache.specs.Inside.MadeLaws.{cancel-made, pin-made}
 use Rattle.sledpc.proofs.script.batch.serve_batch.Goals as goal
 
 -- no batch is opened

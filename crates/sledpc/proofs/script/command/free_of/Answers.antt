@@ -2,7 +2,7 @@
 use Rattle.std.proofs.Common.{[], ◌∷◌, None, ap, refl}
 use Rattle.std.specs.Fmt.{decimal}
 use Rattle.std.specs.Option.{option_map}
-use Rattle.sled_pagecache.specs.Token.{pid_of, stamp_of}
+use Rattle.sled_pagecache.specs.State.{pid_of, stamp_of}
 use Rattle.sledpc.proofs.Commands.{free_asked, token_rest, token_joined}
 use Rattle.sledpc.proofs.script.command.free_of.Goals as goal
 

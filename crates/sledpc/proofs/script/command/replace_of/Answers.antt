@@ -1,7 +1,7 @@
 -- The leaf's words stand behind the token, and a text has one of each.
 use Rattle.std.proofs.Common.{◌∷◌, map, subst, sym, refl}
 use Rattle.std.specs.Fmt.{decimal}
-use Rattle.sled_pagecache.specs.Token.{pid_of, stamp_of}
+use Rattle.sled_pagecache.specs.State.{pid_of, stamp_of}
 use Rattle.sledpc.specs.Asked.{EncodeLeaf}
 use Rattle.sledpc.specs.Words.{pair_word}
 use Rattle.sledpc.proofs.Commands.{replace_asked, token_rest, token_joined}

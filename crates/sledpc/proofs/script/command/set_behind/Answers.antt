@@ -1,7 +1,7 @@
 -- The words of the key and of the value stand behind the token, and a text has one first of each.
 use Rattle.std.proofs.Common.{[], ◌∷◌, refl, subst, sym}
 use Rattle.std.specs.Fmt.{decimal}
-use Rattle.sled_pagecache.specs.Token.{pid_of, stamp_of}
+use Rattle.sled_pagecache.specs.State.{pid_of, stamp_of}
 use Rattle.sledpc.specs.Asked.{AreTwo}
 use Rattle.sledpc.specs.Words.{bytes_word}
 use Rattle.sledpc.proofs.Commands.{set_asked, two_once, are_words, token_rest, token_joined}

@@ -1,5 +1,5 @@
 use Rattle.sled_pagecache.specs.declared.pagecache.call.Answer.TheVariants.{Flushed}
-use Rattle.sled_pagecache.specs.MadeLaws.{flush-made}
+use Rattle.sled_pagecache.specs.Inside.MadeLaws.{flush-made}
 use Rattle.sledpc.proofs.script.line.serve_flush.Goals as goal
 
 pub returns : goal.returns

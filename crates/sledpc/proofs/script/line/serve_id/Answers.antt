@@ -1,5 +1,5 @@
 use Rattle.sled_pagecache.specs.declared.pagecache.call.Answer.TheVariants.{Generated}
-use Rattle.sled_pagecache.specs.MadeLaws.{id-made}
+use Rattle.sled_pagecache.specs.Inside.MadeLaws.{id-made}
 use Rattle.sledpc.proofs.script.line.serve_id.Goals as goal
 
 pub returns : goal.returns

@@ -5,7 +5,7 @@ use Rattle.sledpc.specs.Commands.{mark_word}
 use Rattle.sledpc.specs.Runs.{Marked}
 use Rattle.sledpc.specs.declared.script.command.Mark.TheVariants as mark
 use Rattle.sledpc.proofs.Batches.{opened_batch}
-use Rattle.sled_pagecache.specs.MadeLaws.{pin-made}
+use Rattle.sled_pagecache.specs.Inside.MadeLaws.{pin-made}
 use Rattle.sledpc.proofs.script.line.serve_mark.Goals as goal
 
 pub returns-in_err-gather_mark-in-Pin-true-clause-replies : goal.returns-in_err-gather_mark-in-Pin-true-clause-replies

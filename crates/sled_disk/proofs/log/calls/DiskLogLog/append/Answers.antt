@@ -10,7 +10,7 @@ use Rattle.sled_disk.specs.Waiting.{pending_of, place_of, said_of, events_of, ev
 use Rattle.std.specs.Prelude.{Err}
 use Rattle.std.proofs.lemmas.Result.{err_from_is_err_and}
 use Rattle.sled_log.specs.Events.{Change}
-use Rattle.sled_log.specs.Messages.{message, placed}
+use Rattle.sled_log.specs.Messages.{message, placed_entry}
 use Rattle.sled_log.specs.declared.log.LogError.TheVariants.{WriteFault}
 use Rattle.sled_disk.specs.Reading.{chains_of}
 use Rattle.sled_disk.proofs.Adding.{can-heads}
@@ -39,7 +39,7 @@ returns-then-batch_open-clause-called g c =
     called-waits (λ log. log.disk) (λ log. log.next.gate) (λ log. log.next.marks.items) (λ log. log.next.buffer.items) (λ log. log.usable) (λ log. log.reads)
     g.D.Disk.tells g.D.Disk.seen g.D.Disk.may_leave g.D.Disk.moment g.D.Disk.left_since g.D.Disk.counts (λ disk left told was. g.met.D.Disk.only_now disk left told was)
     log new _ _ c.said_at-said.result c.add.ensures.rests c.add.ensures.counts c.add.ensures.usable c.add.ensures.reads
-    (λ told. c.in_ok-place.ensures.added told ∙ ap (λ said. pending_of log.next ++ Change c.args.pid (placed (message c.args.kind c.args.payload.now) said) ∷ []) (sym (said-is log.next c.args.payload.now c.in_ok-place.place c.said_at-said.result c.in_ok-place.ensures.place c.said_at-said.ensures)))
+    (λ told. c.in_ok-place.ensures.added told ∙ ap (λ said. pending_of log.next ++ Change c.args.pid (placed_entry (message c.args.kind c.args.payload.now) said) ∷ []) (sym (said-is log.next c.args.payload.now c.in_ok-place.place c.said_at-said.result c.in_ok-place.ensures.place c.said_at-said.ensures)))
     (sym new.next.batch_is ∙ c.add.ensures.batch ∙ log.next.batch_is)
     (λ told. record { heads = chains_of log.pages.items; fits = λ i. g.met.D.Disk.are_bytes log.disk i told; stands = log.stands told c.requires.usable; durable = log.durable told c.requires.usable })
 
@@ -57,9 +57,9 @@ returns-clause-called g c =
     let cause = c.in_ok-write_next.ensures.cause in
     called-wrote (λ log. log.disk) (λ log. log.next.gate) (λ log. log.next.marks.items) (λ log. log.next.buffer.items) (λ log. log.usable) (λ log. log.reads)
     g.D.Disk.tells g.D.Disk.seen g.D.Disk.may_leave g.D.Disk.moment g.D.Disk.left_since g.D.Disk.counts (λ disk left told was. g.met.D.Disk.only_now disk left told was)
-    log c.write_next.new.self _ _ mid (Change c.args.pid (placed (message c.args.kind c.args.payload.now) c.said_at-said.result) ∷ []) refl c.add.ensures.rests c.add.ensures.counts
+    log c.write_next.new.self _ _ mid (Change c.args.pid (placed_entry (message c.args.kind c.args.payload.now) c.said_at-said.result) ∷ []) refl c.add.ensures.rests c.add.ensures.counts
     (λ told. record { heads = chains_of log.pages.items; fits = λ i. g.met.D.Disk.are_bytes log.disk i told; stands = log.stands told c.requires.usable; durable = log.durable told c.requires.usable })
-    (λ told. c.in_ok-place.ensures.added told ∙ ap (λ said. pending_of log.next ++ Change c.args.pid (placed (message c.args.kind c.args.payload.now) said) ∷ []) (sym (said-is log.next c.args.payload.now c.in_ok-place.place c.said_at-said.result c.in_ok-place.ensures.place c.said_at-said.ensures)))
+    (λ told. c.in_ok-place.ensures.added told ∙ ap (λ said. pending_of log.next ++ Change c.args.pid (placed_entry (message c.args.kind c.args.payload.now) said) ∷ []) (sym (said-is log.next c.args.payload.now c.in_ok-place.place c.said_at-said.result c.in_ok-place.ensures.place c.said_at-said.ensures)))
     mid.next.counted (sym mid.next.batch_is ∙ sym c.if-batch_open.ensures) (c.write_next.ensures.reads ∙ c.add.ensures.reads) c.write_next.ensures.any_moment
     c.said_at-said.result refl c.in_ok-write_next.ensures.usable c.write_next.ensures.none (sym log.next.batch_is ∙ sym c.add.ensures.batch ∙ sym c.if-batch_open.ensures)
     c.in_ok-write_next.ensures.stable (record { failed_reads = cause.failed_reads; write_faults = cause.write_faults; read = λ is. cc; write = λ is. cc })
@@ -81,9 +81,9 @@ returns-in_err-write_next-clause-called g c =
     rw p.1 (rw fault
     (called-fault (λ log. log.disk) (λ log. log.next.gate) (λ log. log.next.marks.items) (λ log. log.next.buffer.items) (λ log. log.usable) (λ log. log.reads)
     g.D.Disk.tells g.D.Disk.seen g.D.Disk.may_leave g.D.Disk.moment g.D.Disk.left_since g.D.Disk.counts (λ disk left told was. g.met.D.Disk.only_now disk left told was)
-    log c.write_next.new.self _ _ mid (Change c.args.pid (placed (message c.args.kind c.args.payload.now) c.said_at-said.result) ∷ []) refl c.add.ensures.rests c.add.ensures.counts
+    log c.write_next.new.self _ _ mid (Change c.args.pid (placed_entry (message c.args.kind c.args.payload.now) c.said_at-said.result) ∷ []) refl c.add.ensures.rests c.add.ensures.counts
     (λ told. record { heads = chains_of log.pages.items; fits = λ i. g.met.D.Disk.are_bytes log.disk i told; stands = log.stands told c.requires.usable; durable = log.durable told c.requires.usable })
-    (λ told. c.in_ok-place.ensures.added told ∙ ap (λ said. pending_of log.next ++ Change c.args.pid (placed (message c.args.kind c.args.payload.now) said) ∷ []) (sym (said-is log.next c.args.payload.now c.in_ok-place.place c.said_at-said.result c.in_ok-place.ensures.place c.said_at-said.ensures)))
+    (λ told. c.in_ok-place.ensures.added told ∙ ap (λ said. pending_of log.next ++ Change c.args.pid (placed_entry (message c.args.kind c.args.payload.now) said) ∷ []) (sym (said-is log.next c.args.payload.now c.in_ok-place.place c.said_at-said.result c.in_ok-place.ensures.place c.said_at-said.ensures)))
     mid.next.counted (sym mid.next.batch_is ∙ sym c.if-batch_open.ensures) (c.write_next.ensures.reads ∙ c.add.ensures.reads) c.write_next.ensures.any_moment
     c.in_err-write_next.ensures.usable (record { failed_reads = cause.failed_reads; write_faults = cause.write_faults; read = λ is. cc; write = λ is. cause.write (ap (λ e. Err e) c.in_err-write_next.ensures.only) })))
 

@@ -4,7 +4,7 @@ use Rattle.std.specs.List.{AllZip, AllByRecursion}
 use Rattle.std.proofs.lemmas.Result.{IfOk-weaker}
 use Rattle.sled_log.specs.Messages.{Chain, effect_of_entry}
 use Rattle.sled_log.specs.Pages.{IsPageState}
-use Rattle.sled_log.specs.ShapeLaws.{AreChains, chains-are}
+use Rattle.sled_log.specs.Inside.ShapeLaws.{AreChains, chains-are}
 use Rattle.std.specs.Global.{Vec}
 use Rattle.sled_disk.specs.declared.head.Head.{Head}
 use Rattle.sled_disk.specs.Opened.{AreHeads, IsShown}

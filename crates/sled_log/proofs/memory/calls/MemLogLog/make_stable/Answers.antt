@@ -1,4 +1,4 @@
-use Rattle.sled_log.proofs.Names.{◌≡◌, ◌≤◌, ◌+◌, ◌<◌, false, List, length, take, drop, map, refl, sym, ◌∙◌, ap, subst, arith, true≢false, take_all, drop_all, sum_by-take-drop, is_open, event_of, size_of_mark, log_size, all_settled, state_at, IsInOrder, are_placed, LogItem, kept_in, never, are_within, settle_all, kept_items, MemLog, StoredItem}
+use Rattle.sled_log.proofs.Names.{◌≡◌, ◌≤◌, ◌+◌, ◌<◌, false, List, length, take, drop, map, refl, sym, ◌∙◌, ap, subst, arith, true≢false, take_all, drop_all, sum_by-take-drop, is_open, event_of, size_of_mark, log_size, items_settled_at, state_at, IsInOrder, are_placed, LogItem, kept_in, no_moment, are_within, settle_all, kept_items, MemLog, StoredItem}
 use Rattle.sled_log.proofs.MemCalls.{batch-says, called_settled, remembers_settled}
 use Rattle.sled_log.proofs.Moments.{pending_events, order-settled, length-all_settled, log_size-all_settled, pending-settled}
 use Rattle.sled_log.proofs.Places.{placed-settled}
@@ -7,12 +7,12 @@ use Rattle.sled_log.proofs.memory.calls.MemLogLog.make_stable.Goals as goal
 
 -- what is kept then
 settled_is : (self : MemLog) (items : List StoredItem) → self.stable < length self.items.items → items ≡ settle_all (self.clock + 1) self.stable self.items.items
-    → kept_items self.blob_limit self.bytes.items items ≡ all_settled (self.clock + 1) self.stable (kept_in self)
+    → kept_items self.blob_limit self.bytes.items items ≡ items_settled_at (self.clock + 1) self.stable (kept_in self)
 settled_is self items few is =
     let counted = self.counted in
     let ok = self.items.ok in
     let small = self.items.small in
-    let comes : self.clock + 1 < never = omega arith in
+    let comes : self.clock + 1 < no_moment = omega arith in
     ap (λ (l : List StoredItem). kept_items self.blob_limit self.bytes.items l) is ∙ kept-settle_all self.blob_limit self.bytes.items (self.clock + 1) comes self.stable 0 0 self.items.items
 
 -- what is pending

@@ -1,7 +1,7 @@
 -- The two words in front are those of a token.
 use Rattle.std.proofs.Common.{ap}
 use Rattle.std.specs.Option.{option_map}
-use Rattle.sled_pagecache.specs.Token.{pid_of, stamp_of}
+use Rattle.sled_pagecache.specs.State.{pid_of, stamp_of}
 use Rattle.sledpc.proofs.Commands.{one_page_word, token_words}
 use Rattle.sledpc.proofs.script.command.arguments.token_of.Goals as goal
 

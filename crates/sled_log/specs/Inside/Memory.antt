@@ -1,0 +1,30 @@
+-- What a call of the log in memory leaves of it.
+use Rattle.std.specs.Prelude.{◌≡◌, ℕ, ◌+◌, ◌≤◌, List, ◌++◌, drop, Result, IfOk, OnErr}
+use Rattle.sled_log.specs.Events.{Event}
+use Rattle.sled_log.specs.MemLog.Items.{state_at, log_size}
+use Rattle.sled_log.specs.Messages.{Entry}
+use Rattle.sled_log.specs.LogState.{LogState}
+use Rattle.sled_log.specs.declared.log.LogError.{LogError}
+use Rattle.sled_log.specs.declared.memory.MemLog.{MemLog}
+use Rattle.sled_log.specs.MemLog.State.{clock_of, kept_in, settings_of, state_of}
+
+-- what the log was at a moment
+abbrev pub was_at : ℕ → MemLog → LogState Entry
+was_at moment log = state_at moment (kept_in log)
+
+-- A call takes one moment at most, and what the log was at earlier ones stays.
+pub record Remembers (old new : MemLog) : Type 0 where
+  pub later : clock_of old ≤ clock_of new
+  pub one : clock_of new ≤ clock_of old + 1
+  pub past : (moment : ℕ) → moment ≤ clock_of old → was_at moment new ≡ was_at moment old
+
+abbrev pub pending_size_of : MemLog → ℕ
+pending_size_of log = log_size (drop log.stable (kept_in log))
+
+-- What a call of the log in memory does that moves nothing: what was stable is, and the events stand behind those that were
+-- pending. A refusal leaves these too.
+pub record MovesNothing {T : Type 0} (old new : MemLog) (events : T → List (Event Entry)) (result : Result T LogError) : Type 0 where
+  pub settings : settings_of new ≡ settings_of old
+  pub stable : (state_of new).stable ≡ (state_of old).stable
+  pub ok : IfOk result (λ answer. (state_of new).pending ≡ (state_of old).pending ++ events answer)
+  pub err : OnErr result ((state_of new).pending ≡ (state_of old).pending)

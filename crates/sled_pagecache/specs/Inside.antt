@@ -1,0 +1,25 @@
+-- What only the proofs of this crate need: no public clause cites it.
+pub mod StickyLog
+pub mod StickyLogLaws
+pub mod PageEntry
+pub mod PageTable
+pub mod Invariant
+pub mod CounterPage
+pub mod Eviction
+pub mod RecentUse
+pub mod PageIn
+pub mod TokenCheck
+pub mod Infos
+pub mod PageWrites
+pub mod NewPages
+pub mod LinkWrites
+pub mod RootWrites
+pub mod LogCalls
+pub mod Recovery
+pub mod SystemPages
+pub mod Shapes
+pub mod Trees
+pub mod SequenceLaws
+pub mod MadeLaws
+pub mod Appends
+pub mod Loading

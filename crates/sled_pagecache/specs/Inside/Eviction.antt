@@ -1,0 +1,57 @@
+-- What leaves memory behind a call, beside the table of pages.
+use Rattle.std.specs.Prelude.{◌≡◌, ℕ, Bool, List, [], ◌∷◌, ◌++◌, Option, None, Some, MatchOption, slice_get, slice_set}
+use Rattle.sled_pagecache.specs.declared.pagecache.page.Kept.{Kept}
+use Rattle.sled_pagecache.specs.declared.pagecache.page.Kept.TheVariants.{Free, Away, Counter, Roots, Node}
+use Rattle.sled_pagecache.specs.declared.pagecache.page.Page.{Page}
+use Rattle.sled_base.specs.Lru.{Recency}
+use Rattle.sled_log.specs.declared.log.Log.{Ghosts}
+use Rattle.sled_pagecache.specs.Cache.{Cache}
+use Rattle.sled_pagecache.specs.Inside.Invariant.{IsWhole, stamps_in, resident_in, nodes_in}
+use Rattle.sled_pagecache.specs.Memory.{IsBounded}
+use Rattle.sled_pagecache.specs.declared.pagecache.accesses.Accesses.{Accesses}
+use Rattle.sled_pagecache.specs.declared.pagecache.config.Config.{Config}
+use Rattle.sled_pagecache.specs.declared.pagecache.sticky_log.StickyLog.{StickyLog}
+
+-- what a page holds once its node was let go
+abbrev pub kept_behind_eviction : Kept → Kept
+kept_behind_eviction (Node node) = Away
+kept_behind_eviction Free = Free
+kept_behind_eviction Away = Away
+kept_behind_eviction (Counter n) = Counter n
+kept_behind_eviction (Roots roots) = Roots roots
+
+-- the page is the same, but its node was let go
+pub record IsPagedOut (old new : Page) : Type 0 where
+  pub stamp : new.stamp ≡ old.stamp
+  pub infos : new.infos.items ≡ old.infos.items
+  pub kept : new.kept ≡ kept_behind_eviction old.kept
+
+-- the node of the page left memory, if there is one
+abbrev pub IsOutAt : ℕ → List Page → List Page → Type 0
+IsOutAt pid old new = MatchOption (slice_get old pid) (new ≡ old) (λ q. (page : Page) × IsPagedOut q page × (new ≡ slice_set old pid page))
+
+-- those of these pages did, one after another
+abbrev pub AreOut : List ℕ → List Page → List Page → Type 0
+AreOut [] old new = new ≡ old
+AreOut (pid ∷ pids) old new = (mid : List Page) × IsOutAt pid old mid × AreOut pids mid new
+
+abbrev pub lost_pages : Option ℕ → List ℕ
+lost_pages None = []
+lost_pages (Some pid) = pid ∷ []
+
+-- What the list dropped was paged out, if a page was accessed, and with it a page that is lost.
+pub record Evicts (accesses : Accesses) (lost : Option ℕ) (old new : List Page) (then : Accesses) : Type 0 where
+  pub none : then.dropped ≡ None
+  pub lru : then.lru ≡ accesses.lru
+  pub out : MatchOption accesses.dropped (new ≡ old) (λ dropped. AreOut (dropped.items ++ lost_pages lost) old new)
+
+-- a cache over a log and a table
+abbrev pub cache_of : {L : Type 0} → ℕ → Config → Bool → Recency → StickyLog L → List Page → Cache L
+cache_of next config recovered lru sticky_log pages =
+    record { stamps = stamps_in pages; resident = resident_in pages; nodes = nodes_in pages; next = next; batch = sticky_log.batch; fault = sticky_log.fault; config = config; recovered = recovered; lru = lru; log = sticky_log.log }
+
+-- What always holds of a cache. Between two calls nothing is left to be paged out.
+pub record IsSettled {L : Type 0} (g : Ghosts L) (next : ℕ) (config : Config) (recovered : Bool) (sticky_log : StickyLog L) (pages : List Page) (free_pids : List ℕ) (accesses : Accesses) : Type 0 where
+  pub whole : IsWhole g.tells g.state config.idgen_persist_interval next sticky_log pages free_pids
+  pub none : accesses.dropped ≡ None
+  pub bounded : IsBounded g (cache_of next config recovered accesses.lru sticky_log pages)

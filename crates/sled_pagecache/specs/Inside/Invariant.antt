@@ -1,0 +1,90 @@
+-- What always holds of a page cache: its table of pages beside what its log holds.
+use Rattle.std.specs.Prelude.{◌≡◌, ◌≤◌, ℕ, Bool, false, true, List, length, map, Option, ◌≢◌, ◌<◌, Some, slice_get, ⊤}
+use Rattle.std.specs.List.{AllByRecursion, AllZip}
+use Rattle.sled_log.specs.Events.{is_open, Event, Change, Pin, Seal, Cancel}
+use Rattle.sled_log.specs.Chains.{is_chain}
+use Rattle.sled_log.specs.Messages.{Entry, effect_of_entry}
+use Rattle.sled_log.specs.Pages.{IsSized}
+use Rattle.sled_log.specs.LogState as log
+use Rattle.sled_pagecache.specs.Logged.{AllById, FitsId}
+use Rattle.sled_pagecache.specs.Inside.PageEntry.{IsKept, is_resident, free_ids, node_access_size}
+use Rattle.sled_pagecache.specs.Limits.{most_messages, most_pages, counter_pid}
+use Rattle.sled_pagecache.specs.declared.pagecache.sticky_log.StickyLog.{StickyLog}
+use Rattle.sled_pagecache.specs.declared.pagecache.page.Kept.{Kept}
+use Rattle.sled_pagecache.specs.declared.pagecache.page.Kept.TheVariants.{Free, Away, Counter, Roots, Node}
+use Rattle.sled_pagecache.specs.declared.pagecache.page.Page.{Page}
+use Rattle.sled_pagecache.specs.Step.{interval_start}
+
+abbrev pub stamps_in : List Page → List ℕ
+stamps_in pages = map (λ page. page.stamp) pages
+
+abbrev pub resident_in : List Page → List Bool
+resident_in pages = map (λ page. is_resident page.kept) pages
+
+abbrev pub nodes_in : List Page → List (Option ℕ)
+nodes_in pages = map (λ page. node_access_size page) pages
+
+abbrev pub IsRoots : Kept → Type 0
+IsRoots (Roots roots) = Unit {0}
+IsRoots other = ⊥
+
+abbrev pub IsCounter : Kept → Type 0
+IsCounter (Counter n) = Unit {0}
+IsCounter other = ⊥
+
+abbrev pub IsFreeOrNode : Kept → Type 0
+IsFreeOrNode Free = Unit {0}
+IsFreeOrNode Away = Unit {0}
+IsFreeOrNode (Node node) = Unit {0}
+IsFreeOrNode other = ⊥
+
+-- the named roots are on page 0 and the counter on page 1, in memory, as far as they are there; no other page is kept so
+abbrev pub IsOwnAt : ℕ → Kept → Type 0
+IsOwnAt = FitsId IsRoots IsCounter IsFreeOrNode
+
+abbrev pub AreOwn : List Page → Type 0
+AreOwn pages = AllById (λ pid page. IsOwnAt pid page.kept) pages
+
+module _ {L : Type 0} (tells : Type 0) (state : L → log.LogState Entry) where
+  -- What the log is beside the table. Where its device tells its bytes, the pages are kept as their chains say.
+  pub record IsBeside (l : L) (pages : List Page) : Type 0 where
+    pub usable : (state l).usable ≡ true
+    pub kept : tells → AllZip IsKept (log.now effect_of_entry (state l)) pages
+    pub chains : tells → AllByRecursion (λ chain. is_chain effect_of_entry chain ≡ true) (log.now effect_of_entry (state l))
+    pub sized : tells → AllByRecursion IsSized (log.now effect_of_entry (state l))
+
+  -- With a write fault kept nothing is known of the log.
+  pub record IsConsistent (sticky_log : StickyLog L) (pages : List Page) (free_pids : List ℕ) : Type 0 where
+    pub beside : sticky_log.fault ≡ false → IsBeside sticky_log.log pages
+    pub opened : sticky_log.fault ≡ false → is_open (state sticky_log.log).pending ≡ sticky_log.batch
+    pub own : AreOwn pages
+    pub both : 2 ≤ length pages
+    pub short : AllByRecursion (λ page. length page.infos.items ≤ most_messages) pages
+    pub few : length pages ≤ most_pages
+    pub free : free_pids ≡ free_ids 0 pages
+
+-- a mark, or a change of another page than the counter's
+abbrev pub SparesCounter : {E : Type 0} → Event E → Type 0
+SparesCounter (Change id said) = id ≢ counter_pid
+SparesCounter Pin = ⊤
+SparesCounter Seal = ⊤
+SparesCounter Cancel = ⊤
+
+module _ {L : Type 0} (tells : Type 0) (state : L → log.LogState Entry) (interval next : ℕ) (sticky_log : StickyLog L) (pages : List Page) where
+  -- Where the next id needs no new counter, no change of the counter's page is pending.
+  abbrev pub IsCounted : Type 0
+  IsCounted =
+      0 < interval
+      → sticky_log.fault ≡ false
+      → tells
+      → (page : Page) (n : ℕ)
+      → slice_get pages counter_pid ≡ Some page
+      → page.kept ≡ Counter n
+      → interval_start interval next ≤ interval_start interval n
+      → AllByRecursion SparesCounter (log.unplaced_state (state sticky_log.log)).pending
+
+  -- what always holds of a cache
+  pub record IsWhole (free_pids : List ℕ) : Type 0 where
+    pub consistent : IsConsistent tells state sticky_log pages free_pids
+    pub positive : 0 < interval
+    pub counted : IsCounted

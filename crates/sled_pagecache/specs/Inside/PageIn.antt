@@ -1,0 +1,101 @@
+-- What reading a page from the log answers, and what bringing it into memory makes of a cache.
+use Rattle.std.specs.Prelude.{◌≡◌, ℕ, [], List, ◌∷◌, ◌⊎◌, false, Some, ⊤, true, Option, None, Result, OnOk, IfErr, slice_get}
+use Rattle.sled_base.specs.declared.types.DiskPtr.{DiskPtr}
+use Rattle.sled_log.specs.Messages.{Entry, Chain, effect_of_entry, Message, messages_of, message}
+use Rattle.sled_log.specs.Pages.{IsRead}
+use Rattle.sled_pagecache.specs.declared.pagecache.reading.Found.{Found}
+use Rattle.sled_base.specs.declared.kinds.MessageKind.TheVariants as kinds
+use Rattle.sled_base.specs.declared.types.Bug.TheVariants.{FreeInPull}
+use Rattle.sled_base.specs.declared.types.Refusal.{Refusal}
+use Rattle.sled_base.specs.declared.types.Refusal.TheVariants.{ReportableBug, Corruption, OutOfMemory, Io, Unsupported}
+use Rattle.sled_log.specs.Chains.{is_empty}
+use Rattle.sled_log.specs.Contents.{Node, Link}
+use Rattle.sled_log.specs.Reading.{IsUpdate, Makes}
+use Rattle.sled_node.specs.Links.{Accepts, applied}
+use Rattle.sled_node.specs.Node.{WholeNode}
+use Rattle.sled_node.specs.declared.node.link.Link.{Link as NodeLink}
+use Rattle.sled_pagecache.specs.Damage.{IsFirstWrong, IsWrongAt, IsDamaged, LeavesPages}
+use Rattle.sled_base.specs.declared.types.Why.TheVariants.{ReservedId}
+use Rattle.sled_log.specs.declared.log.Log.{Ghosts}
+use Rattle.sled_pagecache.specs.Cache.{Cache, IsResident, IsAway, chain_at}
+use Rattle.sled_pagecache.specs.Inside.StickyLog.{IsCaused}
+use Rattle.sled_pagecache.specs.Step.{is_reserved}
+use Rattle.sled_pagecache.specs.State.{token}
+use Rattle.sled_pagecache.specs.declared.pagecache.sticky_log.StickyLog.{StickyLog}
+use Rattle.sled_pagecache.specs.declared.pagecache.view.NodeView.{NodeView}
+
+-- what a reader of an entry found: its kind, or that of its blob, its payload, and where it is kept
+abbrev pub IsFoundAs : Entry → Found → Type 0
+IsFoundAs entry found = IsRead entry (found.kind, found.payload) × (found.pointer ≡ entry.place.pointer)
+
+-- a message that was found, without its place
+abbrev pub found_message : Found → Message
+found_message found = message found.kind found.payload.items
+
+abbrev pub IsFoundWrong : List Found → DiskPtr → Type 0
+IsFoundWrong found pointer = IsFirstWrong found_message (λ found. found.pointer) found pointer
+
+-- the first message says that the page is free
+abbrev pub BeginsFree : List Found → Type 0
+BeginsFree [] = ⊥
+BeginsFree (first ∷ found) = first.kind ≡ kinds.Free
+
+-- why messages give no node: an allocation failed, one of them doesn't belong there, or the page is free
+abbrev pub RefusesNode : List Found → Refusal → Type 0
+RefusesNode found OutOfMemory = ⊤
+RefusesNode found (Corruption (Some pointer)) = IsFoundWrong found pointer
+RefusesNode found (ReportableBug FreeInPull) = BeginsFree found
+-- there is no other reason
+RefusesNode found refusal = ⊥
+
+-- ---- one message
+
+-- no value is encoded by the payload from its front to its end
+abbrev pub EncodesNothing : {V : Type 0} → (List ℕ → V → List ℕ → Type 0) → List ℕ → Type 0
+EncodesNothing {V} reads payload = (value : V) → reads payload value [] → ⊥
+
+-- the message is a link which the node accepts, and with which it is the other
+abbrev pub Leads : WholeNode → Message → WholeNode → Type 0
+Leads before message after = (link : NodeLink) × IsUpdate message (Link link) × Accepts before link × (after ≡ applied link before)
+
+-- why a message that is kept at the pointer was refused: an allocation failed, or it is amiss
+abbrev pub RefusesMessage : DiskPtr → Type 0 → Refusal → Type 0
+RefusesMessage pointer amiss OutOfMemory = ⊤
+RefusesMessage pointer amiss (Corruption (Some place)) = (place ≡ pointer) × amiss
+-- there is no other reason
+RefusesMessage pointer amiss refusal = ⊥
+
+-- An allocation failed, the device failed, or a message doesn't belong there, and the first such one is reported.
+abbrev pub RefusesPull : Chain → Refusal → Type 0
+RefusesPull chain OutOfMemory = ⊤
+RefusesPull chain (Io device) = ⊤
+RefusesPull chain (Corruption (Some pointer)) = IsWrongAt chain pointer
+-- there is no other reason, since a page that is free lies in memory
+RefusesPull chain refusal = ⊥
+
+-- the log of a cache, and the write fault that is kept of it
+abbrev pub sticky_log_of : {L : Type 0} → Cache L → StickyLog L
+sticky_log_of cache = record { log = cache.log; fault = cache.fault; batch = cache.batch }
+
+-- Why a page isn't read: it is the cache's own, or it isn't free, and its log doesn't give its node.
+abbrev pub RefusesReading : Chain → ℕ → Refusal → Type 0
+RefusesReading chain pid refusal =
+    ((is_reserved pid ≡ true) × (refusal ≡ Unsupported ReservedId))
+    ⊎ ((is_reserved pid ≡ false) × (is_empty effect_of_entry chain ≡ false) × RefusesPull chain refusal)
+
+-- The page was read where it didn't lie in memory, and is free then or makes a node.
+pub record BringsIn {L : Type 0} (g : Ghosts L) (old : Cache L) (pid : ℕ) (result : Result (Unit {0}) Refusal) (new : Cache L) : Type 0 where
+  pub left : LeavesPages g old new
+  pub cause : IsCaused g (sticky_log_of old) (sticky_log_of new) ⊥ result
+  pub in_memory : OnOk result ((is_reserved pid ≡ false) × ¬ IsAway new pid)
+  pub sound : g.tells → OnOk result (¬ IsDamaged (chain_at (g.state old.log) pid))
+  pub refused : g.tells → IfErr result (RefusesReading (chain_at (g.state old.log) pid) pid)
+
+-- The node is the one that the chain of the page makes. There is none where the page doesn't lie in memory, or the chain makes
+-- none. With a write fault kept nothing is known of the chain.
+abbrev pub IsNodeAt : {L : Type 0} → Ghosts L → Cache L → ℕ → Option NodeView → Type 0
+IsNodeAt g cache pid (Some view) =
+    (view.token ≡ token pid view.token.stamp) × (slice_get cache.stamps pid ≡ Some view.token.stamp) × IsResident cache pid
+    × (g.tells → cache.fault ≡ false → Makes (messages_of (chain_at (g.state cache.log) pid)) (Node view.node.now))
+IsNodeAt g cache pid None =
+    IsAway cache pid ⊎ (g.tells → cache.fault ≡ false → (node : WholeNode) → ¬ Makes (messages_of (chain_at (g.state cache.log) pid)) (Node node))
