@@ -1,5 +1,5 @@
 -- A batch stands whole after a crash, or none of it does.
-use Rattle.sled_pagecache.proofs.Names.{◌≡◌, ◌⊎◌, inl, inr, ◌≤◌, ℕ, Bool, true, false, List, [], ◌∷◌, ◌++◌, take, drop, Result, Ok, Err, refl, sym, ◌∙◌, ap, subst, true≢false, append-nil, take-nil, AllByRecursion, Error, Event, Pin, Seal, Update, contents_after, is_open, Messages, unplaced_state, Ghosts, Cache, Represents, IsStep, StepOver, Steps, Logged, State, contents_of, Outcome, no_change, Answer, Call, Flush, Flushed, row-one, row-then, contents_after-append, AreThoseOf, AreWithout, ClosesNone, RunsBatch, StandsInPart, StandsWhole, with_pin, CrashReopensTo, OnlyNow, IsLonger, left-now, one-longer, step-stuck, AreSteps, IsMade, IsRow, changes_of, Closes, Flushes, Pinned, Sealed, Cancelled, IsPrefix, none-came, zero, suc, length, arith, false≢true, take_all, Change, Cancel, open_after, IsFair, is_cancelled}
+use Rattle.sled_pagecache.proofs.Names.{◌≡◌, ◌⊎◌, inl, inr, ◌≤◌, ℕ, Bool, true, false, List, [], ◌∷◌, ◌++◌, take, drop, Result, Ok, Err, refl, sym, ◌∙◌, ap, subst, true≢false, append-nil, take-nil, AllByRecursion, Error, Event, Pin, Seal, Update, contents_after, is_open, Messages, unplaced_state, Ghosts, Cache, Represents, IsStep, StepOver, Steps, Logged, State, contents_of, Outcome, no_change, Answer, Call, Flush, Flushed, row-one, row-then, contents_after-append, AreThoseOf, AreWithout, ClosesNone, RunsBatch, StandsInPart, StandsWhole, with_pin, CrashReopens, OnlyNow, IsLonger, left-now, one-longer, step-stuck, AreSteps, IsMade, IsRow, changes_of, Closes, Flushes, Pinned, Sealed, Cancelled, IsPrefix, none-came, zero, suc, length, arith, false≢true, take_all, Change, Cancel, open_after, IsFair, is_cancelled}
 use Rattle.sled_pagecache.proofs.Counting.{now-added}
 use Rattle.sled_pagecache.proofs.Staying.{no-changes}
 use Rattle.sled_pagecache.proofs.ProperPages.{all-append}
@@ -246,7 +246,7 @@ module _ {L : Type 0} (g : Ghosts L) where
       by row = of row row.outs refl row.steps
 
   module _ (since_earlier : (log : L) (t u : ℕ) (pages : List Messages) → g.tells → t ≤ u → g.left_since log u pages → g.left_since log t pages) where
-    pub unsealed : (old new : Cache L) (calls : List (Call × Answer)) → RunsBatch g old calls new → (held : Logged) (s : State) → Represents g old held s → s.fault ≡ false → CrashReopensTo g new.log (g.moment old.log) (AreWithout held)
+    pub unsealed : (old new : Cache L) (calls : List (Call × Answer)) → RunsBatch g old calls new → (held : Logged) (s : State) → Represents g old held s → s.fault ≡ false → CrashReopens g new.log (g.moment old.log) (AreWithout held)
     unsealed old new calls batch held s is clear =
         let run = runs old new calls batch held s is clear in
         crash-reopens-to g (λ l t u pages. since_earlier l t u pages is.tells) new.log (g.moment old.log) (AreWithout held)
@@ -309,7 +309,7 @@ module _ {L : Type 0} (g : Ghosts L) where
           outs = whole.row.outs;
           steps = whole.row.steps;
           crash =
-              subst (λ t. CrashReopensTo g new.log (g.moment old.log) (λ contents. AreWithout held contents ⊎ AreThoseOf t contents)) (sym whole.leaves)
+              subst (λ t. CrashReopens g new.log (g.moment old.log) (λ contents. AreWithout held contents ⊎ AreThoseOf t contents)) (sym whole.leaves)
               (crash-reopens-to g (λ l t u pages. since_earlier l t u pages is.tells) new.log (g.moment old.log) (λ contents. AreWithout held contents ⊎ AreThoseOf one.out.state contents) crash);
         }
 
@@ -331,7 +331,7 @@ module _ {L : Type 0} (g : Ghosts L) where
     flush-ok s n out step = split s.fault step (λ _ h. absurd (ok-err n _ h.0)) (λ clear h. split s.batch h (λ _ h. absurd (ok-err n _ h.0)) (λ _ h. (clear, h)))
 
     pub flushed : OnlyNow g
-        → (old new : Cache L) (n : ℕ) → IsMade g old Flush (Flushed (Ok n)) new → (held : Logged) (s : State) → Represents g old held s → CrashReopensTo g new.log (g.moment new.log) (AreThoseOf s)
+        → (old new : Cache L) (n : ℕ) → IsMade g old Flush (Flushed (Ok n)) new → (held : Logged) (s : State) → Represents g old held s → CrashReopens g new.log (g.moment new.log) (AreThoseOf s)
     flushed only_now old new n made held s is =
         let one = made.step.from_each held s is in
         let same = flush-ok s n one.out one.step in

@@ -94,11 +94,12 @@ pub use Rattle.sled_pagecache.specs.Inside.PageIn.{BeginsFree, IsFoundWrong, Lea
 pub use Rattle.sled_pagecache.specs.Damage.{IsDamaged, IsFirstWrong, IsWrongAt, MakesNode}
 pub use Rattle.sled_pagecache.specs.Memory.{HasRead, ReadsNothing, ReadsPage, own_among}
 pub use Rattle.sled_pagecache.specs.Inside.Recovery.{AllFit, BeginsMisfit, IsRecovered, info_at, is_misfit, kept_by}
-pub use Rattle.sled_pagecache.specs.Reopening.{AreAfterPrefix, CrashReopens, CrashReopensTo, HoldsCrash, Reopens, ReopensTo, Started}
+pub use Rattle.sled_pagecache.specs.Reopening.{AreAfterPrefix, CrashReopens, HoldsCrash, ReopensTo, Started}
 pub use Rattle.sled_pagecache.specs.Inside.SequenceLaws.{IsLonger, OnlyNow, left-now, made-row, none-came, one-longer, row-none, row-one, row-then, step-stuck}
 pub use Rattle.sled_pagecache.specs.Infos.{stamps_to}
 pub use Rattle.sled_pagecache.specs.Inside.SystemPages.{Starts}
-pub use Rattle.sled_pagecache.specs.Opening.{CrashLeaves, HasAdded, IsBlamedOpening, IsFit, IsOpened, IsUnopened, LacksRoomFor, MayBeOpened, Opens, RefusesOpening, WasFull, has_own, log_after, stable_state, stable_contents}
+pub use Rattle.sled_pagecache.specs.Opening.{HasAdded, IsBlamedOpening, IsFit, IsOpened, IsUnopened, LacksRoomFor, MayBeOpened, Opens, RefusesOpening, WasFull, has_own, log_after, stable_state, stable_contents}
+pub use Rattle.sled_pagecache.specs.Calls.{CrashLeaves}
 pub use Rattle.sled_pagecache.specs.Memory.{IsHindrance}
 pub use Rattle.sled_pagecache.specs.State.{StampedPage, State, contents_of, free_token, greatest_free, is_free as is_free_content, later_token, page, page_at, stamps_of, with_page}
 pub use Rattle.sled_pagecache.specs.Step.{AddsPage, Allocates, Closes, Does, Fails, Finds, FindsContent, FindsRoot, Flushes, Frees, Generates, Gets, GetsIdgen, GetsMeta, HoldsCounter, HoldsRoots, IsCorruption, IsCounterAnd, IsGone, IsHindered, IsRefused, Links, LinksContent, LinksNode, Outcome, Pins, PutsCounter, PutsRoots, Reads, Replaces, ReusesPage, RootSwap, SetsRoot, Sizes, Swapped, Swaps, SwapsContent, SwapsPage, SwapsRoot, TellsRoot, UnlessFaulty, UnlessReserved, UnlessStale, with_batch_closed, interval_start, is_reserved, outcome, no_change, with_next_id}

@@ -1,5 +1,5 @@
 -- A cache that is opened over a crash state is what is opened of the pages after a prefix of the changes.
-use Rattle.sled_pagecache.proofs.Names.{◌≡◌, ◌≤◌, ℕ, Bool, true, List, [], ◌++◌, arith, take, refl, sym, subst, Result, Ok, Err, IfOk, Error, Update, contents_after, Event, Message, Messages, unplaced_state, Ghosts, Cache, Logged, IsLogged, Started, Content, AreKept, CrashReopens, stable_state, stable_contents, Config, LogState, AreAfterPrefix, CrashReopensTo, ReopensTo}
+use Rattle.sled_pagecache.proofs.Names.{◌≡◌, ◌≤◌, ℕ, Bool, true, List, [], ◌++◌, arith, take, refl, sym, subst, Result, Ok, Err, IfOk, Error, Update, contents_after, Event, Message, Messages, unplaced_state, Ghosts, Cache, Logged, IsLogged, Started, Content, AreKept, CrashReopens, stable_state, stable_contents, Config, LogState, AreAfterPrefix, CrashReopens, ReopensTo}
 use Rattle.sled_pagecache.proofs.Endings.{sound-settings}
 use Rattle.sled_pagecache.proofs.Staying.{stay-none}
 use Rattle.sled_pagecache.specs.Logged.{IsLeft}
@@ -39,9 +39,9 @@ module _ {L : Type 0} (g : Ghosts L) (since_earlier : (log : L) (t u : ℕ) (pag
       let opened = started.opens (sound-settings g log config cache started) (stable_contents contents) logged in
       record { contents = contents; are = are; held_then = opened.held_then; is = opened.is }
 
-  pub crash-reopens-to : (crashed : L) (since : ℕ) (Are : List Content → Type 0) → ((pages : List Messages) → g.left_since crashed since pages → IsKeptAs pages Are) → CrashReopensTo g crashed since Are
+  pub crash-reopens-to : (crashed : L) (since : ℕ) (Are : List Content → Type 0) → ((pages : List Messages) → g.left_since crashed since pages → IsKeptAs pages Are) → CrashReopens g crashed since Are
   crash-reopens-to crashed since Are each log crash config result started =
       reopens Are log crash.pages crash.holds (each crash.pages (since_earlier crashed since crash.at crash.pages crash.later crash.left)) config result started
 
-  pub crash-reopens : (crashed : L) (since : ℕ) (held : Logged) (begun : List (Event Update)) → ((pages : List Messages) → g.left_since crashed since pages → IsLeft held begun pages) → CrashReopens g crashed since held begun
+  pub crash-reopens : (crashed : L) (since : ℕ) (held : Logged) (begun : List (Event Update)) → ((pages : List Messages) → g.left_since crashed since pages → IsLeft held begun pages) → CrashReopens g crashed since (AreAfterPrefix held begun)
   crash-reopens crashed since held begun each = crash-reopens-to crashed since (AreAfterPrefix held begun) (λ pages left. kept-prefix held begun pages (each pages left))

@@ -6,6 +6,8 @@ use Rattle.sled_base.specs.declared.types.Error.TheVariants.{Io}
 use Rattle.sled_log.specs.declared.log.Log.{Ghosts}
 use Rattle.sled_pagecache.specs.Answers.{HasNoName, is_write_fault}
 use Rattle.sled_pagecache.specs.Cache.{Cache, Represents}
+use Rattle.sled_log.specs.Contents.{Update}
+use Rattle.sled_log.specs.Events.{Event}
 use Rattle.sled_pagecache.specs.Calls.{Steps, IsBlamed}
 use Rattle.sled_pagecache.specs.Memory.{KeepsMemory, ReadsNothing}
 use Rattle.sled_pagecache.specs.declared.pagecache.call.Answer.{Answer}
@@ -22,7 +24,7 @@ use Rattle.sled_pagecache.specs.contracts.pagecache.guard.RecoveryGuard as guard
 use Rattle.std.specs.List.{AllByRecursion}
 use Rattle.sled_log.specs.Contents.{Content}
 use Rattle.sled_pagecache.specs.Logged.{Logged}
-use Rattle.sled_pagecache.specs.Reopening.{AreAfterPrefix, CrashReopens, CrashReopensTo}
+use Rattle.sled_pagecache.specs.Reopening.{AreAfterPrefix, CrashReopens}
 use Rattle.sled_pagecache.specs.Rows.{AreSteps, StepInRow, changes_of}
 use Rattle.sled_pagecache.specs.State.{State, contents_of}
 use Rattle.sled_pagecache.specs.Step.{Outcome}
@@ -113,21 +115,20 @@ module _ {L : Type 0} (g : Ghosts L) where
     pub row : StepInRow g pinned calls new
     pub inside : AllByRecursion (λ made. ClosesNone made.0) calls
 
-  -- The calls are steps to another state, in which the cache is. A crash since the first of them reopens to pages that have nothing of
-  -- them, or to those as they are then: whole, or not at all.
-  pub record StandsWhole (old : Cache L) (calls : List (Call × Answer)) (new : Cache L) (held : Logged) (s : State) : Type 0 where
+  -- The calls are steps to another state, in which the cache is. A crash since the first of them reopens to pages that are so, beside what
+  -- they write and that state.
+  pub record Stand (old : Cache L) (calls : List (Call × Answer)) (new : Cache L) (held : Logged) (s : State) (Are : List (Event Update) → State → List Content → Type 0) : Type 0 where
     pub held_then : Logged
     pub t : State
     pub is : Represents g new held_then t
     pub outs : List Outcome
     pub steps : AreSteps g (Steps g) old s calls outs new t
-    pub crash : CrashReopensTo g new.log (g.moment old.log) (λ contents. AreWithout held contents ⊎ AreThoseOf t contents)
+    pub crash : CrashReopens g new.log (g.moment old.log) (Are (changes_of outs) t)
 
-  -- The same of calls that may stand in part: a crash reopens to the pages after a prefix of what they write.
-  pub record StandsInPart (old : Cache L) (calls : List (Call × Answer)) (new : Cache L) (held : Logged) (s : State) : Type 0 where
-    pub held_then : Logged
-    pub t : State
-    pub is : Represents g new held_then t
-    pub outs : List Outcome
-    pub steps : AreSteps g (Steps g) old s calls outs new t
-    pub crash : CrashReopens g new.log (g.moment old.log) held (changes_of outs)
+  -- The pages have nothing of the calls, or are as the calls leave them: whole, or not at all.
+  abbrev pub StandsWhole : Cache L → List (Call × Answer) → Cache L → Logged → State → Type 0
+  StandsWhole old calls new held s = Stand old calls new held s (λ changes t contents. AreWithout held contents ⊎ AreThoseOf t contents)
+
+  -- They are those after a prefix of what the calls write.
+  abbrev pub StandsInPart : Cache L → List (Call × Answer) → Cache L → Logged → State → Type 0
+  StandsInPart old calls new held s = Stand old calls new held s (λ changes t. AreAfterPrefix held changes)

@@ -1,6 +1,6 @@
 -- What a call of the page cache does: it is one step of the machine, and a crash at any moment of it leaves a prefix of
 -- what it writes.
-use Rattle.std.specs.Prelude.{◌≡◌, true, false, length, Result, IsErrOf}
+use Rattle.std.specs.Prelude.{List, ◌≡◌, true, false, length, Result, IsErrOf}
 use Rattle.sled_base.specs.declared.types.Device.TheVariants.{Read, Write}
 use Rattle.sled_base.specs.declared.types.Error.{Error}
 use Rattle.sled_base.specs.declared.types.Error.TheVariants.{Io}
@@ -34,6 +34,10 @@ module _ {L : Type 0} (g : Ghosts L) where
   abbrev pub StepOver : Cache L → State → Call → Answer → Outcome → Type 0
   StepOver cache s call answer out = Step (chain_length g.state cache) (HasNoRoom cache.log) cache.config.idgen_persist_interval s call answer out
 
+  -- A crash at any moment of what led from the one log to the other leaves what was held and a prefix of the changes that splits no batch.
+  abbrev pub CrashLeaves : L → Logged → List (Event Update) → L → Type 0
+  CrashLeaves old held changes new = log.CrashesSinceLeave g.moment g.left_since old new (IsLeft held changes)
+
   -- From this state, over a log that holds this, the call is one step. What it writes is added to the log, and a crash at any
   -- moment of it leaves what the log held and a prefix of that which splits no batch. Behind a write error the log isn't called.
   pub record IsStep (old : Cache L) (call : Call) (answer : Answer) (new : Cache L) (held : Logged) (s : State) : Type 0 where
@@ -42,7 +46,7 @@ module _ {L : Type 0} (g : Ghosts L) where
     pub held_then : Logged
     pub is : Represents g new held_then out.state
     pub added : out.state.fault ≡ false → Adds held out.changes held_then
-    pub stop : s.fault ≡ false → log.CrashesSinceLeave g.moment g.left_since old.log new.log (IsLeft held out.changes)
+    pub stop : s.fault ≡ false → CrashLeaves old.log held out.changes new.log
     pub stuck : s.fault ≡ true → new.log ≡ old.log
 
   -- The call is one step, in whatever state the cache is.

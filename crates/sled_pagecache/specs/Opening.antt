@@ -20,7 +20,7 @@ use Rattle.sled_log.specs.LogState.{LogState, CrashesSinceLeave, unplaced_state}
 use Rattle.sled_log.specs.declared.log.Log.{Ghosts}
 use Rattle.sled_pagecache.specs.Logged.{FitsId, Logged, IsLogged, Adds, IsLeft, now}
 use Rattle.sled_pagecache.specs.Cache.{Cache, IsResident, Represents, chain_at}
-use Rattle.sled_pagecache.specs.Calls.{HasNoRoom}
+use Rattle.sled_pagecache.specs.Calls.{CrashLeaves, HasNoRoom}
 use Rattle.sled_pagecache.specs.Limits.{most_messages, most_pages}
 use Rattle.sled_pagecache.specs.Memory.{IsHindrance}
 
@@ -103,10 +103,6 @@ module _ {L : Type 0} (g : Ghosts L) where
     pub logged : IsLogged (unplaced_state (g.state log)) held_then
     pub added : Adds held changes held_then
 
-  -- A crash at any moment of the call leaves what was held and a prefix of the changes that splits no batch.
-  abbrev pub CrashLeaves : L → Logged → List (Event Update) → L → Type 0
-  CrashLeaves log held changes after = CrashesSinceLeave g.moment g.left_since log after (IsLeft held changes)
-
   -- the log has no room for the message of the first change
   abbrev pub LacksRoomFor : L → List (Event Update) → Type 0
   LacksRoomFor log [] = ⊥
@@ -117,14 +113,14 @@ module _ {L : Type 0} (g : Ghosts L) where
   pub record WasFull (log : L) (held : Logged) (begun rest : List (Event Update)) (after : L) : Type 0 where
     pub given : begun ≡ [] → LacksRoomFor log rest
     pub at : L
-    pub came : CrashLeaves log held begun at
+    pub came : CrashLeaves g log held begun at
     pub added : HasAdded held begun at
     pub room : LacksRoomFor at rest
-    pub nothing : CrashLeaves at added.held_then [] after × HasAdded added.held_then [] after
+    pub nothing : CrashLeaves g at added.held_then [] after × HasAdded added.held_then [] after
 
   -- A cache was opened: the missing system pages were added, and where one was missing, all is durable.
   pub record IsOpened (log : L) (config : Config) (held : Logged) (cache : Cache L) : Type 0 where
-    pub stop : CrashLeaves log held (changes_of_start (now held)) cache.log
+    pub stop : CrashLeaves g log held (changes_of_start (now held)) cache.log
     pub held_then : Logged
     pub added : Adds held (changes_of_start (now held)) held_then
     pub stable : missing_pages (now held) ≢ [] → held_then.pending ≡ []
@@ -139,7 +135,7 @@ module _ {L : Type 0} (g : Ghosts L) where
     pub begun : List (Event Update)
     pub rest : List (Event Update)
     pub are : begun ++ rest ≡ changes_of_start (now held)
-    pub stop : CrashLeaves log held begun after
+    pub stop : CrashLeaves g log held begun after
     pub added : error ≢ Io Write → HasAdded held begun after
     pub full : error ≡ Unsupported LogFull → WasFull log held begun rest after
 

@@ -46,17 +46,11 @@ module _ {L : Type 0} (g : Ghosts L) where
     pub is : Represents g cache held_then (opened_state config contents)
 
   -- Whatever crash state of the log since that moment a cache is started over, at Ok the cache is what is opened of pages that are so.
-  abbrev pub CrashReopensTo : L → ℕ → (List Content → Type 0) → Type 0
-  CrashReopensTo crashed since Are =
+  abbrev pub CrashReopens : L → ℕ → (List Content → Type 0) → Type 0
+  CrashReopens crashed since Are =
       (log : L) → HoldsCrash crashed since log
       → (config : Config) (result : Result (Cache L) (Error × L)) → Started log config result → IfOk result (ReopensTo Are config)
 
-  -- A log held this, and then these changes began to come: the pages are those after a prefix of the changes.
-  abbrev pub Reopens : Logged → List (Event Update) → Config → Cache L → Type 0
-  Reopens held begun = ReopensTo (AreAfterPrefix held begun)
-
-  abbrev pub CrashReopens : L → ℕ → Logged → List (Event Update) → Type 0
-  CrashReopens crashed since held begun = CrashReopensTo crashed since (AreAfterPrefix held begun)
 
 -- Why no cache is opened again: an allocation or the device failed, or the settings have that fault. What the crash left is never
 -- Corruption, and has room.

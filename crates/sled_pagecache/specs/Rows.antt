@@ -6,7 +6,7 @@ use Rattle.sled_log.specs.LogState as log
 use Rattle.sled_log.specs.declared.log.Log.{Ghosts}
 use Rattle.sled_pagecache.specs.Answers.{Keeps, KeepsStamps, stamps_after_root_swap, stamps_with, stamps_after_swap, IsCovered}
 use Rattle.sled_pagecache.specs.Cache.{Cache, Represents}
-use Rattle.sled_pagecache.specs.Calls.{IsSameOpening, StepOver, Steps, IsBlamed}
+use Rattle.sled_pagecache.specs.Calls.{CrashLeaves, IsSameOpening, StepOver, Steps, IsBlamed}
 use Rattle.sled_pagecache.specs.Logged.{Logged, Adds, IsLeft}
 use Rattle.sled_pagecache.specs.State.{State}
 use Rattle.sled_pagecache.specs.Step.{Outcome}
@@ -40,7 +40,7 @@ module _ {L : Type 0} (g : Ghosts L) where
     pub outs : List Outcome
     pub steps : AreSteps (Steps g) old s calls outs new t
     pub added : t.fault ≡ false → Adds held (changes_of outs) held_then
-    pub stop : s.fault ≡ false → log.CrashesSinceLeave g.moment g.left_since old.log new.log (IsLeft held (changes_of outs))
+    pub stop : s.fault ≡ false → CrashLeaves g old.log held (changes_of outs) new.log
     pub stuck : s.fault ≡ true → new.log ≡ old.log
 
   -- The calls are steps in a row, in whatever state the cache is.

@@ -6,7 +6,7 @@ ghost use Rattle.sled_pagecache.specs.Batches.{AreWithout, AreThoseOf, RunsBatch
 ghost use Rattle.sled_pagecache.specs.Cache.{Cache, Represents};
 ghost use Rattle.sled_pagecache.specs.Calls.{Steps};
 ghost use Rattle.sled_pagecache.specs.Logged.{Logged};
-ghost use Rattle.sled_pagecache.specs.Reopening.{CrashReopensTo};
+ghost use Rattle.sled_pagecache.specs.Reopening.{CrashReopens};
 ghost use Rattle.sled_pagecache.specs.Rows.{IsMade};
 ghost use Rattle.sled_pagecache.specs.State.{State};
 ghost use Rattle.sled_pagecache.specs.declared.pagecache.call.Answer.{Answer};
@@ -27,7 +27,7 @@ pub fn a_batch_stands_whole_or_not_at_all<L: Log>()
         → (held : Logged) (s : State)
         → Represents L.Log old held s
         → s.fault ≡ false
-        → CrashReopensTo L.Log new.log (L.moment old.log) (AreWithout held) }
+        → CrashReopens L.Log new.log (L.moment old.log) (AreWithout held) }
     ensures sealed { (old mid new : Cache L) (calls : List (Call × Answer))
         (result : Result (Unit {0}) Error)
         → RunsBatch L.Log old calls mid
@@ -40,7 +40,7 @@ pub fn a_batch_stands_whole_or_not_at_all<L: Log>()
         → IsMade L.Log old Flush (Flushed (Ok n)) new
         → (held : Logged) (s : State)
         → Represents L.Log old held s
-        → CrashReopensTo L.Log new.log (L.moment new.log) (AreThoseOf s) }
+        → CrashReopens L.Log new.log (L.moment new.log) (AreThoseOf s) }
     ensures cancelled { (old mid new : Cache L) (calls : List (Call × Answer))
         (result : Result (Unit {0}) Error)
         → RunsBatch L.Log old calls mid

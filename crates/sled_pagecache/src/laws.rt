@@ -10,7 +10,7 @@ ghost use Rattle.sled_pagecache.specs.Calls.{StepOver, Steps};
 ghost use Rattle.sled_pagecache.specs.Limits.{meta_pid, counter_pid, batch_manifest_pid, most_messages, pid_bits, chunk_bits, chunk_length};
 ghost use Rattle.sled_pagecache.specs.Logged.{Logged, IsLogged, IsLeft, now};
 ghost use Rattle.sled_pagecache.specs.Opening.{changes_of_start};
-ghost use Rattle.sled_pagecache.specs.Reopening.{CrashReopens};
+ghost use Rattle.sled_pagecache.specs.Reopening.{AreAfterPrefix, CrashReopens};
 ghost use Rattle.sled_pagecache.specs.Rows.{AreSteps, StepInRow, changes_of};
 ghost use Rattle.sled_pagecache.specs.Opening.{Opens, log_after, stable_state, stable_contents};
 ghost use Rattle.sled_pagecache.specs.State.{State};
@@ -63,17 +63,17 @@ pub fn a_crash_reopens_to_a_prefix<L: Log>()
         → Represents L.Log old held s
         → s.fault ≡ false
         → (out : Outcome) × StepOver L.Log old s call answer out
-        × CrashReopens L.Log new.log (L.moment old.log) held out.changes }
+        × CrashReopens L.Log new.log (L.moment old.log) (AreAfterPrefix held out.changes) }
     ensures of_calls { (old new : Cache L) (calls : List (Call × Answer))
         → StepInRow L.Log old calls new
         → (held : Logged) (s : State)
         → Represents L.Log old held s
         → s.fault ≡ false
         → (outs : List Outcome) × (t : State) × AreSteps L.Log (Steps L.Log) old s calls outs new t
-        × CrashReopens L.Log new.log (L.moment old.log) held (changes_of outs) }
+        × CrashReopens L.Log new.log (L.moment old.log) (AreAfterPrefix held (changes_of outs)) }
     ensures of_opening { L.tells
         → (log : L) (config : Config) (held : Logged) (result : Result (Cache L) (Error × L))
         → Opens L.Log log config held result
         → (begun : List (Event Update)) × IsPrefix begun (changes_of_start (now held))
-        × CrashReopens L.Log (log_after result) (L.moment log) held begun }
+        × CrashReopens L.Log (log_after result) (L.moment log) (AreAfterPrefix held begun) }
 {}

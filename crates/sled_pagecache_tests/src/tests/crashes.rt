@@ -9,7 +9,7 @@ ghost use Rattle.sled_pagecache.specs.Cache.{Cache as CacheModel, Represents};
 ghost use Rattle.sled_pagecache.specs.Calls.{StepOver, Steps};
 ghost use Rattle.sled_pagecache.specs.Logged.{Logged};
 ghost use Rattle.sled_pagecache.specs.Openings.{Crashed, Leaves};
-ghost use Rattle.sled_pagecache.specs.Reopening.{Reopens};
+ghost use Rattle.sled_pagecache.specs.Reopening.{AreAfterPrefix, ReopensTo};
 ghost use Rattle.sled_pagecache.specs.State.{State};
 ghost use Rattle.sled_pagecache.specs.Step.{Outcome};
 ghost use Rattle.sled_pagecache.specs.declared.pagecache.call.Answer.{Answer};
@@ -42,7 +42,7 @@ pub(super) fn reopen(
     n: usize,
 ) -> Result<PageCache<MemLog>, (Error, MemLog)>
     requires { IsFair (state_of log).pending n }
-    ensures { (old new : CacheModel MemLog) (call : Call) (answer : Answer) (held : Logged) (s : State) → new.log ≡ log → Steps mem.ghosts old call answer new → Represents mem.ghosts old held s → s.fault ≡ false → (out : Outcome) × StepOver mem.ghosts old s call answer out × IfOk result (Reopens mem.ghosts held out.changes config) }
+    ensures { (old new : CacheModel MemLog) (call : Call) (answer : Answer) (held : Logged) (s : State) → new.log ≡ log → Steps mem.ghosts old call answer new → Represents mem.ghosts old held s → s.fault ≡ false → (out : Outcome) × StepOver mem.ghosts old s call answer out × IfOk result (ReopensTo mem.ghosts (AreAfterPrefix held out.changes) config) }
 {
     a_crash_reopens_to_a_prefix::<MemLog>();
     PageCache::start(alloc, config, log.stop(n))

@@ -1,5 +1,5 @@
 use Rattle.sled_pagecache.proofs.Reopening.{crash-reopens}
-use Rattle.sled_pagecache.proofs.Names.{changes_of, changes_of_start, List, [], append-nil, Result, Ok, Err, Error, Update, Event, IsPrefix, Cache, Logged, CrashReopens, Opens, Config, log_after}
+use Rattle.sled_pagecache.proofs.Names.{changes_of, changes_of_start, List, [], append-nil, Result, Ok, Err, Error, Update, Event, IsPrefix, Cache, Logged, AreAfterPrefix, CrashReopens, Opens, Config, log_after}
 use Rattle.sled_pagecache.specs.Logged.{now}
 use Rattle.sled_pagecache.proofs.laws.a_crash_reopens_to_a_prefix.Goals as goal
 
@@ -17,7 +17,7 @@ pub returns-clause-of_opening : goal.returns-clause-of_opening
 returns-clause-of_opening g c = λ told log config held result opens. by told log config held result opens
   where
     by : g.L.Log.tells → (log : _) (config : Config) (held : Logged) (result : Result (Cache _) (Error × _)) → Opens g.L.Log log config held result
-        → (begun : List (Event Update)) × IsPrefix begun (changes_of_start (now held)) × CrashReopens g.L.Log (log_after result) (g.L.Log.moment log) held begun
+        → (begun : List (Event Update)) × IsPrefix begun (changes_of_start (now held)) × CrashReopens g.L.Log (log_after result) (g.L.Log.moment log) (AreAfterPrefix held begun)
     by told log config held (Ok cache) opens =
         (changes_of_start (now held), ([], append-nil (changes_of_start (now held))), crash-reopens g.L.Log (λ log t u pages. g.met.L.Log.since_earlier log t u pages told) cache.log (g.L.Log.moment log) held (changes_of_start (now held)) opens.stop.each)
     by told log config held (Err refused) opens =
