@@ -1,12 +1,13 @@
 -- What a call of a log does.
-use Rattle.std.specs.Prelude.{◌≡◌, ◌⊎◌, ◌+◌, ◌<◌, ◌≤◌, ℕ, Bool, true, false, not, nat_lt, nat_le, ◌==◌, List, [], length, slice_index_or, Result, Ok, Err, IfOk, OnErr, IsErrOf, if◌then◌else◌, None}
+use Rattle.std.specs.Prelude.{ℤ, ◌∷◌, ◌≡◌, ◌⊎◌, ◌+◌, ◌<◌, ◌≤◌, ℕ, Bool, true, false, not, nat_lt, nat_le, ◌==◌, List, [], length, slice_index_or, Result, Ok, Err, IfOk, OnErr, IsErrOf, if◌then◌else◌, None}
+use Rattle.sled_base.specs.declared.types.DiskPtr.{DiskPtr}
 use Rattle.sled_base.specs.declared.kinds.LogKind.{LogKind}
 use Rattle.sled_base.specs.declared.kinds.MessageKind.{MessageKind}
 use Rattle.sled_base.specs.declared.kinds.MessageKind.TheVariants as kinds
-use Rattle.sled_log.specs.Events.{is_open, open_after, Event}
+use Rattle.sled_log.specs.Events.{is_open, open_after, Event, Change, Pin, Seal, Cancel}
 use Rattle.sled_log.specs.Chains.{is_empty}
 use Rattle.sled_log.specs.Limits.{most_count}
-use Rattle.sled_log.specs.Messages.{Message, Entry, Messages, effect_of, effect_of_entry}
+use Rattle.sled_log.specs.Messages.{Message, Entry, Messages, effect_of, effect_of_entry, placed_entry}
 use Rattle.sled_log.specs.LogState.{LogState, Adds, IsLeft, unplaced_state, CrashesSinceLeave}
 use Rattle.sled_log.specs.declared.log.LogError.{LogError}
 use Rattle.sled_log.specs.declared.log.LogError.TheVariants.{Memory, Full, ReadFault, WriteFault, Corruption}
@@ -87,3 +88,28 @@ refusal_of Full = refusals.Unsupported LogFull
 refusal_of ReadFault = refusals.Io Read
 refusal_of WriteFault = refusals.Io Write
 refusal_of Corruption = refusals.Corruption None
+
+-- ---- What each call of a log does.
+
+module _ {L : Type 0} (tells : Type 0) (state : L → LogState Entry) (moment : L → ℕ) (left_since : L → ℕ → List Messages → Type 0) (counts : L → Counts) where
+  -- one that adds a message of a page, and answers its place
+  abbrev pub Appends : L → L → ℕ → Message → Result (ℤ × DiskPtr × ℕ) LogError → Type 0
+  Appends old new pid message result =
+      Called tells state moment left_since counts old new (counts old).reads (λ said. Change pid (placed_entry message said) ∷ []) (Change pid message ∷ []) result
+
+  -- one that adds nothing, and reads the log once or not at all
+  abbrev pub ReadsOnce : {T : Type 0} → L → L → Result T LogError → Type 0
+  ReadsOnce old new result = Called tells state moment left_since counts old new (one_more (counts old).reads) (λ _. []) [] result
+
+  abbrev pub AddsNothing : {T : Type 0} → L → L → Result T LogError → Type 0
+  AddsNothing old new result = Called tells state moment left_since counts old new (counts old).reads (λ _. []) [] result
+
+  -- one that adds the mark of a batch
+  abbrev pub Pins : L → L → Result (Unit {0}) LogError → Type 0
+  Pins old new result = Called tells state moment left_since counts old new (counts old).reads (λ _. Pin ∷ []) (Pin ∷ []) result
+
+  abbrev pub Seals : L → L → Result (Unit {0}) LogError → Type 0
+  Seals old new result = Called tells state moment left_since counts old new (counts old).reads (λ _. Seal ∷ []) (Seal ∷ []) result
+
+  abbrev pub Cancels : L → L → Result (Unit {0}) LogError → Type 0
+  Cancels old new result = Called tells state moment left_since counts old new (counts old).reads (λ _. Cancel ∷ []) (Cancel ∷ []) result

@@ -3,7 +3,7 @@
 ghost use Rattle.std.specs.Prelude.{◌≡◌, ℕ, ℤ, ◌+◌, ◌≤◌, ◌<◌, List, [], ◌∷◌, true, false, length, slice_index_or, IfOk, IfErr, OnOk, IsErrOf};
 ghost use Rattle.std.specs.List.{All, AllByRecursion, Any, AllZip};
 ghost use Rattle.sled_log.specs.Events.{is_open};
-ghost use Rattle.sled_log.specs.Calls.{Called, Counts, can_append, one_more};
+ghost use Rattle.sled_log.specs.Calls.{Counts, can_append, Appends, Pins, Seals, Cancels, AddsNothing, ReadsOnce};
 ghost use Rattle.sled_log.specs.Chains.{is_chain};
 ghost use Rattle.sled_log.specs.Events.{Change, Pin, Seal, Cancel};
 ghost use Rattle.sled_log.specs.Limits.{head_size, size_limit};
@@ -124,9 +124,8 @@ pub trait Log: Drop {
         requires usable { (state self.old).usable ≡ true }
         requires can { tells
             → can_append effect_of_entry (now effect_of_entry (state self.old)) pid kind ≡ true }
-        ensures called { Called tells state moment left_since counts self.old self.new
-            (counts self.old).reads (λ said. Change pid (placed_entry (message kind payload.now) said)
-            ∷ []) (Change pid (message kind payload.now) ∷ []) result }
+        ensures called { Appends tells state moment left_since counts self.old self.new
+            pid (message kind payload.now) result }
         ensures size { IfOk result (λ said. (said.2 ≡ head_size + length payload.now)
             × (said.2 < size_limit)) }
         ensures full { IsErrOf result Full → is_full self.old (length payload.now) }
@@ -144,8 +143,7 @@ pub trait Log: Drop {
         requires usable { (state self.old).usable ≡ true }
         requires known { tells → Any (IsAt lsn pointer)
             (slice_index_or (now effect_of_entry (state self.old)) pid []) }
-        ensures called { Called tells state moment left_since counts self.old self.new
-            (one_more (counts self.old).reads) (λ _. []) [] result }
+        ensures called { ReadsOnce tells state moment left_since counts self.old self.new result }
         ensures found { tells
             → IfOk result (λ found. All (λ entry. IsAt lsn pointer entry → IsRead entry found)
             (slice_index_or (now effect_of_entry (state self.old)) pid [])) }
@@ -156,8 +154,7 @@ pub trait Log: Drop {
     fn make_stable(&mut self) -> Result<usize, LogError>
         requires usable { (state self.old).usable ≡ true }
         requires closed { is_open (state self.old).pending ≡ false }
-        ensures called { Called tells state moment left_since counts self.old self.new
-            (counts self.old).reads (λ _. []) [] result }
+        ensures called { AddsNothing tells state moment left_since counts self.old self.new result }
         ensures stable { OnOk result ((state self.new).pending ≡ []) }
         ensures number { IfOk result (λ n. n ≡ to_write self.old) }
         ensures only { IfErr result (λ e. e ≡ WriteFault) };
@@ -166,31 +163,27 @@ pub trait Log: Drop {
     fn pin(&mut self) -> Result<(), LogError>
         requires usable { (state self.old).usable ≡ true }
         requires closed { is_open (state self.old).pending ≡ false }
-        ensures called { Called tells state moment left_since counts self.old self.new
-            (counts self.old).reads (λ _. Pin ∷ []) (Pin ∷ []) result }
+        ensures called { Pins tells state moment left_since counts self.old self.new result }
         ensures full { IsErrOf result Full → is_full_for_batch self.old };
 
     /// Closes the batch: a crash leaves all of it or nothing. It allocates nothing.
     fn seal(&mut self) -> Result<(), LogError>
         requires usable { (state self.old).usable ≡ true }
         requires opened { is_open (state self.old).pending ≡ true }
-        ensures called { Called tells state moment left_since counts self.old self.new
-            (counts self.old).reads (λ _. Seal ∷ []) (Seal ∷ []) result }
+        ensures called { Seals tells state moment left_since counts self.old self.new result }
         ensures only { IfErr result (λ e. e ≡ WriteFault) };
 
     /// Closes the batch: a crash may leave a part of it. It allocates nothing.
     fn cancel(&mut self) -> Result<(), LogError>
         requires usable { (state self.old).usable ≡ true }
         requires opened { is_open (state self.old).pending ≡ true }
-        ensures called { Called tells state moment left_since counts self.old self.new
-            (counts self.old).reads (λ _. Cancel ∷ []) (Cancel ∷ []) result }
+        ensures called { Cancels tells state moment left_since counts self.old self.new result }
         ensures only { IfErr result (λ e. e ≡ WriteFault) };
 
     /// The pages, by id, with the places of their chains. It adds nothing, and takes up no room.
     fn recover(&mut self) -> Result<Vec<PageState>, LogError>
         requires usable { (state self.old).usable ≡ true }
-        ensures called { Called tells state moment left_since counts self.old self.new
-            (counts self.old).reads (λ _. []) [] result }
+        ensures called { AddsNothing tells state moment left_since counts self.old self.new result }
         ensures pages { tells → IfOk result
             (λ pages. AllZip IsPageState (now effect_of_entry (state self.old)) pages.items) }
         ensures sized { tells
@@ -226,11 +219,15 @@ pub trait Log: Drop {
         ensures { result ≡ (counts self.now).write_faults };
 
     /// A crash at this moment may leave what is durable and no more.
-    ghost keeps_stable: { (log : Self) → tells → (state log).usable ≡ true → left_since log (moment log) (unplaced_state (state log)).stable };
+    ghost keeps_stable: { (log : Self) → tells → (state log).usable ≡ true
+        → left_since log (moment log) (unplaced_state (state log)).stable };
 
     /// It leaves what is durable, and a prefix of what is pending that splits no batch.
-    ghost only_now: { (log : Self) (pages : List Messages) → tells → (state log).usable ≡ true → left_since log (moment log) pages → IsLeft effect_of (unplaced_state (state log)) [] pages };
+    ghost only_now: { (log : Self) (pages : List Messages) → tells → (state log).usable ≡ true
+        → left_since log (moment log) pages
+        → IsLeft effect_of (unplaced_state (state log)) [] pages };
 
     /// What a crash since some moment might have left, it might have left since an earlier one.
-    ghost since_earlier: { (log : Self) (t u : ℕ) (pages : List Messages) → tells → t ≤ u → left_since log u pages → left_since log t pages };
+    ghost since_earlier: { (log : Self) (t u : ℕ) (pages : List Messages) → tells → t ≤ u
+        → left_since log u pages → left_since log t pages };
 }

@@ -3,7 +3,7 @@
 ghost use Rattle.std.specs.Prelude.{◌≡◌, ◌≤◌, ◌<◌, ◌+◌, ◌^◌, ◌⊎◌, ◌↔◌, ℕ, ℤ, pos, [], ◌∷◌, true, false, length, slice_index_or, IfOk, IfErr, OnOk, IsErrOf, IsOk, IfSome};
 ghost use Rattle.std.specs.List.{All, AllByRecursion, AllZip, Any};
 ghost use Rattle.sled_log.specs.Events.{is_open};
-ghost use Rattle.sled_log.specs.Calls.{Called, can_append, one_more};
+ghost use Rattle.sled_log.specs.Calls.{can_append, Appends, Pins, Seals, Cancels, AddsNothing, ReadsOnce};
 ghost use Rattle.sled_log.specs.Chains.{is_chain};
 ghost use Rattle.sled_log.specs.Events.{Change, Pin, Seal, Cancel};
 ghost use Rattle.sled_log.specs.Limits.{head_size, size_limit};
@@ -73,10 +73,9 @@ impl<D: Disk> Log for DiskLog<D> {
         requires usable { (⟦<Self as Log>⟧.state self.old).usable ≡ true }
         requires can { D.tells → can_append effect_of_entry
             (now effect_of_entry (⟦<Self as Log>⟧.state self.old)) pid kind ≡ true }
-        ensures called { Called D.tells ⟦<Self as Log>⟧.state ⟦<Self as Log>⟧.moment
-            ⟦<Self as Log>⟧.left_since ⟦<Self as Log>⟧.counts self.old self.new self.old.reads
-            (λ said. Change pid (placed_entry (message kind payload.now) said) ∷ [])
-            (Change pid (message kind payload.now) ∷ []) result }
+        ensures called { Appends D.tells ⟦<Self as Log>⟧.state ⟦<Self as Log>⟧.moment
+            ⟦<Self as Log>⟧.left_since ⟦<Self as Log>⟧.counts self.old self.new
+            pid (message kind payload.now) result }
         ensures any_moment { D.tells
             → BytesLeft D.moment D.left_since self.old.disk self.new.disk (IsBeforeOrAfter
             (events_in (D.seen self.old.disk)) (events_with self.old.next kind pid payload.now)) }
@@ -112,9 +111,8 @@ impl<D: Disk> Log for DiskLog<D> {
         requires usable { (⟦<Self as Log>⟧.state self.old).usable ≡ true }
         requires known { D.tells → Any (IsAt lsn pointer)
             (slice_index_or (now effect_of_entry (⟦<Self as Log>⟧.state self.old)) pid []) }
-        ensures called { Called D.tells ⟦<Self as Log>⟧.state ⟦<Self as Log>⟧.moment
-            ⟦<Self as Log>⟧.left_since ⟦<Self as Log>⟧.counts self.old self.new
-            (one_more self.old.reads) (λ _. []) [] result }
+        ensures called { ReadsOnce D.tells ⟦<Self as Log>⟧.state ⟦<Self as Log>⟧.moment
+            ⟦<Self as Log>⟧.left_since ⟦<Self as Log>⟧.counts self.old self.new result }
         ensures found { D.tells
             → IfOk result (λ found. All (λ entry. IsAt lsn pointer entry → IsRead entry found)
             (slice_index_or (now effect_of_entry (⟦<Self as Log>⟧.state self.old)) pid [])) }
@@ -144,9 +142,8 @@ impl<D: Disk> Log for DiskLog<D> {
     fn make_stable(&mut self) -> Result<usize, LogError>
         requires usable { (⟦<Self as Log>⟧.state self.old).usable ≡ true }
         requires closed { is_open (⟦<Self as Log>⟧.state self.old).pending ≡ false }
-        ensures called { Called D.tells ⟦<Self as Log>⟧.state ⟦<Self as Log>⟧.moment
-            ⟦<Self as Log>⟧.left_since ⟦<Self as Log>⟧.counts self.old self.new self.old.reads
-            (λ _. []) [] result }
+        ensures called { AddsNothing D.tells ⟦<Self as Log>⟧.state ⟦<Self as Log>⟧.moment
+            ⟦<Self as Log>⟧.left_since ⟦<Self as Log>⟧.counts self.old self.new result }
         ensures stable { OnOk result ((⟦<Self as Log>⟧.state self.new).pending ≡ []) }
         ensures settings { (self.new.segment_size ≡ self.old.segment_size)
             × (self.new.clean_every ≡ self.old.clean_every) }
@@ -167,9 +164,8 @@ impl<D: Disk> Log for DiskLog<D> {
     fn pin(&mut self) -> Result<(), LogError>
         requires usable { (⟦<Self as Log>⟧.state self.old).usable ≡ true }
         requires closed { is_open (⟦<Self as Log>⟧.state self.old).pending ≡ false }
-        ensures called { Called D.tells ⟦<Self as Log>⟧.state ⟦<Self as Log>⟧.moment
-            ⟦<Self as Log>⟧.left_since ⟦<Self as Log>⟧.counts self.old self.new self.old.reads
-            (λ _. Pin ∷ []) (Pin ∷ []) result }
+        ensures called { Pins D.tells ⟦<Self as Log>⟧.state ⟦<Self as Log>⟧.moment
+            ⟦<Self as Log>⟧.left_since ⟦<Self as Log>⟧.counts self.old self.new result }
         ensures settings { (self.new.segment_size ≡ self.old.segment_size)
             × (self.new.clean_every ≡ self.old.clean_every) }
         ensures rests { Rests D.tells D.seen D.may_leave D.moment D.left_since self.old.disk
@@ -189,9 +185,8 @@ impl<D: Disk> Log for DiskLog<D> {
     fn seal(&mut self) -> Result<(), LogError>
         requires usable { (⟦<Self as Log>⟧.state self.old).usable ≡ true }
         requires opened { is_open (⟦<Self as Log>⟧.state self.old).pending ≡ true }
-        ensures called { Called D.tells ⟦<Self as Log>⟧.state ⟦<Self as Log>⟧.moment
-            ⟦<Self as Log>⟧.left_since ⟦<Self as Log>⟧.counts self.old self.new self.old.reads
-            (λ _. Seal ∷ []) (Seal ∷ []) result }
+        ensures called { Seals D.tells ⟦<Self as Log>⟧.state ⟦<Self as Log>⟧.moment
+            ⟦<Self as Log>⟧.left_since ⟦<Self as Log>⟧.counts self.old self.new result }
         ensures disk { self.new.disk ≡ self.old.disk }
         ensures settings { (self.new.segment_size ≡ self.old.segment_size)
             × (self.new.clean_every ≡ self.old.clean_every) }
@@ -205,9 +200,8 @@ impl<D: Disk> Log for DiskLog<D> {
     fn cancel(&mut self) -> Result<(), LogError>
         requires usable { (⟦<Self as Log>⟧.state self.old).usable ≡ true }
         requires opened { is_open (⟦<Self as Log>⟧.state self.old).pending ≡ true }
-        ensures called { Called D.tells ⟦<Self as Log>⟧.state ⟦<Self as Log>⟧.moment
-            ⟦<Self as Log>⟧.left_since ⟦<Self as Log>⟧.counts self.old self.new self.old.reads
-            (λ _. Cancel ∷ []) (Cancel ∷ []) result }
+        ensures called { Cancels D.tells ⟦<Self as Log>⟧.state ⟦<Self as Log>⟧.moment
+            ⟦<Self as Log>⟧.left_since ⟦<Self as Log>⟧.counts self.old self.new result }
         ensures disk { self.new.disk ≡ self.old.disk }
         ensures settings { (self.new.segment_size ≡ self.old.segment_size)
             × (self.new.clean_every ≡ self.old.clean_every) }
@@ -220,9 +214,8 @@ impl<D: Disk> Log for DiskLog<D> {
     // It fails for memory alone, whatever the disk gives.
     fn recover(&mut self) -> Result<Vec<PageState>, LogError>
         requires usable { (⟦<Self as Log>⟧.state self.old).usable ≡ true }
-        ensures called { Called D.tells ⟦<Self as Log>⟧.state ⟦<Self as Log>⟧.moment
-            ⟦<Self as Log>⟧.left_since ⟦<Self as Log>⟧.counts self.old self.new self.old.reads
-            (λ _. []) [] result }
+        ensures called { AddsNothing D.tells ⟦<Self as Log>⟧.state ⟦<Self as Log>⟧.moment
+            ⟦<Self as Log>⟧.left_since ⟦<Self as Log>⟧.counts self.old self.new result }
         ensures pages { D.tells → IfOk result (λ pages. AllZip IsPageState
             (now effect_of_entry (⟦<Self as Log>⟧.state self.old)) pages.items) }
         ensures sized { D.tells → OnOk result

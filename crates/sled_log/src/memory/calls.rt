@@ -3,7 +3,7 @@
 ghost use Rattle.std.specs.Prelude.{⊤, ◌≡◌, ℕ, ◌+◌, ◌≤◌, ◌<◌, ◌↔◌, pos, [], ◌∷◌, length, true, false, slice_index_or, IfOk, IfErr, OnOk, IsOk, IsErrOf};
 ghost use Rattle.std.specs.List.{All, AllByRecursion, AllZip, Any};
 ghost use Rattle.sled_log.specs.Events.{is_open};
-ghost use Rattle.sled_log.specs.Calls.{Called, one_more};
+ghost use Rattle.sled_log.specs.Calls.{ReadsOnce};
 ghost use Rattle.sled_log.specs.Chains.{is_chain};
 ghost use Rattle.sled_log.specs.Events.{Change, Pin, Seal, Cancel};
 ghost use Rattle.sled_log.specs.Inside.Items.{left_now, left_earlier, stable_left};
@@ -94,8 +94,7 @@ impl Log for MemLog {
     ) -> Result<(MessageKind, Vec<u8>), LogError>
         requires known { Any (IsAt lsn pointer)
             (slice_index_or (now effect_of_entry (state_of self.old)) pid []) }
-        ensures called { Called ⊤ state_of clock_of might_have_left counts_of self.old self.new
-            (one_more (counts_of self.old).reads) (λ _. []) [] result }
+        ensures called { ReadsOnce ⊤ state_of clock_of might_have_left counts_of self.old self.new result }
         ensures found { IfOk result
             (λ found. All (λ entry. IsAt lsn pointer entry → IsRead entry found)
             (slice_index_or (now effect_of_entry (state_of self.old)) pid [])) }
