@@ -1,5 +1,6 @@
 -- A get as a step of the machine: a page is brought in, and then its node is lent.
 use Rattle.sled_pagecache.proofs.Names.{MatchOption, HasNode, HasNoNode, IsBounded, KeepsMemory, AccessesPage, FindsPage, ◌≡◌, inl, inr, ℕ, Bool, true, false, List, [], Option, Some, None, Result, Ok, Err, slice_get, slice_index_or, refl, sym, ◌∙◌, ap, subst, false≢true, false_from_ne_true, error_of, IsOk, IsErrOf, Write, Error, Refusal, Io, ReservedId, Content, Free, Node, Damaged, Chain, messages_of, holds-made, Makes, Holds, Ghosts, WholeNode, Keeps, Cache, Represents, IsResident, IsAway, Steps, IsBlamed, chain_at, ReportsWrong, is_write_fault, Logged, sticky_log_of, RefusesReading, BringsIn, IsNodeAt, IsUsers, RefusesPull, ReadsPage, page, State, page_at, is_reserved, Finds, FindsContent, Token, Got, Get, NodeView, IsGot, Outcome, no_change, Gets, IfSome, StampedPage, answered, arith, behind-own}
+use Rattle.sled_pagecache.proofs.LeftPages.{went-left}
 use Rattle.sled_base.specs.declared.types.Error.TheVariants as error
 use Rattle.sled_pagecache.proofs.Answers.{keeps-stuck, keeps-err, keeps-ok}
 use Rattle.sled_pagecache.proofs.CacheSteps.{LeadsTo, steps-stuck, steps-known, steps-went}
@@ -45,7 +46,7 @@ module _ {L : Type 0} (g : Ghosts L) where
 
     pub get-refused : g.tells → (refusal : Refusal) → (let err : Result (Unit {0}) Refusal = Err refusal in BringsIn g old pid err new) → Steps g old (Get pid) (Got (Err (error_of refusal))) new
     get-refused known refusal brings =
-        steps-went g old new (sticky_log_of old) (sticky_log_of new) (Get pid) (Got (Err (error_of refusal))) [] brings.left.opening refl refl refl ready brings.left.went
+        steps-went g old new (sticky_log_of old) (sticky_log_of new) (Get pid) (Got (Err (error_of refusal))) [] brings.left.opening refl refl refl ready (went-left g old new brings.left)
         (λ held s is clear. refused-leads brings.left.next brings.left.stamps held s is clear refusal (brings.refused known) brings.cause.fault)
 
     -- the page lies in memory
@@ -85,7 +86,7 @@ module _ {L : Type 0} (g : Ghosts L) where
 
       pub get-found : (found : Option NodeView) → IsNodeAt g new pid found → Steps g old (Get pid) (Got (answered (Ok found))) new
       get-found found at =
-          steps-went g old new (sticky_log_of old) (sticky_log_of new) (Get pid) (Got (answered (Ok found))) [] brings.left.opening refl refl refl ready brings.left.went
+          steps-went g old new (sticky_log_of old) (sticky_log_of new) (Get pid) (Got (answered (Ok found))) [] brings.left.opening refl refl refl ready (went-left g old new brings.left)
           (λ held s is clear. found-leads held s is clear found at)
 
 -- ---- what a caller knows
@@ -127,10 +128,10 @@ module _ {L : Type 0} (g : Ghosts L) (old new : Cache L) (pid : ℕ) where
 
       by : (found : Option NodeView) → old.fault ≡ false → IsNodeAt g new pid found
           → IsBlamed g old new (answered (Ok found)) × Keeps old new (answered (Ok found)) (λ _. old.stamps) × IfSome found (λ view. IsResident new pid) × IfSome found (λ view. view.token.pid ≡ pid)
-      by None ready at = (record { read = λ h. cc; write = λ h. cc }, keeps-ok old new (λ _. old.stamps) None ready (brings ready).cause.fault (brings ready).left.stamps (brings ready).left.went.batch, tt, tt)
+      by None ready at = (record { read = λ h. cc; write = λ h. cc }, keeps-ok old new (λ _. old.stamps) None ready (brings ready).cause.fault (brings ready).left.stamps (brings ready).left.batch, tt, tt)
       by (Some view) ready at = (
         record { read = λ h. cc; write = λ h. cc },
-        keeps-ok old new (λ _. old.stamps) (Some (view.token, view.node.now)) ready (brings ready).cause.fault (brings ready).left.stamps (brings ready).left.went.batch,
+        keeps-ok old new (λ _. old.stamps) (Some (view.token, view.node.now)) ready (brings ready).cause.fault (brings ready).left.stamps (brings ready).left.batch,
         at.2,
         ap (λ (t : Token). t.pid) at.0,
       )
@@ -173,7 +174,7 @@ module _ {L : Type 0} (g : Ghosts L) (old new : Cache L) (pid : ℕ) where
           record {
             step = steps-known g old new (Get pid) (Got (Err (error_of refusal))) done.left.opening (λ known. get-refused g old new pid ready known refusal done);
             blame = blamed g old new ⊥ refusal done.cause;
-            keeps = keeps-err old new (λ _. old.stamps) (Unit {0}) refusal ready done.cause.fault done.left.stamps done.left.went.batch;
+            keeps = keeps-err old new (λ _. old.stamps) (Unit {0}) refusal ready done.cause.fault done.left.stamps done.left.batch;
             reads = reads;
             once = tt;
             token = tt;

@@ -1,5 +1,6 @@
 -- A link that is tested, and one of a damaged page.
 use Rattle.sled_pagecache.proofs.Names.{Recency, ◌≡◌, inl, inr, ℕ, Bool, true, false, List, Option, Some, None, Err, slice_get, slice_set, refl, sym, ◌∙◌, ap, subst, false≢true, option_map, slice_get-map, none-some, same_Some, MatchBool, error_of, LinkRefused, Write, Refusal, ReportableBug, Io, Corruption, OutOfMemory, ReservedId, StampUsedUp, LogFull, is_empty, Node, Chain, messages_of, effect_of_entry, Makes, one_content, Ghosts, Accepts, WholeNode, Cache, Represents, IsResident, chain_at, ReportsWrong, MeetsDamage, ReportsDamage, Judges, IsFresh, IsRejected, IsTested, TestsFirst, RefusesUnappended, TakesLink, RefusesAppended, Logged, HoldsChain, is_resident, is_free, State, page, page_at, Swapped, is_reserved, RefusesLink, stamps_in, resident_in, IsFreeOrNode, IsConsistent, Token, Config, StickyLog, Rejection, Refused, Stale, Gone, Kept, NodeLink, StampedPage, KeptPage, map-at, kept-at, own-at, behind-own}
+use Rattle.sled_pagecache.proofs.LeftPages.{leaves-went}
 use Rattle.sled_base.specs.declared.types.Refusal.TheVariants.{Unsupported}
 use Rattle.sled_log.specs.LogState as log
 use Rattle.sled_pagecache.proofs.Held.{state-page}
@@ -122,13 +123,7 @@ module _ {L : Type 0} (g : Ghosts L) (next : ℕ) (config : Config) (recovered :
           → ReportsDamage g old pid (let answer : Swapped NodeLink = Err (error_of refusal) in answer) (view next config recovered lru after (slice_set pages pid page_then))
       refused-damage refusal (inl (went, why)) stamp still = record {
         reported = unappended-wrong refusal why;
-        left = record {
-          opening = record { config = refl; recovered = refl };
-          stamps = stamps-same g next config recovered lru before after pages free pid q page_then c fresh.clear fresh.behind fresh.at stamp;
-          next = refl;
-          went = went;
-          same = still;
-        };
+        left = leaves-went g _ _ (record { config = refl; recovered = refl }) (stamps-same g next config recovered lru before after pages free pid q page_then c fresh.clear fresh.behind fresh.at stamp) refl went still;
       }
       refused-damage refusal (inr (write, tells)) stamp still = absurd (meets.damaged.1 (tells.node, tells.made meets.tells))
 

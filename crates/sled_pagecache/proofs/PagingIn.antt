@@ -1,5 +1,6 @@
 -- A page that is brought into memory: the table beside its log, and what one sees who knows the cache by its model.
 use Rattle.sled_pagecache.proofs.Names.{Recency, ◌≡◌, ◌≤◌, inr, ℕ, Bool, true, false, List, [], length, Some, Result, Ok, Err, slice_get, slice_set, slice_index_or, refl, sym, ◌∙◌, ap, subst, arith, false≢true, false_from_ne_true, map-set, set-get_or, length-map, get_or_past, none-some, same_Some, slice_get_past, AllZip-long, AllByRecursion, IfErr, OnOk, OnErr, IsOk, Refusal, is_open, open_after, is_empty, is_chain, Event, Message, Chain, effect_of, effect_of_entry, IsSized, Ghosts, Cache, chain_length, IsResident, IsAway, chain_at, count_after, Went, IsCaused, Went-none, HoldsChain, IsKept, is_free, is_resident, RefusesReading, BringsIn, RefusesPull, IsDamaged, ReadsPage, is_reserved, stamps_in, resident_in, IsFreeOrNode, IsConsistent, Config, StickyLog, Kept, Page, unplaced_state, IsLeft, now, view, map-at, set-at, put-back, all-at, behind-own, kept-at, own-at}
+use Rattle.sled_pagecache.proofs.LeftPages.{leaves-went}
 use Rattle.sled_pagecache.proofs.ReadCounts.{reads-none, reads-whole, reads-part}
 use Rattle.sled_pagecache.proofs.Tables.{IsSet, consistent-set, free-same}
 
@@ -66,13 +67,7 @@ module _ {L : Type 0} (g : Ghosts L) (next : ℕ) (config : Config) (recovered :
       → ((l : List _) → g.tells → (g.state sticky_log.log).usable ≡ true → g.left_since sticky_log.log (g.moment sticky_log.log) l → IsLeft effect_of (unplaced_state (g.state sticky_log.log)) [] l)
       → (let ok : Result (Unit {0}) Refusal = Ok tt in BringsIn g (cache sticky_log pages) pid ok (cache sticky_log pages))
   brings-none sticky_log pages free pid is behind ready past only = record {
-    left = record {
-      opening = record { config = refl; recovered = refl };
-      stamps = refl;
-      next = refl;
-      went = Went-none g sticky_log (is.beside ready).usable only;
-      same = λ _ _. refl;
-    };
+    left = leaves-went g _ _ (record { config = refl; recovered = refl }) refl refl (Went-none g sticky_log (is.beside ready).usable only) (λ _ _. refl);
     cause = record { fault = ready; read = λ h. cc; write = λ h. cc; full = λ h. cc };
     sound = λ known damaged. absurd (false≢true (sym damaged.0 ∙ ap (is_empty effect_of_entry) (past-chain known)));
     in_memory = (behind, λ away. none-some false (sym (slice_get_past (resident_in pages) pid (let l = length-map pages (λ (page : Page). is_resident page.kept) in omega (arith, past, l))) ∙ away));
@@ -130,13 +125,7 @@ module _ {L : Type 0} (g : Ghosts L) (next : ℕ) (config : Config) (recovered :
           → (g.tells → IsKept (chain_at (g.state before.log) pid) page) → IsFreeOrNode page.kept → (g.tells → IfErr result (RefusesPull (chain_at (g.state before.log) pid)))
           → BringsIn g (cache before pages) pid result (cache after (slice_set pages pid page))
       brings-pulled went cause is own refused = let seen = by result resident is_there refused in record {
-        left = record {
-          opening = record { config = refl; recovered = refl };
-          stamps = stamps-same stamp;
-          next = refl;
-          went = went;
-          same = same;
-        };
+        left = leaves-went g _ _ (record { config = refl; recovered = refl }) (stamps-same stamp) refl went same;
         cause = cause;
         in_memory = seen.0;
         sound = seen.1;

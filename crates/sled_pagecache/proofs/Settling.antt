@@ -79,7 +79,13 @@ module _ {L : Type 0} (g : Ghosts L) (old mid : Cache L) where
       opening = record { config = left.opening.config; recovered = left.opening.recovered };
       stamps = left.stamps;
       next = left.next;
-      went = left.went;
+      batch = left.batch;
+      usable = left.usable;
+      opened = left.opened;
+      failed_reads = left.failed_reads;
+      write_faults = left.write_faults;
+      added = left.added;
+      stop = left.stop;
       same = left.same;
     }
 

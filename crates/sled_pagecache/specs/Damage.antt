@@ -1,18 +1,17 @@
 -- What is answered for a damaged page.
-use Rattle.std.specs.Prelude.{◌≡◌, ℕ, List, [], ◌∷◌, ◌++◌, ◌⊎◌, map, false, Some, ⊤, Result}
+use Rattle.std.specs.Prelude.{◌≤◌, true, ◌≡◌, ℕ, List, [], ◌∷◌, ◌++◌, ◌⊎◌, map, false, Some, ⊤, Result}
 use Rattle.sled_base.specs.declared.types.DiskPtr.{DiskPtr}
 use Rattle.sled_base.specs.declared.types.Refusal.TheVariants.{Corruption, OutOfMemory}
 use Rattle.sled_log.specs.Chains.{is_empty}
+use Rattle.sled_log.specs.Events.{is_open}
 use Rattle.sled_log.specs.Contents.{Node}
-use Rattle.sled_log.specs.Messages.{Message, Chain, Messages, messages_of, message, effect_of_entry}
+use Rattle.sled_log.specs.Messages.{effect_of, Message, Chain, Messages, messages_of, message, effect_of_entry}
 use Rattle.sled_log.specs.Reading.{Makes}
 use Rattle.sled_node.specs.Node.{WholeNode}
 use Rattle.sled_log.specs.LogState as log
 use Rattle.sled_log.specs.declared.log.Log.{Ghosts}
 use Rattle.sled_pagecache.specs.Cache.{Cache, chain_at}
 use Rattle.sled_pagecache.specs.Calls.{IsSameOpening}
-use Rattle.sled_pagecache.specs.Inside.StickyLog.{Went}
-use Rattle.sled_pagecache.specs.Inside.PageIn.{sticky_log_of}
 use Rattle.sled_pagecache.specs.Step.{is_reserved}
 use Rattle.std.specs.Result.{IsErrAnd}
 use Rattle.sled_base.specs.declared.types.Error.{Error}
@@ -41,12 +40,19 @@ IsDamaged chain = (is_empty effect_of_entry chain ≡ false) × ¬ MakesNode (me
 abbrev pub IsWrongAt : Chain → DiskPtr → Type 0
 IsWrongAt chain pointer = IsFirstWrong (λ entry. entry.message) (λ entry. entry.place.pointer) chain pointer
 
--- No page changes, and nothing is appended to the log.
+-- No page changes, and nothing is appended to the log. Unless a write fault is kept, the log may be called, and a batch is open as it
+-- was. Where the device tells its bytes, a crash leaves what one before would have left, and the chains are the same.
 pub record LeavesPages {L : Type 0} (g : Ghosts L) (old new : Cache L) : Type 0 where
   pub opening : IsSameOpening old new
   pub stamps : new.stamps ≡ old.stamps
   pub next : new.next ≡ old.next
-  pub went : Went g (sticky_log_of old) (sticky_log_of new) []
+  pub batch : new.batch ≡ old.batch
+  pub usable : new.fault ≡ false → (g.state new.log).usable ≡ true
+  pub opened : new.fault ≡ false → is_open (g.state new.log).pending ≡ is_open (g.state old.log).pending
+  pub failed_reads : (g.counts old.log).failed_reads ≤ (g.counts new.log).failed_reads
+  pub write_faults : (g.counts old.log).write_faults ≤ (g.counts new.log).write_faults
+  pub added : g.tells → new.fault ≡ false → log.Adds effect_of (log.unplaced_state (g.state old.log)) [] (log.unplaced_state (g.state new.log))
+  pub stop : g.tells → log.CrashesSinceLeave g.moment g.left_since old.log new.log (log.IsLeft effect_of (log.unplaced_state (g.state old.log)) [])
   pub same : g.tells → new.fault ≡ false → log.now effect_of_entry (g.state new.log) ≡ log.now effect_of_entry (g.state old.log)
 
 -- the first wrong message of the page, unless memory ran out or the device failed
