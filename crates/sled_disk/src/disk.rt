@@ -117,11 +117,14 @@ pub trait Disk: Drop {
     ghost seen_now: { (disk : Self) → tells → may_leave disk (seen disk) };
 
     /// The crash states of this moment are among those since it,
-    ghost left_now: { (disk : Self) (left : List ℕ) → tells → may_leave disk left → left_since disk (moment disk) left };
+    ghost left_now: { (disk : Self) (left : List ℕ) → tells → may_leave disk left
+        → left_since disk (moment disk) left };
 
     /// and they are all of them.
-    ghost only_now: { (disk : Self) (left : List ℕ) → tells → left_since disk (moment disk) left → may_leave disk left };
+    ghost only_now: { (disk : Self) (left : List ℕ) → tells → left_since disk (moment disk) left
+        → may_leave disk left };
 
     /// What a crash since some moment might have left, it might have left since an earlier one.
-    ghost since_earlier: { (disk : Self) (t u : ℕ) (left : List ℕ) → tells → t ≤ u → left_since disk u left → left_since disk t left };
+    ghost since_earlier: { (disk : Self) (t u : ℕ) (left : List ℕ) → tells → t ≤ u
+        → left_since disk u left → left_since disk t left };
 }

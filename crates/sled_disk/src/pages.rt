@@ -62,7 +62,8 @@ fn put(
 ) -> Result<(), AllocError>
     requires { page ≤ length pages.old.items }
     ensures made { OnOk result
-        (chains_of pages.new.items ≡ chains_with_new effect_of_head (chains_of pages.old.items) page head) }
+        (chains_of pages.new.items
+        ≡ chains_with_new effect_of_head (chains_of pages.old.items) page head) }
     ensures kept { OnErr result (chains_of pages.new.items ≡ chains_of pages.old.items) }
 {
     let at = page as usize;

@@ -1,6 +1,6 @@
 -- The events of a log, in order: changes of pages and the marks of batches; and where a crash may cut them.
 use Rattle.std.specs.Prelude.{ℕ, ◌≡◌, ◌≤◌, Bool, true, false, List, [], ◌∷◌, length, take, drop}
-use Rattle.std.proofs.Common.{◌≡◌, ℕ, Bool, true, false, List, [], ◌∷◌, length, map, take, drop, arith}
+use Rattle.std.proofs.Common.{◌≡◌, ℕ, Bool, true, false, List, [], ◌∷◌, length, map, take, drop}
 
 pub data Event (E : Type 0) : Type 0 where
   Change : (id : ℕ) (said : E) → Event E

@@ -5,7 +5,7 @@ use Rattle.sled_base.specs.declared.types.Refusal.TheVariants.{Corruption, OutOf
 use Rattle.sled_log.specs.Chains.{is_empty}
 use Rattle.sled_log.specs.Events.{is_open}
 use Rattle.sled_log.specs.Contents.{Node}
-use Rattle.sled_log.specs.Messages.{effect_of, Message, Chain, Messages, messages_of, message, effect_of_entry}
+use Rattle.sled_log.specs.Messages.{effect_of, Message, Chain, Messages, messages_of, effect_of_entry}
 use Rattle.sled_log.specs.Reading.{Makes}
 use Rattle.sled_node.specs.Node.{WholeNode}
 use Rattle.sled_log.specs.LogState as log

@@ -50,19 +50,19 @@ pub record IsGot {L : Type 0} (g : Ghosts L) (old : Cache L) (pid : ℕ) (result
   pub step : Steps g old (Get pid) (Got (lent_answer result)) new
   pub blame : IsBlamed g old new (lent_answer result)
   pub keeps : Keeps old new (lent_answer result) (λ _. old.stamps)
-  pub reads : ReadsPage g old pid new
-  pub once : IfOk result (λ found. IfSome found (λ view. IsResident new pid))
   -- the token is that of the page that was asked for
   pub token : IfOk result (λ found. IfSome found (λ view. view.token.pid ≡ pid))
-  pub kept_out : OnErr result (IsAway old pid → IsAway new pid)
   -- a page whose messages make no node is reported, whatever else the log holds
   pub damaged : MeetsDamage g old pid → ReportsDamage g old pid (lent_answer result) new
-  -- a page that lies in memory is lent without memory and without the device
-  pub always : old.fault ≡ false → is_reserved pid ≡ false → IsResident old pid → IsOk result
+  pub reads : ReadsPage g old pid new
+  pub once : IfOk result (λ found. IfSome found (λ view. IsResident new pid))
+  pub kept_out : OnErr result (IsAway old pid → IsAway new pid)
+  pub bounded : IsBounded g new
   -- a page whose node it finds is accessed, and else nothing changes in memory
   pub accesses : IfOk result (λ found. MatchOption found (KeepsMemory old new) (λ view. AccessesPage old pid new))
   pub same : OnErr result (KeepsMemory old new)
-  pub bounded : IsBounded g new
+  -- a page that lies in memory is lent without memory and without the device
+  pub always : old.fault ≡ false → is_reserved pid ≡ false → IsResident old pid → IsOk result
 
 -- The cache is so once what it lent has come back. (`follows_so` is the toolchain's word for what a loan becomes at its end.)
 abbrev pub AfterLoan : (L : RattleType) (g : Ghosts L.Denot) → MutBor (Cache L.Denot) → (Cache L.Denot → Type 0) → Fml

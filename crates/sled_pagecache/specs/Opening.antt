@@ -16,9 +16,9 @@ use Rattle.sled_log.specs.Chains.{is_empty}
 use Rattle.sled_log.specs.Contents as content
 use Rattle.sled_log.specs.Messages.{Message, Chain, Messages, messages_of, effect_of_entry}
 use Rattle.sled_log.specs.Reading.{Makes}
-use Rattle.sled_log.specs.LogState.{LogState, CrashesSinceLeave, unplaced_state}
+use Rattle.sled_log.specs.LogState.{LogState, unplaced_state}
 use Rattle.sled_log.specs.declared.log.Log.{Ghosts}
-use Rattle.sled_pagecache.specs.Logged.{FitsId, Logged, IsLogged, Adds, IsLeft, now}
+use Rattle.sled_pagecache.specs.Logged.{FitsId, Logged, IsLogged, Adds, now}
 use Rattle.sled_pagecache.specs.Cache.{Cache, IsResident, Represents, chain_at}
 use Rattle.sled_pagecache.specs.Calls.{CrashLeaves, HasNoRoom}
 use Rattle.sled_pagecache.specs.Limits.{most_messages, most_pages}

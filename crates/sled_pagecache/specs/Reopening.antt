@@ -51,7 +51,6 @@ module _ {L : Type 0} (g : Ghosts L) where
       (log : L) → HoldsCrash crashed since log
       → (config : Config) (result : Result (Cache L) (Error × L)) → Started log config result → IfOk result (ReopensTo Are config)
 
-
 -- Why no cache is opened again: an allocation or the device failed, or the settings have that fault. What the crash left is never
 -- Corruption, and has room.
 abbrev pub RefusesReopening : Config → Error → Type 0

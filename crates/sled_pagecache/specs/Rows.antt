@@ -2,12 +2,11 @@
 use Rattle.std.specs.Prelude.{◌≡◌, ◌⊎◌, ◌+◌, true, false, List, [], ◌∷◌, flat_map, Ok, IfOk, OnOk, OnErr, ⊤}
 use Rattle.sled_log.specs.Contents.{Update}
 use Rattle.sled_log.specs.Events.{Event}
-use Rattle.sled_log.specs.LogState as log
 use Rattle.sled_log.specs.declared.log.Log.{Ghosts}
 use Rattle.sled_pagecache.specs.Answers.{Keeps, KeepsStamps, stamps_after_root_swap, stamps_with, stamps_after_swap, IsCovered}
 use Rattle.sled_pagecache.specs.Cache.{Cache, Represents}
 use Rattle.sled_pagecache.specs.Calls.{CrashLeaves, IsSameOpening, StepOver, Steps, IsBlamed}
-use Rattle.sled_pagecache.specs.Logged.{Logged, Adds, IsLeft}
+use Rattle.sled_pagecache.specs.Logged.{Logged, Adds}
 use Rattle.sled_pagecache.specs.State.{State}
 use Rattle.sled_pagecache.specs.Step.{Outcome}
 use Rattle.sled_pagecache.specs.declared.pagecache.call.Answer.{Answer}

@@ -21,10 +21,6 @@ use Rattle.sled_pagecache.specs.declared.pagecache.call.Call.TheVariants as call
 use Rattle.sled_log.specs.Events.{Event, Change, Pin, Seal, Cancel}
 use Rattle.sled_pagecache.specs.State.{StampedPage, page, State, page_at, with_page, is_free, greatest_free, Token, token}
 
--- What is written where a link made this node of a page: the link, or the node where there are as many messages as may be.
-abbrev pub link_update : ℕ → NodeLink → WholeNode → Update
-link_update messages link after = if nat_lt messages most_messages then Link link else Put (Node after)
-
 -- What a call leaves: the state, and the changes that it has begun to write.
 pub record Outcome : Type 0 where
   pub state : State
@@ -184,6 +180,10 @@ SwapsPage s old rejected (Some found) answer out goes_on =
 
 abbrev pub Swaps : {R : Type 0} → State → Token → R → Swapped R → Outcome → (Content → Type 0) → Type 0
 Swaps s old rejected answer out goes_on = UnlessFaulty s answer out (UnlessReserved s old.pid answer out (SwapsPage s old rejected (page_at s old.pid) answer out goes_on))
+
+-- What is written where a link made this node of a page: the link, or the node where there are as many messages as may be.
+abbrev pub link_update : ℕ → NodeLink → WholeNode → Update
+link_update messages link after = if nat_lt messages most_messages then Link link else Put (Node after)
 
 -- ---- What the machine knows of its log: how many messages make each page, and for which changes there is no room.
 module _ (messages : ℕ → ℕ) (no_room : Event Update → Type 0) where

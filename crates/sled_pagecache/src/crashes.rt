@@ -22,7 +22,8 @@ use std::alloc::Global;
 /// A cache of which nothing is pending, and that keeps no write fault, is flushed, in whatever state it is.
 pub fn a_cache_is_flushed<L: Log>(cache: &PageCache<L>)
     ensures { cache.now.fault ≡ false → (L.state cache.now.log).pending ≡ []
-        → (held : Logged) (s : State) → Represents L.Log cache.now held s → IsFlushed L.Log cache.now s }
+        → (held : Logged) (s : State) → Represents L.Log cache.now held s
+        → IsFlushed L.Log cache.now s }
 {
     cache.know_own();
 }

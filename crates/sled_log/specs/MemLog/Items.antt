@@ -1,6 +1,5 @@
 -- The items of the log in memory: each keeps when it came, and when it became stable.
 use Rattle.std.specs.Prelude.{◌+◌, ◌≤◌, ℕ, pos, Bool, true, false, ◌&&◌, not, nat_le, Option, Some, None, List, [], length, map, filter, sum_by, if◌then◌else◌}
-use Rattle.std.proofs.Common.{arith}
 use Rattle.sled_base.specs.declared.types.DiskPtr.{DiskPtr}
 use Rattle.sled_base.specs.declared.types.DiskPtr.TheVariants.{Inline, Blob}
 use Rattle.sled_log.specs.Chains.{chains_after}

@@ -94,7 +94,8 @@ impl Log for MemLog {
     ) -> Result<(MessageKind, Vec<u8>), LogError>
         requires known { Any (IsAt lsn pointer)
             (slice_index_or (now effect_of_entry (state_of self.old)) pid []) }
-        ensures called { ReadsOnce ⊤ state_of clock_of might_have_left counts_of self.old self.new result }
+        ensures called { ReadsOnce ⊤ state_of clock_of might_have_left counts_of self.old self.new
+            result }
         ensures found { IfOk result
             (λ found. All (λ entry. IsAt lsn pointer entry → IsRead entry found)
             (slice_index_or (now effect_of_entry (state_of self.old)) pid [])) }

@@ -56,7 +56,8 @@ fn put(pages: &mut Vec<PageState>, pid: PageId, page: PageState) -> Result<(), A
 // Adds a link to a page that has a content.
 fn link(page: &mut PageState, said: (Lsn, DiskPtr, u64)) -> Result<(), AllocError>
     ensures { OnOk result ((chain : Chain) (entry : Entry) → said_of entry ≡ said
-        → IsPageState chain page.old → IsPageState (chain_with_link effect_of_entry chain entry) page.new) }
+        → IsPageState chain page.old
+        → IsPageState (chain_with_link effect_of_entry chain entry) page.new) }
 {
     if let PageState::Present { frags, .. } = page {
         frags.push(said)?;

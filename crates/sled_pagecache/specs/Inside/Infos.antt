@@ -1,5 +1,5 @@
 -- How the messages of a page are kept behind one more.
-use Rattle.std.specs.Prelude.{◌+◌, nat_lt, List, [], ◌∷◌, ◌++◌, length, if◌then◌else◌}
+use Rattle.std.specs.Prelude.{nat_lt, List, [], ◌∷◌, ◌++◌, length, if◌then◌else◌}
 use Rattle.sled_pagecache.specs.Limits.{most_messages}
 use Rattle.sled_pagecache.specs.declared.pagecache.page.CacheInfo.{CacheInfo}
 

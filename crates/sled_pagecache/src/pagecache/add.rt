@@ -38,7 +38,8 @@ pub(super) fn add_page<L: Log>(
 ) -> Result<PageId, Refusal>
     requires ready { sticky_log.old.fault ≡ false }
     requires usable { (L.state sticky_log.old.log).usable ≡ true }
-    requires there { L.tells → length pages.old.pages ≡ length (now effect_of_entry (L.state sticky_log.old.log)) }
+    requires there { L.tells
+        → length pages.old.pages ≡ length (now effect_of_entry (L.state sticky_log.old.log)) }
     ensures { PutsOnNewPage L.Log node sticky_log.old sticky_log.new accesses.old accesses.new
         pages.old.pages pages.new.pages result }
 {

@@ -28,16 +28,21 @@ pub(super) fn read_chain<L: Log>(
 ) -> Result<Vec<Found>, Refusal>
     requires ready { sticky_log.old.fault ≡ false }
     requires usable { (L.state sticky_log.old.log).usable ≡ true }
-    requires known { L.tells → map said_of (chain_at (L.state sticky_log.old.log) pid) ≡ map place_of infos.now }
+    requires known { L.tells
+        → map said_of (chain_at (L.state sticky_log.old.log) pid) ≡ map place_of infos.now }
     ensures len { IfOk result (λ found. length found.items ≡ length infos.now) }
-    ensures found { L.tells → IfOk result (λ found. AllZip IsFoundAs (chain_at (L.state sticky_log.old.log) pid) found.items) }
+    ensures found { L.tells → IfOk result
+        (λ found. AllZip IsFoundAs (chain_at (L.state sticky_log.old.log) pid) found.items) }
     ensures went { Went L.Log sticky_log.old sticky_log.new [] }
     ensures cause { IsCaused L.Log sticky_log.old sticky_log.new ⊥ result }
     ensures sound { L.tells → IfErr result IsOfLog }
-    ensures same { L.tells → sticky_log.new.fault ≡ false → now effect_of_entry (L.state sticky_log.new.log) ≡ now effect_of_entry (L.state sticky_log.old.log) }
+    ensures same { L.tells → sticky_log.new.fault ≡ false → now effect_of_entry
+        (L.state sticky_log.new.log) ≡ now effect_of_entry (L.state sticky_log.old.log) }
     ensures room { (n : ℕ) → L.is_full sticky_log.new.log n → L.is_full sticky_log.old.log n }
-    ensures reads { OnOk result ((L.counts sticky_log.new.log).reads ≡ count_after (length infos.now) (L.counts sticky_log.old.log).reads) }
-    ensures at_most { OnErr result ((times : ℕ) × (times ≤ length infos.now) × ((L.counts sticky_log.new.log).reads ≡ count_after times (L.counts sticky_log.old.log).reads)) }
+    ensures reads { OnOk result ((L.counts sticky_log.new.log).reads
+        ≡ count_after (length infos.now) (L.counts sticky_log.old.log).reads) }
+    ensures at_most { OnErr result ((times : ℕ) × (times ≤ length infos.now) × ((L.counts
+        sticky_log.new.log).reads ≡ count_after times (L.counts sticky_log.old.log).reads)) }
 {
     let Ok(mut found) = Vec::with_capacity(alloc, infos.len()) else {
         return Err(Refusal::OutOfMemory);

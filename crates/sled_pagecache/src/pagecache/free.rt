@@ -50,7 +50,8 @@ impl FreeIds {
 
     // Takes an id out that was put in.
     pub(super) fn take_back(&mut self, pid: PageId)
-        ensures { (before : List ℕ) → AllByRecursion (λ id. id ≢ pid) before → self.old.ids.keys ≡ insert_key nat_cmp before pid → self.new.ids.keys ≡ before }
+        ensures { (before : List ℕ) → AllByRecursion (λ id. id ≢ pid) before
+            → self.old.ids.keys ≡ insert_key nat_cmp before pid → self.new.ids.keys ≡ before }
     {
         self.ids.remove(&pid);
     }

@@ -29,7 +29,8 @@ impl<L: Log> PageCache<L> {
         ensures* refused { sem 𝓛 (RestsIfRefused L.row L.Log self.entry result) }
         ensures same_reference { IfOk result
             (λ guard. (cache_lent guard).ghost_name ≡ self.entry.ghost_name) }
-        ensures pinned { IfOk result (λ guard. OpensBatch L.Log self.old (Ok tt) (cache_lent guard).now) }
+        ensures pinned { IfOk result
+            (λ guard. OpensBatch L.Log self.old (Ok tt) (cache_lent guard).now) }
     {
         self.pin()?;
         Ok(RecoveryGuard { cache: self })

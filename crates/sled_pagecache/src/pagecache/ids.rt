@@ -59,9 +59,10 @@ pub(super) fn put_counter<L: Log>(
     requires ready { sticky_log.old.fault ≡ false }
     requires usable { (L.state sticky_log.old.log).usable ≡ true }
     requires closed { is_open (L.state sticky_log.old.log).pending ≡ false }
-    requires there { L.tells → counter_pid < length (now effect_of_entry (L.state sticky_log.old.log)) }
-    ensures put { Puts L.Log counter_pid (kept.Counter n) sticky_log.old sticky_log.new accesses.old accesses.new
-        page.old page.new result }
+    requires there { L.tells
+        → counter_pid < length (now effect_of_entry (L.state sticky_log.old.log)) }
+    ensures put { Puts L.Log counter_pid (kept.Counter n) sticky_log.old sticky_log.new
+        accesses.old accesses.new page.old page.new result }
     ensures stable { OnOk result ((L.state sticky_log.new.log).pending ≡ []) }
 {
     let payload = n.serialized_size();
@@ -89,8 +90,10 @@ fn write_durably<L: Log>(
     requires ready { sticky_log.old.fault ≡ false }
     requires usable { (L.state sticky_log.old.log).usable ≡ true }
     requires closed { is_open (L.state sticky_log.old.log).pending ≡ false }
-    requires there { L.tells → counter_pid < length (now effect_of_entry (L.state sticky_log.old.log)) }
-    ensures wrote { Wrote L.Log sticky_log.old sticky_log.new counter_pid (contents.Put (contents.Counter n)) stamp result }
+    requires there { L.tells
+        → counter_pid < length (now effect_of_entry (L.state sticky_log.old.log)) }
+    ensures wrote { Wrote L.Log sticky_log.old sticky_log.new counter_pid
+        (contents.Put (contents.Counter n)) stamp result }
     ensures stable { OnOk result ((L.state sticky_log.new.log).pending ≡ []) }
 {
     let counter = Kept::Counter(n);

@@ -39,9 +39,12 @@ pub(super) fn read_roots<L: Log>(
     requires usable { (L.state sticky_log.old.log).usable ≡ true }
     requires loaded { L.tells → IsLoaded (chain_at (L.state sticky_log.old.log) 0) page.now }
     ensures proceeds { Proceeds L.Log sticky_log.old sticky_log.new [] (refusal_in result) }
-    ensures same { L.tells → sticky_log.new.fault ≡ false → now effect_of_entry (L.state sticky_log.new.log) ≡ now effect_of_entry (L.state sticky_log.old.log) }
-    ensures read { L.tells → IfOk result (λ roots. Makes (messages_of (chain_at (L.state sticky_log.old.log) 0)) (contents.Roots roots)) }
-    ensures refused { L.tells → IfErr result (RefusesOwn 0 (chain_at (L.state sticky_log.old.log) 0)) }
+    ensures same { L.tells → sticky_log.new.fault ≡ false → now effect_of_entry
+        (L.state sticky_log.new.log) ≡ now effect_of_entry (L.state sticky_log.old.log) }
+    ensures read { L.tells → IfOk result (λ roots. Makes
+        (messages_of (chain_at (L.state sticky_log.old.log) 0)) (contents.Roots roots)) }
+    ensures refused { L.tells
+        → IfErr result (RefusesOwn 0 (chain_at (L.state sticky_log.old.log) 0)) }
     ensures reads { HasRead L.counts sticky_log.old.log sticky_log.new.log 1 result }
 {
     let found = read_own(alloc, sticky_log, META_PID, page)?;
@@ -58,9 +61,12 @@ pub(super) fn read_counter<L: Log>(
     requires usable { (L.state sticky_log.old.log).usable ≡ true }
     requires loaded { L.tells → IsLoaded (chain_at (L.state sticky_log.old.log) 1) page.now }
     ensures proceeds { Proceeds L.Log sticky_log.old sticky_log.new [] (refusal_in result) }
-    ensures same { L.tells → sticky_log.new.fault ≡ false → now effect_of_entry (L.state sticky_log.new.log) ≡ now effect_of_entry (L.state sticky_log.old.log) }
-    ensures read { L.tells → IfOk result (λ n. Makes (messages_of (chain_at (L.state sticky_log.old.log) 1)) (contents.Counter n)) }
-    ensures refused { L.tells → IfErr result (RefusesOwn 1 (chain_at (L.state sticky_log.old.log) 1)) }
+    ensures same { L.tells → sticky_log.new.fault ≡ false → now effect_of_entry
+        (L.state sticky_log.new.log) ≡ now effect_of_entry (L.state sticky_log.old.log) }
+    ensures read { L.tells → IfOk result
+        (λ n. Makes (messages_of (chain_at (L.state sticky_log.old.log) 1)) (contents.Counter n)) }
+    ensures refused { L.tells
+        → IfErr result (RefusesOwn 1 (chain_at (L.state sticky_log.old.log) 1)) }
     ensures reads { HasRead L.counts sticky_log.old.log sticky_log.new.log 1 result }
 {
     let found = read_own(alloc, sticky_log, COUNTER_PID, page)?;
@@ -79,10 +85,13 @@ fn read_own<L: Log>(
     requires own { pid < 2 }
     requires loaded { L.tells → IsLoaded (chain_at (L.state sticky_log.old.log) pid) page.now }
     ensures proceeds { Proceeds L.Log sticky_log.old sticky_log.new [] (refusal_in result) }
-    ensures same { L.tells → sticky_log.new.fault ≡ false → now effect_of_entry (L.state sticky_log.new.log) ≡ now effect_of_entry (L.state sticky_log.old.log) }
-    ensures found { L.tells → IfOk result (λ found. AllZip IsFoundAs (chain_at (L.state sticky_log.old.log) pid) found.items) }
+    ensures same { L.tells → sticky_log.new.fault ≡ false → now effect_of_entry
+        (L.state sticky_log.new.log) ≡ now effect_of_entry (L.state sticky_log.old.log) }
+    ensures found { L.tells → IfOk result
+        (λ found. AllZip IsFoundAs (chain_at (L.state sticky_log.old.log) pid) found.items) }
     ensures one { IfOk result (λ found. length found.items ≡ 1) }
-    ensures refused { L.tells → IfErr result (RefusesOwn pid (chain_at (L.state sticky_log.old.log) pid)) }
+    ensures refused { L.tells
+        → IfErr result (RefusesOwn pid (chain_at (L.state sticky_log.old.log) pid)) }
     ensures reads { HasRead L.counts sticky_log.old.log sticky_log.new.log 1 result }
 {
     if is_misfit(pid as usize, page) {
@@ -97,8 +106,10 @@ fn read_own<L: Log>(
 
 // The root map that a message puts on its page.
 fn roots_of(found: &Found, alloc: Global) -> Result<Meta, Refusal>
-    ensures read { IfOk result (λ roots. IsUpdate (found_message found.now) (contents.Put (contents.Roots roots))) }
-    ensures refused { IfErr result (RefusesMessage found.now.pointer ((roots : meta.Roots) → ¬ IsUpdate (found_message found.now) (contents.Put (contents.Roots roots)))) }
+    ensures read { IfOk result
+        (λ roots. IsUpdate (found_message found.now) (contents.Put (contents.Roots roots))) }
+    ensures refused { IfErr result (RefusesMessage found.now.pointer ((roots : meta.Roots)
+        → ¬ IsUpdate (found_message found.now) (contents.Put (contents.Roots roots)))) }
 {
     match found.kind {
         MessageKind::InlineMeta | MessageKind::BlobMeta => whole::<Meta>(found, alloc),
@@ -108,8 +119,10 @@ fn roots_of(found: &Found, alloc: Global) -> Result<Meta, Refusal>
 
 // The counter that a message puts on its page.
 fn counter_of(found: &Found, alloc: Global) -> Result<u64, Refusal>
-    ensures read { IfOk result (λ n. IsUpdate (found_message found.now) (contents.Put (contents.Counter n))) }
-    ensures refused { IfErr result (RefusesMessage found.now.pointer ((n : ℕ) → ¬ IsUpdate (found_message found.now) (contents.Put (contents.Counter n)))) }
+    ensures read { IfOk result
+        (λ n. IsUpdate (found_message found.now) (contents.Put (contents.Counter n))) }
+    ensures refused { IfErr result (RefusesMessage found.now.pointer ((n : ℕ)
+        → ¬ IsUpdate (found_message found.now) (contents.Put (contents.Counter n)))) }
 {
     match found.kind {
         MessageKind::Counter => whole::<u64>(found, alloc),
@@ -125,14 +138,18 @@ pub(super) fn add_roots<L: Log>(
 ) -> Result<(), Refusal>
     requires ready { sticky_log.old.fault ≡ false }
     requires usable { (L.state sticky_log.old.log).usable ≡ true }
-    requires table { IsTable L.tells (now effect_of_entry (L.state sticky_log.old.log)) pages.old.pages }
+    requires table { IsTable L.tells (now effect_of_entry (L.state sticky_log.old.log))
+        pages.old.pages }
     requires some { length pages.old.pages < 2 }
     requires fresh { L.tells → stamps_in pages.old.pages ≡ map (λ _. 0) pages.old.pages }
-    ensures proceeds { Proceeds L.Log sticky_log.old sticky_log.new (events_of_roots pages.old.pages) (refusal_in result) }
+    ensures proceeds { Proceeds L.Log sticky_log.old sticky_log.new
+        (events_of_roots pages.old.pages) (refusal_in result) }
     ensures of_log { L.tells → IfErr result IsOfLog }
-    ensures table { OnOk result (IsTable L.tells (now effect_of_entry (L.state sticky_log.new.log)) pages.new.pages) }
+    ensures table { OnOk result
+        (IsTable L.tells (now effect_of_entry (L.state sticky_log.new.log)) pages.new.pages) }
     ensures one { OnOk result (length pages.new.pages ≡ 1) }
-    ensures stamps { L.tells → OnOk result (stamps_in pages.new.pages ++ 1 ∷ [] ≡ stamps_at_start pages.old.pages) }
+    ensures stamps { L.tells
+        → OnOk result (stamps_in pages.new.pages ++ 1 ∷ [] ≡ stamps_at_start pages.old.pages) }
     ensures unread { (L.counts sticky_log.new.log).reads ≡ (L.counts sticky_log.old.log).reads }
 {
     if pages.len() > 0 {
@@ -161,11 +178,14 @@ pub(super) fn add_counter<L: Log>(
 ) -> Result<(), Refusal>
     requires ready { sticky_log.old.fault ≡ false }
     requires usable { (L.state sticky_log.old.log).usable ≡ true }
-    requires table { IsTable L.tells (now effect_of_entry (L.state sticky_log.old.log)) pages.old.pages }
+    requires table { IsTable L.tells (now effect_of_entry (L.state sticky_log.old.log))
+        pages.old.pages }
     requires one { length pages.old.pages ≡ 1 }
-    ensures proceeds { Proceeds L.Log sticky_log.old sticky_log.new (counter_event ∷ []) (refusal_in result) }
+    ensures proceeds { Proceeds L.Log sticky_log.old sticky_log.new (counter_event ∷ [])
+        (refusal_in result) }
     ensures of_log { L.tells → IfErr result IsOfLog }
-    ensures table { OnOk result (IsTable L.tells (now effect_of_entry (L.state sticky_log.new.log)) pages.new.pages) }
+    ensures table { OnOk result
+        (IsTable L.tells (now effect_of_entry (L.state sticky_log.new.log)) pages.new.pages) }
     ensures stamps { OnOk result (stamps_in pages.new.pages ≡ stamps_in pages.old.pages ++ 1 ∷ []) }
     ensures unread { (L.counts sticky_log.new.log).reads ≡ (L.counts sticky_log.old.log).reads }
     ensures two { OnOk result (length pages.new.pages ≡ 2) }

@@ -135,7 +135,8 @@ impl Clone for Kept {
 // Keeps how the message of a link is kept, at the next stamp of the page.
 pub(super) fn keep_linked(page: &mut Page, info: CacheInfo)
     requires below { page.old.stamp < 2 ^ 64 - 1 }
-    requires room { vec_len page.old.infos < most_messages → vec_len page.old.infos < vec_capacity page.old.infos }
+    requires room { vec_len page.old.infos < most_messages
+        → vec_len page.old.infos < vec_capacity page.old.infos }
     requires stamped { info.ts ≡ page.old.stamp + 1 }
     ensures stamp { page.new.stamp ≡ page.old.stamp + 1 }
     ensures infos { page.new.infos.items ≡ infos_after page.old.infos.items info }

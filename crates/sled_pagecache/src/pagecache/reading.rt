@@ -30,7 +30,8 @@ pub(super) struct Found {
 // `OutOfMemory` comes for an allocation failure alone.
 pub(super) fn node_of(messages: &[Found], alloc: Global) -> Result<Node, Refusal>
     requires { 0 < length messages.now }
-    ensures made { IfOk result (λ node. Makes (map found_message messages.now) (contents.Node node)) }
+    ensures made { IfOk result
+        (λ node. Makes (map found_message messages.now) (contents.Node node)) }
     ensures free { IsErrOf result (ReportableBug FreeInPull) ↔ BeginsFree messages.now }
     ensures refused { IfErr result (RefusesNode messages.now) }
 {
@@ -47,8 +48,10 @@ pub(super) fn node_of(messages: &[Found], alloc: Global) -> Result<Node, Refusal
 
 // The node that the first message of a page puts there.
 fn first_node(found: &Found, alloc: Global) -> Result<Node, Refusal>
-    ensures read { IfOk result (λ node. IsUpdate (found_message found.now) (contents.Put (contents.Node node))) }
-    ensures refused { IfErr result (RefusesMessage found.now.pointer ((node : WholeNode) → ¬ IsUpdate (found_message found.now) (contents.Put (contents.Node node)))) }
+    ensures read { IfOk result
+        (λ node. IsUpdate (found_message found.now) (contents.Put (contents.Node node))) }
+    ensures refused { IfErr result (RefusesMessage found.now.pointer ((node : WholeNode)
+        → ¬ IsUpdate (found_message found.now) (contents.Put (contents.Node node)))) }
 {
     match found.kind {
         MessageKind::InlineNode | MessageKind::BlobNode => whole::<Node>(found, alloc),
@@ -59,7 +62,8 @@ fn first_node(found: &Found, alloc: Global) -> Result<Node, Refusal>
 // Applies the link that a message is.
 fn apply_link(node: &mut Node, found: &Found, alloc: Global) -> Result<(), Refusal>
     ensures applied { OnOk result (Leads node.old (found_message found.now) node.new) }
-    ensures refused { IfErr result (RefusesMessage found.now.pointer ((after : WholeNode) → ¬ Leads node.old (found_message found.now) after)) }
+    ensures refused { IfErr result (RefusesMessage found.now.pointer ((after : WholeNode)
+        → ¬ Leads node.old (found_message found.now) after)) }
     ensures err { OnErr result (node.new ≡ node.old) }
 {
     let link = link_of(found, alloc)?;
@@ -72,7 +76,8 @@ fn apply_link(node: &mut Node, found: &Found, alloc: Global) -> Result<(), Refus
 // The link that a message is.
 fn link_of(found: &Found, alloc: Global) -> Result<Link, Refusal>
     ensures read { IfOk result (λ link. IsUpdate (found_message found.now) (contents.Link link)) }
-    ensures refused { IfErr result (RefusesMessage found.now.pointer ((link : NodeLink) → ¬ IsUpdate (found_message found.now) (contents.Link link))) }
+    ensures refused { IfErr result (RefusesMessage found.now.pointer ((link : NodeLink)
+        → ¬ IsUpdate (found_message found.now) (contents.Link link))) }
 {
     match found.kind {
         MessageKind::InlineLink | MessageKind::BlobLink => whole::<Link>(found, alloc),
@@ -83,7 +88,8 @@ fn link_of(found: &Found, alloc: Global) -> Result<Link, Refusal>
 // The value that a payload encodes from its front to its end.
 pub(super) fn whole<T: Serialize>(found: &Found, alloc: Global) -> Result<T, Refusal>
     ensures read { IfOk result (λ value. T.reads found.now.payload.items value []) }
-    ensures refused { IfErr result (RefusesMessage found.now.pointer (EncodesNothing T.reads found.now.payload.items)) }
+    ensures refused { IfErr result
+        (RefusesMessage found.now.pointer (EncodesNothing T.reads found.now.payload.items)) }
 {
     let mut rest = found.payload.as_slice();
     match T::deserialize(alloc, &mut rest) {

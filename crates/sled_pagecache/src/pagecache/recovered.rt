@@ -23,8 +23,10 @@ const MAX_MSG_HEADER_LEN: u64 = 17;
 pub(super) fn recovered_pages(alloc: Global, states: &[PageState]) -> Result<PageTable, AllocError>
     requires { length states.now ≤ most_pages }
     ensures recovered { IfOk result (λ pages. AllZip IsRecovered states.now pages.pages) }
-    ensures loaded { IfOk result (λ pages. (chains : List Chain) → AllZip IsPageState chains states.now → AllZip IsLoaded chains pages.pages) }
-    ensures unread { IfOk result (λ pages. AllByRecursion (λ page. IsUnread page.kept) pages.pages) }
+    ensures loaded { IfOk result (λ pages. (chains : List Chain)
+        → AllZip IsPageState chains states.now → AllZip IsLoaded chains pages.pages) }
+    ensures unread { IfOk result
+        (λ pages. AllByRecursion (λ page. IsUnread page.kept) pages.pages) }
 {
     let mut pages = PageTable::default(alloc);
     for (pid, state) in states.iter().enumerate() {

@@ -69,7 +69,9 @@ pub(super) fn judge_root(
 // Tests a name that is to have a root: one that is too long is refused, and then one that finds no room.
 pub(super) fn judge_name(roots: &Meta, name: &[u8]) -> Result<(), Refusal>
     ensures fits { OnOk result (IsWithinLimit name.now × HasRoom name.now roots.now) }
-    ensures refused { IfErr result (λ refusal. ((bytes_limit < length name.now) × (refusal ≡ Unsupported NameTooLong)) ⊎ (IsWithinLimit name.now × (¬ HasRoom name.now roots.now) × (refusal ≡ Unsupported TooManyNames))) }
+    ensures refused { IfErr result (λ refusal. ((bytes_limit < length name.now)
+        × (refusal ≡ Unsupported NameTooLong)) ⊎ (IsWithinLimit name.now
+        × (¬ HasRoom name.now roots.now) × (refusal ≡ Unsupported TooManyNames))) }
 {
     if name.len() > MAX_BYTES {
         return Err(Refusal::Unsupported(Why::NameTooLong));
@@ -94,8 +96,10 @@ pub(super) fn swap_root<L: Log>(
     requires can { CanChange name.now root (roots_in page.old.kept) }
     requires ready { sticky_log.old.fault ≡ false }
     requires usable { (L.state sticky_log.old.log).usable ≡ true }
-    requires there { L.tells → meta_pid < length (now effect_of_entry (L.state sticky_log.old.log)) }
-    ensures { Puts L.Log meta_pid (kept.Roots (changed_roots name.now root (roots_in page.old.kept)))
+    requires there { L.tells
+        → meta_pid < length (now effect_of_entry (L.state sticky_log.old.log)) }
+    ensures { Puts L.Log meta_pid
+        (kept.Roots (changed_roots name.now root (roots_in page.old.kept)))
         sticky_log.old sticky_log.new accesses.old accesses.new page.old page.new result }
 {
     let Kept::Roots(roots) = &mut page.kept else {
@@ -125,8 +129,10 @@ fn put_changed<L: Log>(
     requires can { CanChange name.now root roots.old }
     requires ready { sticky_log.old.fault ≡ false }
     requires usable { (L.state sticky_log.old.log).usable ≡ true }
-    requires there { L.tells → meta_pid < length (now effect_of_entry (L.state sticky_log.old.log)) }
-    ensures put { WritesMap L.Log sticky_log.old sticky_log.new accesses.old accesses.new (written_roots (changed_roots name.now root roots.old)) stamp result }
+    requires there { L.tells
+        → meta_pid < length (now effect_of_entry (L.state sticky_log.old.log)) }
+    ensures put { WritesMap L.Log sticky_log.old sticky_log.new accesses.old accesses.new
+        (written_roots (changed_roots name.now root roots.old)) stamp result }
     ensures changed { OnOk result (roots.new ≡ changed_roots name.now root roots.old) }
     ensures left { OnErr result (roots.new ≡ roots.old) }
 {
@@ -146,8 +152,10 @@ fn put_without<L: Log>(
 ) -> Result<CacheInfo, Refusal>
     requires ready { sticky_log.old.fault ≡ false }
     requires usable { (L.state sticky_log.old.log).usable ≡ true }
-    requires there { L.tells → meta_pid < length (now effect_of_entry (L.state sticky_log.old.log)) }
-    ensures put { WritesMap L.Log sticky_log.old sticky_log.new accesses.old accesses.new (written_roots (changed_roots name.now None roots.old)) stamp result }
+    requires there { L.tells
+        → meta_pid < length (now effect_of_entry (L.state sticky_log.old.log)) }
+    ensures put { WritesMap L.Log sticky_log.old sticky_log.new accesses.old accesses.new
+        (written_roots (changed_roots name.now None roots.old)) stamp result }
     ensures changed { OnOk result (roots.new ≡ changed_roots name.now None roots.old) }
     ensures left { OnErr result (roots.new ≡ roots.old) }
 {
@@ -174,8 +182,10 @@ fn put_with<L: Log>(
     requires can { CanChange name.now (Some root) roots.old }
     requires ready { sticky_log.old.fault ≡ false }
     requires usable { (L.state sticky_log.old.log).usable ≡ true }
-    requires there { L.tells → meta_pid < length (now effect_of_entry (L.state sticky_log.old.log)) }
-    ensures put { WritesMap L.Log sticky_log.old sticky_log.new accesses.old accesses.new (written_roots (changed_roots name.now (Some root) roots.old)) stamp result }
+    requires there { L.tells
+        → meta_pid < length (now effect_of_entry (L.state sticky_log.old.log)) }
+    ensures put { WritesMap L.Log sticky_log.old sticky_log.new accesses.old accesses.new
+        (written_roots (changed_roots name.now (Some root) roots.old)) stamp result }
     ensures changed { OnOk result (roots.new ≡ changed_roots name.now (Some root) roots.old) }
     ensures left { OnErr result (roots.new ≡ roots.old) }
 {
@@ -213,8 +223,10 @@ fn put_map<L: Log>(
 ) -> Result<CacheInfo, Refusal>
     requires ready { sticky_log.old.fault ≡ false }
     requires usable { (L.state sticky_log.old.log).usable ≡ true }
-    requires there { L.tells → meta_pid < length (now effect_of_entry (L.state sticky_log.old.log)) }
-    ensures { WritesMap L.Log sticky_log.old sticky_log.new accesses.old accesses.new payload.now stamp result }
+    requires there { L.tells
+        → meta_pid < length (now effect_of_entry (L.state sticky_log.old.log)) }
+    ensures { WritesMap L.Log sticky_log.old sticky_log.new accesses.old accesses.new payload.now
+        stamp result }
 {
     let Ok(()) = accesses.access(META_PID, size_with(0, payload.len() as u64)) else {
         return Err(Refusal::OutOfMemory);

@@ -50,13 +50,22 @@ pub(super) fn open<L: Log>(
     requires closed { is_open (L.state sticky_log.old.log).pending ≡ false }
     requires unopened { sticky_log.old.batch ≡ false }
     ensures proceeds { Starts L.Log sticky_log.old sticky_log.new (refusal_in result) }
-    ensures refused { L.tells → IfErr result (λ refusal. RefusesOpening config (now effect_of_entry (L.state sticky_log.old.log)) (error_of refusal)) }
-    ensures consistent { IfOk result (λ opening. IsConsistent L.tells L.state sticky_log.new opening.pages.pages opening.free.ids.keys) }
-    ensures opened { L.tells → IfOk result (λ opening. (held : List Content) → Hold (map messages_of (now effect_of_entry (L.state sticky_log.old.log))) held → IsOpenedWith config held (stamps_in opening.pages.pages) opening.next opening.recovered) }
-    ensures counted { IfOk result (λ opening. IsCounted L.tells L.state config.idgen_persist_interval opening.next sticky_log.new opening.pages.pages) }
-    ensures stable { L.tells → OnOk result (length (now effect_of_entry (L.state sticky_log.old.log)) < 2 → (L.state sticky_log.new.log).pending ≡ []) }
-    ensures unread { IfOk result (λ opening. (pid : ℕ) → 2 ≤ pid → IfSome (slice_get opening.pages.pages pid) (λ page. IsUnread page.kept)) }
-    ensures reads { L.tells → HasRead L.counts sticky_log.old.log sticky_log.new.log (own_among (length (now effect_of_entry (L.state sticky_log.old.log)))) result }
+    ensures refused { L.tells → IfErr result (λ refusal. RefusesOpening config
+        (now effect_of_entry (L.state sticky_log.old.log)) (error_of refusal)) }
+    ensures consistent { IfOk result (λ opening. IsConsistent L.tells L.state sticky_log.new
+        opening.pages.pages opening.free.ids.keys) }
+    ensures opened { L.tells → IfOk result (λ opening. (held : List Content)
+        → Hold (map messages_of (now effect_of_entry (L.state sticky_log.old.log))) held
+        → IsOpenedWith config held (stamps_in opening.pages.pages) opening.next opening.recovered) }
+    ensures counted { IfOk result (λ opening. IsCounted L.tells L.state
+        config.idgen_persist_interval opening.next sticky_log.new opening.pages.pages) }
+    ensures stable { L.tells
+        → OnOk result (length (now effect_of_entry (L.state sticky_log.old.log)) < 2
+        → (L.state sticky_log.new.log).pending ≡ []) }
+    ensures unread { IfOk result (λ opening. (pid : ℕ) → 2 ≤ pid
+        → IfSome (slice_get opening.pages.pages pid) (λ page. IsUnread page.kept)) }
+    ensures reads { L.tells → HasRead L.counts sticky_log.old.log sticky_log.new.log
+        (own_among (length (now effect_of_entry (L.state sticky_log.old.log)))) result }
 {
     let (pages, counter) = load(alloc, sticky_log)?;
     complete(alloc, config, sticky_log, pages, counter)
@@ -70,11 +79,15 @@ fn load<L: Log>(
     requires ready { sticky_log.old.fault ≡ false }
     requires usable { (L.state sticky_log.old.log).usable ≡ true }
     ensures proceeds { Proceeds L.Log sticky_log.old sticky_log.new [] (refusal_in result) }
-    ensures same { L.tells → sticky_log.new.fault ≡ false → now effect_of_entry (L.state sticky_log.new.log) ≡ now effect_of_entry (L.state sticky_log.old.log) }
-    ensures read { IfOk result (λ loaded. AreRead L.tells (now effect_of_entry (L.state sticky_log.new.log)) loaded.0.pages loaded.1) }
+    ensures same { L.tells → sticky_log.new.fault ≡ false → now effect_of_entry
+        (L.state sticky_log.new.log) ≡ now effect_of_entry (L.state sticky_log.old.log) }
+    ensures read { IfOk result (λ loaded. AreRead L.tells
+        (now effect_of_entry (L.state sticky_log.new.log)) loaded.0.pages loaded.1) }
     ensures fit { IfOk result (λ loaded. AllFit loaded.0.pages) }
-    ensures refused { L.tells → IfErr result (RefusesPages (now effect_of_entry (L.state sticky_log.old.log))) }
-    ensures reads { L.tells → HasRead L.counts sticky_log.old.log sticky_log.new.log (own_among (length (now effect_of_entry (L.state sticky_log.old.log)))) result }
+    ensures refused { L.tells
+        → IfErr result (RefusesPages (now effect_of_entry (L.state sticky_log.old.log))) }
+    ensures reads { L.tells → HasRead L.counts sticky_log.old.log sticky_log.new.log
+        (own_among (length (now effect_of_entry (L.state sticky_log.old.log)))) result }
 {
     let mut pages = recover_pages(alloc, sticky_log)?;
     let counter = read_system_pages(alloc, sticky_log, &mut pages)?;
@@ -96,15 +109,23 @@ fn complete<L: Log>(
     requires usable { (L.state sticky_log.old.log).usable ≡ true }
     requires closed { is_open (L.state sticky_log.old.log).pending ≡ false }
     requires unopened { sticky_log.old.batch ≡ false }
-    requires read { AreRead L.tells (now effect_of_entry (L.state sticky_log.old.log)) pages.pages counter }
+    requires read { AreRead L.tells (now effect_of_entry (L.state sticky_log.old.log)) pages.pages
+        counter }
     requires fit { AllFit pages.pages }
-    ensures proceeds { Proceeds L.Log sticky_log.old sticky_log.new (events_at_start pages.pages) (refusal_in result) }
+    ensures proceeds { Proceeds L.Log sticky_log.old sticky_log.new (events_at_start pages.pages)
+        (refusal_in result) }
     ensures of_log { L.tells → IfErr result IsOfLog }
-    ensures consistent { IfOk result (λ opening. IsConsistent L.tells L.state sticky_log.new opening.pages.pages opening.free.ids.keys) }
-    ensures opened { L.tells → IfOk result (λ opening. (held : List Content) → Hold (map messages_of (now effect_of_entry (L.state sticky_log.old.log))) held → IsOpenedWith config held (stamps_in opening.pages.pages) opening.next opening.recovered) }
-    ensures counted { IfOk result (λ opening. IsCounted L.tells L.state config.idgen_persist_interval opening.next sticky_log.new opening.pages.pages) }
-    ensures stable { OnOk result (length pages.pages < 2 → (L.state sticky_log.new.log).pending ≡ []) }
-    ensures unread { IfOk result (λ opening. (pid : ℕ) → 2 ≤ pid → IfSome (slice_get opening.pages.pages pid) (λ page. IsUnread page.kept)) }
+    ensures consistent { IfOk result (λ opening. IsConsistent L.tells L.state sticky_log.new
+        opening.pages.pages opening.free.ids.keys) }
+    ensures opened { L.tells → IfOk result (λ opening. (held : List Content)
+        → Hold (map messages_of (now effect_of_entry (L.state sticky_log.old.log))) held
+        → IsOpenedWith config held (stamps_in opening.pages.pages) opening.next opening.recovered) }
+    ensures counted { IfOk result (λ opening. IsCounted L.tells L.state
+        config.idgen_persist_interval opening.next sticky_log.new opening.pages.pages) }
+    ensures stable { OnOk result (length pages.pages < 2
+        → (L.state sticky_log.new.log).pending ≡ []) }
+    ensures unread { IfOk result (λ opening. (pid : ℕ) → 2 ≤ pid
+        → IfSome (slice_get opening.pages.pages pid) (λ page. IsUnread page.kept)) }
     ensures reads { (L.counts sticky_log.new.log).reads ≡ (L.counts sticky_log.old.log).reads }
 {
     add_missing(alloc, sticky_log, &mut pages)?;
@@ -134,9 +155,12 @@ fn recover_pages<L: Log>(alloc: Global, sticky_log: &mut StickyLog<L>) -> Result
     requires ready { sticky_log.old.fault ≡ false }
     requires usable { (L.state sticky_log.old.log).usable ≡ true }
     ensures proceeds { Proceeds L.Log sticky_log.old sticky_log.new [] (refusal_in result) }
-    ensures same { L.tells → sticky_log.new.fault ≡ false → now effect_of_entry (L.state sticky_log.new.log) ≡ now effect_of_entry (L.state sticky_log.old.log) }
-    ensures pages { IfOk result (λ pages. AreRecovered L.tells (now effect_of_entry (L.state sticky_log.old.log)) pages.pages) }
-    ensures refused { L.tells → IfErr result (RefusesPages (now effect_of_entry (L.state sticky_log.old.log))) }
+    ensures same { L.tells → sticky_log.new.fault ≡ false → now effect_of_entry
+        (L.state sticky_log.new.log) ≡ now effect_of_entry (L.state sticky_log.old.log) }
+    ensures pages { IfOk result (λ pages. AreRecovered L.tells
+        (now effect_of_entry (L.state sticky_log.old.log)) pages.pages) }
+    ensures refused { L.tells
+        → IfErr result (RefusesPages (now effect_of_entry (L.state sticky_log.old.log))) }
     ensures unread { (L.counts sticky_log.new.log).reads ≡ (L.counts sticky_log.old.log).reads }
 {
     let states = sticky_log.recover()?;
@@ -157,12 +181,17 @@ fn read_system_pages<L: Log>(
 ) -> Result<Option<u64>, Refusal>
     requires ready { sticky_log.old.fault ≡ false }
     requires usable { (L.state sticky_log.old.log).usable ≡ true }
-    requires recovered { AreRecovered L.tells (now effect_of_entry (L.state sticky_log.old.log)) pages.old.pages }
+    requires recovered { AreRecovered L.tells (now effect_of_entry (L.state sticky_log.old.log))
+        pages.old.pages }
     ensures proceeds { Proceeds L.Log sticky_log.old sticky_log.new [] (refusal_in result) }
-    ensures same { L.tells → sticky_log.new.fault ≡ false → now effect_of_entry (L.state sticky_log.new.log) ≡ now effect_of_entry (L.state sticky_log.old.log) }
-    ensures read { IfOk result (AreRead L.tells (now effect_of_entry (L.state sticky_log.old.log)) pages.new.pages) }
-    ensures refused { L.tells → IfErr result (RefusesPages (now effect_of_entry (L.state sticky_log.old.log))) }
-    ensures reads { HasRead L.counts sticky_log.old.log sticky_log.new.log (own_among (length pages.old.pages)) result }
+    ensures same { L.tells → sticky_log.new.fault ≡ false → now effect_of_entry
+        (L.state sticky_log.new.log) ≡ now effect_of_entry (L.state sticky_log.old.log) }
+    ensures read { IfOk result
+        (AreRead L.tells (now effect_of_entry (L.state sticky_log.old.log)) pages.new.pages) }
+    ensures refused { L.tells
+        → IfErr result (RefusesPages (now effect_of_entry (L.state sticky_log.old.log))) }
+    ensures reads { HasRead L.counts sticky_log.old.log sticky_log.new.log
+        (own_among (length pages.old.pages)) result }
 {
     let Some(page) = pages.get(META_PID) else {
         return Ok(None);
@@ -186,15 +215,21 @@ fn add_missing<L: Log>(
     requires ready { sticky_log.old.fault ≡ false }
     requires usable { (L.state sticky_log.old.log).usable ≡ true }
     requires closed { is_open (L.state sticky_log.old.log).pending ≡ false }
-    requires table { IsTable L.tells (now effect_of_entry (L.state sticky_log.old.log)) pages.old.pages }
+    requires table { IsTable L.tells (now effect_of_entry (L.state sticky_log.old.log))
+        pages.old.pages }
     requires fresh { L.tells → stamps_in pages.old.pages ≡ map (λ _. 0) pages.old.pages }
-    ensures proceeds { Proceeds L.Log sticky_log.old sticky_log.new (events_at_start pages.old.pages) (refusal_in result) }
+    ensures proceeds { Proceeds L.Log sticky_log.old sticky_log.new
+        (events_at_start pages.old.pages) (refusal_in result) }
     ensures of_log { L.tells → IfErr result IsOfLog }
-    ensures table { OnOk result (IsTable L.tells (now effect_of_entry (L.state sticky_log.new.log)) pages.new.pages) }
-    ensures stamps { L.tells → OnOk result (stamps_in pages.new.pages ≡ stamps_at_start pages.old.pages) }
+    ensures table { OnOk result
+        (IsTable L.tells (now effect_of_entry (L.state sticky_log.new.log)) pages.new.pages) }
+    ensures stamps { L.tells
+        → OnOk result (stamps_in pages.new.pages ≡ stamps_at_start pages.old.pages) }
     ensures both { OnOk result (1 < length pages.new.pages) }
-    ensures others { OnOk result ((pid : ℕ) → 2 ≤ pid → slice_get pages.new.pages pid ≡ slice_get pages.old.pages pid) }
-    ensures stable { OnOk result (length pages.old.pages < 2 → (L.state sticky_log.new.log).pending ≡ []) }
+    ensures others { OnOk result ((pid : ℕ) → 2 ≤ pid
+        → slice_get pages.new.pages pid ≡ slice_get pages.old.pages pid) }
+    ensures stable { OnOk result (length pages.old.pages < 2
+        → (L.state sticky_log.new.log).pending ≡ []) }
     ensures there { OnOk result (1 < length pages.old.pages → pages.new ≡ pages.old) }
     ensures unread { (L.counts sticky_log.new.log).reads ≡ (L.counts sticky_log.old.log).reads }
 {

@@ -43,15 +43,23 @@ impl<L: Log> StickyLog<L> {
     ) -> Result<(Lsn, DiskPtr, u64), Refusal>
         requires ready { self.old.fault ≡ false }
         requires usable { (L.state self.old.log).usable ≡ true }
-        requires can { L.tells → can_append effect_of_entry (now effect_of_entry (L.state self.old.log)) pid kind ≡ true }
-        ensures went { Went L.Log self.old self.new (begun_by result (Change pid (message kind payload.now) ∷ [])) }
-        ensures cause { IsCaused L.Log self.old self.new (L.is_full self.old.log (length payload.now)) result }
+        requires can { L.tells → can_append effect_of_entry
+            (now effect_of_entry (L.state self.old.log)) pid kind ≡ true }
+        ensures went { Went L.Log self.old self.new
+            (begun_by result (Change pid (message kind payload.now) ∷ [])) }
+        ensures cause { IsCaused L.Log self.old self.new
+            (L.is_full self.old.log (length payload.now)) result }
         ensures sound { L.tells → IfErr result IsOfLog }
         ensures reads { (L.counts self.new.log).reads ≡ (L.counts self.old.log).reads }
-        ensures chains { L.tells → IfOk result (λ said. now effect_of_entry (L.state self.new.log) ≡ chains_from effect_of_entry (now effect_of_entry (L.state self.old.log)) (Change pid (placed_entry (message kind payload.now) said))) }
-        ensures same { L.tells → OnErr result (self.new.fault ≡ false → now effect_of_entry (L.state self.new.log) ≡ now effect_of_entry (L.state self.old.log)) }
-        ensures size { IfOk result (λ said. (said.2 ≡ head_size + length payload.now) × (said.2 < size_limit)) }
-        ensures sized { L.tells → OnOk result (AllByRecursion IsSized (now effect_of_entry (L.state self.new.log))) }
+        ensures chains { L.tells → IfOk result (λ said. now effect_of_entry (L.state self.new.log)
+            ≡ chains_from effect_of_entry (now effect_of_entry (L.state self.old.log))
+            (Change pid (placed_entry (message kind payload.now) said))) }
+        ensures same { L.tells → OnErr result (self.new.fault ≡ false → now effect_of_entry
+            (L.state self.new.log) ≡ now effect_of_entry (L.state self.old.log)) }
+        ensures size { IfOk result (λ said. (said.2 ≡ head_size + length payload.now)
+            × (said.2 < size_limit)) }
+        ensures sized { L.tells
+            → OnOk result (AllByRecursion IsSized (now effect_of_entry (L.state self.new.log))) }
     {
         let outcome = self.log.append(kind, pid, payload);
         keep_fault(&mut self.fault, outcome)
@@ -67,14 +75,18 @@ impl<L: Log> StickyLog<L> {
     ) -> Result<(MessageKind, Vec<u8>), Refusal>
         requires ready { self.old.fault ≡ false }
         requires usable { (L.state self.old.log).usable ≡ true }
-        requires known { L.tells → Any (IsAt lsn pointer) (slice_index_or (now effect_of_entry (L.state self.old.log)) pid []) }
+        requires known { L.tells → Any (IsAt lsn pointer)
+            (slice_index_or (now effect_of_entry (L.state self.old.log)) pid []) }
         ensures went { Went L.Log self.old self.new [] }
         ensures cause { IsCaused L.Log self.old self.new ⊥ result }
         ensures sound { L.tells → IfErr result IsOfLog }
         ensures reads { (L.counts self.new.log).reads ≡ one_more (L.counts self.old.log).reads }
-        ensures found { L.tells → IfOk result (λ found. All (λ entry. IsAt lsn pointer entry → IsRead entry found) (slice_index_or (now effect_of_entry (L.state self.old.log)) pid [])) }
+        ensures found { L.tells
+            → IfOk result (λ found. All (λ entry. IsAt lsn pointer entry → IsRead entry found)
+            (slice_index_or (now effect_of_entry (L.state self.old.log)) pid [])) }
         ensures room { (n : ℕ) → L.is_full self.new.log n → L.is_full self.old.log n }
-        ensures same { L.tells → self.new.fault ≡ false → now effect_of_entry (L.state self.new.log) ≡ now effect_of_entry (L.state self.old.log) }
+        ensures same { L.tells → self.new.fault ≡ false → now effect_of_entry (L.state self.new.log)
+            ≡ now effect_of_entry (L.state self.old.log) }
     {
         let outcome = self.log.read(pid, lsn, pointer);
         keep_fault(&mut self.fault, outcome)
@@ -92,7 +104,8 @@ impl<L: Log> StickyLog<L> {
         ensures reads { (L.counts self.new.log).reads ≡ (L.counts self.old.log).reads }
         ensures number { IfOk result (λ n. n ≡ L.to_write self.old.log) }
         ensures stable { OnOk result ((L.state self.new.log).pending ≡ []) }
-        ensures same { L.tells → self.new.fault ≡ false → now effect_of_entry (L.state self.new.log) ≡ now effect_of_entry (L.state self.old.log) }
+        ensures same { L.tells → self.new.fault ≡ false → now effect_of_entry (L.state self.new.log)
+            ≡ now effect_of_entry (L.state self.old.log) }
     {
         let outcome = self.log.make_stable();
         keep_fault(&mut self.fault, outcome)
@@ -107,7 +120,8 @@ impl<L: Log> StickyLog<L> {
         ensures cause { IsCaused L.Log self.old self.new (L.is_full_for_batch self.old.log) result }
         ensures sound { L.tells → IfErr result IsOfLog }
         ensures reads { (L.counts self.new.log).reads ≡ (L.counts self.old.log).reads }
-        ensures same { L.tells → self.new.fault ≡ false → now effect_of_entry (L.state self.new.log) ≡ now effect_of_entry (L.state self.old.log) }
+        ensures same { L.tells → self.new.fault ≡ false → now effect_of_entry (L.state self.new.log)
+            ≡ now effect_of_entry (L.state self.old.log) }
     {
         let outcome = self.log.pin();
         keep_fault(&mut self.fault, outcome)
@@ -122,7 +136,8 @@ impl<L: Log> StickyLog<L> {
         ensures cause { IsCaused L.Log self.old self.new ⊥ result }
         ensures only { IfErr result (λ refusal. refusal ≡ Io Write) }
         ensures reads { (L.counts self.new.log).reads ≡ (L.counts self.old.log).reads }
-        ensures same { L.tells → self.new.fault ≡ false → now effect_of_entry (L.state self.new.log) ≡ now effect_of_entry (L.state self.old.log) }
+        ensures same { L.tells → self.new.fault ≡ false → now effect_of_entry (L.state self.new.log)
+            ≡ now effect_of_entry (L.state self.old.log) }
     {
         match closing {
             Closing::Seal => {
@@ -144,11 +159,15 @@ impl<L: Log> StickyLog<L> {
         ensures cause { IsCaused L.Log self.old self.new ⊥ result }
         ensures sound { L.tells → IfErr result IsOfLog }
         ensures reads { (L.counts self.new.log).reads ≡ (L.counts self.old.log).reads }
-        ensures pages { L.tells → IfOk result (λ pages. AllZip IsPageState (now effect_of_entry (L.state self.old.log)) pages.items) }
-        ensures sized { L.tells → OnOk result (AllByRecursion IsSized (now effect_of_entry (L.state self.old.log))) }
-        ensures chains { L.tells → OnOk result (AllByRecursion (λ chain. is_chain effect_of_entry chain ≡ true) (now effect_of_entry (L.state self.old.log))) }
+        ensures pages { L.tells → IfOk result
+            (λ pages. AllZip IsPageState (now effect_of_entry (L.state self.old.log)) pages.items) }
+        ensures sized { L.tells
+            → OnOk result (AllByRecursion IsSized (now effect_of_entry (L.state self.old.log))) }
+        ensures chains { L.tells → OnOk result (AllByRecursion (λ chain. is_chain effect_of_entry
+            chain ≡ true) (now effect_of_entry (L.state self.old.log))) }
         ensures room { (n : ℕ) → L.is_full self.new.log n → L.is_full self.old.log n }
-        ensures same { L.tells → self.new.fault ≡ false → now effect_of_entry (L.state self.new.log) ≡ now effect_of_entry (L.state self.old.log) }
+        ensures same { L.tells → self.new.fault ≡ false → now effect_of_entry (L.state self.new.log)
+            ≡ now effect_of_entry (L.state self.old.log) }
     {
         let outcome = self.log.recover();
         keep_fault(&mut self.fault, outcome)

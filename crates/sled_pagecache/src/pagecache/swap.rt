@@ -104,7 +104,8 @@ pub(super) fn free_page<L: Log>(
 fn payload_size(kept: &Kept) -> u64
     requires { CanPut kept.now }
     ensures size { result ≡ length (message_of (contents.Put (content_of kept.now))).payload }
-    ensures is { IsUpdate (message_of (contents.Put (content_of kept.now))) (contents.Put (content_of kept.now)) }
+    ensures is { IsUpdate (message_of (contents.Put (content_of kept.now)))
+        (contents.Put (content_of kept.now)) }
 {
     match kept {
         Kept::Node(node) => {
@@ -137,25 +138,41 @@ pub(super) fn link_page<L: Log>(
     requires kept { L.tells → IsKept (chain_at (L.state sticky_log.old.log) pid) page.old }
     ensures stamp { OnOk result (IsRaised page.old.stamp page.new.stamp) }
     ensures linked { OnOk result (IsLinked page.old.kept link.now page.new.kept) }
-    ensures kept { L.tells → OnOk result (IsKept (chain_at (L.state sticky_log.new.log) pid) page.new) }
-    ensures len { OnOk result (length page.new.infos.items ≡ linked_length (length page.old.infos.items)) }
-    ensures others { L.tells → OnOk result (now effect_of_entry (L.state sticky_log.new.log) ≡ slice_set (now effect_of_entry (L.state sticky_log.old.log)) pid (chain_at (L.state sticky_log.new.log) pid)) }
-    ensures left { OnErr result ((page.new.stamp ≡ page.old.stamp) × (page.new.infos.items ≡ page.old.infos.items)) }
-    ensures same { L.tells → OnErr result (sticky_log.new.fault ≡ false → now effect_of_entry (L.state sticky_log.new.log) ≡ now effect_of_entry (L.state sticky_log.old.log)) }
-    ensures still { L.tells → OnErr result (sticky_log.new.fault ≡ false → IsKept (chain_at (L.state sticky_log.new.log) pid) page.new) }
+    ensures kept { L.tells
+        → OnOk result (IsKept (chain_at (L.state sticky_log.new.log) pid) page.new) }
+    ensures len { OnOk result
+        (length page.new.infos.items ≡ linked_length (length page.old.infos.items)) }
+    ensures others { L.tells → OnOk result (now effect_of_entry (L.state sticky_log.new.log)
+        ≡ slice_set (now effect_of_entry (L.state sticky_log.old.log)) pid
+        (chain_at (L.state sticky_log.new.log) pid)) }
+    ensures left { OnErr result ((page.new.stamp ≡ page.old.stamp)
+        × (page.new.infos.items ≡ page.old.infos.items)) }
+    ensures same { L.tells → OnErr result (sticky_log.new.fault ≡ false → now effect_of_entry
+        (L.state sticky_log.new.log) ≡ now effect_of_entry (L.state sticky_log.old.log)) }
+    ensures still { L.tells → OnErr result (sticky_log.new.fault ≡ false
+        → IsKept (chain_at (L.state sticky_log.new.log) pid) page.new) }
     ensures refused { L.tells → IfErr result (RefusesLink page.old.stamp page.old.kept link.now) }
-    ensures went { Went L.Log sticky_log.old sticky_log.new (begun_by result (Change pid (message_of (update_of (length page.old.infos.items) link.now page.old.kept)) ∷ [])) }
-    ensures cause { IsCaused L.Log sticky_log.old sticky_log.new (L.is_full sticky_log.old.log (length (message_of (update_of (length page.old.infos.items) link.now page.old.kept)).payload)) result }
+    ensures went { Went L.Log sticky_log.old sticky_log.new (begun_by result (Change pid
+        (message_of (update_of (length page.old.infos.items) link.now page.old.kept)) ∷ [])) }
+    ensures cause { IsCaused L.Log sticky_log.old sticky_log.new
+        (L.is_full sticky_log.old.log (length (message_of
+        (update_of (length page.old.infos.items) link.now page.old.kept)).payload)) result }
     ensures reads { (L.counts sticky_log.new.log).reads ≡ (L.counts sticky_log.old.log).reads }
-    ensures is { OnOk result (IsUpdate (message_of (update_of (length page.old.infos.items) link.now page.old.kept)) (update_of (length page.old.infos.items) link.now page.old.kept)) }
-    ensures is_begun { IsErrOf result (Io Write) → IsUpdate (message_of (update_of (length page.old.infos.items) link.now page.old.kept)) (update_of (length page.old.infos.items) link.now page.old.kept) }
-    ensures sized { L.tells → OnOk result (AllByRecursion IsSized (now effect_of_entry (L.state sticky_log.new.log))) }
+    ensures is { OnOk result (IsUpdate (message_of (update_of (length page.old.infos.items) link.now
+        page.old.kept)) (update_of (length page.old.infos.items) link.now page.old.kept)) }
+    ensures is_begun { IsErrOf result (Io Write)
+        → IsUpdate (message_of (update_of (length page.old.infos.items) link.now page.old.kept))
+        (update_of (length page.old.infos.items) link.now page.old.kept) }
+    ensures sized { L.tells
+        → OnOk result (AllByRecursion IsSized (now effect_of_entry (L.state sticky_log.new.log))) }
     ensures free { is_free page.new.kept ≡ is_free page.old.kept }
     ensures own { IsFreeOrNode page.old.kept → IsFreeOrNode page.new.kept }
-    ensures accessed { OnOk result (WasAccessed accesses.old pid (access_size page.new) accesses.new) }
+    ensures accessed { OnOk result
+        (WasAccessed accesses.old pid (access_size page.new) accesses.new) }
     ensures touched { OnErr result (IsTouched accesses.old pid accesses.new) }
     ensures lost { OnErr result ((page.new.kept ≡ page.old.kept) ⊎ (page.new.kept ≡ kept.Away)) }
-    ensures unasked { L.tells → IfErr result (λ refusal. IsOfLog refusal ⊎ ((page.new.kept ≡ page.old.kept) × (accesses.new ≡ accesses.old))) }
+    ensures unasked { L.tells → IfErr result (λ refusal. IsOfLog refusal
+        ⊎ ((page.new.kept ≡ page.old.kept) × (accesses.new ≡ accesses.old))) }
 {
     let Kept::Node(node) = &mut page.kept else {
         return Err(Refusal::Corruption(None));
@@ -208,7 +225,8 @@ fn prepare(infos: &mut Vec<CacheInfo>, node: &mut Node, link: &Link) -> Result<(
     requires { Accepts node.old link.now }
     ensures infos { infos.new.items ≡ infos.old.items }
     ensures len { vec_len infos.new ≡ vec_len infos.old }
-    ensures room { OnOk result (vec_len infos.new < most_messages → vec_len infos.new < vec_capacity infos.new) }
+    ensures room { OnOk result (vec_len infos.new < most_messages
+        → vec_len infos.new < vec_capacity infos.new) }
     ensures applied { OnOk result (node.new ≡ applied link.now node.old) }
     ensures err { OnErr result (node.new ≡ node.old) }
 {
@@ -224,7 +242,8 @@ fn make_room(infos: &mut Vec<CacheInfo>) -> Result<(), AllocError>
     ensures infos { infos.new.items ≡ infos.old.items }
     ensures len { vec_len infos.new ≡ vec_len infos.old }
     ensures room { OnOk result (vec_len infos.new < vec_capacity infos.new) }
-    ensures most { OnOk result (vec_capacity infos.new ≤ max (vec_capacity infos.old) most_messages) }
+    ensures most { OnOk result
+        (vec_capacity infos.new ≤ max (vec_capacity infos.old) most_messages) }
 {
     let len = infos.len();
     if len < infos.capacity() {
@@ -252,7 +271,8 @@ fn access_linked(
     infos: &[CacheInfo],
     payload: u64,
 ) -> Result<(), Refusal>
-    ensures accessed { OnOk result (WasAccessed accesses.old pid (capped_size (size_after_link infos.now payload)) accesses.new) }
+    ensures accessed { OnOk result (WasAccessed accesses.old pid
+        (capped_size (size_after_link infos.now payload)) accesses.new) }
     ensures err { OnErr result (accesses.new ≡ accesses.old) }
 {
     if infos.len() < PAGE_CONSOLIDATION_THRESHOLD {
@@ -277,8 +297,10 @@ fn write_linked<L: Log>(
     requires ready { sticky_log.old.fault ≡ false }
     requires usable { (L.state sticky_log.old.log).usable ≡ true }
     requires there { L.tells → pid < length (now effect_of_entry (L.state sticky_log.old.log)) }
-    requires full { L.tells → is_empty effect_of_entry (chain_at (L.state sticky_log.old.log) pid) ≡ false }
-    ensures { Wrote L.Log sticky_log.old sticky_log.new pid (link_update messages link.now node.now) stamp result }
+    requires full { L.tells
+        → is_empty effect_of_entry (chain_at (L.state sticky_log.old.log) pid) ≡ false }
+    ensures { Wrote L.Log sticky_log.old sticky_log.new pid (link_update messages link.now node.now)
+        stamp result }
 {
     if messages < PAGE_CONSOLIDATION_THRESHOLD {
         return write_link(alloc, sticky_log, pid, link, size, stamp);

@@ -32,8 +32,11 @@ pub(super) fn write_node<L: Log>(
     requires sized { size ≡ length (message_of (contents.Put (contents.Node node.now))).payload }
     requires ready { sticky_log.old.fault ≡ false }
     requires usable { (L.state sticky_log.old.log).usable ≡ true }
-    requires can { L.tells → can_append effect_of_entry (now effect_of_entry (L.state sticky_log.old.log)) pid (message_of (contents.Put (contents.Node node.now))).kind ≡ true }
-    ensures { Wrote L.Log sticky_log.old sticky_log.new pid (contents.Put (contents.Node node.now)) stamp result }
+    requires can { L.tells
+        → can_append effect_of_entry (now effect_of_entry (L.state sticky_log.old.log)) pid
+        (message_of (contents.Put (contents.Node node.now))).kind ≡ true }
+    ensures { Wrote L.Log sticky_log.old sticky_log.new pid (contents.Put (contents.Node node.now))
+        stamp result }
 {
     // Every node is well-formed.
     let _ = node.data();
@@ -61,7 +64,8 @@ pub(super) fn write_link<L: Log>(
     requires sized { size ≡ length (message_of (contents.Link link.now)).payload }
     requires ready { sticky_log.old.fault ≡ false }
     requires usable { (L.state sticky_log.old.log).usable ≡ true }
-    requires can { L.tells → can_append effect_of_entry (now effect_of_entry (L.state sticky_log.old.log)) pid (message_of (contents.Link link.now)).kind ≡ true }
+    requires can { L.tells → can_append effect_of_entry (now effect_of_entry
+        (L.state sticky_log.old.log)) pid (message_of (contents.Link link.now)).kind ≡ true }
     ensures { Wrote L.Log sticky_log.old sticky_log.new pid (contents.Link link.now) stamp result }
 {
     write(
@@ -89,7 +93,8 @@ pub(super) fn write_roots<L: Log>(
     requires ready { sticky_log.old.fault ≡ false }
     requires usable { (L.state sticky_log.old.log).usable ≡ true }
     requires there { L.tells → pid ≤ length (now effect_of_entry (L.state sticky_log.old.log)) }
-    ensures { Wrote L.Log sticky_log.old sticky_log.new pid (contents.Put (contents.Roots roots.now)) stamp result }
+    ensures { Wrote L.Log sticky_log.old sticky_log.new pid
+        (contents.Put (contents.Roots roots.now)) stamp result }
 {
     write(
         alloc,
@@ -113,7 +118,8 @@ pub(super) fn write_counter<L: Log>(
     requires ready { sticky_log.old.fault ≡ false }
     requires usable { (L.state sticky_log.old.log).usable ≡ true }
     requires there { L.tells → pid ≤ length (now effect_of_entry (L.state sticky_log.old.log)) }
-    ensures { Wrote L.Log sticky_log.old sticky_log.new pid (contents.Put (contents.Counter n)) stamp result }
+    ensures { Wrote L.Log sticky_log.old sticky_log.new pid (contents.Put (contents.Counter n))
+        stamp result }
 {
     write(
         alloc,
@@ -136,7 +142,8 @@ fn write_free<L: Log>(
     requires ready { sticky_log.old.fault ≡ false }
     requires usable { (L.state sticky_log.old.log).usable ≡ true }
     requires there { L.tells → pid < length (now effect_of_entry (L.state sticky_log.old.log)) }
-    ensures { Wrote L.Log sticky_log.old sticky_log.new pid (contents.Put contents.Free) stamp result }
+    ensures { Wrote L.Log sticky_log.old sticky_log.new pid (contents.Put contents.Free) stamp
+        result }
 {
     write(alloc, sticky_log, MessageKind::Free, pid, &(), 0, stamp)
 }
@@ -155,7 +162,8 @@ pub(super) fn write_kept<L: Log>(
     requires ready { sticky_log.old.fault ≡ false }
     requires usable { (L.state sticky_log.old.log).usable ≡ true }
     requires there { L.tells → pid < length (now effect_of_entry (L.state sticky_log.old.log)) }
-    ensures { Wrote L.Log sticky_log.old sticky_log.new pid (contents.Put (content_of kept.now)) stamp result }
+    ensures { Wrote L.Log sticky_log.old sticky_log.new pid (contents.Put (content_of kept.now))
+        stamp result }
 {
     match kept {
         Kept::Node(node) => write_node(alloc, sticky_log, pid, node, size, stamp),
@@ -180,8 +188,10 @@ fn write<L: Log, T: Serialize>(
     requires sized { size ≡ length (T.written value.now) }
     requires ready { sticky_log.old.fault ≡ false }
     requires usable { (L.state sticky_log.old.log).usable ≡ true }
-    requires can { L.tells → can_append effect_of_entry (now effect_of_entry (L.state sticky_log.old.log)) pid kind ≡ true }
-    ensures { WritesMessage L.Log sticky_log.old sticky_log.new pid (message kind (T.written value.now)) stamp result }
+    requires can { L.tells → can_append effect_of_entry
+        (now effect_of_entry (L.state sticky_log.old.log)) pid kind ≡ true }
+    ensures { WritesMessage L.Log sticky_log.old sticky_log.new pid
+        (message kind (T.written value.now)) stamp result }
 {
     let size = size as usize;
     if size <= SHORT_PAYLOAD {
@@ -216,8 +226,10 @@ pub(super) fn write_payload<L: Log>(
 ) -> Result<CacheInfo, Refusal>
     requires ready { sticky_log.old.fault ≡ false }
     requires usable { (L.state sticky_log.old.log).usable ≡ true }
-    requires can { L.tells → can_append effect_of_entry (now effect_of_entry (L.state sticky_log.old.log)) pid kind ≡ true }
-    ensures { WritesMessage L.Log sticky_log.old sticky_log.new pid (message kind payload.now) stamp result }
+    requires can { L.tells → can_append effect_of_entry
+        (now effect_of_entry (L.state sticky_log.old.log)) pid kind ≡ true }
+    ensures { WritesMessage L.Log sticky_log.old sticky_log.new pid (message kind payload.now) stamp
+        result }
 {
     let (lsn, pointer, log_size) = sticky_log.append(kind, pid, payload)?;
     Ok(CacheInfo {

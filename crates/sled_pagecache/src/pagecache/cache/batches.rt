@@ -64,7 +64,8 @@ impl<L: Log> PageCache<L> {
     // Closes the open batch so. With a write error kept, the log isn't called.
     fn close(&mut self, closing: Closing) -> Result<(), Error>
         requires { self.old.batch ≡ true }
-        ensures closes { ClosesBatch L.Log (call_of closing) (answer_of closing) self.old result self.new }
+        ensures closes { ClosesBatch L.Log (call_of closing) (answer_of closing) self.old result
+            self.new }
         ensures bounded { IsBounded L.Log self.new }
     {
         self.sticky_log.batch = false;

@@ -47,7 +47,8 @@ impl<L: Log> PageCache<L> {
         ensures step { Steps L.Log self.old (Allocate node) (Allocated result) self.new }
         ensures blame { IsBlamed L.Log self.old self.new result }
         ensures unread { ReadsNothing L.Log self.old self.new }
-        ensures keeps { Keeps self.old self.new result (λ made. stamps_with self.old.stamps made.1) }
+        ensures keeps { Keeps self.old self.new result
+            (λ made. stamps_with self.old.stamps made.1) }
         ensures token { IfOk result (λ made. (pid_of made.1 ≡ made.0)
             × (slice_get self.new.stamps made.0 ≡ Some (stamp_of made.1))) }
         ensures resident { IfOk result (λ made. IsResident self.new made.0) }
@@ -94,7 +95,8 @@ impl<L: Log> PageCache<L> {
     /// `ReservedId` comes for the cache's own pages, and `Corruption` where the messages of the page make no node, with the pointer
     /// of the first wrong one. These, `Io` and `OutOfMemory` leave every page unchanged.
     pub fn get(&mut self, pid: PageId) -> Result<Option<NodeView<'_>>, Refusal>
-        ensures* got { sem 𝓛 (AfterLoan L.row L.Log self.entry (IsGot L.Log self.entry.now pid result)) }
+        ensures* got { sem 𝓛 (AfterLoan L.row L.Log self.entry
+            (IsGot L.Log self.entry.now pid result)) }
     {
         self.page_in(pid)?;
         let found = self.node_at(pid);
@@ -257,9 +259,11 @@ impl<L: Log> PageCache<L> {
 
     // Refuses what can't be read, reads the page from the log where it doesn't lie in memory, and accesses it.
     fn page_in(&mut self, pid: PageId) -> Result<(), Refusal>
-        ensures stuck { self.old.fault ≡ true → IsErrOf result (refusal.Io Write) × (self.new ≡ self.old) }
+        ensures stuck { self.old.fault ≡ true
+            → IsErrOf result (refusal.Io Write) × (self.new ≡ self.old) }
         ensures brings { self.old.fault ≡ false → BringsIn L.Log self.old pid result self.new }
-        ensures always { self.old.fault ≡ false → is_reserved pid ≡ false → IsResident self.old pid → IsOk result }
+        ensures always { self.old.fault ≡ false → is_reserved pid ≡ false → IsResident self.old pid
+            → IsOk result }
         ensures reads { ReadsPage L.Log self.old pid self.new }
         ensures kept_out { OnErr result (IsAway self.old pid → IsAway self.new pid) }
         ensures bounded { IsBounded L.Log self.new }
@@ -286,7 +290,8 @@ impl<L: Log> PageCache<L> {
     // The node at an id that lies in memory, with the page's token.
     fn node_at(&self, pid: PageId) -> Option<NodeView<'_>>
         ensures is { IsNodeAt L.Log self.now pid result }
-        ensures node { MatchOption result (HasNoNode self.now pid) (λ _. (size : ℕ) × HasNode self.now pid size) }
+        ensures node { MatchOption result (HasNoNode self.now pid) (λ _. (size : ℕ)
+            × HasNode self.now pid size) }
     {
         let page = self.pages.get(pid)?;
         let Kept::Node(node) = &page.kept else {
