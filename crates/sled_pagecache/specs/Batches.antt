@@ -89,7 +89,7 @@ module _ (L : RattleType) (g : Ghosts L.Denot) where
   abbrev pub LendsCache : MutBor (RecoveryGuard L.Denot) → MutBor (Cache L.Denot) → Fml
   LendsCache it result = Lends (guard.the_row (record { mir = named 1; lft = [] }) L g) (cache.the_row L g) it result (λ last. record it.now { cache = record it.now.cache { now = last } })
 
--- the call closes no batch; those that do are made by a batch's guard alone, which they spend
+-- the call closes no batch
 abbrev pub ClosesNone : Call → Type 0
 ClosesNone Seal = ⊥
 ClosesNone Cancel = ⊥
