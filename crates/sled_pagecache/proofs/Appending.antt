@@ -1,15 +1,16 @@
 -- What follows from an append to one page that was made, or refused, once what the list dropped for it is paged out.
-use Rattle.sled_pagecache.proofs.Names.{IsFresh, ◌≡◌, ◌≤◌, ◌+◌, ℕ, Bool, true, false, List, [], ◌∷◌, Some, None, Result, Ok, Err, slice_get, slice_set, refl, sym, ◌∙◌, ap, subst, arith, slice_get_within, error_of, Error, Refusal, Change, message_of, begun_by, Put, Content, Update, Ghosts, Cache, IsResident, HasNoNode, HasNoRoom, chain_length, IsBounded, AccessesPage, EvictsAtMost, MakesAppend, RefusesAppend, RefusesSwap, OnErr, Keeps, Steps, IsBlamed, stamps_after_swap, Swapped, SwapsContent, stamps_in, is_resident, free_ids, IsFreeOrNode, IsAnswered, Token, token, Answer, Call, Config, StickyLog, Accesses, Page, Kept, IsWhole, Evicts, IsSettled, behind-own, put-back, view}
+use Rattle.sled_pagecache.proofs.Names.{lost_by, answer_behind, content_of, no_name, HasNoName, KeepsMemory, ReadsNothing, IfOk, IfErr, OnOk, IsFresh, ◌≡◌, ◌≤◌, ◌+◌, ℕ, Bool, true, false, List, [], ◌∷◌, Some, None, Result, Ok, Err, slice_get, slice_set, refl, sym, ◌∙◌, ap, subst, arith, slice_get_within, error_of, Error, Refusal, Change, message_of, begun_by, Put, Update, Ghosts, Cache, IsResident, HasNoNode, HasNoRoom, chain_length, IsBounded, AccessesPage, EvictsAtMost, MakesAppend, RefusesAppend, OnErr, Keeps, Steps, IsBlamed, stamps_after_swap, Swapped, SwapsContent, stamps_in, is_resident, free_ids, IsFreeOrNode, IsAnswered, Token, token, Answer, Call, Config, StickyLog, Accesses, Page, Kept, IsWhole, Evicts, IsSettled, behind-own, put-back, view}
 use Rattle.sled_pagecache.proofs.Answers.{keeps-err}
 use Rattle.sled_pagecache.proofs.CacheSteps.{steps-known}
 use Rattle.sled_pagecache.proofs.Counted.{behind-counter, other-at, spares-refused, whole-then}
-use Rattle.sled_pagecache.proofs.Evicting.{moves, by-swap, none-left}
+use Rattle.sled_pagecache.proofs.Evicting.{keeps-same, moves, by-swap, none-left}
 use Rattle.sled_pagecache.proofs.InMemory.{loses-none, stay-view, takes-page}
-use Rattle.sled_pagecache.proofs.Judging.{IsSwap, fresh-answered, keeps-fresh}
+use Rattle.sled_pagecache.proofs.Judging.{IsSwap, Unswapped, fresh-answered, handed-back, keeps-fresh, unless-made}
+use Rattle.sled_pagecache.specs.Inside.Appends.{Puts}
 use Rattle.sled_pagecache.proofs.ProperPages.{IsPut}
 use Rattle.sled_pagecache.proofs.Putting.{blamed}
 use Rattle.sled_pagecache.proofs.Replacing.{swaps-refused, swaps-done}
-use Rattle.sled_pagecache.proofs.Standing.{one-short, resident-set}
+use Rattle.sled_pagecache.proofs.Standing.{one-long, one-short, resident-set}
 use Rattle.sled_pagecache.proofs.Tables.{consistent-same, consistent-put, marks-begun}
 
 -- ---- one page
@@ -106,64 +107,98 @@ module _ {L : Type 0} (g : Ghosts L) {next : ℕ} {config : Config} {recovered :
 
 -- ---- the page of a token
 
--- What a swap answers that was made, with this token.
-pub record SwapMade {L R : Type 0} (g : Ghosts L) (was mid now : Cache L) (settled : Type 0) (pid : ℕ) (old made : Token) (rejected : R) (call : Call) (answered : Swapped R → Answer) : Type 0 where
-  pub is : settled
-  pub step : Steps g was call (answered (Ok (Ok made))) now
-  pub keeps : let result : Swapped R = Ok (Ok made) in Keeps was now result (stamps_after_swap was.stamps)
-  pub token : IsAnswered was.stamps old rejected (Ok made)
-  pub bounded : IsBounded g now
-  pub accessed : AccessesPage was pid now
-  pub resident : IsResident now pid
-  pub none : HasNoNode mid pid → HasNoNode now pid
+-- All that a swap promises that puts a content in place of another.
+abbrev pub SwapPromises : {L R : Type 0} → Ghosts L → Cache L → ℕ → Token → R → Call → (Swapped R → Answer) → (Cache L → Type 0) → Cache L → Swapped R → Type 0
+SwapPromises g was pid old given call answered LiesThere now result = record {
+  step : Steps g was call (answered result) now;
+  blame : IsBlamed g was now result;
+  keeps : Keeps was now result (stamps_after_swap was.stamps);
+  token : IfOk result (IsAnswered was.stamps old given);
+  unread : ReadsNothing g was now;
+  length : g.tells → IfOk result (λ swapped. OnOk swapped (chain_length g.state now pid ≡ 1));
+  resident : IfOk result (λ swapped. OnOk swapped (LiesThere now));
+  bounded : IsBounded g now;
+  accesses : IfOk result (λ swapped. OnOk swapped (AccessesPage was pid now));
+  same : IfOk result (λ swapped. OnErr swapped (KeepsMemory was now));
+  leaves : IfErr result (EvictsAtMost was pid now g.tells);
+  unnamed : IfErr result HasNoName;
+}
 
--- And one that was refused.
-pub record SwapRefused {L R : Type 0} (g : Ghosts L) (was now : Cache L) (settled : Type 0) (pid : ℕ) (old : Token) (refusal : Refusal) (call : Call) (answered : Swapped R → Answer) : Type 0 where
-  pub is : settled
-  pub step : Steps g was call (answered (Err (error_of refusal))) now
-  pub blame : let result : Swapped R = Err (error_of refusal) in IsBlamed g was now result
-  pub keeps : let result : Swapped R = Err (error_of refusal) in Keeps was now result (stamps_after_swap was.stamps)
-  pub bounded : IsBounded g now
-  pub leaves : EvictsAtMost was pid now g.tells (error_of refusal)
+-- whether it was written or refused
+pub either-way : {T E P Q : Type 0} (written : Result T E) → P → Q → OnOk written P × OnErr written Q
+either-way (Ok done) p q = (p, tt)
+either-way (Err refusal) p q = (tt, q)
+
+-- of one whose token was rejected
+pub swap-rejected : {L R : Type 0} (g : Ghosts L) (cache : Cache L) {pid : ℕ} {old : Token} {given : R} {call : Call} {answered : Swapped R → Answer} (LiesThere : Cache L → Type 0) (result : Swapped R) → IsBounded g cache
+    → Unswapped g cache pid old given call answered result → SwapPromises g cache pid old given call answered LiesThere cache result
+swap-rejected g cache LiesThere result bounded kept = record {
+  step = kept.step;
+  blame = kept.blame;
+  keeps = kept.keeps;
+  token = kept.token;
+  unread = refl;
+  length = λ told. unless-made _ result kept.unmade;
+  resident = unless-made _ result kept.unmade;
+  bounded = bounded;
+  accesses = unless-made _ result kept.unmade;
+  same = handed-back _ result (keeps-same _);
+  leaves = kept.leaves;
+  unnamed = kept.unnamed;
+}
 
 module _ {L : Type 0} (g : Ghosts L) {next : ℕ} {config : Config} {recovered : Bool} {before after : StickyLog L} {table pages : List Page} {free free_then : List ℕ} {accesses between then : Accesses}
-    (is : IsSettled g next config recovered before table free accesses) {pid : ℕ} {old : Token} {q page : Page} (fresh : IsFresh before.fault table pid old q) (same : old.pid ≡ pid) {R : Type 0} (rejected : R) (content : Content) (put : IsPut content)
+    (is : IsSettled g next config recovered before table free accesses) {pid : ℕ} {old : Token} {q : Page} (fresh : IsFresh before.fault table pid old q) (same : old.pid ≡ pid) {R : Type 0} (given : R) (held : Kept) (put : IsPut (content_of held))
     (call : Call) (answered : Swapped R → Answer)
-    (swap : let cache = view next config recovered accesses.lru before table in IsSwap g cache old rejected call answered (λ s answer out _. SwapsContent (chain_length g.state cache) (HasNoRoom g before.log) s old (Put content) content answer out)) where
-  pub swap-made : {held : Kept} → MakesAppend g pid (Put content) before after accesses between q page held → IsFreeOrNode held → is_resident held ≡ true
-      → free_then ≡ free_ids 0 (slice_set table pid page) → Evicts between None (slice_set table pid page) pages then → (made : Token) → made ≡ token pid page.stamp
-      → SwapMade g (view next config recovered accesses.lru before table) (view next config recovered accesses.lru after (slice_set table pid page)) (view next config recovered then.lru after pages) (IsSettled g next config recovered after pages free_then then) pid old made rejected call answered
-  swap-made done own there frees evicts made is_made =
+    (swap : let cache = view next config recovered accesses.lru before table in IsSwap g cache old given call answered (λ s answer out _. SwapsContent (chain_length g.state cache) (HasNoRoom g before.log) s old (Put (content_of held)) (content_of held) answer out))
+    (LiesThere : Cache L → Type 0) where
+  -- once what the list dropped for it is paged out
+  pub swap-ended : (page : Page) (made : Token) → made ≡ token pid page.stamp → (written : Result (Unit {0}) Refusal) → Puts g pid held before after accesses between q page written → IsFreeOrNode held → is_resident held ≡ true
+      → OnOk written (page.kept ≡ held → free_then ≡ free_ids 0 (slice_set table pid page)) × OnErr written (free_then ≡ free) → Evicts between (lost_by made.pid written) (slice_set table pid page) pages then
+      → (let now = view next config recovered then.lru after pages in page.kept ≡ held → IsResident now pid → (HasNoNode (view next config recovered accesses.lru after (slice_set table pid page)) pid → HasNoNode now pid) → LiesThere now)
+      → (let was = view next config recovered accesses.lru before table in let now = view next config recovered then.lru after pages in
+      IsSettled g next config recovered after pages free_then then × SwapPromises g was pid old given call answered LiesThere now (answer_behind made written))
+  swap-ended page made is_made (Ok done) appended own there frees evicts lies =
       let result : Swapped R = Ok (Ok made) in
-      let then_all = after-made g is fresh.clear fresh.at result done own there (behind-own pid fresh.behind) frees evicts in
-      let named : made ≡ token pid (old.stamp + 1) = is_made ∙ ap (token pid) (done.stamp.1 ∙ ap (λ n. n + 1) fresh.stamp) in
-      record {
-        is = then_all.is;
-        step = then_all.evicted.steps call (answered result)
-            (swaps-done g next config recovered accesses.lru before table fresh.clear (is.whole.consistent.beside fresh.clear) old pid rejected content put call answered swap same table refl after fresh.behind q fresh.at fresh.full fresh.stamp
-            done.is (λ last. let below = done.stamp.0 in omega (arith, below, last)) done.went done.fault page done.stamp.1 made named);
-        keeps = then_all.evicted.keeps (stamps_after_swap (stamps_in table)) (keeps-fresh next config recovered accesses.lru before table pid old q fresh R after page done.fault done.went.batch done.stamp.1 made named) tt;
-        token = fresh-answered next config recovered accesses.lru before table pid old q fresh same R rejected made (named ∙ ap (λ n. token n (old.stamp + 1)) (sym same));
-        bounded = then_all.evicted.bounded;
-        accessed = then_all.accessed;
-        resident = then_all.resident;
-        none = then_all.none;
-      }
-
-  pub swap-refused : {refusal : Refusal} → RefusesAppend g pid (Put content) before after accesses between (RefusesSwap q.stamp) (page ≡ q) refusal
-      → free_then ≡ free → Evicts between (Some pid) (slice_set table pid page) pages then
-      → SwapRefused {R = R} g (view next config recovered accesses.lru before table) (view next config recovered then.lru after pages) (IsSettled g next config recovered after pages free_then then) pid old refusal call answered
-  swap-refused {refusal} refused unfreed evicts =
+      let behind = after-made g is fresh.clear fresh.at result appended own there (behind-own pid fresh.behind) (frees.0 appended.holds) evicts in
+      let named : made ≡ token pid (old.stamp + 1) = is_made ∙ ap (token pid) (appended.stamp.1 ∙ ap (λ n. n + 1) fresh.stamp) in (
+        behind.is,
+        record {
+          step = behind.evicted.steps call (answered result)
+              (swaps-done g next config recovered accesses.lru before table fresh.clear (is.whole.consistent.beside fresh.clear) old pid given (content_of held) put call answered swap same table refl after fresh.behind q fresh.at fresh.full fresh.stamp
+              appended.is (λ last. let below = appended.stamp.0 in omega (arith, below, last)) appended.went appended.fault page appended.stamp.1 made named);
+          blame = record { read = λ is. absurd cc; write = λ is. absurd cc };
+          keeps = behind.evicted.keeps (stamps_after_swap (stamps_in table)) (keeps-fresh next config recovered accesses.lru before table pid old q fresh R after page appended.fault appended.went.batch appended.stamp.1 _ named) tt;
+          token = fresh-answered next config recovered accesses.lru before table pid old q fresh same R given _ (named ∙ ap (λ n. token n (old.stamp + 1)) (sym same));
+          unread = appended.reads;
+          length = λ told. one-long _ page (appended.kept told) appended.stamps;
+          resident = lies appended.holds behind.resident behind.none;
+          bounded = behind.evicted.bounded;
+          accesses = behind.accessed;
+          same = tt;
+          leaves = tt;
+          unnamed = tt;
+        },
+      )
+  swap-ended page made is_made (Err refusal) refused own there unfreed evicts lies =
       let result : Swapped R = Err (error_of refusal) in
-      let then_all = after-refused g is fresh.clear fresh.at result refused unfreed evicts in
-      let back = put-back table pid page (fresh.at ∙ ap (λ page. Some page) (sym refused.left)) in
-      record {
-        is = then_all.is;
-        step = then_all.evicted.steps call (answered result)
-            (steps-known g _ _ _ _ (record { config = refl; recovered = refl }) (λ told. swaps-refused g next config recovered accesses.lru before table fresh.clear (is.whole.consistent.beside fresh.clear) old pid rejected content put call answered swap same (slice_set table pid page) back after
-            fresh.behind q fresh.at fresh.full fresh.stamp refused.is refusal (refused.refused told) refused.went refused.cause));
-        blame = then_all.evicted.blame (blamed g _ _ _ refusal refused.cause);
-        keeps = then_all.evicted.keeps (stamps_after_swap (stamps_in table)) (keeps-err _ _ _ (Unit {0}) refusal fresh.clear refused.cause.fault (ap stamps_in back) refused.went.batch) then_all.stuck;
-        bounded = then_all.evicted.bounded;
-        leaves = then_all.leaves;
-      }
+      let behind = after-refused g is fresh.clear fresh.at result refused unfreed.1 (subst (λ t. Evicts between (Some t.pid) (slice_set table pid page) pages then) is_made evicts) in
+      let back = put-back table pid page (fresh.at ∙ ap (λ page. Some page) (sym refused.left)) in (
+        behind.is,
+        record {
+          step = behind.evicted.steps call (answered result)
+              (steps-known g _ _ _ _ (record { config = refl; recovered = refl }) (λ told. swaps-refused g next config recovered accesses.lru before table fresh.clear (is.whole.consistent.beside fresh.clear) old pid given (content_of held) put call answered swap same
+              (slice_set table pid page) back after fresh.behind q fresh.at fresh.full fresh.stamp refused.is refusal (refused.refused told) refused.went refused.cause));
+          blame = behind.evicted.blame (blamed g _ _ _ refusal refused.cause);
+          keeps = behind.evicted.keeps (stamps_after_swap (stamps_in table)) (keeps-err _ _ _ (Unit {0}) refusal fresh.clear refused.cause.fault (ap stamps_in back) refused.went.batch) behind.stuck;
+          token = tt;
+          unread = refused.reads;
+          length = λ told. tt;
+          resident = tt;
+          bounded = behind.evicted.bounded;
+          accesses = tt;
+          same = tt;
+          leaves = behind.leaves;
+          unnamed = no_name refusal;
+        },
+      )

@@ -1,9 +1,9 @@
 -- What leaves memory behind a call, told of the table, and in the words of the cache's model.
-use Rattle.sled_pagecache.proofs.Names.{IsErrOf, Write, Refusal, Call, Answer, Token, Steps, IsBlamed, Keeps, IfOk, IfErr, OnOk, OnErr, IsResident, IsAway, ReadsPage, MeetsDamage, ReportsDamage, AllStay, TakesNode, TakesPage, FindsNode, LosesAtMost, LosesNone, stamps_in, Vec, Contains, Contains-append_cases, Contains-append_left, Contains-append_right, ◌++◌, ◌≡◌, ◌⊎◌, inl, inr, ℕ, zero, suc, Bool, true, List, [], ◌∷◌, Option, Some, None, Result, slice_get, slice_set, refl, sym, ap, subst, arith, same_Some, none-some, Ghosts, Cache, HasNoNode, KeepsMemory, EvictsAtMost, IsPagedOut, Config, StickyLog, Page, Accesses, Recency, Error, IsBounded, MatchOption, IsWhole, IsOutAt, AreOut, lost_pages, Evicts, IsSettled, past-end, view}
+use Rattle.sled_pagecache.proofs.Names.{lost_by, IsErrOf, Write, Refusal, Call, Answer, Token, Steps, IsBlamed, Keeps, IfOk, IfErr, OnOk, OnErr, IsResident, IsAway, ReadsPage, MeetsDamage, ReportsDamage, AllStay, TakesNode, TakesPage, FindsNode, LosesAtMost, LosesNone, stamps_in, Vec, Contains, Contains-append_cases, Contains-append_left, Contains-append_right, ◌++◌, ◌≡◌, ◌⊎◌, inl, inr, ℕ, zero, suc, Bool, true, List, [], ◌∷◌, Option, Some, None, Result, slice_get, slice_set, refl, sym, ap, subst, arith, same_Some, none-some, Ghosts, Cache, HasNoNode, KeepsMemory, EvictsAtMost, IsPagedOut, Config, StickyLog, Page, Accesses, Recency, Error, IsBounded, MatchOption, IsWhole, IsOutAt, AreOut, lost_pages, Evicts, IsSettled, past-end, view}
 use Rattle.sled_pagecache.proofs.Counted.{counted-out}
 use Rattle.sled_pagecache.proofs.InMemory.{past-view, stays-same}
 use Rattle.sled_pagecache.proofs.PagingOut.{PagesOut, consistent-out, out-page, out-listed, out-none, out-then}
-use Rattle.sled_pagecache.proofs.Settling.{IsSameBut, Settles, lost_by, settled-same, settled-nodes, settled-away, settled-resident, steps-moved, blamed-moved, keeps-moved, damaged-moved, reads-moved, makes-swap, makes-page, makes-found, MakesSwap, MakesPage, MakesFound}
+use Rattle.sled_pagecache.proofs.Settling.{IsSameBut, Settles, settled-same, settled-nodes, settled-away, settled-resident, steps-moved, blamed-moved, keeps-moved, damaged-moved, reads-moved, makes-swap, makes-page, makes-found, MakesSwap, MakesPage, MakesFound}
 use Rattle.sled_base.specs.declared.types.Refusal.TheVariants as refusal
 use Rattle.sled_pagecache.proofs.Sizes.{sized-view}
 
@@ -143,7 +143,7 @@ module _ {L : Type 0} (g : Ghosts L) (next next_then : ℕ) (config : Config) (r
     settled = λ bounded. record { whole = evicted-whole g next_then config recovered accesses.lru after free_then between then lost changed pages evicts whole; none = evicts.none; bounded = bounded };
   }
 
-  pub by-swap : (pid : ℕ) {T R : Type 0} (result : Result (Result T R) Error) → lost ≡ lost_by result pid
+  pub by-swap : (pid : ℕ) {T R : Type 0} (result : Result (Result T R) Error) → lost ≡ lost_by pid result
       → IfOk result (λ swapped. OnOk swapped (TakesPage was accesses pid mid between)) → IfOk result (λ swapped. OnErr swapped ((mid ≡ was) × (between ≡ accesses)))
       → IfErr result (LosesAtMost was accesses pid mid between g.tells) → IfOk result (λ swapped. OnOk swapped (IsResident mid pid))
       → MakesSwap g was mid now pid result

@@ -1,5 +1,5 @@
 -- A page leaves memory, and its cache stays as it always is.
-use Rattle.sled_pagecache.proofs.Names.{set-get_or, slice_index_or, zip-set, Recency, eqb_tells, ◌≡◌, ◌≢◌, ◌⊎◌, ◌≤◌, inl, inr, ℕ, Bool, true, false, List, [], length, length-set, ◌^◌, map, Some, None, slice_get, slice_set, refl, sym, ◌∙◌, ap, subst, same_Some, map-set, AllZip, Chain, effect_of_entry, Ghosts, Cache, IsResident, IsAway, HoldsChain, IsKept, place_of, is_free, is_resident, AreOwn, IsRoots, IsCounter, IsFreeOrNode, IsOwnAt, IsConsistent, stamps_in, Config, CacheInfo, StickyLog, Kept, Page, HasNode, HasNoNode, StaysAt, access_size, size_if, kept_behind_eviction, IsPagedOut, now, view, each-set, arith, at-id, set-by-id, kept-at, map-at, set-at, put-back, all-at}
+use Rattle.sled_pagecache.proofs.Names.{set-get_or, slice_index_or, zip-set, Recency, eqb_tells, ◌≡◌, ◌≢◌, ◌⊎◌, ◌≤◌, inl, inr, ℕ, Bool, true, false, List, [], length, length-set, ◌^◌, map, Some, None, slice_get, slice_set, refl, sym, ◌∙◌, ap, subst, same_Some, map-set, AllZip, Chain, effect_of_entry, Ghosts, Cache, IsResident, IsAway, HoldsChain, IsKept, place_of, is_free, is_resident, AreOwn, IsOwnAt, IsConsistent, stamps_in, Config, CacheInfo, StickyLog, Kept, Page, HasNode, HasNoNode, StaysAt, access_size, size_if, kept_behind_eviction, IsPagedOut, now, view, each-set, arith, at-id, set-by-id, kept-at, map-at, set-at, put-back, all-at}
 use Rattle.sled_pagecache.proofs.InMemory.{stays-same, stays-then, set-others, set-none}
 use Rattle.sled_pagecache.proofs.Standing.{node-full}
 use Rattle.sled_pagecache.proofs.Tables.{free-same}
@@ -13,15 +13,6 @@ holds-out chain k holds = holds
 
 free-out : (k : Kept) → is_free (kept_behind_eviction k) ≡ is_free k
 free-out k = grind arith
-
-roots-out : (k : Kept) → IsRoots k → IsRoots (kept_behind_eviction k)
-roots-out k is = grind arith
-
-counter-out : (k : Kept) → IsCounter k → IsCounter (kept_behind_eviction k)
-counter-out k is = grind arith
-
-own-out : (k : Kept) → IsFreeOrNode k → IsFreeOrNode (kept_behind_eviction k)
-own-out k is = grind arith
 
 no-node-out : (size : ℕ) (k : Kept) → size_if size (kept_behind_eviction k) ≡ None
 no-node-out size k = grind arith

@@ -1,5 +1,6 @@
 -- A node that was put on a page that had none, or was refused, once what the list dropped for it is paged out: what an allocation answers.
-use Rattle.sled_pagecache.proofs.Names.{◌≡◌, ◌<◌, ◌+◌, ◌^◌, ℕ, Bool, false, List, [], ◌∷◌, ◌++◌, length, Some, None, Result, Ok, Err, slice_get, slice_set, refl, sym, ◌∙◌, ap, subst, arith, same_Some, error_of, Error, Refusal, Change, message_of, begun_by, Put, Node, Ghosts, WholeNode, Cache, IsResident, HasNoNode, IsBounded, AccessesPage, LeavesNodes, RefusesSwap, RefusesPage, MakesAppend, MakesNewPage, RefusesAppend, Keeps, Steps, IsBlamed, stamps_with, stamps_in, resident_in, is_free, IsFreeOrNode, IsConsistent, Token, token, pid_of, stamp_of, Allocate, Allocated, Config, StickyLog, Accesses, Page, IsWhole, Evicts, IsSettled, put-back, view}
+use Rattle.sled_pagecache.specs.Inside.Appends.{Puts, PutsOnNewPage}
+use Rattle.sled_pagecache.proofs.Names.{allocated_behind, no_name, HasNoName, ReadsNothing, IfOk, IfErr, OnOk, OnErr, ◌≡◌, ◌<◌, ◌+◌, ◌^◌, ℕ, Bool, false, List, [], ◌∷◌, ◌++◌, length, Some, None, Result, Ok, Err, slice_get, slice_set, refl, sym, ◌∙◌, ap, subst, arith, same_Some, error_of, Error, Refusal, Change, message_of, begun_by, Put, Node, Ghosts, WholeNode, Cache, IsResident, HasNoNode, IsBounded, AccessesPage, LeavesNodes, RefusesSwap, RefusesAppend, Keeps, Steps, IsBlamed, stamps_with, stamps_in, resident_in, is_free, IsFreeOrNode, IsConsistent, Token, token, pid_of, stamp_of, Allocate, Allocated, Config, StickyLog, Accesses, Page, IsWhole, Evicts, IsSettled, put-back, view}
 use Rattle.sled_pagecache.proofs.Allocating.{IsLastFree, last-at, taken-last, free-from, adds-refused, adds-done, reuses-refused, reuses-done}
 use Rattle.sled_pagecache.proofs.Answers.{keeps-err, keeps-ok, stamps-added, stamps-reused}
 use Rattle.sled_pagecache.proofs.Appending.{after-made}
@@ -12,24 +13,20 @@ use Rattle.sled_pagecache.proofs.Standing.{resident-add, one-short}
 use Rattle.sled_pagecache.proofs.Tables.{consistent-same, consistent-new, marks-begun, free-add}
 use Rattle.sled_pagecache.specs.declared.pagecache.page.Kept.TheVariants as kept
 
--- What an allocation answers that was made: this page, with this token.
-pub record PageMade {L : Type 0} (g : Ghosts L) (was now : Cache L) (settled : Type 0) (node : WholeNode) (pid : ℕ) (made : Token) : Type 0 where
-  pub is : settled
-  pub step : Steps g was (Allocate node) (Allocated (Ok (pid, made))) now
-  pub keeps : let result : Result (ℕ × Token) Error = Ok (pid, made) in Keeps was now result (λ made. stamps_with was.stamps made.1)
-  pub token : (pid_of made ≡ pid) × (slice_get now.stamps pid ≡ Some (stamp_of made))
-  pub bounded : IsBounded g now
-  pub accessed : AccessesPage was pid now
-  pub resident : IsResident now pid
-
--- And one that was refused.
-pub record PageRefused {L : Type 0} (g : Ghosts L) (was now : Cache L) (settled : Type 0) (node : WholeNode) (refusal : Refusal) : Type 0 where
-  pub is : settled
-  pub step : Steps g was (Allocate node) (Allocated (Err (error_of refusal))) now
-  pub blame : let result : Result (ℕ × Token) Error = Err (error_of refusal) in IsBlamed g was now result
-  pub keeps : let result : Result (ℕ × Token) Error = Err (error_of refusal) in Keeps was now result (λ made. stamps_with was.stamps made.1)
-  pub bounded : IsBounded g now
-  pub leaves : LeavesNodes g.tells was now (error_of refusal)
+-- All that an allocation promises.
+abbrev pub PagePromises : {L : Type 0} → Ghosts L → Cache L → WholeNode → Cache L → Result (ℕ × Token) Error → Type 0
+PagePromises g was node now result = record {
+  step : Steps g was (Allocate node) (Allocated result) now;
+  blame : IsBlamed g was now result;
+  unread : ReadsNothing g was now;
+  keeps : Keeps was now result (λ made. stamps_with was.stamps made.1);
+  token : IfOk result (λ made. (pid_of made.1 ≡ made.0) × (slice_get now.stamps made.0 ≡ Some (stamp_of made.1)));
+  resident : IfOk result (λ made. IsResident now made.0);
+  bounded : IsBounded g now;
+  accesses : IfOk result (λ made. AccessesPage was made.0 now);
+  leaves : IfErr result (LeavesNodes g.tells was now);
+  unnamed : IfErr result HasNoName;
+}
 
 module _ {L : Type 0} (g : Ghosts L) {next : ℕ} {config : Config} {recovered : Bool} {before after : StickyLog L} {table changed pages : List Page} {free : List ℕ} {accesses between then : Accesses}
     (is : IsSettled g next config recovered before table free accesses) (clear : before.fault ≡ false) {node : WholeNode} where
@@ -37,7 +34,8 @@ module _ {L : Type 0} (g : Ghosts L) {next : ℕ} {config : Config} {recovered :
   unplaced : {pid : ℕ} {why : Refusal → Type 0} {stays : Type 0} {refusal : Refusal} → HasNoNode (view next config recovered accesses.lru before table) pid → RefusesAppend g pid (Put (Node node)) before after accesses between why stays refusal → changed ≡ table
       → Evicts between None changed pages then
       → Steps g (view next config recovered accesses.lru before table) (Allocate node) (Allocated (Err (error_of refusal))) (view next config recovered accesses.lru after changed)
-      → PageRefused g (view next config recovered accesses.lru before table) (view next config recovered then.lru after pages) (IsSettled g next config recovered after pages free then) node refusal
+      → (let was = view next config recovered accesses.lru before table in let now = view next config recovered then.lru after pages in
+      IsSettled g next config recovered after pages free then × PagePromises g was node now (Err (error_of refusal)))
   unplaced {pid} {why} {stays} {refusal} none refused back evicts step =
       let was = view next config recovered accesses.lru before table in
       let mid = view next config recovered accesses.lru after changed in
@@ -50,21 +48,31 @@ module _ {L : Type 0} (g : Ghosts L) {next : ℕ} {config : Config} {recovered :
       let result : Result (ℕ × Token) Error = Err (error_of refusal) in
       let page = by-page g next next config recovered before after table changed pages free free accesses between then is whole None evicts refl result tt
       (pid, none, loses-none g.tells was accesses pid mid between clear refusal refused.touched (stay-view next next config recovered accesses.lru before after table changed back) refused.unasked) tt in
-      let move = moves g next next config recovered before after table changed pages free free accesses between then is whole None evicts result in
-      record {
-        is = move.settled page.bounded;
-        step = move.steps (Allocate node) (Allocated result) step;
-        blame = move.blame (blamed g _ _ _ refusal refused.cause);
-        keeps = move.keeps (λ made. stamps_with (stamps_in table) made.1) (keeps-err _ _ _ (Unit {0}) refusal clear refused.cause.fault (ap stamps_in back) refused.went.batch) page.stuck;
-        bounded = page.bounded;
-        leaves = page.leaves;
-      }
+      let move = moves g next next config recovered before after table changed pages free free accesses between then is whole None evicts result in (
+        move.settled page.bounded,
+        record {
+          step = move.steps (Allocate node) (Allocated result) step;
+          blame = move.blame (blamed g _ _ _ refusal refused.cause);
+          unread = refused.reads;
+          keeps = move.keeps (λ made. stamps_with (stamps_in table) made.1) (keeps-err _ _ _ (Unit {0}) refusal clear refused.cause.fault (ap stamps_in back) refused.went.batch) page.stuck;
+          token = tt;
+          resident = tt;
+          bounded = page.bounded;
+          accesses = tt;
+          leaves = page.leaves;
+          unnamed = no_name refusal;
+        },
+      )
 
   -- ---- no page is free
 
-  pub added : free ≡ [] → MakesNewPage g node before after accesses between table changed → Evicts between None changed pages then → (pid : ℕ) → pid ≡ length table → (made : Token) → made ≡ token pid 1
-      → PageMade g (view next config recovered accesses.lru before table) (view next config recovered then.lru after pages) (IsSettled g next config recovered after pages free then) node pid made
-  added none done evicts pid last made is_made =
+  pub added : free ≡ [] → (written : Result (Unit {0}) Refusal) → PutsOnNewPage g node before after accesses between table changed written → Evicts between None changed pages then
+      → (made : Token) → made ≡ token (length table) 1
+      → (let was = view next config recovered accesses.lru before table in let now = view next config recovered then.lru after pages in
+      IsSettled g next config recovered after pages free then × PagePromises g was node now (allocated_behind made written))
+  added none (Ok unit) done evicts made is_made =
+      let pid = made.pid in
+      let last : pid ≡ length table = ap pid_of is_made in
       let new = done.page in
       let both = is.whole.consistent.both in
       let room : length table < 2 ^ 37 = let few = is.whole.consistent.few in let not_all = done.room in omega (arith, few, not_all) in
@@ -79,54 +87,61 @@ module _ {L : Type 0} (g : Ghosts L) {next : ℕ} {config : Config} {recovered :
       (adds-node next config recovered accesses.lru before after table changed new.page node new.holds new.is accesses between pid last done.accessed) tt
       (ap (λ (l : List Page). slice_get (resident_in l) pid) new.is ∙ ap (λ n. slice_get (resident_in (table ++ new.page ∷ [])) n) last ∙ resident-add table new.page node new.holds) in
       let move = moves g next next config recovered before after table changed pages free free accesses between then is whole None evicts result in
-      let stamps = stamps-added table changed new.page made new.is (is_made ∙ ap (λ n. token n 1) last ∙ ap (token (length table)) (sym new.stamp)) in
-      record {
-        is = move.settled page.bounded;
-        step = move.steps (Allocate node) (Allocated result) (steps-known g _ _ _ _ (record { config = refl; recovered = refl }) (λ told. adds-done g next config recovered accesses.lru before table free clear is.whole.consistent node after changed done.is
-            none done.room done.went done.fault new.page new.stamp new.is pid last made is_made));
-        keeps = move.keeps (λ made. stamps_with (stamps_in table) made.1) (keeps-ok _ _ _ _ clear done.fault stamps.0 done.went.batch) tt;
-        token = (ap pid_of is_made, ap (λ (l : List ℕ). slice_get l pid) move.stamps ∙ ap (slice_get (stamps_in changed)) last ∙ stamps.1);
-        bounded = page.bounded;
-        accessed = page.accessed;
-        resident = page.resident;
-      }
-
-  pub unadded : {refusal : Refusal} → free ≡ [] → RefusesAppend g (length table) (Put (Node node)) before after accesses between (RefusesPage (length table)) (changed ≡ table) refusal → Evicts between None changed pages then
-      → PageRefused g (view next config recovered accesses.lru before table) (view next config recovered then.lru after pages) (IsSettled g next config recovered after pages free then) node refusal
-  unadded {refusal} none refused evicts =
+      let stamps = stamps-added table changed new.page made new.is (is_made ∙ ap (token (length table)) (sym new.stamp)) in (
+        move.settled page.bounded,
+        record {
+          step = move.steps (Allocate node) (Allocated result) (steps-known g _ _ _ _ (record { config = refl; recovered = refl }) (λ told. adds-done g next config recovered accesses.lru before table free clear is.whole.consistent node after changed done.is
+              none done.room done.went done.fault new.page new.stamp new.is pid last made (is_made ∙ ap (λ n. token n 1) (sym last))));
+          blame = record { read = λ is. absurd cc; write = λ is. absurd cc };
+          unread = done.reads;
+          keeps = move.keeps (λ made. stamps_with (stamps_in table) made.1) (keeps-ok _ _ _ _ clear done.fault stamps.0 done.went.batch) tt;
+          token = (refl, ap (λ (l : List ℕ). slice_get l pid) move.stamps ∙ ap (slice_get (stamps_in changed)) last ∙ stamps.1);
+          resident = page.resident;
+          bounded = page.bounded;
+          accesses = page.accessed;
+          leaves = tt;
+          unnamed = tt;
+        },
+      )
+  added none (Err refusal) refused evicts made is_made =
       unplaced (past-view next next config recovered accesses.lru before before table (length table) (omega arith)) refused refused.left evicts
       (steps-known g _ _ _ _ (record { config = refl; recovered = refl }) (λ told. adds-refused g next config recovered accesses.lru before table free clear is.whole.consistent node after changed refused.is none refused.left refusal (refused.refused told) refused.went refused.cause))
 
 -- ---- a free page, of which the id is the last
 
 module _ {L : Type 0} (g : Ghosts L) {next : ℕ} {config : Config} {recovered : Bool} {before after : StickyLog L} {table pages : List Page} {free front : List ℕ} {accesses between then : Accesses}
-    (is : IsSettled g next config recovered before table free accesses) (clear : before.fault ≡ false) {node : WholeNode} {pid : ℕ} {q page : Page} (last : IsLastFree 0 table front pid) (at : slice_get table pid ≡ Some q) where
-  pub reused : MakesAppend g pid (Put (Node node)) before after accesses between q page (kept.Node node) → {free_then : List ℕ} → free_then ≡ front → Evicts between None (slice_set table pid page) pages then → (made : Token) → made ≡ token pid page.stamp
-      → PageMade g (view next config recovered accesses.lru before table) (view next config recovered then.lru after pages) (IsSettled g next config recovered after pages free_then then) node pid made
-  reused done {free_then} taken evicts made is_made =
+    (is : IsSettled g next config recovered before table free accesses) (clear : before.fault ≡ false) {node : WholeNode} {pid : ℕ} {q : Page} (last : IsLastFree 0 table front pid) (at : slice_get table pid ≡ Some q) where
+  pub reused : (page : Page) (written : Result (Unit {0}) Refusal) → Puts g pid (kept.Node node) before after accesses between q page written → {free_then : List ℕ} → OnOk written (free_then ≡ front) → OnErr written (free_then ≡ free)
+      → Evicts between None (slice_set table pid page) pages then → (made : Token) → made ≡ token pid page.stamp
+      → (let was = view next config recovered accesses.lru before table in let now = view next config recovered then.lru after pages in
+      IsSettled g next config recovered after pages free_then then × PagePromises g was node now (allocated_behind made written))
+  reused page (Ok unit) done {free_then} taken untaken evicts made is_made =
+      rw is_made (
       let there = last-at table front pid last in
       let same : last.page ≡ q = same_Some last.page q (sym there ∙ at) in
-      let result : Result (ℕ × Token) Error = Ok (pid, made) in
+      let result : Result (ℕ × Token) Error = Ok (pid, token pid page.stamp) in
       let after_all = after-made g is clear at result done tt refl (free-from table pid last.page is.whole.consistent.own there last.free) (taken ∙ taken-last table front pid last page (ap is_free done.holds)) evicts in
       let stamp : q.stamp ≡ last.page.stamp = ap (λ (page : Page). page.stamp) (sym same) in
-      let stamps = stamps-reused table pid page last.page made there is_made in
-      record {
-        is = after_all.is;
-        step = after_all.evicted.steps (Allocate node) (Allocated result) (steps-known g _ _ _ _ (record { config = refl; recovered = refl }) (λ told. reuses-done g next config recovered accesses.lru before table free clear is.whole.consistent node after (slice_set table pid page) done.is
-            front pid last (λ greatest. let below = done.stamp.0 in omega (arith, below, greatest, stamp)) done.went done.fault page (done.stamp.1 ∙ ap (λ n. n + 1) stamp) refl made is_made));
-        keeps = after_all.evicted.keeps (λ made. stamps_with (stamps_in table) made.1) (keeps-ok _ _ _ _ clear done.fault stamps.0 done.went.batch) tt;
-        token = (ap pid_of is_made, ap (λ (l : List ℕ). slice_get l pid) after_all.evicted.stamps ∙ stamps.1);
-        bounded = after_all.evicted.bounded;
-        accessed = after_all.accessed;
-        resident = after_all.resident;
-      }
-
-  pub unreused : {refusal : Refusal} → RefusesAppend g pid (Put (Node node)) before after accesses between (RefusesSwap q.stamp) (page ≡ q) refusal → Evicts between None (slice_set table pid page) pages then
-      → PageRefused g (view next config recovered accesses.lru before table) (view next config recovered then.lru after pages) (IsSettled g next config recovered after pages free then) node refusal
-  unreused {refusal} refused evicts =
+      let stamps = stamps-reused table pid page last.page (token pid page.stamp) there refl in (
+        after_all.is,
+        record {
+          step = after_all.evicted.steps (Allocate node) (Allocated result) (steps-known g _ _ _ _ (record { config = refl; recovered = refl }) (λ told. reuses-done g next config recovered accesses.lru before table free clear is.whole.consistent node after (slice_set table pid page) done.is
+              front pid last (λ greatest. let below = done.stamp.0 in omega (arith, below, greatest, stamp)) done.went done.fault page (done.stamp.1 ∙ ap (λ n. n + 1) stamp) refl (token pid page.stamp) refl));
+          blame = record { read = λ is. absurd cc; write = λ is. absurd cc };
+          unread = done.reads;
+          keeps = after_all.evicted.keeps (λ made. stamps_with (stamps_in table) made.1) (keeps-ok _ _ _ _ clear done.fault stamps.0 done.went.batch) tt;
+          token = (refl, ap (λ (l : List ℕ). slice_get l pid) after_all.evicted.stamps ∙ stamps.1);
+          resident = after_all.resident;
+          bounded = after_all.evicted.bounded;
+          accesses = after_all.accessed;
+          leaves = tt;
+          unnamed = tt;
+        },
+      ))
+  reused page (Err refusal) refused taken untaken evicts made is_made =
       let there = last-at table front pid last in
       let same : last.page ≡ q = same_Some last.page q (sym there ∙ at) in
       let back = put-back table pid page (at ∙ ap (λ page. Some page) (sym refused.left)) in
-      unplaced g is clear (free-at next next config recovered accesses.lru before before table pid last.page there last.free) refused back evicts
+      rw untaken (unplaced g is clear (free-at next next config recovered accesses.lru before before table pid last.page there last.free) refused back evicts
       (steps-known g _ _ _ _ (record { config = refl; recovered = refl }) (λ told. reuses-refused g next config recovered accesses.lru before table free clear is.whole.consistent node after (slice_set table pid page) refused.is front pid last back refusal
-      (subst (λ (page : Page). RefusesSwap page.stamp refusal) (sym same) (refused.refused told)) refused.went refused.cause))
+      (subst (λ (page : Page). RefusesSwap page.stamp refusal) (sym same) (refused.refused told)) refused.went refused.cause)))

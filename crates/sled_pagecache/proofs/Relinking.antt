@@ -1,5 +1,5 @@
 -- A link that was made, or refused, once what the list dropped for it is paged out: what it answers.
-use Rattle.sled_pagecache.proofs.Names.{IsFresh, ◌≡◌, ◌+◌, ℕ, Bool, List, Some, None, Result, Ok, Err, slice_set, refl, sym, ◌∙◌, ap, error_of, Refusal, Ghosts, Cache, IsResident, IsAway, IsBounded, AccessesPage, EvictsAtMost, MeetsDamage, ReportsDamage, ReadsPage, MakesLink, RefusesLinkOf, Keeps, Steps, IsBlamed, TestsFirst, stamps_after_swap, Swapped, stamps_in, is_free, chain_length, linked_length, IsAnswered, Token, token, Linked, Config, StickyLog, Accesses, Page, NodeLink, IsWhole, Evicts, IsSettled, behind-own, view}
+use Rattle.sled_pagecache.proofs.Names.{answer_behind, lost_by, no_name, HasNoName, KeepsMemory, ReadsNothing, IfOk, IfErr, OnOk, OnErr, stamp_of, slice_get, subst, IsFresh, ◌≡◌, ◌+◌, ℕ, Bool, List, Some, None, Result, Ok, Err, slice_set, refl, sym, ◌∙◌, ap, error_of, Refusal, Ghosts, Cache, IsResident, IsAway, IsBounded, AccessesPage, EvictsAtMost, MeetsDamage, ReportsDamage, ReadsPage, Keeps, Steps, IsBlamed, TestsFirst, stamps_after_swap, Swapped, stamps_in, is_free, chain_length, linked_length, IsAnswered, Token, token, Linked, Config, StickyLog, Accesses, Page, NodeLink, IsWhole, Evicts, IsSettled, behind-own, view}
 use Rattle.sled_pagecache.proofs.Answers.{keeps-err}
 use Rattle.sled_pagecache.proofs.CacheSteps.{steps-known}
 use Rattle.sled_pagecache.proofs.Counted.{behind-counter, other-at, spares-link, whole-then}
@@ -11,40 +11,38 @@ use Rattle.sled_pagecache.proofs.LinkTables.{refused-consistent, taken-consisten
 use Rattle.sled_pagecache.proofs.LinkTests.{refused-tests, taken-tests, refused-damage, taken-damage}
 use Rattle.sled_pagecache.proofs.PagingIn.{page-own-at, stamps-same, reads-pulled}
 use Rattle.sled_pagecache.proofs.Putting.{blamed}
+use Rattle.sled_pagecache.specs.Inside.LinkWrites.{PutsLink}
 use Rattle.sled_pagecache.specs.declared.pagecache.call.Call.TheVariants as call
 
--- What a link answers that was made, with this token.
-pub record LinkMade {L : Type 0} (g : Ghosts L) (was now : Cache L) (settled : Type 0) (pid : ℕ) (old made : Token) (link : NodeLink) : Type 0 where
-  pub is : settled
-  pub tested : let result : Swapped NodeLink = Ok (Ok made) in TestsFirst g was old link result
-  pub step : Steps g was (call.Link old link) (Linked (Ok (Ok made))) now
-  pub keeps : let result : Swapped NodeLink = Ok (Ok made) in Keeps was now result (stamps_after_swap was.stamps)
-  pub token : IsAnswered was.stamps old link (Ok made)
-  pub damaged : ¬ MeetsDamage g was pid
-  pub reads : ReadsPage g was pid now
-  pub length : g.tells → chain_length g.state now pid ≡ linked_length (chain_length g.state was pid)
-  pub bounded : IsBounded g now
-  pub accessed : AccessesPage was pid now
-  pub resident : IsResident now pid
-
--- And one that was refused.
-pub record LinkRefused {L : Type 0} (g : Ghosts L) (was now : Cache L) (settled : Type 0) (pid : ℕ) (old : Token) (link : NodeLink) (refusal : Refusal) : Type 0 where
-  pub is : settled
-  pub tested : let result : Swapped NodeLink = Err (error_of refusal) in TestsFirst g was old link result
-  pub step : Steps g was (call.Link old link) (Linked (Err (error_of refusal))) now
-  pub blame : let result : Swapped NodeLink = Err (error_of refusal) in IsBlamed g was now result
-  pub keeps : let result : Swapped NodeLink = Err (error_of refusal) in Keeps was now result (stamps_after_swap was.stamps)
-  pub damaged : let result : Swapped NodeLink = Err (error_of refusal) in MeetsDamage g was pid → ReportsDamage g was pid result now
-  pub reads : ReadsPage g was pid now
-  pub kept_out : IsAway was pid → IsAway now pid
-  pub bounded : IsBounded g now
-  pub leaves : EvictsAtMost was pid now g.tells (error_of refusal)
+-- All that a link promises.
+abbrev pub LinkPromises : {L : Type 0} → Ghosts L → Cache L → ℕ → Token → NodeLink → Cache L → Swapped NodeLink → Type 0
+LinkPromises g was pid old link now result = record {
+  tested : TestsFirst g was old link result;
+  step : Steps g was (call.Link old link) (Linked result) now;
+  blame : IsBlamed g was now result;
+  keeps : Keeps was now result (stamps_after_swap was.stamps);
+  token : IfOk result (IsAnswered was.stamps old link);
+  damaged : MeetsDamage g was pid → slice_get was.stamps pid ≡ Some (stamp_of old) → ReportsDamage g was pid result now;
+  reads : ReadsPage g was pid now;
+  unread : IfOk result (λ swapped. OnErr swapped (ReadsNothing g was now));
+  length : g.tells → IfOk result (λ swapped. OnOk swapped (chain_length g.state now pid ≡ linked_length (chain_length g.state was pid)));
+  resident : IfOk result (λ swapped. OnOk swapped (IsResident now pid));
+  kept_out : OnErr result (IsAway was pid → IsAway now pid);
+  bounded : IsBounded g now;
+  accesses : IfOk result (λ swapped. OnOk swapped (AccessesPage was pid now));
+  same : IfOk result (λ swapped. OnErr swapped (KeepsMemory was now));
+  leaves : IfErr result (EvictsAtMost was pid now g.tells);
+  unnamed : IfErr result HasNoName;
+}
 
 module _ {L : Type 0} (g : Ghosts L) {next : ℕ} {config : Config} {recovered : Bool} {before after : StickyLog L} {table pages : List Page} {free : List ℕ} {accesses between then : Accesses}
-    (is : IsSettled g next config recovered before table free accesses) {pid : ℕ} {old : Token} {q page : Page} (fresh : IsFresh before.fault table pid old q) (same : old.pid ≡ pid) {link : NodeLink} where
-  pub link-made : MakesLink g before pid q link after accesses between page → Evicts between None (slice_set table pid page) pages then → (made : Token) → made ≡ token pid page.stamp
-      → LinkMade g (view next config recovered accesses.lru before table) (view next config recovered then.lru after pages) (IsSettled g next config recovered after pages free then) pid old made link
-  link-made done evicts made is_made =
+    (is : IsSettled g next config recovered before table free accesses) {pid : ℕ} {old : Token} {q : Page} (fresh : IsFresh before.fault table pid old q) (same : old.pid ≡ pid) {link : NodeLink} where
+  -- once what the list dropped for it is paged out
+  pub link-ended : (page : Page) (made : Token) → made ≡ token pid page.stamp → (written : Result (Unit {0}) Refusal) → PutsLink g before pid q link after accesses between page written
+      → Evicts between (lost_by made.pid written) (slice_set table pid page) pages then
+      → (let was = view next config recovered accesses.lru before table in let now = view next config recovered then.lru after pages in
+      IsSettled g next config recovered after pages free then × LinkPromises g was pid old link now (answer_behind made written))
+  link-ended page made is_made (Ok linked) done evicts =
       let changed = slice_set table pid page in
       let kept = is.whole.consistent in
       let other = behind-counter pid (behind-own pid fresh.behind) in
@@ -56,24 +54,29 @@ module _ {L : Type 0} (g : Ghosts L) {next : ℕ} {config : Config} {recovered :
       let swap = by-swap g next next config recovered before after table changed pages free free accesses between then is whole None evicts pid result refl
       (takes-page next config recovered accesses.lru before after table pid q page fresh.at accesses between done.accessed) tt tt (taken-resident g before after table free pid q page kept fresh.clear fresh.behind fresh.at link next config recovered accesses.lru done.taken) in
       let move = moves g next next config recovered before after table changed pages free free accesses between then is whole None evicts result in
-      let named : made ≡ token pid (old.stamp + 1) = is_made ∙ ap (token pid) (done.taken.raised.1 ∙ ap (λ n. n + 1) fresh.stamp) in
-      record {
-        is = move.settled swap.bounded;
-        tested = taken-tests g next config recovered accesses.lru before table free pid kept old q fresh link same after page done.taken _;
-        step = move.steps (call.Link old link) (Linked result) (rw named (link-taken g next config recovered accesses.lru before table free pid kept fresh.clear old same link fresh.behind q fresh.at fresh.full after page fresh.stamp done.taken done.fault));
-        keeps = move.keeps (stamps_after_swap (stamps_in table)) (keeps-fresh next config recovered accesses.lru before table pid old q fresh _ after page done.fault done.taken.tells.went.batch done.taken.raised.1 made named) tt;
-        token = fresh-answered next config recovered accesses.lru before table pid old q fresh same _ link made (named ∙ ap (λ n. token n (old.stamp + 1)) (sym same));
-        damaged = λ meets. taken-damage g next config recovered accesses.lru before table free pid kept old q fresh link meets after page done.taken;
-        reads = moved-reads g next next config recovered before after table changed pages free free accesses between then is whole None evicts pid (reads-pulled g next config recovered accesses.lru before after table free pid q page kept fresh.clear fresh.behind fresh.at pulled done.unread done.reads (λ away. tt));
-        length = λ told. taken-length g before after table free pid q page kept fresh.clear fresh.behind fresh.at link next config recovered accesses.lru told done.taken;
-        bounded = swap.bounded;
-        accessed = swap.accessed;
-        resident = swap.resident;
-      }
-
-  pub link-unmade : {refusal : Refusal} → RefusesLinkOf g before pid q link after accesses between page refusal → Evicts between (Some pid) (slice_set table pid page) pages then
-      → LinkRefused g (view next config recovered accesses.lru before table) (view next config recovered then.lru after pages) (IsSettled g next config recovered after pages free then) pid old link refusal
-  link-unmade {refusal} refused evicts =
+      let named : made ≡ token pid (old.stamp + 1) = is_made ∙ ap (token pid) (done.taken.raised.1 ∙ ap (λ n. n + 1) fresh.stamp) in (
+        move.settled swap.bounded,
+        record {
+          tested = taken-tests g next config recovered accesses.lru before table free pid kept old q fresh link same after page done.taken _;
+          step = move.steps (call.Link old link) (Linked result) (rw named (link-taken g next config recovered accesses.lru before table free pid kept fresh.clear old same link fresh.behind q fresh.at fresh.full after page fresh.stamp done.taken done.fault));
+          blame = record { read = λ is. absurd cc; write = λ is. absurd cc };
+          keeps = move.keeps (stamps_after_swap (stamps_in table)) (keeps-fresh next config recovered accesses.lru before table pid old q fresh _ after page done.fault done.taken.tells.went.batch done.taken.raised.1 made named) tt;
+          token = fresh-answered next config recovered accesses.lru before table pid old q fresh same _ link made (named ∙ ap (λ n. token n (old.stamp + 1)) (sym same));
+          damaged = λ meets stamp. absurd (taken-damage g next config recovered accesses.lru before table free pid kept old q fresh link meets after page done.taken);
+          reads = moved-reads g next next config recovered before after table changed pages free free accesses between then is whole None evicts pid (reads-pulled g next config recovered accesses.lru before after table free pid q page kept fresh.clear fresh.behind fresh.at pulled done.unread done.reads (λ away. tt));
+          unread = tt;
+          length = λ told. taken-length g before after table free pid q page kept fresh.clear fresh.behind fresh.at link next config recovered accesses.lru told done.taken;
+          resident = swap.resident;
+          kept_out = tt;
+          bounded = swap.bounded;
+          accesses = swap.accessed;
+          same = tt;
+          leaves = tt;
+          unnamed = tt;
+        },
+      )
+  link-ended page made is_made (Err refusal) refused out =
+      let evicts = subst (λ t. Evicts between (Some t.pid) (slice_set table pid page) pages then) is_made out in
       let changed = slice_set table pid page in
       let kept = is.whole.consistent in
       let told : Result (Unit {0}) Refusal = Err refusal in
@@ -85,19 +88,27 @@ module _ {L : Type 0} (g : Ghosts L) {next : ℕ} {config : Config} {recovered :
       let swap = by-swap g next next config recovered before after table changed pages free free accesses between then is whole (Some pid) evicts pid result refl tt tt
       (loses-page g.tells next config recovered accesses.lru before after table pid q page fresh.at accesses between fresh.clear refused.infos refusal refused.lost refused.touched refused.unasked) tt in
       let move = moves g next next config recovered before after table changed pages free free accesses between then is whole (Some pid) evicts result in
-      let stamps = stamps-same g next config recovered accesses.lru before after table free pid q page kept fresh.clear fresh.behind fresh.at refused.stamp in
-      record {
-        is = move.settled swap.bounded;
-        tested = refused-tests g next config recovered accesses.lru before table free pid kept old q fresh link same refusal refused.tested;
-        step = move.steps (call.Link old link) (Linked result) (steps-known g _ _ _ _ (record { config = refl; recovered = refl }) (λ told. link-refused g next config recovered accesses.lru before table free pid kept fresh.clear old same link fresh.behind q fresh.at fresh.full
-            after page fresh.stamp refusal (refused.refused told) refused.cause refused.stamp));
-        blame = move.blame (blamed g _ _ _ refusal refused.cause);
-        keeps = move.keeps (stamps_after_swap (stamps_in table)) (keeps-err _ _ _ (Unit {0}) refusal fresh.clear refused.cause.fault stamps refused.begun.went.batch) swap.stuck;
-        damaged = moved-damage g next next config recovered before after table changed pages free free accesses between then is whole (Some pid) evicts pid result
-            (λ meets. refused-damage g next config recovered accesses.lru before table free pid kept old q fresh link meets after page refusal (refused.refused meets.tells) refused.stamp refused.same);
-        reads = moved-reads g next next config recovered before after table changed pages free free accesses between then is whole (Some pid) evicts pid
-            (reads-pulled g next config recovered accesses.lru before after table free pid q page kept fresh.clear fresh.behind fresh.at told refused.unread (λ away. tt) (λ away. (refused.kept_out away, refused.at_most.0, refused.at_most.1, refused.at_most.2)));
-        kept_out = λ away. still-away g next next config recovered before after table changed pages free free accesses between then is whole (Some pid) evicts pid (refused-out g before after table free pid q page kept fresh.clear fresh.behind fresh.at link next config recovered accesses.lru refused.kept_out away);
-        bounded = swap.bounded;
-        leaves = swap.leaves;
-      }
+      let stamps = stamps-same g next config recovered accesses.lru before after table free pid q page kept fresh.clear fresh.behind fresh.at refused.stamp in (
+        move.settled swap.bounded,
+        record {
+          tested = refused-tests g next config recovered accesses.lru before table free pid kept old q fresh link same refusal refused.tested;
+          step = move.steps (call.Link old link) (Linked result) (steps-known g _ _ _ _ (record { config = refl; recovered = refl }) (λ told. link-refused g next config recovered accesses.lru before table free pid kept fresh.clear old same link fresh.behind q fresh.at fresh.full
+              after page fresh.stamp refusal (refused.refused told) refused.cause refused.stamp));
+          blame = move.blame (blamed g _ _ _ refusal refused.cause);
+          keeps = move.keeps (stamps_after_swap (stamps_in table)) (keeps-err _ _ _ (Unit {0}) refusal fresh.clear refused.cause.fault stamps refused.begun.went.batch) swap.stuck;
+          token = tt;
+          damaged = λ meets stamp. moved-damage g next next config recovered before after table changed pages free free accesses between then is whole (Some pid) evicts pid result
+              (λ meets. refused-damage g next config recovered accesses.lru before table free pid kept old q fresh link meets after page refusal (refused.refused meets.tells) refused.stamp refused.same) meets;
+          reads = moved-reads g next next config recovered before after table changed pages free free accesses between then is whole (Some pid) evicts pid
+              (reads-pulled g next config recovered accesses.lru before after table free pid q page kept fresh.clear fresh.behind fresh.at told refused.unread (λ away. tt) (λ away. (refused.kept_out away, refused.at_most.0, refused.at_most.1, refused.at_most.2)));
+          unread = tt;
+          length = λ told. tt;
+          resident = tt;
+          kept_out = λ away. still-away g next next config recovered before after table changed pages free free accesses between then is whole (Some pid) evicts pid (refused-out g before after table free pid q page kept fresh.clear fresh.behind fresh.at link next config recovered accesses.lru refused.kept_out away);
+          bounded = swap.bounded;
+          accesses = tt;
+          same = tt;
+          leaves = swap.leaves;
+          unnamed = no_name refusal;
+        },
+      )

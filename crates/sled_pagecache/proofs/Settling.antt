@@ -1,5 +1,5 @@
 -- What holds of a cache holds of it once what the list of recent use dropped is paged out, and what a call makes of memory then.
-use Rattle.sled_pagecache.proofs.Names.{eqb, eqb_tells, Vec, Contains, IfOk, IfErr, IsSomeAnd, MatchOption, OnOk, OnErr, Recency, IsAccessed, IsListed, IsSound, rounded, itself_stays, itself_is_listed, others_stay_or_leave, ◌≡◌, ◌≢◌, ◌⊎◌, inl, inr, ℕ, Bool, true, false, List, Option, Some, None, Result, Ok, Err, refl, sym, ◌∙◌, ap, subst, same_Some, none-some, IsErrOf, Error, Write, Refusal, Ghosts, Keeps, Cache, Represents, IsResident, IsAway, chain_length, IsBlamed, IsCaused, Steps, is_reserved, ReadsNothing, ReadsPage, MeetsDamage, ReportsDamage, BringsIn, sticky_log_of, Logged, State, Answer, Call, Token, IsHindrance, count_after, WasAccessed, IsTouched, HasNode, HasNoNode, AreSized, IsBounded, StaysAt, KeepsMemory, AccessesPage, FindsPage, LeavesOthers, EvictsAtMost, LeavesNodes, LeavesPages, AllStay, TakesNode, TakesPage, FindsNode, LosesAtMost, LosesNone, Accesses}
+use Rattle.sled_pagecache.proofs.Names.{lost_by, eqb, eqb_tells, Vec, Contains, IfOk, IfErr, IsSomeAnd, MatchOption, OnOk, OnErr, Recency, IsAccessed, IsListed, IsSound, rounded, itself_stays, itself_is_listed, others_stay_or_leave, ◌≡◌, ◌≢◌, ◌⊎◌, inl, inr, ℕ, Bool, true, false, List, Option, Some, None, Result, Ok, Err, refl, sym, ◌∙◌, ap, subst, same_Some, none-some, IsErrOf, Error, Write, Refusal, Ghosts, Keeps, Cache, Represents, IsResident, IsAway, chain_length, IsBlamed, IsCaused, Steps, is_reserved, ReadsNothing, ReadsPage, MeetsDamage, ReportsDamage, BringsIn, sticky_log_of, Logged, State, Answer, Call, Token, IsHindrance, count_after, WasAccessed, IsTouched, HasNode, HasNoNode, AreSized, IsBounded, StaysAt, KeepsMemory, AccessesPage, FindsPage, LeavesOthers, EvictsAtMost, LeavesNodes, LeavesPages, AllStay, TakesNode, TakesPage, FindsNode, LosesAtMost, LosesNone, Accesses}
 use Rattle.sled_base.specs.declared.types.Error.TheVariants.{Io}
 use Rattle.sled_base.specs.declared.types.Refusal.TheVariants as refusal
 use Rattle.sled_pagecache.proofs.InMemory.{stays-then, stays-has, stay-is}
@@ -14,11 +14,6 @@ pub record Settles {L : Type 0} (g : Ghosts L) (between : Accesses) (lost : Opti
   pub lru : new.lru ≡ between.lru
   pub out : MatchOption between.dropped (new ≡ record mid { lru = new.lru }) (λ dropped. PagesOut (λ pid. Contains dropped.items pid ⊎ (lost ≡ Some pid)) mid new)
   pub sized : AreSized g new
-
--- the page of a swap that was refused
-abbrev pub lost_by : {T E : Type 0} → Result T E → ℕ → Option ℕ
-lost_by (Ok done) pid = None
-lost_by (Err error) pid = Some pid
 
 module _ {L : Type 0} (g : Ghosts L) (between : Accesses) (lost : Option ℕ) (mid new : Cache L) (settles : Settles g between lost mid new) where
   -- what holds of the cache before and after, whichever way
@@ -340,7 +335,7 @@ module _ {L : Type 0} (g : Ghosts L) (old mid new : Cache L) where
     pub stuck : old.fault ≡ true → IsErrOf result (refusal.Io Write) × (new ≡ old)
 
 module _ {L : Type 0} (g : Ghosts L) (old mid new : Cache L) (accesses between : Accesses) (none : accesses.dropped ≡ None) (was_bounded : IsBounded g old) (lists : accesses.lru ≡ old.lru) (config : mid.config ≡ old.config) where
-  pub makes-swap : (pid : ℕ) {T R : Type 0} (result : Result (Result T R) Error) → Settles g between (lost_by result pid) mid new
+  pub makes-swap : (pid : ℕ) {T R : Type 0} (result : Result (Result T R) Error) → Settles g between (lost_by pid result) mid new
       → IfOk result (λ swapped. OnOk swapped (TakesPage old accesses pid mid between)) → IfOk result (λ swapped. OnErr swapped ((mid ≡ old) × (between ≡ accesses)))
       → IfErr result (LosesAtMost old accesses pid mid between g.tells) → IfOk result (λ swapped. OnOk swapped (IsResident mid pid)) → MakesSwap g old mid new pid result
   makes-swap pid (Ok (Ok token)) settles takes same loses there = record {

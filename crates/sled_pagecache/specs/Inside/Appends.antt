@@ -69,6 +69,6 @@ module _ {L : Type 0} (g : Ghosts L) (node : WholeNode) (old new : StickyLog L) 
     pub room : length pages ≢ most_pages
     pub accessed : IfSome (slice_get pages_then (length pages)) (λ page. WasAccessed accesses (length pages) (access_size page) then)
 
-  abbrev pub PutsOnNewPage : Result ℕ Refusal → Type 0
-  PutsOnNewPage (Ok pid) = (pid ≡ length pages) × MakesNewPage
+  abbrev pub PutsOnNewPage : Result (Unit {0}) Refusal → Type 0
+  PutsOnNewPage (Ok done) = MakesNewPage
   PutsOnNewPage (Err refusal) = RefusesAppend g (length pages) (Put (Node node)) old new accesses then (RefusesPage (length pages)) (pages_then ≡ pages) refusal

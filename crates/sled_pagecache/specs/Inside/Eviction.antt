@@ -1,5 +1,10 @@
 -- What leaves memory behind a call, beside the table of pages.
-use Rattle.std.specs.Prelude.{◌≡◌, ℕ, Bool, List, [], ◌∷◌, ◌++◌, Option, None, Some, MatchOption, slice_get, slice_set}
+use Rattle.std.specs.Prelude.{◌≡◌, ℕ, Bool, List, [], ◌∷◌, ◌++◌, Option, None, Some, Result, Ok, Err, MatchOption, slice_get, slice_set}
+use Rattle.sled_base.specs.Errors.{error_of}
+use Rattle.sled_base.specs.declared.types.Error.{Error}
+use Rattle.sled_base.specs.declared.types.Refusal.{Refusal}
+use Rattle.sled_pagecache.specs.State.{Token}
+use Rattle.sled_pagecache.specs.Step.{Swapped}
 use Rattle.sled_pagecache.specs.declared.pagecache.page.Kept.{Kept}
 use Rattle.sled_pagecache.specs.declared.pagecache.page.Kept.TheVariants.{Free, Away, Counter, Roots, Node}
 use Rattle.sled_pagecache.specs.declared.pagecache.page.Page.{Page}
@@ -44,6 +49,21 @@ pub record Evicts (accesses : Accesses) (lost : Option ℕ) (old new : List Page
   pub none : then.dropped ≡ None
   pub lru : then.lru ≡ accesses.lru
   pub out : MatchOption accesses.dropped (new ≡ old) (λ dropped. AreOut (dropped.items ++ lost_pages lost) old new)
+
+-- the page of a change that was refused
+abbrev pub lost_by : {T E : Type 0} → ℕ → Result T E → Option ℕ
+lost_by pid (Ok done) = None
+lost_by pid (Err refusal) = Some pid
+
+-- what a swap answers behind its write: the token that the page has then, or why it was refused
+abbrev pub answer_behind : {R : Type 0} → Token → Result (Unit {0}) Refusal → Swapped R
+answer_behind token (Ok done) = Ok (Ok token)
+answer_behind token (Err refusal) = Err (error_of refusal)
+
+-- and what an allocation does
+abbrev pub allocated_behind : Token → Result (Unit {0}) Refusal → Result (ℕ × Token) Error
+allocated_behind token (Ok done) = Ok (token.pid, token)
+allocated_behind token (Err refusal) = Err (error_of refusal)
 
 -- a cache over a log and a table
 abbrev pub cache_of : {L : Type 0} → ℕ → Config → Bool → Recency → StickyLog L → List Page → Cache L

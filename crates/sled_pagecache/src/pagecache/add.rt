@@ -28,14 +28,14 @@ use sled_log::Log;
 use sled_node::Node;
 use std::alloc::Global;
 
-// Puts a node on a new page, at stamp 1, and answers its id. A refusal leaves the pages.
+// Puts a node on a new page behind the others, at stamp 1. A refusal leaves the pages.
 pub(super) fn add_page<L: Log>(
     alloc: Global,
     sticky_log: &mut StickyLog<L>,
     accesses: &mut Accesses,
     pages: &mut PageTable,
     node: Node,
-) -> Result<PageId, Refusal>
+) -> Result<(), Refusal>
     requires ready { sticky_log.old.fault ≡ false }
     requires usable { (L.state sticky_log.old.log).usable ≡ true }
     requires there { L.tells
@@ -66,5 +66,5 @@ pub(super) fn add_page<L: Log>(
         infos,
         kept: Kept::Node(node),
     });
-    Ok(pid)
+    Ok(())
 }

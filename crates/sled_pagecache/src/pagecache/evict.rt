@@ -1,10 +1,54 @@
 //! What leaves memory behind a call.
 
-ghost use Rattle.sled_pagecache.specs.Inside.Eviction.{IsOutAt, AreOut, Evicts};
+ghost use Rattle.std.specs.Prelude.{◌≡◌, None};
+ghost use Rattle.sled_pagecache.specs.Inside.Eviction.{IsOutAt, AreOut, Evicts, lost_by, answer_behind, allocated_behind};
 
 use super::accesses::Accesses;
 use super::pagetable::PageTable;
-use sled_base::PageId;
+use super::view::PageView;
+use sled_base::{Error, PageId, Refusal};
+
+// Ends a swap whose page was written or refused: pages out what the list dropped for it, and with that the page of a refused one.
+// It answers the token, which the page has once it was written.
+pub(super) fn end_swap<R: Drop>(
+    pages: &mut PageTable,
+    accesses: &mut Accesses,
+    token: PageView,
+    written: Result<(), Refusal>,
+) -> Result<Result<PageView, Option<(PageView, R)>>, Error>
+    ensures evicts { Evicts accesses.old (lost_by token.pid written) pages.old.pages pages.new.pages
+        accesses.new }
+    ensures answer { result ≡ answer_behind token written }
+{
+    match written {
+        Ok(()) => {
+            evict(pages, accesses, None);
+            Ok(Ok(token))
+        }
+        Err(refusal) => {
+            evict(pages, accesses, Some(token.pid()));
+            Err(Error::from(refusal))
+        }
+    }
+}
+
+// Ends an allocation whose page was written or refused: pages out what the list dropped for it. It answers the token, which the page
+// has once it was written.
+pub(super) fn end_allocation(
+    pages: &mut PageTable,
+    accesses: &mut Accesses,
+    token: PageView,
+    written: Result<(), Refusal>,
+) -> Result<(PageId, PageView), Error>
+    ensures evicts { Evicts accesses.old None pages.old.pages pages.new.pages accesses.new }
+    ensures answer { result ≡ allocated_behind token written }
+{
+    evict(pages, accesses, None);
+    match written {
+        Ok(()) => Ok((token.pid(), token)),
+        Err(refusal) => Err(Error::from(refusal)),
+    }
+}
 
 // Pages out what the list dropped in the present call, and with it the page whose append was refused then.
 pub(super) fn evict(pages: &mut PageTable, accesses: &mut Accesses, lost: Option<PageId>)

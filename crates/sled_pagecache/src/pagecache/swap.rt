@@ -1,6 +1,6 @@
 //! The swaps of a page that stands and lies in memory.
 
-ghost use Rattle.std.specs.Prelude.{◌≡◌, ◌≢◌, ◌⊎◌, ◌+◌, ◌-◌, ◌<◌, ◌≤◌, ◌^◌, ◌↔◌, ◌++◌, [], ◌∷◌, false, true, length, map, slice_set, max, vec_len, vec_capacity, IfErr, OnOk, OnErr, IsErrOf, IsTrue};
+ghost use Rattle.std.specs.Prelude.{◌≡◌, ◌≢◌, ◌⊎◌, ◌+◌, ◌-◌, ◌<◌, ◌≤◌, ◌^◌, ◌↔◌, ◌++◌, [], ◌∷◌, false, true, length, map, slice_set, max, vec_len, vec_capacity, IfErr, OnOk, OnErr, IsErrOf, IsTrue, take};
 ghost use Rattle.std.specs.BTreeSet.{insert_key};
 ghost use Rattle.std.specs.List.{AllByRecursion, sum_by};
 ghost use Rattle.std.specs.Ordering.{nat_cmp};
@@ -98,6 +98,32 @@ pub(super) fn free_page<L: Log>(
         free.take_back(pid);
     }
     freed
+}
+
+// Puts a node on the free page with the greatest id, which is free no more then. A refusal leaves both.
+pub(super) fn reuse_page<L: Log>(
+    alloc: Global,
+    sticky_log: &mut StickyLog<L>,
+    accesses: &mut Accesses,
+    free: &mut FreeIds,
+    pid: PageId,
+    page: &mut Page,
+    node: Node,
+) -> Result<(), Refusal>
+    requires ready { sticky_log.old.fault ≡ false }
+    requires usable { (L.state sticky_log.old.log).usable ≡ true }
+    requires there { L.tells → pid < length (now effect_of_entry (L.state sticky_log.old.log)) }
+    ensures taken { OnOk result
+        (free.new.ids.keys ≡ take (length free.old.ids.keys - 1) free.old.ids.keys) }
+    ensures untaken { OnErr result (free.new.ids.keys ≡ free.old.ids.keys) }
+    ensures put { Puts L.Log pid (kept.Node node) sticky_log.old sticky_log.new accesses.old
+        accesses.new page.old page.new result }
+{
+    let put = put_page(alloc, sticky_log, accesses, pid, page, Kept::Node(node));
+    if put.is_ok() {
+        free.take_greatest();
+    }
+    put
 }
 
 // How many bytes the payload has by which a content is put on a page.

@@ -26,11 +26,11 @@ ghost use Rattle.sled_pagecache.specs.declared.pagecache.call.Call.TheVariants a
 
 use super::PageCache;
 use crate::pagecache::add::add_page;
-use crate::pagecache::evict::evict;
+use crate::pagecache::evict::{end_allocation, end_swap, evict};
 use crate::pagecache::judge::{is_reserved, judge};
 use crate::pagecache::page::Kept;
 use crate::pagecache::pull::{pull_and_access, pull_and_link};
-use crate::pagecache::swap::{free_page, put_page};
+use crate::pagecache::swap::{free_page, put_page, reuse_page};
 use crate::pagecache::view::{NodeView, PageView};
 use sled_base::{Device, Error, PageId, Refusal, Why};
 use sled_log::Log;
@@ -63,30 +63,14 @@ impl<L: Log> PageCache<L> {
         }
         let (log, accesses) = (&mut self.sticky_log, &mut self.accesses);
         let Some(pid) = self.free.greatest() else {
-            match add_page(self.alloc, log, accesses, &mut self.pages, node) {
-                Ok(pid) => {
-                    evict(&mut self.pages, &mut self.accesses, None);
-                    return Ok((pid, PageView::new(pid, 1)));
-                }
-                Err(refusal) => {
-                    evict(&mut self.pages, &mut self.accesses, None);
-                    return Err(Error::from(refusal));
-                }
-            }
+            let token = PageView::new(self.pages.len() as PageId, 1);
+            let added = add_page(self.alloc, log, accesses, &mut self.pages, node);
+            return end_allocation(&mut self.pages, &mut self.accesses, token, added);
         };
         let page = self.pages.get_mut(pid);
-        match put_page(self.alloc, log, accesses, pid, page, Kept::Node(node)) {
-            Ok(()) => {
-                let stamp = page.stamp;
-                self.free.take_greatest();
-                evict(&mut self.pages, &mut self.accesses, None);
-                Ok((pid, PageView::new(pid, stamp)))
-            }
-            Err(refusal) => {
-                evict(&mut self.pages, &mut self.accesses, None);
-                Err(Error::from(refusal))
-            }
-        }
+        let reused = reuse_page(self.alloc, log, accesses, &mut self.free, pid, page, node);
+        let token = PageView::new(pid, page.stamp);
+        end_allocation(&mut self.pages, &mut self.accesses, token, reused)
     }
 
     /// The node of a page with the page's token, lent. None where the page is absent or free.
@@ -146,17 +130,9 @@ impl<L: Log> PageCache<L> {
         }
         let (log, accesses) = (&mut self.sticky_log, &mut self.accesses);
         let page = self.pages.get_mut(pid);
-        match pull_and_link(self.alloc, log, accesses, pid, page, &link) {
-            Ok(()) => {
-                let stamp = page.stamp;
-                evict(&mut self.pages, &mut self.accesses, None);
-                Ok(Ok(PageView::new(pid, stamp)))
-            }
-            Err(refusal) => {
-                evict(&mut self.pages, &mut self.accesses, Some(pid));
-                Err(Error::from(refusal))
-            }
-        }
+        let linked = pull_and_link(self.alloc, log, accesses, pid, page, &link);
+        let token = PageView::new(pid, page.stamp);
+        end_swap(&mut self.pages, &mut self.accesses, token, linked)
     }
 
     /// Puts a node on a page that is still at the stamp of the token, in place of what it held, and raises the stamp by
@@ -195,17 +171,9 @@ impl<L: Log> PageCache<L> {
         }
         let (log, accesses) = (&mut self.sticky_log, &mut self.accesses);
         let page = self.pages.get_mut(pid);
-        match put_page(self.alloc, log, accesses, pid, page, Kept::Node(node)) {
-            Ok(()) => {
-                let stamp = page.stamp;
-                evict(&mut self.pages, &mut self.accesses, None);
-                Ok(Ok(PageView::new(pid, stamp)))
-            }
-            Err(refusal) => {
-                evict(&mut self.pages, &mut self.accesses, Some(pid));
-                Err(Error::from(refusal))
-            }
-        }
+        let put = put_page(self.alloc, log, accesses, pid, page, Kept::Node(node));
+        let token = PageView::new(pid, page.stamp);
+        end_swap(&mut self.pages, &mut self.accesses, token, put)
     }
 
     /// Frees a page that is still at the stamp of the token, and raises its stamp by one. The page is absent for every other call, until
@@ -229,8 +197,8 @@ impl<L: Log> PageCache<L> {
         ensures unread { ReadsNothing L.Log self.old self.new }
         ensures length { L.tells
             → IfOk result (λ swapped. OnOk swapped (chain_length L.state self.new pid ≡ 1)) }
-        ensures none { IfOk result (λ swapped. OnOk swapped (HasNoNode self.new pid)) }
-        ensures resident { IfOk result (λ swapped. OnOk swapped (IsResident self.new pid)) }
+        ensures resident { IfOk result (λ swapped. OnOk swapped
+            (IsResident self.new pid × HasNoNode self.new pid)) }
         ensures bounded { IsBounded L.Log self.new }
         ensures accesses { IfOk result
             (λ swapped. OnOk swapped (AccessesPage self.old pid self.new)) }
@@ -244,17 +212,9 @@ impl<L: Log> PageCache<L> {
         }
         let (log, accesses) = (&mut self.sticky_log, &mut self.accesses);
         let page = self.pages.get_mut(pid);
-        match free_page(self.alloc, log, accesses, &mut self.free, pid, page) {
-            Ok(()) => {
-                let stamp = page.stamp;
-                evict(&mut self.pages, &mut self.accesses, None);
-                Ok(Ok(PageView::new(pid, stamp)))
-            }
-            Err(refusal) => {
-                evict(&mut self.pages, &mut self.accesses, Some(pid));
-                Err(Error::from(refusal))
-            }
-        }
+        let freed = free_page(self.alloc, log, accesses, &mut self.free, pid, page);
+        let token = PageView::new(pid, page.stamp);
+        end_swap(&mut self.pages, &mut self.accesses, token, freed)
     }
 
     // Refuses what can't be read, reads the page from the log where it doesn't lie in memory, and accesses it.

@@ -44,22 +44,20 @@ returns g c =
     let pages = c.push_reserved-2.new.self.pages in
     let payload = length (message_of (Put (Node c.args.node))).payload in
     let takes : capped_size c.size_with.result ≡ capped_size (head_size + payload) = omega (arith, c.size_with.ensures, c.serialized_size-size.ensures) in
-    let alone : infos ≡ info ∷ [] = only-one infos c.in-Ok-with_capacity.infos.items info c.push_reserved.ensures.items c.in-Ok-with_capacity.ensures.items in (
-      at,
-      record {
-        is = c.in_ok-info.ensures.is;
-        went = rw (← at) wrote.went;
-        fault = wrote.cause.fault;
-        reads = wrote.reads;
-        sized = wrote.sized;
-        others = λ told. rw (← at) (added-others _ c.len-pid.result (at ∙ c.requires.there told) _ c.args.node info (wrote.chains told));
-        page = rw (← at)
-            (has-one-more g.L.Log.tells _ c.args.node info c.args.pages.now.pages c.reserve.new.self.pages pages _ c.reserve.ensures.same c.push_reserved-2.ensures refl refl alone wrote.at
-            (λ told. new-kept _ c.len-pid.result (at ∙ c.requires.there told) _ c.args.node info (wrote.chains told) _ refl alone c.in_ok-info.ensures.is));
-        room = λ all. c.if-len-eq-MAX_PAGES.false (c.len.ensures.number ∙ all);
-        accessed = accessed-added c.args.accesses.now c.access.new.self c.args.pages.now.pages c.reserve.new.self.pages pages _ c.len-pid.result at c.reserve.ensures.same c.push_reserved-2.ensures
-            (subst (λ n. WasAccessed c.args.accesses.now c.len-pid.result n c.access.new.self)
-            (takes ∙ size-alone infos info payload alone wrote.size.0)
-            c.in-Ok-access.ensures.accessed);
-      },
-    )
+    let alone : infos ≡ info ∷ [] = only-one infos c.in-Ok-with_capacity.infos.items info c.push_reserved.ensures.items c.in-Ok-with_capacity.ensures.items in
+    record {
+      is = c.in_ok-info.ensures.is;
+      went = rw (← at) wrote.went;
+      fault = wrote.cause.fault;
+      reads = wrote.reads;
+      sized = wrote.sized;
+      others = λ told. rw (← at) (added-others _ c.len-pid.result (at ∙ c.requires.there told) _ c.args.node info (wrote.chains told));
+      page = rw (← at)
+          (has-one-more g.L.Log.tells _ c.args.node info c.args.pages.now.pages c.reserve.new.self.pages pages _ c.reserve.ensures.same c.push_reserved-2.ensures refl refl alone wrote.at
+          (λ told. new-kept _ c.len-pid.result (at ∙ c.requires.there told) _ c.args.node info (wrote.chains told) _ refl alone c.in_ok-info.ensures.is));
+      room = λ all. c.if-len-eq-MAX_PAGES.false (c.len.ensures.number ∙ all);
+      accessed = accessed-added c.args.accesses.now c.access.new.self c.args.pages.now.pages c.reserve.new.self.pages pages _ c.len-pid.result at c.reserve.ensures.same c.push_reserved-2.ensures
+          (subst (λ n. WasAccessed c.args.accesses.now c.len-pid.result n c.access.new.self)
+          (takes ∙ size-alone infos info payload alone wrote.size.0)
+          c.in-Ok-access.ensures.accessed);
+    }

@@ -1,9 +1,9 @@
-use Rattle.sled_pagecache.proofs.Names.{rules, refl, arith, slice_get_within, Linked, no_name}
+use Rattle.sled_pagecache.proofs.Names.{rules, refl, arith, slice_get_within, Linked}
 use Rattle.sled_pagecache.proofs.Evicting.{keeps-same}
 use Rattle.sled_pagecache.proofs.Judging.{link-swap, unswapped, unless-made, handed-back, fresh-at}
 use Rattle.sled_pagecache.proofs.LinkTests.{judged-tests, judged-undamaged}
 use Rattle.sled_pagecache.proofs.PagingIn.{page-kept-at, page-own-at}
-use Rattle.sled_pagecache.proofs.Relinking.{link-made, link-unmade}
+use Rattle.sled_pagecache.proofs.Relinking.{link-ended}
 use Rattle.sled_pagecache.proofs.RootWrites.{on-err}
 use Rattle.sled_pagecache.proofs.Standing.{beside-long}
 use Rattle.sled_pagecache.specs.declared.pagecache.call.Call.TheVariants as call
@@ -34,8 +34,8 @@ returns-in-Err g c =
 pub get_mut-page-requires : goal.get_mut-page-requires
 get_mut-page-requires g c = slice_get_within _ c.args.pid _ c.in-Ok.ensures.1.at
 
-pub pull_and_link-requires : goal.pull_and_link-requires
-pull_and_link-requires g c =
+pub pull_and_link-linked-requires : goal.pull_and_link-linked-requires
+pull_and_link-linked-requires g c =
     let inside = c.self.inside in
     let q = c.get_mut-page.result.now in
     let fresh = fresh-at c.in-Ok.ensures c.get_mut-page.ensures.page in
@@ -53,52 +53,9 @@ pull_and_link-requires g c =
     }
 
 pub invariant_of-self : goal.invariant_of-self
-invariant_of-self g c = (link-made g.L.Log c.self.invariant (fresh-at c.in-Ok.ensures c.get_mut-page.ensures.page) c.requires c.in-Ok-pull_and_link.ensures c.evict.ensures _ refl).is
+invariant_of-self g c = (link-ended g.L.Log c.self.invariant (fresh-at c.in-Ok.ensures c.get_mut-page.ensures.page) c.requires c.pull_and_link-linked.new.page _ c.new-token.ensures c.pull_and_link-linked.result c.pull_and_link-linked.ensures c.end_swap.ensures.evicts).0
 
-pub invariant_of-self-in-Err-pull_and_link : goal.invariant_of-self-in-Err-pull_and_link
-invariant_of-self-in-Err-pull_and_link g c = (link-unmade g.L.Log c.self.invariant (fresh-at c.in-Ok.ensures c.get_mut-page.ensures.page) c.requires c.in-Err-pull_and_link.ensures c.evict-in-Err-pull_and_link.ensures).is
-
-pub returns-in-Ok-pull_and_link : goal.returns-in-Ok-pull_and_link
-returns-in-Ok-pull_and_link g c =
-    let made = link-made g.L.Log c.self.invariant (fresh-at c.in-Ok.ensures c.get_mut-page.ensures.page) c.requires c.in-Ok-pull_and_link.ensures c.evict.ensures c.new.result c.new.ensures in
-    rw (← c.self.view_is) (record {
-      tested = made.tested;
-      step = made.step;
-      blame = search rules;
-      keeps = made.keeps;
-      token = made.token;
-      damaged = λ meets stamp. absurd (made.damaged meets);
-      reads = made.reads;
-      unread = tt;
-      length = made.length;
-      resident = made.resident;
-      kept_out = tt;
-      bounded = made.bounded;
-      accesses = made.accessed;
-      same = tt;
-      leaves = tt;
-      unnamed = tt;
-    })
-
--- it was refused
 pub returns : goal.returns
 returns g c =
-    let refused = link-unmade g.L.Log c.self.invariant (fresh-at c.in-Ok.ensures c.get_mut-page.ensures.page) c.requires c.in-Err-pull_and_link.ensures c.evict-in-Err-pull_and_link.ensures in
-    rw (c.from.ensures, ← c.self.view_is) (record {
-      tested = refused.tested;
-      step = refused.step;
-      blame = refused.blame;
-      keeps = refused.keeps;
-      token = tt;
-      damaged = λ meets stamp. refused.damaged meets;
-      reads = refused.reads;
-      unread = tt;
-      length = λ told. tt;
-      resident = tt;
-      kept_out = refused.kept_out;
-      bounded = refused.bounded;
-      accesses = tt;
-      same = tt;
-      leaves = refused.leaves;
-      unnamed = no_name c.in-Err-pull_and_link.refusal;
-    })
+    rw (c.end_swap.ensures.answer, ← c.self.view_is)
+    (link-ended g.L.Log c.self.invariant (fresh-at c.in-Ok.ensures c.get_mut-page.ensures.page) c.requires c.pull_and_link-linked.new.page _ c.new-token.ensures c.pull_and_link-linked.result c.pull_and_link-linked.ensures c.end_swap.ensures.evicts).1
