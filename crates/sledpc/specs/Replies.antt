@@ -8,6 +8,7 @@ use Rattle.sled_base.specs.declared.types.Error.{Error}
 use Rattle.sled_base.specs.declared.types.Error.TheVariants.{CollectionNotFound, Unsupported, ReportableBug, Io, Corruption, OutOfMemory}
 use Rattle.sled_node.specs.Node.{Item, Value, Child, WholeNode}
 use Rattle.sled_pagecache.specs.State.{stamp_of}
+use Rattle.sled_pagecache.specs.Step.{Swapped}
 use Rattle.sled_pagecache.specs.declared.pagecache.call.Answer.{Answer}
 use Rattle.sled_pagecache.specs.declared.pagecache.call.Answer.TheVariants.{Allocated, Got, Linked, Replaced, Freed, GotMeta, FoundRoot, RootSwapped, GotIdgen, Generated, Flushed, Sized, Pinned, Sealed, Cancelled}
 use Rattle.sledpc.specs.Words.{bytes_word}
@@ -38,24 +39,22 @@ abbrev pub reply_of_mark : Result (Unit {0}) Error → Bytes
 reply_of_mark (Ok done) = codes "ok"
 reply_of_mark (Err e) = error_text e
 
+-- the stamp of the swapped page, or the present one
+abbrev pub reply_of_swap : {R : Type 0} → Swapped R → Bytes
+reply_of_swap (Ok (Ok made)) = codes "ok " ++ decimal (stamp_of made)
+reply_of_swap (Ok (Err None)) = codes "gone"
+reply_of_swap (Ok (Err (Some back))) = codes "stale " ++ decimal (stamp_of back.0)
+reply_of_swap (Err e) = error_text e
+
 abbrev pub reply_of : Answer → Bytes
 reply_of (Allocated (Ok made)) = codes "page " ++ decimal made.0 ++ codes " " ++ decimal (stamp_of made.1)
 reply_of (Allocated (Err e)) = error_text e
 reply_of (Got (Ok None)) = codes "none"
 reply_of (Got (Ok (Some found))) = node_text (stamp_of found.0) found.1
 reply_of (Got (Err e)) = error_text e
-reply_of (Linked (Ok (Ok made))) = codes "ok " ++ decimal (stamp_of made)
-reply_of (Linked (Ok (Err None))) = codes "gone"
-reply_of (Linked (Ok (Err (Some back)))) = codes "stale " ++ decimal (stamp_of back.0)
-reply_of (Linked (Err e)) = error_text e
-reply_of (Replaced (Ok (Ok made))) = codes "ok " ++ decimal (stamp_of made)
-reply_of (Replaced (Ok (Err None))) = codes "gone"
-reply_of (Replaced (Ok (Err (Some back)))) = codes "stale " ++ decimal (stamp_of back.0)
-reply_of (Replaced (Err e)) = error_text e
-reply_of (Freed (Ok (Ok made))) = codes "ok " ++ decimal (stamp_of made)
-reply_of (Freed (Ok (Err None))) = codes "gone"
-reply_of (Freed (Ok (Err (Some back)))) = codes "stale " ++ decimal (stamp_of back.0)
-reply_of (Freed (Err e)) = error_text e
+reply_of (Linked answer) = reply_of_swap answer
+reply_of (Replaced answer) = reply_of_swap answer
+reply_of (Freed answer) = reply_of_swap answer
 -- no line asks for the map of named roots, or for the counter of ids
 reply_of (GotMeta answer) = []
 reply_of (GotIdgen answer) = []

@@ -5,7 +5,7 @@ ghost use Rattle.std.specs.Fmt.{decimal};
 ghost use Rattle.sled_node.specs.Node.{Value};
 ghost use Rattle.sled_node.specs.Parts.{item_of};
 ghost use Rattle.sledpc.specs.Output.{Gathers};
-ghost use Rattle.sledpc.specs.Replies.{entry_text, error_text, item_word, node_text, reply_of, reply_of_mark, reply_of_tree};
+ghost use Rattle.sledpc.specs.Replies.{entry_text, error_text, item_word, node_text, reply_of, reply_of_mark, reply_of_swap, reply_of_tree};
 ghost use Rattle.sledpc.specs.Settings.{entry_room, piece_room};
 ghost use Rattle.sledpc.specs.LentAnswers.{answer_of};
 ghost use Rattle.sledpc.specs.Words.{bytes_word};
@@ -50,17 +50,9 @@ pub fn gather_line<W: Write>(
             view.node(),
         ),
         LentAnswer::Got(Ok(None)) => gather_text(writer, piece, b"none\n"),
-        LentAnswer::Linked(Ok(Ok(token)))
-        | LentAnswer::Replaced(Ok(Ok(token)))
-        | LentAnswer::Freed(Ok(Ok(token))) => { gather_labelled(writer, piece, b"ok ", token.ts()) }
-        LentAnswer::Linked(Ok(Err(Some((token, _)))))
-        | LentAnswer::Replaced(Ok(Err(Some((token, _)))))
-        | LentAnswer::Freed(Ok(Err(Some((token, ()))))) => {
-            gather_labelled(writer, piece, b"stale ", token.ts())
-        }
-        LentAnswer::Linked(Ok(Err(None)))
-        | LentAnswer::Replaced(Ok(Err(None)))
-        | LentAnswer::Freed(Ok(Err(None))) => gather_text(writer, piece, b"gone\n"),
+        LentAnswer::Linked(answer) => gather_swap(writer, piece, answer),
+        LentAnswer::Replaced(answer) => gather_swap(writer, piece, answer),
+        LentAnswer::Freed(answer) => gather_swap(writer, piece, answer),
         LentAnswer::FoundRoot(Ok(root)) => gather_labelled(writer, piece, b"page ", *root),
         LentAnswer::FoundRoot(Err(Error::CollectionNotFound(_))) => gather_text(
             writer, piece, b"none\n",
@@ -79,15 +71,29 @@ pub fn gather_line<W: Write>(
         ),
         LentAnswer::Sized(Ok(bytes)) => gather_labelled(writer, piece, b"size ", *bytes),
         LentAnswer::Allocated(Err(error))
-        | LentAnswer::Linked(Err(error))
-        | LentAnswer::Replaced(Err(error))
-        | LentAnswer::Freed(Err(error))
         | LentAnswer::FoundRoot(Err(error))
         | LentAnswer::RootSwapped(Err(error))
         | LentAnswer::Generated(Err(error))
         | LentAnswer::Flushed(Err(error))
         | LentAnswer::Sized(Err(error)) => gather_error(writer, piece, error),
         LentAnswer::Got(Err(refusal)) => gather_error(writer, piece, &Error::from(refusal)),
+    }
+}
+
+// The same of a swap: the page's new stamp, or the present one.
+fn gather_swap<W: Write, R>(
+    writer: &mut W,
+    piece: &mut Piece,
+    answer: &Result<Result<PageView, Option<(PageView, R)>>, Error>,
+) -> Result<(), Unwritten>
+    ensures { Gathers (W.contents writer.old) (W.contents writer.new) piece.old piece.new result
+        (reply_of_swap answer.now ++ 10 ∷ []) }
+{
+    match answer {
+        Ok(Ok(token)) => gather_labelled(writer, piece, b"ok ", token.ts()),
+        Ok(Err(Some((present, _)))) => gather_labelled(writer, piece, b"stale ", present.ts()),
+        Ok(Err(None)) => gather_text(writer, piece, b"gone\n"),
+        Err(error) => gather_error(writer, piece, error),
     }
 }
 
