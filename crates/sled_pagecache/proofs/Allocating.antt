@@ -1,5 +1,5 @@
 -- Allocating a page, as a step of the machine.
-use Rattle.sled_pagecache.proofs.Names.{Recency, ◌≡◌, ◌≢◌, ◌⊎◌, inl, inr, ⊎_elim, ◌≤◌, ◌<◌, ◌+◌, ◌-◌, ◌^◌, ℕ, zero, suc, Bool, true, false, cond, List, [], ◌∷◌, ◌++◌, length, take, Option, Some, None, Result, Ok, Err, slice_get, slice_set, refl, sym, ◌∙◌, ap, subst, arith, eq-eqb, ne_eqb, false≢true, none-some, same_Some, slice_get-get_or, slice_get_within, Error, Unsupported, Refusal, PagesUsedUp, StampUsedUp, Event, Update, Node, Put, Change, IsUpdate, message_of, Ghosts, WholeNode, RefusesPage, Cache, chain_length, HasNoRoom, StepOver, Represents, Steps, Went, IsCaused, begun_by, Logged, free_ids, page, State, with_page, free_token, later_token, greatest_free, Does, Outcome, outcome, no_change, Allocates, RefusesSwap, IsRoots, IsCounter, AreOwn, IsBeside, IsConsistent, Token, token, Allocated, Allocate, Config, StickyLog, Kept, error_by, StampedPage, KeptPage, at-id, view}
+use Rattle.sled_pagecache.proofs.Names.{Recency, ◌≡◌, ◌≢◌, ◌⊎◌, inl, inr, ⊎_elim, ◌≤◌, ◌<◌, ◌+◌, ◌-◌, ◌^◌, ℕ, zero, suc, Bool, true, false, cond, List, [], ◌∷◌, ◌++◌, length, take, Option, Some, None, Result, Ok, Err, slice_get, slice_set, refl, sym, ◌∙◌, ap, subst, arith, eq-eqb, ne_eqb, false≢true, none-some, same_Some, slice_get-get_or, slice_get_within, Error, Unsupported, Refusal, PagesUsedUp, StampUsedUp, Event, Update, Node, Put, Change, IsUpdate, message_of, Ghosts, WholeNode, RefusesPage, Cache, chain_length, HasNoRoom, StepOver, Represents, Steps, Went, IsCaused, begun_by, Logged, free_ids, page, State, with_page, free_token, later_token, greatest_free, Does, Outcome, outcome, no_change, Allocates, RefusesSwap, IsRoots, IsCounter, AreOwn, IsBeside, IsConsistent, Token, token, Allocated, Allocate, Config, StickyLog, Kept, error_by, StampedPage, KeptPage, at-id, view, length-append, nil_from_length, take_more, past-end, get_or_from_slice_get, take_all, AddsPage, ReusesPage}
 use Rattle.sled_pagecache.proofs.Putting.{unless-clear, MayPut, may-set, may-add, nothing-appended, put-refused, put-set, put-added}
 use Rattle.sled_pagecache.proofs.Standing.{AreKnown, known-length}
 use Rattle.sled_pagecache.specs.Table as shown
@@ -7,39 +7,21 @@ use Rattle.sled_pagecache.specs.declared.pagecache.page.Kept.TheVariants as held
 
 -- ---- the last of a list
 
-ends : (n : ℕ) (xs : List ℕ) (x : ℕ) → length xs ≡ n + 1 → slice_get xs n ≡ Some x → xs ≡ take n xs ++ x ∷ []
-ends n [] x long at = absurd (omega (arith, long))
-ends zero (y ∷ []) x long at = ap (λ z. z ∷ []) (same_Some y x at)
-ends zero (y ∷ z ∷ xs) x long at = absurd (omega (arith, long))
-ends (suc n) (y ∷ xs) x long at = ap (λ (l : List ℕ). y ∷ l) (ends n xs x (omega (arith, long)) at)
-
-pub ends-with : (xs : List ℕ) (x : ℕ) → slice_get xs (length xs - 1) ≡ Some x → xs ≡ take (length xs - 1) xs ++ x ∷ []
-ends-with [] x at = absurd (none-some x at)
-ends-with (y ∷ xs) x at = ends (length (y ∷ xs) - 1) (y ∷ xs) x (omega arith) at
-
 pub ends-nowhere : (xs : List ℕ) → slice_get xs (length xs - 1) ≡ None → xs ≡ []
-ends-nowhere [] at = refl
-ends-nowhere (y ∷ xs) at = absurd (none-some _ (sym at ∙ slice_get-get_or (y ∷ xs) (length (y ∷ xs) - 1) y (omega arith)))
+ends-nowhere xs at = nil_from_length xs (omega (arith, past-end xs (length xs - 1) at))
 
 -- ---- the free page with the greatest id
 
-no-end : (before : List ℕ) (x : ℕ) → [] ≡ before ++ x ∷ [] → ⊥
-no-end [] x is = cc
-no-end (y ∷ before) x is = cc
+nil_behind : (b : Bool) (x : ℕ) (xs ys : List ℕ) → cond b (x ∷ xs) ys ≡ [] → (b ≡ false) × (ys ≡ [])
+nil_behind b x xs ys none = grind arith
 
 -- no page is free
 pub none-free : (first : ℕ) (table : List KeptPage) → free_ids first table ≡ [] → (pages : List StampedPage) → AreKnown pages table → greatest_free first pages ≡ None
 none-free first [] none [] known = refl
-none-free first [] none (p ∷ pages) known = absurd known
-none-free first (q ∷ table) none [] known = absurd known
-none-free first (q ∷ table) none (p ∷ pages) known = by (shown.is_free q.kept) refl none (λ rest. none-free (first + 1) table rest pages known.1)
-  where
-    by : (b : Bool) → shown.is_free q.kept ≡ b → cond b (first ∷ free_ids (first + 1) table) (free_ids (first + 1) table) ≡ []
-        → (free_ids (first + 1) table ≡ [] → greatest_free (first + 1) pages ≡ None) → greatest_free first (p ∷ pages) ≡ None
-    by true free some others = absurd cc
-    by false full none others =
-        ap (λ o. later_token o (free_token first p)) (others none)
-        ∙ ap (λ b. cond b (Some (token first p.stamp)) None) (known.0.free ∙ full)
+none-free first (q ∷ table) none (p ∷ pages) known =
+    let rest = none-free (first + 1) table (nil_behind (shown.is_free q.kept) first _ _ none).1 pages known.1 in
+    ap (λ o. later_token o (free_token first p)) rest ∙ ap (λ b. cond b (Some (token first p.stamp)) None) (known.0.free ∙ (nil_behind (shown.is_free q.kept) first _ _ none).0)
+none-free first table none pages known = absurd known
 
 -- the last free id, and its page
 pub record IsLastFree (first : ℕ) (table : List KeptPage) (before : List ℕ) (pid : ℕ) : Type 0 where
@@ -86,7 +68,7 @@ module _ (first : ℕ) (q : KeptPage) (table : List KeptPage) (pid : ℕ) where
   }
 
 pub last-free : (first : ℕ) (table : List KeptPage) (before : List ℕ) (pid : ℕ) → free_ids first table ≡ before ++ pid ∷ [] → IsLastFree first table before pid
-last-free first [] before pid is = absurd (no-end before pid is)
+last-free first [] before pid is = absurd (omega (arith, length-append before (pid ∷ []), ap length is))
 last-free first (q ∷ table) before pid is = by (shown.is_free q.kept) refl before is (λ rest. last-free (first + 1) table rest pid)
   where
     by : (b : Bool) → shown.is_free q.kept ≡ b → (before : List ℕ) → cond b (first ∷ free_ids (first + 1) table) (free_ids (first + 1) table) ≡ before ++ pid ∷ []
@@ -101,7 +83,11 @@ last-at table front pid last = ap (slice_get table) (let is = last.is in let pla
 -- the last of the ids that are kept, which was read, is such a one
 pub last-read : (table : List KeptPage) (free : List ℕ) (read : Option ℕ) (pid : ℕ) → free ≡ free_ids 0 table
     → read ≡ slice_get free (length free - 1) → read ≡ Some pid → IsLastFree 0 table (take (length free - 1) free) pid
-last-read table free read pid kept at is = last-free 0 table (take (length free - 1) free) pid (sym kept ∙ ends-with free pid (sym at ∙ is))
+last-read table free read pid kept at is =
+    let last = sym at ∙ is in
+    let within = slice_get_within free (length free - 1) pid last in
+    let ends : take (length free - 1 + 1) free ≡ take (length free - 1) free ++ pid ∷ [] = take_more free (length free - 1) pid within ∙ ap (λ id. take (length free - 1) free ++ id ∷ []) (get_or_from_slice_get free (length free - 1) pid pid last) in
+    last-free 0 table (take (length free - 1) free) pid (sym kept ∙ sym (take_all (length free - 1 + 1) free (omega arith)) ∙ ends)
 
 -- it is free no more
 pub taken-last : (table : List KeptPage) (front : List ℕ) (pid : ℕ) (last : IsLastFree 0 table front pid) (changed : KeptPage) → shown.is_free changed.kept ≡ false → front ≡ free_ids 0 (slice_set table pid changed)
@@ -109,38 +95,8 @@ taken-last table front pid last changed full =
     sym (last.taken changed full) ∙ ap (λ n. free_ids 0 (slice_set table n changed)) (let is = last.is in let place : last.place ≡ pid = omega arith in place)
 
 -- it isn't one of the cache's own
-own-full : (k : Kept) → IsRoots k ⊎ IsCounter k → shown.is_free k ≡ false
-own-full (held.Roots roots) own = refl
-own-full (held.Counter n) own = refl
-own-full k own = ⊎_elim absurd absurd own
-
 pub free-from : (table : List KeptPage) (pid : ℕ) (q : KeptPage) → AreOwn table → slice_get table pid ≡ Some q → shown.is_free q.kept ≡ true → 2 ≤ pid
-free-from table zero q own at free = absurd (false≢true (sym (own-full q.kept (inl (at-id _ table 0 q own at))) ∙ free))
-free-from table (suc zero) q own at free = absurd (false≢true (sym (own-full q.kept (inr (at-id _ table 1 q own at))) ∙ free))
-free-from table (suc (suc pid)) q own at free = omega arith
-
--- ---- what the machine tests
-
-module _ (messages : ℕ → ℕ) (no_room : Event Update → Type 0) (s : State) (node : WholeNode) (clear : s.fault ≡ false) where
-  module _ (none : greatest_free 0 s.pages ≡ None) where
-    pub allocate_full : length s.pages ≡ 2 ^ 37 → Allocates messages no_room s node (Err (Unsupported PagesUsedUp)) (no_change s)
-    allocate_full many = rw (clear, none, eq-eqb (length s.pages) (2 ^ 37) many) (refl, refl)
-
-    pub allocate_adds : length s.pages ≢ 2 ^ 37 → (answer : Result (ℕ × Token) Error) (out : Outcome)
-        → Does messages no_room s (Change (length s.pages) (Put (Node node))) answer out
-        (λ made t. (made.0 ≡ length s.pages) × (made.1 ≡ token (length s.pages) 1) × (t ≡ record s { pages = s.pages ++ page 1 (Node node) ∷ [] }))
-        → Allocates messages no_room s node answer out
-    allocate_adds room answer out done = unless-clear s answer out _ clear (rw (none, ne_eqb (length s.pages) (2 ^ 37) room) done)
-
-  module _ (free : Token) (some : greatest_free 0 s.pages ≡ Some free) where
-    pub allocate_last : free.stamp ≡ 2 ^ 64 - 1 → Allocates messages no_room s node (Err (Unsupported StampUsedUp)) (no_change s)
-    allocate_last last = rw (clear, some, eq-eqb free.stamp (2 ^ 64 - 1) last) (refl, refl)
-
-    pub allocate_reuses : free.stamp ≢ 2 ^ 64 - 1 → (answer : Result (ℕ × Token) Error) (out : Outcome)
-        → Does messages no_room s (Change free.pid (Put (Node node))) answer out
-        (λ made t. (made.0 ≡ free.pid) × (made.1 ≡ token free.pid (free.stamp + 1)) × (t ≡ with_page s free.pid (page (free.stamp + 1) (Node node))))
-        → Allocates messages no_room s node answer out
-    allocate_reuses below answer out done = unless-clear s answer out _ clear (rw (some, ne_eqb free.stamp (2 ^ 64 - 1) below) done)
+free-from table pid q own at free = let fits = at-id _ table pid q own at in grind arith
 
 -- ---- the call, told of the table
 
@@ -160,16 +116,8 @@ module _ {L : Type 0} (g : Ghosts L) (next : ℕ) (config : Config) (recovered :
 
   -- no page is free
   module _ (none : free ≡ []) where
-    none_in : (s : State) → AreKnown s.pages table → greatest_free 0 s.pages ≡ None
-    none_in s are = none-free 0 table (sym kept.free ∙ none) s.pages are
-
-    adds : length table ≢ 2 ^ 37 → (s : State) → s.fault ≡ false → AreKnown s.pages table → (answer : Result (ℕ × Token) Error) (out : Outcome)
-        → Does lengths no_room s (Change (length table) (Put (Node node))) answer out
-        (λ made t. (made.0 ≡ length table) × (made.1 ≡ token (length table) 1) × (t ≡ record s { pages = s.pages ++ page 1 (Node node) ∷ [] }))
-        → StepOver g (cache before table) s (Allocate node) (Allocated answer) out
-    adds room s clear are answer out done =
-        let many = known-length s.pages table are in
-        allocate_adds lengths no_room s node clear (none_in s are) (λ all. room (sym many ∙ all)) answer out (rw many done)
+    adds : (s : State) → s.fault ≡ false → AreKnown s.pages table → (answer : Result (ℕ × Token) Error) (out : Outcome) → AddsPage lengths no_room s node answer out → StepOver g (cache before table) s (Allocate node) (Allocated answer) out
+    adds s clear are answer out h = unless-clear s answer out _ clear (rw (none-free 0 table (sym kept.free ∙ none) s.pages are) h)
 
     may-new : length table ≢ 2 ^ 37 → (held : Logged) (s : State) → Represents g (cache before table) held s → s.fault ≡ false → MayPut g before.log held (length table) (Node node)
     may-new room held s is clear = may-add g next config recovered lru before table ready beside held s is clear node kept.both (let few = kept.few in omega (arith, few, room))
@@ -180,10 +128,10 @@ module _ {L : Type 0} (g : Ghosts L) (next : ℕ) (config : Config) (recovered :
         → Steps g (cache before table) (Allocate node) (Allocated (Err (error_by refusal))) (cache after pages)
     adds-refused back refusal (inl (many, is)) =
         rw is (λ went cause. nothing-appended g next config recovered lru before table ready beside after (Allocate node) pages back (Allocated (Err (Unsupported PagesUsedUp))) went cause.fault
-        (λ held s _ clear are. allocate_full lengths no_room s node clear (none_in s are) (known-length s.pages table are ∙ many)))
+        (λ held s _ clear are. adds s clear are (Err (Unsupported PagesUsedUp)) (no_change s) (rw (eq-eqb (length s.pages) (2 ^ 37) (known-length s.pages table are ∙ many)) (refl, refl))))
     adds-refused back refusal (inr (room, of)) =
         put-refused g next config recovered lru before table ready beside after (Allocate node) (length table) (Node node) reads (may-new room) (Unit {0}) pages back (λ e. Allocated (Err e))
-        (λ held s _ clear are e out fails. adds room s clear are (Err e) out fails)
+        (λ held s _ clear are e out fails. adds s clear are (Err e) out (rw (known-length s.pages table are, ne_eqb (length table) (2 ^ 37) room) fails))
         refusal of
 
     pub adds-done : length table ≢ 2 ^ 37 → Went g before after (Change (length table) (message_of (Put (Node node))) ∷ []) → after.fault ≡ false
@@ -193,19 +141,17 @@ module _ {L : Type 0} (g : Ghosts L) (next : ℕ) (config : Config) (recovered :
         subst (λ (l : List KeptPage). Steps g (cache before table) (Allocate node) (Allocated (Ok (pid, made))) (cache after l)) (sym behind)
         (put-added g next config recovered lru before table ready beside after (Allocate node) (length table) (Node node) reads (may-new room) went clear_after (Allocated (Ok (pid, made))) 1 added first refl
         (λ held s _ clear are.
-        adds room s clear are (Ok (pid, made)) (outcome (record s { pages = s.pages ++ page 1 (Node node) ∷ [] }) (Change (length table) (Put (Node node)) ∷ []))
-        (refl, (last, is ∙ ap (λ n. token n 1) last, refl))))
+        adds s clear are (Ok (pid, made)) (outcome (record s { pages = s.pages ++ page 1 (Node node) ∷ [] }) (Change (length table) (Put (Node node)) ∷ []))
+        (rw (known-length s.pages table are, ne_eqb (length table) (2 ^ 37) room) (refl, (last, is ∙ ap (λ n. token n 1) last, refl)))))
 
   -- the greatest free page is taken
   module _ (front : List ℕ) (pid : ℕ) (last : IsLastFree 0 table front pid) where
-    from : 2 ≤ pid
-    from = free-from table pid last.page kept.own (last-at table front pid last) last.free
-
-    there : pid < length table
-    there = slice_get_within table pid last.page (last-at table front pid last)
-
     may-reuse : (held : Logged) (s : State) → Represents g (cache before table) held s → s.fault ≡ false → MayPut g before.log held pid (Node node)
-    may-reuse held s is clear = may-set g next config recovered lru before table ready beside held s is clear pid (Node node) tt from there
+    may-reuse held s is clear =
+        may-set g next config recovered lru before table ready beside held s is clear pid (Node node) tt (free-from table pid last.page kept.own (last-at table front pid last) last.free) (slice_get_within table pid last.page (last-at table front pid last))
+
+    reuses : (s : State) → s.fault ≡ false → AreKnown s.pages table → (answer : Result (ℕ × Token) Error) (out : Outcome) → ReusesPage lengths no_room s node (token pid last.page.stamp) answer out → StepOver g (cache before table) s (Allocate node) (Allocated answer) out
+    reuses s clear are answer out h = unless-clear s answer out _ clear (rw (last.greatest s.pages are) h)
 
     pub reuses-refused : pages ≡ table → (refusal : Refusal) → RefusesSwap last.page.stamp refusal
         → (let told : Result (Unit {0}) Refusal = Err refusal in Went g before after (begun_by told (Change pid (message_of (Put (Node node))) ∷ [])))
@@ -213,10 +159,10 @@ module _ {L : Type 0} (g : Ghosts L) (next : ℕ) (config : Config) (recovered :
         → Steps g (cache before table) (Allocate node) (Allocated (Err (error_by refusal))) (cache after pages)
     reuses-refused back refusal (inl (greatest, is)) =
         rw is (λ went cause. nothing-appended g next config recovered lru before table ready beside after (Allocate node) pages back (Allocated (Err (Unsupported StampUsedUp))) went cause.fault
-        (λ held s _ clear are. allocate_last lengths no_room s node clear (token pid last.page.stamp) (last.greatest s.pages are) greatest))
+        (λ held s _ clear are. reuses s clear are (Err (Unsupported StampUsedUp)) (no_change s) (rw (eq-eqb last.page.stamp (2 ^ 64 - 1) greatest) (refl, refl))))
     reuses-refused back refusal (inr (below, of)) =
         put-refused g next config recovered lru before table ready beside after (Allocate node) pid (Node node) reads may-reuse (Unit {0}) pages back (λ e. Allocated (Err e))
-        (λ held s _ clear are e out fails. allocate_reuses lengths no_room s node clear (token pid last.page.stamp) (last.greatest s.pages are) below (Err e) out fails)
+        (λ held s _ clear are e out fails. reuses s clear are (Err e) out (rw (ne_eqb last.page.stamp (2 ^ 64 - 1) below) fails))
         refusal of
 
     pub reuses-done : last.page.stamp ≢ 2 ^ 64 - 1 → Went g before after (Change pid (message_of (Put (Node node))) ∷ []) → after.fault ≡ false
@@ -224,7 +170,7 @@ module _ {L : Type 0} (g : Ghosts L) (next : ℕ) (config : Config) (recovered :
         → Steps g (cache before table) (Allocate node) (Allocated (Ok (pid, made))) (cache after pages)
     reuses-done below went clear_after changed risen back made is =
         subst (λ (l : List KeptPage). Steps g (cache before table) (Allocate node) (Allocated (Ok (pid, made))) (cache after l)) (sym back)
-        (put-set g next config recovered lru before table ready beside after (Allocate node) pid (Node node) reads may-reuse went clear_after (Allocated (Ok (pid, made))) (last.page.stamp + 1) changed risen there
+        (put-set g next config recovered lru before table ready beside after (Allocate node) pid (Node node) reads may-reuse went clear_after (Allocated (Ok (pid, made))) (last.page.stamp + 1) changed risen (slice_get_within table pid last.page (last-at table front pid last))
         (λ held s _ clear are.
-        allocate_reuses lengths no_room s node clear (token pid last.page.stamp) (last.greatest s.pages are) below (Ok (pid, made))
-        (outcome (with_page s pid (page (last.page.stamp + 1) (Node node))) (Change pid (Put (Node node)) ∷ [])) (refl, (refl, is ∙ ap (λ n. token pid n) risen, refl))))
+        reuses s clear are (Ok (pid, made)) (outcome (with_page s pid (page (last.page.stamp + 1) (Node node))) (Change pid (Put (Node node)) ∷ []))
+        (rw (ne_eqb last.page.stamp (2 ^ 64 - 1) below) (refl, (refl, is ∙ ap (λ n. token pid n) risen, refl)))))

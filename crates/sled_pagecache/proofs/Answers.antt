@@ -1,5 +1,5 @@
 -- What a call keeps, by what it appended to its log.
-use Rattle.sled_pagecache.proofs.Names.{◌≡◌, ◌<◌, ℕ, Bool, true, false, cond, List, [], ◌∷◌, ◌++◌, length, Some, Result, Ok, Err, slice_get, slice_set, refl, sym, ◌∙◌, ap, arith, eq-eqb, false≢true, ne_eqb, length-map, map-append, map-set, slice_get_within, error_of, Write, Error, Refusal, Keeps, stamps_with, Cache, stamps_in, Token, token, Page, met_fault, map-at, set-at}
+use Rattle.sled_pagecache.proofs.Names.{◌≡◌, ◌<◌, ℕ, Bool, true, false, cond, List, [], ◌∷◌, ◌++◌, length, Some, Result, Ok, Err, slice_get, slice_set, refl, sym, ◌∙◌, ap, arith, eq-eqb, false≢true, ne_eqb, length-map, map-append, map-set, slice_get_within, error_of, Write, Error, Refusal, Keeps, stamps_with, Cache, stamps_in, Token, token, Page, met_fault, map-at, set-at, last-at}
 use Rattle.sled_base.specs.declared.types.Error.TheVariants as errors
 use Rattle.sled_pagecache.specs.Answers.{is_write_fault}
 
@@ -41,12 +41,8 @@ stamps-added table pages page t is named =
     let more : stamps_in (table ++ page ∷ []) ≡ stamps_in table ++ page.stamp ∷ [] = map-append (λ (p : Page). p.stamp) table (page ∷ []) in
     rw (is, named) (
       more ∙ sym (ap (λ (b : Bool). cond b (stamps_in table ++ page.stamp ∷ []) (slice_set (stamps_in table) (length table) page.stamp)) (eq-eqb (length table) (length (stamps_in table)) (sym long))),
-      ap (λ (l : List ℕ). slice_get l (length table)) more ∙ ap (slice_get (stamps_in table ++ page.stamp ∷ [])) (sym long) ∙ at-end (stamps_in table) page.stamp,
+      ap (λ (l : List ℕ). slice_get l (length table)) more ∙ ap (slice_get (stamps_in table ++ page.stamp ∷ [])) (sym long) ∙ last-at (stamps_in table) page.stamp,
     )
-  where
-    at-end : (xs : List ℕ) (x : ℕ) → slice_get (xs ++ x ∷ []) (length xs) ≡ Some x
-    at-end [] x = refl
-    at-end (y ∷ xs) x = at-end xs x
 
 pub stamps-reused : (table : List Page) (pid : ℕ) (page q : Page) (t : Token) → slice_get table pid ≡ Some q → t ≡ token pid page.stamp
     → (stamps_in (slice_set table pid page) ≡ stamps_with (stamps_in table) t) × (slice_get (stamps_in (slice_set table pid page)) pid ≡ Some t.stamp)

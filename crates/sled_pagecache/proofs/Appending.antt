@@ -1,9 +1,10 @@
 -- What follows from an append to one page that was made, or refused, once what the list dropped for it is paged out.
-use Rattle.sled_pagecache.proofs.Names.{lost_by, answer_behind, content_of, no_name, HasNoName, KeepsMemory, ReadsNothing, IfOk, IfErr, OnOk, IsFresh, ◌≡◌, ◌≤◌, ◌+◌, ℕ, Bool, true, false, List, [], ◌∷◌, Some, None, Result, Ok, Err, slice_get, slice_set, refl, sym, ◌∙◌, ap, subst, arith, slice_get_within, error_of, Error, Refusal, Change, message_of, begun_by, Put, Update, Ghosts, Cache, IsResident, HasNoNode, HasNoRoom, chain_length, IsBounded, AccessesPage, EvictsAtMost, MakesAppend, RefusesAppend, OnErr, Keeps, Steps, IsBlamed, stamps_after_swap, Swapped, SwapsContent, stamps_in, is_resident, free_ids, IsFreeOrNode, IsAnswered, Token, token, Answer, Call, Config, StickyLog, Accesses, Page, Kept, IsWhole, Evicts, IsSettled, behind-own, put-back, view}
+use Rattle.sled_pagecache.proofs.Names.{inl, lost_by, answer_behind, content_of, no_name, HasNoName, KeepsMemory, ReadsNothing, IfOk, IfErr, OnOk, IsFresh, ◌≡◌, ◌≤◌, ◌+◌, ℕ, Bool, true, false, List, [], ◌∷◌, Some, None, Result, Ok, Err, slice_get, slice_set, refl, sym, ◌∙◌, ap, subst, arith, slice_get_within, error_of, Error, Refusal, Change, message_of, begun_by, Put, Update, Ghosts, Cache, IsResident, HasNoNode, HasNoRoom, chain_length, IsBounded, AccessesPage, EvictsAtMost, MakesAppend, RefusesAppend, OnErr, Keeps, Steps, IsBlamed, stamps_after_swap, Swapped, SwapsContent, stamps_in, is_resident, free_ids, IsFreeOrNode, IsAnswered, Token, token, Answer, Call, Config, StickyLog, Accesses, Page, Kept, IsWhole, Evicts, IsSettled, behind-own, put-back, view}
 use Rattle.sled_pagecache.proofs.Answers.{keeps-err}
 use Rattle.sled_pagecache.proofs.CacheSteps.{steps-known}
 use Rattle.sled_pagecache.proofs.Counted.{behind-counter, other-at, spares-refused, whole-then}
-use Rattle.sled_pagecache.proofs.Evicting.{keeps-same, moves, by-swap, none-left}
+use Rattle.sled_pagecache.proofs.Evicting.{keeps-same, settled, settles}
+use Rattle.sled_pagecache.proofs.Settling.{Settles, blamed-moved, keeps-moved, steps-moved, taken, untaken}
 use Rattle.sled_pagecache.proofs.InMemory.{loses-none, stay-view, takes-page}
 use Rattle.sled_pagecache.proofs.Judging.{IsSwap, Unswapped, fresh-answered, handed-back, keeps-fresh, unless-made}
 use Rattle.sled_pagecache.specs.Inside.Appends.{Puts}
@@ -22,6 +23,15 @@ pub record Evicted {L T : Type 0} (g : Ghosts L) (was mid now : Cache L) (result
   pub keeps : (stamps : T → List ℕ) → Keeps was mid result stamps → OnErr result (was.fault ≡ true → mid ≡ was → now ≡ was) → Keeps was now result stamps
   pub stamps : now.stamps ≡ mid.stamps
   pub bounded : IsBounded g now
+
+evicted : {L T : Type 0} {g : Ghosts L} {was mid now : Cache L} {accesses between : Accesses} {lost : List ℕ} → Settles g was mid now accesses between lost → (result : Result T Error) → IsBounded g now → Evicted g was mid now result
+evicted settles result bounded = record {
+  steps = λ call answer. steps-moved settles;
+  blame = blamed-moved settles;
+  keeps = λ stamps. keeps-moved settles;
+  stamps = ap (λ cache. cache.stamps) settles.out.rest;
+  bounded = bounded;
+}
 
 pub record AfterMade {L T : Type 0} (g : Ghosts L) (was mid now : Cache L) (settled : Type 0) (pid : ℕ) (result : Result T Error) : Type 0 where
   pub is : settled
@@ -47,19 +57,15 @@ module _ {L : Type 0} (g : Ghosts L) {next : ℕ} {config : Config} {recovered :
       (view next_then config recovered then.lru after pages)
       (IsSettled g next_then config recovered after pages free_then then) pid result
   after-whole {next_then = next_then} result made there whole evicts =
-      let changed = slice_set table pid page in
-      let answer : Result (Result (Unit {0}) (Unit {0})) Error = Ok (Ok tt) in
+      let behind = settles is whole evicts in
       let takes = takes-page next config recovered accesses.lru before after table pid q page at accesses between made.accessed in
-      let swap = by-swap g next next_then config recovered before after table changed pages free free_then accesses between then is whole None evicts pid answer refl
-      (record { size = takes.size; only = takes.only; accessed = takes.accessed; others = λ other apart. let stays = takes.others other apart in record { resident = stays.resident; node = stays.node } })
-      tt tt (resident-set table pid page (slice_get_within table pid q at) (ap is_resident made.holds ∙ there)) in
-      let move = moves g next next_then config recovered before after table changed pages free free_then accesses between then is whole None evicts result in
+      let it = taken behind pid refl (record { size = takes.size; only = takes.only; accessed = takes.accessed; others = λ other apart. let stays = takes.others other apart in record { resident = stays.resident; node = stays.node } }) in
       record {
-        is = move.settled swap.bounded;
-        evicted = record { steps = move.steps; blame = move.blame; keeps = move.keeps; stamps = move.stamps; bounded = swap.bounded };
-        accessed = swap.accessed;
-        resident = swap.resident;
-        none = none-left g next next_then config recovered before after table changed pages free free_then accesses between then is whole None evicts pid;
+        is = settled is whole evicts it.bounded;
+        evicted = evicted behind result it.bounded;
+        accessed = it.accessed;
+        resident = it.stays.resident ∙ resident-set table pid page (slice_get_within table pid q at) (ap is_resident made.holds ∙ there);
+        none = λ none size has. none size (behind.out.nodes pid size has);
       }
 
   pub after-made : {T : Type 0} (result : Result T Error) {held : Kept} → MakesAppend g pid update before after accesses between q page held → IsFreeOrNode held → is_resident held ≡ true → 2 ≤ pid
@@ -84,8 +90,6 @@ module _ {L : Type 0} (g : Ghosts L) {next : ℕ} {config : Config} {recovered :
       (view next config recovered then.lru after pages)
       (IsSettled g next config recovered after pages free_then then) pid refusal result
   after-refused result {why} {refusal} refused unfreed evicts =
-      let was = view next config recovered accesses.lru before table in
-      let mid = view next config recovered accesses.lru after (slice_set table pid page) in
       let changed = slice_set table pid page in
       let told : Result (Unit {0}) Refusal = Err refusal in
       let back : changed ≡ table = put-back table pid page (at ∙ ap (λ page. Some page) (sym refused.left)) in
@@ -94,16 +98,10 @@ module _ {L : Type 0} (g : Ghosts L) {next : ℕ} {config : Config} {recovered :
       (whole-then g is.whole clear (spares-refused g (Unit {0}) refusal (Change pid (message_of update) ∷ []) (refused.went, refused.cause.fault)) refl
       (consistent-same g before after table free free is.whole.consistent clear (begun_by told (Change pid (message_of update) ∷ [])) refused.went
       (marks-begun told pid (message_of update)) refused.same)) in
-      let answer : Result (Result (Unit {0}) (Unit {0})) Error = Err (error_of refusal) in
-      let swap = by-swap g next next config recovered before after table changed pages free free_then accesses between then is whole (Some pid) evicts pid answer refl tt tt
-      (loses-none g.tells was accesses pid mid between clear refusal refused.touched (stay-view next next config recovered accesses.lru before after table changed back) refused.unasked) tt in
-      let move = moves g next next config recovered before after table changed pages free free_then accesses between then is whole (Some pid) evicts result in
-      record {
-        is = move.settled swap.bounded;
-        evicted = record { steps = move.steps; blame = move.blame; keeps = move.keeps; stamps = move.stamps; bounded = swap.bounded };
-        leaves = swap.leaves;
-        stuck = swap.stuck;
-      }
+      let behind = settles is whole evicts in
+      let it = untaken behind pid (error_of refusal)
+      (loses-none g.tells _ accesses pid _ between clear refusal refused.touched (stay-view next next config recovered accesses.lru before after table changed back) refused.unasked) (inl refl) in
+      record { is = settled is whole evicts it.bounded; evicted = evicted behind result it.bounded; leaves = it.leaves; stuck = it.stuck }
 
 -- ---- the page of a token
 

@@ -1,5 +1,5 @@
 -- Opening and closing a batch, as steps of the machine.
-use Rattle.sled_pagecache.proofs.Names.{no_name, Recency, ◌≡◌, ℕ, AllByRecursion, effect_of_entry, is_open, is_write_fault, Bool, true, false, List, [], ◌∷◌, Result, Ok, Err, refl, sym, ◌∙◌, subst, false≢true, Read, Write, Error, Refusal, LogFull, chains_from, Content, Update, contents_from, Event, Pin, Message, Messages, effect_of, open_after, Ghosts, Cache, Represents, Steps, StepOver, Went, Went-none, IsCaused, IsOfLog, begun_by, Logged, State, Outcome, outcome, no_change, Answer, Call, Config, StickyLog, Page, KeepsMemory, HasGrown, error_of, BatchOpen, IsEvent, MayCome, IsWhole, SparesCounter, Closes, with_batch_closed, Pinned, view}
+use Rattle.sled_pagecache.proofs.Names.{arith, no_name, Recency, ◌≡◌, ℕ, AllByRecursion, effect_of_entry, is_open, is_write_fault, Bool, true, false, List, [], ◌∷◌, Result, Ok, Err, refl, sym, ◌∙◌, subst, false≢true, Read, Write, Error, Refusal, LogFull, chains_from, Content, Update, contents_from, Event, Pin, Message, Messages, effect_of, open_after, Ghosts, Cache, Represents, Steps, StepOver, Went, Went-none, IsCaused, IsOfLog, begun_by, Logged, State, Outcome, outcome, no_change, Answer, Call, Config, StickyLog, Page, KeepsMemory, HasGrown, error_of, BatchOpen, IsEvent, MayCome, IsWhole, SparesCounter, Closes, with_batch_closed, Pinned, view}
 use Rattle.sled_base.specs.declared.types.Error.TheVariants.{Unsupported, Io, OutOfMemory}
 use Rattle.sled_base.specs.declared.types.Refusal.TheVariants as refusals
 use Rattle.sled_log.specs.LogState as log
@@ -41,125 +41,88 @@ module _ {L : Type 0} (g : Ghosts L) (next : ℕ) (config : Config) (recovered :
   abbrev cache : StickyLog L → Cache L
   cache sticky_log = view next config recovered lru sticky_log pages
 
-  keeps : (before after : StickyLog L) → KeepsMemory (cache before) (cache after)
-  keeps before after = record { stay = λ pid. record { resident = refl; node = refl }; lru = refl }
-
-  abbrev reaches : StickyLog L → StickyLog L → List (Event Message) → Type 0
-  reaches before after events = Went g before after events
-
-  abbrev only_now : StickyLog L → Type 0
-  only_now before = (l : List Messages) → g.tells → (g.state before.log).usable ≡ true → g.left_since before.log (g.moment before.log) l → log.IsLeft effect_of (log.unplaced_state (g.state before.log)) [] l
-
   -- a mark was told, and the batch is open or closed as it says
-  leads-mark : (before after : StickyLog L) (held : Logged) (s : State) (called : Call) (answer : Answer) (message : Event Message) (event : Event Update) → IsMark message event → Represents g (cache before) held s → s.fault ≡ false
-      → (batch fault : Bool) → StepOver g (cache before) s called answer (outcome (record s { batch = batch; fault = fault }) (event ∷ [])) → batch ≡ after.batch → fault ≡ after.fault → (after.fault ≡ false → open_after s.batch (event ∷ []) ≡ batch)
-      → Leads g (cache before) (cache after) held s called answer (message ∷ [])
-  leads-mark before after held s called answer message event mark is clear batch fault step same_batch same_fault marks =
-      let pages_now = log.now effect_of (log.unplaced_state (g.state before.log)) in
-      let proper = proper-now (log.unplaced_state (g.state before.log)) held (is.known clear).logged in
-      record {
-        out = outcome (record s { batch = batch; fault = fault }) (event ∷ []);
-        step = step;
-        told = (mark.is, mark.may (now held), tt);
-        stays = stay-one pages_now (now held) message event proper (rw (mark.chains pages_now, mark.contents (now held)) proper);
-        stamps = is.stamps;
-        next = is.next;
-        fault = same_fault;
-        batch = same_batch;
-        marks = marks;
-        contents = λ _. (is.known clear).contents ∙ sym (mark.contents (now held));
-      }
+  steps-mark : (before mid after : StickyLog L) → mid.log ≡ before.log → before.fault ≡ false → (called : Call) (answer : Answer) (message : Event Message) (event : Event Update) → IsMark message event → Went g mid after (message ∷ [])
+      → (batch : Bool) → (after.fault ≡ false → (was : Bool) → open_after was (event ∷ []) ≡ batch)
+      → ((s : State) → s.fault ≡ false → s.batch ≡ before.batch → StepOver g (cache before) s called answer (outcome (record s { batch = batch; fault = after.fault }) (event ∷ [])))
+      → Steps g (cache before) called answer (cache (record after { batch = batch }))
+  steps-mark before mid after same ready called answer message event mark went batch marks step =
+      steps-marked g (cache before) (cache (record after { batch = batch })) mid after called answer (message ∷ []) (record { config = refl; recovered = refl }) (sym same) refl refl ready went leads
+    where
+      leads : (held : Logged) (s : State) → Represents g (cache before) held s → s.fault ≡ false → Leads g (cache before) (cache (record after { batch = batch })) held s called answer (message ∷ [])
+      leads held s is clear =
+          let pages_now = log.now effect_of (log.unplaced_state (g.state before.log)) in
+          let proper = proper-now (log.unplaced_state (g.state before.log)) held (is.known clear).logged in
+          record {
+            out = outcome (record s { batch = batch; fault = after.fault }) (event ∷ []);
+            step = step s clear is.batch;
+            told = (mark.is, mark.may (now held), tt);
+            stays = stay-one pages_now (now held) message event proper (rw (mark.chains pages_now, mark.contents (now held)) proper);
+            stamps = is.stamps;
+            next = is.next;
+            fault = refl;
+            batch = refl;
+            marks = λ free. marks free s.batch;
+            contents = λ _. (is.known clear).contents ∙ sym (mark.contents (now held));
+          }
 
   -- ---- pin
 
   -- with a write fault kept
   pub opens-stuck : (before : StickyLog L) → before.fault ≡ true → OpensBatch g (cache before) (Err (Io Write)) (cache before)
-  opens-stuck before kept = record {
-    step = steps-stuck g (cache before) call.Pin (Pinned (Err (Io Write))) kept (λ s stuck. rw stuck (refl, refl));
-    blame = record { read = λ is. absurd cc; write = λ is clear. absurd (false≢true (sym clear ∙ kept)) };
-    done = tt;
-    refused = refl;
-    unnamed = tt;
-    stamps = refl;
-    fault = rw kept refl;
-    stuck = λ _. (refl, refl);
-    unread = refl;
-    same = keeps before before;
-  }
+  opens-stuck before kept =
+      let step = steps-stuck g (cache before) call.Pin (Pinned (Err (Io Write))) kept (λ s stuck. rw stuck (refl, refl)) in
+      grind (arith, step)
 
   module _ (before : StickyLog L) (ready : before.fault ≡ false) where
     -- a batch is open
-    pub opens-twice : before.batch ≡ true → (g.state before.log).usable ≡ true → only_now before → OpensBatch g (cache before) (Err (Unsupported BatchOpen)) (cache before)
-    opens-twice opened usable only = record {
-      step =
-          steps-went g (cache before) (cache before) before before call.Pin (Pinned (Err (Unsupported BatchOpen))) [] (record { config = refl; recovered = refl }) refl refl refl ready
-          (Went-none g before usable only)
-          (λ held s is clear. leads-same g (cache before) (cache before) held s is clear call.Pin (Pinned (Err (Unsupported BatchOpen))) refl (rw (clear, is.batch ∙ opened) (refl, refl)) refl ready);
-      blame = record { read = λ is. absurd cc; write = λ is. absurd cc };
-      done = tt;
-      refused = refl;
-      unnamed = tt;
-      stamps = refl;
-      fault = rw ready refl;
-      stuck = λ kept. absurd (false≢true (sym ready ∙ kept));
-      unread = refl;
-      same = keeps before before;
-    }
+    pub opens-twice : before.batch ≡ true → (g.state before.log).usable ≡ true
+        → ((l : List Messages) → g.tells → (g.state before.log).usable ≡ true → g.left_since before.log (g.moment before.log) l → log.IsLeft effect_of (log.unplaced_state (g.state before.log)) [] l)
+        → OpensBatch g (cache before) (Err (Unsupported BatchOpen)) (cache before)
+    opens-twice opened usable only =
+        let step =
+            steps-went g (cache before) (cache before) before before call.Pin (Pinned (Err (Unsupported BatchOpen))) [] (record { config = refl; recovered = refl }) refl refl refl ready
+            (Went-none g before usable only)
+            (λ held s is clear. leads-same g (cache before) (cache before) held s is clear call.Pin (Pinned (Err (Unsupported BatchOpen))) refl (rw (clear, is.batch ∙ opened) (refl, refl)) refl ready) in
+        grind (arith, step)
 
     module _ (none : before.batch ≡ false) (after : StickyLog L) (unread : (g.counts after.log).reads ≡ (g.counts before.log).reads) where
       -- a batch was opened
-      pub opens : reaches before after (Pin ∷ []) → after.fault ≡ false → OpensBatch g (cache before) (Ok tt) (cache (record after { batch = true }))
-      opens went free = record {
-        step =
-            steps-marked g (cache before) (cache (record after { batch = true })) before after call.Pin (Pinned (Ok tt)) (Pin ∷ []) (record { config = refl; recovered = refl }) refl refl refl ready went
-            (λ held s is clear. leads-mark before (record after { batch = true }) held s call.Pin (Pinned (Ok tt)) Pin Pin pin-mark is clear true s.fault (rw (clear, is.batch ∙ none) (refl, refl)) refl (clear ∙ sym free) (λ _. refl));
-        blame = record { read = λ is. absurd cc; write = λ is. absurd cc };
-        done = (none, refl);
-        refused = tt;
-        unnamed = tt;
-        stamps = refl;
-        fault = rw ready free;
-        stuck = λ kept. absurd (false≢true (sym ready ∙ kept));
-        unread = unread;
-        same = keeps before (record after { batch = true });
-      }
+      pub opens : Went g before after (Pin ∷ []) → after.fault ≡ false → OpensBatch g (cache before) (Ok tt) (cache (record after { batch = true }))
+      opens went free =
+          let step = steps-mark before before after refl ready call.Pin (Pinned (Ok tt)) Pin Pin pin-mark went true (λ _ was. refl) (λ s clear same. rw (clear, same ∙ none, free) (refl, refl)) in
+          grind (arith, step)
 
       -- the log refused it
       refused-step : (refusal : Refusal) → g.tells → IsOfLog refusal
-          → (let told : Result (Unit {0}) Refusal = Err refusal in reaches before after (begun_by told (Pin ∷ [])) × IsCaused g before after (g.is_full_for_batch before.log) told)
+          → (let told : Result (Unit {0}) Refusal = Err refusal in Went g before after (begun_by told (Pin ∷ [])) × IsCaused g before after (g.is_full_for_batch before.log) told)
           → Steps g (cache before) call.Pin (Pinned (Err (error_of refusal))) (cache after)
       refused-step refusal told of refused = by refusal of refused.0 refused.1
         where
-          quiet : (e : Error) → reaches before after [] → after.fault ≡ false → ((s : State) → s.fault ≡ false → s.batch ≡ false → StepOver g (cache before) s call.Pin (Pinned (Err e)) (no_change s)) → Steps g (cache before) call.Pin (Pinned (Err e)) (cache after)
+          quiet : (e : Error) → Went g before after [] → after.fault ≡ false → ((s : State) → s.fault ≡ false → s.batch ≡ false → StepOver g (cache before) s call.Pin (Pinned (Err e)) (no_change s)) → Steps g (cache before) call.Pin (Pinned (Err e)) (cache after)
           quiet e went free step =
               steps-went g (cache before) (cache after) before after call.Pin (Pinned (Err e)) [] (record { config = refl; recovered = refl }) refl refl refl ready went
               (λ held s is clear. leads-same g (cache before) (cache after) held s is clear call.Pin (Pinned (Err e)) refl (step s clear (is.batch ∙ none)) refl free)
 
-          by : (refusal : Refusal) → IsOfLog refusal → (let told : Result (Unit {0}) Refusal = Err refusal in reaches before after (begun_by told (Pin ∷ []))) → (let told : Result (Unit {0}) Refusal = Err refusal in IsCaused g before after (g.is_full_for_batch before.log) told)
+          by : (refusal : Refusal) → IsOfLog refusal → (let told : Result (Unit {0}) Refusal = Err refusal in Went g before after (begun_by told (Pin ∷ []))) → (let told : Result (Unit {0}) Refusal = Err refusal in IsCaused g before after (g.is_full_for_batch before.log) told)
               → Steps g (cache before) call.Pin (Pinned (Err (error_of refusal))) (cache after)
           by (refusals.Io Write) of went cause =
-              steps-marked g (cache before) (cache after) before after call.Pin (Pinned (Err (Io Write))) (Pin ∷ []) (record { config = refl; recovered = refl }) refl refl refl ready went
-              (λ held s is clear. leads-mark before after held s call.Pin (Pinned (Err (Io Write))) Pin Pin pin-mark is clear s.batch true (rw (clear, is.batch ∙ none) refl) (is.batch ∙ sym went.batch) (sym cause.fault) (λ free. absurd (false≢true (sym free ∙ cause.fault))))
+              rw went.batch (steps-mark before before after refl ready call.Pin (Pinned (Err (Io Write))) Pin Pin pin-mark went before.batch (λ free. absurd (false≢true (sym free ∙ cause.fault)))
+              (λ s clear same. rw (clear, same ∙ none, none, cause.fault) refl))
           by (refusals.Io Read) of went cause = quiet (Io Read) went cause.fault (λ s clear closed. rw (clear, closed) refl)
           by refusals.OutOfMemory of went cause = quiet OutOfMemory went cause.fault (λ s clear closed. rw (clear, closed) refl)
           by (refusals.Unsupported LogFull) of went cause = quiet (Unsupported LogFull) went cause.fault (λ s clear closed. rw (clear, closed) (cause.full refl, refl))
           by refusal of went cause = absurd of
 
       pub opens-refused : (refusal : Refusal) → (g.tells → IsOfLog refusal)
-          → (let told : Result (Unit {0}) Refusal = Err refusal in reaches before after (begun_by told (Pin ∷ [])) × IsCaused g before after (g.is_full_for_batch before.log) told)
+          → (let told : Result (Unit {0}) Refusal = Err refusal in Went g before after (begun_by told (Pin ∷ [])) × IsCaused g before after (g.is_full_for_batch before.log) told)
           → OpensBatch g (cache before) (Err (error_of refusal)) (cache after)
-      opens-refused refusal of refused = record {
-        step = steps-known g (cache before) (cache after) call.Pin (Pinned (Err (error_of refusal))) (record { config = refl; recovered = refl }) (λ told. refused-step refusal told (of told) refused);
-        blame = blamed g (cache before) (cache after) (g.is_full_for_batch before.log) refusal refused.1;
-        done = tt;
-        refused = refused.0.batch;
-        unnamed = no_name refusal;
-        stamps = refl;
-        fault = rw ready (refused.1.fault ∙ fault-same (Unit {0}) (Unit {0}) refusal);
-        stuck = λ kept. absurd (false≢true (sym ready ∙ kept));
-        unread = unread;
-        same = keeps before after;
-      }
+      opens-refused refusal of refused =
+          let step = steps-known g (cache before) (cache after) call.Pin (Pinned (Err (error_of refusal))) (record { config = refl; recovered = refl }) (λ told. refused-step refusal told (of told) refused) in
+          let blame = blamed g {U = Unit {0}} (cache before) (cache after) (g.is_full_for_batch before.log) refusal refused.1 in
+          let fault = refused.1.fault ∙ fault-same (Unit {0}) (Unit {0}) refusal in
+          let batch = refused.0.batch in
+          grind (arith, step, blame, no_name refusal)
 
   -- ---- seal and cancel
 
@@ -170,61 +133,37 @@ module _ {L : Type 0} (g : Ghosts L) (next : ℕ) (config : Config) (recovered :
   module _ (closing : Closing) (before : StickyLog L) (opened : before.batch ≡ true) where
     -- with a write fault kept
     pub closes-stuck : before.fault ≡ true → ClosesBatch g (call_of closing) (answer_of closing) (cache before) (Err (Io Write)) (cache (record before { batch = false }))
-    closes-stuck kept = record {
-      step = record {
-        opening = record { config = refl; recovered = refl };
-        from_each = λ held s is. record {
-          out = no_change (with_batch_closed s);
-          step = step-closes closing before s (Err (Io Write)) (no_change (with_batch_closed s)) (is.batch ∙ opened, rw (is.fault ∙ kept) (refl, refl));
-          held_then = held;
-          is = record { tells = is.tells; stamps = is.stamps; next = is.next; fault = is.fault; batch = refl; known = λ clear. absurd (false≢true (sym clear ∙ is.fault ∙ kept)) };
-          added = λ clear. absurd (false≢true (sym clear ∙ is.fault ∙ kept));
-          stop = λ clear. absurd (false≢true (sym clear ∙ is.fault ∙ kept));
-          stuck = λ _. refl;
-        };
-      };
-      blame = record { read = λ is. absurd cc; write = λ is clear. absurd (false≢true (sym clear ∙ kept)) };
-      closed = refl;
-      only = refl;
-      stamps = refl;
-      fault = rw kept refl;
-      stuck = λ _. (refl, refl);
-      unread = refl;
-      same = keeps before (record before { batch = false });
-    }
+    closes-stuck kept =
+        let step : Steps g (cache before) (call_of closing) (answer_of closing (Err (Io Write))) (cache (record before { batch = false })) = record {
+          opening = record { config = refl; recovered = refl };
+          from_each = λ held s is. record {
+            out = no_change (with_batch_closed s);
+            step = step-closes closing before s (Err (Io Write)) (no_change (with_batch_closed s)) (is.batch ∙ opened, rw (is.fault ∙ kept) (refl, refl));
+            held_then = held;
+            is = record { tells = is.tells; stamps = is.stamps; next = is.next; fault = is.fault; batch = refl; known = λ clear. absurd (false≢true (sym clear ∙ is.fault ∙ kept)) };
+            added = λ clear. absurd (false≢true (sym clear ∙ is.fault ∙ kept));
+            stop = λ clear. absurd (false≢true (sym clear ∙ is.fault ∙ kept));
+            stuck = λ _. refl;
+          };
+        } in
+        grind (arith, step)
 
-    module _ (ready : before.fault ≡ false) (after : StickyLog L) (went : reaches (record before { batch = false }) after (mark_of closing ∷ [])) (unread : (g.counts after.log).reads ≡ (g.counts before.log).reads) where
+    module _ (ready : before.fault ≡ false) (after : StickyLog L) (went : Went g (record before { batch = false }) after (mark_of closing ∷ [])) (unread : (g.counts after.log).reads ≡ (g.counts before.log).reads) where
       pub closes : after.fault ≡ false → ClosesBatch g (call_of closing) (answer_of closing) (cache before) (Ok tt) (cache after)
-      closes free = record {
-        step =
-            steps-marked g (cache before) (cache after) (record before { batch = false }) after (call_of closing) (answer_of closing (Ok tt)) (mark_of closing ∷ []) (record { config = refl; recovered = refl }) refl refl refl ready went
-            (λ held s is clear. leads-mark before after held s (call_of closing) (answer_of closing (Ok tt)) (mark_of closing) (mark_of closing) (closing-mark closing) is clear false s.fault
-            (step-closes closing before s (Ok tt) (outcome (with_batch_closed s) (mark_of closing ∷ [])) (is.batch ∙ opened, rw clear refl)) (sym went.batch) (clear ∙ sym free) (λ _. closing-ends Update closing s.batch));
-        blame = record { read = λ is. absurd cc; write = λ is. absurd cc };
-        closed = went.batch;
-        only = tt;
-        stamps = refl;
-        fault = rw ready free;
-        stuck = λ kept. absurd (false≢true (sym ready ∙ kept));
-        unread = unread;
-        same = keeps before after;
-      }
+      closes free =
+          let step : Steps g (cache before) (call_of closing) (answer_of closing (Ok tt)) (cache after) =
+              rw went.batch (steps-mark before (record before { batch = false }) after refl ready (call_of closing) (answer_of closing (Ok tt)) (mark_of closing) (mark_of closing) (closing-mark closing) went false (λ _. closing-ends Update closing)
+              (λ s clear same. step-closes closing before s (Ok tt) _ (same ∙ opened, rw (clear, free) refl))) in
+          let closed = went.batch in
+          grind (arith, step)
 
       pub closes-refused : after.fault ≡ true → HasGrown (g.counts before.log).write_faults (g.counts after.log).write_faults → ClosesBatch g (call_of closing) (answer_of closing) (cache before) (Err (Io Write)) (cache after)
-      closes-refused kept grew = record {
-        step =
-            steps-marked g (cache before) (cache after) (record before { batch = false }) after (call_of closing) (answer_of closing (Err (Io Write))) (mark_of closing ∷ []) (record { config = refl; recovered = refl }) refl refl refl ready went
-            (λ held s is clear. leads-mark before after held s (call_of closing) (answer_of closing (Err (Io Write))) (mark_of closing) (mark_of closing) (closing-mark closing) is clear false true
-            (step-closes closing before s (Err (Io Write)) (outcome (record (with_batch_closed s) { fault = true }) (mark_of closing ∷ [])) (is.batch ∙ opened, rw clear (refl, refl))) (sym went.batch) (sym kept) (λ free. absurd (false≢true (sym free ∙ kept))));
-        blame = record { read = λ is. absurd cc; write = λ is clear. grew };
-        closed = went.batch;
-        only = refl;
-        stamps = refl;
-        fault = rw ready kept;
-        stuck = λ stuck. absurd (false≢true (sym ready ∙ stuck));
-        unread = unread;
-        same = keeps before after;
-      }
+      closes-refused kept grew =
+          let step : Steps g (cache before) (call_of closing) (answer_of closing (Err (Io Write))) (cache after) =
+              rw went.batch (steps-mark before (record before { batch = false }) after refl ready (call_of closing) (answer_of closing (Err (Io Write))) (mark_of closing) (mark_of closing) (closing-mark closing) went false (λ _. closing-ends Update closing)
+              (λ s clear same. step-closes closing before s (Err (Io Write)) _ (same ∙ opened, rw (clear, kept) (refl, refl)))) in
+          let closed = went.batch in
+          grind (arith, step)
 
 -- ---- the table
 
@@ -263,16 +202,4 @@ module _ {L : Type 0} (g : Ghosts L) {k next : ℕ} {before : StickyLog L} {tabl
 -- with a write fault kept it may be closed
 pub whole-stuck : {L : Type 0} (g : Ghosts L) {k next : ℕ} {before : StickyLog L} {table : List Page} {free : List ℕ} → IsWhole g.tells g.state k next before table free → before.fault ≡ true
     → IsWhole g.tells g.state k next (record before { batch = false }) table free
-whole-stuck g whole kept = record {
-  consistent = record {
-    beside = λ clear. absurd (false≢true (sym clear ∙ kept));
-    opened = λ clear. absurd (false≢true (sym clear ∙ kept));
-    own = whole.consistent.own;
-    both = whole.consistent.both;
-    short = whole.consistent.short;
-    few = whole.consistent.few;
-    free = whole.consistent.free;
-  };
-  positive = whole.positive;
-  counted = λ some clear. absurd (false≢true (sym clear ∙ kept));
-}
+whole-stuck g whole kept = grind (arith, whole.consistent)

@@ -53,46 +53,24 @@ module _ {L : Type 0} (g : Ghosts L) where
   pub stays-none : (cache : Cache L) (held : Logged) (s : State) → Represents g cache held s → s.fault ≡ false → StayProper (log.now effect_of (log.unplaced_state (g.state cache.log))) (now held) [] []
   stays-none cache held s is clear = stay-none (log.now effect_of (log.unplaced_state (g.state cache.log))) (now held) (proper-now (log.unplaced_state (g.state cache.log)) held (is.known clear).logged)
 
-  module _ (old new : Cache L) (before after : StickyLog L) (call : Call) (answer : Answer) (messages : List (Event Message))
-      (old_log : old.log ≡ before.log) (new_log : new.log ≡ after.log) (new_fault : new.fault ≡ after.fault) (ready : old.fault ≡ false)
-      (went : Went g before after messages)
+  module _ (old new : Cache L) (before after : StickyLog L) (call : Call) (answer : Answer) (messages : List (Event Message)) (new_fault : new.fault ≡ after.fault) (ready : old.fault ≡ false)
+      (went : Went g (record before { log = old.log }) (record after { log = new.log }) messages)
       (held : Logged) (s : State) (is : Represents g old held s) (way : Leads old new held s call answer messages) where
-    logged : IsLogged (log.unplaced_state (g.state before.log)) held
-    logged = subst (λ l. IsLogged (log.unplaced_state (g.state l)) held) old_log (is.known (is.fault ∙ ready)).logged
-
-    stays : StayProper (log.now effect_of (log.unplaced_state (g.state before.log))) (now held) messages way.out.changes
-    stays = subst (λ l. StayProper (log.now effect_of (log.unplaced_state (g.state l))) (now held) messages way.out.changes) old_log way.stays
-
-    stop : log.CrashesSinceLeave g.moment g.left_since old.log new.log (IsLeft held way.out.changes)
-    stop =
-        subst (λ l. log.CrashesSinceLeave g.moment g.left_since l new.log (IsLeft held way.out.changes)) (sym old_log)
-        (subst (λ l. log.CrashesSinceLeave g.moment g.left_since before.log l (IsLeft held way.out.changes)) (sym new_log)
-        (leaves g before after held messages way.out.changes logged way.told stays went is.tells))
+    logged : IsLogged (log.unplaced_state (g.state old.log)) held
+    logged = (is.known (is.fault ∙ ready)).logged
 
     -- what the log holds then; behind a write error nothing is known of it
-    record Ends : Type 0 where
-      held_then : Logged
-      known : way.out.state.fault ≡ false → KnowsLog g new held_then way.out.state
-      added : way.out.state.fault ≡ false → Adds held way.out.changes held_then
-
-    by : (fault : Bool) → new.fault ≡ fault → Ends
-    by true kept = record {
-      held_then = held;
-      known = λ no. absurd (false≢true (sym no ∙ way.fault ∙ kept));
-      added = λ no. absurd (false≢true (sym no ∙ way.fault ∙ kept));
-    }
+    by : (fault : Bool) → new.fault ≡ fault
+        → (held_then : Logged) × (way.out.state.fault ≡ false → KnowsLog g new held_then way.out.state) × (way.out.state.fault ≡ false → Adds held way.out.changes held_then)
+    by true kept = (held, λ no. absurd (false≢true (sym no ∙ way.fault ∙ kept)), λ no. absurd (false≢true (sym no ∙ way.fault ∙ kept)))
     by false free =
-        let carried = carries g before after held messages way.out.changes logged way.told stays went is.tells (sym new_fault ∙ free) in
-        record {
-          held_then = carried.held_then;
-          known = λ _. record {
-            usable = subst (λ l. (g.state l).usable ≡ true) (sym new_log) (went.usable (sym new_fault ∙ free));
-            logged = subst (λ l. IsLogged (log.unplaced_state (g.state l)) carried.held_then) (sym new_log) carried.logged;
-            contents = way.contents free ∙ sym carried.now_is;
-            opened = sym (way.marks free) ∙ ap (λ b. open_after b way.out.changes) (is.known (is.fault ∙ ready)).opened ∙ sym (open-added held carried.held_then way.out.changes carried.added);
-          };
-          added = λ _. carried.added;
-        }
+        let carried = carries g (record before { log = old.log }) (record after { log = new.log }) held messages way.out.changes logged way.told way.stays went is.tells (sym new_fault ∙ free) in
+        (carried.held_then, λ _. record {
+          usable = went.usable (sym new_fault ∙ free);
+          logged = carried.logged;
+          contents = way.contents free ∙ sym carried.now_is;
+          opened = sym (way.marks free) ∙ ap (λ b. open_after b way.out.changes) (is.known (is.fault ∙ ready)).opened ∙ sym (open-added held carried.held_then way.out.changes carried.added);
+        }, λ _. carried.added)
 
     from : IsStep g old call answer new held s
     from =
@@ -100,10 +78,10 @@ module _ {L : Type 0} (g : Ghosts L) where
         record {
           out = way.out;
           step = way.step;
-          held_then = ends.held_then;
-          is = record { tells = is.tells; stamps = way.stamps; next = way.next; fault = way.fault; batch = way.batch; known = ends.known };
-          added = ends.added;
-          stop = λ _. stop;
+          held_then = ends.0;
+          is = record { tells = is.tells; stamps = way.stamps; next = way.next; fault = way.fault; batch = way.batch; known = ends.1 };
+          added = ends.2;
+          stop = λ _. leaves g (record before { log = old.log }) (record after { log = new.log }) held messages way.out.changes logged way.told way.stays went is.tells;
           stuck = λ kept. absurd (false≢true (sym (is.fault ∙ ready) ∙ kept));
         }
 
@@ -115,7 +93,7 @@ module _ {L : Type 0} (g : Ghosts L) where
       → Steps g old call answer new
   steps-marked old new before after call answer messages same old_log new_log new_fault ready went leads = record {
     opening = same;
-    from_each = λ held s is. from old new before after call answer messages old_log new_log new_fault ready went held s is (leads held s is (is.fault ∙ ready));
+    from_each = λ held s is. from old new before after call answer messages new_fault ready (rw (old_log, new_log) went) held s is (leads held s is (is.fault ∙ ready));
   }
 
   -- one that leaves a batch open or closed, as it was

@@ -1,5 +1,5 @@
 -- The chain of a page whose places are kept, and what reading it found.
-use Rattle.sled_pagecache.proofs.Names.{◌≡◌, ◌+◌, ◌<◌, ◌≤◌, ℕ, zero, suc, ℤ, List, [], ◌∷◌, ◌++◌, length, map, take, get_or, sym, ◌∙◌, ap, subst, arith, add-one, zero-add, pos, get_or-map, length-map, take_more, take_all, get_or_default, AllZip, Any, DiskPtr, Inline, one_more, Entry, message, said_of, IsAt, IsFoundAs, place_of, count_after, CacheInfo, Found}
+use Rattle.sled_pagecache.proofs.Names.{zip-append, ◌≡◌, ◌+◌, ◌<◌, ◌≤◌, ℕ, zero, suc, ℤ, List, [], ◌∷◌, ◌++◌, length, map, take, get_or, sym, ◌∙◌, ap, subst, arith, add-one, zero-add, pos, get_or-map, length-map, take_more, take_all, get_or_default, AllZip, Any, DiskPtr, Inline, one_more, Entry, message, said_of, IsAt, IsFoundAs, place_of, count_after, CacheInfo, Found}
 use Rattle.sled_base.specs.declared.kinds.MessageKind.TheVariants as kinds
 
 -- one more after so many more
@@ -33,26 +33,8 @@ module _ (chain : List Entry) (infos : List CacheInfo) (known : map said_of chai
   pub is_at : (i : ℕ) (info : CacheInfo) (lsn : ℤ) → lsn ≡ (get_or infos i info).lsn → IsAt lsn (get_or infos i info).pointer (get_or chain i (entry_at info))
   is_at i info lsn is = (ap (λ (place : ℤ × DiskPtr × ℕ). place.0) (said_at i info) ∙ sym is, ap (λ (place : ℤ × DiskPtr × ℕ). place.1) (said_at i info))
 
-  pub any_at : (i : ℕ) (info : CacheInfo) (lsn : ℤ) → lsn ≡ (get_or infos i info).lsn → i < length infos → Any (IsAt lsn (get_or infos i info).pointer) chain
-  any_at i info lsn is lt =
-      let same = length-known in
-      let within : i < length chain = omega arith in
-      let entry = get_or chain i (entry_at info) in
-      (i, entry, within, get_or_default chain i entry (entry_at info) within, is_at i info lsn is)
-
-found-push : (chain : List Entry) (all : List Found) (entry : Entry) (found : Found)
-    → AllZip IsFoundAs chain all → IsFoundAs entry found → AllZip IsFoundAs (chain ++ entry ∷ []) (all ++ found ∷ [])
-found-push [] [] entry found zip is = (is, tt)
-found-push [] (x ∷ all) entry found zip is = absurd zip
-found-push (e ∷ chain) [] entry found zip is = absurd zip
-found-push (e ∷ chain) (x ∷ all) entry found zip is = (zip.0, found-push chain all entry found zip.1 is)
-
 -- what was found so far, and one more
 pub found-more : (chain : List Entry) (all : List Found) (i : ℕ) (entry : Entry) (found : Found)
     → i < length chain → AllZip IsFoundAs (take i chain) all → IsFoundAs (get_or chain i entry) found → AllZip IsFoundAs (take (i + 1) chain) (all ++ found ∷ [])
 found-more chain all i entry found lt zip is =
-    subst (λ (l : List Entry). AllZip IsFoundAs l (all ++ found ∷ [])) (sym (take_more chain i entry lt)) (found-push (take i chain) all (get_or chain i entry) found zip is)
-
--- all was found
-pub found-all : (chain : List Entry) (all : List Found) (i : ℕ) → length chain ≤ i → AllZip IsFoundAs (take i chain) all → AllZip IsFoundAs chain all
-found-all chain all i le zip = subst (λ (l : List Entry). AllZip IsFoundAs l all) (take_all i chain le) zip
+    subst (λ (l : List Entry). AllZip IsFoundAs l (all ++ found ∷ [])) (sym (take_more chain i entry lt)) (zip-append IsFoundAs (take i chain) all (get_or chain i entry ∷ []) (found ∷ []) zip (is, tt))

@@ -1,8 +1,9 @@
 -- The counter of generated ids stays durable as far as the next id needs it.
-use Rattle.sled_pagecache.proofs.Names.{AllByRecursion, AllZip-long, AreEvents, AreFound, IsFoundAt, Makes, map, length-map, eqb-false, nat_lt, inl, inr, ◌⊎◌, Bool, Chain, Change, Config, Content, Counter, Err, Event, Ghosts, Holds, HoldsChain, Io, IsConsistent, IsKept, IsLogged, IsPagedOut, Kept, Link, List, Logged, Message, Messages, None, Option, Page, Put, Read, Refusal, Result, Some, StickyLog, Update, Went, Write, [], after_link, ap, arith, begun_by, cond, contents_after, contents_from, drop, effect_of, effect_of_entry, eqb-true, fault_of, false, get_or-map, holds-made, length, next_id, none-some, kept_behind_eviction, refl, same_Some, slice_get, slice_get-get_or, slice_get_within, slice_index_or, slice_set, suc, sym, subst, true, messages_of, unplaced_events, unplaced_state, zero, ℕ, ⊎_elim, ◌*◌, ◌++◌, ◌+◌, ◌<◌, ◌==◌, ◌∙◌, ◌∷◌, ◌≡◌, true≢false, ◌≢◌, ◌≤◌, Free, cases_lt, lt-div-mul-add, CapacityTooSmall, IntervalZero, SegmentZero, IsEvent, NodeLink, IsCounted, IsWhole, SparesCounter, IsBelowCounter, RefusesAppended, interval_start, is_write_fault, at-id, zip-first, kept-at, other-at as set-other, other-before, holds_now}
+use Rattle.sled_pagecache.proofs.Names.{AllByRecursion, AllZip-long, AreEvents, AreFound, IsFoundAt, Makes, map, length-map, eqb-false, nat_lt, inl, inr, ◌⊎◌, Bool, Chain, Change, Config, Content, Counter, Err, Event, Ghosts, Holds, HoldsChain, Io, IsConsistent, IsKept, IsLogged, IsPagedOut, Kept, Link, List, Logged, Message, Messages, None, Option, Page, Put, Read, Refusal, Result, Some, StickyLog, Update, Went, Write, [], after_link, ap, arith, begun_by, cond, contents_after, contents_from, drop, effect_of, effect_of_entry, eqb-true, fault_of, false, get_or-map, holds-made, length, next_id, none-some, kept_behind_eviction, refl, same_Some, slice_get, slice_get-get_or, slice_get_within, slice_index_or, slice_set, suc, sym, subst, true, messages_of, unplaced_events, unplaced_state, zero, ℕ, ⊎_elim, ◌*◌, ◌++◌, ◌+◌, ◌<◌, ◌==◌, ◌∙◌, ◌∷◌, ◌≡◌, true≢false, ◌≢◌, ◌≤◌, Free, cases_lt, lt-div-mul-add, CapacityTooSmall, IntervalZero, SegmentZero, IsEvent, NodeLink, IsCounted, IsWhole, SparesCounter, IsBelowCounter, RefusesAppended, interval_start, is_write_fault, at-id, Token, zip-first, kept-at, other-at as set-other, other-before, holds_now}
 use Rattle.sled_log.specs.LogState as log
 use Rattle.sled_pagecache.proofs.Counting.{CountsTo}
 use Rattle.sled_pagecache.proofs.ProperPages.{all-append}
+use Rattle.sled_pagecache.specs.Inside.CounterPage.{IsCounterIn}
 use Rattle.sled_pagecache.specs.Logged.{now}
 use Rattle.sled_pagecache.specs.declared.pagecache.page.Kept.TheVariants as kept
 
@@ -145,11 +146,10 @@ module _ {L : Type 0} (g : Ghosts L) (k : ℕ) (sticky_log : StickyLog L) (table
   below-counter next below spare = (n, back-all held.stable held.pending n (held-spares held.stable (unplaced_state (g.state sticky_log.log)).pending held.pending logged.pending spare) counts-now, below)
 
 -- the next id, where it needs no new counter
-pub covered-next : {L : Type 0} (g : Ghosts L) (k next : ℕ) (sticky_log : StickyLog L) (table : List Page) (free : List ℕ) → IsWhole g.tells g.state k next sticky_log table free → sticky_log.fault ≡ false → g.tells
-    → (q : Page) (n : ℕ) → slice_get table 1 ≡ Some q → q.kept ≡ kept.Counter n → interval_start k next ≤ interval_start k n
-    → (held : Logged) → IsLogged (unplaced_state (g.state sticky_log.log)) held → IsBelowCounter k held.stable next
-covered-next g k next sticky_log table free whole clear told q n at holds few held logged =
-    below-counter g k sticky_log table free whole.consistent clear told q n at holds held logged next (covers k next n whole.positive few) (whole.counted whole.positive clear told q n at holds few)
+pub covered-next : {L : Type 0} (g : Ghosts L) {k next : ℕ} {sticky_log : StickyLog L} {table : List Page} {free : List ℕ} → IsWhole g.tells g.state k next sticky_log table free → sticky_log.fault ≡ false
+    → {counter : Token × ℕ} → IsCounterIn table counter → interval_start k next ≤ interval_start k counter.1 → g.tells → (held : Logged) → IsLogged (unplaced_state (g.state sticky_log.log)) held → IsBelowCounter k held.stable next
+covered-next g {k} {next} {sticky_log} {table} {free} whole clear {counter} found few told held logged =
+    below-counter g k sticky_log table free whole.consistent clear told found.page counter.1 found.at found.counter held logged next (covers k next counter.1 whole.positive few) (whole.counted whole.positive clear told found.page counter.1 found.at found.counter few)
 
 -- and where one was put, which is durable
 pub covered-put : {L : Type 0} (g : Ghosts L) (k next : ℕ) (sticky_log : StickyLog L) (table : List Page) (free : List ℕ) → IsConsistent g.tells g.state sticky_log table free → 0 < k → sticky_log.fault ≡ false → g.tells

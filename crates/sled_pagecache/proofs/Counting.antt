@@ -94,17 +94,14 @@ start-counts (x ∷ y ∷ contents) own = rw (drop-nil {A = Event Update} (lengt
 
 -- ---- what a log holds, and what a crash leaves of it
 
--- With an interval of at least that, what opens over such a log begins at a bound or above, however many of its pending changes have
--- come.
+-- with an interval of at least that, what opens over such pages begins at a bound or above
+abbrev pub BeginsAbove : ℕ → ℕ → List Content → Type 0
+BeginsAbove least bound contents = (interval : ℕ) → least ≤ interval → bound ≤ first_id interval contents
+
+-- so does what opens over such a log, however many of its pending changes have come
 pub record IsSafe (least bound : ℕ) (held : Logged) : Type 0 where
   pub rises : Rises held.stable held.pending
-  pub above : (interval : ℕ) → least ≤ interval → bound ≤ first_id interval held.stable
-
--- so does what opens over a crash state
-pub record IsSafeCrash (least bound : ℕ) (pages : List Messages) : Type 0 where
-  pub contents : List Content
-  pub kept : AreKept pages contents
-  pub above : (interval : ℕ) → least ≤ interval → bound ≤ first_id interval contents
+  pub above : BeginsAbove least bound held.stable
 
 pub now-added : (held new : Logged) (changes : List (Event Update)) → Adds held changes new → now new ≡ contents_after (now held) changes
 now-added held new changes added =
@@ -119,7 +116,7 @@ module _ (least bound : ℕ) (held : Logged) (safe : IsSafe least bound held) (c
   rises-cut : (cut : ℕ) → Rises held.stable (take cut (held.pending ++ changes) ++ drop cut (held.pending ++ changes))
   rises-cut cut = subst (Rises held.stable) (sym (take-append-drop cut (held.pending ++ changes))) (rises-both held.stable held.pending changes safe.rises rises)
 
-  above-cut : (cut interval : ℕ) → least ≤ interval → bound ≤ first_id interval (contents_after held.stable (take cut (held.pending ++ changes)))
+  above-cut : (cut : ℕ) → BeginsAbove least bound (contents_after held.stable (take cut (held.pending ++ changes)))
   above-cut cut interval wide =
       let part = take cut (held.pending ++ changes) in
       omega (arith, safe.above interval wide, rises-over held.stable part (rises-first held.stable part (drop cut (held.pending ++ changes)) (rises-cut cut)) interval)
@@ -127,19 +124,14 @@ module _ (least bound : ℕ) (held : Logged) (safe : IsSafe least bound held) (c
   pub safe-added : (new : Logged) → Adds held changes new → IsSafe least bound new
   safe-added new added = record {
     rises = rw (added.stable, added.pending) (rises-others held.stable (take added.cut (held.pending ++ changes)) (drop added.cut (held.pending ++ changes)) (rises-cut added.cut));
-    above = λ interval wide. rw added.stable (above-cut added.cut interval wide);
+    above = rw added.stable (above-cut added.cut);
   }
 
+-- so does what opens over a crash state
 pub safe-crash : (least bound : ℕ) (held : Logged) → IsSafe least bound held → (changes : List (Event Update)) → Rises (now held) changes
-    → (pages : List Messages) → IsLeft held changes pages → IsSafeCrash least bound pages
-safe-crash least bound held safe changes rises pages left = record {
-  contents = contents_after held.stable (take left.cut (held.pending ++ left.came));
-  kept = left.is;
-  above = above-cut least bound held safe left.came (rises-first (now held) left.came left.beginning.0 (subst (Rises (now held)) (sym left.beginning.1) rises)) left.cut;
-}
+    → (pages : List Messages) → (left : IsLeft held changes pages) → BeginsAbove least bound (contents_after held.stable (take left.cut (held.pending ++ left.came)))
+safe-crash least bound held safe changes rises pages left =
+    above-cut least bound held safe left.came (rises-first (now held) left.came left.beginning.0 (rw left.beginning.1 rises)) left.cut
 
-pub safe-now : (least bound : ℕ) (held : Logged) → IsSafe least bound held → (interval : ℕ) → least ≤ interval → bound ≤ first_id interval (now held)
+pub safe-now : (least bound : ℕ) (held : Logged) → IsSafe least bound held → BeginsAbove least bound (now held)
 safe-now least bound held safe interval wide = omega (arith, safe.above interval wide, rises-over held.stable held.pending safe.rises interval)
-
-pub safe-wider : (least wider bound : ℕ) (held : Logged) → least ≤ wider → IsSafe least bound held → IsSafe wider bound held
-safe-wider least wider bound held more safe = record { rises = safe.rises; above = λ interval wide. safe.above interval (omega (arith, more, wide)) }

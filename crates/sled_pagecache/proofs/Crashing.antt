@@ -1,5 +1,5 @@
 -- A cache that is opened again over what a crash left of one that was flushed.
-use Rattle.sled_pagecache.proofs.Names.{◌≡◌, ◌≤◌, ◌<◌, ◌+◌, ℕ, Bool, true, false, cond, ◌==◌, List, [], ◌∷◌, ◌++◌, length, map, take, drop, min, refl, sym, ◌∙◌, ap, subst, arith, drop-nil, take-nil, append-nil, length-map, AllZip-long, slice_set, slice_index_or, Result, Ok, Err, IfOk, IfErr, Error, Update, Content, Free, Put, Link, Change, after_link, contents_from, contents_after, Event, seen_event, Message, Messages, Chain, Entry, message_in, AreEvents, Holds, unplaced_state, Ghosts, LogFull, missing_pages, changes_of_start, opened_state, Cache, Logged, IsLogged, Started, Opens, stable_state, stable_contents, Config, State, page, contents_of, error_of, LacksRoomFor, replicate, length-append, length-set, length-replicate, drop_all, LogState, LogError, most_pages, Steps, AreSteps, IsRow, StepInRow, changes_of, IsOpened, IsUnopened, StampedPage, Outcome, Answer, Call, none-came}
+use Rattle.sled_pagecache.proofs.Names.{◌≡◌, ◌≤◌, ◌<◌, ◌+◌, ℕ, Bool, true, false, cond, ◌==◌, List, [], ◌∷◌, ◌++◌, length, map, take, drop, min, refl, sym, ◌∙◌, ap, subst, arith, drop-nil, take-nil, append-nil, length-map, AllZip-long, slice_set, slice_index_or, Result, Ok, Err, IfOk, IfErr, Error, Update, Content, Free, Put, Link, Change, after_link, contents_from, contents_after, Event, seen_event, Message, Messages, Chain, Entry, message_in, AreEvents, Holds, unplaced_state, Ghosts, LogFull, missing_pages, changes_of_start, opened_state, Cache, Logged, IsLogged, Started, Opens, stable_state, stable_contents, Config, State, page, contents_of, error_of, LacksRoomFor, replicate, length-append, length-set, length-replicate, drop_all, LogState, LogError, most_pages, Steps, AreSteps, IsRow, StepInRow, changes_of, IsOpened, IsUnopened, StampedPage, Outcome, Answer, Call, none-came, inl, inr, ⊎_elim, ◌⊎◌, ◌≢◌}
 use Rattle.sled_pagecache.proofs.Endings.{by-settings}
 use Rattle.sled_pagecache.proofs.Staying.{no-changes}
 use Rattle.sled_base.specs.declared.types.Error.TheVariants as errors
@@ -7,7 +7,7 @@ use Rattle.sled_log.specs.Calls.{refusal_of}
 use Rattle.sled_log.specs.declared.log.LogError.TheVariants as failures
 use Rattle.sled_pagecache.proofs.Reopening.{empty-logged, kept-logged}
 use Rattle.sled_pagecache.specs.Reopening.{RefusesReopening, AreFlushedThen, IsFlushed, OpensAgain, ReopensAfter, HasFlushed}
-use Rattle.sled_pagecache.specs.Logged.{IsLeft}
+use Rattle.sled_pagecache.specs.Logged.{IsLeft, now}
 
 -- ---- contents
 
@@ -60,14 +60,14 @@ same-pages s contents after = after.is ∙ ap (λ (l : List (Event Update)). con
 
 -- ---- opening
 
-pub refuses : {L : Type 0} (g : Ghosts L) (log after : L) (config : Config) (held : Logged) (error : Error) → changes_of_start (contents_after held.stable held.pending) ≡ [] → IsUnopened g log held error after → RefusesReopening config error
-refuses g log after config held errors.OutOfMemory none un = tt
-refuses g log after config held (errors.Io device) none un = tt
-refuses g log after config held (errors.Unsupported LogFull) none un =
-    let full = un.full refl in
-    let parts = no-parts un.begun un.rest (un.are ∙ none) in
-    absurd (subst (LacksRoomFor g log) parts.1 (full.given parts.0))
-refuses g log after config held other none un = absurd un.why
+-- why no cache was opened
+pub refuses : {L : Type 0} (g : Ghosts L) (log after : L) (config : Config) (held : Logged) (error : Error) → IsUnopened g log held error after
+    → RefusesReopening config error ⊎ ((error ≡ errors.Unsupported LogFull) × (changes_of_start (now held) ≢ []))
+refuses g log after config held errors.OutOfMemory un = inl tt
+refuses g log after config held (errors.Io device) un = inl tt
+refuses g log after config held (errors.Unsupported LogFull) un =
+    inr (refl, λ none. let parts = no-parts un.begun un.rest (un.are ∙ none) in absurd (subst (LacksRoomFor g log) parts.1 ((un.full refl).given parts.0)))
+refuses g log after config held other un = absurd un.why
 
 module _ {L : Type 0} (g : Ghosts L) (first : Cache L) (calls : List (Call × Answer)) (s : State) (flushed : IsFlushed g first s) where
   none-waits : flushed.held.pending ≡ []
@@ -148,7 +148,7 @@ module _ {L : Type 0} (g : Ghosts L) (first : Cache L) (calls : List (Call × An
         },
         tt,
       )
-      of-opening (Err refused) opens = (tt, refuses g log refused.1 config (stable_contents contents) refused.0 (none-to-start contents both) opens)
+      of-opening (Err refused) opens = (tt, ⊎_elim (λ why. why) (λ full. absurd (full.1 (none-to-start contents both))) (refuses g log refused.1 config (stable_contents contents) refused.0 opens))
 
       started : (result : Result (Cache L) (Error × L)) → Started g log config result → IfOk result (OpensAgain g (AreFlushedThen s (changes_of row.outs)) config) × IfErr result (λ e. RefusesReopening config e.0)
       started result start =

@@ -4,15 +4,6 @@ use Rattle.sled_base.specs.declared.types.Error.TheVariants.{Unsupported, Io}
 use Rattle.sled_pagecache.proofs.CacheSteps.{steps-went}
 use Rattle.sled_pagecache.proofs.Changing.{KnowsNow, leads-fault, steps-uncalled, steps-untold}
 
-flush_step : (s : State) (n : ℕ) → s.fault ≡ false → s.batch ≡ false → Flushes s (Ok n) (no_change s)
-flush_step s n clear closed = rw (clear, closed) refl
-
-flush_early : (s : State) → s.fault ≡ false → s.batch ≡ true → Flushes s (Err (Unsupported BatchOpen)) (no_change s)
-flush_early s clear opened = rw (clear, opened) (refl, refl)
-
-flush_fails : (s : State) → s.fault ≡ false → s.batch ≡ false → Flushes s (Err (Io Write)) (outcome (record s { fault = true }) [])
-flush_fails s clear closed = rw (clear, closed) (refl, refl)
-
 module _ {L : Type 0} (g : Ghosts L) (next : ℕ) (config : Config) (recovered : Bool) (lru : Recency) (pages : List Page) (before : StickyLog L) (ready : before.fault ≡ false) where
   abbrev cache : StickyLog L → Cache L
   cache sticky_log = view next config recovered lru sticky_log pages
@@ -24,13 +15,13 @@ module _ {L : Type 0} (g : Ghosts L) (next : ℕ) (config : Config) (recovered :
   -- inside a batch nothing is flushed
   pub flush_is_too_early : before.batch ≡ true → (g.state before.log).usable ≡ true → KnowsNow g before → Steps g (cache before) Flush (Flushed (Err (Unsupported BatchOpen))) (cache before)
   flush_is_too_early opened usable only =
-      steps-uncalled g next config recovered lru before pages ready Flush (Flushed (Err (Unsupported BatchOpen))) usable only (λ held s is clear. flush_early s clear (is.batch ∙ opened))
+      steps-uncalled g next config recovered lru before pages ready Flush (Flushed (Err (Unsupported BatchOpen))) usable only (λ held s is clear. rw (clear, is.batch ∙ opened) (refl, refl))
 
   module _ (none : before.batch ≡ false) (after : StickyLog L) (went : Went g before after []) where
     pub flushes : (n : ℕ) → after.fault ≡ false → Steps g (cache before) Flush (Flushed (Ok n)) (cache after)
-    flushes n free = steps-untold g next config recovered lru before pages ready Flush after pages refl (Flushed (Ok n)) went free (λ held s is clear. flush_step s n clear (is.batch ∙ none))
+    flushes n free = steps-untold g next config recovered lru before pages ready Flush after pages refl (Flushed (Ok n)) went free (λ held s is clear. rw (clear, is.batch ∙ none) refl)
 
     pub flush_is_refused : after.fault ≡ true → Steps g (cache before) Flush (Flushed (Err (Io Write))) (cache after)
     flush_is_refused kept =
         steps-went g (cache before) (cache after) before after Flush (Flushed (Err (Io Write))) [] (record { config = refl; recovered = refl }) refl refl refl ready went
-        (λ held s is clear. leads-fault g (cache before) (cache after) held s is clear Flush (Flushed (Err (Io Write))) refl (flush_fails s clear (is.batch ∙ none)) refl kept)
+        (λ held s is clear. leads-fault g (cache before) (cache after) held s is clear Flush (Flushed (Err (Io Write))) refl (rw (clear, is.batch ∙ none) (refl, refl)) refl kept)

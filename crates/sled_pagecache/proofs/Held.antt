@@ -8,14 +8,10 @@ use Rattle.sled_pagecache.specs.Logged.{AreOwn}
 use Rattle.sled_pagecache.specs.State.{StampedPage, is_free}
 
 -- the page at an id is at this stamp
-pub record StampedAt (pages : List StampedPage) (pid stamp : ℕ) : Type 0 where
-  pub content : Content
-  pub there : slice_get pages pid ≡ Some (page stamp content)
-
-pub stamped-at : (pages : List StampedPage) (pid stamp : ℕ) → slice_get (map (λ (p : StampedPage). p.stamp) pages) pid ≡ Some stamp → StampedAt pages pid stamp
+pub stamped-at : (pages : List StampedPage) (pid stamp : ℕ) → slice_get (map (λ (p : StampedPage). p.stamp) pages) pid ≡ Some stamp → (content : Content) × (slice_get pages pid ≡ Some (page stamp content))
 stamped-at [] pid stamp at = absurd (none-some stamp at)
-stamped-at (p ∷ pages) zero stamp at = record { content = p.content; there = ap (λ n. Some (page n p.content)) (same_Some p.stamp stamp at) }
-stamped-at (p ∷ pages) (suc pid) stamp at = let rest = stamped-at pages pid stamp at in record { content = rest.content; there = rest.there }
+stamped-at (p ∷ pages) zero stamp at = (p.content, ap (λ n. Some (page n p.content)) (same_Some p.stamp stamp at))
+stamped-at (p ∷ pages) (suc pid) stamp at = stamped-at pages pid stamp at
 
 -- A page stands at the id that isn't free. It holds what its chain makes, or is damaged.
 pub record FullStands (s : State) (pid : ℕ) (chain : Chain) : Type 0 where

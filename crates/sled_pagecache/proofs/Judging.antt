@@ -1,5 +1,5 @@
 -- What the tests of a swap answer is a step of the machine, for each call that makes them.
-use Rattle.sled_pagecache.proofs.Names.{Recency, ◌≡◌, ◌+◌, ℕ, Bool, true, false, List, [], Option, Some, None, Ok, Err, slice_get, slice_set, refl, sym, ◌∙◌, ap, subst, ne_eqb, map-set, MatchBool, Write, Unsupported, Refusal, ReservedId, Content, Free, Put, Node, Messages, effect_of, Ghosts, WholeNode, Keeps, stamps_after_swap, Cache, chain_length, HasNoRoom, StepOver, Steps, Went-none, Judges, IsRejected, IsFresh, State, page_at, Outcome, no_change, is_reserved, Swapped, SwapsPage, Swaps, SwapsContent, LinksContent, stamps_in, IsBeside, Token, token, IsAnswered, Answer, Freed, Linked, Replaced, Call, Config, StickyLog, Rejection, Refused, Stale, Gone, answer_to, IfOk, IfErr, OnOk, OnErr, IsBlamed, HasNoName, EvictsAtMost, false≢true, same_Some, Page, error_by, NodeLink, map-at, view, IsLeft, unplaced_state}
+use Rattle.sled_pagecache.proofs.Names.{Recency, ◌≡◌, ◌+◌, ℕ, Bool, true, false, List, [], Option, Some, None, Ok, Err, slice_get, slice_set, refl, sym, ◌∙◌, ap, subst, ne_eqb, map-set, MatchBool, Write, Unsupported, Refusal, ReservedId, Content, Free, Put, Node, Messages, effect_of, Ghosts, WholeNode, Keeps, stamps_after_swap, Cache, chain_length, HasNoRoom, StepOver, Steps, Went-none, Judges, IsRejected, IsFresh, State, page_at, Outcome, no_change, is_reserved, Swapped, SwapsPage, Swaps, SwapsContent, LinksContent, stamps_in, IsBeside, Token, token, IsAnswered, Answer, Freed, Linked, Replaced, Call, Config, StickyLog, Rejection, Refused, Stale, Gone, answer_to, IfOk, IfErr, OnOk, OnErr, IsBlamed, HasNoName, EvictsAtMost, false≢true, same_Some, Page, error_by, NodeLink, map-at, view, IsLeft, unplaced_state, arith}
 use Rattle.sled_base.specs.declared.types.Error.TheVariants.{Io}
 use Rattle.sled_base.specs.declared.types.Refusal.TheVariants as refusals
 use Rattle.sled_pagecache.proofs.Answers.{keeps-err, keeps-ok, keeps-stuck}
@@ -7,7 +7,7 @@ use Rattle.sled_pagecache.proofs.CacheSteps.{steps-stuck}
 use Rattle.sled_pagecache.proofs.Evicting.{leaves-same}
 use Rattle.sled_pagecache.proofs.Passing.{passes, stuck-passes, reserved-passes}
 use Rattle.sled_pagecache.proofs.Putting.{nothing-appended}
-use Rattle.sled_pagecache.proofs.Standing.{AreKnown, found-known, found-none}
+use Rattle.sled_pagecache.proofs.Standing.{AreKnown, found-known, found-none, IsFound}
 use Rattle.sled_pagecache.specs.declared.pagecache.call.Call.TheVariants as call
 
 -- a call that tests its token, and goes on with the content of its page
@@ -36,15 +36,11 @@ pub record Unswapped {L R : Type 0} (g : Ghosts L) (cache : Cache L) (pid : ℕ)
 
 -- what is said of a swap that wasn't made
 pub unless-made : {R : Type 0} (P : Type 0) (answer : Swapped R) → IfOk answer (λ swapped. OnOk swapped ⊥) → IfOk answer (λ swapped. OnOk swapped P)
-unless-made P (Ok (Ok made)) unmade = absurd unmade
-unless-made P (Ok (Err back)) unmade = tt
-unless-made P (Err error) unmade = tt
+unless-made P answer unmade = grind arith
 
 -- and of one that handed back what it was given
 pub handed-back : {R : Type 0} (P : Type 0) (answer : Swapped R) → P → IfOk answer (λ swapped. OnErr swapped P)
-handed-back P (Ok (Ok made)) p = tt
-handed-back P (Ok (Err back)) p = p
-handed-back P (Err error) p = tt
+handed-back P answer p = grind arith
 
 module _ {L : Type 0} (g : Ghosts L) (next : ℕ) (config : Config) (recovered : Bool) (lru : Recency) (sticky_log : StickyLog L) (table : List Page) (beside : sticky_log.fault ≡ false → IsBeside g.tells g.state sticky_log.log table)
     (only : (pages : List Messages) → g.tells → (g.state sticky_log.log).usable ≡ true → g.left_since sticky_log.log (g.moment sticky_log.log) pages → IsLeft effect_of (unplaced_state (g.state sticky_log.log)) [] pages)
@@ -62,60 +58,32 @@ module _ {L : Type 0} (g : Ghosts L) (next : ℕ) (config : Config) (recovered :
       nothing-appended g next config recovered lru sticky_log table ready (beside ready) sticky_log call table refl (answered answer)
       (Went-none g sticky_log (beside ready).usable only) ready (λ held s is clear are. step s clear are)
 
-  -- a write fault was kept, or the page is the cache's own
-  refuses : (refusal : Refusal) → Judges sticky_log.fault table pid old (Err (Refused refusal)) → Unswapped g cache pid old rejected call answered (Err (error_by refusal))
-  refuses refusal judges = by sticky_log.fault refl judges
-    where
-      by : (fault : Bool) → sticky_log.fault ≡ fault → MatchBool fault (refusal ≡ refusals.Io Write) ((is_reserved pid ≡ true) × (refusal ≡ refusals.Unsupported ReservedId))
-          → Unswapped g cache pid old rejected call answered (Err (error_by refusal))
-      by true kept is = rw is (record {
-        step = steps-stuck g cache call (answered (Err (Io Write))) kept (λ s stuck. swap.step s (Err (Io Write)) (no_change s) (stuck-passes s old.pid (tests_then s) stuck));
-        blame = record { read = λ is. absurd cc; write = λ is clear. absurd (false≢true (sym clear ∙ kept)) };
-        keeps = keeps-stuck cache cache (stamps_after_swap (stamps_in table)) kept refl;
-        token = tt;
-        unmade = tt;
-        leaves = leaves-same cache g.tells pid (Io Write);
-        unnamed = tt;
-      })
-      by false ready (own, is) = rw is (record {
-        step = still (Err (Unsupported ReservedId)) ready
-            (λ s clear are. swap.step s (Err (Unsupported ReservedId)) (no_change s) (reserved-passes s old.pid (tests_then s) clear (ap is_reserved same ∙ own)));
-        blame = record { read = λ is. absurd cc; write = λ is. absurd cc };
-        keeps = keeps-err cache cache (stamps_after_swap (stamps_in table)) (Unit {0}) (refusals.Unsupported ReservedId) ready ready refl refl;
-        token = tt;
-        unmade = tt;
-        leaves = leaves-same cache g.tells pid (Unsupported ReservedId);
-        unnamed = tt;
-      })
-
   -- the token is handed back, or nothing is
   hands : (back : Option (Token × R)) → is_reserved pid ≡ false → sticky_log.fault ≡ false → IsAnswered (stamps_in table) old rejected (Err back)
       → (let answer : Swapped R = Ok (Err back) in ((s : State) → AreKnown s.pages table → SwapsPage s old rejected (page_at s pid) answer (no_change s) (goes_on s answer (no_change s))) → Unswapped g cache pid old rejected call answered answer)
   hands back free ready token is =
       let answer : Swapped R = Ok (Err back) in
-      record {
-        step = still answer ready
-            (λ s clear are. swap.step s answer (no_change s)
-            (passes s old.pid (tests_then s) answer (no_change s) clear (ap is_reserved same ∙ free)
-            (subst (λ (n : ℕ). SwapsPage s old rejected (page_at s n) answer (no_change s) (goes_on s answer (no_change s))) (sym same) (is s are))));
-        blame = record { read = λ is. absurd cc; write = λ is. absurd cc };
-        keeps = keeps-ok cache cache (stamps_after_swap (stamps_in table)) (Err back) ready ready refl refl;
-        token = token;
-        unmade = tt;
-        leaves = tt;
-        unnamed = tt;
-      }
+      let keeps = keeps-ok cache cache (stamps_after_swap {R = R} (stamps_in table)) (Err back) ready ready refl refl in
+      let step = still answer ready (λ s clear are. swap.step s answer (no_change s)
+          (passes s old.pid (tests_then s) answer (no_change s) clear (ap is_reserved same ∙ free)
+          (subst (λ (n : ℕ). SwapsPage s old rejected (page_at s n) answer (no_change s) (goes_on s answer (no_change s))) (sym same) (is s are)))) in
+      grind arith
 
-  gone : Judges sticky_log.fault table pid old (Err Gone) → Unswapped g cache pid old rejected call answered (Ok (Err None))
-  gone (ready, free, judged) = hands None free ready tt (λ s are. by s are (slice_get table pid) refl judged)
+  pub unswapped : (rejection : Rejection) → Judges sticky_log.fault table pid old (Err rejection) → (answer : Swapped R) → answer ≡ answer_to rejection rejected → Unswapped g cache pid old rejected call answered answer
+  unswapped (Refused refusal) judges answer is = rw is (by sticky_log.fault refl judges)
     where
-      by : (s : State) → AreKnown s.pages table → (o : Option Page) → slice_get table pid ≡ o → IsRejected o pid old Gone
-          → SwapsPage s old rejected (page_at s pid) (Ok (Err None)) (no_change s) (goes_on s (Ok (Err None)) (no_change s))
-      by s are None at judged = rw (found-none s.pages table pid are at) (refl, refl)
-      by s are (Some q) at judged = let found = found-known s.pages table pid q are at in rw (found.is, found.known.free, judged) (refl, refl)
-
-  stale : (present : Token) → Judges sticky_log.fault table pid old (Err (Stale present)) → Unswapped g cache pid old rejected call answered (Ok (Err (Some (present, rejected))))
-  stale present (ready, free, judged) = by (slice_get table pid) refl judged
+      -- a write fault was kept, or the page is the cache's own
+      by : (fault : Bool) → sticky_log.fault ≡ fault → MatchBool fault (refusal ≡ refusals.Io Write) ((is_reserved pid ≡ true) × (refusal ≡ refusals.Unsupported ReservedId))
+          → Unswapped g cache pid old rejected call answered (Err (error_by refusal))
+      by true kept is = rw is (
+        let step = steps-stuck g cache call (answered (Err (Io Write))) kept (λ s stuck. swap.step s (Err (Io Write)) (no_change s) (stuck-passes s old.pid (tests_then s) stuck)) in
+        let keeps = keeps-stuck cache cache (stamps_after_swap {R = R} (stamps_in table)) kept refl in
+        grind (arith, leaves-same cache g.tells pid (Io Write)))
+      by false ready (own, is) = rw is (
+        let step = still (Err (Unsupported ReservedId)) ready (λ s clear are. swap.step s (Err (Unsupported ReservedId)) (no_change s) (reserved-passes s old.pid (tests_then s) clear (ap is_reserved same ∙ own))) in
+        let keeps = keeps-err cache cache (stamps_after_swap {R = R} (stamps_in table)) (Unit {0}) (refusals.Unsupported ReservedId) ready ready refl refl in
+        grind (arith, leaves-same cache g.tells pid (Unsupported ReservedId)))
+  unswapped (Stale present) (ready, free, judged) answer is = rw is (by (slice_get table pid) refl judged)
     where
       by : (o : Option Page) → slice_get table pid ≡ o → IsRejected o pid old (Stale present) → Unswapped g cache pid old rejected call answered (Ok (Err (Some (present, rejected))))
       by None at judged = absurd cc
@@ -124,11 +92,12 @@ module _ {L : Type 0} (g : Ghosts L) (next : ℕ) (config : Config) (recovered :
           (λ s are.
           let found = found-known s.pages table pid q are at in
           rw (found.is, found.known.free, full, found.known.stamp, ne_eqb q.stamp old.stamp other, is, same) (refl, refl))
-
-  pub unswapped : (rejection : Rejection) → Judges sticky_log.fault table pid old (Err rejection) → (answer : Swapped R) → answer ≡ answer_to rejection rejected → Unswapped g cache pid old rejected call answered answer
-  unswapped (Refused refusal) judges answer is = subst (Unswapped g cache pid old rejected call answered) (sym is) (refuses refusal judges)
-  unswapped (Stale present) judges answer is = subst (Unswapped g cache pid old rejected call answered) (sym is) (stale present judges)
-  unswapped Gone judges answer is = subst (Unswapped g cache pid old rejected call answered) (sym is) (gone judges)
+  unswapped Gone (ready, free, judged) answer is = rw is (hands None free ready tt (λ s are. by s are (slice_get table pid) refl judged))
+    where
+      by : (s : State) → AreKnown s.pages table → (o : Option Page) → slice_get table pid ≡ o → IsRejected o pid old Gone
+          → SwapsPage s old rejected (page_at s pid) (Ok (Err None)) (no_change s) (goes_on s (Ok (Err None)) (no_change s))
+      by s are None at judged = rw (found-none s.pages table pid are at) (refl, refl)
+      by s are (Some q) at judged = let found = found-known s.pages table pid q are at in rw (found.is, found.known.free, judged) (refl, refl)
 
 -- the page that was read there is the token's
 pub fresh-at : {fault : Bool} {table : List Page} {pid : ℕ} {old : Token} {q : Page} → (page : Page) × IsFresh fault table pid old page → slice_get table pid ≡ Some q → IsFresh fault table pid old q

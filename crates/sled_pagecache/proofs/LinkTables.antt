@@ -1,15 +1,11 @@
 -- The table of a cache after a link, and what one sees of it who knows the cache by its model.
 use Rattle.sled_pagecache.proofs.Names.{Recency, ◌≡◌, ◌≤◌, ◌+◌, ℕ, Bool, true, false, cond, ltb, List, [], ◌∷◌, length, Some, slice_get, slice_set, refl, sym, ◌∙◌, ap, subst, arith, ltb-true, is_open, Change, effect_of_entry, message_of, Ghosts, Cache, chain_length, IsResident, IsAway, chain_at, update_by, TakesLink, WasBegun, IsKept, is_free, is_resident, is_reserved, linked_length, IsFreeOrNode, IsConsistent, Config, StickyLog, Page, NodeLink, now, view, behind-own}
 use Rattle.sled_pagecache.proofs.PagingIn.{page-short-at, places-length, length-before, same-consistent, before-is, is-after}
-use Rattle.sled_pagecache.proofs.Tables.{consistent-set, went-chains, free-same}
+use Rattle.sled_pagecache.proofs.Tables.{consistent-put, free-same}
 
 -- at most ten messages make a page after a link
 linked-short : (n : ℕ) → n ≤ 10 → linked_length n ≤ 10
-linked-short n short = by (ltb n 10) refl
-  where
-    by : (b : Bool) → ltb n 10 ≡ b → cond b (n + 1) 1 ≤ 10
-    by true below = let few = ltb-true n 10 below in omega (arith, few)
-    by false above = omega arith
+linked-short n short = grind (arith, ltb-true n 10)
 
 module _ {L : Type 0} (g : Ghosts L) (before after : StickyLog L) (pages : List Page) (free : List ℕ) (pid : ℕ) (q page : Page)
     (c : IsConsistent g.tells g.state before pages free) (ready : before.fault ≡ false) (behind : is_reserved pid ≡ false) (at : slice_get pages pid ≡ Some q) (link : NodeLink) where
@@ -21,18 +17,8 @@ module _ {L : Type 0} (g : Ghosts L) (before after : StickyLog L) (pages : List 
 
   pub taken-consistent : TakesLink g before pid q link after page → is_free page.kept ≡ is_free q.kept → IsConsistent g.tells g.state after (slice_set pages pid page) free
   taken-consistent takes freed =
-      let went = takes.tells.went in
-      let beside = c.beside ready in
-      consistent-set g before after pages free free c ready pid page (behind-own pid behind) (subst IsFreeOrNode (sym takes.holds) tt)
-      (subst (λ (n : ℕ). n ≤ 10) (sym takes.len) (linked-short (length q.infos.items) (page-short-at g before after pages free pid q page c ready behind at)))
-      (λ clear. went.opened clear ∙ c.opened ready ∙ sym went.batch)
-      (λ clear. record {
-        usable = went.usable clear;
-        kept = takes.kept;
-        others = takes.others;
-        chains = λ known. went-chains g before after (Change pid (message_of (update_by q link takes.tells.node)) ∷ []) went known clear (beside.chains known);
-        sized = takes.sized;
-      })
+      consistent-put g before after pages free free c ready pid (message_of (update_by q link takes.tells.node)) takes.tells.went page (subst IsFreeOrNode (sym takes.holds) tt)
+      (rw takes.len (linked-short (length q.infos.items) (page-short-at g before after pages free pid q page c ready behind at))) takes.kept takes.sized (behind-own pid behind) takes.others
       (c.free ∙ sym (free-same 0 pages pid page q at freed))
 
   module _ (next : ℕ) (config : Config) (recovered : Bool) (lru : Recency) where

@@ -1,5 +1,5 @@
 -- A link that is tested, and one of a damaged page.
-use Rattle.sled_pagecache.proofs.Names.{Recency, ◌≡◌, inl, inr, ℕ, Bool, true, false, List, Option, Some, None, Err, slice_get, slice_set, refl, sym, ◌∙◌, ap, subst, false≢true, option_map, slice_get-map, none-some, same_Some, MatchBool, error_of, LinkRefused, Write, Refusal, ReportableBug, Io, Corruption, OutOfMemory, ReservedId, StampUsedUp, LogFull, is_empty, Node, Chain, messages_of, effect_of_entry, Makes, one_content, Ghosts, Accepts, WholeNode, Cache, Represents, IsResident, chain_at, ReportsWrong, MeetsDamage, ReportsDamage, Judges, IsFresh, IsRejected, IsTested, TestsFirst, RefusesUnappended, TakesLink, RefusesAppended, Logged, HoldsChain, is_resident, is_free, State, page, page_at, Swapped, is_reserved, RefusesLink, stamps_in, resident_in, IsFreeOrNode, IsConsistent, Token, Config, StickyLog, Rejection, Refused, Stale, Gone, Kept, NodeLink, StampedPage, KeptPage, map-at, kept-at, own-at, behind-own}
+use Rattle.sled_pagecache.proofs.Names.{Recency, ◌≡◌, inl, inr, ℕ, Bool, true, false, List, Option, Some, None, Err, slice_get, slice_set, refl, sym, ◌∙◌, ap, subst, false≢true, option_map, slice_get-map, none-some, same_Some, MatchBool, error_of, LinkRefused, Write, Refusal, ReportableBug, Io, Corruption, OutOfMemory, ReservedId, StampUsedUp, LogFull, is_empty, Node, Chain, messages_of, effect_of_entry, Makes, one_content, Ghosts, Accepts, WholeNode, Cache, Represents, IsResident, chain_at, ReportsWrong, MeetsDamage, ReportsDamage, Judges, IsFresh, IsRejected, IsTested, TestsFirst, RefusesUnappended, TakesLink, RefusesAppended, Logged, HoldsChain, is_resident, is_free, State, page, page_at, Swapped, is_reserved, RefusesLink, stamps_in, resident_in, IsFreeOrNode, IsConsistent, Token, Config, StickyLog, Rejection, Refused, Stale, Gone, Kept, NodeLink, StampedPage, KeptPage, map-at, kept-at, own-at, behind-own, arith}
 use Rattle.sled_pagecache.proofs.LeftPages.{leaves-went}
 use Rattle.sled_base.specs.declared.types.Refusal.TheVariants.{Unsupported}
 use Rattle.sled_log.specs.LogState as log
@@ -12,6 +12,13 @@ use Rattle.sled_pagecache.specs.declared.pagecache.page.Kept.TheVariants as kept
 no-stamp : (table : List KeptPage) (pid : ℕ) → slice_get table pid ≡ None → slice_get (stamps_in table) pid ≡ None
 no-stamp table pid none = slice_get-map (λ (q : KeptPage). q.stamp) table pid ∙ ap (option_map (λ (q : KeptPage). q.stamp)) none
 
+-- a page in memory whose chain makes the node holds it
+node-kept : (chain : Chain) (node : WholeNode) (k : Kept) → Makes (messages_of chain) (Node node) → HoldsChain chain k → IsFreeOrNode k → is_free k ≡ false → is_resident k ≡ true → k ≡ kept.Node node
+node-kept chain node k made holds own full resident = grind (arith, one_content (messages_of chain))
+
+tested : (node : WholeNode) (link : NodeLink) (stamp : ℕ) (refusal : Refusal) → RefusesLink stamp (kept.Node node) link refusal → IsTested node link stamp (Err (error_of refusal))
+tested node link stamp refusal why = grind arith
+
 module _ {L : Type 0} (g : Ghosts L) (next : ℕ) (config : Config) (recovered : Bool) (lru : Recency) (before : StickyLog L) (pages : List KeptPage) (free : List ℕ) (pid : ℕ)
     (c : IsConsistent g.tells g.state before pages free) (t : Token) where
   abbrev old : Cache L
@@ -21,22 +28,13 @@ module _ {L : Type 0} (g : Ghosts L) (next : ℕ) (config : Config) (recovered :
   chain = chain_at (g.state before.log) pid
 
   -- the token of a page that has a content, at its stamp, isn't rejected
-  found-fresh : (o : Option KeptPage) → slice_get pages pid ≡ o → (rejection : Rejection) → IsRejected o pid t rejection
-      → g.tells → before.fault ≡ false → is_empty effect_of_entry chain ≡ false → slice_get (stamps_in pages) pid ≡ Some t.stamp → ⊥
-  found-fresh None at rejection judged known ready full stamp = none-some t.stamp (sym (no-stamp pages pid at) ∙ stamp)
-  found-fresh (Some q) at (Refused refusal) judged known ready full stamp = judged
-  found-fresh (Some q) at (Stale present) judged known ready full stamp = judged.1 (same_Some q.stamp t.stamp (sym (map-at (λ (p : KeptPage). p.stamp) pages pid q at) ∙ stamp))
-  found-fresh (Some q) at Gone judged known ready full stamp =
-      let holds = (kept-at (log.now effect_of_entry (g.state before.log)) pages pid q ((c.beside ready).kept known) at).holds in
-      false≢true (sym full ∙ kept-free chain q.kept holds ∙ judged)
-
   judged-fresh : (rejection : Rejection) → Judges before.fault pages pid t (Err rejection)
       → g.tells → before.fault ≡ false → is_reserved pid ≡ false → is_empty effect_of_entry chain ≡ false → slice_get (stamps_in pages) pid ≡ Some t.stamp → ⊥
-  judged-fresh (Refused refusal) judges known ready behind full stamp =
-      let own : MatchBool false (refusal ≡ Io Write) ((is_reserved pid ≡ true) × (refusal ≡ Unsupported ReservedId)) = subst (λ (b : Bool). MatchBool b (refusal ≡ Io Write) ((is_reserved pid ≡ true) × (refusal ≡ Unsupported ReservedId))) ready judges in
-      false≢true (sym behind ∙ own.0)
-  judged-fresh (Stale present) judges known ready behind full stamp = found-fresh (slice_get pages pid) refl (Stale present) judges.2 known ready full stamp
-  judged-fresh Gone judges known ready behind full stamp = found-fresh (slice_get pages pid) refl Gone judges.2 known ready full stamp
+  judged-fresh rejection judges known ready behind full stamp =
+      let stamps = slice_get-map (λ (q : KeptPage). q.stamp) pages pid in
+      let frees : (q : KeptPage) → slice_get pages pid ≡ Some q → is_empty effect_of_entry chain ≡ is_free q.kept
+          = λ q at. kept-free chain q.kept (kept-at (log.now effect_of_entry (g.state before.log)) pages pid q ((c.beside ready).kept known) at).holds in
+      grind arith
 
   pub judged-undamaged : (rejection : Rejection) → Judges before.fault pages pid t (Err rejection) → MeetsDamage g old pid → slice_get old.stamps pid ≡ Some t.stamp → ⊥
   judged-undamaged rejection judges meets stamp = judged-fresh rejection judges meets.tells meets.ready meets.behind meets.damaged.0 stamp
@@ -66,27 +64,6 @@ module _ {L : Type 0} (g : Ghosts L) (next : ℕ) (config : Config) (recovered :
     kept-holds : g.tells → HoldsChain chain q.kept
     kept-holds known = (kept-at (log.now effect_of_entry (g.state before.log)) pages pid q ((c.beside fresh.clear).kept known) fresh.at).holds
 
-    module _ (node : WholeNode) (made : Makes (messages_of chain) (Node node)) where
-      same-node : (other : WholeNode) → Makes (messages_of chain) (Node other) → other ≡ node
-      same-node other makes = (let e : Node other ≡ Node node = one_content (messages_of chain) (Node other) (Node node) makes made in cc)
-
-      refused-by : (k : Kept) → HoldsChain chain k → IsFreeOrNode k → is_free k ≡ false → is_resident k ≡ true → (refusal : Refusal) → RefusesLink q.stamp k link refusal → IsTested node link t.stamp (Err (error_of refusal))
-      refused-by kept.Free holds own full resident refusal why = absurd (false≢true (sym full))
-      refused-by kept.Away holds own full resident refusal why = absurd (false≢true resident)
-      refused-by (kept.Node other) holds own full resident refusal (inl (not, is)) = record {
-        refused = λ _. ap (λ (r : Refusal). Err (error_of r)) is;
-        used_up = λ accepts. absurd (not (subst (λ (n : WholeNode). Accepts n link) (sym (same-node other holds)) accepts));
-      }
-      refused-by (kept.Node other) holds own full resident refusal (inr (accepts, inl (last, is))) = record {
-        refused = λ not. absurd (not (subst (λ (n : WholeNode). Accepts n link) (same-node other holds) accepts));
-        used_up = λ _ _. ap (λ (r : Refusal). Err (error_of r)) is;
-      }
-      refused-by (kept.Node other) holds own full resident refusal (inr (accepts, inr (below, of))) = record {
-        refused = λ not. absurd (not (subst (λ (n : WholeNode). Accepts n link) (same-node other holds) accepts));
-        used_up = λ _ last. absurd (below (fresh.stamp ∙ last));
-      }
-      refused-by k holds own full resident refusal why = absurd own
-
     resident-kept : IsResident old t.pid → t.pid ≡ pid → is_resident q.kept ≡ true
     resident-kept resident same =
         same_Some (is_resident q.kept) true (sym (map-at (λ (p : KeptPage). is_resident p.kept) pages pid q fresh.at) ∙ ap (λ n. slice_get (resident_in pages) n) (sym same) ∙ resident)
@@ -95,12 +72,14 @@ module _ {L : Type 0} (g : Ghosts L) (next : ℕ) (config : Config) (recovered :
     pub refused-tests : t.pid ≡ pid → (refusal : Refusal) → (g.tells → is_resident q.kept ≡ true → RefusesLink q.stamp q.kept link refusal) → TestsFirst g old t link (Err (error_of refusal))
     refused-tests same refusal why held s node is clear own resident there =
         let lies = resident-kept resident same in
-        refused-by node (makes same held s node is clear own there) q.kept (kept-holds is.tells) kept-own fresh.full lies refusal (why is.tells lies)
+        let is_node = node-kept chain node q.kept (makes same held s node is clear own there) (kept-holds is.tells) kept-own fresh.full lies in
+        rw (← fresh.stamp) (tested node link q.stamp refusal (rw is_node at (why is.tells lies)))
 
     -- a link that was taken
     pub taken-tests : t.pid ≡ pid → (after : StickyLog L) (page_then : KeptPage) → TakesLink g before pid q link after page_then → (answer : Swapped NodeLink) → TestsFirst g old t link answer
     taken-tests same after page_then takes answer held s node is clear own resident there =
-        let one = same-node node (makes same held s node is clear own there) takes.tells.node (takes.tells.made is.tells) in
+        let one : takes.tells.node ≡ node
+            = (let e : Node takes.tells.node ≡ Node node = one_content (messages_of chain) (Node takes.tells.node) (Node node) (takes.tells.made is.tells) (makes same held s node is clear own there) in cc) in
         record {
           refused = λ not. absurd (not (subst (λ (n : WholeNode). Accepts n link) one takes.tells.accepts));
           used_up = λ _ last. absurd (takes.tells.below (fresh.stamp ∙ last));
@@ -110,13 +89,7 @@ module _ {L : Type 0} (g : Ghosts L) (next : ℕ) (config : Config) (recovered :
 
     module _ (meets : MeetsDamage g old pid) (after : StickyLog L) (page_then : KeptPage) where
       unappended-wrong : (refusal : Refusal) → RefusesUnappended chain q.stamp link refusal → ReportsWrong chain (error_of refusal)
-      unappended-wrong OutOfMemory why = tt
-      unappended-wrong (Io device) why = tt
-      unappended-wrong (Corruption (Some pointer)) why = why
-      unappended-wrong (ReportableBug LinkRefused) why = absurd (meets.damaged.1 (why.0, why.1))
-      unappended-wrong (Unsupported StampUsedUp) why = absurd (meets.damaged.1 (why.0, why.1))
-      unappended-wrong (Unsupported LogFull) why = absurd (meets.damaged.1 (why.0, why.1))
-      unappended-wrong refusal why = absurd why
+      unappended-wrong refusal why = let none = meets.damaged.1 in grind arith
 
       pub refused-damage : (refusal : Refusal) → RefusesAppended g before pid q link after refusal → page_then.stamp ≡ q.stamp
           → (g.tells → after.fault ≡ false → log.now effect_of_entry (g.state after.log) ≡ log.now effect_of_entry (g.state before.log))

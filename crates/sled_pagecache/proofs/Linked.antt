@@ -1,55 +1,9 @@
 -- What a link makes of the chain of its page.
-use Rattle.sled_pagecache.proofs.Names.{Ghosts, ◌≡◌, ◌+◌, ◌<◌, ℤ, ℕ, Bool, true, false, cond, ltb, List, [], ◌∷◌, ◌++◌, length, map, refl, sym, ◌∙◌, ap, subst, slice_set, slice_index_or, length-map, length-append, map-append, ◌⊎◌, Result, Err, LinkRefused, Read, Write, DiskPtr, Refusal, ReportableBug, Io, is_empty, chains_from, Node, Update, Put, Link, Event, Change, Message, Entry, Chain, Messages, messages_of, placed_entry, effect_of_entry, said_of, IsUpdate, Makes, message_of, Accepts, applied, WholeNode, place_of, Went, IsCaused, begun_by, IsCaused-handed_on, HoldsChain, IsKept, is_free, RefusesSwap, RefusesLink, link_update, infos_after, linked_length, update_of, CacheInfo, StickyLog, Kept, Page, NodeLink}
+use Rattle.sled_pagecache.proofs.Names.{Ghosts, ◌≡◌, ◌+◌, ◌<◌, ℤ, ℕ, Bool, true, false, cond, ltb, List, [], ◌∷◌, ◌++◌, length, map, refl, sym, ◌∙◌, ap, subst, slice_set, slice_index_or, length-map, length-append, map-append, ◌⊎◌, Result, Err, LinkRefused, Read, Write, DiskPtr, Refusal, ReportableBug, Io, is_empty, chains_from, Node, Update, Put, Link, Event, Change, Message, Entry, Chain, Messages, messages_of, placed_entry, effect_of_entry, said_of, IsUpdate, Makes, message_of, Accepts, applied, WholeNode, place_of, Went, IsCaused, begun_by, IsCaused-handed_on, HoldsChain, IsKept, is_free, RefusesSwap, RefusesLink, link_update, infos_after, linked_length, update_of, CacheInfo, StickyLog, Kept, Page, NodeLink, arith}
 use Rattle.sled_pagecache.specs.declared.pagecache.page.Kept.TheVariants as kept
 use Rattle.sled_pagecache.proofs.FoundMessages.{makes-more}
-use Rattle.sled_pagecache.proofs.Swaps.{at-page, other-pages, put-chains}
+use Rattle.sled_pagecache.proofs.Swaps.{at-page, other-pages, put-chains, kept-put}
 use Rattle.sled_pagecache.proofs.Standing.{node-full, kept-free}
-
--- ---- the chain of a page after a link
-
--- the chain after a link
-abbrev pub chain_after : ℕ → Chain → NodeLink → WholeNode → CacheInfo → Chain
-chain_after messages chain link after info =
-    cond (ltb messages 10) (chain ++ placed_entry (message_of (Link link)) (place_of info) ∷ []) (placed_entry (message_of (Put (Node after))) (place_of info) ∷ [])
-
-pub written-chains : (chains : List Chain) (pid : ℕ) → pid < length chains → (messages : ℕ) (link : NodeLink) (after : WholeNode) (info : CacheInfo)
-    → is_empty effect_of_entry (slice_index_or chains pid []) ≡ false
-    → chains_from effect_of_entry chains (Change pid (placed_entry (message_of (link_update messages link after)) (place_of info)))
-    ≡ slice_set chains pid (chain_after messages (slice_index_or chains pid []) link after info)
-written-chains chains pid there messages link after info full = by (ltb messages 10)
-  where
-    by : (b : Bool)
-        → chains_from effect_of_entry chains (Change pid (placed_entry (message_of (cond b (Link link) (Put (Node after)))) (place_of info)))
-        ≡ slice_set chains pid
-        (cond b (slice_index_or chains pid [] ++ placed_entry (message_of (Link link)) (place_of info) ∷ []) (placed_entry (message_of (Put (Node after))) (place_of info) ∷ []))
-    by true = ap (λ b. slice_set chains pid (cond b (slice_index_or chains pid []) (slice_index_or chains pid [] ++ placed_entry (message_of (Link link)) (place_of info) ∷ []))) full
-    by false = put-chains chains pid there (kept.Node after) tt info
-
-pub places-after : (chain : Chain) (infos : List CacheInfo) (link : NodeLink) (after : WholeNode) (info : CacheInfo)
-    → map said_of chain ≡ map place_of infos → map said_of (chain_after (length infos) chain link after info) ≡ map place_of (infos_after infos info)
-places-after chain infos link after info known = by (ltb (length infos) 10)
-  where
-    by : (b : Bool)
-        → map said_of (cond b (chain ++ placed_entry (message_of (Link link)) (place_of info) ∷ []) (placed_entry (message_of (Put (Node after))) (place_of info) ∷ []))
-        ≡ map place_of (cond b (infos ++ info ∷ []) (info ∷ []))
-    by true =
-        map-append said_of chain (placed_entry (message_of (Link link)) (place_of info) ∷ [])
-        ∙ ap (λ (places : List (ℤ × DiskPtr × ℕ)). places ++ place_of info ∷ []) known
-        ∙ sym (map-append place_of infos (info ∷ []))
-    by false = refl
-
-pub makes-after : (messages : ℕ) (chain : Chain) (link : NodeLink) (before made : WholeNode) (info : CacheInfo)
-    → Makes (messages_of chain) (Node before) → Accepts before link → made ≡ applied link before
-    → IsUpdate (message_of (link_update messages link made)) (link_update messages link made) → Makes (messages_of (chain_after messages chain link made info)) (Node made)
-makes-after messages chain link before made info makes accepts applies reads = by (ltb messages 10) reads
-  where
-    by : (b : Bool)
-        → IsUpdate (message_of (cond b (Link link) (Put (Node made)))) (cond b (Link link) (Put (Node made)))
-        → Makes (messages_of (cond b (chain ++ placed_entry (message_of (Link link)) (place_of info) ∷ []) (placed_entry (message_of (Put (Node made))) (place_of info) ∷ []))) (Node made)
-    by true reads =
-        subst (λ (messages : Messages). Makes messages (Node made)) (sym (map-append (λ (entry : Entry). entry.message) chain (placed_entry (message_of (Link link)) (place_of info) ∷ [])))
-        (makes-more (messages_of chain) before (message_of (Link link)) made makes (link, reads, accepts, applies))
-    by false reads = (Node made, reads, refl)
 
 -- what a link wrote, in the words of the page before it
 pub update-is : (messages : ℕ) (infos : List CacheInfo) (link : NodeLink) (before made : WholeNode) (held : Kept)
@@ -59,18 +13,12 @@ update-is messages infos link before made held count is holds =
 
 -- how many messages make the page then
 pub infos-length : (infos : List CacheInfo) (info : CacheInfo) → length (infos_after infos info) ≡ linked_length (length infos)
-infos-length infos info = by (ltb (length infos) 10)
-  where
-    by : (b : Bool) → length (cond b (infos ++ info ∷ []) (info ∷ [])) ≡ cond b (length infos + 1) 1
-    by true = length-append infos (info ∷ [])
-    by false = refl
+infos-length infos info = grind (arith, length-append infos (info ∷ []))
 
 -- ---- a link that was refused
 
 pub begun-handed : (T U : Type 0) (refusal : Refusal) (events : List (Event Message)) → (let one : Result T Refusal = Err refusal in begun_by one events) ≡ (let other : Result U Refusal = Err refusal in begun_by other events)
-begun-handed T U (Io Read) events = refl
-begun-handed T U (Io Write) events = refl
-begun-handed T U refusal events = refl
+begun-handed T U refusal events = grind arith
 
 -- a refusal of the log is handed on
 module _ {L : Type 0} (g : Ghosts L)
@@ -120,29 +68,26 @@ module _ (chains : List Chain) (pid : ℕ) (there : pid < length chains) (page :
   pub page-full : is_empty effect_of_entry (slice_index_or chains pid []) ≡ false
   page-full = node-full (slice_index_or chains pid []) before makes
 
-  -- what was written, in the words of the page before
-  written : link_update messages link made ≡ link_update (length page.infos.items) link made
-  written = ap (λ n. link_update n link made) count
-
-  module _ (after : List Chain) (info : CacheInfo) (came : after ≡ chains_from effect_of_entry chains (Change pid (placed_entry (message_of (link_update messages link made)) (place_of info)))) where
-    abbrev chain : Chain
-    chain = chain_after (length page.infos.items) (slice_index_or chains pid []) link made info
-
-    set-so : after ≡ slice_set chains pid chain
-    set-so = came ∙ ap (λ (u : Update). chains_from effect_of_entry chains (Change pid (placed_entry (message_of u) (place_of info)))) written ∙ written-chains chains pid there (length page.infos.items) link made info page-full
-
-    pub page-others : after ≡ slice_set chains pid (slice_index_or after pid [])
-    page-others = other-pages chains pid there after chain set-so
-
-    pub page-kept : (new : Page) → IsUpdate (message_of (link_update messages link made)) (link_update messages link made)
-        → new.infos.items ≡ infos_after page.infos.items info → new.kept ≡ kept.Node made → IsKept (slice_index_or after pid []) new
-    page-kept new reads infos held =
-        let same = at-page chains pid there after chain set-so in
-        let places = ap (map said_of) same ∙ places-after (slice_index_or chains pid []) page.infos.items link made info (is.places (ap is_free holds)) ∙ sym (ap (map place_of) infos) in
-        record {
-          places = λ _. places;
-          long = sym (length-map (slice_index_or after pid []) said_of) ∙ ap length places ∙ length-map new.infos.items place_of;
-          holds = subst (HoldsChain (slice_index_or after pid [])) (sym held)
-              (subst (λ (c : Chain). Makes (messages_of c) (Node made)) (sym same)
-              (makes-after (length page.infos.items) (slice_index_or chains pid []) link before made info makes accepts applies (subst (λ (u : Update). IsUpdate (message_of u) u) written reads)));
-        }
+  -- what was written is its last message, or its only one
+  pub page-linked : (after : List Chain) (info : CacheInfo) → after ≡ chains_from effect_of_entry chains (Change pid (placed_entry (message_of (link_update messages link made)) (place_of info)))
+      → (new : Page) → IsUpdate (message_of (link_update messages link made)) (link_update messages link made) → new.infos.items ≡ infos_after page.infos.items info → new.kept ≡ kept.Node made
+      → (after ≡ slice_set chains pid (slice_index_or after pid [])) × IsKept (slice_index_or after pid []) new
+  page-linked after info came new reads infos held = by (ltb messages 10) came reads (infos ∙ ap (λ n. cond (ltb n 10) (page.infos.items ++ info ∷ []) (info ∷ [])) (sym count))
+    where
+      by : (b : Bool) → after ≡ chains_from effect_of_entry chains (Change pid (placed_entry (message_of (cond b (Link link) (Put (Node made)))) (place_of info)))
+          → IsUpdate (message_of (cond b (Link link) (Put (Node made)))) (cond b (Link link) (Put (Node made))) → new.infos.items ≡ cond b (page.infos.items ++ info ∷ []) (info ∷ [])
+          → (after ≡ slice_set chains pid (slice_index_or after pid [])) × IsKept (slice_index_or after pid []) new
+      by true came reads infos =
+          let chain = slice_index_or chains pid [] in
+          let last = placed_entry (message_of (Link link)) (place_of info) ∷ [] in
+          let set : after ≡ slice_set chains pid (chain ++ last) = came ∙ ap (λ b. slice_set chains pid (cond b chain (chain ++ last))) page-full in
+          let same = at-page chains pid there after (chain ++ last) set in
+          let more = map-append said_of chain last ∙ ap (λ places. places ++ place_of info ∷ []) (is.places (ap is_free holds)) ∙ sym (ap (map place_of) infos ∙ map-append place_of page.infos.items (info ∷ [])) in
+          (other-pages chains pid there after (chain ++ last) set, record {
+            places = λ _. ap (map said_of) same ∙ more;
+            long = ap length same ∙ sym (length-map (chain ++ last) said_of) ∙ ap length more ∙ length-map new.infos.items place_of;
+            holds = rw (held, same, map-append (λ (entry : Entry). entry.message) chain last) (makes-more (messages_of chain) before (message_of (Link link)) made makes (link, reads, accepts, applies));
+          })
+      by false came reads infos =
+          let set = came ∙ put-chains chains pid there (kept.Node made) tt info in
+          (other-pages chains pid there after _ set, kept-put _ new (kept.Node made) tt info (at-page chains pid there after _ set) infos held reads)

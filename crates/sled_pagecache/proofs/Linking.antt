@@ -34,13 +34,13 @@ module _ {L : Type 0} (g : Ghosts L) (old mid new : StickyLog L) (pid : ℕ) (q 
         went = subst (λ (k : ℕ). Went g old new (Change pid (message_of (link_update k link (applied link node))) ∷ [])) n (joined (events (kept.Node node)) second);
       }
 
-  taken-by : (k : Kept) → (g.tells → HoldsChain chain k) → IsLinked k link page_then.kept → IsUpdate (message_of (update k)) (update k)
+  pub taken : (k : Kept) → (g.tells → HoldsChain chain k) → IsLinked k link page_then.kept → IsUpdate (message_of (update k)) (update k)
       → Went g mid new (events k)
       → IsRaised page.stamp page_then.stamp → (g.tells → IsKept (chain_at (g.state new.log) pid) page_then) → length page_then.infos.items ≡ linked_length (length page.infos.items)
       → (g.tells → now effect_of_entry (g.state new.log) ≡ slice_set (now effect_of_entry (g.state mid.log)) pid (chain_at (g.state new.log) pid))
       → (g.tells → AllByRecursion IsSized (now effect_of_entry (g.state new.log))) → TakesLink g old pid q link new page_then
   unfolding tells
-  taken-by (kept.Node node) holds linked reads second raised kept_then len others sized = record {
+  taken (kept.Node node) holds linked reads second raised kept_then len others sized = record {
     tells = tells node holds linked.0 (let lt = raised.0 in λ last. omega (arith, lt, stamp, last)) reads second;
     raised = subst (λ (n : ℕ). IsRaised n page_then.stamp) stamp raised;
     holds = linked.1;
@@ -49,15 +49,7 @@ module _ {L : Type 0} (g : Ghosts L) (old mid new : StickyLog L) (pid : ℕ) (q 
     others = λ known. others known ∙ ap (λ (l : List Chain). slice_set l pid (chain_at (g.state new.log) pid)) (same known clear);
     sized = sized;
   }
-  taken-by k holds linked reads second raised kept_then len others sized = absurd linked
-
-  pub taken : (result : Result (Unit {0}) Refusal) → OnOk result (IsLinked page.kept link page_then.kept) → OnOk result (IsUpdate (message_of (update page.kept)) (update page.kept))
-      → Went g mid new (begun_by result (events page.kept))
-      → OnOk result (IsRaised page.stamp page_then.stamp) → (g.tells → OnOk result (IsKept (chain_at (g.state new.log) pid) page_then)) → OnOk result (length page_then.infos.items ≡ linked_length (length page.infos.items))
-      → (g.tells → OnOk result (now effect_of_entry (g.state new.log) ≡ slice_set (now effect_of_entry (g.state mid.log)) pid (chain_at (g.state new.log) pid)))
-      → (g.tells → OnOk result (AllByRecursion IsSized (now effect_of_entry (g.state new.log)))) → OnOk result (TakesLink g old pid q link new page_then)
-  taken (Ok done) linked reads second raised kept_then len others sized = taken-by page.kept (λ known. (is known).holds) linked reads second raised kept_then len others sized
-  taken (Err refusal) linked reads second raised kept_then len others sized = tt
+  taken k holds linked reads second raised kept_then len others sized = absurd linked
 
   -- ---- refused
 
@@ -71,33 +63,16 @@ module _ {L : Type 0} (g : Ghosts L) (old mid new : StickyLog L) (pid : ℕ) (q 
   of-log node (Unsupported LogFull) made accepts below why second reads = inl (joined [] second, (node, made, accepts, below))
   of-log node refusal made accepts below why second reads = absurd why
 
-  refused-by : (k : Kept) (refusal : Refusal) → HoldsChain chain k → is_resident k ≡ true → is_free k ≡ false → IsFreeOrNode k → RefusesLink page.stamp k link refusal
+  pub refused : (k : Kept) (refusal : Refusal) → HoldsChain chain k → is_resident k ≡ true → is_free k ≡ false → IsFreeOrNode k → RefusesLink page.stamp k link refusal
       → (let err : Result (Unit {0}) Refusal = Err refusal in Went g mid new (begun_by err (events k)))
       → (refusal ≡ Io Write → IsUpdate (message_of (update k)) (update k))
       → RefusesAppended g old pid q link new refusal
-  refused-by kept.Free refusal holds there full own why = absurd (false≢true (sym full))
-  refused-by kept.Away refusal holds there full own why = absurd (false≢true there)
-  refused-by (kept.Node node) refusal holds there full own (inl (not, why)) = rw why (λ second reads. inl (joined [] second, (node, holds, not)))
-  refused-by (kept.Node node) refusal holds there full own (inr (accepts, inl (last, why))) = rw why (λ second reads. inl (joined [] second, (node, holds, accepts, sym stamp ∙ last)))
-  refused-by (kept.Node node) refusal holds there full own (inr (accepts, inr (below, why))) = of-log node refusal holds accepts (λ last. below (stamp ∙ last)) why
-  refused-by k refusal holds there full own why = absurd own
-
-  pub refused : g.tells → is_free page.kept ≡ false → IsFreeOrNode page.kept → (result : Result (Unit {0}) Refusal) → IfErr result (RefusesLink page.stamp page.kept link)
-      → Went g mid new (begun_by result (events page.kept))
-      → (IsErrOf result (Io Write) → IsUpdate (message_of (update page.kept)) (update page.kept))
-      → IfErr result (RefusesAppended g old pid q link new)
-  refused known full own (Ok done) why second reads = tt
-  refused known full own (Err refusal) why second reads =
-      let again : Refusal → Result (Unit {0}) Refusal = λ r. Err r in
-      refused-by page.kept refusal (is known).holds resident full own why second (λ write. reads (ap again write))
-
-  -- what was begun
-  pub begun : (result : Result (Unit {0}) Refusal) → Went g mid new (begun_by result (events page.kept)) → WasBegun g old new
-  begun result second = record {
-    came = begun_by result (events page.kept);
-    marks = λ was. marks-begun result pid (message_of (update page.kept)) was;
-    went = joined (begun_by result (events page.kept)) second;
-  }
+  refused kept.Free refusal holds there full own why = absurd (false≢true (sym full))
+  refused kept.Away refusal holds there full own why = absurd (false≢true there)
+  refused (kept.Node node) refusal holds there full own (inl (not, why)) = rw why (λ second reads. inl (joined [] second, (node, holds, not)))
+  refused (kept.Node node) refusal holds there full own (inr (accepts, inl (last, why))) = rw why (λ second reads. inl (joined [] second, (node, holds, accepts, sym stamp ∙ last)))
+  refused (kept.Node node) refusal holds there full own (inr (accepts, inr (below, why))) = of-log node refusal holds accepts (λ last. below (stamp ∙ last)) why
+  refused k refusal holds there full own why = absurd own
 
   -- ---- its cause
 
@@ -122,15 +97,3 @@ module _ {L : Type 0} (g : Ghosts L) (old mid new : StickyLog L) (pid : ℕ) (q 
         full = λ said known. full-by page.kept (is known).holds (subst (λ (r : Result (Unit {0}) Refusal). IfErr r (RefusesLink page.stamp page.kept link)) said (why known)) room (since.full said);
       }
 
-  -- ---- how often the log was read
-
-  pub read-at_most : (result : Result (Unit {0}) Refusal) → (is_resident q.kept ≡ true → mid ≡ old)
-      → (is_resident q.kept ≡ false → (g.counts mid.log).reads ≡ count_after (length q.infos.items) (g.counts old.log).reads)
-      → (g.counts new.log).reads ≡ (g.counts mid.log).reads
-      → OnErr result ((times : ℕ) × (times ≤ length q.infos.items) × ((g.counts new.log).reads ≡ count_after times (g.counts old.log).reads))
-  read-at_most (Ok done) unread whole quiet = tt
-  read-at_most (Err refusal) unread whole quiet = by (is_resident q.kept) refl
-    where
-      by : (b : Bool) → is_resident q.kept ≡ b → (times : ℕ) × (times ≤ length q.infos.items) × ((g.counts new.log).reads ≡ count_after times (g.counts old.log).reads)
-      by true held = (0, omega arith, quiet ∙ ap (λ (j : StickyLog L). (g.counts j.log).reads) (unread held))
-      by false held = (length q.infos.items, omega arith, quiet ∙ whole held)

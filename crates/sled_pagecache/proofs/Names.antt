@@ -158,7 +158,7 @@ pub use Rattle.std.proofs.Math.Nat.{add-mul-div_right, div-mul-le_self, lt-div-m
 pub use Rattle.sled_pagecache.specs.Answers.{GivesId, IsBelowCounter, IsCovered}
 pub use Rattle.std.specs.BTreeSet.{insert_key}
 pub use Rattle.std.specs.Ordering.{nat_cmp}
-pub use Rattle.sled_pagecache.specs.Inside.Eviction.{AreOut, Evicts, IsOutAt, IsSettled, allocated_behind, answer_behind, cache_of, cache_of as view, lost_by, lost_pages}
+pub use Rattle.sled_pagecache.specs.Inside.Eviction.{AreOut, Evicts, IsOutAt, IsSettled, allocated_behind, answer_behind, cache_of, cache_of as view, left_pages, lost_by, lost_pages}
 pub use Rattle.sled_node.specs.Meta.{IsRootMap, changed_roots, root_of, with_root, without_root}
 pub use Rattle.sled_pagecache.specs.Inside.CounterPage.{IsCounterIn, KeepsCounter}
 pub use Rattle.std.specs.BTreeMap.{is_at}

@@ -1,11 +1,8 @@
 -- What a page more makes of the chains, and of the table.
 use Rattle.sled_pagecache.proofs.Names.{◌≡◌, ℕ, cond, List, [], ◌∷◌, ◌++◌, length, map, refl, sym, ◌∙◌, ap, eq-eqb, slice_set, slice_index_or, chains_from, Node, Put, Change, Entry, Chain, placed_entry, effect_of_entry, IsUpdate, message_of, WholeNode, HasOneMore, place_of, IsKept, CacheInfo, Page}
+use Rattle.std.proofs.Math.Seq.{get_or-append_seam}
 use Rattle.sled_pagecache.proofs.Swaps.{kept-put}
 use Rattle.sled_pagecache.specs.declared.pagecache.page.Kept.TheVariants as kept
-
-at-last : (chains : List Chain) (chain : Chain) → slice_index_or (chains ++ chain ∷ []) (length chains) [] ≡ chain
-at-last [] chain = refl
-at-last (first ∷ chains) chain = at-last chains chain
 
 -- the only one of a list that was empty
 pub only-one : (infos before : List CacheInfo) (info : CacheInfo) → infos ≡ before ++ info ∷ [] → before ≡ [] → infos ≡ info ∷ []
@@ -21,7 +18,7 @@ module _ (chains : List Chain) (pid : ℕ) (last : pid ≡ length chains) (after
 
   -- the chain of the new page
   pub added-at : slice_index_or after pid [] ≡ entry ∷ []
-  added-at = ap (λ (l : List Chain). slice_index_or l pid []) added ∙ ap (λ n. slice_index_or (chains ++ (entry ∷ []) ∷ []) n []) last ∙ at-last chains (entry ∷ [])
+  added-at = ap (λ (l : List Chain). slice_index_or l pid []) added ∙ ap (λ n. slice_index_or (chains ++ (entry ∷ []) ∷ []) n []) last ∙ get_or-append_seam chains (entry ∷ []) [] []
 
   -- stands behind the others
   pub added-others : after ≡ chains ++ slice_index_or after pid [] ∷ []

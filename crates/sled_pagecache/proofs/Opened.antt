@@ -5,15 +5,6 @@ use Rattle.sled_pagecache.proofs.Sizes.{sized-view}
 
 -- ---- the pages that are opened
 
-roots-none : (size : ℕ) (k : Kept) → IsRoots k → size_if size k ≡ None
-roots-none size k is = grind arith
-
-counter-none : (size : ℕ) (k : Kept) → IsCounter k → size_if size k ≡ None
-counter-none size k is = grind arith
-
-unread-none : (size : ℕ) (k : Kept) → IsUnread k → size_if size k ≡ None
-unread-none size k unread = grind arith
-
 none-kept : (pid : ℕ) (q : Page) → IsOwnAt pid q.kept → (2 ≤ pid → IsUnread q.kept) → node_access_size q ≡ None
 none-kept pid q h1 h2 = grind arith
 

@@ -3,7 +3,7 @@ use Rattle.sled_pagecache.proofs.Names.{◌≡◌, ◌≤◌, ◌<◌, ◌&&◌,
 use Rattle.sled_base.specs.declared.kinds.MessageKind.TheVariants as kinds
 use Rattle.sled_node.specs.Meta as meta
 use Rattle.sled_pagecache.proofs.Linked.{full-free}
-use Rattle.sled_pagecache.proofs.Pulls.{makes-found, found-makes, begins-full}
+use Rattle.sled_pagecache.proofs.Pulls.{found-makes, begins-full}
 use Rattle.sled_pagecache.proofs.RecoveredPages.{first-place}
 use Rattle.sled_pagecache.proofs.Standing.{kept-free}
 
@@ -14,9 +14,6 @@ IsOwn (Roots roots) = Unit {0}
 IsOwn (Counter n) = Unit {0}
 IsOwn other = ⊥
 
-own-effect : (content : Content) → IsOwn content → is_freeing (effect_of_update (Put content)) ≡ false
-own-effect content own = grind arith
-
 -- what leads from a node leads to a node
 node-leads : (node : WholeNode) (messages : Messages) (content : Content) → IsOwn content → LeadTo (Node node) messages content → ⊥
 node-leads node [] content own h = subst IsOwn (sym h) own
@@ -25,7 +22,7 @@ node-leads node (m ∷ messages) content own h = node-leads (applied h.1 h.0) me
 pub own-one : (chain : Chain) (content : Content) → IsOwn content → Makes (messages_of chain) content → (length chain ≡ 1) × (is_empty effect_of_entry chain ≡ false)
 own-one [] content own h = absurd h
 own-one (entry ∷ []) content own h =
-    (refl, ap is_freeing (reads_effect entry.message.kind entry.message.payload (Put h.0) h.1) ∙ ap (λ (c : Content). is_freeing (effect_of_update (Put c))) h.2 ∙ own-effect content own)
+    (refl, ap is_freeing (reads_effect entry.message.kind entry.message.payload (Put h.0) h.1) ∙ ap (λ (c : Content). is_freeing (effect_of_update (Put c))) h.2 ∙ (let e : is_freeing (effect_of_update (Put content)) ≡ false = grind arith in e))
 own-one (entry ∷ next ∷ chain) content own h = absurd (node-leads (applied h.2.1 h.2.0) (messages_of chain) content own h.2.5)
 
 -- ---- which pages are so
@@ -40,18 +37,14 @@ own-fits pid chain page content is own makes =
     let full = full-free chain page.kept one.1 is.kept.holds in
     grind (arith, nat_tests, one.0, sole, full)
 
-long-misfit : (pid len : ℕ) (free : Bool) → 2 ≤ pid → misfit_by pid len free ≡ true → 10 < len
-long-misfit pid len free from misfit = grind (arith, nat_tests)
-
 -- a page that no cache leaves so isn't fit
 pub misfit-unfit : (pid : ℕ) (chain : Chain) (page : Page) → IsLoaded chain page → is_misfit pid page ≡ true → ¬ IsFit pid chain
 misfit-unfit zero chain page is misfit fit = false≢true (sym (own-fits 0 chain page (Roots fit.0) is tt fit.1) ∙ misfit)
 misfit-unfit (suc zero) chain page is misfit fit = false≢true (sym (own-fits 1 chain page (Counter fit.0) is tt fit.1) ∙ misfit)
 misfit-unfit (suc (suc pid)) chain page is misfit fit =
-    let long = long-misfit (suc (suc pid)) (length page.infos.items) (is_free page.kept) (omega arith) misfit in
     let same = is.kept.long in
     let short : length chain ≤ 10 = fit in
-    absurd (omega (arith, long, same, short))
+    grind (arith, nat_tests)
 
 -- a system page that is fit has one message, and isn't free
 pub fits-one : (pid len : ℕ) (free : Bool) → pid < 2 → 0 < len → misfit_by pid len free ≡ false → (len ≡ 1) × (free ≡ false)
@@ -89,32 +82,14 @@ found-at (entry ∷ chain) first zip = ap (λ (p : DiskPtr). Some p) (sym zip.0.
 
 -- ---- what one message makes
 
-pub made-one : (chain : Chain) (first : Found) (content : Content) → AllZip IsFoundAs chain (first ∷ []) → IsUpdate (found_message first) (Put content) → Makes (messages_of chain) content
-made-one chain first content zip reads = makes-found chain (first ∷ []) content zip (content, reads, refl)
-
-one-made : (chain : Chain) (first : Found) (content : Content) → AllZip IsFoundAs chain (first ∷ []) → Makes (messages_of chain) content → IsUpdate (found_message first) (Put content)
+pub one-made : (chain : Chain) (first : Found) (content : Content) → AllZip IsFoundAs chain (first ∷ []) → Makes (messages_of chain) content → IsUpdate (found_message first) (Put content)
 one-made chain first content zip makes =
     let made = found-makes chain (first ∷ []) content zip makes in
     subst (λ (c : Content). IsUpdate (found_message first) (Put c)) made.2 made.1
 
 -- ---- why the one message was refused
 
-module _ (chain : Chain) (first : Found) (zip : AllZip IsFoundAs chain (first ∷ [])) where
-  refuses-at : (pid : ℕ) (amiss : Type 0) → (amiss → ¬ IsFit pid chain) → (e : Refusal) → RefusesMessage first.pointer amiss e → RefusesOwn pid chain e
-  refuses-at pid amiss unfit OutOfMemory r = tt
-  refuses-at pid amiss unfit (Corruption (Some pointer)) r = (unfit r.1, found-at chain first zip ∙ ap (λ (p : DiskPtr). Some p) (sym r.0))
-  refuses-at pid amiss unfit e r = absurd r
-
-  pub refuses-roots : (e : Refusal) → RefusesMessage first.pointer ((roots : meta.Roots) → ¬ IsUpdate (found_message first) (Put (Roots roots))) e → RefusesOwn 0 chain e
-  refuses-roots e r = refuses-at 0 _ (λ amiss fit. amiss fit.0 (one-made chain first (Roots fit.0) zip fit.1)) e r
-
-  pub refuses-counter : (e : Refusal) → RefusesMessage first.pointer ((n : ℕ) → ¬ IsUpdate (found_message first) (Put (Counter n))) e → RefusesOwn 1 chain e
-  refuses-counter e r = refuses-at 1 _ (λ amiss fit. amiss fit.0 (one-made chain first (Counter fit.0) zip fit.1)) e r
-
--- ---- what a payload encodes
-
-pub roots_encoded : (kind : MessageKind) (payload : List ℕ) (roots : meta.Roots) → Decodes kind payload (Put (Roots roots)) → ReadsRoots payload roots []
-roots_encoded kind payload roots h = grind arith
-
-pub counter_encoded : (kind : MessageKind) (payload : List ℕ) (n : ℕ) → Decodes kind payload (Put (Counter n)) → ReadsU64 payload n []
-counter_encoded kind payload n h = grind arith
+pub refuses-one : (chain : Chain) (first : Found) → AllZip IsFoundAs chain (first ∷ []) → (pid : ℕ) (amiss : Type 0) → (amiss → ¬ IsFit pid chain) → (e : Refusal) → RefusesMessage first.pointer amiss e → RefusesOwn pid chain e
+refuses-one chain first zip pid amiss unfit OutOfMemory r = tt
+refuses-one chain first zip pid amiss unfit (Corruption (Some pointer)) r = (unfit r.1, found-at chain first zip ∙ ap (λ (p : DiskPtr). Some p) (sym r.0))
+refuses-one chain first zip pid amiss unfit e r = absurd r

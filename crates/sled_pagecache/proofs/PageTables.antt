@@ -1,101 +1,86 @@
 -- What a table keeps at an id, and what a change of one of its chunks makes of it.
-use Rattle.sled_pagecache.proofs.Names.{◌≡◌, ◌+◌, ◌-◌, ◌*◌, ◌/◌, ◌%◌, ◌<◌, ◌≤◌, ℕ, Bool, true, List, [], ◌∷◌, ◌++◌, length, Some, None, slice_get, get_or, set, vec_len, vec_capacity, nat_lt, refl, sym, ◌∙◌, ap, arith, lt-ltb, ltb-true, and_parts, and_from, slice_get_past, slice_get_within, get_or_from_slice_get, Vec, option_and_then, with_item, Page, TableView, pages_in, AreFilled, at_last, is_unfilled, has_room, view_of, IsPageTable, fan, most_pages}
+use Rattle.sled_pagecache.proofs.Names.{◌≡◌, ◌+◌, ◌-◌, ◌*◌, ◌/◌, ◌%◌, ◌<◌, ◌≤◌, ℕ, Bool, List, [], ◌∷◌, ◌++◌, length, take, Some, None, slice_get, get_or, set, vec_len, refl, sym, ◌∙◌, ap, subst, arith, cases_lt, append_assoc, length-append, length-set, slice_get_past, slice_get_read, slice_get_within, get_or_from_slice_get, Vec, option_and_then, with_item, Page, TableView, pages_in, AreFilled, at_last, is_unfilled, nat_lt, lt-ltb, ltb-true, and_parts, and_from, vec_capacity, true, has_room, view_of, IsPageTable, fan, most_pages, past-end, ⊎_elim}
 use Rattle.sled_pagecache.proofs.PageChunks as of_chunks
 use Rattle.sled_pagecache.specs.Lending.{with_page}
 
 -- ---- the page at an id
 
-module _ (chunks : List (Vec Page)) (table : TableView) (is : IsPageTable chunks) (seen : view_of chunks ≡ table) (pid left right : ℕ) (is_left : left ≡ pid / fan) (is_right : right ≡ pid % fan) where
-  same-pages : pages_in chunks ≡ table.pages
-  same-pages = ap (λ (t : TableView). t.pages) seen
+module _ {chunks : List (Vec Page)} (is : IsPageTable chunks) (pid : ℕ) {left right : ℕ} (is_left : left ≡ pid / fan) (is_right : right ≡ pid % fan) where
+  place : left * fan + right ≡ pid
+  place = omega arith
 
-  pub none-at : length chunks ≤ left → slice_get table.pages pid ≡ None
-  none-at past =
-      ap (λ (pages : List Page). slice_get pages pid) (sym same-pages) ∙ of_chunks.page-of fan (omega arith) chunks is.filled pid left right is_left is_right ∙ ap (option_and_then (λ (chunk : Vec Page). slice_get chunk.items right)) (slice_get_past chunks left past)
+  pub page-of : slice_get (pages_in chunks) pid ≡ option_and_then (λ (chunk : Vec Page). slice_get chunk.items right) (slice_get chunks left)
+  page-of = ap (slice_get (pages_in chunks)) (sym place) ∙ of_chunks.page-at fan chunks left right is.filled (omega arith)
 
-  pub page-at : (chunk : Vec Page) → left < length chunks → chunk ≡ get_or chunks left chunk → slice_get table.pages pid ≡ slice_get chunk.items right
-  page-at chunk within at =
-      ap (λ (pages : List Page). slice_get pages pid) (sym same-pages) ∙ of_chunks.page-in fan (omega arith) chunks is.filled pid left right is_left is_right chunk within at
+  pub page-in : {chunk : Vec Page} → slice_get chunks left ≡ Some chunk → slice_get (pages_in chunks) pid ≡ slice_get chunk.items right
+  page-in at = page-of ∙ ap (option_and_then (λ (chunk : Vec Page). slice_get chunk.items right)) at
 
-  module _ (few : pid < length table.pages) where
+  pub none-at : length chunks ≤ left → slice_get (pages_in chunks) pid ≡ None
+  none-at past = page-of ∙ ap (option_and_then (λ (chunk : Vec Page). slice_get chunk.items right)) (slice_get_past chunks left past)
+
+  module _ (few : pid < length (pages_in chunks)) where
     pub chunk-within : left < length chunks
-    chunk-within =
-        of_chunks.left-within fan (omega arith) chunks is.filled pid left right is_left is_right (omega (arith, ap length same-pages))
+    chunk-within = ⊎_elim (λ lt. lt) (λ past. absurd (omega (arith, few, past-end (pages_in chunks) pid (none-at past)))) (cases_lt left (length chunks))
 
-    module _ (chunk : Vec Page) (at : chunk ≡ get_or chunks left chunk) where
+    module _ {chunk : Vec Page} (lent : chunk ≡ get_or chunks left chunk) where
+      at : slice_get chunks left ≡ Some chunk
+      at = slice_get_read chunks (length chunks) left chunk refl chunk-within lent
+
       pub page-within : right < vec_len chunk
       page-within =
-          of_chunks.right-within fan (omega arith) chunks is.filled pid left right is_left is_right chunk chunk-within at (omega (arith, ap length same-pages))
+          ⊎_elim (λ lt. lt) (λ past. absurd (omega (arith, few, past-end (pages_in chunks) pid (page-in at ∙ slice_get_past chunk.items right (omega (arith, past, chunk.ok.0)))))) (cases_lt right (vec_len chunk))
 
-      pub page-is : (page : Page) → page ≡ get_or chunk.items right page → slice_get table.pages pid ≡ Some page
-      page-is page is_page =
-          ap (λ (pages : List Page). slice_get pages pid) (sym same-pages) ∙ of_chunks.page-is fan (omega arith) chunks is.filled pid left right is_left is_right chunk chunk-within at page page-within is_page
+      pub page-is : (page : Page) → page ≡ get_or chunk.items right page → slice_get (pages_in chunks) pid ≡ Some page
+      page-is page is_page = page-in at ∙ slice_get_read chunk.items (vec_len chunk) right page chunk.ok.0 page-within is_page
 
-      -- what is seen with another page at the id
+      -- another page at the id
       module _ (page : Page) where
-        abbrev after : List (Vec Page)
-        after = set chunks left (with_item chunk right page)
+        pages-after : pages_in (set chunks left (with_item chunk right page)) ≡ set (pages_in chunks) pid page
+        pages-after = of_chunks.pages-set fan chunks left right chunk page at is.filled page-within ∙ ap (λ i. set (pages_in chunks) i page) place
 
-        pages-after : pages_in after ≡ set (pages_in chunks) pid page
-        pages-after =
-            of_chunks.pages-set fan chunks left is.filled chunk-within chunk at (with_item chunk right page) right page page-within refl ∙ ap (λ (i : ℕ). set (pages_in chunks) i page) (of_chunks.place fan pid left right is_left is_right)
-
-        pub seen-after : view_of after ≡ with_page table pid page
+        pub seen-after : view_of (set chunks left (with_item chunk right page)) ≡ with_page (view_of chunks) pid page
         seen-after =
             let make : List Page → Bool → TableView = λ pages room. record { pages = pages; room = room } in
-            ap (λ (pages : List Page). make pages (at_last (has_room fan) after)) pages-after ∙ ap (make (set (pages_in chunks) pid page)) (of_chunks.at_last-same (has_room fan) chunks left chunk (with_item chunk right page) at refl)
-            ∙ ap (λ (t : TableView). with_page t pid page) seen
+            ap (λ pages. make pages (at_last (has_room fan) (set chunks left (with_item chunk right page)))) pages-after ∙ ap (make (set (pages_in chunks) pid page)) (of_chunks.at_last-same (has_room fan) chunks left chunk (with_item chunk right page) lent refl)
 
--- ---- how many pages there are
-
-pub table-length : (chunks : Vec (Vec Page)) → IsPageTable chunks.items → (row : List (Vec Page)) → row ≡ chunks.items → (last : Vec Page) → Some last ≡ slice_get row (length row - 1) → length (pages_in chunks.items) ≡ (vec_len chunks - 1) * fan + vec_len last
-table-length chunks is row same last at =
-    let len = ap length same in
-    let within = slice_get_within row (length row - 1) last (sym at) in
-    let place : length row - 1 ≡ vec_len chunks - 1 = omega (arith, chunks.ok.0) in
-    let found : slice_get chunks.items (vec_len chunks - 1) ≡ Some last = ap (λ (items : List (Vec Page)). slice_get items (vec_len chunks - 1)) (sym same) ∙ ap (slice_get row) (sym place) ∙ sym at in
-    of_chunks.length-pages fan chunks.items (vec_len chunks - 1) is.filled (omega (arith, chunks.ok.0)) last (sym (get_or_from_slice_get chunks.items (vec_len chunks - 1) last last found)) (omega (arith, chunks.ok.0))
-
--- the chunks with an empty one more, or the same
-pub opened : (old new : List (Vec Page)) → IsPageTable old → pages_in new ≡ pages_in old → AreFilled fan new → IsPageTable new
-opened old new is same filled = record {
-  filled = filled;
-  few = omega (arith, ap length same, is.few);
-}
-
--- ---- another chunk for one chunk
-
-module _ (chunks : List (Vec Page)) (is : IsPageTable chunks) (left : ℕ) (within : left < length chunks) (chunk : Vec Page) (at : chunk ≡ get_or chunks left chunk) where
-  pub stays-table : (new : Vec Page) → vec_len new ≡ vec_len chunk → IsPageTable (set chunks left new)
-  stays-table new len = record {
-    filled = of_chunks.filled-same fan chunks left is.filled within chunk at new len;
-    few = omega (arith, of_chunks.length-after fan chunks left is.filled within chunk at new, is.few);
-  }
-
-  pub pages-stay : (new : Vec Page) → new.items ≡ chunk.items → pages_in (set chunks left new) ≡ pages_in chunks
-  pages-stay new same = of_chunks.pages-same fan chunks left is.filled within chunk at new same
-
--- ---- another last chunk
-
-module _ (chunks : List (Vec Page)) (last : ℕ) (is_last : last + 1 ≡ length chunks) (chunk : Vec Page) (at : chunk ≡ get_or chunks last chunk) where
-  -- where there is room, the chunk isn't full
-  pub room-in : at_last (has_room fan) chunks ≡ true → vec_len chunk < fan
-  room-in room =
-      let here : has_room fan chunk ≡ true = sym (of_chunks.at_last-read (has_room fan) chunks last chunk is_last at) ∙ room in
-      ltb-true (vec_len chunk) fan (and_parts (is_unfilled fan chunk) (nat_lt (vec_len chunk) (vec_capacity chunk)) here).0
-
-  pub room-after : at_last (is_unfilled fan) chunks ≡ true → (new : Vec Page) → vec_len new ≡ vec_len chunk → vec_len new < vec_capacity new → at_last (has_room fan) (set chunks last new) ≡ true
-  room-after is_open_last new len spare =
-      let few = ltb-true (vec_len chunk) fan (sym (of_chunks.at_last-read (is_unfilled fan) chunks last chunk is_last at) ∙ is_open_last) in
-      of_chunks.at_last-set (has_room fan) chunks last new is_last ∙ and_from (is_unfilled fan new) (nat_lt (vec_len new) (vec_capacity new)) (lt-ltb (vec_len new) fan (omega arith)) (lt-ltb (vec_len new) (vec_capacity new) spare)
-
-  module _ (is : IsPageTable chunks) (new : Vec Page) where
-    pub grows-table : at_last (has_room fan) chunks ≡ true → length (pages_in chunks) < most_pages → vec_len new ≤ vec_len chunk + 1 → IsPageTable (set chunks last new)
-    grows-table room few more =
-        let short = room-in room in record {
-          filled = of_chunks.filled-last fan chunks last is.filled (omega arith) chunk at new is_last (omega arith);
-          few = omega (arith, of_chunks.length-after fan chunks last is.filled (omega arith) chunk at new);
+        pub stays-table : IsPageTable (set chunks left (with_item chunk right page))
+        stays-table = record {
+          filled = of_chunks.filled-same fan chunks left chunk (with_item chunk right page) at is.filled refl;
+          few = omega (arith, ap length pages-after, length-set (pages_in chunks) pid page, is.few);
         }
 
-    pub pages-grow : (page : Page) → new.items ≡ chunk.items ++ page ∷ [] → pages_in (set chunks last new) ≡ pages_in chunks ++ page ∷ []
-    pages-grow page more = of_chunks.pages-more fan chunks last is.filled (omega arith) chunk at is_last new page more
+-- ---- the last chunk
+
+pub table-length : {chunks : List (Vec Page)} → IsPageTable chunks → {chunk : Vec Page} → Some chunk ≡ slice_get chunks (length chunks - 1) → length (pages_in chunks) ≡ (length chunks - 1) * fan + vec_len chunk
+table-length {chunks} is {chunk} at =
+    let last = length chunks - 1 in
+    let some = slice_get_within chunks last chunk (sym at) in
+    let was = of_chunks.ends-in chunks last (omega arith) chunk (sym (get_or_from_slice_get chunks last chunk chunk (sym at))) in
+    let front = take last chunks in
+    let filled = of_chunks.length-front fan front chunk (subst (AreFilled fan) was is.filled) in
+    omega (arith, ap length (ap pages_in was ∙ of_chunks.pages-push front chunk), length-append (pages_in front) chunk.items, chunk.ok.0, filled.0, ap length was, length-append front (chunk ∷ []))
+
+module _ (chunks : List (Vec Page)) (last : ℕ) (is_last : last + 1 ≡ length chunks) {chunk : Vec Page} (lent : chunk ≡ get_or chunks last chunk) where
+  last-test : (test : Vec Page → Bool) → at_last test chunks ≡ test chunk
+  last-test test = ap (at_last test) (of_chunks.ends-in chunks last is_last chunk lent) ∙ of_chunks.at_last-push test (take last chunks) chunk
+
+  -- where there is room, the chunk isn't full
+  pub room-in : at_last (has_room fan) chunks ≡ true → vec_len chunk < fan
+  room-in room = ltb-true (vec_len chunk) fan (and_parts (is_unfilled fan chunk) (nat_lt (vec_len chunk) (vec_capacity chunk)) (sym (last-test (has_room fan)) ∙ room)).0
+
+  pub room-after : at_last (is_unfilled fan) chunks ≡ true → (new : Vec Page) → vec_len new ≡ vec_len chunk → vec_len new < vec_capacity new → at_last (has_room fan) (set chunks last new) ≡ true
+  room-after is_open new len spare =
+      let few = ltb-true (vec_len chunk) fan (sym (last-test (is_unfilled fan)) ∙ is_open) in
+      ap (at_last (has_room fan)) (of_chunks.ends chunks last is_last new) ∙ of_chunks.at_last-push (has_room fan) (take last chunks) new ∙ and_from (is_unfilled fan new) (nat_lt (vec_len new) (vec_capacity new)) (lt-ltb (vec_len new) fan (omega arith)) (lt-ltb (vec_len new) (vec_capacity new) spare)
+
+  -- another one in place of it, with more pages
+  pub grown : IsPageTable chunks → (new : Vec Page) (more : List Page) → new.items ≡ chunk.items ++ more → (vec_len chunk ≤ fan → vec_len new ≤ fan) → length (pages_in chunks) + length more ≤ most_pages
+      → IsPageTable (set chunks last new) × (pages_in (set chunks last new) ≡ pages_in chunks ++ more)
+  grown is new more items few room =
+      let front = take last chunks in
+      let was = of_chunks.ends-in chunks last is_last chunk lent in
+      let then = of_chunks.ends chunks last is_last new in
+      let pages : pages_in (set chunks last new) ≡ pages_in chunks ++ more =
+      ap pages_in then ∙ of_chunks.pages-push front new ∙ ap (λ (l : List Page). pages_in front ++ l) items ∙ sym (append_assoc (pages_in front) chunk.items more) ∙ ap (λ (l : List Page). l ++ more) (sym (ap pages_in was ∙ of_chunks.pages-push front chunk)) in
+      let filled = subst (AreFilled fan) was is.filled in
+      (record { filled = subst (AreFilled fan) (sym then) (of_chunks.filled-last fan front chunk new filled (few (of_chunks.length-front fan front chunk filled).1)); few = omega (arith, ap length pages, length-append (pages_in chunks) more, room) }, pages)

@@ -1,21 +1,11 @@
 -- A page that is brought into memory: the table beside its log, and what one sees who knows the cache by its model.
-use Rattle.sled_pagecache.proofs.Names.{Recency, ◌≡◌, ◌≤◌, inr, ℕ, Bool, true, false, List, [], length, Some, Result, Ok, Err, slice_get, slice_set, slice_index_or, refl, sym, ◌∙◌, ap, subst, arith, false≢true, false_from_ne_true, map-set, set-get_or, length-map, get_or_past, none-some, same_Some, slice_get_past, AllZip-long, AllByRecursion, IfErr, OnOk, OnErr, IsOk, Refusal, is_open, open_after, is_empty, is_chain, Event, Message, Chain, effect_of, effect_of_entry, IsSized, Ghosts, Cache, chain_length, IsResident, IsAway, chain_at, count_after, Went, IsCaused, Went-none, HoldsChain, IsKept, is_free, is_resident, RefusesReading, BringsIn, RefusesPull, IsDamaged, ReadsPage, is_reserved, stamps_in, resident_in, IsFreeOrNode, IsConsistent, Config, StickyLog, Kept, Page, unplaced_state, IsLeft, now, view, map-at, set-at, put-back, all-at, behind-own, kept-at, own-at}
+use Rattle.sled_pagecache.proofs.Names.{Recency, on_ok_weaker, on_err_weaker, ⊎_elim, cases_Bool, ◌≡◌, ◌≤◌, inr, ℕ, Bool, true, false, List, [], length, Some, Result, Ok, Err, slice_get, slice_set, slice_index_or, refl, sym, ◌∙◌, ap, subst, arith, false≢true, false_from_ne_true, map-set, set-get_or, length-map, get_or_past, none-some, same_Some, slice_get_past, AllZip-long, AllByRecursion, IfErr, OnOk, OnErr, IsOk, Refusal, is_open, open_after, is_empty, is_chain, Event, Message, Chain, effect_of, effect_of_entry, IsSized, Ghosts, Cache, chain_length, IsResident, IsAway, chain_at, count_after, Went, IsCaused, Went-none, HoldsChain, IsKept, is_free, is_resident, RefusesReading, BringsIn, RefusesPull, IsDamaged, ReadsPage, is_reserved, stamps_in, resident_in, IsFreeOrNode, IsConsistent, Config, StickyLog, Kept, Page, unplaced_state, IsLeft, now, view, map-at, set-at, put-back, all-at, behind-own, kept-at, own-at}
 use Rattle.sled_pagecache.proofs.LeftPages.{leaves-went}
-use Rattle.sled_pagecache.proofs.ReadCounts.{reads-none, reads-whole, reads-part}
 use Rattle.sled_pagecache.proofs.Tables.{IsSet, consistent-set, free-same}
 
 -- how many messages make a page
 pub places-length : (chain : Chain) (page : Page) → IsKept chain page → length chain ≡ length page.infos.items
 places-length chain page is = is.long
-
--- a page that lies in memory isn't damaged
-pub undamaged : (chain : Chain) (k : Kept) → is_resident k ≡ true → IsFreeOrNode k → HoldsChain chain k → ¬ IsDamaged chain
-undamaged chain k resident own holds damaged = grind arith
-
--- a page that a refused pull leaves doesn't lie in memory
-pub part-pulled : (q page : Page) (P : ℕ → Type 0) (result : Result (Unit {0}) Refusal) → OnErr result (page.kept ≡ q.kept) → OnErr result ((times : ℕ) × (times ≤ length q.infos.items) × P times)
-    → is_resident q.kept ≡ false → OnErr result ((is_resident page.kept ≡ false) × (times : ℕ) × (times ≤ length q.infos.items) × P times)
-part-pulled q page P result h1 h2 h3 = grind arith
 
 module _ {L : Type 0} (g : Ghosts L) (before after : StickyLog L) (pages : List Page) (free : List ℕ) (pid : ℕ) (q page : Page)
     (c : IsConsistent g.tells g.state before pages free) (ready : before.fault ≡ false) (behind : is_reserved pid ≡ false) (at : slice_get pages pid ≡ Some q) where
@@ -31,19 +21,6 @@ module _ {L : Type 0} (g : Ghosts L) (before after : StickyLog L) (pages : List 
   pub page-short-at : length q.infos.items ≤ 10
   page-short-at = all-at (λ (p : Page). length p.infos.items ≤ 10) pages pid q c.short at
 
-  -- the log holds what it held
-  same-set : (events : List (Event Message)) → Went g before after events → open_after (is_open (g.state before.log).pending) events ≡ is_open (g.state before.log).pending
-      → after.fault ≡ false → (g.tells → now effect_of_entry (g.state after.log) ≡ now effect_of_entry (g.state before.log)) → (g.tells → IsKept chain page) → IsSet g.tells (g.state before.log) (g.state after.log) pid page
-  same-set events went marks clear same is =
-      let beside = c.beside ready in
-      record {
-        usable = went.usable clear;
-        kept = λ known. subst (λ (l : List Chain). IsKept (slice_index_or l pid []) page) (sym (same known)) (is known);
-        others = λ known. sym (set-get_or (now effect_of_entry (g.state after.log)) pid []) ∙ ap (λ (l : List Chain). slice_set l pid (chain_at (g.state after.log) pid)) (same known);
-        chains = λ known. subst (λ (l : List Chain). AllByRecursion (λ chain. is_chain effect_of_entry chain ≡ true) l) (sym (same known)) (beside.chains known);
-        sized = λ known. subst (λ (l : List Chain). AllByRecursion IsSized l) (sym (same known)) (beside.sized known);
-      }
-
   -- the table stays as it always is, where no message was told, or none was added
   pub same-consistent : (events : List (Event Message)) → Went g before after events → open_after (is_open (g.state before.log).pending) events ≡ is_open (g.state before.log).pending
       → (g.tells → after.fault ≡ false → now effect_of_entry (g.state after.log) ≡ now effect_of_entry (g.state before.log))
@@ -53,7 +30,15 @@ module _ {L : Type 0} (g : Ghosts L) (before after : StickyLog L) (pages : List 
       consistent-set g before after pages free free c ready pid page (behind-own pid behind) own
       (subst (λ n. n ≤ 10) (sym (ap length infos)) page-short-at)
       (λ clear. went.opened clear ∙ marks ∙ c.opened ready ∙ sym went.batch)
-      (λ clear. same-set events went marks clear (λ known. same known clear) (λ known. is known clear))
+      (λ clear.
+          let beside = c.beside ready in
+          record {
+            usable = went.usable clear;
+            kept = λ known. subst (λ (l : List Chain). IsKept (slice_index_or l pid []) page) (sym (same known clear)) (is known clear);
+            others = λ known. sym (set-get_or (now effect_of_entry (g.state after.log)) pid []) ∙ ap (λ (l : List Chain). slice_set l pid (chain_at (g.state after.log) pid)) (same known clear);
+            chains = λ known. subst (λ (l : List Chain). AllByRecursion (λ chain. is_chain effect_of_entry chain ≡ true) l) (sym (same known clear)) (beside.chains known);
+            sized = λ known. subst (λ (l : List Chain). AllByRecursion IsSized l) (sym (same known clear)) (beside.sized known);
+          })
       (c.free ∙ sym (free-same 0 pages pid page q at freed))
 
 -- ---- in the words of the model
@@ -88,10 +73,6 @@ module _ {L : Type 0} (g : Ghosts L) (next : ℕ) (config : Config) (recovered :
     pub before-is : (b : Bool) → slice_get (resident_in pages) pid ≡ Some b → is_resident q.kept ≡ b
     before-is b is = same_Some (is_resident q.kept) b (sym old_resident ∙ is)
 
-    -- what lies in memory isn't refused
-    pub always-pulled : (result : Result (Unit {0}) Refusal) → (is_resident q.kept ≡ true → IsOk result) → IsResident (cache before pages) pid → IsOk result
-    always-pulled result is_there resident = is_there (before-is true resident)
-
     pub before-away : is_resident q.kept ≡ false → IsAway (cache before pages) pid
     before-away away = old_resident ∙ ap (λ (b : Bool). Some b) away
 
@@ -105,12 +86,9 @@ module _ {L : Type 0} (g : Ghosts L) (next : ℕ) (config : Config) (recovered :
     stamps-same stamp =
         map-set (λ (p : Page). p.stamp) pages pid page ∙ ap (λ (n : ℕ). slice_set (stamps_in pages) pid n) stamp ∙ put-back (stamps_in pages) pid q.stamp (map-at (λ (p : Page). p.stamp) pages pid q at)
 
-    full-away : (k : Kept) → HoldsChain (chain_at (g.state before.log) pid) k → is_resident k ≡ false → is_empty effect_of_entry (chain_at (g.state before.log) pid) ≡ false
-    full-away k holds away = grind arith
-
     -- a page that doesn't lie in memory has a chain that isn't empty
     pub away-full : g.tells → is_resident q.kept ≡ false → is_empty effect_of_entry (chain_at (g.state before.log) pid) ≡ false
-    away-full known away = full-away q.kept (page-kept-at g before after pages free pid q page c ready behind at known).holds away
+    away-full known away = let holds = (page-kept-at g before after pages free pid q page c ready behind at known).holds in grind arith
 
     pub length-before : g.tells → length q.infos.items ≡ chain_length g.state (cache before pages) pid
     length-before known = sym (places-length (chain_at (g.state before.log) pid) q (page-kept-at g before after pages free pid q page c ready behind at known))
@@ -124,29 +102,20 @@ module _ {L : Type 0} (g : Ghosts L) (next : ℕ) (config : Config) (recovered :
       pub brings-pulled : Went g before after [] → IsCaused g before after ⊥ result
           → (g.tells → IsKept (chain_at (g.state before.log) pid) page) → IsFreeOrNode page.kept → (g.tells → IfErr result (RefusesPull (chain_at (g.state before.log) pid)))
           → BringsIn g (cache before pages) pid result (cache after (slice_set pages pid page))
-      brings-pulled went cause is own refused = let seen = by result resident is_there refused in record {
+      brings-pulled went cause is own refused = record {
         left = leaves-went g _ _ (record { config = refl; recovered = refl }) (stamps-same stamp) refl went same;
         cause = cause;
-        in_memory = seen.0;
-        sound = seen.1;
-        refused = seen.2;
+        in_memory = on_ok_weaker result (λ resident. (behind, λ away. false≢true (sym (after-is false away) ∙ resident))) resident;
+        sound = λ known. on_ok_weaker result (λ resident damaged. let holds = (is known).holds in grind arith) resident;
+        refused = λ known. by known result is_there (refused known);
       }
         where
-          by : (result : Result (Unit {0}) Refusal) → OnOk result (is_resident page.kept ≡ true) → (is_resident q.kept ≡ true → IsOk result)
-              → (g.tells → IfErr result (RefusesPull (chain_at (g.state before.log) pid)))
-              → OnOk result ((is_reserved pid ≡ false) × ¬ IsAway (cache after (slice_set pages pid page)) pid)
-              × (g.tells → OnOk result (¬ IsDamaged (chain_at (g.state before.log) pid))) × (g.tells → IfErr result (RefusesReading (chain_at (g.state before.log) pid) pid))
-          by (Ok done) resident is_there refused =
-              ((behind, λ away. false≢true (sym (after-is false away) ∙ resident)), λ known. undamaged (chain_at (g.state before.log) pid) page.kept resident own (is known).holds, λ known. tt)
-          by (Err refusal) resident is_there refused =
-              (tt, λ known. tt, λ known. inr (behind, away-full known (false_from_ne_true (is_resident q.kept) (λ is. false≢true (is_there is))), refused known))
+          by : g.tells → (result : Result (Unit {0}) Refusal) → (is_resident q.kept ≡ true → IsOk result) → IfErr result (RefusesPull (chain_at (g.state before.log) pid)) → IfErr result (RefusesReading (chain_at (g.state before.log) pid) pid)
+          by known (Ok done) is_there why = tt
+          by known (Err refusal) is_there why = inr (behind, away-full known (false_from_ne_true (is_resident q.kept) (λ is. false≢true (is_there is))), why)
 
       pub kept_out-pulled : OnErr result (IsAway (cache before pages) pid → IsAway (cache after (slice_set pages pid page)) pid)
-      kept_out-pulled = by result err
-        where
-          by : (result : Result (Unit {0}) Refusal) → OnErr result (page.kept ≡ q.kept) → OnErr result (IsAway (cache before pages) pid → IsAway (cache after (slice_set pages pid page)) pid)
-          by (Ok done) err = tt
-          by (Err refusal) err = λ away. is-after false (ap is_resident err ∙ before-is false away)
+      kept_out-pulled = on_err_weaker result (λ same away. is-after false (ap is_resident same ∙ before-is false away)) err
 
     -- how often the log was read, where a page was pulled, and nothing is read then
     pub reads-pulled : (result : Result (Unit {0}) Refusal)
@@ -154,20 +123,28 @@ module _ {L : Type 0} (g : Ghosts L) (next : ℕ) (config : Config) (recovered :
         → (is_resident q.kept ≡ false → OnOk result ((g.counts after.log).reads ≡ count_after (length q.infos.items) (g.counts before.log).reads))
         → (is_resident q.kept ≡ false → OnErr result ((is_resident page.kept ≡ false) × (times : ℕ) × (times ≤ length q.infos.items) × ((g.counts after.log).reads ≡ count_after times (g.counts before.log).reads)))
         → ReadsPage g (cache before pages) pid (cache after (slice_set pages pid page))
-    reads-pulled result unread whole part = by (is_resident q.kept) refl result whole part
+    reads-pulled result unread whole part =
+        ⊎_elim
+        (λ held. record { in_memory = λ _. unread held; whole = λ _ away _. absurd (false≢true (sym (before-is false away) ∙ held)); times = 0; most = omega arith; is = unread held })
+        (λ away. by result away (whole away) (part away)) (cases_Bool (is_resident q.kept))
       where
-        by : (b : Bool) → is_resident q.kept ≡ b → (result : Result (Unit {0}) Refusal)
-            → (is_resident q.kept ≡ false → OnOk result ((g.counts after.log).reads ≡ count_after (length q.infos.items) (g.counts before.log).reads))
-            → (is_resident q.kept ≡ false → OnErr result ((is_resident page.kept ≡ false) × (times : ℕ) × (times ≤ length q.infos.items) × ((g.counts after.log).reads ≡ count_after times (g.counts before.log).reads)))
+        short : length q.infos.items ≤ 10
+        short = page-short-at g before after pages free pid q page c ready behind at
+
+        by : (result : Result (Unit {0}) Refusal) → is_resident q.kept ≡ false → OnOk result ((g.counts after.log).reads ≡ count_after (length q.infos.items) (g.counts before.log).reads)
+            → OnErr result ((is_resident page.kept ≡ false) × (times : ℕ) × (times ≤ length q.infos.items) × ((g.counts after.log).reads ≡ count_after times (g.counts before.log).reads))
             → ReadsPage g (cache before pages) pid (cache after (slice_set pages pid page))
-        by true held result whole part =
-            reads-none g (cache before pages) (cache after (slice_set pages pid page)) pid (unread held) (λ away _. false≢true (sym (before-is false away) ∙ held))
-        by false held (Ok done) whole part =
-            reads-whole g (cache before pages) (cache after (slice_set pages pid page)) pid (length q.infos.items) (before-away held) length-before
-            (page-short-at g before after pages free pid q page c ready behind at) (whole held)
-        by false held (Err refusal) whole part =
-            let some = part held in
-            let short = page-short-at g before after pages free pid q page c ready behind at in
-            let few = some.2 in
-            reads-part g (cache before pages) (cache after (slice_set pages pid page)) pid some.1 (before-away held)
-            (λ resident. false≢true (sym some.0 ∙ after-is true resident)) (omega (arith, short, few)) some.3
+        by (Ok done) away is part = record {
+          in_memory = λ not. absurd (not (before-away away));
+          whole = λ known _ _. is ∙ ap (λ n. count_after n (g.counts before.log).reads) (length-before known);
+          times = length q.infos.items;
+          most = short;
+          is = is;
+        }
+        by (Err refusal) away whole (out, times, few, is) = record {
+          in_memory = λ not. absurd (not (before-away away));
+          whole = λ _ _ resident. absurd (false≢true (sym out ∙ after-is true resident));
+          times = times;
+          most = omega (arith, few, short);
+          is = is;
+        }

@@ -1,13 +1,14 @@
 -- A node that was put on a page that had none, or was refused, once what the list dropped for it is paged out: what an allocation answers.
 use Rattle.sled_pagecache.specs.Inside.Appends.{Puts, PutsOnNewPage}
-use Rattle.sled_pagecache.proofs.Names.{allocated_behind, no_name, HasNoName, ReadsNothing, IfOk, IfErr, OnOk, OnErr, ◌≡◌, ◌<◌, ◌+◌, ◌^◌, ℕ, Bool, false, List, [], ◌∷◌, ◌++◌, length, Some, None, Result, Ok, Err, slice_get, slice_set, refl, sym, ◌∙◌, ap, subst, arith, same_Some, error_of, Error, Refusal, Change, message_of, begun_by, Put, Node, Ghosts, WholeNode, Cache, IsResident, HasNoNode, IsBounded, AccessesPage, LeavesNodes, RefusesSwap, RefusesAppend, Keeps, Steps, IsBlamed, stamps_with, stamps_in, resident_in, is_free, IsFreeOrNode, IsConsistent, Token, token, pid_of, stamp_of, Allocate, Allocated, Config, StickyLog, Accesses, Page, IsWhole, Evicts, IsSettled, put-back, view}
+use Rattle.sled_pagecache.proofs.Names.{inr, allocated_behind, no_name, HasNoName, ReadsNothing, IfOk, IfErr, OnOk, OnErr, ◌≡◌, ◌<◌, ◌+◌, ◌^◌, ℕ, Bool, false, List, [], ◌∷◌, ◌++◌, length, Some, None, Result, Ok, Err, slice_get, slice_set, refl, sym, ◌∙◌, ap, subst, arith, same_Some, error_of, Error, Refusal, Change, message_of, begun_by, Put, Node, Ghosts, WholeNode, Cache, IsResident, HasNoNode, IsBounded, AccessesPage, LeavesNodes, RefusesSwap, RefusesAppend, Keeps, Steps, IsBlamed, stamps_with, stamps_in, resident_in, is_free, IsFreeOrNode, IsConsistent, Token, token, pid_of, stamp_of, Allocate, Allocated, Config, StickyLog, Accesses, Page, IsWhole, Evicts, IsSettled, put-back, view}
 use Rattle.sled_pagecache.proofs.Allocating.{IsLastFree, last-at, taken-last, free-from, adds-refused, adds-done, reuses-refused, reuses-done}
 use Rattle.sled_pagecache.proofs.Answers.{keeps-err, keeps-ok, stamps-added, stamps-reused}
 use Rattle.sled_pagecache.proofs.Appending.{after-made}
 use Rattle.sled_pagecache.proofs.CacheSteps.{steps-known}
 use Rattle.sled_pagecache.proofs.Counted.{added-at, behind-counter, spares-refused, whole-then}
-use Rattle.sled_pagecache.proofs.Evicting.{moves, by-page}
-use Rattle.sled_pagecache.proofs.InMemory.{loses-none, stay-view, past-view, free-at, adds-node}
+use Rattle.sled_pagecache.proofs.Evicting.{settled, settles}
+use Rattle.sled_pagecache.proofs.Settling.{blamed-moved, keeps-moved, node-takes, steps-moved, taken, untaken}
+use Rattle.sled_pagecache.proofs.InMemory.{stays-has, loses-none, stay-view, past-view, free-at, adds-node}
 use Rattle.sled_pagecache.proofs.Putting.{blamed}
 use Rattle.sled_pagecache.proofs.Standing.{resident-add, one-short}
 use Rattle.sled_pagecache.proofs.Tables.{consistent-same, consistent-new, marks-begun, free-add}
@@ -37,8 +38,6 @@ module _ {L : Type 0} (g : Ghosts L) {next : ℕ} {config : Config} {recovered :
       → (let was = view next config recovered accesses.lru before table in let now = view next config recovered then.lru after pages in
       IsSettled g next config recovered after pages free then × PagePromises g was node now (Err (error_of refusal)))
   unplaced {pid} {why} {stays} {refusal} none refused back evicts step =
-      let was = view next config recovered accesses.lru before table in
-      let mid = view next config recovered accesses.lru after changed in
       let told : Result (Unit {0}) Refusal = Err refusal in
       let whole : IsWhole g.tells g.state config.idgen_persist_interval next after changed free =
       rw back
@@ -46,20 +45,20 @@ module _ {L : Type 0} (g : Ghosts L) {next : ℕ} {config : Config} {recovered :
       (consistent-same g before after table free free is.whole.consistent clear (begun_by told (Change pid (message_of (Put (Node node))) ∷ [])) refused.went
       (marks-begun told pid (message_of (Put (Node node)))) refused.same)) in
       let result : Result (ℕ × Token) Error = Err (error_of refusal) in
-      let page = by-page g next next config recovered before after table changed pages free free accesses between then is whole None evicts refl result tt
-      (pid, none, loses-none g.tells was accesses pid mid between clear refusal refused.touched (stay-view next next config recovered accesses.lru before after table changed back) refused.unasked) tt in
-      let move = moves g next next config recovered before after table changed pages free free accesses between then is whole None evicts result in (
-        move.settled page.bounded,
+      let behind = settles is whole evicts in
+      let stay = stay-view next next config recovered accesses.lru before after table changed back in
+      let it = untaken behind pid (error_of refusal) (loses-none g.tells _ accesses pid _ between clear refusal refused.touched stay refused.unasked) (inr (refl, λ its has. none its (stays-has _ _ pid its (stay pid) has))) in (
+        settled is whole evicts it.bounded,
         record {
-          step = move.steps (Allocate node) (Allocated result) step;
-          blame = move.blame (blamed g _ _ _ refusal refused.cause);
+          step = steps-moved behind step;
+          blame = blamed-moved behind (blamed g _ _ _ refusal refused.cause);
           unread = refused.reads;
-          keeps = move.keeps (λ made. stamps_with (stamps_in table) made.1) (keeps-err _ _ _ (Unit {0}) refusal clear refused.cause.fault (ap stamps_in back) refused.went.batch) page.stuck;
+          keeps = keeps-moved behind (keeps-err _ _ _ (Unit {0}) refusal clear refused.cause.fault (ap stamps_in back) refused.went.batch) it.stuck;
           token = tt;
           resident = tt;
-          bounded = page.bounded;
+          bounded = it.bounded;
           accesses = tt;
-          leaves = page.leaves;
+          leaves = (pid, none, it.leaves);
           unnamed = no_name refusal;
         },
       )
@@ -83,22 +82,20 @@ module _ {L : Type 0} (g : Ghosts L) {next : ℕ} {config : Config} {recovered :
       (length table) (message_of (Put (Node node))) done.went new.page (subst IsFreeOrNode (sym new.holds) tt) (one-short new.page new.stamps) new.kept done.sized
       room done.others (is.whole.consistent.free ∙ sym (free-add 0 table new.page (ap is_free new.holds))))) in
       let result : Result (ℕ × Token) Error = Ok (pid, made) in
-      let page = by-page g next next config recovered before after table changed pages free free accesses between then is whole None evicts refl result
-      (adds-node next config recovered accesses.lru before after table changed new.page node new.holds new.is accesses between pid last done.accessed) tt
-      (ap (λ (l : List Page). slice_get (resident_in l) pid) new.is ∙ ap (λ n. slice_get (resident_in (table ++ new.page ∷ [])) n) last ∙ resident-add table new.page node new.holds) in
-      let move = moves g next next config recovered before after table changed pages free free accesses between then is whole None evicts result in
+      let behind = settles is whole evicts in
+      let it = taken behind pid refl (node-takes _ _ accesses between pid (adds-node next config recovered accesses.lru before after table changed new.page node new.holds new.is accesses between pid last done.accessed)) in
       let stamps = stamps-added table changed new.page made new.is (is_made ∙ ap (token (length table)) (sym new.stamp)) in (
-        move.settled page.bounded,
+        settled is whole evicts it.bounded,
         record {
-          step = move.steps (Allocate node) (Allocated result) (steps-known g _ _ _ _ (record { config = refl; recovered = refl }) (λ told. adds-done g next config recovered accesses.lru before table free clear is.whole.consistent node after changed done.is
+          step = steps-moved behind (steps-known g _ _ _ _ (record { config = refl; recovered = refl }) (λ told. adds-done g next config recovered accesses.lru before table free clear is.whole.consistent node after changed done.is
               none done.room done.went done.fault new.page new.stamp new.is pid last made (is_made ∙ ap (λ n. token n 1) (sym last))));
           blame = record { read = λ is. absurd cc; write = λ is. absurd cc };
           unread = done.reads;
-          keeps = move.keeps (λ made. stamps_with (stamps_in table) made.1) (keeps-ok _ _ _ _ clear done.fault stamps.0 done.went.batch) tt;
-          token = (refl, ap (λ (l : List ℕ). slice_get l pid) move.stamps ∙ ap (slice_get (stamps_in changed)) last ∙ stamps.1);
-          resident = page.resident;
-          bounded = page.bounded;
-          accesses = page.accessed;
+          keeps = keeps-moved behind (keeps-ok _ _ _ _ clear done.fault stamps.0 done.went.batch) tt;
+          token = (refl, ap (λ (l : List ℕ). slice_get l pid) (ap (λ (cache : Cache L). cache.stamps) behind.out.rest) ∙ ap (slice_get (stamps_in changed)) last ∙ stamps.1);
+          resident = it.stays.resident ∙ ap (λ (l : List Page). slice_get (resident_in l) pid) new.is ∙ ap (λ n. slice_get (resident_in (table ++ new.page ∷ [])) n) last ∙ resident-add table new.page node new.holds;
+          bounded = it.bounded;
+          accesses = it.accessed;
           leaves = tt;
           unnamed = tt;
         },

@@ -1,42 +1,37 @@
 -- Calls of a log, one after another up to the first that is refused.
-use Rattle.sled_pagecache.proofs.Names.{◌≡◌, true, false, List, [], ◌∷◌, ◌++◌, Option, None, Some, Result, Ok, Err, refl, sym, ◌∙◌, ap, subst, append_assoc, append-nil, Write, Refusal, ReportableBug, Io, Corruption, OutOfMemory, Event, Message, Messages, effect_of, IsLeft, unplaced_state, Ghosts, IsCaused, is_write_fault, begun_by, HasGrown-since, IsCaused-since, Went-none, Went-then, Went-last, refusal_in, is_fault, Comes, TakesNoRoom, LacksRoom, Reaches, Proceeds, StickyLog, arith}
-use Rattle.sled_pagecache.specs.Inside.LogCalls.{WasFull}
+use Rattle.sled_pagecache.proofs.Names.{◌≡◌, true, false, List, [], ◌∷◌, ◌++◌, Option, None, Some, Result, Ok, Err, refl, sym, ◌∙◌, ap, subst, append_assoc, append-nil, Write, Refusal, Io, Event, Message, Messages, effect_of, IsLeft, unplaced_state, Ghosts, IsCaused, is_write_fault, begun_by, HasGrown-since, IsCaused-since, Went-none, Went-then, Went-last, refusal_in, is_fault, Comes, TakesNoRoom, LacksRoom, Reaches, Proceeds, StickyLog, arith}
+use Rattle.sled_base.specs.declared.types.Refusal.TheVariants.{Unsupported}
 
 fault-same : {T : Type 0} (result : Result T Refusal) → is_write_fault result ≡ is_fault (refusal_in result)
 fault-same result = grind arith
 
-pub nil-left : {X : Type 0} (xs ys : List X) → xs ++ ys ≡ [] → xs ≡ []
-nil-left [] ys is = refl
-nil-left (x ∷ xs) ys is = (let e = is in cc)
-
-pub nil-right : {X : Type 0} (xs ys : List X) → xs ++ ys ≡ [] → ys ≡ []
-nil-right [] ys is = is
-nil-right (x ∷ xs) ys is = (let e = is in cc)
+pub nil-parts : {X : Type 0} (xs ys : List X) → xs ++ ys ≡ [] → (xs ≡ []) × (ys ≡ [])
+nil-parts [] ys is = (refl, is)
+nil-parts (x ∷ xs) ys is = (let e = is in absurd cc)
 
 -- a refusal of the cache's own, which no log made
 abbrev pub IsOwnRefusal : Refusal → Type 0
-IsOwnRefusal (Corruption pointer) = Unit {0}
-IsOwnRefusal (ReportableBug bug) = Unit {0}
-IsOwnRefusal OutOfMemory = Unit {0}
-IsOwnRefusal other = ⊥
+IsOwnRefusal (Io device) = ⊥
+IsOwnRefusal (Unsupported why) = ⊥
+IsOwnRefusal other = Unit {0}
 
 module _ {L : Type 0} (g : Ghosts L) where
-  lacks-before : (old new : L) (events : List (Event Message)) → TakesNoRoom g old new → LacksRoom g new events → LacksRoom g old events
-  lacks-before old new events h1 h2 = grind arith
-
-  -- ---- one call
-
-  reaches-behind : {T : Type 0} (old new : StickyLog L) (events : List (Event Message)) (result : Result T Refusal) → Comes g old new events
-      → IsCaused g old new ⊥ result → Reaches g old new events (refusal_in result)
-  reaches-behind old new events (Ok answer) went cause = went
-  reaches-behind old new events (Err refusal) went cause = record {
-    came = events;
-    rest = [];
-    is = append-nil events;
-    went = went;
-    read = λ is. cause.read (ap Err is);
-    write = λ is. cause.write (ap Err is);
-    full = λ is. absurd (cause.full (ap Err is));
+  -- each of the events came, whatever was answered then
+  proceeds-ended : {T : Type 0} (old new : StickyLog L) (events : List (Event Message)) (result : Result T Refusal) → Comes g old new events → IsCaused g old new ⊥ result
+      → (events ≡ [] → TakesNoRoom g old.log new.log) → Proceeds g old new events (refusal_in result)
+  proceeds-ended old new events (Ok answer) went cause room = record { reaches = went; fault = cause.fault; room = room }
+  proceeds-ended {T} old new events (Err refusal) went cause room = record {
+    reaches = record {
+      came = events;
+      rest = [];
+      is = append-nil events;
+      went = went;
+      read = λ is. cause.read (ap Err is);
+      write = λ is. cause.write (ap Err is);
+      full = λ is. absurd (cause.full (ap Err is));
+    };
+    fault = cause.fault ∙ fault-same {T = T} (Err refusal);
+    room = room;
   }
 
   -- a call that tells nothing, behind others that were done
@@ -45,13 +40,9 @@ module _ {L : Type 0} (g : Ghosts L) where
       → IsCaused g mid new ⊥ result
       → (events ≡ [] → TakesNoRoom g mid.log new.log)
       → Proceeds g old new events (refusal_in result)
-  proceeds-behind old mid new events result done went cause room = record {
-    reaches =
-        reaches-behind old new events result (Went-last g old mid new events done.reaches done.fault went)
-        (IsCaused-since g old mid new events ⊥ result done.reaches cause);
-    fault = cause.fault ∙ fault-same result;
-    room = λ none n full. done.room none n (room none n full);
-  }
+  proceeds-behind old mid new events result done went cause room =
+      proceeds-ended old new events result (Went-last g old mid new events done.reaches done.fault went)
+      (IsCaused-since g old mid new events ⊥ result done.reaches cause) (λ none n full. done.room none n (room none n full))
 
   -- no call at all
   pub proceeds-none : (sticky_log : StickyLog L)
@@ -88,57 +79,48 @@ module _ {L : Type 0} (g : Ghosts L) where
             record { at = old; went = Went-none g old usable only; clear = clear; room = lacks; given = λ _. lacks; behind = went };
       }
 
-  own-clear : (refusal : Refusal) → IsOwnRefusal refusal → is_fault (Some refusal) ≡ false
-  own-clear refusal own = grind arith
+  own-caused : (old new : StickyLog L) (refusal : Refusal) → IsOwnRefusal refusal → new.fault ≡ false → (let result : Result (Unit {0}) Refusal = Err refusal in IsCaused g old new ⊥ result)
+  own-caused old new refusal own clear = grind arith
 
   -- a refusal of the cache's own, after calls that were done
   pub proceeds-refused : (old new : StickyLog L) (events : List (Event Message)) (refusal : Refusal) → IsOwnRefusal refusal → Proceeds g old new events None → Proceeds g old new events (Some refusal)
-  proceeds-refused old new events refusal own done = record {
-    reaches = record {
-      came = events;
-      rest = [];
-      is = append-nil events;
-      went = done.reaches;
-      read = λ is. absurd (subst IsOwnRefusal is own);
-      write = λ is. absurd (subst IsOwnRefusal is own);
-      full = λ is. absurd (subst IsOwnRefusal is own);
-    };
-    fault = done.fault ∙ sym (own-clear refusal own);
-    room = done.room;
-  }
+  proceeds-refused old new events refusal own done = proceeds-ended old new events (Err refusal) done.reaches (own-caused old new refusal own done.fault) done.room
 
   -- ---- calls after calls
-
-  full-then : (old mid new : StickyLog L) (first came rest : List (Event Message)) → Proceeds g old mid first None → WasFull g mid new came rest → WasFull g old new (first ++ came) rest
-  full-then old mid new first came rest one full = record {
-    at = full.at;
-    went = Went-then g old mid full.at first came one.reaches one.fault full.went;
-    clear = full.clear;
-    room = full.room;
-    given = λ none. lacks-before old.log mid.log rest (one.room (nil-left first came none)) (full.given (nil-right first came none));
-    behind = full.behind;
-  }
-
-  reaches-then : (old mid new : StickyLog L) (first second : List (Event Message)) (refusal : Option Refusal) → Proceeds g old mid first None → Reaches g mid new second refusal → Reaches g old new (first ++ second) refusal
-  reaches-then old mid new first second None one two = Went-then g old mid new first second one.reaches one.fault two
-  reaches-then old mid new first second (Some refusal) one two = record {
-    came = first ++ two.came;
-    rest = two.rest;
-    is = append_assoc first two.came two.rest ∙ ap (λ (l : List (Event Message)). first ++ l) two.is;
-    went = Went-then g old mid new first two.came one.reaches one.fault two.went;
-    read = λ is. HasGrown-since (g.counts old.log).failed_reads (g.counts mid.log).failed_reads (g.counts new.log).failed_reads one.reaches.failed_reads (two.read is);
-    write = λ is. HasGrown-since (g.counts old.log).write_faults (g.counts mid.log).write_faults (g.counts new.log).write_faults one.reaches.write_faults (two.write is);
-    full = λ is. full-then old mid new first two.came two.rest one (two.full is);
-  }
 
   -- more calls after some that were done
   pub proceeds-then : (old mid new : StickyLog L) (first second : List (Event Message)) (refusal : Option Refusal)
       → Proceeds g old mid first None → Proceeds g mid new second refusal → Proceeds g old new (first ++ second) refusal
   proceeds-then old mid new first second refusal one two = record {
-    reaches = reaches-then old mid new first second refusal one two.reaches;
+    reaches = by refusal two.reaches;
     fault = two.fault;
-    room = λ none n full. one.room (nil-left first second none) n (two.room (nil-right first second none) n full);
+    room = λ none n full. let parts = nil-parts first second none in one.room parts.0 n (two.room parts.1 n full);
   }
+    where
+      by : (refusal : Option Refusal) → Reaches g mid new second refusal → Reaches g old new (first ++ second) refusal
+      by None two = Went-then g old mid new first second one.reaches one.fault two
+      by (Some refusal) two = record {
+        came = first ++ two.came;
+        rest = two.rest;
+        is = append_assoc first two.came two.rest ∙ ap (λ (l : List (Event Message)). first ++ l) two.is;
+        went = Went-then g old mid new first two.came one.reaches one.fault two.went;
+        read = λ is. HasGrown-since (g.counts old.log).failed_reads (g.counts mid.log).failed_reads (g.counts new.log).failed_reads one.reaches.failed_reads (two.read is);
+        write = λ is. HasGrown-since (g.counts old.log).write_faults (g.counts mid.log).write_faults (g.counts new.log).write_faults one.reaches.write_faults (two.write is);
+        full = λ is.
+            let full = two.full is in
+            record {
+              at = full.at;
+              went = Went-then g old mid full.at first two.came one.reaches one.fault full.went;
+              clear = full.clear;
+              room = full.room;
+              given = λ none.
+                  let parts = nil-parts first two.came none in
+                  let same = one.room parts.0 in
+                  let lacks = full.given parts.1 in
+                  grind arith;
+              behind = full.behind;
+            };
+      }
 
   lacks-more : (log : L) (rest more : List (Event Message)) → LacksRoom g log rest → LacksRoom g log (rest ++ more)
   lacks-more log rest more h1 = grind arith
@@ -160,5 +142,12 @@ module _ {L : Type 0} (g : Ghosts L) where
               record { at = full.at; went = full.went; clear = full.clear; room = lacks-more full.at.log cut.rest second full.room; given = λ none. lacks-more old.log cut.rest second (full.given none); behind = full.behind };
         };
         fault = one.fault;
-        room = λ none. one.room (nil-left first second none);
+        room = λ none. one.room (nil-parts first second none).0;
       }
+
+  -- nothing was called, for a refusal of the cache's own
+  pub proceeds-not : (sticky_log : StickyLog L) (events : List (Event Message)) (refusal : Refusal) → IsOwnRefusal refusal
+      → ((pages : List Messages) → g.tells → (g.state sticky_log.log).usable ≡ true → g.left_since sticky_log.log (g.moment sticky_log.log) pages → IsLeft effect_of (unplaced_state (g.state sticky_log.log)) [] pages)
+      → sticky_log.fault ≡ false → (g.state sticky_log.log).usable ≡ true → Proceeds g sticky_log sticky_log events (Some refusal)
+  proceeds-not sticky_log events refusal own only clear usable =
+      proceeds-first sticky_log sticky_log [] events refusal (proceeds-refused sticky_log sticky_log [] refusal own (proceeds-none sticky_log only clear usable))

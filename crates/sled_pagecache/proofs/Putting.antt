@@ -4,7 +4,7 @@ use Rattle.sled_base.specs.declared.types.Error.TheVariants.{Io, OutOfMemory}
 use Rattle.sled_base.specs.declared.types.Refusal.TheVariants as refusals
 use Rattle.sled_pagecache.proofs.CacheSteps.{steps-went}
 use Rattle.sled_pagecache.proofs.Carrying.{proper-now}
-use Rattle.sled_pagecache.proofs.Changing.{leads-same, leads-begun, leads-set, leads-add}
+use Rattle.sled_pagecache.proofs.Changing.{steps-untold, leads-begun, leads-set, leads-add}
 use Rattle.sled_pagecache.proofs.ProperPages.{IsPut, put-proper, add-proper}
 use Rattle.sled_pagecache.proofs.Standing.{AreKnown, known-in, known-length}
 use Rattle.sled_pagecache.specs.Logged.{now}
@@ -43,14 +43,9 @@ module _ {L : Type 0} (g : Ghosts L) where
           let same = many held s is clear in
           let within : pid < length (now held) = omega (arith, same, there) in
           record {
-            may = may-change content put within;
+            may = grind arith;
             proper = put-proper (log_now effect_of (unplaced_state (g.state before.log))) (now held) (holds_unplaced (cache before table) held s is clear) (proper-now (unplaced_state (g.state before.log)) held (is.known clear).logged) pid from content put within;
           }
-        where
-          may-change : (content : Content) → IsPut content → pid < length (now held) → MayChange (now held) pid (Put content)
-          may-change Free put within = within
-          may-change (Node node) put within = omega (arith, within)
-          may-change content put within = absurd put
 
       pub may-add : (held : Logged) (s : State) → Represents g (cache before table) held s → s.fault ≡ false → (node : WholeNode) → 2 ≤ length table → length table < 2 ^ 37 → MayPut before.log held (length table) (Node node)
       may-add held s is clear node from room =
@@ -66,23 +61,12 @@ module _ {L : Type 0} (g : Ghosts L) where
             → ((held : Logged) (s : State) → Represents g (cache before table) held s → s.fault ≡ false → AreKnown s.pages table → StepOver g (cache before table) s call answer (no_change s))
             → Steps g (cache before table) call answer (cache after pages)
         nothing-appended pages back answer went free step =
-            steps-went g (cache before table) (cache after pages) before after call answer [] (record { config = refl; recovered = refl }) refl refl refl ready went
-            (λ held s is clear. leads-same g (cache before table) (cache after pages) held s is clear call answer refl (step held s is clear (known held s is clear)) (ap stamps_in back) free)
+            steps-untold g next config recovered lru before table ready call after pages back answer went free (λ held s is clear. step held s is clear (known held s is clear))
 
         module _ (pid : ℕ) (content : Content) (reads : IsUpdate (message_of (Put content)) (Put content))
             (may : (held : Logged) (s : State) → Represents g (cache before table) held s → s.fault ≡ false → MayPut before.log held pid content) where
           abbrev change : Event Update
           change = Change pid (Put content)
-
-          -- a write fault came while the content was told
-          put-failed : (pages : List KeptPage) → pages ≡ table → (answer : Answer) → Went g before after (Change pid (message_of (Put content)) ∷ []) → after.fault ≡ true
-              → ((held : Logged) (s : State) → Represents g (cache before table) held s → s.fault ≡ false → AreKnown s.pages table → StepOver g (cache before table) s call answer (outcome (record s { fault = true }) (change ∷ [])))
-              → Steps g (cache before table) call answer (cache after pages)
-          put-failed pages back answer went kept step =
-              steps-went g (cache before table) (cache after pages) before after call answer (Change pid (message_of (Put content)) ∷ []) (record { config = refl; recovered = refl }) refl refl refl ready went
-              (λ held s is clear.
-              let m = may held s is clear in
-              leads-begun g (cache before table) (cache after pages) held s is clear call answer refl pid (Put content) reads m.may m.proper (step held s is clear (known held s is clear)) (ap stamps_in back) kept)
 
           -- the log refused it, or failed
           pub put-refused : (T : Type 0) (pages : List KeptPage) → pages ≡ table → (answer : Error → Answer)
@@ -96,7 +80,11 @@ module _ {L : Type 0} (g : Ghosts L) where
           put-refused T pages back answer step (refusals.Io Read) of went cause =
               nothing-appended pages back (answer (Io Read)) went cause.fault (λ held s is clear are. step held s is clear are (Io Read) (no_change s) refl)
           put-refused T pages back answer step (refusals.Io Write) of went cause =
-              put-failed pages back (answer (Io Write)) went cause.fault (λ held s is clear are. step held s is clear are (Io Write) (outcome (record s { fault = true }) (change ∷ [])) refl)
+              steps-went g (cache before table) (cache after pages) before after call (answer (Io Write)) (Change pid (message_of (Put content)) ∷ []) (record { config = refl; recovered = refl }) refl refl refl ready went
+              (λ held s is clear.
+              let m = may held s is clear in
+              leads-begun g (cache before table) (cache after pages) held s is clear call (answer (Io Write)) refl pid (Put content) reads m.may m.proper
+              (step held s is clear (known held s is clear) (Io Write) (outcome (record s { fault = true }) (change ∷ [])) refl) (ap stamps_in back) cause.fault)
           put-refused T pages back answer step (refusals.Unsupported LogFull) of went cause =
               nothing-appended pages back (answer (Unsupported LogFull)) went cause.fault (λ held s is clear are. step held s is clear are (Unsupported LogFull) (no_change s) (cause.full refl, refl))
           put-refused T pages back answer step refusal of went cause = absurd of
@@ -131,6 +119,4 @@ module _ {L : Type 0} (g : Ghosts L) where
   pub blamed : {T U : Type 0} (old new : Cache L) (no_room : Type 0) (refusal : Refusal)
       → (let told : Result T Refusal = Err refusal in IsCaused g (sticky_log_of old) (sticky_log_of new) no_room told)
       → (let answer : Result U Error = Err (error_by refusal) in IsBlamed g old new answer)
-  blamed old new no_room (refusals.Io Read) cause = record { read = λ said. cause.read refl; write = λ said clear. absurd cc }
-  blamed old new no_room (refusals.Io Write) cause = record { read = λ said. absurd cc; write = λ said clear. cause.write refl }
-  blamed old new no_room refusal cause = record { read = λ said. absurd cc; write = λ said clear. absurd cc }
+  blamed old new no_room refusal cause = grind arith

@@ -2,25 +2,6 @@
 use Rattle.sled_pagecache.proofs.Names.{◌≡◌, ◌≤◌, ◌<◌, ◌+◌, ℕ, List, length, Result, Ok, Err, ◌∙◌, ap, arith, AllZip-long, AllZip, Bool, true, false, Refusal, is_resident, StickyLog, Counts, Chain, Ghosts, Cache, chain_length, IsResident, IsAway, count_after, IsLoaded, Page, ReadsNothing, ReadsPage, HasRead, own_among, OnErr}
 use Rattle.sled_pagecache.proofs.ChainReads.{more-add}
 
-module _ {L : Type 0} (g : Ghosts L) (old new : Cache L) (pid : ℕ) where
-  -- nothing is read, and the page isn't brought in
-  pub reads-none : ReadsNothing g old new → (IsAway old pid → IsResident new pid → ⊥) → ReadsPage g old pid new
-  reads-none none out = record { in_memory = λ _. none; whole = λ _ away resident. absurd (out away resident); times = 0; most = omega arith; is = none }
-
-  -- each message is read
-  pub reads-whole : (n : ℕ) → IsAway old pid → (g.tells → n ≡ chain_length g.state old pid) → n ≤ 10 → (g.counts new.log).reads ≡ count_after n (g.counts old.log).reads → ReadsPage g old pid new
-  reads-whole n away length most is = record {
-    in_memory = λ not. absurd (not away);
-    whole = λ known _ _. is ∙ ap (λ k. count_after k (g.counts old.log).reads) (length known);
-    times = n;
-    most = most;
-    is = is;
-  }
-
-  -- some are, and the page isn't brought in
-  pub reads-part : (n : ℕ) → IsAway old pid → (IsResident new pid → ⊥) → n ≤ 10 → (g.counts new.log).reads ≡ count_after n (g.counts old.log).reads → ReadsPage g old pid new
-  reads-part n away out most is = record { in_memory = λ not. absurd (not away); whole = λ _ _ resident. absurd (out resident); times = n; most = most; is = is }
-
 -- ---- how many pages are the cache's own
 
 pub own-some : (n : ℕ) → 0 < n → 1 ≤ own_among n

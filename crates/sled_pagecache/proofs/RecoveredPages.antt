@@ -1,5 +1,5 @@
 -- Pages as they are recovered are kept as their chains say, and the first of them that no cache leaves so.
-use Rattle.sled_pagecache.proofs.Names.{◌≡◌, ◌+◌, ◌<◌, ◌≤◌, ℕ, ℤ, true, false, List, [], ◌∷◌, ◌++◌, length, map, take, drop, get_or, Option, Some, refl, sym, ◌∙◌, ap, subst, inl, inr, arith, false≢true, length-map, take_more, slice_get_cases, zip-append, AllZip, AllByRecursion, IfSome, DiskPtr, PageState, Chain, IsPageState, said_of, freed_of, place_of, IsLoaded, IsUnread, HoldsChain, IsKept, is_free, place_of_freeing, info_at, kept_by, IsRecovered, is_misfit, AllFit, BeginsMisfit, CacheInfo, Kept, Page, Bool, drop_more, free_ids, append_assoc, slice_get_within, get_or_from_slice_get, if◌then◌else◌, slice_get, insert_key, nat_cmp}
+use Rattle.sled_pagecache.proofs.Names.{◌≡◌, ◌+◌, ◌<◌, ◌≤◌, ℕ, ℤ, true, false, List, [], ◌∷◌, ◌++◌, length, map, take, drop, get_or, Option, Some, None, refl, sym, ◌∙◌, ap, subst, inl, inr, arith, false≢true, length-map, take_more, slice_get_cases, zip-append, AllZip, AllByRecursion, IfSome, DiskPtr, PageState, Chain, IsPageState, said_of, freed_of, place_of, IsLoaded, IsUnread, HoldsChain, IsKept, is_free, place_of_freeing, info_at, kept_by, IsRecovered, is_misfit, AllFit, BeginsMisfit, CacheInfo, Kept, Page, Bool, drop_more, free_ids, append_assoc, slice_get_within, get_or_from_slice_get, if◌then◌else◌, slice_get, insert_key, nat_cmp}
 use Rattle.sled_base.specs.declared.types.page_state.PageState.TheVariants as said
 use Rattle.sled_pagecache.proofs.FreeIds.{behind, later}
 use Rattle.sled_pagecache.proofs.ProperPages.{all-append}
@@ -36,21 +36,15 @@ at-places chain (said.Present base frags) page from is =
     freed-said chain ∙ ap (λ (places : List Place). map place_of_freeing (map info_at places)) is.1 ∙ sym (ap (map place_of_freeing) from.infos)
 at-places chain (said.Free lsn pointer) page from is = is.1 ∙ sym (ap (map place_of_freeing) from.infos)
 
-by-state : (state : PageState) → IsUnread (kept_by state)
-by-state state = grind arith
-
-is-loaded : (chain : Chain) (state : PageState) (page : Page) → IsRecovered state page → IsPageState chain state → IsLoaded chain page
-is-loaded chain state page from is = record { kept = is-kept chain state page from is; at = at-places chain state page from is; stamp = from.stamp }
-
 pub all-loaded : (chains : List Chain) (states : List PageState) (pages : List Page) → AllZip IsRecovered states pages → AllZip IsPageState chains states → AllZip IsLoaded chains pages
 all-loaded [] [] [] from are = tt
 all-loaded (chain ∷ chains) (state ∷ states) (page ∷ pages) from are =
-    (is-loaded chain state page from.0 are.0, all-loaded chains states pages from.1 are.1)
+    (record { kept = is-kept chain state page from.0 are.0; at = at-places chain state page from.0 are.0; stamp = from.0.stamp }, all-loaded chains states pages from.1 are.1)
 all-loaded chains states pages from are = absurd (assumption (from, are))
 
 pub all-unread : (states : List PageState) (pages : List Page) → AllZip IsRecovered states pages → AllByRecursion (λ page. IsUnread page.kept) pages
 all-unread [] [] from = tt
-all-unread (state ∷ states) (page ∷ pages) from = (subst IsUnread (sym from.0.kept) (by-state state), all-unread states pages from.1)
+all-unread (state ∷ states) (page ∷ pages) from = (subst IsUnread (sym from.0.kept) (let unread : IsUnread (kept_by state) = grind arith in unread), all-unread states pages from.1)
 all-unread states pages from = absurd from
 
 -- the pages so far, and one more
@@ -62,29 +56,13 @@ recovered-more states i state pages page lt is all one =
 
 -- ---- the first page that no cache leaves so
 
-module _ (pages : List Page) where
-  pub all-fit : (n : ℕ) → length pages ≤ n → ((k : ℕ) → k < n → IfSome (slice_get pages k) (λ (page : Page). is_misfit k page ≡ false)) → AllFit pages
-  all-fit n le fit k =
-      elim (slice_get_cases pages k).1 [
-        | inl w ↦ fit k (let lt = w.1 in omega arith)
-        | inr w ↦ subst (λ (o : Option Page). IfSome o (λ (page : Page). is_misfit k page ≡ false)) (sym w.1) tt
-      ]
+pub if-some : {X : Type 0} {P : X → Type 0} (o : Option X) → ((x : X) → o ≡ Some x → P x) → IfSome o P
+if-some None all = tt
+if-some (Some x) all = all x refl
 
 pub first-place : (infos : List CacheInfo) (info : CacheInfo) → 0 < length infos → info ≡ get_or infos 0 info → slice_get (map (λ (info : CacheInfo). info.pointer) infos) 0 ≡ Some info.pointer
 first-place [] info lt is = absurd (omega arith)
 first-place (x ∷ infos) info lt is = sym (ap (λ (info : CacheInfo). Some info.pointer) is)
-
-pub begins-misfit : (pages : List Page) (k : ℕ) (page : Page) (info : CacheInfo)
-    → slice_get pages k ≡ Some page → is_misfit k page ≡ true → 0 < length page.infos.items → info ≡ get_or page.infos.items 0 info
-    → ((before : ℕ) → before < k → IfSome (slice_get pages before) (λ (page : Page). is_misfit before page ≡ false)) → BeginsMisfit pages info.pointer
-begins-misfit pages k page info at misfit some first before = record {
-  pid = k;
-  page = page;
-  is = at;
-  misfit = misfit;
-  first = before;
-  begins = first-place page.infos.items info some first;
-}
 
 -- ---- the ids of the free pages
 

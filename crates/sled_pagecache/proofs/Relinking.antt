@@ -1,9 +1,10 @@
 -- A link that was made, or refused, once what the list dropped for it is paged out: what it answers.
-use Rattle.sled_pagecache.proofs.Names.{answer_behind, lost_by, no_name, HasNoName, KeepsMemory, ReadsNothing, IfOk, IfErr, OnOk, OnErr, stamp_of, slice_get, subst, IsFresh, ◌≡◌, ◌+◌, ℕ, Bool, List, Some, None, Result, Ok, Err, slice_set, refl, sym, ◌∙◌, ap, error_of, Refusal, Ghosts, Cache, IsResident, IsAway, IsBounded, AccessesPage, EvictsAtMost, MeetsDamage, ReportsDamage, ReadsPage, Keeps, Steps, IsBlamed, TestsFirst, stamps_after_swap, Swapped, stamps_in, is_free, chain_length, linked_length, IsAnswered, Token, token, Linked, Config, StickyLog, Accesses, Page, NodeLink, IsWhole, Evicts, IsSettled, behind-own, view}
+use Rattle.sled_pagecache.proofs.Names.{inl, answer_behind, lost_by, no_name, HasNoName, KeepsMemory, ReadsNothing, IfOk, IfErr, OnOk, OnErr, stamp_of, slice_get, subst, IsFresh, ◌≡◌, ◌+◌, ℕ, Bool, List, Some, None, Result, Ok, Err, slice_set, refl, sym, ◌∙◌, ap, error_of, Refusal, Ghosts, Cache, IsResident, IsAway, IsBounded, AccessesPage, EvictsAtMost, MeetsDamage, ReportsDamage, ReadsPage, Keeps, Steps, IsBlamed, TestsFirst, stamps_after_swap, Swapped, stamps_in, is_free, chain_length, linked_length, IsAnswered, Token, token, Linked, Config, StickyLog, Accesses, Page, NodeLink, IsWhole, Evicts, IsSettled, behind-own, view}
 use Rattle.sled_pagecache.proofs.Answers.{keeps-err}
 use Rattle.sled_pagecache.proofs.CacheSteps.{steps-known}
 use Rattle.sled_pagecache.proofs.Counted.{behind-counter, other-at, spares-link, whole-then}
-use Rattle.sled_pagecache.proofs.Evicting.{moves, by-swap, still-away, moved-damage, moved-reads}
+use Rattle.sled_pagecache.proofs.Evicting.{settled, settles}
+use Rattle.sled_pagecache.proofs.Settling.{blamed-moved, damaged-moved, keeps-moved, reads-moved, steps-moved, taken, untaken}
 use Rattle.sled_pagecache.proofs.InMemory.{loses-page, takes-page}
 use Rattle.sled_pagecache.proofs.Judging.{fresh-answered, keeps-fresh}
 use Rattle.sled_pagecache.proofs.LinkSteps.{link-refused, link-taken}
@@ -51,25 +52,24 @@ module _ {L : Type 0} (g : Ghosts L) {next : ℕ} {config : Config} {recovered :
       (taken-consistent g before after table free pid q page kept fresh.clear fresh.behind fresh.at link done.taken (ap is_free done.taken.holds ∙ sym fresh.full)) in
       let result : Swapped NodeLink = Ok (Ok made) in
       let pulled : Result (Unit {0}) Refusal = Ok tt in
-      let swap = by-swap g next next config recovered before after table changed pages free free accesses between then is whole None evicts pid result refl
-      (takes-page next config recovered accesses.lru before after table pid q page fresh.at accesses between done.accessed) tt tt (taken-resident g before after table free pid q page kept fresh.clear fresh.behind fresh.at link next config recovered accesses.lru done.taken) in
-      let move = moves g next next config recovered before after table changed pages free free accesses between then is whole None evicts result in
+      let behind = settles is whole evicts in
+      let it = taken behind pid refl (takes-page next config recovered accesses.lru before after table pid q page fresh.at accesses between done.accessed) in
       let named : made ≡ token pid (old.stamp + 1) = is_made ∙ ap (token pid) (done.taken.raised.1 ∙ ap (λ n. n + 1) fresh.stamp) in (
-        move.settled swap.bounded,
+        settled is whole evicts it.bounded,
         record {
           tested = taken-tests g next config recovered accesses.lru before table free pid kept old q fresh link same after page done.taken _;
-          step = move.steps (call.Link old link) (Linked result) (rw named (link-taken g next config recovered accesses.lru before table free pid kept fresh.clear old same link fresh.behind q fresh.at fresh.full after page fresh.stamp done.taken done.fault));
+          step = steps-moved behind (rw named (link-taken g next config recovered accesses.lru before table free pid kept fresh.clear old same link fresh.behind q fresh.at fresh.full after page fresh.stamp done.taken done.fault));
           blame = record { read = λ is. absurd cc; write = λ is. absurd cc };
-          keeps = move.keeps (stamps_after_swap (stamps_in table)) (keeps-fresh next config recovered accesses.lru before table pid old q fresh _ after page done.fault done.taken.tells.went.batch done.taken.raised.1 made named) tt;
+          keeps = keeps-moved behind (keeps-fresh next config recovered accesses.lru before table pid old q fresh _ after page done.fault done.taken.tells.went.batch done.taken.raised.1 made named) tt;
           token = fresh-answered next config recovered accesses.lru before table pid old q fresh same _ link made (named ∙ ap (λ n. token n (old.stamp + 1)) (sym same));
           damaged = λ meets stamp. absurd (taken-damage g next config recovered accesses.lru before table free pid kept old q fresh link meets after page done.taken);
-          reads = moved-reads g next next config recovered before after table changed pages free free accesses between then is whole None evicts pid (reads-pulled g next config recovered accesses.lru before after table free pid q page kept fresh.clear fresh.behind fresh.at pulled done.unread done.reads (λ away. tt));
+          reads = reads-moved behind pid (reads-pulled g next config recovered accesses.lru before after table free pid q page kept fresh.clear fresh.behind fresh.at pulled done.unread done.reads (λ away. tt));
           unread = tt;
           length = λ told. taken-length g before after table free pid q page kept fresh.clear fresh.behind fresh.at link next config recovered accesses.lru told done.taken;
-          resident = swap.resident;
+          resident = it.stays.resident ∙ taken-resident g before after table free pid q page kept fresh.clear fresh.behind fresh.at link next config recovered accesses.lru done.taken;
           kept_out = tt;
-          bounded = swap.bounded;
-          accesses = swap.accessed;
+          bounded = it.bounded;
+          accesses = it.accessed;
           same = tt;
           leaves = tt;
           unnamed = tt;
@@ -85,30 +85,29 @@ module _ {L : Type 0} (g : Ghosts L) {next : ℕ} {config : Config} {recovered :
       (refused-consistent g before after table free pid q page kept fresh.clear fresh.behind fresh.at link
       refused.begun refused.same refused.still refused.infos refused.free (refused.own (page-own-at g before before table free pid q q kept fresh.clear fresh.behind fresh.at))) in
       let result : Swapped NodeLink = Err (error_of refusal) in
-      let swap = by-swap g next next config recovered before after table changed pages free free accesses between then is whole (Some pid) evicts pid result refl tt tt
-      (loses-page g.tells next config recovered accesses.lru before after table pid q page fresh.at accesses between fresh.clear refused.infos refusal refused.lost refused.touched refused.unasked) tt in
-      let move = moves g next next config recovered before after table changed pages free free accesses between then is whole (Some pid) evicts result in
+      let behind = settles is whole evicts in
+      let it = untaken behind pid (error_of refusal) (loses-page g.tells next config recovered accesses.lru before after table pid q page fresh.at accesses between fresh.clear refused.infos refusal refused.lost refused.touched refused.unasked) (inl refl) in
       let stamps = stamps-same g next config recovered accesses.lru before after table free pid q page kept fresh.clear fresh.behind fresh.at refused.stamp in (
-        move.settled swap.bounded,
+        settled is whole evicts it.bounded,
         record {
           tested = refused-tests g next config recovered accesses.lru before table free pid kept old q fresh link same refusal refused.tested;
-          step = move.steps (call.Link old link) (Linked result) (steps-known g _ _ _ _ (record { config = refl; recovered = refl }) (λ told. link-refused g next config recovered accesses.lru before table free pid kept fresh.clear old same link fresh.behind q fresh.at fresh.full
+          step = steps-moved behind (steps-known g _ _ _ _ (record { config = refl; recovered = refl }) (λ told. link-refused g next config recovered accesses.lru before table free pid kept fresh.clear old same link fresh.behind q fresh.at fresh.full
               after page fresh.stamp refusal (refused.refused told) refused.cause refused.stamp));
-          blame = move.blame (blamed g _ _ _ refusal refused.cause);
-          keeps = move.keeps (stamps_after_swap (stamps_in table)) (keeps-err _ _ _ (Unit {0}) refusal fresh.clear refused.cause.fault stamps refused.begun.went.batch) swap.stuck;
+          blame = blamed-moved behind (blamed g _ _ _ refusal refused.cause);
+          keeps = keeps-moved behind (keeps-err _ _ _ (Unit {0}) refusal fresh.clear refused.cause.fault stamps refused.begun.went.batch) it.stuck;
           token = tt;
-          damaged = λ meets stamp. moved-damage g next next config recovered before after table changed pages free free accesses between then is whole (Some pid) evicts pid result
-              (λ meets. refused-damage g next config recovered accesses.lru before table free pid kept old q fresh link meets after page refusal (refused.refused meets.tells) refused.stamp refused.same) meets;
-          reads = moved-reads g next next config recovered before after table changed pages free free accesses between then is whole (Some pid) evicts pid
+          damaged = λ meets stamp. damaged-moved behind pid result
+              (refused-damage g next config recovered accesses.lru before table free pid kept old q fresh link meets after page refusal (refused.refused meets.tells) refused.stamp refused.same);
+          reads = reads-moved behind pid
               (reads-pulled g next config recovered accesses.lru before after table free pid q page kept fresh.clear fresh.behind fresh.at told refused.unread (λ away. tt) (λ away. (refused.kept_out away, refused.at_most.0, refused.at_most.1, refused.at_most.2)));
           unread = tt;
           length = λ told. tt;
           resident = tt;
-          kept_out = λ away. still-away g next next config recovered before after table changed pages free free accesses between then is whole (Some pid) evicts pid (refused-out g before after table free pid q page kept fresh.clear fresh.behind fresh.at link next config recovered accesses.lru refused.kept_out away);
-          bounded = swap.bounded;
+          kept_out = λ away. behind.out.away pid (refused-out g before after table free pid q page kept fresh.clear fresh.behind fresh.at link next config recovered accesses.lru refused.kept_out away);
+          bounded = it.bounded;
           accesses = tt;
           same = tt;
-          leaves = swap.leaves;
+          leaves = it.leaves;
           unnamed = no_name refusal;
         },
       )

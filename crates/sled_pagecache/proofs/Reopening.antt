@@ -1,5 +1,5 @@
 -- A cache that is opened over a crash state is what is opened of the pages after a prefix of the changes.
-use Rattle.sled_pagecache.proofs.Names.{◌≡◌, ◌≤◌, ℕ, Bool, true, List, [], ◌++◌, arith, take, refl, sym, subst, Result, Ok, Err, IfOk, Error, Update, contents_after, Event, Message, Messages, unplaced_state, Ghosts, Cache, Logged, IsLogged, Started, Content, AreKept, CrashReopens, stable_state, stable_contents, Config, LogState, AreAfterPrefix, CrashReopens, ReopensTo}
+use Rattle.sled_pagecache.proofs.Names.{◌≡◌, ◌≤◌, ℕ, Bool, true, List, [], ◌++◌, arith, take, refl, sym, subst, Result, Ok, Err, IfOk, Error, Update, contents_after, Event, Message, Messages, unplaced_state, Ghosts, Cache, Logged, IsLogged, Started, Content, AreKept, CrashReopens, stable_state, stable_contents, Config, LogState, AreAfterPrefix, ReopensTo, HoldsCrash}
 use Rattle.sled_pagecache.proofs.Endings.{sound-settings}
 use Rattle.sled_pagecache.proofs.Staying.{stay-none}
 use Rattle.sled_pagecache.specs.Logged.{IsLeft}
@@ -9,7 +9,7 @@ abbrev pub IsKeptAs : List Messages → (List Content → Type 0) → Type 0
 IsKeptAs pages Are = (contents : List Content) × AreKept pages contents × Are contents
 
 -- what a crash leaves is the pages after a prefix
-pub kept-prefix : (held : Logged) (begun : List (Event Update)) (pages : List Messages) → IsLeft held begun pages → IsKeptAs pages (AreAfterPrefix held begun)
+abbrev pub kept-prefix : (held : Logged) (begun : List (Event Update)) (pages : List Messages) → IsLeft held begun pages → IsKeptAs pages (AreAfterPrefix held begun)
 kept-prefix held begun pages left = (
   contents_after held.stable (take left.cut (held.pending ++ left.came)),
   left.is,
@@ -32,16 +32,19 @@ pub crashed-logged : (held : Logged) (changes : List (Event Update)) (pages : Li
 crashed-logged held changes pages left usable = kept-logged pages (contents_after held.stable (take left.cut (held.pending ++ left.came))) left.is usable
 
 module _ {L : Type 0} (g : Ghosts L) (since_earlier : (log : L) (t u : ℕ) (pages : List Messages) → t ≤ u → g.left_since log u pages → g.left_since log t pages) where
-  reopens : (Are : List Content → Type 0) (log : L) (pages : List Messages) → unplaced_state (g.state log) ≡ stable_state pages true → IsKeptAs pages Are → (config : Config) (result : Result (Cache L) (Error × L)) → Started g log config result → IfOk result (ReopensTo g Are config)
-  reopens Are log pages holds left config (Err refused) started = tt
-  reopens Are log pages holds (contents, kept, are) config (Ok cache) started =
-      let logged = subst (λ (s : LogState Message). IsLogged s (stable_contents contents)) (sym holds) (kept-logged pages contents kept true) in
-      let opened = started.opens (sound-settings g log config cache started) (stable_contents contents) logged in
-      record { contents = contents; are = are; held_then = opened.held_then; is = opened.is }
+  -- a crash state that is opened
+  pub crash-holds : (crashed : L) (since : ℕ) (Are : List Content → Type 0) → ((pages : List Messages) → g.left_since crashed since pages → IsKeptAs pages Are)
+      → (log : L) → HoldsCrash g crashed since log → (contents : List Content) × Are contents × IsLogged (unplaced_state (g.state log)) (stable_contents contents)
+  crash-holds crashed since Are each log crash =
+      let (contents, kept, are) = each crash.pages (since_earlier crashed since crash.at crash.pages crash.later crash.left) in
+      (contents, are, subst (λ (s : LogState Message). IsLogged s (stable_contents contents)) (sym crash.holds) (kept-logged crash.pages contents kept true))
 
   pub crash-reopens-to : (crashed : L) (since : ℕ) (Are : List Content → Type 0) → ((pages : List Messages) → g.left_since crashed since pages → IsKeptAs pages Are) → CrashReopens g crashed since Are
-  crash-reopens-to crashed since Are each log crash config result started =
-      reopens Are log crash.pages crash.holds (each crash.pages (since_earlier crashed since crash.at crash.pages crash.later crash.left)) config result started
+  crash-reopens-to crashed since Are each log crash config (Err refused) started = tt
+  crash-reopens-to crashed since Are each log crash config (Ok cache) started =
+      let (contents, are, logged) = crash-holds crashed since Are each log crash in
+      let opened = started.opens (sound-settings g log config cache started) (stable_contents contents) logged in
+      record { contents = contents; are = are; held_then = opened.held_then; is = opened.is }
 
   pub crash-reopens : (crashed : L) (since : ℕ) (held : Logged) (begun : List (Event Update)) → ((pages : List Messages) → g.left_since crashed since pages → IsLeft held begun pages) → CrashReopens g crashed since (AreAfterPrefix held begun)
   crash-reopens crashed since held begun each = crash-reopens-to crashed since (AreAfterPrefix held begun) (λ pages left. kept-prefix held begun pages (each pages left))

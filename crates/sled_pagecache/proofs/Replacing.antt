@@ -4,26 +4,9 @@ use Rattle.sled_pagecache.proofs.Judging.{IsSwap}
 use Rattle.sled_pagecache.proofs.ProperPages.{IsPut}
 use Rattle.sled_pagecache.proofs.Putting.{unless-clear, MayPut, may-set, nothing-appended, put-refused, put-set}
 use Rattle.sled_pagecache.proofs.Standing.{AreKnown, found-known}
+use Rattle.sled_pagecache.specs.Step.{UnlessLastStamp}
 use Rattle.sled_pagecache.specs.Table as kept
 use Rattle.sled_pagecache.specs.State.{StampedPage, is_free}
-
--- ---- what the machine tests
-
-module _ (messages : ℕ → ℕ) (no_room : Event Update → Type 0) (s : State) (old : Token) {R : Type 0} (rejected : R) (content : Content) (clear : s.fault ≡ false) (free : is_reserved old.pid ≡ false)
-    (p : StampedPage) (at : page_at s old.pid ≡ Some p) (full : is_free p.content ≡ false) (same : p.stamp ≡ old.stamp) where
-  abbrev Puts : Swapped R → Outcome → Type 0
-  Puts answer out = Swaps s old rejected answer out (λ _. SwapsContent messages no_room s old (Put content) content answer out)
-
-  swap_last : p.stamp ≡ 2 ^ 64 - 1 → Puts (Err (Unsupported StampUsedUp)) (no_change s)
-  swap_last last = rw (clear, free, at, full, eq-eqb p.stamp old.stamp same) (rw (eq-eqb old.stamp (2 ^ 64 - 1) (sym same ∙ last)) (refl, refl))
-
-  swap_does : (answer : Swapped R) (out : Outcome) → p.stamp ≢ 2 ^ 64 - 1
-      → Does messages no_room s (Change old.pid (Put content)) answer out (λ swapped t. (swapped ≡ Ok (token old.pid (old.stamp + 1))) × (t ≡ with_page s old.pid (page (old.stamp + 1) content)))
-      → Puts answer out
-  swap_does answer out below done =
-      unless-clear s answer out _ clear (rw (free, at, full, eq-eqb p.stamp old.stamp same) (rw (ne_eqb old.stamp (2 ^ 64 - 1) (λ h. below (same ∙ h))) done))
-
--- ---- the call, told of the table
 
 module _ {L : Type 0} (g : Ghosts L) (next : ℕ) (config : Config) (recovered : Bool) (lru : Recency) (before : StickyLog L) (table : List KeptPage) (ready : before.fault ≡ false) (beside : IsBeside g.tells g.state before.log table)
     (old : Token) (pid : ℕ) {R : Type 0} (rejected : R) (content : Content) (put : IsPut content) (call : Call) (answered : Swapped R → Answer)
@@ -35,46 +18,34 @@ module _ {L : Type 0} (g : Ghosts L) (next : ℕ) (config : Config) (recovered :
   -- the page is to be changed
   module _ (after : StickyLog L) (free : is_reserved pid ≡ false) (q : KeptPage) (at : slice_get table pid ≡ Some q) (full : kept.is_free q.kept ≡ false) (stamp : q.stamp ≡ old.stamp)
       (reads : IsUpdate (message_of (Put content)) (Put content)) where
-    from : 2 ≤ pid
-    from = behind-own pid free
-
-    there : pid < length table
-    there = slice_get_within table pid q at
-
     may : (held : Logged) (s : State) → Represents g (cache before table) held s → s.fault ≡ false → MayPut g before.log held pid content
-    may held s is clear = may-set g next config recovered lru before table ready beside held s is clear pid content put from there
+    may held s is clear = may-set g next config recovered lru before table ready beside held s is clear pid content put (behind-own pid free) (slice_get_within table pid q at)
 
-    module _ (s : State) (clear : s.fault ≡ false) (are : AreKnown s.pages table) where
-      does : q.stamp ≢ 2 ^ 64 - 1 → (answer : Swapped R) (out : Outcome)
-          → Does (chain_length g.state (cache before table)) (HasNoRoom g before.log) s (Change pid (Put content)) answer out (λ swapped t. (swapped ≡ Ok (token pid (old.stamp + 1))) × (t ≡ with_page s pid (page (old.stamp + 1) content)))
-          → StepOver g (cache before table) s call (answered answer) out
-      does below answer out done =
-          let found = found-known s.pages table pid q are at in
-          swap.step s answer out
-          (swap_does (chain_length g.state (cache before table)) (HasNoRoom g before.log) s old rejected content clear (ap is_reserved same ∙ free) found.page (ap (page_at s) same ∙ found.is) (found.known.free ∙ full)
-          (found.known.stamp ∙ stamp) answer out (λ last. below (sym found.known.stamp ∙ last)) (rw same done))
-
-      last-step : q.stamp ≡ 2 ^ 64 - 1 → StepOver g (cache before table) s call (answered (Err (Unsupported StampUsedUp))) (no_change s)
-      last-step last =
-          let found = found-known s.pages table pid q are at in
-          swap.step s (Err (Unsupported StampUsedUp)) (no_change s)
-          (swap_last (chain_length g.state (cache before table)) (HasNoRoom g before.log) s old rejected content clear (ap is_reserved same ∙ free) found.page (ap (page_at s) same ∙ found.is) (found.known.free ∙ full)
-          (found.known.stamp ∙ stamp) (found.known.stamp ∙ last))
+    -- the machine finds the page at the stamp of the token
+    step : (s : State) → s.fault ≡ false → AreKnown s.pages table → (answer : Swapped R) (out : Outcome)
+        → UnlessLastStamp s old.stamp answer out (Does (chain_length g.state (cache before table)) (HasNoRoom g before.log) s (Change pid (Put content)) answer out (λ swapped t. (swapped ≡ Ok (token pid (old.stamp + 1))) × (t ≡ with_page s pid (page (old.stamp + 1) content))))
+        → StepOver g (cache before table) s call (answered answer) out
+    step s clear are answer out h =
+        let found = found-known s.pages table pid q are at in
+        swap.step s answer out
+        (unless-clear s answer out _ clear (rw (ap is_reserved same ∙ free, ap (page_at s) same ∙ found.is, found.known.free ∙ full, eq-eqb found.page.stamp old.stamp (found.known.stamp ∙ stamp)) (rw same h)))
 
     pub swaps-refused : (refusal : Refusal) → RefusesSwap q.stamp refusal
         → (let told : Result (Unit {0}) Refusal = Err refusal in Went g before after (begun_by told (Change pid (message_of (Put content)) ∷ [])))
         → (let told : Result (Unit {0}) Refusal = Err refusal in IsCaused g before after (g.is_full before.log (length (message_of (Put content)).payload)) told)
         → Steps g (cache before table) call (answered (Err (error_by refusal))) (cache after pages)
     swaps-refused refusal (inl (last, is)) =
-        rw is (λ went cause. nothing-appended g next config recovered lru before table ready beside after call pages back (answered (Err (Unsupported StampUsedUp))) went cause.fault (λ held s _ clear are. last-step s clear are last))
+        rw is (λ went cause. nothing-appended g next config recovered lru before table ready beside after call pages back (answered (Err (Unsupported StampUsedUp))) went cause.fault 
+        (λ held s _ clear are. step s clear are (Err (Unsupported StampUsedUp)) (no_change s) (rw (eq-eqb old.stamp (2 ^ 64 - 1) (sym stamp ∙ last)) (refl, refl))))
     swaps-refused refusal (inr (below, of)) =
         put-refused g next config recovered lru before table ready beside after call pid content reads may (Unit {0}) pages back (λ e. answered (Err e))
-        (λ held s _ clear are e out fails. does s clear are below (Err e) out fails)
+        (λ held s _ clear are e out fails. step s clear are (Err e) out (rw (ne_eqb old.stamp (2 ^ 64 - 1) (λ last. below (stamp ∙ last))) fails))
         refusal of
 
     pub swaps-done : q.stamp ≢ 2 ^ 64 - 1 → Went g before after (Change pid (message_of (Put content)) ∷ []) → after.fault ≡ false
         → (changed : KeptPage) → changed.stamp ≡ q.stamp + 1 → (made : Token) → made ≡ token pid (old.stamp + 1)
         → Steps g (cache before table) call (answered (Ok (Ok made))) (cache after (slice_set table pid changed))
     swaps-done below went clear_after changed risen made is =
-        put-set g next config recovered lru before table ready beside after call pid content reads may went clear_after (answered (Ok (Ok made))) (old.stamp + 1) changed (risen ∙ ap (λ n. n + 1) stamp) there
-        (λ held s _ clear are. does s clear are below (Ok (Ok made)) (outcome (with_page s pid (page (old.stamp + 1) content)) (Change pid (Put content) ∷ [])) (refl, (ap (λ t. Ok t) is, refl)))
+        put-set g next config recovered lru before table ready beside after call pid content reads may went clear_after (answered (Ok (Ok made))) (old.stamp + 1) changed (risen ∙ ap (λ n. n + 1) stamp) (slice_get_within table pid q at)
+        
+        (λ held s _ clear are. step s clear are (Ok (Ok made)) (outcome (with_page s pid (page (old.stamp + 1) content)) (Change pid (Put content) ∷ [])) (rw (ne_eqb old.stamp (2 ^ 64 - 1) (λ last. below (stamp ∙ last))) (refl, (ap (λ t. Ok t) is, refl))))

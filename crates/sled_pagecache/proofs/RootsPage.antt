@@ -2,16 +2,11 @@
 use Rattle.sled_pagecache.proofs.Names.{Recency, ◌≡◌, ◌≢◌, ◌≤◌, ◌+◌, ◌-◌, ◌^◌, ◌⊎◌, inl, inr, ℕ, Bool, false, arith, List, [], ◌∷◌, length, Option, Some, None, Result, Ok, Err, refl, sym, ◌∙◌, ap, subst, slice_get, slice_set, slice_index_or, eq-eqb, ne_eqb, same_Some, Error, Unsupported, Refusal, StampUsedUp, Content, Roots, Put, Event, Update, Change, messages_of, effect_of_entry, Makes, holds-made, effect_of, IsUpdate, message_of, Ghosts, Cache, Represents, Steps, StepOver, HasNoRoom, chain_length, Went, IsCaused, begun_by, Logged, IsConsistent, HoldsChain, page, State, page_at, with_page, Outcome, outcome, no_change, Does, RefusesSwap, token, Token, Config, StickyLog, Kept, GotMeta, GetMeta, FoundRoot, MetaPidForName, RootSwapped, CasRoot, PutsRoots, IsRoots, KeepsRoots, AreKeptRoots, Answer, Call, error_by, Bytes, NameTooLong, TooManyNames, roots_in, AreOwn, KeptPage, view, kept-at}
 use Rattle.sled_base.specs.declared.types.Error.TheVariants.{CollectionNotFound, OutOfMemory}
 use Rattle.sled_base.specs.declared.types.Refusal.TheVariants as refusals
-use Rattle.sled_log.specs.LogState as log
 use Rattle.sled_node.specs.Meta as meta
 use Rattle.sled_node.specs.Meta.{IsTooLong, LacksRoom, CanChange, root_of, changed_roots}
-use Rattle.sled_pagecache.proofs.Carrying.{proper-now}
 use Rattle.sled_pagecache.proofs.Changing.{KnowsNow, steps-uncalled}
-use Rattle.sled_pagecache.proofs.Held.{state-page}
-use Rattle.sled_pagecache.proofs.ProperPages.{put-own}
-use Rattle.sled_pagecache.proofs.Putting.{MayPut, holds_unplaced, many, nothing-appended, put-refused, put-set, unless-clear}
-use Rattle.sled_pagecache.proofs.Standing.{found-known, known-in}
-use Rattle.sled_pagecache.specs.Logged.{now}
+use Rattle.sled_pagecache.proofs.CounterPage.{may-put, own-at}
+use Rattle.sled_pagecache.proofs.Putting.{MayPut, nothing-appended, put-refused, put-set, unless-clear}
 use Rattle.sled_pagecache.specs.declared.pagecache.page.Kept.TheVariants as kept
 
 -- the page at id 0 of a cache's table keeps named roots
@@ -31,16 +26,10 @@ module _ {L : Type 0} (g : Ghosts L) (next : ℕ) (config : Config) (recovered :
   abbrev q : KeptPage
   q = kept_roots.page
 
-  made : g.tells → Makes (messages_of (slice_index_or (log.now effect_of_entry (g.state before.log)) 0 [])) (Roots roots)
-  made known = subst (HoldsChain (slice_index_or (log.now effect_of_entry (g.state before.log)) 0 [])) kept_roots.kept (kept-at (log.now effect_of_entry (g.state before.log)) table 0 q ((c.beside ready).kept known) kept_roots.at).holds
-
   -- the state has them too
   roots-at : (held : Logged) (s : State) → Represents g (cache before table) held s → s.fault ≡ false → page_at s 0 ≡ Some (page stamp (Roots roots))
   roots-at held s is clear =
-      let found = found-known s.pages table 0 q (known-in g (cache before table) table held s is clear refl (c.beside ready)) kept_roots.at in
-      found.is ∙ ap (λ n. Some (page n found.page.content)) (found.known.stamp ∙ kept_roots.stamp)
-      ∙ ap (λ (content : Content). Some (page stamp content))
-      (holds-made (messages_of (slice_index_or (log.now effect_of_entry (g.state before.log)) 0 [])) found.page.content (Roots roots) (state-page g (cache before table) held s is clear 0 found.page found.is) (made is.tells))
+      own-at g next config recovered lru before table free c ready 0 q (kept.Roots roots) (Roots roots) kept_roots.at kept_roots.kept (λ chain makes. makes) held s is clear ∙ ap (λ n. Some (page n (Roots roots))) kept_roots.stamp
 
   -- ---- calls that change nothing
 
@@ -72,55 +61,34 @@ module _ {L : Type 0} (g : Ghosts L) (next : ℕ) (config : Config) (recovered :
   -- ---- a swap that may be made
 
   module _ (name : Bytes) (old new : Option ℕ) (same : root_of name roots ≡ old) (can : CanChange name new roots) (after : StickyLog L) where
-    abbrev call : Call
-    call = CasRoot name old new
-
     abbrev content : Content
     content = Roots (changed_roots name new roots)
 
-    abbrev change : Event Update
-    change = Change 0 (Put content)
-
-    abbrev Reads : Type 0
-    Reads = IsUpdate (message_of (Put content)) (Put content)
-
     may : (held : Logged) (s : State) → Represents g (cache before table) held s → s.fault ≡ false → MayPut g before.log held 0 content
-    may held s is clear =
-        let long = many g next config recovered lru before table ready (c.beside ready) held s is clear in
-        let both = c.both in
-        record {
-          may = omega arith;
-          proper = put-own (log.now effect_of (log.unplaced_state (g.state before.log))) (now held) (holds_unplaced g (cache before table) held s is clear) (proper-now (log.unplaced_state (g.state before.log)) held (is.known clear).logged) 0
-              (message_of (Put content)) content tt (omega (arith, both, long));
-        }
+    may = may-put g next config recovered lru before table free c ready 0 content (omega arith) tt (λ held within proper. record { may = omega (arith, within); proper = proper })
 
-    module _ (s : State) (clear : s.fault ≡ false) (there : page_at s 0 ≡ Some (page stamp (Roots roots))) where
-      does : (answer : Result (Result (Unit {0}) (Option ℕ)) Error) (out : Outcome) → PutsRoots (chain_length g.state (cache before table)) (HasNoRoom g before.log) s stamp (changed_roots name new roots) answer out
-          → StepOver g (cache before table) s call (RootSwapped answer) out
-      does answer out puts = unless-clear s (answer) out _ clear (rw there (inr (same, inr (inr (can, puts)))))
+    risen : (s : State) → s.fault ≡ false → page_at s 0 ≡ Some (page stamp (Roots roots)) → stamp ≢ 2 ^ 64 - 1 → (answer : Result (Result (Unit {0}) (Option ℕ)) Error) (out : Outcome)
+        → Does (chain_length g.state (cache before table)) (HasNoRoom g before.log) s (Change 0 (Put content)) answer out (λ swapped t. (swapped ≡ Ok tt) × (t ≡ with_page s 0 (page (stamp + 1) content)))
+        → StepOver g (cache before table) s (CasRoot name old new) (RootSwapped answer) out
+    risen s clear there below answer out done = unless-clear s answer out _ clear (rw there (inr (same, inr (inr (can, rw (ne_eqb stamp (2 ^ 64 - 1) below) done)))))
 
-      risen : stamp ≢ 2 ^ 64 - 1 → (answer : Result (Result (Unit {0}) (Option ℕ)) Error) (out : Outcome)
-          → Does (chain_length g.state (cache before table)) (HasNoRoom g before.log) s change answer out (λ swapped t. (swapped ≡ Ok tt) × (t ≡ with_page s 0 (page (stamp + 1) content)))
-          → StepOver g (cache before table) s call (RootSwapped answer) out
-      risen below answer out done = does answer out (rw (ne_eqb stamp (2 ^ 64 - 1) below) done)
-
-    pub root-refused : (pages : List KeptPage) → pages ≡ table → Reads → (refusal : Refusal) → RefusesSwap stamp refusal
+    pub root-refused : (pages : List KeptPage) → pages ≡ table → IsUpdate (message_of (Put content)) (Put content) → (refusal : Refusal) → RefusesSwap stamp refusal
         → (let told : Result (Unit {0}) Refusal = Err refusal in Went g before after (begun_by told (Change 0 (message_of (Put content)) ∷ [])))
         → (let told : Result (Unit {0}) Refusal = Err refusal in IsCaused g before after (g.is_full before.log (length (message_of (Put content)).payload)) told)
-        → Steps g (cache before table) call (RootSwapped (Err (error_by refusal))) (cache after pages)
+        → Steps g (cache before table) (CasRoot name old new) (RootSwapped (Err (error_by refusal))) (cache after pages)
     root-refused pages back reads refusal (inl (last, is)) =
-        rw is (λ went cause. nothing-appended g next config recovered lru before table ready (c.beside ready) after call pages back (RootSwapped (Err (Unsupported StampUsedUp))) went cause.fault
-        (λ held s is clear are. does s clear (roots-at held s is clear) (Err (Unsupported StampUsedUp)) (no_change s) (rw (eq-eqb stamp (2 ^ 64 - 1) last) (refl, refl))))
+        rw is (λ went cause. nothing-appended g next config recovered lru before table ready (c.beside ready) after (CasRoot name old new) pages back (RootSwapped (Err (Unsupported StampUsedUp))) went cause.fault
+        (λ held s is clear are. rw (clear, roots-at held s is clear) (inr (same, inr (inr (can, rw (eq-eqb stamp (2 ^ 64 - 1) last) (refl, refl)))))))
     root-refused pages back reads refusal (inr (below, of)) =
-        put-refused g next config recovered lru before table ready (c.beside ready) after call 0 content reads may (Unit {0}) pages back (λ e. RootSwapped (Err e))
+        put-refused g next config recovered lru before table ready (c.beside ready) after (CasRoot name old new) 0 content reads may (Unit {0}) pages back (λ e. RootSwapped (Err e))
         (λ held s is clear are e out fails. risen s clear (roots-at held s is clear) below (Err e) out fails)
         refusal of
 
-    pub root-swapped : Reads → stamp ≢ 2 ^ 64 - 1 → Went g before after (Change 0 (message_of (Put content)) ∷ []) → after.fault ≡ false
-        → (changed : KeptPage) → changed.stamp ≡ stamp + 1 → Steps g (cache before table) call (RootSwapped (Ok (Ok tt))) (cache after (slice_set table 0 changed))
+    pub root-swapped : IsUpdate (message_of (Put content)) (Put content) → stamp ≢ 2 ^ 64 - 1 → Went g before after (Change 0 (message_of (Put content)) ∷ []) → after.fault ≡ false
+        → (changed : KeptPage) → changed.stamp ≡ stamp + 1 → Steps g (cache before table) (CasRoot name old new) (RootSwapped (Ok (Ok tt))) (cache after (slice_set table 0 changed))
     root-swapped reads below went clear_after changed risen_to =
-        put-set g next config recovered lru before table ready (c.beside ready) after call 0 content reads may went clear_after (RootSwapped (Ok (Ok tt))) (stamp + 1) changed risen_to (let both = c.both in omega (arith, both))
-        (λ held s is clear are. risen s clear (roots-at held s is clear) below (Ok (Ok tt)) (outcome (with_page s 0 (page (stamp + 1) content)) (change ∷ [])) (refl, (refl, refl)))
+        put-set g next config recovered lru before table ready (c.beside ready) after (CasRoot name old new) 0 content reads may went clear_after (RootSwapped (Ok (Ok tt))) (stamp + 1) changed risen_to (let both = c.both in omega (arith, both))
+        (λ held s is clear are. risen s clear (roots-at held s is clear) below (Ok (Ok tt)) (outcome (with_page s 0 (page (stamp + 1) content)) (Change 0 (Put content) ∷ [])) (refl, (refl, refl)))
 
 -- ---- a page of named roots that is about to be swapped
 
@@ -130,18 +98,9 @@ pub record IsSwappable (table : List KeptPage) (q : KeptPage) (name : Bytes) (ol
   pub same : root_of name (roots_in q.kept) ≡ old
   pub can : CanChange name new (roots_in q.kept)
 
-pub swappable : (table : List KeptPage) (q : KeptPage) (name : Bytes) (old new : Option ℕ) (roots given : meta.Roots) (stamp : ℕ) → AreKeptRoots table roots stamp → slice_get table 0 ≡ Some q → given ≡ roots
+pub swappable : {table : List KeptPage} {q : KeptPage} {name : Bytes} {old : Option ℕ} (new : Option ℕ) {roots given : meta.Roots} {stamp : ℕ} → AreKeptRoots table roots stamp → slice_get table 0 ≡ Some q → given ≡ roots
     → (root_of name given ≡ old) × CanChange name new given → IsSwappable table q name old new
-swappable table q name old new roots given stamp are at is judged =
-    let page : are.page ≡ q = same_Some are.page q (sym are.at ∙ at) in
-    let holds : q.kept ≡ kept.Roots roots = ap (λ (p : KeptPage). p.kept) (sym page) ∙ are.kept in
-    let found : roots_in q.kept ≡ given = ap roots_in holds ∙ sym is in
-    record {
-      at = at;
-      kept = holds ∙ ap kept.Roots (sym is) ∙ ap kept.Roots (sym found);
-      same = ap (root_of name) found ∙ judged.0;
-      can = subst (CanChange name new) (sym found) judged.1;
-    }
-
-pub own-roots : (table : List KeptPage) (q : KeptPage) (name : Bytes) (old new : Option ℕ) → IsSwappable table q name old new → AreKeptRoots table (roots_in q.kept) q.stamp
-own-roots table q name old new swaps = record { page = q; at = swaps.at; kept = swaps.kept; stamp = refl }
+swappable {q = q} {name = name} new {given = given} are at is judged =
+    let holds : q.kept ≡ kept.Roots given = ap (λ (p : KeptPage). p.kept) (sym (same_Some are.page q (sym are.at ∙ at))) ∙ are.kept ∙ ap kept.Roots (sym is) in
+    let found : roots_in q.kept ≡ given = ap roots_in holds in
+    record { at = at; kept = holds ∙ ap kept.Roots (sym found); same = ap (root_of name) found ∙ judged.0; can = subst (CanChange name new) (sym found) judged.1 }

@@ -1,344 +1,418 @@
--- Why every run of openings shows pages after a prefix of the changes, which holds all that was flushed.
-use Rattle.sled_pagecache.proofs.Names.{Entry, seen_event, map, message_in, Answer, Bool, Cache, Call, Config, Content, Err, Error, Flushed, Generated, Ghosts, Represents, IsLogged, IsStep, List, Logged, Messages, Ok, Opens, Result, Started, State, Outcome, LogFull, [], ◌∷◌, ◌++◌, ap, append-nil, arith, changes_of_start, false, inl, inr, IfErr, Message, missing_pages, stable_contents, opened_state, refl, subst, sym, true, unplaced_state, ℕ, ◌≡◌, ◌≢◌, ◌≤◌, ◌⊎◌, ⊎_elim, ◌∙◌, true≢false, Update, Event, StepOver, Adds, LogState, IsPrefix, Crashed, CrashedIn, Ending, HandedOn, IsEmpty, IsRun, Lasted, Leaves, LeavesUnopened, Opening, HoldsCrash, OnlyNow, left-now, AreMade, AreSteps, IsMade, ReportsBytes, IsHindrance, IsOpened, MayBeOpened, has_own, cases_Bool, drop, contents_after, length, zero, suc, AddsEvents-then, CrashKeeps-added, CrashKeeps-more, IsFair-none, contents_after-append, drop-nil}
+-- Why every run of openings shows pages after a prefix of the changes, which holds all that was flushed, and gives no generated id twice:
+-- what opens over a log, however a cache over it ended, begins above every id that was answered.
+use Rattle.sled_pagecache.proofs.Names.{Entry, seen_event, map, message_in, Answer, Bool, Cache, Call, Config, Content, Err, Error, Flushed, Generated, Ghosts, Represents, IsLogged, IsStep, List, Logged, Messages, Ok, Result, Started, State, Outcome, LogFull, [], ◌∷◌, ◌++◌, ap, append-nil, append_assoc, arith, changes_of_start, false, inl, inr, IfErr, IsErrAnd, missing_pages, stable_contents, opened_state, refl, subst, sym, true, unplaced_state, ℕ, ◌≡◌, ◌≢◌, ◌≤◌, ◌+◌, ◌⊎◌, ⊎_elim, ◌∙◌, true≢false, Update, Event, StepOver, Adds, IsPrefix, IsPrefix-all, IsPrefix-none, Crashed, CrashedIn, Ending, HandedOn, IsEmpty, IsRun, Lasted, Leaves, LeavesUnopened, Opening, HoldsCrash, KeepIntervals, OnlyNow, left-now, AreMade, AreRising, AreSteps, CoversId, IsCovered, IsMade, ReportsBytes, IsOpened, Opens, MayBeOpened, Unsupported, Write, has_own, cases_Bool, cases_lt, contents_after, contents_of, first_id, id_in, ids_in, ids_of, length, length-drop, AddsEvents-then, CrashKeeps-added, CrashKeeps-more, IsFair-none, contents_after-append, drop-nil, log_after, step-stuck}
 use Rattle.sled_pagecache.specs.Openings.{Refused}
-use Rattle.sled_pagecache.proofs.Endings.{ByCrash, ByReturn, IsFaulty, IsLeftUnopened, StaysFaulty, by-settings, crash-since, left-unopened, sound-settings, stays-faulty}
+use Rattle.sled_pagecache.proofs.Carrying.{proper-now}
+use Rattle.sled_pagecache.proofs.Counting.{BeginsAbove, CountsTo, IsSafe, Rises, first-at, now-added, rises-first, safe-added, safe-crash, safe-now, start-counts, start-rises}
+use Rattle.sled_pagecache.proofs.Endings.{by-settings, crash-since, sound-settings}
+use Rattle.sled_pagecache.proofs.IdRuns.{RiseFrom, rising}
 use Rattle.sled_pagecache.proofs.Staying.{no-changes}
-use Rattle.sled_base.specs.declared.types.Error.TheVariants.{Io, OutOfMemory, Unsupported}
+use Rattle.sled_base.specs.declared.types.Error.TheVariants.{Io}
 use Rattle.sled_pagecache.proofs.Crashing.{refuses}
-use Rattle.sled_pagecache.proofs.IdSteps.{wrote-none}
-use Rattle.sled_pagecache.proofs.Reopening.{empty-logged, kept-logged, IsKeptAs, kept-prefix}
-use Rattle.sled_pagecache.specs.Prefixes.{History, Crashes, history_after_answer, with_begun, begun_by_start, history_after_call, history_after_calls, history_after_changes, with_made, pages_by_now, history_after_start, history_after_start_with, history_from, Survives, with_all_flushed}
+use Rattle.sled_pagecache.proofs.IdSteps.{Passes, call-passes, none-given, wrote-none}
+use Rattle.sled_pagecache.proofs.Reopening.{IsKeptAs, crash-holds, empty-logged, kept-prefix}
+use Rattle.sled_pagecache.specs.Prefixes.{History, Crashes, history_after_answer, with_begun, begun_by_start, history_after_call, history_after_calls, with_made, pages_by_now, history_after_start, history_after_start_with, history_from, Survives, with_all_flushed}
 use Rattle.sled_pagecache.specs.Logged.{IsLeft, now, AreKept}
+use Rattle.sled_pagecache.specs.Inside.SequenceLaws.{adds-none}
 use Rattle.sled_pagecache.specs.Prefixes.{Ends, EndsUnopened, HasPagesOf, IsOpenedOf, RefusesAfter, ShowPrefixes}
-use Rattle.sled_pagecache.proofs.Counting.{now-added}
 
--- The log holds what the history says, no write has failed, and all that is flushed is durable.
-pub record Tells (h : History) (held : Logged) : Type 0 where
+-- The log holds what the history says, no write has failed, and all that is flushed is durable. What opens over it begins at the bound or
+-- above.
+record Tells (h : History) (least bound : ℕ) (held : Logged) : Type 0 where
   pub added : Adds (stable_contents h.pages) h.changes held
   pub flushed : h.flushed ≤ added.cut
   pub clear : h.begun ≡ []
+  pub safe : IsSafe least bound held
 
--- the pages by now are what the log holds
-pub tells-now : (h : History) (held : Logged) → Tells h held → now held ≡ pages_by_now h
-tells-now h held told = now-added (stable_contents h.pages) held h.changes told.added
-
--- more was added
-pub tells-made : (h : History) (held held_then : Logged) (changes : List (Event Update)) → Tells h held → Adds held changes held_then → Tells (with_made changes h) held_then
-tells-made h held held_then changes told added =
-    let both = AddsEvents-then contents_after contents_after-append h.pages held.stable held_then.stable [] held.pending held_then.pending h.changes changes told.added added in
-    let flushed = told.flushed in
-    let cut = both.1 in
-    record { added = both.0; flushed = omega (arith, flushed, cut); clear = told.clear }
-
-drop-none : {A : Type 0} (n : ℕ) (xs : List A) → drop n xs ≡ [] → length xs ≤ n
-drop-none n [] is = omega arith
-drop-none zero (x ∷ xs) is = absurd (let e = is in cc)
-drop-none (suc n) (x ∷ xs) is = let h = drop-none n xs is in omega (arith, h)
-
--- nothing is pending
-pub tells-flushed : (h : History) (held : Logged) → Tells h held → held.pending ≡ [] → Tells (with_all_flushed h) held
-tells-flushed h held told none = record {
-  added = told.added;
-  flushed = drop-none told.added.cut h.changes (sym told.added.pending ∙ none);
-  clear = told.clear;
-}
+-- messages that a crash left are pages that survive it, and what opens over them begins at the bound or above
+abbrev SurviveAs : History → ℕ → ℕ → List Messages → Type 0
+SurviveAs h least bound pages = IsKeptAs pages (λ contents. Survives h contents × BeginsAbove least bound contents)
 
 -- nothing came yet
-pub tells-nothing : (contents : List Content) → Tells (history_from contents) (stable_contents contents)
-tells-nothing contents = record {
+tells-nothing : (contents : List Content) (least bound : ℕ) → BeginsAbove least bound contents → Tells (history_from contents) least bound (stable_contents contents)
+tells-nothing contents least bound above = record {
   added = record { cut = 0; fair = IsFair-none []; stable = refl; pending = refl };
   flushed = omega arith;
   clear = refl;
+  safe = record { rises = tt; above = above };
 }
 
--- ---- crashes
+module _ (h : History) (least bound : ℕ) (held : Logged) (told : Tells h least bound held) where
+  -- the pages by now are what the log holds
+  tells-now : now held ≡ pages_by_now h
+  tells-now = now-added (stable_contents h.pages) held h.changes told.added
 
--- messages that a crash left are pages that survive it
-abbrev pub SurviveAs : History → List Messages → Type 0
-SurviveAs h pages = IsKeptAs pages (Survives h)
+  -- more was added
+  tells-made : (changes : List (Event Update)) → Rises (now held) changes → (held_then : Logged) → Adds held changes held_then → Tells (with_made changes h) least bound held_then
+  tells-made changes rises held_then added =
+      let (both, cut) = AddsEvents-then contents_after contents_after-append h.pages held.stable held_then.stable [] held.pending held_then.pending h.changes changes told.added added in
+      let flushed = told.flushed in
+      record { added = both; flushed = omega (arith, flushed, cut); clear = told.clear; safe = safe-added least bound held told.safe changes rises held_then added }
 
--- what a crash leaves where these changes have begun
-pub survive-begun : (h : History) (held : Logged) (begun : List (Event Update)) → Tells h held → (pages : List Messages) → IsLeft held begun pages → SurviveAs (with_begun begun h) pages
-survive-begun h held begun told pages left =
-    let kept = kept-prefix held begun pages left in
-    let behind = CrashKeeps-added contents_after contents_after-append h.pages held.stable [] held.pending h.changes begun (λ contents. kept.0 ≡ contents) told.added kept.2 in
-    let flushed = told.flushed in
-    let cut = behind.1 in (
-      kept.0,
-      kept.1,
-      subst (λ (l : List (Event Update)). Survives (record h { begun = l }) kept.0) (ap (λ (l : List (Event Update)). l ++ begun) (sym told.clear))
+  -- nothing is pending
+  tells-flushed : held.pending ≡ [] → Tells (with_all_flushed h) least bound held
+  tells-flushed none = record {
+    added = told.added;
+    flushed = omega (arith, length-drop told.added.cut h.changes, ap length (sym told.added.pending ∙ none));
+    clear = told.clear;
+    safe = told.safe;
+  }
+
+  -- what a crash leaves where a part of these changes has begun
+  survive : (part all : List (Event Update)) → IsPrefix part all → Rises (now held) all → (pages : List Messages) → IsLeft held part pages → SurviveAs (with_begun all h) least bound pages
+  survive part all prefix rises pages some =
+      let left = CrashKeeps-more contents_after contents_after-append held.stable held.pending part all (AreKept pages) prefix some in
+      let (contents, kept, after) = kept-prefix held all pages left in
+      let behind = CrashKeeps-added contents_after contents_after-append h.pages held.stable [] held.pending h.changes all (λ kept. contents ≡ kept) told.added after in
+      let flushed = told.flushed in
+      let cut = behind.1 in (
+        contents,
+        kept,
+        (
+          subst (λ (l : List (Event Update)). Survives (record h { begun = l }) contents) (ap (λ (l : List (Event Update)). l ++ all) (sym told.clear))
           (record { prefix = behind.0; holds = omega (arith, flushed, cut) }),
-    )
+          safe-crash least bound held told.safe all rises pages left,
+        ),
+      )
 
--- where nothing has
-pub survive-now : (h : History) (held : Logged) → Tells h held → (pages : List Messages) → IsLeft held [] pages → SurviveAs h pages
-survive-now h held told pages left = subst (λ (l : List (Event Update)). SurviveAs (record h { begun = l }) pages) (append-nil h.begun) (survive-begun h held [] told pages left)
+-- a start makes nothing where no system page is missing
+lacks-none : (contents : List Content) → missing_pages contents ≡ [] → changes_of_start contents ≡ []
+lacks-none [] none = absurd cc
+lacks-none (x ∷ []) none = absurd cc
+lacks-none (x ∷ y ∷ contents) none = drop-nil (length contents)
 
--- where a prefix of them has
-pub survive-part : (h : History) (held : Logged) (part all : List (Event Update)) → Tells h held → IsPrefix part all → (pages : List Messages) → IsLeft held part pages → SurviveAs (with_begun all h) pages
-survive-part h held part all told prefix pages left =
-    survive-begun h held all told pages (CrashKeeps-more contents_after contents_after-append held.stable held.pending part all (AreKept pages) prefix left)
+-- the changes of a start were made
+tells-start : (changes : List (Event Update)) (h : History) (least bound : ℕ) (held : Logged) → Tells (with_made changes h) least bound held → (changes ≢ [] → held.pending ≡ []) → Tells (history_after_start_with changes h) least bound held
+tells-start [] h least bound held told none = subst (λ (l : List (Event Update)). Tells (record h { changes = l }) least bound held) (append-nil h.changes) told
+tells-start (change ∷ changes) h least bound held told none = tells-flushed (with_made (change ∷ changes) h) least bound held told (none (λ e. absurd cc))
 
--- ---- events
-
--- a start that has changes lacks a system page
-pub lacks-some : (contents : List Content) (change : Event Update) (changes : List (Event Update)) → changes_of_start contents ≡ change ∷ changes → missing_pages contents ≢ []
-lacks-some [] change changes is none = absurd cc
-lacks-some (x ∷ []) change changes is none = absurd cc
-lacks-some (x ∷ y ∷ contents) change changes is none = absurd (let nothing : changes_of_start (x ∷ y ∷ contents) ≡ [] = drop-nil (length contents) in let some = is in cc)
+-- the answer covers the id that it gives
+covers : {L : Type 0} (g : Ghosts L) (answer : Answer) (id : ℕ) (new : Cache L) → id_in answer ≡ id ∷ [] → CoversId g answer new → IsCovered g new id
+covers g (Generated (Ok other)) id new is covered = subst (IsCovered g new) (let e : other ≡ id = cc in e) covered
+covers g answer id new is covered = absurd cc
 
 module _ {L : Type 0} (g : Ghosts L) (tells : g.tells)
     (only_now : OnlyNow g)
-    (since_earlier : (l : L) (t u : ℕ) (pages : List Messages) → g.tells → t ≤ u → g.left_since l u pages → g.left_since l t pages) where
-  record IsFound (h : History) (l : L) : Type 0 where
+    (since_earlier : (l : L) (t u : ℕ) (pages : List Messages) → t ≤ u → g.left_since l u pages → g.left_since l t pages) where
+  -- an answer, that flushes all or doesn't
+  tells-answer : (old new : Cache L) (answer : Answer) (changes : List (Event Update)) (h : History) (least bound : ℕ) (held : Logged) → Tells (with_made changes h) least bound held → ReportsBytes g old answer new
+      → ((g.state new.log).pending ≡ [] → held.pending ≡ []) → ((id : ℕ) → answer ≡ Generated (Ok id) → new ≡ record old { next = old.next + 1 } → changes ≡ []) → Tells (history_after_answer answer changes h) least bound held
+  tells-answer old new (Flushed (Ok written)) changes h least bound held told bytes none wrote = tells-flushed (with_made changes h) least bound held told (none bytes.1)
+  tells-answer old new (Generated (Ok id)) (change ∷ changes) h least bound held told (inl stable) none wrote = tells-flushed (with_made (change ∷ changes) h) least bound held told (none stable)
+  tells-answer old new (Generated (Ok id)) (change ∷ changes) h least bound held told (inr next) none wrote = absurd (let nothing = wrote id refl next in cc)
+  tells-answer old new answer changes h least bound held told bytes none wrote = told
+
+  record IsFound (h : History) (least bound : ℕ) (l : L) : Type 0 where
     pub held : Logged
     pub logged : IsLogged (unplaced_state (g.state l)) held
-    pub told : Tells h held
+    pub told : Tells h least bound held
+
+  -- the history ends so, and then a log is found that is left
+  abbrev Lands : (History → Type 0) → ℕ → ℕ → L → Type 0
+  Lands Ends least bound left = (after : History) × Ends after × IsFound after least bound left
 
   -- a crash state that is opened
-  crash-found : (h : History) (since : ℕ) (crashed l : L) → HoldsCrash g crashed since l → ((pages : List Messages) → g.left_since crashed since pages → SurviveAs h pages) → (after : History) × Crashes h after × IsFound after l
-  crash-found h since crashed l crash each =
-      let left = each crash.pages (since_earlier crashed since crash.at crash.pages tells crash.later crash.left) in (
-        history_from left.0,
-        (left.0, left.2, refl),
-        record {
-          held = stable_contents left.0;
-          logged =
-              subst (λ (s : LogState Message). IsLogged s (stable_contents left.0)) (sym crash.holds)
-              (kept-logged crash.pages left.0 left.1 true);
-          told = tells-nothing left.0;
-        },
-      )
+  crash-found : (h : History) (least bound since : ℕ) (crashed l : L) → HoldsCrash g crashed since l → ((pages : List Messages) → g.left_since crashed since pages → SurviveAs h least bound pages) → Lands (Crashes h) least bound l
+  crash-found h least bound since crashed l crash each =
+      let (contents, are, logged) = crash-holds g since_earlier crashed since (λ contents. Survives h contents × BeginsAbove least bound contents) each l crash in
+      (history_from contents, (contents, are.0, refl), record { held = stable_contents contents; logged = logged; told = tells-nothing contents least bound are.1 })
 
   -- ---- a cache between two calls
 
-  -- it goes on
-  record GoesOn (h : History) (cache : Cache L) (s : State) : Type 0 where
+  -- it goes on, and every id so far is below the bound
+  record GoesOn (h : History) (interval bound : ℕ) (cache : Cache L) (held : Logged) (s : State) : Type 0 where
+    pub clear : s.fault ≡ false
+    pub told : Tells h interval bound held
+    pub interval_is : cache.config.idgen_persist_interval ≡ interval
+    pub next : bound ≤ s.next
+    pub counts : (counter : ℕ) × CountsTo (now held) counter
+
+  -- a write fault is kept, and what crashes leave since the call that met it is known
+  record IsFaulty (h : History) (interval bound : ℕ) (cache : Cache L) (s : State) : Type 0 where
+    pub kept : s.fault ≡ true
+    pub since : ℕ
+    pub earlier : since ≤ g.moment cache.log
+    pub left : (pages : List Messages) → g.left_since cache.log since pages → SurviveAs h interval bound pages
+
+  record Stands (h : History) (interval bound : ℕ) (cache : Cache L) (s : State) : Type 0 where
     pub held : Logged
     pub is : Represents g cache held s
-    pub clear : s.fault ≡ false
-    pub told : Tells h held
+    pub so : GoesOn h interval bound cache held s ⊎ IsFaulty h interval bound cache s
 
-  abbrev Stands : History → Cache L → State → Type 0
-  Stands h cache s = GoesOn h cache s ⊎ IsFaulty g (SurviveAs h) cache s
+  has-pages : (h : History) (interval bound : ℕ) (cache : Cache L) (s : State) → Stands h interval bound cache s → HasPagesOf h s
+  has-pages h interval bound cache s stands free =
+      ⊎_elim (λ on. (stands.is.known free).contents ∙ tells-now h interval bound stands.held on.told) (λ stuck. absurd (true≢false (sym stuck.kept ∙ free))) stands.so
 
-  is-in : (cache : Cache L) (s : State) (h : History) → Stands h cache s → (held : Logged) × Represents g cache held s
-  is-in cache s h (inl on) = (on.held, on.is)
-  is-in cache s h (inr stuck) = (stuck.held, stuck.is)
-
-  has-pages : (cache : Cache L) (s : State) (h : History) → Stands h cache s → HasPagesOf h s
-  has-pages cache s h (inl on) free = (on.is.known on.clear).contents ∙ tells-now h on.held on.told
-  has-pages cache s h (inr stuck) free = absurd (true≢false (sym stuck.kept ∙ free))
-
-  -- a call, as the machine may answer it, and what it leaves
-  record Goes (h : History) (old : Cache L) (s : State) (call : Call) (answer : Answer) (new : Cache L) : Type 0 where
+  -- A call, as the machine may answer it, and what it leaves. All ids so far are below another bound then.
+  record Goes (h : History) (interval bound : ℕ) (old : Cache L) (s : State) (call : Call) (answer : Answer) (new : Cache L) : Type 0 where
     pub out : Outcome
     pub step : StepOver g old s call answer out
-    pub stands : Stands (history_after_call answer out h) new out.state
+    pub bound_then : ℕ
+    pub stands : Stands (history_after_call answer out h) interval bound_then new out.state
+    pub rise : (more : List ℕ) → RiseFrom bound_then more → RiseFrom bound (id_in answer ++ more)
     pub inside : ℕ
     pub later : inside ≤ g.moment old.log
-    pub left : (pages : List Messages) → g.left_since new.log inside pages → SurviveAs (with_begun out.changes h) pages
+    pub left : (pages : List Messages) → g.left_since new.log inside pages → SurviveAs (with_begun out.changes h) interval bound pages
 
-  clear-goes : (h : History) (old new : Cache L) (s : State) (call : Call) (answer : Answer) → GoesOn h old s → IsMade g old call answer new → Goes h old s call answer new
-  clear-goes h old new s call answer on done =
-      record { out = one.out; step = one.step; stands = ⊎_elim stuck goes_on (cases_Bool one.out.state.fault); inside = g.moment old.log; later = omega arith; left = left }
-    where
-      one : IsStep g old call answer new on.held s
-      one = done.step.from_each on.held s on.is
+  module _ (h : History) (interval bound : ℕ) (old new : Cache L) (s : State) (call : Call) (answer : Answer) (made : IsMade g old call answer new) (held : Logged) (is : Represents g old held s) where
+    one : IsStep g old call answer new held s
+    one = made.step.from_each held s is
 
-      left : (pages : List Messages) → g.left_since new.log (g.moment old.log) pages → SurviveAs (with_begun one.out.changes h) pages
-      left pages since = survive-begun h on.held one.out.changes on.told pages ((one.stop on.clear).each pages since)
+    module _ (on : GoesOn h interval bound old held s) where
+      contents : contents_of s ≡ now held
+      contents = (is.known on.clear).contents
 
-      all : one.out.state.fault ≡ false → Tells (with_made one.out.changes h) one.held_then
-      all free = tells-made h on.held one.held_then one.out.changes on.told (one.added free)
+      passes : Passes s (id_in answer) one.out
+      passes = call-passes g old s on.counts.0 (rw contents on.counts.1) call answer one.out one.step
 
-      none : one.out.state.fault ≡ false → (g.state new.log).pending ≡ [] → one.held_then.pending ≡ []
-      none free is =
-          no-changes one.held_then.stable (unplaced_state (g.state new.log)).pending one.held_then.pending
-          (ap (λ (l : List (Event Entry)). map (seen_event message_in) l) is) (one.is.known free).logged.pending
+      rises : Rises (now held) one.out.changes
+      rises = rw contents at passes.rises
 
-      -- an id, which wrote these changes
-      drawn : one.out.state.fault ≡ false → (id : ℕ) (changes : List (Event Update)) → one.out.changes ≡ changes
-          → StepOver g old s call (Generated (Ok id)) one.out → ReportsBytes g old (Generated (Ok id)) new → Tells (history_after_answer (Generated (Ok id)) changes h) one.held_then
-      drawn free id [] is step bytes = subst (λ (l : List (Event Update)). Tells (with_made l h) one.held_then) is (all free)
-      drawn free id (change ∷ changes) is step (inl stable) =
-          tells-flushed (with_made (change ∷ changes) h) one.held_then (subst (λ (l : List (Event Update)). Tells (with_made l h) one.held_then) is (all free)) (none free stable)
-      drawn free id (change ∷ changes) is step (inr next) =
-          let same = one.is.stamps ∙ ap (λ (c : Cache L). c.stamps) next ∙ sym on.is.stamps in
-          let wrote = sym (wrote-none g old s call id one.out step same) ∙ is in
-          absurd cc
+      left : (pages : List Messages) → g.left_since new.log (g.moment old.log) pages → SurviveAs (with_begun one.out.changes h) interval bound pages
+      left pages since = survive h interval bound held on.told one.out.changes one.out.changes (IsPrefix-all one.out.changes) rises pages ((one.stop on.clear).each pages since)
 
-      behind : one.out.state.fault ≡ false → (answer : Answer) → StepOver g old s call answer one.out → ReportsBytes g old answer new → Tells (history_after_answer answer one.out.changes h) one.held_then
-      behind free (Flushed (Ok written)) step bytes = tells-flushed (with_made one.out.changes h) one.held_then (all free) (none free bytes.1)
-      behind free (Generated (Ok id)) step bytes = drawn free id one.out.changes refl step bytes
-      behind free answer step bytes = all free
+      stuck : one.out.state.fault ≡ true → Stands (history_after_call answer one.out h) interval bound new one.out.state
+      stuck kept = record { held = one.held_then; is = one.is; so = inr (record { kept = kept; since = g.moment old.log; earlier = (one.stop on.clear).later; left = rw kept left }) }
 
-      stuck : one.out.state.fault ≡ true → Stands (history_after_call answer one.out h) new one.out.state
-      stuck kept =
-          inr (record {
-            held = one.held_then;
-            is = one.is;
-            kept = kept;
-            since = g.moment old.log;
-            earlier = (one.stop on.clear).later;
-            left = subst (λ (b : Bool). (pages : List Messages) → g.left_since new.log (g.moment old.log) pages → SurviveAs (history_after_changes b answer one.out.changes h) pages) (sym kept) left;
-          })
-
-      goes_on : one.out.state.fault ≡ false → Stands (history_after_call answer one.out h) new one.out.state
-      goes_on free =
-          inl (record {
-            held = one.held_then;
-            is = one.is;
-            clear = free;
-            told = subst (λ (b : Bool). Tells (history_after_changes b answer one.out.changes h) one.held_then) (sym free) (behind free answer one.step done.bytes);
-          })
-
-  stuck-goes : (h : History) (old new : Cache L) (s : State) (call : Call) (answer : Answer) → IsFaulty g (SurviveAs h) old s → IsMade g old call answer new → Goes h old s call answer new
-  stuck-goes h old new s call answer faulty done =
-      record {
-        out = stay.out;
-        step = stay.step;
-        stands = inr (record {
-          held = stay.faulty.held;
-          is = stay.faulty.is;
-          kept = stay.faulty.kept;
-          since = stay.faulty.since;
-          earlier = stay.faulty.earlier;
-          left = subst (λ (b : Bool). (pages : List Messages) → g.left_since new.log stay.faulty.since pages → SurviveAs (history_after_changes b answer stay.out.changes h) pages) (sym stay.faulty.kept) left;
+      goes-on : (free : one.out.state.fault ≡ false) (bound_then : ℕ) → bound_then ≤ one.out.state.next → BeginsAbove interval bound_then one.held_then.stable → Stands (history_after_call answer one.out h) interval bound_then new one.out.state
+      goes-on free bound_then next above = record {
+        held = one.held_then;
+        is = one.is;
+        so = inl (record {
+          clear = free;
+          told = rw free (record { added = told.added; flushed = told.flushed; clear = told.clear; safe = record { rises = told.safe.rises; above = above } });
+          interval_is = ap (λ (c : Config). c.idgen_persist_interval) made.step.opening.config ∙ on.interval_is;
+          next = next;
+          counts = (passes.counter, rw (now-added held one.held_then one.out.changes (one.added free), ← contents) passes.counts);
         });
-        inside = stay.faulty.since;
-        later = stay.before;
-        left = left;
       }
-    where
-      stay : StaysFaulty g (SurviveAs h) old s call answer new
-      stay = stays-faulty g (SurviveAs h) old new s call answer faulty done
+        where
+          none : (g.state new.log).pending ≡ [] → one.held_then.pending ≡ []
+          none is = no-changes one.held_then.stable _ one.held_then.pending (ap (map (seen_event message_in)) is) (one.is.known free).logged.pending
 
-      left : (pages : List Messages) → g.left_since new.log stay.faulty.since pages → SurviveAs (with_begun stay.out.changes h) pages
-      left pages since = subst (λ (l : List (Event Update)). SurviveAs (record h { begun = l }) pages) (sym (ap (λ (l : List (Event Update)). h.begun ++ l) stay.none ∙ append-nil h.begun)) (stay.faulty.left pages since)
+          told : Tells (history_after_answer answer one.out.changes h) interval bound one.held_then
+          told =
+              tells-answer old new answer one.out.changes h interval bound one.held_then (tells-made h interval bound held on.told one.out.changes rises one.held_then (one.added free)) made.bytes none
+              (λ id given next. wrote-none g old s call id one.out (subst (λ a. StepOver g old s call a one.out) given one.step) (one.is.stamps ∙ ap (λ (c : Cache L). c.stamps) next ∙ sym is.stamps))
 
-  goes : (h : History) (old new : Cache L) (s : State) (call : Call) (answer : Answer) → Stands h old s → IsMade g old call answer new → Goes h old s call answer new
-  goes h old new s call answer (inl on) done = clear-goes h old new s call answer on done
-  goes h old new s call answer (inr stuck) done = stuck-goes h old new s call answer stuck done
+      -- an id that it gives is below the counter that is durable
+      above-id : id_in answer ≡ s.next ∷ [] → one.out.state.fault ≡ false → BeginsAbove interval (s.next + 1) one.held_then.stable
+      above-id gives free wide more =
+          let below = covers g answer s.next new gives made.covered tells one.held_then (one.is.known free).logged in
+          let same : new.config.idgen_persist_interval ≡ interval = ap (λ (c : Config). c.idgen_persist_interval) made.step.opening.config ∙ on.interval_is in
+          let at = first-at wide one.held_then.stable below.0 below.1 in
+          omega (arith, below.2, same, more, at)
+
+      clear-goes : Goes h interval bound old s call answer new
+      clear-goes =
+          ⊎_elim
+          (λ none. goes bound
+          (⊎_elim stuck (λ free. goes-on free bound (omega (arith, on.next, passes.next)) (safe-added interval bound held on.told.safe one.out.changes rises one.held_then (one.added free)).above) (cases_Bool one.out.state.fault))
+          (λ more below. rw none below))
+          (λ given. goes (s.next + 1) (goes-on given.1 (s.next + 1) (omega (arith, given.2)) (above-id given.0 given.1)) (λ more below. rw given.0 (on.next, below))) passes.given
+        where
+          goes : (bound_then : ℕ) → Stands (history_after_call answer one.out h) interval bound_then new one.out.state → ((more : List ℕ) → RiseFrom bound_then more → RiseFrom bound (id_in answer ++ more)) → Goes h interval bound old s call answer new
+          goes bound_then stands rise =
+              record { out = one.out; step = one.step; bound_then = bound_then; stands = stands; rise = rise; inside = g.moment old.log; later = omega arith; left = left }
+
+    -- with a write fault kept it writes nothing, and leaves it so
+    stuck-goes : IsFaulty h interval bound old s → Goes h interval bound old s call answer new
+    stuck-goes faulty =
+        let unchanged = step-stuck g old s call answer one.out one.step faulty.kept in
+        let kept : one.out.state.fault ≡ true = ap (λ (o : Outcome). o.state.fault) unchanged ∙ faulty.kept in
+        let same : h.begun ++ one.out.changes ≡ h.begun = ap (λ (o : Outcome). h.begun ++ o.changes) unchanged ∙ append-nil h.begun in
+        let left : (pages : List Messages) → g.left_since new.log faulty.since pages → SurviveAs (with_begun one.out.changes h) interval bound pages = λ pages since. rw same (faulty.left pages (rw (one.stuck faulty.kept) at since)) in
+        record {
+          out = one.out;
+          step = one.step;
+          bound_then = bound;
+          stands = record { held = one.held_then; is = one.is; so = inr (record { kept = kept; since = faulty.since; earlier = rw (one.stuck faulty.kept) faulty.earlier; left = rw kept left }) };
+          rise = λ more below. rw (none-given g old s faulty.kept call answer one.out one.step) below;
+          inside = faulty.since;
+          later = faulty.earlier;
+          left = left;
+        }
+
+  call-goes : (h : History) (interval bound : ℕ) (old new : Cache L) (s : State) (call : Call) (answer : Answer) → Stands h interval bound old s → IsMade g old call answer new → Goes h interval bound old s call answer new
+  call-goes h interval bound old new s call answer stands made =
+      ⊎_elim (clear-goes h interval bound old new s call answer made stands.held stands.is) (stuck-goes h interval bound old new s call answer made stands.held stands.is) stands.so
 
   -- the calls of an opening
-  record Went (first : Cache L) (s : State) (h : History) (calls : List (Call × Answer)) (last : Cache L) : Type 0 where
+  record Went (h : History) (interval bound : ℕ) (first : Cache L) (s : State) (calls : List (Call × Answer)) (last : Cache L) : Type 0 where
     pub outs : List Outcome
     pub t : State
     pub steps : AreSteps g (IsMade g) first s calls outs last t
-    pub stands : Stands (history_after_calls calls outs h) last t
+    pub bound_then : ℕ
+    pub stands : Stands (history_after_calls calls outs h) interval bound_then last t
+    pub rise : (more : List ℕ) → RiseFrom bound_then more → RiseFrom bound (ids_in calls ++ more)
 
-  calls-go : (first last : Cache L) (s : State) (h : History) (calls : List (Call × Answer)) → Stands h first s → AreMade g first calls last → Went first s h calls last
-  calls-go first last s h [] stands same = record { outs = []; t = s; steps = (same, refl); stands = subst (λ (cache : Cache L). Stands h cache s) (sym same) stands }
-  calls-go first last s h (call ∷ calls) stands (mid, here, others) =
-      let one = goes h first mid s call.0 call.1 stands here in
-      let rest = calls-go mid last one.out.state (history_after_call call.1 one.out h) calls one.stands others in
-      record { outs = one.out ∷ rest.outs; t = rest.t; steps = (mid, here, one.step, is-in mid one.out.state (history_after_call call.1 one.out h) one.stands, rest.steps); stands = rest.stands }
+  calls-go : (h : History) (interval bound : ℕ) (first last : Cache L) (s : State) (calls : List (Call × Answer)) → Stands h interval bound first s → AreMade g first calls last → Went h interval bound first s calls last
+  calls-go h interval bound first last s [] stands same =
+      record { outs = []; t = s; steps = (same, refl); bound_then = bound; stands = subst (λ (cache : Cache L). Stands h interval bound cache s) (sym same) stands; rise = λ more below. below }
+  calls-go h interval bound first last s (call ∷ calls) stands (mid, here, others) =
+      let one = call-goes h interval bound first mid s call.0 call.1 stands here in
+      let rest = calls-go (history_after_call call.1 one.out h) interval one.bound_then mid last one.out.state calls one.stands others in
+      record {
+        outs = one.out ∷ rest.outs;
+        t = rest.t;
+        steps = (mid, here, one.step, (one.stands.held, one.stands.is), rest.steps);
+        bound_then = rest.bound_then;
+        stands = rest.stands;
+        rise = λ more below. rw append_assoc (one.rise (ids_in calls ++ more) (rest.rise more below));
+      }
 
   -- ---- an opening
 
-  abbrev Unopened : History → L → Type 0
-  Unopened h left = (after : History) × EndsUnopened h after × IsFound after left
+  module _ (h : History) (l : L) (config : Config) where
+    module _ (bound : ℕ) (found : IsFound h config.idgen_persist_interval bound l) where
+      record Begins (first : Cache L) : Type 0 where
+        pub opens : IsOpenedOf g h config first
+        pub stands : Stands (history_after_start h) config.idgen_persist_interval bound first (opened_state config (pages_by_now h))
 
-  module _ (h : History) (l : L) (found : IsFound h l) (config : Config) where
-    pages_are : now found.held ≡ pages_by_now h
-    pages_are = tells-now h found.held found.told
+      begins-so : (first : Cache L) → Started g l config (Ok first) → Begins first
+      begins-so first begun =
+          let k = config.idgen_persist_interval in
+          let start = begun.opens (sound-settings g l config first begun) found.held found.logged in
+          let changes = changes_of_start (now found.held) in
+          let rises = start-rises (now found.held) in
+          let counts = start-counts (now found.held) (proper-now (unplaced_state (g.state l)) found.held found.logged).own in
+          let pages_are = tells-now h k bound found.held found.told in
+          let all = tells-made h k bound found.held found.told changes rises start.held_then start.added in
+          let stands : Stands (history_after_start_with changes h) k bound first (opened_state config (now found.held)) = record {
+            held = start.held_then;
+            is = start.is;
+            so = inl (record {
+              clear = refl;
+              told = tells-start changes h k bound start.held_then all (λ some. start.stable (λ none. some (lacks-none (now found.held) none)));
+              interval_is = ap (λ (c : Config). c.idgen_persist_interval) start.config_is;
+              next = safe-now k bound found.held found.told.safe k (omega arith);
+              counts = (counts.0, rw (now-added found.held start.held_then changes start.added) counts.1);
+            });
+          } in
+          record {
+            opens = record { state = (start.held_then, rw pages_are at start.is); config_is = start.config_is; recovered = start.recovered ∙ ap has_own pages_are };
+            stands = subst (λ (contents : List Content). Stands (history_after_start_with (changes_of_start contents) h) k bound first (opened_state config contents)) pages_are stands;
+          }
 
-    record Begins (first : Cache L) : Type 0 where
-      pub opens : IsOpenedOf g h config first
-      pub stands : Stands (history_after_start h) first (opened_state config (pages_by_now h))
+    module _ (least bound : ℕ) (found : IsFound h least bound l) where
+      pages_are : now found.held ≡ pages_by_now h
+      pages_are = tells-now h least bound found.held found.told
 
-    begins-so : (first : Cache L) → Started g l config (Ok first) → Begins first
-    begins-so first begun = of_start (begun.opens (sound-settings g l config first begun) found.held found.logged)
-      where
-        of_start : IsOpened g l config found.held first → Begins first
-        of_start start = record {
-          opens = record { state = (start.held_then, is); config_is = start.config_is; recovered = start.recovered ∙ ap has_own pages_are };
-          stands = inl (record { held = start.held_then; is = is; clear = refl; told = of_changes (begun_by_start h) refl });
-        }
-          where
-            is : Represents g first start.held_then (opened_state config (pages_by_now h))
-            is = subst (λ (contents : List Content). Represents g first start.held_then (opened_state config contents)) pages_are start.is
+      -- why no cache was opened
+      why-refused : (result : Result (Cache L) (Error × L)) → Started g l config result → IfErr result (λ e. RefusesAfter h config e.0)
+      why-refused result begun =
+          by-settings config (λ why wrong. subst (λ (r : Result (Cache L) (Error × L)). IfErr r (λ e. RefusesAfter h config e.0)) (sym (begun.settings why wrong)) (inl wrong))
+          (λ sound. of_result result (begun.opens sound found.held found.logged))
+        where
+          of_result : (result : Result (Cache L) (Error × L)) → Opens g l config found.held result → IfErr result (λ e. RefusesAfter h config e.0)
+          of_result (Ok cache) opens = tt
+          of_result (Err refused) opens = rw (← pages_are) (refuses g l refused.1 config found.held refused.0 opens)
 
-            all : Tells (with_made (begun_by_start h) h) start.held_then
-            all = tells-made h found.held start.held_then (begun_by_start h) found.told (subst (λ (contents : List Content). Adds found.held (changes_of_start contents) start.held_then) pages_are start.added)
+      -- What is left where none was: some of the changes of a start have begun. A crash came since, or the log came back with them.
+      unopened : (result : Result (Cache L) (Error × L)) (left : L) → MayBeOpened g l → Started g l config result → LeavesUnopened g l result left → Lands (EndsUnopened h) least bound left
+      unopened result left may begun leaves =
+          by-settings config (λ why wrong. untouched (Unsupported why) (begun.settings why wrong)) (λ sound. of_result result (begun.opens sound found.held found.logged) leaves)
+        where
+          all : List (Event Update)
+          all = changes_of_start (now found.held)
 
-            of_changes : (changes : List (Event Update)) → begun_by_start h ≡ changes → Tells (history_after_start_with changes h) start.held_then
-            of_changes [] is = subst (λ (l : List (Event Update)). Tells (record h { changes = l }) start.held_then) (ap (λ (l : List (Event Update)). h.changes ++ l) is ∙ append-nil h.changes) all
-            of_changes (change ∷ changes) is =
-                tells-flushed (with_made (change ∷ changes) h) start.held_then (subst (λ (l : List (Event Update)). Tells (with_made l h) start.held_then) is all)
-                (start.stable (λ none. lacks-some (pages_by_now h) change changes is (subst (λ (contents : List Content). missing_pages contents ≡ []) pages_are none)))
+          by-crash : (crashed : L) (part : List (Event Update)) → IsPrefix part all → HoldsCrash g crashed (g.moment l) left → ((pages : List Messages) → g.left_since crashed (g.moment l) pages → IsLeft found.held part pages) → Lands (EndsUnopened h) least bound left
+          by-crash crashed part prefix crash each =
+              let (after, crashes, is) = crash-found (with_begun (begun_by_start h) h) least bound (g.moment l) crashed left crash
+              (λ pages since. survive h least bound found.held found.told part (begun_by_start h) (rw pages_are at prefix) (rw (← pages_are) (start-rises (now found.held))) pages (each pages since)) in
+              (after, inl crashes, is)
 
-    -- why no cache was opened
-    why-refused : (result : Result (Cache L) (Error × L)) → Started g l config result → IfErr result (λ e. RefusesAfter h config e.0)
-    why-refused result begun =
-        by-settings config (λ why wrong. subst (λ (r : Result (Cache L) (Error × L)). IfErr r (λ e. RefusesAfter h config e.0)) (sym (begun.settings why wrong)) (inl wrong))
-        (λ sound. of_result result (begun.opens sound found.held found.logged))
-      where
-        hinders : (error : Error) → IsHindrance error → changes_of_start (now found.held) ≢ [] → RefusesAfter h config error
-        hinders OutOfMemory why some = inl tt
-        hinders (Io device) why some = inl tt
-        hinders (Unsupported LogFull) why some = inr (refl, subst (λ (contents : List Content). changes_of_start contents ≢ []) pages_are some)
-        hinders other why some = absurd why
+          by-return : (part : List (Event Update)) → IsPrefix part all → (held_then : Logged) (after : L) → left ≡ after → IsLogged (unplaced_state (g.state after)) held_then → Adds found.held part held_then → Lands (EndsUnopened h) least bound left
+          by-return part prefix held_then after is logged added =
+              let rises = rises-first (now found.held) part prefix.0 (rw prefix.1 (start-rises (now found.held))) in (
+                with_made part h,
+                inr (part, rw pages_are at prefix, refl),
+                record { held = held_then; logged = rw is logged; told = tells-made h least bound found.held found.told part rises held_then added },
+              )
 
-        of_result : (result : Result (Cache L) (Error × L)) → Opens g l config found.held result → IfErr result (λ e. RefusesAfter h config e.0)
-        of_result (Ok cache) opens = tt
-        of_result (Err refused) opens = by-start (changes_of_start (now found.held)) refl
-          where
-            by-start : (changes : List (Event Update)) → changes_of_start (now found.held) ≡ changes → RefusesAfter h config refused.0
-            by-start [] none = inl (refuses g l refused.1 config found.held refused.0 none opens)
-            by-start (change ∷ changes) some = hinders refused.0 opens.why (λ none. let a = sym some ∙ none in absurd cc)
+          untouched : (e : Error) → result ≡ Err (e, l) → Lands (EndsUnopened h) least bound left
+          untouched e same =
+              ⊎_elim
+              (λ crash. by-crash l [] (IsPrefix-none all) (subst (λ r. HoldsCrash g (log_after r) (g.moment l) left) same crash)
+              (λ pages since. left-now (unplaced_state (g.state l)) found.held pages found.logged (only_now l pages tells may.0 since)))
+              (λ handed. by-return [] (IsPrefix-none all) found.held l (subst (λ r. IsErrAnd r (λ e. (e.0 ≢ Io Write) × (left ≡ e.1))) same handed).1 found.logged (adds-none found.held)) leaves
 
-    -- what is left where none was
-    unopened : (result : Result (Cache L) (Error × L)) (left : L) → MayBeOpened g l → Started g l config result → LeavesUnopened g l result left → Unopened h left
-    unopened result left may begun leaves = by (left-unopened g only_now tells found.held l left config result found.logged may begun leaves)
-      where
-        same : (begun : List (Event Update)) → IsPrefix begun (changes_of_start (now found.held)) → IsPrefix begun (begun_by_start h)
-        same begun = subst (λ (contents : List Content). IsPrefix begun (changes_of_start contents)) pages_are
-
-        by : IsLeftUnopened g found.held l left → Unopened h left
-        by (ByCrash crashed begun prefix crash each) =
-            let after = crash-found (with_begun (begun_by_start h) h) (g.moment l) crashed left crash (λ pages since. survive-part h found.held begun (begun_by_start h) found.told (same begun prefix) pages (each pages since)) in
-            (after.0, inl after.1, after.2)
-        by (ByReturn begun prefix held_then logged added) =
-            (with_made begun h, inr (begun, same begun prefix, refl), record { held = held_then; logged = logged; told = tells-made h found.held held_then begun found.told added })
+          of_result : (result : Result (Cache L) (Error × L)) → Opens g l config found.held result → LeavesUnopened g l result left → Lands (EndsUnopened h) least bound left
+          of_result (Ok cache) start leaves = ⊎_elim (λ crash. by-crash cache.log all (IsPrefix-all all) crash start.stop.each) (λ handed. absurd handed) leaves
+          of_result (Err refused) start leaves =
+              ⊎_elim (λ crash. by-crash refused.1 start.begun (start.rest, start.are) crash start.stop.each)
+              (λ handed. let adds = start.added handed.0 in by-return start.begun (start.rest, start.are) adds.held_then refused.1 handed.1 adds.logged adds.added) leaves
 
   -- how it ends
-  crash-ends : (h : History) (last : Cache L) (t : State) (left : L) → Stands h last t → HoldsCrash g last.log (g.moment last.log) left → (after : History) × Crashes h after × IsFound after left
-  crash-ends h last t left (inl on) crash =
-      let known = on.is.known on.clear in
-      crash-found h (g.moment last.log) last.log left crash
-      (λ pages since. survive-now h on.held on.told pages (left-now (unplaced_state (g.state last.log)) on.held pages known.logged (only_now last.log pages tells known.usable since)))
-  crash-ends h last t left (inr stuck) crash =
-      crash-found h stuck.since last.log left (crash-since g last.log left stuck.since (g.moment last.log) stuck.earlier crash) stuck.left
+  module _ (h : History) (interval bound : ℕ) (last : Cache L) (t : State) (left : L) (stands : Stands h interval bound last t) where
+    crash-ends : HoldsCrash g last.log (g.moment last.log) left → Lands (Crashes h) interval bound left
+    crash-ends crash =
+        ⊎_elim
+        (λ on.
+        let known = stands.is.known on.clear in
+        crash-found h interval bound (g.moment last.log) last.log left crash
+        (λ pages since.
+        subst (λ (l : List (Event Update)). SurviveAs (record h { begun = l }) interval bound pages) (append-nil h.begun)
+        (survive h interval bound stands.held on.told [] [] (IsPrefix-none []) tt pages (left-now (unplaced_state (g.state last.log)) stands.held pages known.logged (only_now last.log pages tells known.usable since)))))
+        (λ stuck. crash-found h interval bound stuck.since last.log left (crash-since g last.log left stuck.since (g.moment last.log) stuck.earlier crash) stuck.left) stands.so
 
-  ends : (h : History) (last : Cache L) (t : State) (ending : Ending) (left : L) → Stands h last t → Leaves g last ending left → (after : History) × Ends g last t h ending after × IsFound after left
-  ends h last t Crashed left stands crash = crash-ends h last t left stands crash
-  ends h last t (CrashedIn call answer) left stands (new, done, crash) =
-      let one = goes h last new t call answer stands done in
-      let found = crash-found (with_begun one.out.changes h) one.inside new.log left (crash-since g new.log left one.inside (g.moment last.log) one.later crash) one.left in
-      (found.0, (one.out, one.step, found.1), found.2)
-  ends h last t HandedOn left (inl on) (clear, same) = (h, (on.clear, refl), subst (IsFound h) (sym same) (record { held = on.held; logged = (on.is.known on.clear).logged; told = on.told }))
-  ends h last t HandedOn left (inr stuck) (clear, same) = absurd (true≢false (sym stuck.kept ∙ stuck.is.fault ∙ clear))
+    ends : (ending : Ending) → Leaves g last ending left → Lands (Ends g last t h ending) interval bound left
+    ends Crashed crash = crash-ends crash
+    ends (CrashedIn call answer) (new, made, crash) =
+        let one = call-goes h interval bound last new t call answer stands made in
+        let (after, crashes, is) = crash-found (with_begun one.out.changes h) interval bound one.inside new.log left (crash-since g new.log left one.inside (g.moment last.log) one.later crash) one.left in
+        (after, (one.out, one.step, crashes), is)
+    ends HandedOn (clear, same) =
+        ⊎_elim
+        (λ on. (h, (on.clear, refl), subst (IsFound h interval bound) (sym same) (record { held = stands.held; logged = (stands.is.known on.clear).logged; told = on.told })))
+        (λ stuck. absurd (true≢false (sym stuck.kept ∙ stands.is.fault ∙ clear))) stands.so
 
   -- ---- openings one after another
 
-  run-shows : (h : History) (l : L) (openings : List (Opening L)) → IsFound h l → IsRun g l openings → ShowPrefixes g h openings
-  run-shows h l [] found run = tt
-  run-shows h l (Refused config result left ∷ openings) found (start, leaves, run) =
-      let end = unopened h l found config result left start.0 start.1 leaves in
-      (why-refused h l found config result start.1, end.0, end.1, run-shows end.0 left openings end.2 run)
-  run-shows h l (Lasted config first calls last ending left ∷ openings) found (start, done, leaves, run) =
-      let begun = begins-so h l found config first start.1 in
-      let all = calls-go first last (opened_state config (pages_by_now h)) (history_after_start h) calls begun.stands done in
-      let end = ends (history_after_calls calls all.outs (history_after_start h)) last all.t ending left all.stands leaves in
-      (begun.opens, all.outs, all.t, all.steps, has-pages last all.t (history_after_calls calls all.outs (history_after_start h)) all.stands, end.0, end.1, run-shows end.0 left openings end.2 run)
+  -- The bound by which a log is found, where a cache is opened with this interval: it is lost where the interval is shorter.
+  record IsWidened (h : History) (least k bound : ℕ) (l : L) : Type 0 where
+    pub bound_then : ℕ
+    pub found : IsFound h k bound_then l
+    pub keeps : least ≤ k → bound_then ≡ bound
 
-  pub every-shows : (l : L) (openings : List (Opening L)) → IsEmpty g l → IsRun g l openings → ShowPrefixes g (history_from []) openings
+  widened : (h : History) (least k bound : ℕ) (l : L) → IsFound h least bound l → IsWidened h least k bound l
+  widened h least k bound l found =
+      ⊎_elim (λ narrow. with_bound 0 (λ interval wide. omega arith) (λ wide. absurd (omega (arith, narrow, wide))))
+      (λ more. with_bound bound (λ interval wide. found.told.safe.above interval (omega (arith, more, wide))) (λ wide. refl)) (cases_lt k least)
+    where
+      with_bound : (bound_then : ℕ) → BeginsAbove k bound_then found.held.stable → (least ≤ k → bound_then ≡ bound) → IsWidened h least k bound l
+      with_bound bound_then above keeps =
+          let told = found.told in
+          record { bound_then = bound_then; found = record { held = found.held; logged = found.logged; told = record { added = told.added; flushed = told.flushed; clear = told.clear; safe = record { rises = told.safe.rises; above = above } } }; keeps = keeps }
+
+  abbrev Shows : History → ℕ → ℕ → List (Opening L) → Type 0
+  Shows h least bound openings = ShowPrefixes g h openings × (KeepIntervals least openings → RiseFrom bound (ids_of openings))
+
+  run-shows : (h : History) (least bound : ℕ) (l : L) (openings : List (Opening L)) → IsFound h least bound l → IsRun g l openings → Shows h least bound openings
+  run-shows h least bound l [] found run = (tt, λ keeps. tt)
+  run-shows h least bound l (Refused config result left ∷ openings) found (start, leaves, run) =
+      let (after, ends, is) = unopened h l config least bound found result left start.0 start.1 leaves in
+      let (shows, rise) = run-shows after least bound left openings is run in
+      ((why-refused h l config least bound found result start.1, after, ends, shows), rise)
+  run-shows h least bound l (Lasted config first calls last ending left ∷ openings) found (start, made, leaves, run) =
+      let k = config.idgen_persist_interval in
+      let wide = widened h least k bound l found in
+      let begun = begins-so h l config wide.bound_then wide.found first start.1 in
+      let all = calls-go (history_after_start h) k wide.bound_then first last (opened_state config (pages_by_now h)) calls begun.stands made in
+      let then = history_after_calls calls all.outs (history_after_start h) in
+      let (after, end, is) = ends then k all.bound_then last all.t left all.stands ending leaves in
+      let (shows, rise) = run-shows after k all.bound_then left openings is run in (
+        (begun.opens, all.outs, all.t, all.steps, has-pages then k all.bound_then last all.t all.stands, after, end, shows),
+        λ keeps. subst (λ b. RiseFrom b (ids_in calls ++ ids_of openings)) (wide.keeps keeps.0) (all.rise (ids_of openings) (rise keeps.1)),
+      )
+
+  every-shows : (l : L) (openings : List (Opening L)) → IsEmpty g l → IsRun g l openings → Shows (history_from []) 0 0 openings
   every-shows l openings empty =
-      run-shows (history_from []) l openings
-      (record {
-        held = stable_contents [];
-        logged = subst (λ (s : LogState Message). IsLogged s (stable_contents [])) (sym empty) (empty-logged true);
-        told = tells-nothing [];
-      })
+      run-shows (history_from []) 0 0 l openings
+      (record { held = stable_contents []; logged = rw empty (empty-logged true); told = tells-nothing [] 0 0 (λ interval wide. omega arith) })
+
+  pub prefixes-shown : (l : L) (openings : List (Opening L)) → IsEmpty g l → IsRun g l openings → ShowPrefixes g (history_from []) openings
+  prefixes-shown l openings empty run = (every-shows l openings empty run).0
+
+  pub given-once : (l : L) (openings : List (Opening L)) → IsEmpty g l → IsRun g l openings → KeepIntervals 0 openings → AreRising (ids_of openings)
+  given-once l openings empty run keeps = rising 0 (ids_of openings) ((every-shows l openings empty run).1 keeps)

@@ -7,21 +7,15 @@ use Rattle.sled_pagecache.specs.declared.pagecache.page.Kept.TheVariants as held
 
 -- ---- a chain is empty where what it makes is free
 
-linked-full : (node : WholeNode) (messages : Messages) (content : Content) → LeadTo (Node node) messages content → is_free content ≡ false
-linked-full node [] content leads = ap is_free (sym leads)
-linked-full node (m ∷ messages) content (other, link, is, reads, accepts, leads) = linked-full (applied link other) messages content leads
-
-put-free : (content : Content) → is_freeing (effect_of_update (Put content)) ≡ is_free content
-put-free content = grind arith
-
 lead-free : (first : Content) (messages : Messages) (content : Content) → LeadTo first messages content → is_free first ≡ is_free content
 lead-free first [] content leads = ap is_free leads
-lead-free first (m ∷ messages) content (node, link, is, reads, accepts, leads) = ap is_free is ∙ sym (linked-full (applied link node) messages content leads)
+lead-free first (m ∷ messages) content (node, link, is, reads, accepts, leads) = ap is_free is ∙ lead-free (Node (applied link node)) messages content leads
 
 chain-free : (chain : Chain) (content : Content) → Makes (messages_of chain) content → is_empty effect_of_entry chain ≡ is_free content
 chain-free [] content makes = absurd makes
 chain-free (entry ∷ chain) content (first, reads, leads) =
-    ap is_freeing (reads_effect entry.message.kind entry.message.payload (Put first) reads) ∙ put-free first ∙ lead-free first (messages_of chain) content leads
+    let put : is_freeing (effect_of_update (Put first)) ≡ is_free first = grind arith in
+    ap is_freeing (reads_effect entry.message.kind entry.message.payload (Put first) reads) ∙ put ∙ lead-free first (messages_of chain) content leads
 
 -- a chain that makes a node isn't
 pub node-full : (chain : Chain) (node : WholeNode) → Makes (messages_of chain) (Node node) → is_empty effect_of_entry chain ≡ false
@@ -32,14 +26,10 @@ full-unplaced chain = grind arith
 
 -- the same of what its page holds
 pub holds-free : (chain : Chain) (content : Content) → Holds (messages_of chain) content → is_empty effect_of_entry chain ≡ is_free content
-holds-free chain Damaged (full, none) = sym (full-unplaced chain) ∙ full
-holds-free chain content holds = chain-free chain content holds
+holds-free chain content holds = grind (arith, chain-free chain content, full-unplaced chain)
 
 pub kept-free : (chain : Chain) (page : Kept) → HoldsChain chain page → is_empty effect_of_entry chain ≡ kept_table.is_free page
-kept-free chain (held.Counter n) holds = chain-free chain (Counter n) holds
-kept-free chain (held.Roots roots) holds = chain-free chain (Roots roots) holds
-kept-free chain (held.Node node) holds = chain-free chain (Node node) holds
-kept-free chain page holds = holds
+kept-free chain page holds = grind (arith, chain-free chain)
 
 -- ---- the pages of the state are those of the table
 

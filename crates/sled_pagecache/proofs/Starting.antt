@@ -1,19 +1,18 @@
 -- The pages that a cache is opened with.
-use Rattle.sled_pagecache.proofs.Names.{◌≡◌, ◌≤◌, ◌<◌, ◌^◌, ℕ, zero, suc, Bool, true, false, cond, List, [], ◌∷◌, ◌++◌, length, map, take, drop, set, get_or, slice_get, slice_index_or, Option, None, Some, is_some, Result, Ok, refl, sym, ◌∙◌, ap, subst, arith, eq-eqb, drop-nil, take-nil, take-append_seam, nat_tests, length-append, length-map, append-nil, AllZip-long, slice_get-get_or, slice_get_past, slice_get_within, none-some, same_Some, AllByRecursion, AllZip, IfSome, DiskPtr, Refusal, Io, Corruption, OutOfMemory, is_open, open_after, is_chain, is_empty, chains_with_change, Content, Put, Event, Change, Message, Entry, Chain, Messages, messages_of, placed_entry, effect_of, effect_of_entry, holds-made, IsSized, Makes, Holds, Hold, IsLeft, now, unplaced_state, message_of, zip-append, Ghosts, place_of, roots_event, IsLoaded, IsUnread, AreRecovered, AreRead, AreFound, IsFoundAt, IsOwnAt, IfSome_then, IsTable, IsOpenedWith, RefusesOwn, RefusesPages, next_id, counter_event, events_of_roots, events_at_start, stamps_at_start, first_id, HoldsChain, IsKept, is_resident, place_of_freeing, free_ids, Proceeds, refusal_in, is_misfit, AllFit, BeginsMisfit, IsFit, Wrote, IsRoots, IsCounter, IsFreeOrNode, AreOwn, IsConsistent, stamps_in, resident_in, CacheInfo, Config, StickyLog, Kept, Page, get_or_from_slice_get, zip-at, begin_page, Counter, Roots, add-by-id, all-by-id, at-id, by-id-all, past-two, zip-first, zip-second}
+use Rattle.sled_pagecache.proofs.Names.{◌≡◌, ◌≤◌, ◌<◌, ◌^◌, ℕ, zero, suc, Bool, true, false, cond, List, [], ◌∷◌, ◌++◌, length, map, take, drop, set, get_or, slice_get, slice_index_or, Option, None, Some, is_some, Result, Ok, refl, sym, ◌∙◌, ap, subst, arith, eq-eqb, drop-nil, take-nil, take-append_seam, nat_tests, length-append, length-map, append-nil, AllZip-long, slice_get-get_or, slice_get_past, slice_get_within, none-some, same_Some, AllByRecursion, AllZip, IfSome, DiskPtr, Refusal, Io, Corruption, OutOfMemory, is_open, open_after, is_chain, is_empty, chains_with_change, Content, Put, Event, Change, Message, Entry, Chain, Messages, messages_of, placed_entry, effect_of, effect_of_entry, holds-made, IsSized, Makes, Holds, Hold, IsLeft, now, unplaced_state, message_of, zip-append, Ghosts, place_of, roots_event, IsLoaded, IsUnread, AreRecovered, AreRead, AreFound, IsFoundAt, IsOwnAt, IfSome_then, IsTable, IsOpenedWith, RefusesOwn, RefusesPages, next_id, counter_event, events_of_roots, events_at_start, stamps_at_start, first_id, HoldsChain, IsKept, is_resident, place_of_freeing, free_ids, Proceeds, refusal_in, is_misfit, AllFit, BeginsMisfit, IsFit, Wrote, IsRoots, IsCounter, IsFreeOrNode, AreOwn, IsConsistent, stamps_in, resident_in, CacheInfo, Config, StickyLog, Kept, Page, get_or_from_slice_get, begin_page, zip-set, set-get_or, length-set, Counter, Roots, add-by-id, all-by-id, at-id, by-id-all, past-two, zip-first, zip-second}
 use Rattle.sled_base.specs.declared.kinds.LogKind.TheVariants as effects
 use Rattle.sled_node.specs.Meta as meta
 use Rattle.sled_pagecache.proofs.ProperPages.{all-append}
 use Rattle.sled_pagecache.proofs.Linked.{full-free}
 use Rattle.sled_pagecache.proofs.OwnPages.{IsOwn, own-one, misfit-unfit, first-pointer}
-use Rattle.sled_pagecache.proofs.Proceeding.{nil-right, proceeds-unplaced, proceeds-then, proceeds-first}
+use Rattle.sled_pagecache.proofs.Proceeding.{nil-parts, proceeds-unplaced, proceeds-then, proceeds-first}
+use Rattle.sled_pagecache.proofs.RecoveredPages.{if-some}
 use Rattle.sled_pagecache.proofs.Tables.{went-chains}
+use Rattle.sled_pagecache.specs.Inside.Loading.{AreBeside}
 use Rattle.sled_pagecache.specs.State as state
 use Rattle.sled_pagecache.specs.declared.pagecache.page.Kept.TheVariants as kept
 
 -- ---- a system page that is made
-
-new-chain : (held : List Chain) (pid : ℕ) (entry : Entry) → pid ≡ length held → begin_page effect_of_entry held pid entry ≡ held ++ (entry ∷ []) ∷ []
-new-chain held pid entry is = ap (λ b. cond b (held ++ (entry ∷ []) ∷ []) (set held pid (entry ∷ []))) (eq-eqb pid (length held) is)
 
 module _ {L : Type 0} (g : Ghosts L) where
   module _ (old new : StickyLog L) (pid stamp : ℕ) (content : Content) (info : CacheInfo) (wrote : Wrote g old new pid (Put content) stamp (Ok info)) where
@@ -36,7 +35,7 @@ module _ {L : Type 0} (g : Ghosts L) where
               let held = now effect_of_entry (g.state old.log) in
               let long : length pages ≡ length held = AllZip-long IsKept held pages (table.kept known) in
               let is : now effect_of_entry (g.state new.log) ≡ held ++ (entry ∷ []) ∷ [] =
-              wrote.writes.chains known ∙ ap (λ kind. chains_with_change effect_of_entry kind held pid entry) effect ∙ new-chain held pid entry (last ∙ long) in
+              wrote.writes.chains known ∙ ap (λ kind. chains_with_change effect_of_entry kind held pid entry) effect ∙ ap (λ b. cond b (held ++ (entry ∷ []) ∷ []) (set held pid (entry ∷ []))) (eq-eqb pid (length held) (last ∙ long)) in
               let kept : IsKept (entry ∷ []) page = record { places = λ _. sym (ap (map place_of) infos); long = sym (ap length infos); holds = holds (entry ∷ []) (content, wrote.is, refl) } in
               subst (λ (l : List Chain). AllZip IsKept l (pages ++ page ∷ [])) (sym is) (zip-append IsKept held pages ((entry ∷ []) ∷ []) (page ∷ []) (table.kept known) (kept, tt));
           hold = (add-by-id _ pages page table.hold.0 (subst (λ n. IsOwnAt n page.kept) last own), all-append _ pages (page ∷ []) table.hold.1 ((omega (arith, one)), tt));
@@ -45,100 +44,44 @@ module _ {L : Type 0} (g : Ghosts L) where
           sized = wrote.writes.sized;
         })
 
-  -- the page of the named roots, of which there are none
-  pub wrote-roots : (old new : StickyLog L) (stamp : ℕ) (result : Result CacheInfo Refusal) (roots : meta.Roots) (pages : List Page)
-      → ((pages : List Messages) → g.tells → (g.state old.log).usable ≡ true → g.left_since old.log (g.moment old.log) pages → IsLeft effect_of (unplaced_state (g.state old.log)) [] pages)
-      → old.fault ≡ false → (g.state old.log).usable ≡ true → roots ≡ [] → pages ≡ []
-      → Wrote g old new 0 (Put (Roots roots)) stamp result
-      → Proceeds g old new (events_of_roots pages) (refusal_in result)
-  wrote-roots old new stamp result roots pages only clear usable none empty wrote =
-      subst (λ (l : List Page). Proceeds g old new (events_of_roots l) (refusal_in result)) (sym empty)
-      (subst (λ (r : meta.Roots). Proceeds g old new (Change 0 (message_of (Put (Roots r))) ∷ []) (refusal_in result)) none
-      (proceeds-unplaced g old new (Change 0 (message_of (Put (Roots roots)))) result only clear usable wrote.writes.went wrote.writes.cause))
-
 -- ---- the contents of the system pages
 
-loaded-with : (chain : Chain) (page other : Page) (content : Content) → IsLoaded chain page → IsOwn content → Makes (messages_of chain) content
-    → other.stamp ≡ page.stamp → other.infos.items ≡ page.infos.items → HoldsChain chain other.kept → IsLoaded chain other
-loaded-with chain page other content is own makes stamp infos holds = record {
-  kept = record {
-    places = λ _. is.kept.places (full-free chain page.kept (own-one chain content own makes).1 is.kept.holds) ∙ sym (ap (map place_of) infos);
-    long = is.kept.long ∙ sym (ap length infos);
-    holds = holds;
-  };
-  at = is.at ∙ sym (ap (map place_of_freeing) infos);
-  stamp = stamp ∙ is.stamp;
-}
-
-unread-node : (held : Kept) → IsUnread held → IsFreeOrNode held
-unread-node held unread = grind arith
-
--- a page that was recovered
-pub loaded-at : {tells : Type 0} (pid : ℕ) (held then : List Chain) (pages : List Page) (page : Page) → AreRecovered tells held pages → tells → then ≡ held → slice_get pages pid ≡ Some page → IsLoaded (slice_index_or then pid []) page
-loaded-at pid held then pages page are known same at =
-    subst (λ (l : List Chain). IsLoaded (slice_index_or l pid []) page) (sym same)
-    (subst (IsLoaded (slice_index_or held pid [])) (get_or_from_slice_get pages pid page page at) (zip-at IsLoaded pid held pages [] page (are.kept known) (slice_get_within pages pid page at)))
-
--- the second page, where the first was read
-pub second-found : (pages : List Page) (other page : Page) → slice_get (set pages 0 other) 1 ≡ Some page → slice_get pages 1 ≡ Some page
-second-found [] other page at = absurd cc
-second-found (x ∷ pages) other page at = at
-
-pub second-none : (pages : List Page) (other : Page) → slice_get (set pages 0 other) 1 ≡ None → length pages < 2
-second-none [] other none = omega arith
-second-none (x ∷ []) other none = omega arith
-second-none (x ∷ y ∷ pages) other none = absurd cc
-
-module _ {tells : Type 0} (held : List Chain) (roots : meta.Roots) (n : ℕ) (makes : tells → Makes (messages_of (slice_index_or held 0 [])) (Roots roots)) where
-  pub read-both : (then : List Chain) (pages : List Page) (p q first second : Page) → (tells → then ≡ held) → AreRecovered tells held pages → 1 < length pages
-      → p ≡ get_or pages 0 p → first.stamp ≡ p.stamp → first.infos.items ≡ p.infos.items → first.kept ≡ kept.Roots roots
-      → q ≡ get_or (set pages 0 first) 1 q → second.stamp ≡ q.stamp → second.infos.items ≡ q.infos.items → second.kept ≡ kept.Counter n
-      → (tells → Makes (messages_of (slice_index_or then 1 [])) (Counter n))
-      → AreRead tells held (set (set pages 0 first) 1 second) (Some n)
-  read-both then (x ∷ y ∷ pages) p q first second same are long p-is p-stamp p-infos p-kept q-is q-stamp q-infos q-kept counts = record {
-    kept = λ known. by held (makes known) (same known) (are.kept known) (counts known);
-    hold = (found, λ few. absurd (omega (arith, few)));
-    few = are.few;
+-- A page whose content was read in its place is as its chain says, like the others.
+module _ {tells : Type 0} (held : List Chain) (pages : List Page) (pid : ℕ) (page other : Page) (content : Content) (own : IsOwn content) (at : slice_get pages pid ≡ Some page) where
+  pub read-page : {Hold : List Page → Type 0} → AreBeside tells held pages IsLoaded Hold → (tells → Makes (messages_of (slice_index_or held pid [])) content)
+      → other.stamp ≡ page.stamp → other.infos.items ≡ page.infos.items → ((chain : Chain) → Makes (messages_of chain) content → HoldsChain chain other.kept)
+      → (Then : List Page → Type 0) → Then (set pages pid other) → AreBeside tells held (set pages pid other) IsLoaded Then
+  read-page are makes stamp infos holds Then hold = record {
+    kept = λ known.
+        let chain = slice_index_or held pid [] in
+        let is = zip-second IsLoaded held pages pid page [] (are.kept known) at in
+        let loaded : IsLoaded chain other = record {
+          kept = record {
+            places = λ _. is.kept.places (full-free chain page.kept (own-one chain content own (makes known)).1 is.kept.holds) ∙ sym (ap (map place_of) infos);
+            long = is.kept.long ∙ sym (ap length infos);
+            holds = holds chain (makes known);
+          };
+          at = is.at ∙ sym (ap (map place_of_freeing) infos);
+          stamp = stamp ∙ is.stamp;
+        } in
+        subst (λ (l : List Chain). AllZip IsLoaded l (set pages pid other)) (set-get_or held pid []) (zip-set IsLoaded pid held pages chain other (are.kept known) loaded);
+    hold = hold;
+    few = subst (λ n. n ≤ 2 ^ 37) (sym (length-set pages pid other)) are.few;
     chains_are = are.chains_are;
     sized = are.sized;
   }
-    where
-      found : (k : ℕ) → IfSome (slice_get (first ∷ second ∷ pages) k) (λ page. IsFoundAt (Some n) k page.kept)
-      found zero = subst IsRoots (sym p-kept) tt
-      found (suc zero) = (n, q-kept, refl)
-      found (suc (suc k)) = all-by-id _ pages are.hold.1.1 k
-
-      by : (held : List Chain) → Makes (messages_of (slice_index_or held 0 [])) (Roots roots) → then ≡ held → AllZip IsLoaded held (x ∷ y ∷ pages) → Makes (messages_of (slice_index_or then 1 [])) (Counter n)
-          → AllZip IsLoaded held (set (set (x ∷ y ∷ pages) 0 first) 1 second)
-      by (c ∷ d ∷ rest) makes same loaded counts =
-          let counted : Makes (messages_of d) (Counter n) = subst (λ (l : List Chain). Makes (messages_of (slice_index_or l 1 [])) (Counter n)) same counts in (
-            loaded-with c p first (Roots roots) (subst (IsLoaded c) (sym p-is) loaded.0) tt makes p-stamp p-infos (subst (HoldsChain c) (sym p-kept) makes),
-            (loaded-with d q second (Counter n) (subst (IsLoaded d) (sym q-is) loaded.1.0) tt counted q-stamp q-infos (subst (HoldsChain d) (sym q-kept) counted), loaded.1.1),
-          )
-      by held makes same loaded counts = absurd (assumption loaded)
-  read-both then pages p q first second same are long p-is p-stamp p-infos p-kept q-is q-stamp q-infos q-kept counts = absurd (omega (arith, long))
 
 -- the first alone, where there is no other
-pub read-first : {tells : Type 0} (held : List Chain) (roots : meta.Roots) (pages : List Page) (p first : Page) → (tells → Makes (messages_of (slice_index_or held 0 [])) (Roots roots)) → AreRecovered tells held pages → length pages < 2
-    → slice_get pages 0 ≡ Some p → first.stamp ≡ p.stamp → first.infos.items ≡ p.infos.items → first.kept ≡ kept.Roots roots → AreRead tells held (set pages 0 first) None
-read-first held roots [] p first makes are few at p-stamp p-infos p-kept = absurd cc
-read-first held roots (x ∷ []) p first makes are few at p-stamp p-infos p-kept = record {
-  kept = λ known. by held (makes known) (are.kept known);
-  hold = (found, λ few. refl);
-  few = are.few;
-  chains_are = are.chains_are;
-  sized = are.sized;
-}
-  where
-    found : (k : ℕ) → IfSome (slice_get (first ∷ []) k) (λ page. IsFoundAt None k page.kept)
-    found zero = subst IsRoots (sym p-kept) tt
-    found (suc k) = tt
+pub found-first : (pages : List Page) (first : Page) → length pages < 2 → IsRoots first.kept → AreFound (set pages 0 first) None
+found-first [] first few roots = ((λ k. tt), λ few. refl)
+found-first (x ∷ []) first few roots = (elim [ zero ↦ roots | suc k ↦ tt ], λ few. refl)
+found-first (x ∷ y ∷ pages) first few roots = absurd (omega (arith, few))
 
-    by : (held : List Chain) → Makes (messages_of (slice_index_or held 0 [])) (Roots roots) → AllZip IsLoaded held (x ∷ []) → AllZip IsLoaded held (first ∷ [])
-    by (c ∷ rest) makes loaded =
-        (loaded-with c p first (Roots roots) (subst (IsLoaded c) (same_Some x p at) loaded.0) tt makes p-stamp p-infos (subst (HoldsChain c) (sym p-kept) makes), loaded.1)
-    by held makes loaded = absurd (assumption loaded)
-read-first held roots (x ∷ y ∷ pages) p first makes are few at p-stamp p-infos p-kept = absurd (omega (arith, few))
+pub found-both : (pages : List Page) (first second : Page) (n : ℕ) → 1 < length pages → AllByRecursion (λ page. IsUnread page.kept) pages → IsRoots first.kept → second.kept ≡ kept.Counter n
+    → AreFound (set (set pages 0 first) 1 second) (Some n)
+found-both (x ∷ y ∷ pages) first second n both unread roots counter =
+    (elim [ zero ↦ roots | suc zero ↦ (n, counter, refl) | suc (suc k) ↦ all-by-id _ pages unread.1.1 k ], λ few. absurd (omega (arith, few)))
+found-both pages first second n both unread roots counter = absurd (omega (arith, both))
 
 -- ---- why they weren't read
 
@@ -171,21 +114,19 @@ own-refuses pid held then pages refusal same are known lt first r = absurd r
 short-by : (pid : ℕ) (page : Page) → is_misfit pid page ≡ false → length page.infos.items ≤ 10
 short-by pid page fits = grind (arith, nat_tests)
 
-kept-fit : (counter : Option ℕ) (pid : ℕ) (chain : Chain) (held : Kept) → HoldsChain chain held → IsFoundAt counter pid held → length chain ≤ 10 → IsFit pid chain
-kept-fit counter pid chain held h1 h2 h3 = grind arith
+page-fit : (counter : Option ℕ) (k : ℕ) (chain : Chain) (page : Page) → IsLoaded chain page → IsFoundAt counter k page.kept → is_misfit k page ≡ false → IsFit k chain
+page-fit counter k chain page is found fits =
+    let short = short-by k page fits in
+    let same = is.kept.long in
+    let holds = is.kept.holds in
+    grind arith
 
 fits-at : (held : List Chain) (pages : List Page) (counter : Option ℕ) → AllZip IsLoaded held pages → AreFound pages counter
     → (k : ℕ) → IfSome (slice_get pages k) (λ page. is_misfit k page ≡ false) → IfSome (slice_get held k) (IsFit k)
-fits-at held pages counter loaded found k fits = by (slice_get held k) refl
-  where
-    by : (o : Option Chain) → slice_get held k ≡ o → IfSome o (IsFit k)
-    by None at = tt
-    by (Some chain) at =
-        let paired = zip-first IsLoaded held pages k chain loaded at in
-        let page = paired.0 in
-        let short = short-by k page (subst (λ (o : Option Page). IfSome o (λ page. is_misfit k page ≡ false)) paired.1 fits) in
-        let same = paired.2.kept.long in
-        kept-fit counter k chain page.kept paired.2.kept.holds (at-id _ pages k page found.0 paired.1) (omega (arith, short, same))
+fits-at held pages counter loaded found k fits = if-some (slice_get held k) (λ chain at.
+    let paired = zip-first IsLoaded held pages k chain loaded at in
+    let page = paired.0 in
+    page-fit counter k chain page paired.2 (at-id _ pages k page found.0 paired.1) (subst (λ (o : Option Page). IfSome o (λ page. is_misfit k page ≡ false)) paired.1 fits))
 
 pub begins-amiss : {tells : Type 0} (held : List Chain) (pages : List Page) (counter : Option ℕ) (pointer : DiskPtr) → AreRead tells held pages counter → tells → BeginsMisfit pages pointer
     → RefusesPages held (Corruption (Some pointer))
@@ -205,18 +146,13 @@ all-kept [] [] loaded = tt
 all-kept (c ∷ held) (p ∷ pages) loaded = (loaded.0.kept, all-kept held pages loaded.1)
 all-kept held pages loaded = absurd loaded
 
-own-found : (pages : List Page) (counter : Option ℕ) → AreFound pages counter → AreOwn pages
-own-found pages counter found k = IfSome_then (slice_get pages k) (found.0 k) (λ page. by k page.kept)
-  where
-    by : (k : ℕ) (held : Kept) → IsFoundAt counter k held → IsOwnAt k held
-    by zero held is = is
-    by (suc zero) held is = subst IsCounter (sym is.1) tt
-    by (suc (suc k)) held is = unread-node held is
+own-by : (counter : Option ℕ) (k : ℕ) (held : Kept) → IsFoundAt counter k held → IsOwnAt k held
+own-by counter k held found = grind arith
 
 pub read-table : (tells : Type 0) (held : List Chain) (pages : List Page) (counter : Option ℕ) → AreRead tells held pages counter → AllFit pages → IsTable tells held pages
 read-table tells held pages counter are fit = record {
   kept = λ known. all-kept held pages (are.kept known);
-  hold = (own-found pages counter are.hold, by-id-all _ pages (λ k. IfSome_then (slice_get pages k) (fit k) (λ page. short-by k page)));
+  hold = ((λ k. IfSome_then (slice_get pages k) (are.hold.0 k) (λ page. own-by counter k page.kept)), by-id-all _ pages (λ k. IfSome_then (slice_get pages k) (fit k) (λ page. short-by k page)));
   few = are.few;
   chains_are = are.chains_are;
   sized = are.sized;
@@ -239,13 +175,6 @@ all-fresh held pages loaded = absurd loaded
 
 -- ---- which contents lie in memory
 
-pub read-unread : {tells : Type 0} (held : List Chain) (pages : List Page) (counter : Option ℕ) → AreRead tells held pages counter → (pid : ℕ) → 2 ≤ pid → IfSome (slice_get pages pid) (λ page. IsUnread page.kept)
-read-unread held pages counter are pid from = IfSome_then (slice_get pages pid) (are.hold.0 pid) (λ page. (past-two IsRoots _ IsUnread pid page.kept from).1)
-
--- no page is there
-pub past-both : (old new : List Page) → length old < 2 → length new ≡ 2 → (pid : ℕ) → 2 ≤ pid → slice_get new pid ≡ slice_get old pid
-past-both old new few two pid from = slice_get_past new pid (omega (arith, two, from)) ∙ sym (slice_get_past old pid (omega (arith, few, from)))
-
 unread-empty : (chain : Chain) (held : Kept) → HoldsChain chain held → IsUnread held → is_resident held ≡ true → is_empty effect_of_entry chain ≡ true
 unread-empty chain held holds unread is = grind arith
 
@@ -258,7 +187,7 @@ resident-empty (c ∷ held) (p ∷ pages) all (suc pid) unread is = resident-emp
 
 -- ---- what is told of the pages that are missing
 
-events-split : {X : Type 0} (pages : List X) → length pages < 2 → events_of_roots pages ++ counter_event ∷ [] ≡ events_at_start pages
+pub events-split : {X : Type 0} (pages : List X) → length pages < 2 → events_of_roots pages ++ counter_event ∷ [] ≡ events_at_start pages
 events-split pages h1 = grind arith
 
 pub events-same : {X Y : Type 0} (pages : List X) (others : List Y) → length pages ≡ length others → events_at_start pages ≡ events_at_start others
@@ -266,10 +195,6 @@ events-same pages others long = ap (λ n. drop n (roots_event ∷ counter_event 
 
 pub read-fewer : {tells : Type 0} (held : List Chain) (pages : List Page) (counter : Option ℕ) → AreRead tells held pages counter → tells → length held < 2 → length pages < 2
 read-fewer held pages counter are known few = let long : length pages ≡ length held = AllZip-long IsLoaded held pages (are.kept known) in omega (arith, long, few)
-
-pub none-missing : {X : Type 0} (pages : List X) → 1 < length pages → events_at_start pages ≡ []
-none-missing (p ∷ q ∷ pages) both = drop-nil (length pages)
-none-missing pages both = absurd (omega (arith, both))
 
 -- however many of them came, no batch is open
 pub changes-closed : (n : ℕ) (came rest : List (Event Message)) → came ++ rest ≡ drop n (roots_event ∷ counter_event ∷ []) → open_after false came ≡ false
@@ -293,31 +218,12 @@ module _ {L : Type 0} (g : Ghosts L) where
 
   -- the pages that are missing are made
   module _ {X : Type 0} (old mid : StickyLog L) (pages : List X) (few : length pages < 2) where
-    pub missing-first : (refusal : Refusal) → Proceeds g old mid (events_of_roots pages) (Some refusal) → Proceeds g old mid (events_at_start pages) (Some refusal)
-    missing-first refusal one =
-        subst (λ (l : List (Event Message)). Proceeds g old mid l (Some refusal)) (events-split pages few) (proceeds-first g old mid (events_of_roots pages) (counter_event ∷ []) refusal one)
-
     pub missing-both : (new : StickyLog L) (refusal : Option Refusal) → Proceeds g old mid (events_of_roots pages) None → Proceeds g mid new (counter_event ∷ []) refusal → Proceeds g old new (events_at_start pages) refusal
     missing-both new refusal one two =
         subst (λ (l : List (Event Message)). Proceeds g old new l refusal) (events-split pages few) (proceeds-then g old mid new (events_of_roots pages) (counter_event ∷ []) refusal one two)
 
     pub missing-some : events_at_start pages ≡ [] → ⊥
-    missing-some none = (let e = nil-right (events_of_roots pages) (counter_event ∷ []) (events-split pages few ∙ none) in cc)
-
-  -- what always holds of a cache
-  pub table-consistent : {X : Type 0} (old new : StickyLog L) (before : List X) (pages : List Page) (free : List ℕ)
-      → Proceeds g old new (events_at_start before) None → is_open (g.state old.log).pending ≡ false → old.batch ≡ false
-      → IsTable g.tells (now effect_of_entry (g.state new.log)) pages → 1 < length pages → free ≡ free_ids 0 pages
-      → IsConsistent g.tells g.state new pages free
-  table-consistent old new before pages free done closed unopened table both frees = record {
-    opened = λ clear. stays-closed old new (events_at_start before) done closed (events-closed before) ∙ sym (done.reaches.batch ∙ unopened);
-    beside = λ clear. record { usable = done.reaches.usable clear; kept = table.kept; chains = table.chains_are; sized = table.sized };
-    own = table.hold.0;
-    both = omega (arith, both);
-    short = table.hold.1;
-    few = table.few;
-    free = frees;
-  }
+    missing-some none = (let e = (nil-parts (events_of_roots pages) (counter_event ∷ []) (events-split pages few ∙ none)).1 in cc)
 
 -- ---- what the cache is opened with
 

@@ -17,20 +17,12 @@ module _ (chains : List Chain) (pid : ℕ) (there : pid < length chains) where
 
   pub put-chains : (k : Kept) → CanPut k → (info : CacheInfo)
       → chains_from effect_of_entry chains (Change pid (placed_entry (message_of (Put (content_of k))) (place_of info))) ≡ slice_set chains pid (placed_entry (message_of (Put (content_of k))) (place_of info) ∷ [])
-  put-chains kept.Free can info = begun-chains (placed_entry (message_of (Put Free)) (place_of info))
-  put-chains (kept.Counter n) can info = begun-chains (placed_entry (message_of (Put (Counter n))) (place_of info))
-  put-chains (kept.Roots roots) can info = begun-chains (placed_entry (message_of (Put (Roots roots))) (place_of info))
-  put-chains (kept.Node node) can info = begun-chains (placed_entry (message_of (Put (Node node))) (place_of info))
-  put-chains k can info = absurd can
+  put-chains k can info = grind (arith, begun-chains (placed_entry (message_of (Put (content_of k))) (place_of info)))
 
 -- ---- how its page is kept
 
 put-holds : (k : Kept) → CanPut k → (info : CacheInfo) → IsUpdate (message_of (Put (content_of k))) (Put (content_of k)) → HoldsChain (placed_entry (message_of (Put (content_of k))) (place_of info) ∷ []) k
-put-holds kept.Free can info reads = refl
-put-holds (kept.Counter n) can info reads = (Counter n, reads, refl)
-put-holds (kept.Roots roots) can info reads = (Roots roots, reads, refl)
-put-holds (kept.Node node) can info reads = (Node node, reads, refl)
-put-holds k can info reads = absurd can
+put-holds k can info reads = grind arith
 
 -- a page that holds what was put there
 pub kept-put : (chain : Chain) (page : Page) (k : Kept) → CanPut k → (info : CacheInfo)

@@ -1,5 +1,5 @@
 -- What is promised of a page where its message was written to the log, where the log refused it, and where none was told to it.
-use Rattle.sled_pagecache.proofs.Names.{◌≡◌, ◌≢◌, ◌<◌, ◌+◌, ℕ, true, false, List, [], ◌∷◌, length, map, refl, sym, ◌∙◌, ap, subst, inl, inr, Ok, Err, Refusal, OutOfMemory, Why, LogFull, Change, Update, Put, Message, Messages, effect_of, effect_of_entry, now, IsLeft, unplaced_state, IsUpdate, message_of, head_size, Ghosts, StickyLog, Accesses, CacheInfo, Page, Kept, chain_at, Went, Went-none, IsCaused-handed_on, IsOfLog, WasAccessed, IsTouched, capped_size, CanPut, content_of, IsRaised, WritesMessage, Wrote, WritesMap, MakesAppend, RefusesAppend}
+use Rattle.sled_pagecache.proofs.Names.{◌≡◌, ◌≢◌, ◌<◌, ◌+◌, ℕ, true, false, List, [], ◌∷◌, length, map, refl, sym, ◌∙◌, ap, subst, inl, inr, Ok, Err, Refusal, OutOfMemory, Why, LogFull, Change, Update, Put, Message, Messages, effect_of, effect_of_entry, now, IsLeft, unplaced_state, IsUpdate, message_of, head_size, Ghosts, StickyLog, Accesses, CacheInfo, Page, Kept, chain_at, Went, Went-none, IsCaused-handed_on, IsOfLog, WasAccessed, IsTouched, capped_size, CanPut, content_of, IsRaised, WritesMessage, Wrote, WritesMap, MakesAppend, RefusesAppend, arith}
 use Rattle.sled_base.specs.declared.types.Refusal.TheVariants.{Unsupported}
 use Rattle.sled_pagecache.proofs.Linked.{begun-handed}
 use Rattle.sled_pagecache.proofs.Sizes.{size-alone}
@@ -11,17 +11,7 @@ module _ {L : Type 0} (g : Ghosts L) where
   module _ {old : StickyLog L} (clear : old.fault ≡ false) (usable : (g.state old.log).usable ≡ true)
       (only : (pages : List Messages) → g.tells → (g.state old.log).usable ≡ true → g.left_since old.log (g.moment old.log) pages → IsLeft effect_of (unplaced_state (g.state old.log)) [] pages) where
     pub writes-none : {pid : ℕ} {m : Message} {stamp : ℕ} → WritesMessage g old old pid m stamp (Err OutOfMemory)
-    writes-none = record {
-      went = Went-none g old usable only;
-      cause = record { fault = clear; read = λ is. absurd cc; write = λ is. absurd cc; full = λ is. absurd cc };
-      of_log = λ told. tt;
-      reads = refl;
-      at = tt;
-      size = tt;
-      chains = λ told. tt;
-      same = λ told free. refl;
-      sized = λ told. tt;
-    }
+    writes-none = grind (arith, Went-none g old usable only)
 
     pub writes-no-map : {accesses : Accesses} {payload : List ℕ} {stamp : ℕ} → WritesMap g old old accesses accesses payload stamp (Err OutOfMemory)
     writes-no-map = record { writes = writes-none; accessed = tt; touched = inl refl }
@@ -29,32 +19,12 @@ module _ {L : Type 0} (g : Ghosts L) where
     -- memory ran out
     pub refuses-memory : {pid : ℕ} {update : Update} {accesses then : Accesses} {why : Refusal → Type 0} {stays : Type 0} → IsUpdate (message_of update) update → why OutOfMemory → stays → IsTouched accesses pid then
         → RefusesAppend g pid update old old accesses then why stays OutOfMemory
-    refuses-memory is why left touched = record {
-      is = is;
-      went = Went-none g old usable only;
-      cause = record { fault = clear; read = λ is. absurd cc; write = λ is. absurd cc; full = λ is. absurd cc };
-      reads = refl;
-      same = λ told free. refl;
-      refused = λ told. why;
-      left = left;
-      touched = touched;
-      unasked = λ told. inl tt;
-    }
+    refuses-memory is why left touched = grind (arith, Went-none g old usable only)
 
     -- nothing was asked for
     pub refuses-unasked : {pid : ℕ} {update : Update} {accesses : Accesses} {why : Refusal → Type 0} {stays : Type 0} (reason : Why) → reason ≢ LogFull → IsUpdate (message_of update) update → why (Unsupported reason) → stays
         → RefusesAppend g pid update old old accesses accesses why stays (Unsupported reason)
-    refuses-unasked reason other is why left = record {
-      is = is;
-      went = Went-none g old usable only;
-      cause = record { fault = clear; read = λ is. absurd cc; write = λ is. absurd cc; full = λ is. absurd (other (let e = is in cc)) };
-      reads = refl;
-      same = λ told free. refl;
-      refused = λ told. why;
-      left = left;
-      touched = inl refl;
-      unasked = λ told. inr refl;
-    }
+    refuses-unasked reason other is why left = grind (arith, Went-none g old usable only)
 
   -- ---- the log refused it
 
@@ -62,17 +32,9 @@ module _ {L : Type 0} (g : Ghosts L) where
       → (IsOfLog refusal → why refusal) → stays → IsTouched accesses pid then → RefusesAppend g pid update old new accesses then why stays refusal
   refuses-written {pid} {update} {stamp} {old} {new} {accesses} {then} {refusal} wrote why left touched =
       let writes = wrote.writes in
-      record {
-        is = wrote.is;
-        went = subst (Went g old new) (begun-handed CacheInfo (Unit {0}) refusal (Change pid (message_of update) ∷ [])) writes.went;
-        cause = IsCaused-handed_on g old new (g.is_full old.log (length (message_of update).payload)) refusal writes.cause;
-        reads = writes.reads;
-        same = writes.same;
-        refused = λ told. why (writes.of_log told);
-        left = left;
-        touched = touched;
-        unasked = λ told. inl (writes.of_log told);
-      }
+      let went = subst (Went g old new) (begun-handed CacheInfo (Unit {0}) refusal (Change pid (message_of update) ∷ [])) writes.went in
+      let cause = IsCaused-handed_on g {U = Unit {0}} old new (g.is_full old.log (length (message_of update).payload)) refusal writes.cause in
+      grind arith
 
   -- ---- the page holds it
 
@@ -82,14 +44,15 @@ module _ {L : Type 0} (g : Ghosts L) where
       → MakesAppend g pid (Put (content_of held)) old new accesses then q page held
   makes-written {pid} {old} {new} {accesses} {then} {q} {page} {info} {size} held can wrote there raised infos holds takes accessed =
       let writes = wrote.writes in
+      let set = λ (told : g.tells). writes.chains told ∙ put-chains _ pid (there told) held can info in
       record {
         is = wrote.is;
         went = writes.went;
         fault = writes.cause.fault;
         reads = writes.reads;
         sized = writes.sized;
-        others = λ told. other-pages _ pid (there told) _ _ (writes.chains told ∙ put-chains _ pid (there told) held can info);
-        kept = λ told. kept-put (chain_at (g.state new.log) pid) page held can info (at-page _ pid (there told) _ _ (writes.chains told ∙ put-chains _ pid (there told) held can info)) infos holds wrote.is;
+        others = λ told. other-pages _ pid (there told) _ _ (set told);
+        kept = λ told. kept-put (chain_at (g.state new.log) pid) page held can info (at-page _ pid (there told) _ _ (set told)) infos holds wrote.is;
         stamp = raised;
         holds = holds;
         stamps = ap (map (λ (info : CacheInfo). info.ts)) infos ∙ ap (λ n. n ∷ []) (writes.at ∙ sym raised.1);

@@ -1,4 +1,5 @@
 -- What leaves memory behind a call, beside the table of pages.
+use Rattle.std.specs.Global.{Vec}
 use Rattle.std.specs.Prelude.{◌≡◌, ℕ, Bool, List, [], ◌∷◌, ◌++◌, Option, None, Some, Result, Ok, Err, MatchOption, slice_get, slice_set}
 use Rattle.sled_base.specs.Errors.{error_of}
 use Rattle.sled_base.specs.declared.types.Error.{Error}
@@ -44,11 +45,16 @@ abbrev pub lost_pages : Option ℕ → List ℕ
 lost_pages None = []
 lost_pages (Some pid) = pid ∷ []
 
--- What the list dropped was paged out, if a page was accessed, and with it a page that is lost.
+-- what the list dropped, if a page was accessed, and with it those that are lost
+abbrev pub left_pages : Option (Vec ℕ) → List ℕ → List ℕ
+left_pages None lost = []
+left_pages (Some dropped) lost = dropped.items ++ lost
+
+-- These were paged out.
 pub record Evicts (accesses : Accesses) (lost : Option ℕ) (old new : List Page) (then : Accesses) : Type 0 where
   pub none : then.dropped ≡ None
   pub lru : then.lru ≡ accesses.lru
-  pub out : MatchOption accesses.dropped (new ≡ old) (λ dropped. AreOut (dropped.items ++ lost_pages lost) old new)
+  pub out : AreOut (left_pages accesses.dropped (lost_pages lost)) old new
 
 -- the page of a change that was refused
 abbrev pub lost_by : {T E : Type 0} → ℕ → Result T E → Option ℕ

@@ -1,5 +1,5 @@
-use Rattle.sled_pagecache.proofs.Names.{◌+◌, ◌<◌, ◌≤◌, List, [], length, take, get_or, slice_index_or, sym, ◌∙◌, ap, subst, arith, rules, to_z, of_z, w64, SFits, to_z-of_z, err_from_is_err_and, All, AllZip, Any, one_more, Chain, IsAt, IsRead, IsFoundAs, chain_at, Went-then, Found}
-use Rattle.sled_pagecache.proofs.ChainReads.{any_at, is_at, length-known, found-all, found-more, more-next, no_info, entry_at}
+use Rattle.sled_pagecache.proofs.Names.{◌+◌, ◌<◌, ◌≤◌, List, [], length, take, get_or, slice_index_or, sym, ◌∙◌, ap, subst, arith, rules, to_z, of_z, w64, SFits, to_z-of_z, err_from_is_err_and, All, AllZip, Any, one_more, Chain, IsAt, IsRead, IsFoundAs, chain_at, Went-then, Found, Entry, take_all, get_or_default}
+use Rattle.sled_pagecache.proofs.ChainReads.{is_at, length-known, found-more, more-next, no_info, entry_at}
 use Rattle.sled_pagecache.proofs.pagecache.chain.read_chain.Goals as goal
 
 pub read-requires-clause-known : goal.read-requires-clause-known
@@ -10,8 +10,12 @@ read-requires-clause-known g c = λ known.
     let info = get_or infos i no_info in
     let fits : SFits w64 info.lsn = search rules in
     let lsn = to_z w64 (of_z w64 info.lsn) in
+    let same = length-known chain infos (c.requires.known known) in
+    let lt = c.loop-info-test.true in
+    let within : i < length chain = omega arith in
+    let entry = get_or chain i (entry_at no_info) in
     subst (λ (pages : List Chain). Any (IsAt lsn info.pointer) (slice_index_or pages c.args.pid [])) (sym (c.loop-info.invariant.same known))
-    (any_at chain infos (c.requires.known known) i no_info lsn (to_z-of_z w64 info.lsn fits) c.loop-info-test.true)
+    (i, entry, within, get_or_default chain i entry (entry_at no_info) within, is_at chain infos (c.requires.known known) i no_info lsn (to_z-of_z w64 info.lsn fits))
 
 pub returns-in_err-kind-clause-went : goal.returns-in_err-kind-clause-went
 returns-in_err-kind-clause-went g c =
@@ -65,7 +69,7 @@ returns-clause-found g c = λ known.
     let same = length-known chain c.args.infos.now (c.requires.known known) in
     let last = c.loop-info-test.false in
     let le : length chain ≤ c.loop-info.info-index = omega arith in
-    found-all chain c.loop-info.found.items c.loop-info.info-index le (c.loop-info.invariant.found known)
+    subst (λ (l : List Entry). AllZip IsFoundAs l c.loop-info.found.items) (take_all c.loop-info.info-index chain le) (c.loop-info.invariant.found known)
 
 pub returns-in_err-kind-clause-room : goal.returns-in_err-kind-clause-room
 returns-in_err-kind-clause-room g c = λ n full. c.loop-info.invariant.as_full n (c.in_err-kind.ensures.room n full)

@@ -1,13 +1,12 @@
 use Rattle.sled_pagecache.proofs.Names.{[], ◌∷◌, ◌++◌, List, sym, refl, ap, ◌∙◌, arith, Err, OutOfMemory, Counter, counter_event, CacheInfo, refused-is}
-use Rattle.sled_pagecache.proofs.Proceeding.{proceeds-none, proceeds-refused, proceeds-first, proceeds-unplaced}
+use Rattle.sled_pagecache.proofs.Proceeding.{proceeds-not, proceeds-unplaced}
 use Rattle.sled_pagecache.proofs.Starting.{own-table}
 use Rattle.sled_pagecache.proofs.pagecache.own.add_counter.Goals as goal
 
 pub returns-in_default-clause-proceeds : goal.returns-in_default-clause-proceeds
 returns-in_default-clause-proceeds g c =
     let sticky_log = c.args.sticky_log.now in
-    proceeds-first g.L.Log sticky_log sticky_log [] (counter_event ∷ []) OutOfMemory
-    (proceeds-refused g.L.Log sticky_log sticky_log [] OutOfMemory tt (proceeds-none g.L.Log sticky_log (g.met.L.Log.only_now sticky_log.log) c.requires.ready c.requires.usable))
+    proceeds-not g.L.Log sticky_log (counter_event ∷ []) OutOfMemory tt (g.met.L.Log.only_now sticky_log.log) c.requires.ready c.requires.usable
 
 pub returns-in_err-info-clause-proceeds : goal.returns-in_err-info-clause-proceeds
 returns-in_err-info-clause-proceeds g c =

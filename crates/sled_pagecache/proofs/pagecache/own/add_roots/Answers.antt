@@ -1,20 +1,20 @@
-use Rattle.sled_pagecache.proofs.Names.{[], ◌∷◌, ◌++◌, List, length, sym, refl, ap, ◌∙◌, arith, rules, Err, OutOfMemory, Roots, events_of_roots, CacheInfo, nil_from_length, refused-is}
-use Rattle.sled_pagecache.proofs.Proceeding.{proceeds-none, proceeds-refused, proceeds-first}
-use Rattle.sled_pagecache.proofs.Starting.{wrote-roots, own-table}
+use Rattle.sled_pagecache.proofs.Names.{[], ◌∷◌, ◌++◌, List, length, sym, refl, ap, ◌∙◌, arith, rules, Err, OutOfMemory, Roots, events_of_roots, CacheInfo, nil_from_length, refused-is, subst, Some, Put, Change, Proceeds, message_of}
+use Rattle.sled_pagecache.proofs.Proceeding.{proceeds-not, proceeds-unplaced}
+use Rattle.sled_pagecache.proofs.Starting.{own-table}
 use Rattle.sled_pagecache.proofs.pagecache.own.add_roots.Goals as goal
 
 pub returns-in_default-clause-proceeds : goal.returns-in_default-clause-proceeds
 returns-in_default-clause-proceeds g c =
     let sticky_log = c.args.sticky_log.now in
-    proceeds-first g.L.Log sticky_log sticky_log [] (events_of_roots c.args.pages.now.pages) OutOfMemory
-    (proceeds-refused g.L.Log sticky_log sticky_log [] OutOfMemory tt (proceeds-none g.L.Log sticky_log (g.met.L.Log.only_now sticky_log.log) c.requires.ready c.requires.usable))
+    proceeds-not g.L.Log sticky_log (events_of_roots c.args.pages.now.pages) OutOfMemory tt (g.met.L.Log.only_now sticky_log.log) c.requires.ready c.requires.usable
 
 pub returns-in_err-info-clause-proceeds : goal.returns-in_err-info-clause-proceeds
 returns-in_err-info-clause-proceeds g c =
     let sticky_log = c.args.sticky_log.now in
-    rw (refused-is c.from_residual.result _ c.from_residual.ensures.1)
-    (wrote-roots g.L.Log sticky_log c.write_roots.new.sticky_log 1 (Err c.in_err-info.field-0.0) c.default-roots.result c.args.pages.now.pages (g.met.L.Log.only_now sticky_log.log) c.requires.ready c.requires.usable
-    c.default-roots.ensures (nil_from_length c.args.pages.now.pages (search rules)) c.in_err-info.ensures)
+    let writes = c.in_err-info.ensures.writes in
+    rw (refused-is c.from_residual.result _ c.from_residual.ensures.1, nil_from_length c.args.pages.now.pages (search rules))
+    (subst (λ roots. Proceeds g.L.Log sticky_log c.write_roots.new.sticky_log (Change 0 (message_of (Put (Roots roots))) ∷ []) (Some c.in_err-info.field-0.0)) c.default-roots.ensures
+    (proceeds-unplaced g.L.Log {T = CacheInfo} sticky_log c.write_roots.new.sticky_log _ (Err c.in_err-info.field-0.0) (g.met.L.Log.only_now sticky_log.log) c.requires.ready c.requires.usable writes.went writes.cause))
 
 pub returns-clause-table : goal.returns-clause-table
 returns-clause-table g c =

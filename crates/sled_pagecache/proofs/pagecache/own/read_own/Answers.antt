@@ -1,13 +1,12 @@
 use Rattle.sled_pagecache.proofs.Names.{◌≡◌, [], length, Some, sym, ◌∙◌, ap, arith, rules, Corruption, is_free, chain_at}
 use Rattle.sled_pagecache.proofs.OwnPages.{misfit-unfit, begins-at, fits-one, found-full}
-use Rattle.sled_pagecache.proofs.Proceeding.{proceeds-none, proceeds-refused}
+use Rattle.sled_pagecache.proofs.Proceeding.{proceeds-not}
 use Rattle.sled_pagecache.proofs.pagecache.own.read_own.Goals as goal
 
 pub returns-then-is_misfit-clause-proceeds : goal.returns-then-is_misfit-clause-proceeds
 returns-then-is_misfit-clause-proceeds g c =
     let sticky_log = c.args.sticky_log.now in
-    proceeds-refused g.L.Log sticky_log sticky_log [] (Corruption (Some c.index.result.now.pointer)) tt
-    (proceeds-none g.L.Log sticky_log (g.met.L.Log.only_now sticky_log.log) c.requires.ready c.requires.usable)
+    proceeds-not g.L.Log sticky_log [] (Corruption (Some c.index.result.now.pointer)) tt (g.met.L.Log.only_now sticky_log.log) c.requires.ready c.requires.usable
 
 pub returns-then-is_misfit-clause-refused : goal.returns-then-is_misfit-clause-refused
 returns-then-is_misfit-clause-refused g c = λ told.

@@ -1,5 +1,5 @@
 use Rattle.std.proofs.Common.{◌≡◌, ◌++◌, ◌∙◌, false, List, ap, sym, subst, arith, append-nil, lt-ltb}
-use Rattle.sled_pagecache.proofs.PageChunks.{pages-push, filled-one_more, at_last-push}
+use Rattle.sled_pagecache.proofs.PageChunks.{pages-push, filled-more, at_last-push}
 use Rattle.sled_pagecache.proofs.Names.{Page, chunk_length, pages_in, AreFilled, at_last, is_unfilled}
 use Rattle.sled_pagecache.proofs.pagecache.pagetable.open_last.Goals as goal
 
@@ -12,7 +12,7 @@ pub returns-in_ok-push-clause-filled : goal.returns-in_ok-push-clause-filled
 returns-in_ok-push-clause-filled c =
     let closed : at_last (is_unfilled chunk_length) c.args.chunks.now.items ≡ false = cc in
     let len = c.new.ensures.len in
-    subst (AreFilled chunk_length) (sym c.in_ok-push.ensures.items) (filled-one_more chunk_length c.args.chunks.now.items c.new.result c.requires closed (omega arith))
+    subst (AreFilled chunk_length) (sym c.in_ok-push.ensures.items) (filled-more chunk_length c.args.chunks.now.items c.new.result c.requires closed (omega arith))
 
 pub returns-in_ok-push-clause-open : goal.returns-in_ok-push-clause-open
 returns-in_ok-push-clause-open c =

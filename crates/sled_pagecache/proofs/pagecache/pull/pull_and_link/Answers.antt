@@ -1,14 +1,15 @@
-use Rattle.sled_pagecache.proofs.Names.{rules, [], refl, ◌∙◌, inl, inr, Result, Ok, Err, Refusal, refused-is}
-use Rattle.sled_pagecache.proofs.Linking.{taken, refused, begun, caused, read-at_most}
+use Rattle.sled_pagecache.proofs.Names.{rules, [], refl, ◌∙◌, inl, inr, Result, Ok, Err, Refusal, refused-is, Went-then, is_resident, ap}
+use Rattle.sled_pagecache.proofs.Linking.{taken, refused, caused}
+use Rattle.sled_pagecache.proofs.ReadCounts.{read-all}
+use Rattle.sled_pagecache.proofs.Tables.{marks-begun}
 use Rattle.sled_pagecache.proofs.pagecache.pull.pull_and_link.Goals as goal
 
 pub returns-in-Ok : goal.returns-in-Ok
 returns-in-Ok g c =
     let read = c.in_ok-pull.ensures in
     let done = c.in-Ok.ensures in
-    let result : Result (Unit {0}) Refusal = Ok tt in
     record {
-      taken = taken g.L.Log c.args.sticky_log.now c.pull.new.sticky_log c.link_page.new.sticky_log c.args.pid c.args.page.now c.pull.new.page c.link_page.new.page c.args.link.now read.went read.cause.fault read.same read.kept read.stamp read.infos read.resident result done.linked done.is done.went done.stamp done.kept done.len done.others done.sized;
+      taken = taken g.L.Log c.args.sticky_log.now c.pull.new.sticky_log c.link_page.new.sticky_log c.args.pid c.args.page.now c.pull.new.page c.link_page.new.page c.args.link.now read.went read.cause.fault read.same read.kept read.stamp read.infos read.resident c.pull.new.page.kept (λ told. (read.kept told).holds) done.linked done.is done.went done.stamp done.kept done.len done.others done.sized;
       fault = done.cause.fault;
       unread = search rules;
       reads = search rules;
@@ -43,10 +44,11 @@ pub returns-then-was_away : goal.returns-then-was_away
 returns-then-was_away g c =
     let read = c.in_ok-pull.ensures in
     let done = c.in-Err.ensures in
+    let again : Refusal → Result (Unit {0}) Refusal = λ refusal. Err refusal in
     let result : Result (Unit {0}) Refusal = Err c.in-Err.refusal in
     record {
-      begun = begun g.L.Log c.args.sticky_log.now c.pull.new.sticky_log c.link_page.new.sticky_log c.args.pid c.args.page.now c.pull.new.page c.link_page.new.page c.args.link.now read.went read.cause.fault read.same read.kept read.stamp read.infos read.resident result done.went;
-      refused = λ told. refused g.L.Log c.args.sticky_log.now c.pull.new.sticky_log c.link_page.new.sticky_log c.args.pid c.args.page.now c.pull.new.page c.link_page.new.page c.args.link.now read.went read.cause.fault read.same read.kept read.stamp read.infos read.resident told (read.free ∙ c.requires.full) (read.own c.requires.own) result (done.refused told) done.went done.is_begun;
+      begun = record { came = _; marks = λ was. marks-begun result c.args.pid _ was; went = Went-then g.L.Log c.args.sticky_log.now c.pull.new.sticky_log c.link_page.new.sticky_log [] _ read.went read.cause.fault done.went };
+      refused = λ told. refused g.L.Log c.args.sticky_log.now c.pull.new.sticky_log c.link_page.new.sticky_log c.args.pid c.args.page.now c.pull.new.page c.link_page.new.page c.args.link.now read.went read.cause.fault read.same read.kept read.stamp read.infos read.resident c.pull.new.page.kept c.in-Err.refusal (read.kept told).holds read.resident (read.free ∙ c.requires.full) (read.own c.requires.own) (done.refused told) done.went (λ write. done.is_begun (ap again write));
       tested = search rules;
       cause = caused g.L.Log c.args.sticky_log.now c.pull.new.sticky_log c.link_page.new.sticky_log c.args.pid c.args.page.now c.pull.new.page c.link_page.new.page c.args.link.now read.went read.cause.fault read.same read.kept read.stamp read.infos read.resident result done.refused read.room done.cause;
       stamp = search rules;
@@ -57,7 +59,7 @@ returns-then-was_away g c =
       own = search rules;
       unread = search rules;
       kept_out = search rules;
-      at_most = read-at_most g.L.Log c.args.sticky_log.now c.pull.new.sticky_log c.link_page.new.sticky_log c.args.pid c.args.page.now c.pull.new.page c.link_page.new.page c.args.link.now read.went read.cause.fault read.same read.kept read.stamp read.infos read.resident result read.unread read.reads done.reads;
+      at_most = rw done.reads (read-all g.L.Log.counts c.args.sticky_log.now c.pull.new.sticky_log c.args.page.now result (is_resident c.args.page.now.kept) refl read.unread read.reads);
       touched = done.touched;
       lost = search rules;
       unasked = search rules;
@@ -67,10 +69,11 @@ pub returns-else-was_away : goal.returns-else-was_away
 returns-else-was_away g c =
     let read = c.in_ok-pull.ensures in
     let done = c.in-Err.ensures in
+    let again : Refusal → Result (Unit {0}) Refusal = λ refusal. Err refusal in
     let result : Result (Unit {0}) Refusal = Err c.in-Err.refusal in
     record {
-      begun = begun g.L.Log c.args.sticky_log.now c.pull.new.sticky_log c.link_page.new.sticky_log c.args.pid c.args.page.now c.pull.new.page c.link_page.new.page c.args.link.now read.went read.cause.fault read.same read.kept read.stamp read.infos read.resident result done.went;
-      refused = λ told. refused g.L.Log c.args.sticky_log.now c.pull.new.sticky_log c.link_page.new.sticky_log c.args.pid c.args.page.now c.pull.new.page c.link_page.new.page c.args.link.now read.went read.cause.fault read.same read.kept read.stamp read.infos read.resident told (read.free ∙ c.requires.full) (read.own c.requires.own) result (done.refused told) done.went done.is_begun;
+      begun = record { came = _; marks = λ was. marks-begun result c.args.pid _ was; went = Went-then g.L.Log c.args.sticky_log.now c.pull.new.sticky_log c.link_page.new.sticky_log [] _ read.went read.cause.fault done.went };
+      refused = λ told. refused g.L.Log c.args.sticky_log.now c.pull.new.sticky_log c.link_page.new.sticky_log c.args.pid c.args.page.now c.pull.new.page c.link_page.new.page c.args.link.now read.went read.cause.fault read.same read.kept read.stamp read.infos read.resident c.pull.new.page.kept c.in-Err.refusal (read.kept told).holds read.resident (read.free ∙ c.requires.full) (read.own c.requires.own) (done.refused told) done.went (λ write. done.is_begun (ap again write));
       tested = search rules;
       cause = caused g.L.Log c.args.sticky_log.now c.pull.new.sticky_log c.link_page.new.sticky_log c.args.pid c.args.page.now c.pull.new.page c.link_page.new.page c.args.link.now read.went read.cause.fault read.same read.kept read.stamp read.infos read.resident result done.refused read.room done.cause;
       stamp = search rules;
@@ -81,7 +84,7 @@ returns-else-was_away g c =
       own = search rules;
       unread = search rules;
       kept_out = search rules;
-      at_most = read-at_most g.L.Log c.args.sticky_log.now c.pull.new.sticky_log c.link_page.new.sticky_log c.args.pid c.args.page.now c.pull.new.page c.link_page.new.page c.args.link.now read.went read.cause.fault read.same read.kept read.stamp read.infos read.resident result read.unread read.reads done.reads;
+      at_most = rw done.reads (read-all g.L.Log.counts c.args.sticky_log.now c.pull.new.sticky_log c.args.page.now result (is_resident c.args.page.now.kept) refl read.unread read.reads);
       touched = done.touched;
       lost = search rules;
       unasked = search rules;

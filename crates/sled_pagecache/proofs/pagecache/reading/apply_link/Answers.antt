@@ -1,9 +1,10 @@
-use Rattle.sled_pagecache.proofs.Names.{◌≡◌, true, false, refl, sym, ◌∙◌, found_message}
-use Rattle.sled_pagecache.proofs.FoundMessages.{leads_nowhere}
+use Rattle.sled_pagecache.proofs.Names.{◌≡◌, refl, sym, ◌∙◌, subst, false≢true, found_message, Link, NodeLink, Accepts, one_update}
 use Rattle.sled_pagecache.proofs.pagecache.reading.apply_link.Goals as goal
 
 pub returns-then-not-accepts-clause-refused : goal.returns-then-not-accepts-clause-refused
 returns-then-not-accepts-clause-refused c =
     let found = c.args.found.now in
-    let before = c.args.node.now in
-    (refl, leads_nowhere (found_message found) c.in_ok-link.link before c.in_ok-link.ensures.read (λ accepts. let e : true ≡ false = sym (c.accepts.ensures.1 accepts) ∙ c.if-not-accepts.true in cc))
+    (refl, λ after leads.
+        let same : Link leads.0 ≡ Link c.in_ok-link.link = one_update (found_message found) (Link leads.0) (Link c.in_ok-link.link) leads.1 c.in_ok-link.ensures.read in
+        let accepts = c.accepts.ensures.1 (subst (λ (l : NodeLink). Accepts c.args.node.now l) (let e : leads.0 ≡ c.in_ok-link.link = cc in e) leads.2) in
+        false≢true (sym c.if-not-accepts.true ∙ accepts))

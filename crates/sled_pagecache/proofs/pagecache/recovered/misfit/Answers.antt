@@ -1,10 +1,14 @@
-use Rattle.sled_pagecache.proofs.Names.{arith, rules}
-use Rattle.sled_pagecache.proofs.RecoveredPages.{all-fit, begins-misfit}
+use Rattle.sled_pagecache.proofs.Names.{arith, rules, ◌≡◌, false, subst, Option, IfSome, is_misfit, Page, slice_get, slice_get_within}
+use Rattle.sled_pagecache.proofs.RecoveredPages.{if-some, first-place}
 use Rattle.sled_pagecache.proofs.pagecache.recovered.misfit.Goals as goal
 
 pub returns-in-loop-pid : goal.returns-in-loop-pid
 returns-in-loop-pid c =
-    begins-misfit c.args.pages.now.pages c.loop-pid.pid c.in-Some.page.now c.index.result.now c.in-Some.ensures (search rules) (search rules) (search rules) c.loop-pid.invariant
+    let page = c.in-Some.page.now in
+    record { pid = c.loop-pid.pid; page = page; is = c.in-Some.ensures; misfit = search rules; first = c.loop-pid.invariant; begins = first-place page.infos.items c.index.result.now (search rules) (search rules) }
 
 pub returns : goal.returns
-returns c = all-fit c.args.pages.now.pages c.loop-pid.pid (omega (arith, c.loop-pid-test.false, c.len-pid-end.ensures.number)) c.loop-pid.invariant
+returns c =
+    let pages = c.args.pages.now.pages in
+    λ k. if-some (slice_get pages k) (λ page at.
+    subst (λ (o : Option Page). IfSome o (λ page. is_misfit k page ≡ false)) at (c.loop-pid.invariant k (omega (arith, c.loop-pid-test.false, c.len-pid-end.ensures.number, slice_get_within pages k page at))))

@@ -1,17 +1,19 @@
-use Rattle.sled_pagecache.proofs.Names.{◌<◌, List, length, None, subst, sym, rules, Ok, Err, Event, Message, events_at_start, Proceeds, refused-is}
-use Rattle.sled_pagecache.proofs.Proceeding.{proceeds-none, proceeds-behind}
-use Rattle.sled_pagecache.proofs.Starting.{none-missing, missing-first, missing-both, missing-some, stays-closed, events-closed, past-both}
+use Rattle.sled_pagecache.proofs.Names.{◌<◌, List, length, None, subst, sym, rules, Ok, Err, Event, Message, events_at_start, Proceeds, refused-is, drop_all, roots_event, counter_event, events_of_roots, slice_get_past, ◌∙◌, ◌∷◌, [], arith}
+use Rattle.sled_pagecache.proofs.Proceeding.{proceeds-none, proceeds-behind, proceeds-first}
+use Rattle.sled_pagecache.proofs.Starting.{events-split, missing-both, missing-some, stays-closed, events-closed}
 use Rattle.sled_pagecache.proofs.pagecache.start.add_missing.Goals as goal
 
 pub returns-then-len-gt1-clause-proceeds : goal.returns-then-len-gt1-clause-proceeds
 returns-then-len-gt1-clause-proceeds g c =
     let sticky_log = c.args.sticky_log.now in
-    subst (λ (l : List (Event Message)). Proceeds g.L.Log sticky_log sticky_log l None) (sym (none-missing c.args.pages.now.pages (search rules)))
+    subst (λ (l : List (Event Message)). Proceeds g.L.Log sticky_log sticky_log l None) (sym (drop_all (length c.args.pages.now.pages) (roots_event ∷ counter_event ∷ []) (search rules)))
     (proceeds-none g.L.Log sticky_log (g.met.L.Log.only_now sticky_log.log) c.requires.ready c.requires.usable)
 
 pub returns-in_err-add_roots-clause-proceeds : goal.returns-in_err-add_roots-clause-proceeds
 returns-in_err-add_roots-clause-proceeds g c =
-    rw (refused-is c.from_residual.result _ c.from_residual.ensures.1) (missing-first g.L.Log c.args.sticky_log.now c.add_roots.new.sticky_log c.args.pages.now.pages (search rules) c.in_err-add_roots.field-0.0 c.in_err-add_roots.ensures.proceeds)
+    let pages = c.args.pages.now.pages in
+    rw (refused-is c.from_residual.result _ c.from_residual.ensures.1, ← events-split pages (search rules))
+    (proceeds-first g.L.Log c.args.sticky_log.now c.add_roots.new.sticky_log (events_of_roots pages) (counter_event ∷ []) c.in_err-add_roots.field-0.0 c.in_err-add_roots.ensures.proceeds)
 
 pub returns-in_err-add_counter-clause-proceeds : goal.returns-in_err-add_counter-clause-proceeds
 returns-in_err-add_counter-clause-proceeds g c =
@@ -41,4 +43,6 @@ returns-clause-proceeds g c =
     c.in_ok-make_stable.ensures.went c.in_ok-make_stable.ensures.cause (λ none. absurd (missing-some g.L.Log c.args.sticky_log.now c.add_roots.new.sticky_log pages few none))
 
 pub returns-clause-others : goal.returns-clause-others
-returns-clause-others g c = past-both c.args.pages.now.pages c.add_counter.new.pages.pages (search rules) c.in_ok-add_counter.ensures.two
+returns-clause-others g c = λ pid from.
+    let few : length c.args.pages.now.pages < 2 = search rules in
+    slice_get_past c.add_counter.new.pages.pages pid (omega (arith, c.in_ok-add_counter.ensures.two, from)) ∙ sym (slice_get_past c.args.pages.now.pages pid (omega (arith, few, from)))

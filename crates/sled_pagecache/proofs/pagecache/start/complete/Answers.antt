@@ -1,7 +1,7 @@
-use Rattle.sled_pagecache.proofs.Names.{TableView, ap, rules, OutOfMemory, events_at_start}
+use Rattle.sled_pagecache.proofs.Names.{TableView, ap, rules, OutOfMemory, events_at_start, ◌∙◌, sym, arith, IfSome_then, slice_get, past-two, IsRoots, IsUnread}
 use Rattle.sled_pagecache.proofs.Counted.{opened-counted}
 use Rattle.sled_pagecache.proofs.Proceeding.{proceeds-refused}
-use Rattle.sled_pagecache.proofs.Starting.{read-table, all-fresh, read-unread, table-consistent, opened-with}
+use Rattle.sled_pagecache.proofs.Starting.{read-table, all-fresh, stays-closed, events-closed, opened-with}
 use Rattle.sled_pagecache.proofs.pagecache.start.complete.Goals as goal
 
 pub add_missing-requires-clause-table : goal.add_missing-requires-clause-table
@@ -15,15 +15,25 @@ returns-in_default-clause-proceeds g c = proceeds-refused g.L.Log c.args.sticky_
 
 pub returns-clause-consistent : goal.returns-clause-consistent
 returns-clause-consistent g c =
-    table-consistent g.L.Log c.args.sticky_log.now c.add_missing.new.sticky_log c.args.pages.pages c.add_missing.new.pages.pages c.in-Ok.free.ids.keys c.in_ok-add_missing.ensures.proceeds c.requires.closed c.requires.unopened
-    c.in_ok-add_missing.ensures.table c.in_ok-add_missing.ensures.both (search rules)
+    let added = c.in_ok-add_missing.ensures in
+    let table = added.table in
+    let pages = c.args.pages.pages in
+    record {
+      opened = λ clear. stays-closed g.L.Log c.args.sticky_log.now c.add_missing.new.sticky_log (events_at_start pages) added.proceeds c.requires.closed (events-closed pages) ∙ sym (added.proceeds.reaches.batch ∙ c.requires.unopened);
+      beside = λ clear. record { usable = added.proceeds.reaches.usable clear; kept = table.kept; chains = table.chains_are; sized = table.sized };
+      own = table.hold.0;
+      both = omega (arith, added.both);
+      short = table.hold.1;
+      few = table.few;
+      free = search rules;
+    }
 
 pub returns-clause-opened : goal.returns-clause-opened
 returns-clause-opened g c = λ told.
     opened-with c.args.config _ c.args.pages.pages c.args.counter _ c.next_id.result c.is_some.result c.requires.read told (c.in_ok-add_missing.ensures.stamps told) c.next_id.ensures (search rules)
 
 pub returns-clause-unread : goal.returns-clause-unread
-returns-clause-unread g c = λ pid from. rw (c.in_ok-add_missing.ensures.others pid from) (read-unread _ c.args.pages.pages c.args.counter c.requires.read pid from)
+returns-clause-unread g c = λ pid from. rw (c.in_ok-add_missing.ensures.others pid from) (IfSome_then (slice_get c.args.pages.pages pid) (c.requires.read.hold.0 pid) (λ page. (past-two IsRoots _ IsUnread pid page.kept from).1))
 
 pub returns-clause-counted : goal.returns-clause-counted
 returns-clause-counted g c =

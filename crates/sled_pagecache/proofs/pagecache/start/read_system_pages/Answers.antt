@@ -1,7 +1,7 @@
-use Rattle.sled_pagecache.proofs.Names.{[], length, refl, sym, ◌∙◌, ap, arith, slice_get_within, get_or_from_slice_get, count_after, own_among, refused-is}
+use Rattle.sled_pagecache.proofs.Names.{[], length, refl, sym, ◌∙◌, ap, arith, slice_get_within, count_after, own_among, refused-is, zip-second, other-at, past-end, IsLoaded, Roots, Counter}
 use Rattle.sled_pagecache.proofs.Proceeding.{proceeds-then}
 use Rattle.sled_pagecache.proofs.ReadCounts.{own-some, own-one, own-two, read-known, read-handed, read-then}
-use Rattle.sled_pagecache.proofs.Starting.{loaded-at, second-found, second-none, read-first, read-both, first-fits, own-refuses}
+use Rattle.sled_pagecache.proofs.Starting.{read-page, found-first, found-both, first-fits, own-refuses}
 use Rattle.sled_pagecache.proofs.pagecache.start.read_system_pages.Goals as goal
 
 pub returns-in_err-roots-clause-refused : goal.returns-in_err-roots-clause-refused
@@ -10,14 +10,16 @@ returns-in_err-roots-clause-refused g c = λ told.
 
 pub read_counter-requires-clause-loaded : goal.read_counter-requires-clause-loaded
 read_counter-requires-clause-loaded g c = λ told.
-    loaded-at 1 _ _ c.args.pages.now.pages _ c.requires.recovered told (c.in_ok-roots.ensures.same told c.in_ok-roots.ensures.proceeds.fault) (second-found _ _ _ c.in-Some-get.ensures)
+    rw (c.in_ok-roots.ensures.same told c.in_ok-roots.ensures.proceeds.fault) (zip-second IsLoaded _ c.args.pages.now.pages 1 _ [] (c.requires.recovered.kept told) (sym (other-at _ 0 1 _ (omega arith)) ∙ c.in-Some-get.ensures))
 
 pub get_mut-requires-2 : goal.get_mut-requires-2
 get_mut-requires-2 g c = slice_get_within _ 1 _ c.in-Some-get.ensures
 
 pub returns-in_default-get-clause-read : goal.returns-in_default-get-clause-read
 returns-in_default-get-clause-read g c =
-    read-first _ c.in_ok-roots.roots c.args.pages.now.pages c.get_mut.result.now _ c.in_ok-roots.ensures.read c.requires.recovered (second-none _ _ c.in_default-get.ensures) c.get_mut.ensures.page refl refl refl
+    let pages = c.args.pages.now.pages in
+    read-page _ pages 0 c.get_mut.result.now _ (Roots c.in_ok-roots.roots) tt c.get_mut.ensures.page c.requires.recovered c.in_ok-roots.ensures.read refl refl (λ chain makes. makes) _
+    (found-first pages _ (omega (arith, past-end pages 1 (sym (other-at pages 0 1 _ (omega arith)) ∙ c.in_default-get.ensures))) tt)
 
 pub returns-in_err-n-clause-proceeds : goal.returns-in_err-n-clause-proceeds
 returns-in_err-n-clause-proceeds g c =
@@ -26,7 +28,7 @@ returns-in_err-n-clause-proceeds g c =
 pub returns-in_err-n-clause-refused : goal.returns-in_err-n-clause-refused
 returns-in_err-n-clause-refused g c = λ told.
     rw (refused-is c.from_residual-in_err-n.result _ c.from_residual-in_err-n.ensures.1)
-    (own-refuses 1 _ _ c.args.pages.now.pages c.in_err-n.field-0.0 (c.in_ok-roots.ensures.same told c.in_ok-roots.ensures.proceeds.fault) c.requires.recovered told (slice_get_within _ 1 _ (second-found _ _ _ c.in-Some-get.ensures))
+    (own-refuses 1 _ _ c.args.pages.now.pages c.in_err-n.field-0.0 (c.in_ok-roots.ensures.same told c.in_ok-roots.ensures.proceeds.fault) c.requires.recovered told (slice_get_within _ 1 _ (sym (other-at _ 0 1 _ (omega arith)) ∙ c.in-Some-get.ensures))
     (first-fits _ c.in_ok-roots.roots (c.in_ok-roots.ensures.read told)) (c.in_err-n.ensures.refused told))
 
 pub returns-clause-proceeds : goal.returns-clause-proceeds
@@ -35,9 +37,12 @@ returns-clause-proceeds g c =
 
 pub returns-clause-read : goal.returns-clause-read
 returns-clause-read g c =
-    read-both _ c.in_ok-roots.roots c.in_ok-n.n c.in_ok-roots.ensures.read _ c.args.pages.now.pages c.get_mut.result.now c.get_mut-2.result.now _ _
-    (λ told. c.in_ok-roots.ensures.same told c.in_ok-roots.ensures.proceeds.fault) c.requires.recovered (slice_get_within _ 1 _ (second-found _ _ _ c.in-Some-get.ensures))
-    (sym (get_or_from_slice_get _ 0 _ _ c.get_mut.ensures.page)) refl refl refl (sym (get_or_from_slice_get _ 1 _ _ c.get_mut-2.ensures.page)) refl refl refl c.in_ok-n.ensures.read
+    let pages = c.args.pages.now.pages in
+    let roots = c.in_ok-roots.ensures in
+    read-page _ _ 1 c.get_mut-2.result.now _ (Counter c.in_ok-n.n) tt c.get_mut-2.ensures.page
+    (read-page _ pages 0 c.get_mut.result.now _ (Roots c.in_ok-roots.roots) tt c.get_mut.ensures.page c.requires.recovered roots.read refl refl (λ chain makes. makes) (λ _. Unit {0}) tt)
+    (λ told. rw (roots.same told roots.proceeds.fault) at (c.in_ok-n.ensures.read told)) refl refl (λ chain makes. makes) _
+    (found-both pages _ _ c.in_ok-n.n (slice_get_within _ 1 _ (sym (other-at pages 0 1 _ (omega arith)) ∙ c.in-Some-get.ensures)) c.requires.recovered.hold tt refl)
 
 pub returns-in_err-roots-clause-reads : goal.returns-in_err-roots-clause-reads
 returns-in_err-roots-clause-reads g c =
@@ -46,17 +51,17 @@ returns-in_err-roots-clause-reads g c =
 
 pub returns-in_err-n-clause-reads : goal.returns-in_err-n-clause-reads
 returns-in_err-n-clause-reads g c =
-    rw (refused-is c.from_residual-in_err-n.result _ c.from_residual-in_err-n.ensures.1, sym (own-two (length c.args.pages.now.pages) (slice_get_within _ 1 _ (second-found _ _ _ c.in-Some-get.ensures))))
+    rw (refused-is c.from_residual-in_err-n.result _ c.from_residual-in_err-n.ensures.1, sym (own-two (length c.args.pages.now.pages) (slice_get_within _ 1 _ (sym (other-at _ 0 1 _ (omega arith)) ∙ c.in-Some-get.ensures))))
     (read-then g.L.Log.counts c.args.sticky_log.now.log c.read_roots.new.sticky_log.log c.read_counter.new.sticky_log.log 1 1 c.in_err-n.field-0.0 c.in_ok-roots.ensures.reads.whole c.in_err-n.ensures.reads)
 
 pub returns-clause-reads : goal.returns-clause-reads
 returns-clause-reads g c =
     let count = (g.L.Log.counts c.args.sticky_log.now.log).reads in
     read-known g.L.Log.counts c.args.sticky_log.now.log c.read_counter.new.sticky_log.log (own_among (length c.args.pages.now.pages)) _
-    (c.in_ok-n.ensures.reads.whole ∙ ap (count_after 1) c.in_ok-roots.ensures.reads.whole ∙ ap (λ n. count_after n count) (own-two (length c.args.pages.now.pages) (slice_get_within _ 1 _ (second-found _ _ _ c.in-Some-get.ensures))))
+    (c.in_ok-n.ensures.reads.whole ∙ ap (count_after 1) c.in_ok-roots.ensures.reads.whole ∙ ap (λ n. count_after n count) (own-two (length c.args.pages.now.pages) (slice_get_within _ 1 _ (sym (other-at _ 0 1 _ (omega arith)) ∙ c.in-Some-get.ensures))))
 
 pub returns-in_default-get-clause-reads : goal.returns-in_default-get-clause-reads
 returns-in_default-get-clause-reads g c =
     let count = (g.L.Log.counts c.args.sticky_log.now.log).reads in
     read-known g.L.Log.counts c.args.sticky_log.now.log c.read_roots.new.sticky_log.log (own_among (length c.args.pages.now.pages)) _
-    (c.in_ok-roots.ensures.reads.whole ∙ ap (λ n. count_after n count) (own-one (length c.args.pages.now.pages) (slice_get_within _ 0 _ c.in-Some.ensures) (second-none _ _ c.in_default-get.ensures)))
+    (c.in_ok-roots.ensures.reads.whole ∙ ap (λ n. count_after n count) (own-one (length c.args.pages.now.pages) (slice_get_within _ 0 _ c.in-Some.ensures) (omega (arith, past-end c.args.pages.now.pages 1 (sym (other-at _ 0 1 _ (omega arith)) ∙ c.in_default-get.ensures)))))

@@ -1,7 +1,7 @@
 use Rattle.sled_pagecache.proofs.Names.{[], ◌∷◌, ◌+◌, length, ap, subst, sym, ◌∙◌, inr, refl, rules, Update, Change, effect_of_entry, now, message_of, Went, Went-none, CacheInfo, infos_after, head_size, WasAccessed}
 use Rattle.sled_pagecache.specs.declared.pagecache.page.Kept.TheVariants as kept
 use Rattle.sled_pagecache.proofs.Sizes.{linked-size}
-use Rattle.sled_pagecache.proofs.Linked.{refuses-node, kept-away, kept-still, page-full, page-kept, page-others, update-is, infos-length, went-handed, cause-handed}
+use Rattle.sled_pagecache.proofs.Linked.{refuses-node, kept-away, kept-still, page-full, page-linked, update-is, infos-length, went-handed, cause-handed}
 use Rattle.sled_pagecache.proofs.pagecache.swap.link_page.Goals as goal
 
 pub returns-then-not-accepts-clause-went : goal.returns-then-not-accepts-clause-went
@@ -27,13 +27,14 @@ returns-in-Ok-write_linked-clause-went g c =
 pub returns-in-Ok-write_linked-clause-kept : goal.returns-in-Ok-write_linked-clause-kept
 returns-in-Ok-write_linked-clause-kept g c = λ told.
     let done = c.in-Ok-write_linked in
-    page-kept _ c.args.pid (c.requires.there told) c.args.page.now (c.requires.kept told) c.args.link.now c.in-Node.node c.prepare.new.node c.in-Node.is (c.accepts.ensures.accepted.0 c.if-not-accepts.false) c.in-Ok.ensures.applied c.len-messages.result (search rules) _ done.info (done.ensures.writes.chains told) c.keep_linked.new.page done.ensures.is
-    (c.keep_linked.ensures.infos ∙ ap (λ infos. infos_after infos done.info) c.prepare.ensures.infos) c.keep_linked.ensures.kept
+    (page-linked _ c.args.pid (c.requires.there told) c.args.page.now (c.requires.kept told) c.args.link.now c.in-Node.node c.prepare.new.node c.in-Node.is (c.accepts.ensures.accepted.0 c.if-not-accepts.false) c.in-Ok.ensures.applied c.len-messages.result (search rules) _ done.info (done.ensures.writes.chains told) c.keep_linked.new.page done.ensures.is
+    (c.keep_linked.ensures.infos ∙ ap (λ infos. infos_after infos done.info) c.prepare.ensures.infos) c.keep_linked.ensures.kept).1
 
 pub returns-in-Ok-write_linked-clause-others : goal.returns-in-Ok-write_linked-clause-others
 returns-in-Ok-write_linked-clause-others g c = λ told.
     let done = c.in-Ok-write_linked in
-    page-others _ c.args.pid (c.requires.there told) c.args.page.now (c.requires.kept told) c.args.link.now c.in-Node.node c.prepare.new.node c.in-Node.is (c.accepts.ensures.accepted.0 c.if-not-accepts.false) c.in-Ok.ensures.applied c.len-messages.result (search rules) _ done.info (done.ensures.writes.chains told)
+    (page-linked _ c.args.pid (c.requires.there told) c.args.page.now (c.requires.kept told) c.args.link.now c.in-Node.node c.prepare.new.node c.in-Node.is (c.accepts.ensures.accepted.0 c.if-not-accepts.false) c.in-Ok.ensures.applied c.len-messages.result (search rules) _ done.info (done.ensures.writes.chains told) c.keep_linked.new.page done.ensures.is
+    (c.keep_linked.ensures.infos ∙ ap (λ infos. infos_after infos done.info) c.prepare.ensures.infos) c.keep_linked.ensures.kept).0
 
 pub returns-in-Ok-write_linked-clause-len : goal.returns-in-Ok-write_linked-clause-len
 returns-in-Ok-write_linked-clause-len g c =

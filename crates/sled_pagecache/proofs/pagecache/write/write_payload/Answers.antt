@@ -22,14 +22,4 @@ returns-in_err-lsn g c =
 pub returns : goal.returns
 returns g c =
     let done = c.in_ok-lsn.ensures in
-    record {
-      went = done.went;
-      cause = record { fault = done.cause.fault; read = λ is. absurd cc; write = λ is. absurd cc; full = λ is. absurd cc };
-      of_log = λ told. tt;
-      reads = done.reads;
-      at = refl;
-      size = done.size;
-      chains = search (rules, done.chains);
-      same = λ told. tt;
-      sized = done.sized;
-    }
+    search (rules, done.chains)

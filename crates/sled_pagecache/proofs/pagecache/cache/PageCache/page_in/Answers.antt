@@ -1,9 +1,9 @@
 use Rattle.sled_pagecache.proofs.Names.{on_err_weaker, None, IsOk, ◌≡◌, inr, true, is_resident, false, [], Result, Ok, refl, sym, ◌∙◌, ap, subst, arith, slice_set, Refusal, BringsIn, is_reserved, behind-own}
 use Rattle.sled_pagecache.proofs.Counted.{behind-counter, other-at, whole-then}
-use Rattle.sled_pagecache.proofs.Evicting.{moves, by-found, still-away, moved-reads, moved-same, keeps-same}
-use Rattle.sled_pagecache.proofs.Settling.{brings-moved}
+use Rattle.sled_pagecache.proofs.Evicting.{keeps-same, settled, settles}
+use Rattle.sled_pagecache.proofs.Settling.{brings-moved, makes-found, reads-moved}
 use Rattle.sled_pagecache.proofs.InMemory.{past-view, listed-at, finds-node, refused-stay}
-use Rattle.sled_pagecache.proofs.PagingIn.{page-kept-at, page-own-at, same-consistent, brings-none, brings-pulled, kept_out-pulled, reads-pulled, part-pulled, always-pulled}
+use Rattle.sled_pagecache.proofs.PagingIn.{page-kept-at, page-own-at, same-consistent, brings-none, brings-pulled, kept_out-pulled, reads-pulled, before-is}
 use Rattle.sled_pagecache.proofs.pagecache.cache.PageCache.page_in.Goals as goal
 
 pub pull_and_access-read-requires-clause-kept : goal.pull_and_access-read-requires-clause-kept
@@ -16,26 +16,22 @@ pull_and_access-read-requires-clause-kept g c =
 
 pub invariant_of-self : goal.invariant_of-self
 invariant_of-self g c =
-    let inside = c.self.inside in
-    let table = inside.pages.pages in
     let q = c.get_mut-page.result.now in
     let behind : is_reserved c.args.pid ≡ false = sym c.is_reserved.ensures ∙ c.if-is_reserved.false in
     let at = c.get_mut-page.ensures.page in
     let done = c.pull_and_access-read.ensures in
     let after = c.pull_and_access-read.new.page in
-    let log = c.pull_and_access-read.new.sticky_log in
-    let between = c.pull_and_access-read.new.accesses in
     let result = c.pull_and_access-read.result in
-    let own = done.own (page-own-at g.L.Log inside.sticky_log inside.sticky_log table inside.free.ids.keys c.args.pid q q c.self.invariant.whole.consistent c.if-self.false behind at) in
+    let own = done.own (page-own-at g.L.Log _ c.self.inside.sticky_log _ _ c.args.pid q q c.self.invariant.whole.consistent c.if-self.false behind at) in
     let whole =
-    whole-then g.L.Log c.self.invariant.whole c.if-self.false (λ told clear. ([], done.went, tt)) (other-at table c.args.pid after (behind-counter c.args.pid (behind-own c.args.pid behind)))
-    (same-consistent g.L.Log inside.sticky_log log table inside.free.ids.keys c.args.pid q after c.self.invariant.whole.consistent c.if-self.false behind at
+    whole-then g.L.Log c.self.invariant.whole c.if-self.false (λ told clear. ([], done.went, tt)) (other-at c.self.inside.pages.pages c.args.pid after (behind-counter c.args.pid (behind-own c.args.pid behind)))
+    (same-consistent g.L.Log _ _ _ _ c.args.pid q after c.self.invariant.whole.consistent c.if-self.false behind at
     [] done.went refl done.same (λ known _. done.kept known) done.infos done.free own) in
-    let found = by-found g.L.Log inside.next inside.next inside.config inside.recovered inside.sticky_log log table (slice_set table c.args.pid after) c.evict.new.pages.pages inside.free.ids.keys inside.free.ids.keys inside.accesses between c.evict.new.accesses c.self.invariant whole None c.evict.ensures
-    refl c.args.pid result (λ kept. absurd (let clear = c.if-self.false in cc))
-    (finds-node inside.next inside.config inside.recovered inside.accesses.lru inside.sticky_log log table c.args.pid q after at inside.accesses between result done.accessed done.resident own done.free done.stays done.infos)
-    (refused-stay inside.next inside.config inside.recovered inside.accesses.lru inside.sticky_log log table c.args.pid q after at inside.accesses between result done.err done.infos) done.left in
-    (moves g.L.Log inside.next inside.next inside.config inside.recovered inside.sticky_log log table (slice_set table c.args.pid after) c.evict.new.pages.pages inside.free.ids.keys inside.free.ids.keys inside.accesses between c.evict.new.accesses c.self.invariant whole None c.evict.ensures {T = Unit {0}} (Ok tt)).settled found.bounded
+    let paged_out = settles c.self.invariant whole c.evict.ensures in
+    let found = makes-found paged_out c.args.pid result (λ kept. absurd (let clear = c.if-self.false in cc))
+    (finds-node _ _ _ _ _ _ _ c.args.pid q after at c.self.inside.accesses c.pull_and_access-read.new.accesses result done.accessed done.resident own done.free done.stays done.infos)
+    (refused-stay _ _ _ _ _ _ _ c.args.pid q after at c.self.inside.accesses c.pull_and_access-read.new.accesses result done.err done.infos) done.left in
+    settled c.self.invariant whole c.evict.ensures found.bounded
 
 pub returns-then-pid-count-clause-brings : goal.returns-then-pid-count-clause-brings
 returns-then-pid-count-clause-brings g c =
@@ -77,28 +73,26 @@ returns g c =
     let done = c.pull_and_access-read.ensures in
     let after = c.pull_and_access-read.new.page in
     let log = c.pull_and_access-read.new.sticky_log in
-    let between = c.pull_and_access-read.new.accesses in
     let result = c.pull_and_access-read.result in
-    let own = done.own (page-own-at g.L.Log inside.sticky_log inside.sticky_log table inside.free.ids.keys c.args.pid q q c.self.invariant.whole.consistent c.if-self.false behind at) in
+    let own = done.own (page-own-at g.L.Log _ c.self.inside.sticky_log _ _ c.args.pid q q c.self.invariant.whole.consistent c.if-self.false behind at) in
     let whole =
     whole-then g.L.Log c.self.invariant.whole c.if-self.false (λ told clear. ([], done.went, tt)) (other-at table c.args.pid after (behind-counter c.args.pid (behind-own c.args.pid behind)))
-    (same-consistent g.L.Log inside.sticky_log log table inside.free.ids.keys c.args.pid q after c.self.invariant.whole.consistent c.if-self.false behind at
+    (same-consistent g.L.Log _ _ _ _ c.args.pid q after c.self.invariant.whole.consistent c.if-self.false behind at
     [] done.went refl done.same (λ known _. done.kept known) done.infos done.free own) in
-    let found = by-found g.L.Log inside.next inside.next inside.config inside.recovered inside.sticky_log log table (slice_set table c.args.pid after) c.evict.new.pages.pages inside.free.ids.keys inside.free.ids.keys inside.accesses between c.evict.new.accesses c.self.invariant whole None c.evict.ensures
-    refl c.args.pid result (λ kept. absurd (let clear = c.if-self.false in cc))
-    (finds-node inside.next inside.config inside.recovered inside.accesses.lru inside.sticky_log log table c.args.pid q after at inside.accesses between result done.accessed done.resident own done.free done.stays done.infos)
-    (refused-stay inside.next inside.config inside.recovered inside.accesses.lru inside.sticky_log log table c.args.pid q after at inside.accesses between result done.err done.infos) done.left in
+    let paged_out = settles c.self.invariant whole c.evict.ensures in
+    let found = makes-found paged_out c.args.pid result (λ kept. absurd (let clear = c.if-self.false in cc))
+    (finds-node _ _ _ _ _ _ _ c.args.pid q after at c.self.inside.accesses c.pull_and_access-read.new.accesses result done.accessed done.resident own done.free done.stays done.infos)
+    (refused-stay _ _ _ _ _ _ _ c.args.pid q after at c.self.inside.accesses c.pull_and_access-read.new.accesses result done.err done.infos) done.left in
     let listed = listed-at inside.next inside.config inside.recovered inside.accesses.lru inside.sticky_log inside.sticky_log table c.args.pid q q at inside.accesses inside.accesses c.self.invariant.bounded.listed in
     let there : is_resident q.kept ≡ true → IsOk result = λ held. done.is_there held listed in
-    let same = moved-same g.L.Log inside.next inside.next inside.config inside.recovered inside.sticky_log log table (slice_set table c.args.pid after) c.evict.new.pages.pages inside.free.ids.keys inside.free.ids.keys inside.accesses between c.evict.new.accesses c.self.invariant whole None c.evict.ensures in
     rw (← c.self.view_is) (record {
       stuck = λ kept. absurd (let clear = c.if-self.false in cc);
-      brings = λ ready. brings-moved g.L.Log _ _ _ same c.args.pid result found.back (brings-pulled g.L.Log inside.next inside.config inside.recovered inside.accesses.lru inside.sticky_log log table inside.free.ids.keys c.args.pid q after c.self.invariant.whole.consistent c.if-self.false behind at
+      brings = λ ready. brings-moved paged_out c.args.pid result found.back (brings-pulled g.L.Log _ _ _ _ _ _ _ _ c.args.pid q after c.self.invariant.whole.consistent c.if-self.false behind at
           result done.same done.stamp done.resident done.err there done.went done.cause done.kept own done.refused);
-      always = λ ready free. always-pulled g.L.Log inside.next inside.config inside.recovered inside.accesses.lru inside.sticky_log log table inside.free.ids.keys c.args.pid q after c.self.invariant.whole.consistent c.if-self.false behind at result there;
-      reads = moved-reads g.L.Log inside.next inside.next inside.config inside.recovered inside.sticky_log log table (slice_set table c.args.pid after) c.evict.new.pages.pages inside.free.ids.keys inside.free.ids.keys inside.accesses between c.evict.new.accesses c.self.invariant whole None c.evict.ensures c.args.pid (reads-pulled g.L.Log inside.next inside.config inside.recovered inside.accesses.lru inside.sticky_log log table inside.free.ids.keys c.args.pid q after c.self.invariant.whole.consistent c.if-self.false behind at
-          result (λ held. ap (λ sticky_log. (g.L.Log.counts sticky_log.log).reads) (done.unread held)) done.reads (part-pulled q after _ result done.err done.at_most));
-      kept_out = on_err_weaker result (λ out away. still-away g.L.Log inside.next inside.next inside.config inside.recovered inside.sticky_log log table (slice_set table c.args.pid after) c.evict.new.pages.pages inside.free.ids.keys inside.free.ids.keys inside.accesses between c.evict.new.accesses c.self.invariant whole None c.evict.ensures c.args.pid (out away)) (kept_out-pulled g.L.Log inside.next inside.config inside.recovered inside.accesses.lru inside.sticky_log log table inside.free.ids.keys c.args.pid q after c.self.invariant.whole.consistent c.if-self.false behind at
+      always = λ ready free resident. there (before-is g.L.Log inside.next inside.config inside.recovered inside.accesses.lru inside.sticky_log log table inside.free.ids.keys c.args.pid q after c.self.invariant.whole.consistent c.if-self.false behind at true resident);
+      reads = reads-moved paged_out c.args.pid (reads-pulled g.L.Log _ _ _ _ _ _ _ _ c.args.pid q after c.self.invariant.whole.consistent c.if-self.false behind at
+          result (λ held. ap (λ sticky_log. (g.L.Log.counts sticky_log.log).reads) (done.unread held)) done.reads (λ away. let err = done.err in let most = done.at_most in grind arith));
+      kept_out = on_err_weaker result (λ out away. paged_out.out.away c.args.pid (out away)) (kept_out-pulled g.L.Log inside.next inside.config inside.recovered inside.accesses.lru inside.sticky_log log table inside.free.ids.keys c.args.pid q after c.self.invariant.whole.consistent c.if-self.false behind at
           result done.same done.stamp done.resident done.err there);
       bounded = found.bounded;
       accesses = found.accessed;

@@ -1,10 +1,9 @@
-use Rattle.sled_base.specs.declared.types.Error.TheVariants as errors
 use Rattle.sled_log.specs.LogState.{now as log_now}
 use Rattle.sled_pagecache.proofs.Names.{◌∙◌, false, [], List, None, Some, subst, sym, refl, Event, Message, effect_of_entry, Proceeds, stamps_in, resident_in, nodes_in, StickyLog, OutOfMemory, events_at_start, holds_now}
 use Rattle.sled_pagecache.proofs.Counted.{positive}
 use Rattle.sled_pagecache.proofs.Opened.{opened-bounded}
 use Rattle.sled_pagecache.proofs.Opening.{opens-refused, opens-done, opened-again}
-use Rattle.sled_pagecache.proofs.Proceeding.{proceeds-first, proceeds-refused, proceeds-none}
+use Rattle.sled_pagecache.proofs.Proceeding.{proceeds-not}
 use Rattle.sled_pagecache.proofs.Starting.{resident-empty}
 use Rattle.sled_pagecache.specs.Logged.{now}
 use Rattle.sled_pagecache.proofs.pagecache.cache.PageCache.start.Goals as goal
@@ -15,9 +14,8 @@ returns-in_default-new-clause-opens g c =
     let before : StickyLog g.row.L.Denot = record { log = c.args.log; fault = false; batch = false } in
     let chains = log_now effect_of_entry (g.L.Log.state c.args.log) in
     λ sound told held logged.
-    opens-refused g.L.Log told c.args.config before held logged before OutOfMemory errors.OutOfMemory refl sound
-    (proceeds-first g.L.Log before before [] (events_at_start chains) OutOfMemory
-    (proceeds-refused g.L.Log before before [] OutOfMemory tt (proceeds-none g.L.Log before (g.met.L.Log.only_now c.args.log) refl c.requires.usable))) tt
+    opens-refused g.L.Log told c.args.config before held logged before OutOfMemory sound
+    (proceeds-not g.L.Log before (events_at_start chains) OutOfMemory tt (g.met.L.Log.only_now c.args.log) refl c.requires.usable) tt
 
 pub invariant_of-result : goal.invariant_of-result
 invariant_of-result g c =
@@ -32,12 +30,12 @@ invariant_of-result g c =
 pub returns-in-Ok-open-clause-opens : goal.returns-in-Ok-open-clause-opens
 returns-in-Ok-open-clause-opens g c =
     let before : StickyLog g.row.L.Denot = record { log = c.args.log; fault = false; batch = false } in
-    let opening = c.in-Ok-open.opening in
     let done = c.in-Ok-open.ensures in
+    let reaches = done.proceeds.proceeds.reaches in
     λ sound told held logged.
-    opens-done g.L.Log told c.args.config before held logged c.open.new.sticky_log (stamps_in opening.pages.pages) (resident_in opening.pages.pages) (nodes_in opening.pages.pages) c.in-Ok.lru opening.next opening.recovered
+    opens-done g.L.Log told c.args.config before held logged _
     (subst (λ (l : List (Event Message)). Proceeds g.L.Log before c.open.new.sticky_log l None) (done.proceeds.are told) done.proceeds.proceeds)
-    (done.consistent.opened done.proceeds.proceeds.fault ∙ done.proceeds.proceeds.reaches.batch) done.proceeds.proceeds.reaches.batch (done.opened told (now held) (holds_now (g.L.Log.state c.args.log) held logged)) (done.stable told)
+    (done.consistent.opened done.proceeds.proceeds.fault ∙ reaches.batch) reaches.batch (done.opened told (now held) (holds_now (g.L.Log.state c.args.log) held logged)) refl (done.stable told)
 
 pub returns-in-Ok-open-clause-unread : goal.returns-in-Ok-open-clause-unread
 returns-in-Ok-open-clause-unread g c =
@@ -53,11 +51,11 @@ returns-in-Ok-open-clause-bounded g c =
 pub returns-in-Err-clause-opens : goal.returns-in-Err-clause-opens
 returns-in-Err-clause-opens g c =
     let before : StickyLog g.row.L.Denot = record { log = c.args.log; fault = false; batch = false } in
-    λ sound told held logged.
-    opens-refused g.L.Log told c.args.config before held logged c.open.new.sticky_log c.in-Err.refusal c.from.result c.from.ensures sound
-    (subst (λ (l : List (Event Message)). Proceeds g.L.Log before c.open.new.sticky_log l (Some c.in-Err.refusal)) (c.in-Err.ensures.proceeds.are told) c.in-Err.ensures.proceeds.proceeds) (c.in-Err.ensures.refused told)
+    λ sound told held logged. rw c.from.ensures
+    (opens-refused g.L.Log told c.args.config before held logged c.open.new.sticky_log c.in-Err.refusal sound
+    (subst (λ (l : List (Event Message)). Proceeds g.L.Log before c.open.new.sticky_log l (Some c.in-Err.refusal)) (c.in-Err.ensures.proceeds.are told) c.in-Err.ensures.proceeds.proceeds) (c.in-Err.ensures.refused told))
 
 pub returns-in-Err-clause-again : goal.returns-in-Err-clause-again
 returns-in-Err-clause-again g c =
     let before : StickyLog g.row.L.Denot = record { log = c.args.log; fault = false; batch = false } in
-    opened-again g.L.Log before c.open.new.sticky_log c.in-Err.refusal c.from.result c.from.ensures c.in-Err.ensures.proceeds c.requires.closed
+    rw c.from.ensures (opened-again g.L.Log before c.open.new.sticky_log c.in-Err.refusal c.in-Err.ensures.proceeds c.requires.closed)

@@ -3,22 +3,12 @@ use Rattle.sled_pagecache.proofs.PageTables.{table-length}
 use Rattle.sled_pagecache.proofs.pagecache.pagetable.PageTable.len.Goals as goal
 
 pub overflow_mul-result : goal.overflow_mul-result
-overflow_mul-result c =
-    let table = c.self in
-    omega (arith, table-length table.inside.chunks table.invariant _ c.deref.ensures.value _ c.in-Some.ensures.value, table.invariant.few)
+overflow_mul-result c = omega (arith, c.self.inside.chunks.ok.0, table-length c.self.invariant (rw c.deref.ensures.value at c.in-Some.ensures.value), c.self.invariant.few)
 
 pub overflow_add-result : goal.overflow_add-result
-overflow_add-result c =
-    let table = c.self in
-    omega (arith, table-length table.inside.chunks table.invariant _ c.deref.ensures.value _ c.in-Some.ensures.value, table.invariant.few)
+overflow_add-result c = omega (arith, c.self.inside.chunks.ok.0, table-length c.self.invariant (rw c.deref.ensures.value at c.in-Some.ensures.value), c.self.invariant.few)
 
-pub returns-in-Some-clause-number : goal.returns-in-Some-clause-number
-returns-in-Some-clause-number c =
-    let table = c.self in
-    let seen = ap (λ (t : TableView). length t.pages) table.view_is in
-    omega (arith, table-length table.inside.chunks table.invariant _ c.deref.ensures.value _ c.in-Some.ensures.value, seen)
-
-pub returns-in-Some-clause-few : goal.returns-in-Some-clause-few
-returns-in-Some-clause-few c =
-    let table = c.self in
-    omega (arith, table-length table.inside.chunks table.invariant _ c.deref.ensures.value _ c.in-Some.ensures.value, table.invariant.few)
+pub returns-in-Some : goal.returns-in-Some
+returns-in-Some c =
+    let seen = ap (λ (t : TableView). length t.pages) c.self.view_is in
+    omega (arith, c.self.inside.chunks.ok.0, table-length c.self.invariant (rw c.deref.ensures.value at c.in-Some.ensures.value), c.self.invariant.few, seen)

@@ -1,13 +1,9 @@
-use Rattle.sled_pagecache.proofs.Names.{[], ◌∷◌, refl, Pin, log_met_fault}
-use Rattle.sled_pagecache.proofs.StickyLogs.{met, Went-called, stays-marked}
+use Rattle.sled_pagecache.proofs.Names.{refl, rules}
+use Rattle.sled_pagecache.proofs.StickyLogs.{marked}
 use Rattle.sled_pagecache.proofs.pagecache.sticky_log.StickyLog.pin.Goals as goal
 
-pub returns-clause-went : goal.returns-clause-went
-returns-clause-went g c =
-    rw c.keep_fault.ensures.answer (Went-called g.L.Log c.args.self.now _ _ _ (Pin ∷ []) c.pin-outcome.result
-    (λ said. refl) c.pin-outcome.ensures.called (met c.args.self.now.fault c.keep_fault.new.fault (log_met_fault c.pin-outcome.result) c.requires.ready c.keep_fault.ensures.kept) refl)
-
-pub returns-clause-same : goal.returns-clause-same
-returns-clause-same g c =
-    stays-marked g.L.Log c.args.self.now.log _ _ _ _ (Pin ∷ []) c.pin-outcome.result (λ said chains. refl) c.pin-outcome.ensures.called
-    (met c.args.self.now.fault c.keep_fault.new.fault (log_met_fault c.pin-outcome.result) c.requires.ready c.keep_fault.ensures.kept)
+pub returns : goal.returns
+returns g c =
+    let new = record c.args.self.now { log = c.pin-outcome.new.self; fault = c.keep_fault.new.fault } in
+    let done = marked g.L.Log c.args.self.now new c.pin-outcome.ensures.called c.requires.ready c.keep_fault.ensures.kept refl (λ _. refl) (λ _ _. refl) in
+    rw c.keep_fault.ensures.answer (search (rules, done))
