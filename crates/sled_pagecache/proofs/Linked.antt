@@ -1,5 +1,5 @@
 -- What a link makes of the chain of its page.
-use Rattle.sled_pagecache.proofs.Names.{Ghosts, ◌≡◌, ◌+◌, ◌<◌, ℤ, ℕ, Bool, true, false, cond, ltb, List, [], ◌∷◌, ◌++◌, length, map, refl, sym, ◌∙◌, ap, subst, slice_set, slice_index_or, length-map, length-append, map-append, ◌⊎◌, Result, Err, LinkRefused, Read, Write, DiskPtr, Refusal, ReportableBug, Io, is_empty, chains_from, Node, Update, Put, Link, Event, Change, Message, Entry, Chain, Messages, messages_of, placed_entry, effect_of_entry, said_of, IsUpdate, Makes, message_of, Accepts, applied, WholeNode, place_of, Went, IsCaused, begun_by, IsCaused-handed_on, HoldsChain, IsKept, is_free, RefusesSwap, RefusesLink, link_update, infos_after, linked_length, update_of, CacheInfo, StickyLog, Kept, Page, NodeLink, arith}
+use Rattle.sled_pagecache.proofs.Names.{Ghosts, ◌≡◌, ◌+◌, ◌<◌, ℤ, ℕ, Bool, true, false, cond, ltb, List, [], ◌∷◌, ◌++◌, length, map, refl, sym, ◌∙◌, ap, subst, slice_set, slice_index_or, length-map, length-append, map-append, ◌⊎◌, Result, Err, LinkRefused, Read, Write, DiskPtr, Refusal, ReportableBug, Io, is_empty, chains_from, Node, Update, Put, Link, Event, Change, Message, Entry, Chain, Messages, messages_of, placed_entry, effect_of_entry, said_of, IsUpdate, Makes, message_of, Accepts, applied, WholeNode, place_of, Went, IsCaused, begun_by, IsCaused-handed_on, HoldsChain, IsKept, is_free, RefusesSwap, RefusesLink, link_update, joined_infos, linked_length, update_of, CacheInfo, StickyLog, Kept, Page, NodeLink, arith}
 use Rattle.sled_pagecache.specs.declared.pagecache.page.Kept.TheVariants as kept
 use Rattle.sled_pagecache.proofs.FoundMessages.{makes-more}
 use Rattle.sled_pagecache.proofs.Swaps.{at-page, other-pages, put-chains, kept-put}
@@ -12,8 +12,8 @@ update-is messages infos link before made held count is holds =
     ap (λ n. link_update n link made) count ∙ ap (link_update (length infos) link) is ∙ sym (ap (update_of (length infos) link) holds)
 
 -- how many messages make the page then
-pub infos-length : (infos : List CacheInfo) (info : CacheInfo) → length (infos_after infos info) ≡ linked_length (length infos)
-infos-length infos info = grind (arith, length-append infos (info ∷ []))
+pub infos-length : (messages : ℕ) (infos : List CacheInfo) → messages ≡ length infos → (info : CacheInfo) → length (joined_infos (ltb messages 10) infos info) ≡ linked_length (length infos)
+infos-length messages infos count info = grind (arith, length-append infos (info ∷ []))
 
 -- ---- a link that was refused
 
@@ -70,9 +70,9 @@ module _ (chains : List Chain) (pid : ℕ) (there : pid < length chains) (page :
 
   -- what was written is its last message, or its only one
   pub page-linked : (after : List Chain) (info : CacheInfo) → after ≡ chains_from effect_of_entry chains (Change pid (placed_entry (message_of (link_update messages link made)) (place_of info)))
-      → (new : Page) → IsUpdate (message_of (link_update messages link made)) (link_update messages link made) → new.infos.items ≡ infos_after page.infos.items info → new.kept ≡ kept.Node made
+      → (new : Page) → IsUpdate (message_of (link_update messages link made)) (link_update messages link made) → new.infos.items ≡ joined_infos (ltb messages 10) page.infos.items info → new.kept ≡ kept.Node made
       → (after ≡ slice_set chains pid (slice_index_or after pid [])) × IsKept (slice_index_or after pid []) new
-  page-linked after info came new reads infos held = by (ltb messages 10) came reads (infos ∙ ap (λ n. cond (ltb n 10) (page.infos.items ++ info ∷ []) (info ∷ [])) (sym count))
+  page-linked after info came new reads infos held = by (ltb messages 10) came reads infos
     where
       by : (b : Bool) → after ≡ chains_from effect_of_entry chains (Change pid (placed_entry (message_of (cond b (Link link) (Put (Node made)))) (place_of info)))
           → IsUpdate (message_of (cond b (Link link) (Put (Node made)))) (cond b (Link link) (Put (Node made))) → new.infos.items ≡ cond b (page.infos.items ++ info ∷ []) (info ∷ [])

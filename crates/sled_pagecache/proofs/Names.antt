@@ -81,7 +81,7 @@ pub use Rattle.sled_pagecache.specs.Inside.RecentUse.{FindsPage}
 pub use Rattle.sled_pagecache.specs.Opening.{changes_of_start, fault_of, first_id, missing_pages, opened_state}
 pub use Rattle.sled_pagecache.specs.Inside.PageTable.{AreFilled, IsPageTable, at_last, has_room, is_unfilled, pages_in, view_of}
 pub use Rattle.sled_pagecache.specs.Table.{TableView}
-pub use Rattle.sled_pagecache.specs.Inside.PageEntry.{HoldsChain, IsKept, access_size, free_ids, is_resident, node_access_size, size_if, size_in, size_after_link}
+pub use Rattle.sled_pagecache.specs.Inside.PageEntry.{HoldsChain, IsKept, access_size, free_ids, is_resident, node_access_size, size_if, size_in, joined_size}
 pub use Rattle.sled_pagecache.specs.Infos.{place_of_freeing}
 pub use Rattle.sled_pagecache.specs.Table.{is_free}
 pub use Rattle.sled_pagecache.specs.Inside.PageIn.{BringsIn, IsNodeAt, RefusesReading, sticky_log_of}
@@ -103,8 +103,8 @@ pub use Rattle.sled_pagecache.specs.Calls.{CrashLeaves}
 pub use Rattle.sled_pagecache.specs.Memory.{IsHindrance}
 pub use Rattle.sled_pagecache.specs.State.{StampedPage, State, contents_of, free_token, greatest_free, is_free as is_free_content, later_token, page, page_at, stamps_of, with_page}
 pub use Rattle.sled_pagecache.specs.Step.{AddsPage, Allocates, Closes, Does, Fails, Finds, FindsContent, FindsRoot, Flushes, Frees, Generates, Gets, GetsIdgen, GetsMeta, HoldsCounter, HoldsRoots, IsCorruption, IsCounterAnd, IsGone, IsHindered, IsRefused, Links, LinksContent, LinksNode, Outcome, Pins, PutsCounter, PutsRoots, Reads, Replaces, ReusesPage, RootSwap, SetsRoot, Sizes, Swapped, Swaps, SwapsContent, SwapsPage, SwapsRoot, TellsRoot, UnlessFaulty, UnlessReserved, UnlessStale, with_batch_closed, interval_start, is_reserved, outcome, no_change, with_next_id}
-pub use Rattle.sled_pagecache.specs.Inside.PageWrites.{CanPut, IsLinked, IsRaised, RefusesLink, RefusesSwap, WritesMessage, Wrote, content_of, roots_in, update_of}
-pub use Rattle.sled_pagecache.specs.Inside.Infos.{infos_after}
+pub use Rattle.sled_pagecache.specs.Inside.PageWrites.{CanPut, IsLinked, IsRaised, RefusesLink, RefusesSwap, WritesMessage, Wrote, content_of, joined_update, roots_in, update_of}
+pub use Rattle.sled_pagecache.specs.Inside.Infos.{joined_infos}
 pub use Rattle.sled_pagecache.specs.Answers.{linked_length}
 pub use Rattle.sled_pagecache.specs.Inside.Invariant.{AreOwn, IsBeside, IsConsistent, IsCounter, IsFreeOrNode, IsOwnAt, IsRoots, nodes_in, resident_in, stamps_in}
 pub use Rattle.sled_pagecache.specs.State.{IsAnswered, Token, pid_of, stamp_of, token}

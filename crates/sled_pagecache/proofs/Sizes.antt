@@ -1,5 +1,5 @@
 -- How much of the log the messages of a page take, beside those of its chain.
-use Rattle.sled_pagecache.proofs.Names.{Recency, ◌≡◌, ◌<◌, ◌^◌, ◌+◌, ℕ, ℤ, false, true, Bool, List, [], ◌∷◌, ◌++◌, map, Option, None, Some, slice_get, refl, sym, ◌∙◌, ap, arith, none-some, same_Some, slice_get-map, option_map, slice_index_or, length, ◌-◌, sum_by, sum_by-cons, DiskPtr, Chain, Entry, effect_of_entry, said_of, IsSized, Ghosts, chain_size, place_of, IsKept, is_free, IsConsistent, infos_after, Config, CacheInfo, StickyLog, Kept, Page, sum_by_push, head_size, capped_size, AreSized, size_in, access_size, size_if, node_access_size, size_after_link, nat_lt, min, if◌then◌else◌, now, AllZip-long, slice_get_within, slice_get-get_or, view, all-at, kept-at}
+use Rattle.sled_pagecache.proofs.Names.{Recency, ◌≡◌, ◌<◌, ◌^◌, ◌+◌, ℕ, ℤ, false, true, Bool, List, [], ◌∷◌, ◌++◌, map, Option, None, Some, slice_get, refl, sym, ◌∙◌, ap, arith, none-some, same_Some, slice_get-map, option_map, slice_index_or, length, ◌-◌, sum_by, sum_by-cons, DiskPtr, Chain, Entry, effect_of_entry, said_of, IsSized, Ghosts, chain_size, place_of, IsKept, is_free, IsConsistent, joined_infos, Config, CacheInfo, StickyLog, Kept, Page, sum_by_push, head_size, capped_size, AreSized, size_in, access_size, size_if, node_access_size, joined_size, nat_lt, min, if◌then◌else◌, now, AllZip-long, slice_get_within, slice_get-get_or, view, all-at, kept-at}
 use Rattle.sled_pagecache.specs.declared.pagecache.page.Kept.TheVariants as kept
 
 sum_by-mapped : {A B : Type 0} (f : B → ℕ) (g : A → B) (xs : List A) → sum_by f (map g xs) ≡ sum_by (λ x. f (g x)) xs
@@ -42,8 +42,8 @@ pub size-alone : (infos : List CacheInfo) (info : CacheInfo) (payload : ℕ) →
 size-alone infos info payload alone is = grind (arith, sum_by-cons (λ (info : CacheInfo). info.log_size) info [])
 
 -- a page with the message of a link
-pub linked-size : (lent infos : List CacheInfo) (payload : ℕ) (page : Page) (info : CacheInfo) → lent ≡ infos → page.infos.items ≡ infos_after infos info → info.log_size ≡ head_size + payload → capped_size (size_after_link lent payload) ≡ access_size page
-linked-size lent infos payload page info same after is = grind (arith, sum_by_push (λ (info : CacheInfo). info.log_size) infos info, sum_by-cons (λ (info : CacheInfo). info.log_size) info [])
+pub linked-size : (joins : Bool) (lent infos : List CacheInfo) (payload : ℕ) (page : Page) (info : CacheInfo) → lent ≡ infos → page.infos.items ≡ joined_infos joins infos info → info.log_size ≡ head_size + payload → capped_size (joined_size joins lent payload) ≡ access_size page
+linked-size joins lent infos payload page info same after is = grind (arith, sum_by_push (λ (info : CacheInfo). info.log_size) infos info, sum_by-cons (λ (info : CacheInfo). info.log_size) info [])
 
 pub capped-total : (size total : ℕ) → total ≡ min size (2 ^ 64 - 1) → capped_size total ≡ capped_size size
 capped-total size total is = omega (arith, is)

@@ -65,9 +65,9 @@ size_if size (Roots roots) = None
 abbrev pub node_access_size : Page → Option ℕ
 node_access_size page = size_if (access_size page) page.kept
 
--- how much messages take with that of a link, whose payload is so long, or with that of the node, where they are as many as may be
-abbrev pub size_after_link : List CacheInfo → ℕ → ℕ
-size_after_link infos payload = (if nat_lt (length infos) most_messages then size_in infos else 0) + head_size + payload
+-- how much a message takes, whose payload is so long, and with it those that it joins
+abbrev pub joined_size : Bool → List CacheInfo → ℕ → ℕ
+joined_size joins infos payload = (if joins then size_in infos else 0) + head_size + payload
 
 -- The page is kept as its chain says, with the places of its messages. How much the message of a free page takes up isn't known.
 pub record IsKept (chain : Chain) (page : Page) : Type 0 where

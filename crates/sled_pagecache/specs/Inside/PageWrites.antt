@@ -1,5 +1,5 @@
 -- What a swap makes of a page that is at the stamp of the token.
-use Rattle.std.specs.Prelude.{◌≡◌, ◌≢◌, ◌⊎◌, ◌+◌, ◌-◌, ◌^◌, ◌<◌, ℕ, false, [], ◌∷◌, length, None, Result, IfOk, IfErr, OnOk, OnErr, ⊤}
+use Rattle.std.specs.Prelude.{◌≡◌, ◌≢◌, ◌⊎◌, ◌+◌, ◌-◌, ◌^◌, ◌<◌, ℕ, Bool, false, if◌then◌else◌, [], ◌∷◌, length, None, Result, IfOk, IfErr, OnOk, OnErr, ⊤}
 use Rattle.std.specs.List.{AllByRecursion}
 use Rattle.sled_base.specs.declared.types.Bug.TheVariants.{LinkRefused}
 use Rattle.sled_base.specs.declared.types.Refusal.{Refusal}
@@ -17,6 +17,7 @@ use Rattle.sled_log.specs.LogState.{now}
 use Rattle.sled_log.specs.declared.log.Log.{Ghosts}
 use Rattle.sled_node.specs.Links.{Accepts, applied}
 use Rattle.sled_node.specs.Meta as meta
+use Rattle.sled_node.specs.Node.{WholeNode}
 use Rattle.sled_node.specs.Meta.{IsRootMap}
 use Rattle.sled_node.specs.declared.node.link.Link.{Link as NodeLink}
 use Rattle.sled_pagecache.specs.Step.{link_update}
@@ -59,6 +60,10 @@ IsLinked Free link new = ⊥
 IsLinked Away link new = ⊥
 IsLinked (Counter n) link new = ⊥
 IsLinked (Roots roots) link new = ⊥
+
+-- what is written of a link that joins the other messages, or else of the node that it makes
+abbrev pub joined_update : Bool → NodeLink → WholeNode → Update
+joined_update joins link after = if joins then content.Link link else content.Put (content.Node after)
 
 -- what a link writes to a page that is kept so, by so many messages
 abbrev pub update_of : ℕ → NodeLink → Kept → Update

@@ -1,11 +1,11 @@
 //! Pages as the cache keeps them.
 
-ghost use Rattle.std.specs.Prelude.{◌≡◌, ◌+◌, ◌<◌, ◌-◌, ◌^◌, ◌++◌, [], ◌∷◌, min, length, vec_len, vec_capacity, map, IfOk};
+ghost use Rattle.std.specs.Prelude.{◌≡◌, ◌+◌, ◌<◌, ◌-◌, ◌^◌, ◌++◌, [], ◌∷◌, min, length, vec_len, vec_capacity, map, IfOk, true};
 ghost use Rattle.std.specs.List.{sum_by};
 ghost use Rattle.sled_pagecache.specs.Infos.{place_of};
 ghost use Rattle.sled_pagecache.specs.Limits.{most_messages};
 ghost use Rattle.sled_pagecache.specs.Infos.{stamps_to};
-ghost use Rattle.sled_pagecache.specs.Inside.Infos.{infos_after};
+ghost use Rattle.sled_pagecache.specs.Inside.Infos.{joined_infos};
 
 use super::PAGE_CONSOLIDATION_THRESHOLD;
 use sled_base::{DiskPtr, Lsn, PageState};
@@ -132,17 +132,16 @@ impl Clone for Kept {
     }
 }
 
-// Keeps how the message of a link is kept, at the next stamp of the page.
-pub(super) fn keep_linked(page: &mut Page, info: CacheInfo)
+// Keeps how a message is kept that joins the others of a page, or takes their place, at the next stamp of the page.
+pub(super) fn keep_linked(joins: bool, page: &mut Page, info: CacheInfo)
     requires below { page.old.stamp < 2 ^ 64 - 1 }
-    requires room { vec_len page.old.infos < most_messages
-        → vec_len page.old.infos < vec_capacity page.old.infos }
+    requires room { joins ≡ true → vec_len page.old.infos < vec_capacity page.old.infos }
     requires stamped { info.ts ≡ page.old.stamp + 1 }
     ensures stamp { page.new.stamp ≡ page.old.stamp + 1 }
-    ensures infos { page.new.infos.items ≡ infos_after page.old.infos.items info }
+    ensures infos { page.new.infos.items ≡ joined_infos joins page.old.infos.items info }
     ensures kept { page.new.kept ≡ page.old.kept }
 {
-    if page.infos.len() < PAGE_CONSOLIDATION_THRESHOLD {
+    if joins {
         keep_also(page, info);
     } else {
         keep_alone(page, info);

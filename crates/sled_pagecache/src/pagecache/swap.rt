@@ -21,9 +21,9 @@ ghost use Rattle.sled_pagecache.specs.Inside.PageEntry.{WasAccessed, IsTouched, 
 ghost use Rattle.sled_pagecache.specs.Cache.{chain_at};
 ghost use Rattle.sled_pagecache.specs.Inside.StickyLog.{Went, IsCaused, IsOfLog, begun_by};
 ghost use Rattle.sled_pagecache.specs.Limits.{most_messages};
-ghost use Rattle.sled_pagecache.specs.Inside.PageEntry.{IsKept, access_size, size_after_link};
+ghost use Rattle.sled_pagecache.specs.Inside.PageEntry.{IsKept, access_size, joined_size};
 ghost use Rattle.sled_pagecache.specs.Table.{is_free};
-ghost use Rattle.sled_pagecache.specs.Inside.PageWrites.{CanPut, content_of, IsRaised, IsLinked, RefusesSwap, RefusesLink, Wrote, update_of};
+ghost use Rattle.sled_pagecache.specs.Inside.PageWrites.{CanPut, content_of, IsRaised, IsLinked, RefusesSwap, RefusesLink, Wrote, joined_update, update_of};
 ghost use Rattle.sled_pagecache.specs.Answers.{linked_length};
 ghost use Rattle.sled_pagecache.specs.Step.{link_update};
 ghost use Rattle.sled_pagecache.specs.Inside.Invariant.{IsFreeOrNode};
@@ -146,8 +146,8 @@ fn payload_size(kept: &Kept) -> u64
     }
 }
 
-// Applies a link to the node of a page and writes it to the log: the link itself, or the node that it makes where 10 messages
-// make the page. A refused append may leave the page out of memory.
+// Applies a link to the node of a page and writes it to the log. The link joins the messages that make the page, or the node that it
+// makes takes their place, where they are 10. A refused append may leave the page out of memory.
 //
 // `Corruption` comes where no node of the page lies in memory, and `LinkRefused` where the node doesn't accept the link.
 pub(super) fn link_page<L: Log>(
@@ -209,19 +209,19 @@ pub(super) fn link_page<L: Log>(
     if page.stamp == u64::MAX {
         return Err(Refusal::Unsupported(Why::StampUsedUp));
     }
-    let Ok(()) = prepare(&mut page.infos, node, link) else {
+    let joins = page.infos.len() < PAGE_CONSOLIDATION_THRESHOLD;
+    let Ok(()) = prepare(joins, &mut page.infos, node, link) else {
         return Err(Refusal::OutOfMemory);
     };
-    let messages = page.infos.len();
-    let size = linked_size(messages, node, link);
-    let Ok(()) = access_linked(accesses, pid, &page.infos, size) else {
+    let size = linked_size(joins, node, link);
+    let Ok(()) = access_linked(joins, accesses, pid, &page.infos, size) else {
         page.kept = Kept::Away;
         return Err(Refusal::OutOfMemory);
     };
     let stamp = page.stamp + 1;
-    match write_linked(alloc, sticky_log, pid, messages, node, link, size, stamp) {
+    match write_linked(joins, alloc, sticky_log, pid, node, link, size, stamp) {
         Ok(info) => {
-            keep_linked(page, info);
+            keep_linked(joins, page, info);
             Ok(())
         }
         Err(refusal) => {
@@ -246,17 +246,22 @@ fn accepts(node: &Node, link: &Link) -> bool
     }
 }
 
-// Makes room for one more message, unless the node is to be written, and applies the link. A refusal leaves both.
-fn prepare(infos: &mut Vec<CacheInfo>, node: &mut Node, link: &Link) -> Result<(), AllocError>
-    requires { Accepts node.old link.now }
+// Makes room for the message of a link that joins the others, and applies the link. A refusal leaves both.
+fn prepare(
+    joins: bool,
+    infos: &mut Vec<CacheInfo>,
+    node: &mut Node,
+    link: &Link,
+) -> Result<(), AllocError>
+    requires accepted { Accepts node.old link.now }
+    requires few { joins ≡ true → vec_len infos.old < most_messages }
     ensures infos { infos.new.items ≡ infos.old.items }
     ensures len { vec_len infos.new ≡ vec_len infos.old }
-    ensures room { OnOk result (vec_len infos.new < most_messages
-        → vec_len infos.new < vec_capacity infos.new) }
+    ensures room { OnOk result (joins ≡ true → vec_len infos.new < vec_capacity infos.new) }
     ensures applied { OnOk result (node.new ≡ applied link.now node.old) }
     ensures err { OnErr result (node.new ≡ node.old) }
 {
-    if infos.len() < PAGE_CONSOLIDATION_THRESHOLD {
+    if joins {
         make_room(infos)?;
     }
     node.apply(link)
@@ -279,56 +284,57 @@ fn make_room(infos: &mut Vec<CacheInfo>) -> Result<(), AllocError>
     infos.reserve_exact(more)
 }
 
-// In how many bytes a link is written, or the node that it made where so many messages make the page as may be.
-fn linked_size(messages: usize, node: &Node, link: &Link) -> u64
+// In how many bytes a link is written that joins the other messages, or else the node that it made.
+fn linked_size(joins: bool, node: &Node, link: &Link) -> u64
     requires { CanWriteLink link.now }
-    ensures { result ≡ length (message_of (link_update messages link.now node.now)).payload }
+    ensures { result ≡ length (message_of (joined_update joins link.now node.now)).payload }
 {
-    if messages < PAGE_CONSOLIDATION_THRESHOLD {
+    if joins {
         return link.serialized_size();
     }
     node.serialized_size()
 }
 
-// Accesses a page with what its messages will take: such a payload beside them, or alone where they are as many as may be.
+// Accesses a page with what its messages will take: such a payload, with theirs where it joins them.
 fn access_linked(
+    joins: bool,
     accesses: &mut Accesses,
     pid: PageId,
     infos: &[CacheInfo],
     payload: u64,
 ) -> Result<(), Refusal>
     ensures accessed { OnOk result (WasAccessed accesses.old pid
-        (capped_size (size_after_link infos.now payload)) accesses.new) }
+        (capped_size (joined_size joins infos.now payload)) accesses.new) }
     ensures err { OnErr result (accesses.new ≡ accesses.old) }
 {
-    if infos.len() < PAGE_CONSOLIDATION_THRESHOLD {
+    if joins {
         return accesses.access(pid, size_with(total_size(infos), payload));
     }
     accesses.access(pid, size_with(0, payload))
 }
 
-// Writes a link to the log, or the node that it made where so many messages make the page as may be, in so many bytes.
+// Writes a link to the log that joins the other messages, or else the node that it made, in so many bytes.
 fn write_linked<L: Log>(
+    joins: bool,
     alloc: Global,
     sticky_log: &mut StickyLog<L>,
     pid: PageId,
-    messages: usize,
     node: &Node,
     link: &Link,
     size: u64,
     stamp: u64,
 ) -> Result<CacheInfo, Refusal>
     requires can_write { CanWriteLink link.now }
-    requires sized { size ≡ length (message_of (link_update messages link.now node.now)).payload }
+    requires sized { size ≡ length (message_of (joined_update joins link.now node.now)).payload }
     requires ready { sticky_log.old.fault ≡ false }
     requires usable { (L.state sticky_log.old.log).usable ≡ true }
     requires there { L.tells → pid < length (now effect_of_entry (L.state sticky_log.old.log)) }
     requires full { L.tells
         → is_empty effect_of_entry (chain_at (L.state sticky_log.old.log) pid) ≡ false }
-    ensures { Wrote L.Log sticky_log.old sticky_log.new pid (link_update messages link.now node.now)
-        stamp result }
+    ensures { Wrote L.Log sticky_log.old sticky_log.new pid
+        (joined_update joins link.now node.now) stamp result }
 {
-    if messages < PAGE_CONSOLIDATION_THRESHOLD {
+    if joins {
         return write_link(alloc, sticky_log, pid, link, size, stamp);
     }
     write_node(alloc, sticky_log, pid, node, size, stamp)
