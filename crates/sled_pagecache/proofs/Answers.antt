@@ -14,23 +14,11 @@ module _ {L T : Type 0} (old new : Cache L) (stamps : T → List ℕ) where
   -- refused by what a log, or the cache, answers
   pub keeps-err : (U : Type 0) (refusal : Refusal) → old.fault ≡ false → (let err : Result U Refusal = Err refusal in new.fault ≡ met_fault err) → new.stamps ≡ old.stamps → new.batch ≡ old.batch
       → Keeps old new (Err (error_of refusal)) stamps
-  keeps-err U refusal ready fault same batch = record {
-    batch = batch;
-    fault = rw ready (fault ∙ fault-same U T refusal);
-    stuck = λ kept. absurd (false≢true (sym ready ∙ kept));
-    done = tt;
-    refused = same;
-  }
+  keeps-err U refusal ready fault same batch = grind (arith, fault-same U T refusal)
 
   -- done
   pub keeps-ok : (answer : T) → old.fault ≡ false → new.fault ≡ false → new.stamps ≡ stamps answer → new.batch ≡ old.batch → Keeps old new (Ok answer) stamps
-  keeps-ok answer ready fault same batch = record {
-    batch = batch;
-    fault = rw ready fault;
-    stuck = λ kept. absurd (false≢true (sym ready ∙ kept));
-    done = same;
-    refused = tt;
-  }
+  keeps-ok answer ready fault same batch = grind arith
 
 -- ---- the stamps of an answered token
 
@@ -39,18 +27,14 @@ pub stamps-added : (table pages : List Page) (page : Page) (t : Token) → pages
 stamps-added table pages page t is named =
     let long : length (stamps_in table) ≡ length table = length-map table (λ (p : Page). p.stamp) in
     let more : stamps_in (table ++ page ∷ []) ≡ stamps_in table ++ page.stamp ∷ [] = map-append (λ (p : Page). p.stamp) table (page ∷ []) in
-    rw (is, named) (
-      more ∙ sym (ap (λ (b : Bool). cond b (stamps_in table ++ page.stamp ∷ []) (slice_set (stamps_in table) (length table) page.stamp)) (eq-eqb (length table) (length (stamps_in table)) (sym long))),
-      ap (λ (l : List ℕ). slice_get l (length table)) more ∙ ap (slice_get (stamps_in table ++ page.stamp ∷ [])) (sym long) ∙ last-at (stamps_in table) page.stamp,
-    )
+    let last = last-at (stamps_in table) page.stamp in
+    grind (arith, eq-eqb (length table) (length (stamps_in table)))
 
 pub stamps-reused : (table : List Page) (pid : ℕ) (page q : Page) (t : Token) → slice_get table pid ≡ Some q → t ≡ token pid page.stamp
     → (stamps_in (slice_set table pid page) ≡ stamps_with (stamps_in table) t) × (slice_get (stamps_in (slice_set table pid page)) pid ≡ Some t.stamp)
 stamps-reused table pid page q t at named =
     let within : pid < length table = slice_get_within table pid q at in
     let long : length (stamps_in table) ≡ length table = length-map table (λ (p : Page). p.stamp) in
-    rw named (
-      map-set (λ (p : Page). p.stamp) table pid page
-          ∙ sym (ap (λ (b : Bool). cond b (stamps_in table ++ page.stamp ∷ []) (slice_set (stamps_in table) pid page.stamp)) (ne_eqb pid (length (stamps_in table)) (λ last. omega (arith, within, long, last)))),
-      map-at (λ (p : Page). p.stamp) (slice_set table pid page) pid page (set-at table pid q page at),
-    )
+    let changed = map-set (λ (p : Page). p.stamp) table pid page in
+    let there = map-at (λ (p : Page). p.stamp) (slice_set table pid page) pid page (set-at table pid q page at) in
+    grind (arith, ne_eqb pid (length (stamps_in table)))

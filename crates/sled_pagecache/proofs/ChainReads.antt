@@ -32,9 +32,3 @@ module _ (chain : List Entry) (infos : List CacheInfo) (known : map said_of chai
   -- the entry stands where its page keeps it
   pub is_at : (i : ℕ) (info : CacheInfo) (lsn : ℤ) → lsn ≡ (get_or infos i info).lsn → IsAt lsn (get_or infos i info).pointer (get_or chain i (entry_at info))
   is_at i info lsn is = (ap (λ (place : ℤ × DiskPtr × ℕ). place.0) (said_at i info) ∙ sym is, ap (λ (place : ℤ × DiskPtr × ℕ). place.1) (said_at i info))
-
--- what was found so far, and one more
-pub found-more : (chain : List Entry) (all : List Found) (i : ℕ) (entry : Entry) (found : Found)
-    → i < length chain → AllZip IsFoundAs (take i chain) all → IsFoundAs (get_or chain i entry) found → AllZip IsFoundAs (take (i + 1) chain) (all ++ found ∷ [])
-found-more chain all i entry found lt zip is =
-    subst (λ (l : List Entry). AllZip IsFoundAs l (all ++ found ∷ [])) (sym (take_more chain i entry lt)) (zip-append IsFoundAs (take i chain) all (get_or chain i entry ∷ []) (found ∷ []) zip (is, tt))

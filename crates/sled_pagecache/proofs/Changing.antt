@@ -47,7 +47,7 @@ module _ {L : Type 0} (g : Ghosts L) where
     -- an update of a page was told
     module _ (pid : ℕ) (update : Update) (reads : IsUpdate (message_of update) update) (may : MayChange (now held) pid update)
         (proper : IsProper (chains_from effect_of pages_now (Change pid (message_of update))) (contents_from (now held) (Change pid update))) where
-      leads-to : (t : State) → StepOver g old s call answer (outcome t (Change pid update ∷ [])) → stamps_of t ≡ new.stamps → t.next ≡ s.next → t.fault ≡ new.fault → t.batch ≡ s.batch
+      pub leads-to : (t : State) → StepOver g old s call answer (outcome t (Change pid update ∷ [])) → stamps_of t ≡ new.stamps → t.next ≡ s.next → t.fault ≡ new.fault → t.batch ≡ s.batch
           → (new.fault ≡ false → contents_of t ≡ contents_from (now held) (Change pid update))
           → LeadsTo g old new held s call answer (Change pid (message_of update) ∷ [])
       leads-to t step stamps same_next fault batch contents = record {
@@ -78,16 +78,6 @@ module _ {L : Type 0} (g : Ghosts L) where
           leads-to (with_page s pid (page stamp content)) step
           (map-set (λ (p : StampedPage). p.stamp) s.pages pid (page stamp content) ∙ ap (λ (l : List ℕ). slice_set l pid stamp) is.stamps ∙ sym stamps) refl (clear ∙ sym free) refl
           (λ _. map-set (λ (p : StampedPage). p.content) s.pages pid (page stamp content) ∙ ap (λ (l : List Content). slice_set l pid content) (is.known clear).contents ∙ sym makes)
-
-      -- and there is a page more
-      pub leads-add : (stamp : ℕ) (content : Content) → StepOver g old s call answer (outcome (record s { pages = s.pages ++ page stamp content ∷ [] }) (Change pid update ∷ []))
-          → contents_from (now held) (Change pid update) ≡ now held ++ content ∷ []
-          → new.stamps ≡ old.stamps ++ stamp ∷ [] → new.fault ≡ false
-          → LeadsTo g old new held s call answer (Change pid (message_of update) ∷ [])
-      leads-add stamp content step makes stamps free =
-          leads-to (record s { pages = s.pages ++ page stamp content ∷ [] }) step
-          (map-append (λ (p : StampedPage). p.stamp) s.pages (page stamp content ∷ []) ∙ ap (λ (l : List ℕ). l ++ stamp ∷ []) is.stamps ∙ sym stamps) refl (clear ∙ sym free) refl
-          (λ _. map-append (λ (p : StampedPage). p.content) s.pages (page stamp content ∷ []) ∙ ap (λ (l : List Content). l ++ content ∷ []) (is.known clear).contents ∙ sym makes)
 
 -- ---- calls of a cache whose table stays as it was
 

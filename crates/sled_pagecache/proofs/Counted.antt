@@ -1,5 +1,5 @@
 -- The counter of generated ids stays durable as far as the next id needs it.
-use Rattle.sled_pagecache.proofs.Names.{AllByRecursion, AllZip-long, AreEvents, AreFound, IsFoundAt, Makes, map, length-map, eqb-false, nat_lt, inl, inr, ◌⊎◌, Bool, Chain, Change, Config, Content, Counter, Err, Event, Ghosts, Holds, HoldsChain, Io, IsConsistent, IsKept, IsLogged, IsPagedOut, Kept, Link, List, Logged, Message, Messages, None, Option, Page, Put, Read, Refusal, Result, Some, StickyLog, Update, Went, Write, [], after_link, ap, arith, begun_by, cond, contents_after, contents_from, drop, effect_of, effect_of_entry, eqb-true, fault_of, false, get_or-map, holds-made, length, next_id, none-some, kept_behind_eviction, refl, same_Some, slice_get, slice_get-get_or, slice_get_within, slice_index_or, slice_set, suc, sym, subst, true, messages_of, unplaced_events, unplaced_state, zero, ℕ, ⊎_elim, ◌*◌, ◌++◌, ◌+◌, ◌<◌, ◌==◌, ◌∙◌, ◌∷◌, ◌≡◌, true≢false, ◌≢◌, ◌≤◌, Free, cases_lt, lt-div-mul-add, CapacityTooSmall, IntervalZero, SegmentZero, IsEvent, NodeLink, IsCounted, IsWhole, SparesCounter, IsBelowCounter, RefusesAppended, interval_start, is_write_fault, at-id, Token, zip-first, kept-at, other-at as set-other, other-before, holds_now}
+use Rattle.sled_pagecache.proofs.Names.{AllByRecursion, AllZip-long, AreEvents, AreFound, IsFoundAt, Makes, map, length-map, eqb-false, nat_lt, inl, inr, ◌⊎◌, Bool, Chain, Change, Config, Content, Counter, Err, Event, Ghosts, Holds, HoldsChain, Io, IsConsistent, IsKept, IsLogged, IsPagedOut, Kept, Link, List, Logged, Message, Messages, None, Option, Page, Put, Read, Refusal, Result, Some, StickyLog, Update, Went, Write, [], after_link, ap, arith, begun_by, cond, contents_after, contents_from, drop, effect_of, effect_of_entry, eqb-true, fault_of, false, get_or-map, holds-made, length, next_id, none-some, kept_behind_eviction, refl, same_Some, slice_get, slice_get-get_or, slice_get_within, slice_index_or, slice_set, suc, sym, subst, true, messages_of, unplaced_events, unplaced_state, zero, ℕ, ⊎_elim, ◌*◌, ◌++◌, ◌+◌, ◌<◌, ◌==◌, ◌∙◌, ◌∷◌, ◌≡◌, true≢false, ◌≢◌, ◌≤◌, Free, cases_lt, lt-div-mul-add, CapacityTooSmall, IntervalZero, SegmentZero, IsEvent, NodeLink, IsCounted, IsWhole, SparesCounter, IsBelowCounter, RefusesAppended, interval_start, is_write_fault, at-id, Token, zip-first, kept-at, other-at as set-other, other-before, set-at, holds_now, eqb_tells}
 use Rattle.sled_log.specs.LogState as log
 use Rattle.sled_pagecache.proofs.Counting.{CountsTo}
 use Rattle.sled_pagecache.proofs.ProperPages.{all-append}
@@ -64,33 +64,18 @@ module _ {L : Type 0} (g : Ghosts L) (k next : ℕ) (sticky_log : StickyLog L) (
 
   -- a page left memory
   pub counted-out : IsCounted g.tells g.state k next sticky_log table → (pid : ℕ) (q out : Page) → slice_get table pid ≡ Some q → IsPagedOut q out → IsCounted g.tells g.state k next sticky_log (slice_set table pid out)
-  counted-out counted pid q out there is some clear told page n at holds few = by table pid there at (λ page at holds. counted some clear told page n at holds few)
-    where
-      same : (k : Kept) → kept_behind_eviction k ≡ kept.Counter n → k ≡ kept.Counter n
-      same k h = grind arith
-
-      by : (table : List Page) (pid : ℕ) → slice_get table pid ≡ Some q → slice_get (slice_set table pid out) 1 ≡ Some page
-          → ((page : Page) → slice_get table 1 ≡ Some page → page.kept ≡ kept.Counter n → AllByRecursion SparesCounter (unplaced_state (g.state sticky_log.log)).pending)
-          → AllByRecursion SparesCounter (unplaced_state (g.state sticky_log.log)).pending
-      by [] pid there at go = absurd (none-some q there)
-      by (p ∷ []) zero there at go = absurd (none-some page at)
-      by (p ∷ []) (suc pid) there at go = absurd (none-some q there)
-      by (p ∷ r ∷ table) zero there at go = go page at holds
-      by (p ∷ r ∷ table) (suc zero) there at go =
-          go q there (same q.kept (sym is.kept ∙ ap (λ (p : Page). p.kept) (same_Some out page at) ∙ holds))
-      by (p ∷ r ∷ table) (suc (suc pid)) there at go = go page at holds
+  counted-out counted pid q out there is some clear told page n at holds few =
+      ⊎_elim (λ same. counted some clear told q n (sym (ap (slice_get table) same.1) ∙ there) (let back : q.kept ≡ kept.Counter n = grind (arith, set-at) in back) few)
+      (λ other. counted some clear told page n (sym (other-at table pid out other.1) ∙ at) holds few) (eqb_tells pid 1)
 
 -- ---- numbers
-
-start-up : (k x y : ℕ) → 0 < k → x ≤ y → interval_start k x ≤ interval_start k y
-start-up k x y h1 h2 = grind arith
 
 -- the id behind the next one needs no less
 pub whole-next : {L : Type 0} (g : Ghosts L) {k next : ℕ} {sticky_log : StickyLog L} {table : List Page} {free : List ℕ} → IsWhole g.tells g.state k next sticky_log table free → IsWhole g.tells g.state k (next + 1) sticky_log table free
 whole-next g {k} {next} whole = record {
   consistent = whole.consistent;
   positive = whole.positive;
-  counted = λ some clear told page n at holds few. whole.counted some clear told page n at holds (let up = start-up k next (next + 1) some (omega arith) in omega (arith, up, few));
+  counted = λ some clear told page n at holds few. whole.counted some clear told page n at holds (let up : interval_start k next ≤ interval_start k (next + 1) = grind arith in omega (arith, up, few));
 }
 
 covers : (k next n : ℕ) → 0 < k → interval_start k next ≤ interval_start k n → next < n + k
@@ -104,22 +89,12 @@ needs-new k n h1 h2 = grind arith
 
 held-spares : (contents : List Content) (ms : List (Event Message)) (us : List (Event Update)) → AreEvents contents ms us → AllByRecursion SparesCounter ms → AllByRecursion SparesCounter us
 held-spares contents [] [] are spare = tt
-held-spares contents (m ∷ ms) (u ∷ us) are spare = (one m u are.0 spare.0, held-spares (contents_from contents u) ms us are.2 spare.1)
-  where
-    one : (m : Event Message) (u : Event Update) → IsEvent m u → SparesCounter m → SparesCounter u
-    one m u h1 h2 = grind arith
+held-spares contents (m ∷ ms) (u ∷ us) are spare = (let one : SparesCounter u = grind arith in one, held-spares (contents_from contents u) ms us are.2 spare.1)
 held-spares contents [] (u ∷ us) are spare = absurd are
 held-spares contents (m ∷ ms) [] are spare = absurd are
 
-back-put : (contents : List Content) (id : ℕ) (content : Content) (n : ℕ) (added : Bool) → (id == length contents) ≡ added → id ≢ 1
-    → slice_get (cond added (contents ++ content ∷ []) (slice_set contents id content)) 1 ≡ Some (Counter n) → CountsTo contents n
-back-put contents id content n true is other at = sym (other-before contents content 1 (λ last. other (eqb-true id (length contents) is ∙ sym last))) ∙ at
-back-put contents id content n false is other at = sym (set-other contents id 1 content (λ e. other (sym e))) ∙ at
-
 back-one : (contents : List Content) (u : Event Update) (n : ℕ) → SparesCounter u → CountsTo (contents_from contents u) n → CountsTo contents n
-back-one contents (Change id (Put content)) n other at = back-put contents id content n (id == length contents) refl other at
-back-one contents (Change id (Link link)) n other at = sym (set-other contents id 1 (after_link link (slice_index_or contents id Free)) (λ e. other (sym e))) ∙ at
-back-one contents mark n other at = at
+back-one contents u n spare at = grind (arith, other-before, set-other)
 
 back-all : (contents : List Content) (us : List (Event Update)) (n : ℕ) → AllByRecursion SparesCounter us → CountsTo (contents_after contents us) n → CountsTo contents n
 back-all contents [] n spare at = at
@@ -161,16 +136,8 @@ covered-put g k next sticky_log table free c some clear told q at holds none hel
 
 -- ---- an opening
 
-positive-if : (small zero_interval zero_segment : Bool) → cond small (Some CapacityTooSmall) (cond zero_interval (Some IntervalZero) (cond zero_segment (Some SegmentZero) None)) ≡ None → zero_interval ≡ false
-positive-if true z s is = absurd cc
-positive-if false true s is = absurd cc
-positive-if false false s is = refl
-
 pub positive : (config : Config) → fault_of config ≡ None → 0 < config.idgen_persist_interval
-positive config sound = let not_zero = eqb-false config.idgen_persist_interval 0 (positive-if (nat_lt config.cache_capacity 256) (config.idgen_persist_interval == 0) (config.segment_size == 0) sound) in omega (arith, not_zero)
-
-same-counter : (m n : ℕ) → kept.Counter m ≡ kept.Counter n → m ≡ n
-same-counter m n is = cc
+positive config sound = grind arith
 
 -- A counter that was found is two intervals below the next id, and else all is durable.
 pub opened-counted : {L : Type 0} (g : Ghosts L) (k : ℕ) (sticky_log : StickyLog L) (table pages : List Page) (counter : Option ℕ) → AreFound table counter
@@ -181,4 +148,4 @@ opened-counted g k sticky_log table pages counter found same stable = by (cases_
     by (inr few) = counted-stable g k (next_id k counter) sticky_log pages (stable (omega (arith, few)))
     by (inl many) = λ some clear told page n at holds needs.
         let own = at-id (λ pid (page : Page). IsFoundAt counter pid page.kept) table 1 page found.0 (sym (ap (λ (l : List Page). slice_get l 1) (same many)) ∙ at) in
-        absurd (needs-new k n some (subst (λ c. interval_start k (next_id k c) ≤ interval_start k n) (own.2 ∙ ap (λ m. Some m) (same-counter own.0 n (sym own.1 ∙ holds))) needs))
+        absurd (needs-new k n some (subst (λ c. interval_start k (next_id k c) ≤ interval_start k n) (own.2 ∙ ap (λ m. Some m) (let same : own.0 ≡ n = cc in same)) needs))

@@ -1,47 +1,26 @@
 -- A cache that is opened again over what a crash left of one that was flushed.
-use Rattle.sled_pagecache.proofs.Names.{◌≡◌, ◌≤◌, ◌<◌, ◌+◌, ℕ, Bool, true, false, cond, ◌==◌, List, [], ◌∷◌, ◌++◌, length, map, take, drop, min, refl, sym, ◌∙◌, ap, subst, arith, drop-nil, take-nil, append-nil, length-map, AllZip-long, slice_set, slice_index_or, Result, Ok, Err, IfOk, IfErr, Error, Update, Content, Free, Put, Link, Change, after_link, contents_from, contents_after, Event, seen_event, Message, Messages, Chain, Entry, message_in, AreEvents, Holds, unplaced_state, Ghosts, LogFull, missing_pages, changes_of_start, opened_state, Cache, Logged, IsLogged, Started, Opens, stable_state, stable_contents, Config, State, page, contents_of, error_of, LacksRoomFor, replicate, length-append, length-set, length-replicate, drop_all, LogState, LogError, most_pages, Steps, AreSteps, IsRow, StepInRow, changes_of, IsOpened, IsUnopened, StampedPage, Outcome, Answer, Call, none-came, inl, inr, ⊎_elim, ◌⊎◌, ◌≢◌}
-use Rattle.sled_pagecache.proofs.Endings.{by-settings}
+use Rattle.sled_pagecache.proofs.Names.{◌≡◌, ◌≤◌, ◌<◌, ◌+◌, ℕ, Bool, true, false, cond, ◌==◌, List, [], ◌∷◌, ◌++◌, length, map, take, drop, min, refl, sym, ◌∙◌, ap, subst, arith, drop-nil, take-nil, append-nil, length-map, AllZip-long, slice_set, slice_index_or, Result, Ok, Err, IfOk, IfErr, Error, Update, Content, Free, Put, Link, Change, after_link, contents_from, contents_after, Event, seen_event, Message, Messages, Chain, Entry, message_in, AreEvents, Holds, unplaced_state, Ghosts, LogFull, missing_pages, changes_of_start, opened_state, Cache, Logged, IsLogged, Started, Opens, stable_state, stable_contents, Config, State, page, contents_of, error_of, LacksRoomFor, replicate, length-append, length-set, length-replicate, drop_all, LogState, LogError, most_pages, Steps, AreSteps, IsRow, StepInRow, changes_of, IsOpened, IsUnopened, StampedPage, Outcome, Answer, Call, none-came, nil_from_length, inl, inr, ⊎_elim, ◌⊎◌, ◌≢◌}
+use Rattle.sled_pagecache.proofs.Endings.{by-settings, sound-settings}
 use Rattle.sled_pagecache.proofs.Staying.{no-changes}
 use Rattle.sled_base.specs.declared.types.Error.TheVariants as errors
 use Rattle.sled_log.specs.Calls.{refusal_of}
 use Rattle.sled_log.specs.declared.log.LogError.TheVariants as failures
-use Rattle.sled_pagecache.proofs.Reopening.{empty-logged, kept-logged}
+use Rattle.sled_pagecache.proofs.Reopening.{IsKeptAs, empty-logged, kept-logged, kept-prefix}
 use Rattle.sled_pagecache.specs.Reopening.{RefusesReopening, AreFlushedThen, IsFlushed, OpensAgain, ReopensAfter, HasFlushed}
 use Rattle.sled_pagecache.specs.Logged.{IsLeft, now}
 
 -- ---- contents
 
-from-no-shorter : (contents : List Content) (event : Event Update) → length contents ≤ length (contents_from contents event)
-from-no-shorter contents (Change id (Put content)) = by (id == length contents)
-  where
-    by : (b : Bool) → length contents ≤ length (cond b (contents ++ content ∷ []) (slice_set contents id content))
-    by true = omega (arith, length-append contents (content ∷ []))
-    by false = omega (arith, length-set contents id content)
-from-no-shorter contents (Change id (Link link)) = omega (arith, length-set contents id (after_link link (slice_index_or contents id Free)))
-from-no-shorter contents mark = omega arith
-
 -- no change takes a page away
 after-no-shorter : (contents : List Content) (events : List (Event Update)) → length contents ≤ length (contents_after contents events)
 after-no-shorter contents [] = omega arith
-after-no-shorter contents (event ∷ events) = omega (arith, from-no-shorter contents event, after-no-shorter (contents_from contents event) events)
-
--- nothing is missing where both system pages are there
-none-missing : (contents : List Content) → 2 ≤ length contents → missing_pages contents ≡ []
-none-missing contents both = drop_all (length contents) _ both
-
-none-to-start : (contents : List Content) → 2 ≤ length contents → changes_of_start contents ≡ []
-none-to-start contents both = drop_all (length contents) _ both
+after-no-shorter contents (event ∷ events) = grind (arith, after-no-shorter (contents_from contents event) events, length-append {A = Content}, length-set {A = Content})
 
 -- ---- events
 
 no-messages : (contents : List Content) (messages : List (Event Entry)) (changes : List (Event Update)) → changes ≡ [] → AreEvents contents (map (seen_event message_in) messages) changes → messages ≡ []
 no-messages contents [] changes none are = refl
-no-messages contents (message ∷ messages) [] none are = absurd are
-no-messages contents (message ∷ messages) (change ∷ changes) none are = absurd cc
-
-no-parts : {E : Type 0} (xs ys : List E) → xs ++ ys ≡ [] → (xs ≡ []) × (ys ≡ [])
-no-parts [] ys e = (refl, e)
-no-parts (x ∷ xs) ys e = absurd cc
+no-messages contents (message ∷ messages) changes none are = absurd (rw none at are)
 
 -- ---- crash states
 
@@ -54,9 +33,11 @@ not-all n held begun above all =
     let long = AllZip-long Holds (replicate n none) (contents_after held.stable (take left.cut (held.pending ++ left.came))) left.is.holds in
     absurd (omega (arith, above, few, long, length-replicate n none))
 
--- with nothing begun the pages are the flushed ones
-same-pages : (s : State) (contents : List Content) → AreFlushedThen s [] contents → contents ≡ contents_of s
-same-pages s contents after = after.is ∙ ap (λ (l : List (Event Update)). contents_after (contents_of s) (take after.cut l)) (none-came after.came after.beginning) ∙ ap (contents_after (contents_of s)) (take-nil after.cut)
+-- a log at which nothing is pending
+at-rest : {L : Type 0} (g : Ghosts L) (log : L) → (g.state log).usable ≡ true → (g.state log).pending ≡ [] → (let state = unplaced_state (g.state log) in state ≡ stable_state state.stable true)
+at-rest g log usable none =
+    let stable = (unplaced_state (g.state log)).stable in
+    ap (λ (events : List (Event Entry)). record { stable = stable; pending = map (seen_event message_in) events; usable = (g.state log).usable }) none ∙ ap (stable_state stable) usable
 
 -- ---- opening
 
@@ -66,16 +47,27 @@ pub refuses : {L : Type 0} (g : Ghosts L) (log after : L) (config : Config) (hel
 refuses g log after config held errors.OutOfMemory un = inl tt
 refuses g log after config held (errors.Io device) un = inl tt
 refuses g log after config held (errors.Unsupported LogFull) un =
-    inr (refl, λ none. let parts = no-parts un.begun un.rest (un.are ∙ none) in absurd (subst (LacksRoomFor g log) parts.1 ((un.full refl).given parts.0)))
+    inr (refl, λ none.
+    let empty : length un.begun + length un.rest ≡ 0 = sym (length-append un.begun un.rest) ∙ ap length (un.are ∙ none) in
+    absurd (rw (nil_from_length un.rest (omega arith)) at ((un.full refl).given (nil_from_length un.begun (omega arith)))))
 refuses g log after config held other un = absurd un.why
 
-module _ {L : Type 0} (g : Ghosts L) (first : Cache L) (calls : List (Call × Answer)) (s : State) (flushed : IsFlushed g first s) where
-  none-waits : flushed.held.pending ≡ []
-  none-waits = no-changes flushed.held.stable _ flushed.held.pending (ap (map (seen_event message_in)) flushed.none) (flushed.is.known flushed.clear).logged.pending
+-- a cache that was opened is durable where nothing is pending
+opened-flushed : {L : Type 0} (g : Ghosts L) (log : L) (config : Config) (held : Logged) (cache : Cache L) → (opens : IsOpened g log config held cache) → opens.held_then.pending ≡ [] → 2 ≤ length (opened_state config (now held)).pages
+    → IsFlushed g cache (opened_state config (now held))
+opened-flushed g log config held cache opens waits both = record {
+  held = opens.held_then;
+  is = opens.is;
+  clear = refl;
+  none = no-messages opens.held_then.stable (g.state cache.log).pending opens.held_then.pending waits (opens.is.known refl).logged.pending;
+  both = both;
+}
 
+module _ {L : Type 0} (g : Ghosts L) (first : Cache L) (calls : List (Call × Answer)) (s : State) (flushed : IsFlushed g first s) where
   -- it holds its pages, and nothing else
   holds-pages : flushed.held ≡ stable_contents (contents_of s)
   holds-pages =
+      let none-waits : flushed.held.pending ≡ [] = no-changes flushed.held.stable _ flushed.held.pending (ap (map (seen_event message_in)) flushed.none) (flushed.is.known flushed.clear).logged.pending in
       let stable : flushed.held.stable ≡ contents_of s = sym ((flushed.is.known flushed.clear).contents ∙ ap (contents_after flushed.held.stable) none-waits) in
       ap (λ (changes : List (Event Update)). record { stable = flushed.held.stable; pending = changes }) none-waits ∙ ap stable_contents stable
 
@@ -88,11 +80,10 @@ module _ {L : Type 0} (g : Ghosts L) (first : Cache L) (calls : List (Call × An
     abbrev pub moment : ℕ
     moment = min m (g.moment crashed)
 
-    is-since : g.moment first.log ≤ moment
-    is-since = (let later = (row.stop flushed.clear).later in let still = ap g.moment same in omega (arith, since, later, still))
-
     crash-state : (pages : List Messages) → g.left_since crashed moment pages → IsLeft (stable_contents (contents_of s)) (changes_of row.outs) pages
     crash-state pages left =
+        let later = (row.stop flushed.clear).later in
+        let is-since : g.moment first.log ≤ moment = (let still = ap g.moment same in omega (arith, since, later, still)) in
         subst (λ (h : Logged). IsLeft h (changes_of row.outs) pages) holds-pages
         ((row.stop flushed.clear).each pages (subst (λ (l : L). g.left_since l (g.moment first.log) pages) same (since_earlier (g.moment first.log) moment pages flushed.is.tells is-since left)))
 
@@ -110,68 +101,45 @@ module _ {L : Type 0} (g : Ghosts L) (first : Cache L) (calls : List (Call × An
       abbrev pub pages : List Messages
       pages = (unplaced_state (g.state log)).stable
 
-      holds : unplaced_state (g.state log) ≡ stable_state pages true
-      holds =
-          ap (λ (events : List (Event Entry)). record { stable = pages; pending = map (seen_event message_in) events; usable = (g.state log).usable }) none
-          ∙ ap (stable_state pages) usable
+      -- what the crash left
+      abbrev kept : IsKeptAs pages (AreFlushedThen s (changes_of row.outs))
+      kept = kept-prefix (stable_contents (contents_of s)) (changes_of row.outs) pages (crash-state pages left)
 
-      pub crash : IsLeft (stable_contents (contents_of s)) (changes_of row.outs) pages
-      crash = crash-state pages left
+      both : 2 ≤ length kept.0
+      both = (let old = flushed.both in omega (arith, old, length-map s.pages (λ (p : StampedPage). p.content), after-no-shorter))
 
-      abbrev pub contents : List Content
-      contents = contents_after (contents_of s) (take crash.cut crash.came)
-
-      both : 2 ≤ length contents
-      both = (let old = flushed.both in omega (arith, old, length-map s.pages (λ (p : StampedPage). p.content), after-no-shorter (contents_of s) (take crash.cut crash.came)))
-
-      logged : IsLogged (unplaced_state (g.state log)) (stable_contents contents)
-      logged = subst (λ (state : LogState Message). IsLogged state (stable_contents contents)) (sym holds) (kept-logged pages contents crash.is true)
-
-      -- the cache that is opened there is durable
-      still-flushed : (cache : Cache L) → IsOpened g log config (stable_contents contents) cache → IsFlushed g cache (opened_state config contents)
-      still-flushed cache opens =
-          let waits : opens.held_then.pending ≡ [] = opens.added.pending ∙ ap (λ (l : List (Event Update)). drop opens.added.cut l) (none-to-start contents both) ∙ drop-nil opens.added.cut in
-          record {
-            held = opens.held_then;
-            is = opens.is;
-            clear = refl;
-            none = no-messages opens.held_then.stable (g.state cache.log).pending opens.held_then.pending waits (opens.is.known refl).logged.pending;
-            both = omega (arith, both, length-append (map (page 0) contents) (map (page 1) (missing_pages contents)), length-map contents (page 0));
-          }
-
-      of-opening : (result : Result (Cache L) (Error × L)) → Opens g log config (stable_contents contents) result → IfOk result (OpensAgain g (AreFlushedThen s (changes_of row.outs)) config) × IfErr result (λ e. RefusesReopening config e.0)
-      of-opening (Ok cache) opens = (
-        record {
-          contents = contents;
-          are = record { came = crash.came; beginning = crash.beginning; cut = crash.cut; fair = crash.fair; is = refl };
-          flushed = still-flushed cache opens;
-        },
-        tt,
-      )
-      of-opening (Err refused) opens = (tt, ⊎_elim (λ why. why) (λ full. absurd (full.1 (none-to-start contents both))) (refuses g log refused.1 config (stable_contents contents) refused.0 opens))
-
-      started : (result : Result (Cache L) (Error × L)) → Started g log config result → IfOk result (OpensAgain g (AreFlushedThen s (changes_of row.outs)) config) × IfErr result (λ e. RefusesReopening config e.0)
-      started result start =
-          by-settings config
-          (λ why is. subst (λ (r : Result (Cache L) (Error × L)). IfOk r (OpensAgain g (AreFlushedThen s (changes_of row.outs)) config) × IfErr r (λ e. RefusesReopening config e.0)) (sym (start.settings why is)) (tt, is))
-          (λ is. of-opening result (start.opens is (stable_contents contents) logged))
+      logged : IsLogged (unplaced_state (g.state log)) (stable_contents kept.0)
+      logged = subst (λ (state : LogState Message). IsLogged state (stable_contents kept.0)) (sym (at-rest g log usable none)) (kept-logged pages kept.0 kept.1 true)
 
       pub reopens-opened : (cache : Cache L) (result : Result (Cache L) (Error × L)) → result ≡ Ok cache → Started g log config result → ReopensAfter g first s calls last config (Ok cache)
       reopens-opened cache result is start =
-          let of = subst (λ (r : Result (Cache L) (Error × L)). IfOk r (OpensAgain g (AreFlushedThen s (changes_of row.outs)) config)) is (started result start).0 in
-          record { outs = row.outs; t = row.t; steps = row.steps; opens = of; refused = tt }
+          let begun = rw is at start in
+          let opens = begun.opens (sound-settings g log config cache begun) (stable_contents kept.0) logged in
+          let waits : opens.held_then.pending ≡ [] = opens.added.pending ∙ ap (drop opens.added.cut) (drop_all (length kept.0) _ both) ∙ drop-nil opens.added.cut in
+          let long : 2 ≤ length (opened_state config kept.0).pages = omega (arith, both, length-append (map (page 0) kept.0) (map (page 1) (missing_pages kept.0)), length-map kept.0 (page 0)) in
+          record {
+            outs = row.outs;
+            t = row.t;
+            steps = row.steps;
+            opens = record { contents = kept.0; are = kept.2; flushed = opened-flushed g log config (stable_contents kept.0) cache opens waits long };
+            refused = tt;
+          }
 
       pub reopens-refused : (error : Error) (after : L) (result : Result (Cache L) (Error × L)) → result ≡ Err (error, after) → Started g log config result → ReopensAfter g first s calls last config (Err error)
       reopens-refused error after result is start =
-          let of = subst (λ (r : Result (Cache L) (Error × L)). IfErr r (λ e. RefusesReopening config e.0)) is (started result start).1 in
-          record { outs = row.outs; t = row.t; steps = row.steps; opens = tt; refused = of }
+          let begun = rw is at start in
+          let why : RefusesReopening config error =
+              by-settings config (λ why wrong. subst (λ (r : Result (Cache L) (Error × L)). IfErr r (λ e. RefusesReopening config e.0)) (sym (begun.settings why wrong)) wrong)
+              (λ sound. ⊎_elim (λ why. why) (λ full. absurd (full.1 (drop_all (length kept.0) _ both))) (refuses g log after config (stable_contents kept.0) error (begun.opens sound (stable_contents kept.0) logged))) in
+          record { outs = row.outs; t = row.t; steps = row.steps; opens = tt; refused = why }
 
 -- with no calls since, what is opened again is what was flushed
 pub flushed-again : {L : Type 0} (g : Ghosts L) (first last : Cache L) (s : State) (config : Config) (result : Result (Cache L) Error) → 2 ≤ length s.pages → ReopensAfter g first s [] last config result → IfOk result (HasFlushed g s config) × IfErr result (RefusesReopening config)
 flushed-again g first last s config (Err error) both after = (tt, after.refused)
-flushed-again {L} g first last s config (Ok cache) both after =
-    let same = same-pages s after.opens.contents (subst (λ (outs : List Outcome). AreFlushedThen s (changes_of outs) after.opens.contents) (none-out after.outs after.steps) after.opens.are) in
-    let none = none-missing (contents_of s) (omega (arith, both, length-map s.pages (λ (p : StampedPage). p.content))) in (
+flushed-again g first last s config (Ok cache) both after =
+    let are : AreFlushedThen s [] after.opens.contents = subst (λ (outs : List Outcome). AreFlushedThen s (changes_of outs) after.opens.contents) (none-out after.outs after.steps) after.opens.are in
+    let same = are.is ∙ ap (λ (l : List (Event Update)). contents_after (contents_of s) (take are.cut l)) (none-came are.came are.beginning) ∙ ap (contents_after (contents_of s)) (take-nil are.cut) in
+    let none : missing_pages (contents_of s) ≡ [] = drop_all (length (contents_of s)) _ (omega (arith, both, length-map s.pages (λ (p : StampedPage). p.content))) in (
       record {
         flushed = subst (λ (contents : List Content). IsFlushed g cache (opened_state config contents)) same after.opens.flushed;
         pages = ap (λ (contents : List Content). map (page 0) (contents_of s) ++ map (page 1) contents) none ∙ append-nil (map (page 0) (contents_of s));
@@ -187,26 +155,8 @@ flushed-again {L} g first last s config (Ok cache) both after =
 
 pub starts-flushed : {L : Type 0} (g : Ghosts L) (log : L) → (g.state log).usable ≡ true → (g.state log).pending ≡ [] → (g.state log).stable ≡ []
     → (config : Config) (cache : Cache L) (result : Result (Cache L) (Error × L)) → result ≡ Ok cache → Started g log config result → IsFlushed g cache (opened_state config [])
-starts-flushed {L} g log usable none stable config cache result is start =
-    by-settings config (λ why wrong. let refused = start.settings why wrong in absurd cc)
-    (λ sound. flushed (subst (Opens g log config (stable_contents [])) is (start.opens sound (stable_contents []) logged)))
-  where
-    holds : unplaced_state (g.state log) ≡ stable_state [] true
-    holds =
-        ap (λ (chains : List Chain). record { stable = map (map message_in) chains; pending = (unplaced_state (g.state log)).pending; usable = (g.state log).usable }) stable
-        ∙ ap (λ (events : List (Event Entry)). record { stable = []; pending = map (seen_event message_in) events; usable = (g.state log).usable }) none
-        ∙ ap (stable_state []) usable
-
-    logged : IsLogged (unplaced_state (g.state log)) (stable_contents [])
-    logged = subst (λ (state : LogState Message). IsLogged state (stable_contents [])) (sym holds) (empty-logged true)
-
-    flushed : IsOpened g log config (stable_contents []) cache → IsFlushed g cache (opened_state config [])
-    flushed opens =
-        let waits : opens.held_then.pending ≡ [] = opens.stable (λ e. absurd cc) in
-        record {
-          held = opens.held_then;
-          is = opens.is;
-          clear = refl;
-          none = no-messages opens.held_then.stable (g.state cache.log).pending opens.held_then.pending waits (opens.is.known refl).logged.pending;
-          both = omega arith;
-        }
+starts-flushed g log usable none stable config cache result is start =
+    let empty = at-rest g log usable none ∙ ap (λ (chains : List Chain). stable_state (map (map message_in) chains) true) stable in
+    let begun = rw is at start in
+    let opens = begun.opens (sound-settings g log config cache begun) (stable_contents []) (rw empty (empty-logged true)) in
+    opened-flushed g log config (stable_contents []) cache opens (opens.stable (λ e. absurd cc)) (omega arith)

@@ -19,26 +19,5 @@ module _ {L : Type 0} (g : Ghosts L) (old mid new : StickyLog L) (pid : ℕ) (up
   pub durable-failed : (refusal : Refusal) → refusal ≡ Io Write → (let failed : Result ℕ Refusal = Err refusal in IsCaused g mid new ⊥ failed)
       → Wrote g old new pid update stamp (Err refusal)
   durable-failed refusal is cause =
-      subst (λ (r : Refusal). Wrote g old new pid update stamp (Err r)) (sym is)
-      (failed (cause.fault ∙ ap (λ (r : Refusal). let told : Result ℕ Refusal = Err r in is_write_fault told) is) (cause.write (ap Err is)))
-    where
-      failed : new.fault ≡ true → HasGrown (g.counts mid.log).write_faults (g.counts new.log).write_faults → Wrote g old new pid update stamp (Err (Io Write))
-      failed kept grown = record {
-        is = wrote.is;
-        writes = record {
-          went = both;
-          cause = record {
-            fault = kept;
-            read = λ is. absurd cc;
-            write = λ is. HasGrown-since (g.counts old.log).write_faults (g.counts mid.log).write_faults (g.counts new.log).write_faults wrote.writes.went.write_faults grown;
-            full = λ is. absurd cc;
-          };
-          of_log = λ told. tt;
-          reads = reads ∙ wrote.writes.reads;
-          at = tt;
-          size = tt;
-          chains = λ told. tt;
-          same = λ told free. absurd (false≢true (sym free ∙ kept));
-          sized = λ told. tt;
-        };
-      }
+      let grown = HasGrown-since (g.counts old.log).write_faults (g.counts mid.log).write_faults (g.counts new.log).write_faults wrote.writes.went.write_faults (cause.write (ap Err is)) in
+      grind (arith, both)

@@ -63,10 +63,6 @@ made-first found m node h1 h2 h3 = grind arith
 
 -- ---- all messages, refused
 
-split_at : (found : List Found) (i : ℕ) (m : Found) → i < length found → m ≡ get_or found i m → found ≡ take i found ++ m ∷ drop (i + 1) found
-split_at found i m h e =
-    sym (ap (λ (l : List Found). take i found ++ l) (ap (λ (f : Found). f ∷ drop (i + 1) found) e ∙ sym (drop_more found i m h)) ∙ take-append-drop i found)
-
 -- those before it were none, or made a node
 pub refused-at : (found : List Found) (i : ℕ) (m : Found) (amiss : Type 0) (e : Refusal) → i < length found → m ≡ get_or found i m
     → (take i found ≡ []) ⊎ MakesNode (map found_message (take i found)) → (amiss → ¬ MakesNode (map found_message (take i found ++ m ∷ [])))
@@ -76,7 +72,8 @@ refused-at found i m amiss (Corruption (Some place)) lt is sound wrong r = recor
   before = take i found;
   first = m;
   after = drop (i + 1) found;
-  is = split_at found i m lt is;
+  is =
+      sym (ap (λ (l : List Found). take i found ++ l) (ap (λ (f : Found). f ∷ drop (i + 1) found) is ∙ sym (drop_more found i m lt)) ∙ take-append-drop i found);
   kept = sym r.0;
   sound = sound;
   wrong = wrong r.1;

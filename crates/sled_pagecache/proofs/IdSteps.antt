@@ -1,5 +1,5 @@
 -- What a call does to the generated ids: no call but that for an id touches the counter or uses an id.
-use Rattle.sled_pagecache.proofs.Names.{Answer, Cache, Call, Counter, Event, Generated, Ghosts, List, Ok, Outcome, Some, State, StepOver, Update, [], ap, arith, contents_after, contents_of, false, inl, inr, page_at, refl, same_Some, slice_get, slice_set, stamps_of, subst, sym, true, true≢false, ℕ, ⊎_elim, ◌+◌, ◌∙◌, ◌∷◌, ◌≡◌, ◌≤◌, ◌⊎◌, id_in, StampedPage, page, with_page, with_next_id, map-at, set-at}
+use Rattle.sled_pagecache.proofs.Names.{map, Answer, Cache, Call, Counter, Event, Generated, Ghosts, List, Ok, Outcome, Some, State, StepOver, Update, [], ap, arith, contents_after, contents_of, false, inl, inr, page_at, refl, same_Some, slice_get, slice_set, stamps_of, subst, sym, true, true≢false, ℕ, ⊎_elim, ◌+◌, ◌∙◌, ◌∷◌, ◌≡◌, ◌≤◌, ◌⊎◌, id_in, StampedPage, page, with_page, with_next_id, map-at, set-at}
 use Rattle.sled_pagecache.proofs.CallForms.{Form, IsQuiet, IsRaised, Marks, Next, Plain, Raises, call-form}
 use Rattle.sled_pagecache.proofs.Counting.{CountsTo, Rises, put-counts, put-rises, spared-counts, spared-rises}
 
@@ -41,13 +41,11 @@ call-passes g cache s n counts call answer out step = by (id_in answer) (call-fo
 
 -- with a write fault kept no id is given
 pub none-given : {L : Type 0} (g : Ghosts L) (cache : Cache L) (s : State) → s.fault ≡ true → (call : Call) (answer : Answer) (out : Outcome) → StepOver g cache s call answer out → id_in answer ≡ []
-none-given g cache s kept call answer out step = by (id_in answer) (call-form g cache s call answer out step)
-  where
-    by : (ids : List ℕ) → Form s call ids out → ids ≡ []
-    by ids (Plain none is inside) = none
-    by ids (Marks none is leaves) = none
-    by ids (Next clear given is) = absurd (true≢false (sym kept ∙ clear))
-    by ids (Raises raised) = ⊎_elim (λ h. h.0) (λ h. absurd (true≢false (sym kept ∙ h.1))) raised.end
+none-given g cache s kept call answer out step = grind arith
+
+-- the stamps say that of a page
+same-stamp : (pages : List StampedPage) (p put : StampedPage) → slice_get pages 1 ≡ Some p → map (λ (q : StampedPage). q.stamp) (slice_set pages 1 put) ≡ map (λ (q : StampedPage). q.stamp) pages → put.stamp ≡ p.stamp
+same-stamp pages p put there same = cc (map-at (λ (q : StampedPage). q.stamp) pages 1 p there, map-at (λ (q : StampedPage). q.stamp) (slice_set pages 1 put) 1 put (set-at pages 1 p put there))
 
 -- an id that leaves every stamp wrote nothing
 pub wrote-none : {L : Type 0} (g : Ghosts L) (cache : Cache L) (s : State) (call : Call) (id : ℕ) (out : Outcome) → StepOver g cache s call (Generated (Ok id)) out → stamps_of out.state ≡ stamps_of s → out.changes ≡ []
@@ -60,10 +58,4 @@ wrote-none g cache s call id out step same = by (id ∷ []) refl (call-form g ca
     by ids given (Raises to) = ⊎_elim (λ h. let none = h.0 in absurd cc) (λ h. rises to.stamp to.new to.stands h.2) to.end
       where
         rises : (stamp start : ℕ) → (p : StampedPage) × (page_at s 1 ≡ Some p) × (p.stamp ≡ stamp) → out.state ≡ with_next_id (with_page s 1 (page (stamp + 1) (Counter start))) → out.changes ≡ []
-        rises stamp start (p, there, is) then =
-            let put = page (stamp + 1) (Counter start) in
-            let before = map-at (λ (q : StampedPage). q.stamp) s.pages 1 p there in
-            let after = map-at (λ (q : StampedPage). q.stamp) (slice_set s.pages 1 put) 1 put (set-at s.pages 1 p put there) in
-            let risen : Some (stamp + 1) ≡ Some p.stamp = sym after ∙ ap (λ (stamps : List ℕ). slice_get stamps 1) (sym (ap stamps_of then) ∙ same) ∙ before in
-            let e = same_Some _ _ risen in
-            absurd (omega (arith, e, is))
+        rises stamp start (p, there, is) then = absurd (let e = same-stamp s.pages p (page (stamp + 1) (Counter start)) there (sym (ap stamps_of then) ∙ same) in omega (arith, e, is))

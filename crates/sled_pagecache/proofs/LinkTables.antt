@@ -4,8 +4,8 @@ use Rattle.sled_pagecache.proofs.PagingIn.{page-short-at, places-length, length-
 use Rattle.sled_pagecache.proofs.Tables.{consistent-put, free-same}
 
 -- at most ten messages make a page after a link
-linked-short : (n : ℕ) → n ≤ 10 → linked_length n ≤ 10
-linked-short n short = grind (arith, ltb-true n 10)
+linked-short : (n k : ℕ) → k ≡ linked_length n → n ≤ 10 → k ≤ 10
+linked-short n k is short = grind arith
 
 module _ {L : Type 0} (g : Ghosts L) (before after : StickyLog L) (pages : List Page) (free : List ℕ) (pid : ℕ) (q page : Page)
     (c : IsConsistent g.tells g.state before pages free) (ready : before.fault ≡ false) (behind : is_reserved pid ≡ false) (at : slice_get pages pid ≡ Some q) (link : NodeLink) where
@@ -18,7 +18,7 @@ module _ {L : Type 0} (g : Ghosts L) (before after : StickyLog L) (pages : List 
   pub taken-consistent : TakesLink g before pid q link after page → is_free page.kept ≡ is_free q.kept → IsConsistent g.tells g.state after (slice_set pages pid page) free
   taken-consistent takes freed =
       consistent-put g before after pages free free c ready pid (message_of (update_by q link takes.tells.node)) takes.tells.went page (subst IsFreeOrNode (sym takes.holds) tt)
-      (rw takes.len (linked-short (length q.infos.items) (page-short-at g before after pages free pid q page c ready behind at))) takes.kept takes.sized (behind-own pid behind) takes.others
+      (linked-short (length q.infos.items) (length page.infos.items) takes.len (page-short-at g before after pages free pid q page c ready behind at)) takes.kept takes.sized (behind-own pid behind) takes.others
       (c.free ∙ sym (free-same 0 pages pid page q at freed))
 
   module _ (next : ℕ) (config : Config) (recovered : Bool) (lru : Recency) where

@@ -9,9 +9,6 @@ use Rattle.sled_pagecache.proofs.Standing.{node-full, kept-free}
 use Rattle.sled_pagecache.proofs.TableNodes.{view}
 use Rattle.sled_pagecache.specs.declared.pagecache.page.Kept.TheVariants as kept
 
-no-stamp : (table : List KeptPage) (pid : ℕ) → slice_get table pid ≡ None → slice_get (stamps_in table) pid ≡ None
-no-stamp table pid none = slice_get-map (λ (q : KeptPage). q.stamp) table pid ∙ ap (option_map (λ (q : KeptPage). q.stamp)) none
-
 -- a page in memory whose chain makes the node holds it
 node-kept : (chain : Chain) (node : WholeNode) (k : Kept) → Makes (messages_of chain) (Node node) → HoldsChain chain k → IsFreeOrNode k → is_free k ≡ false → is_resident k ≡ true → k ≡ kept.Node node
 node-kept chain node k made holds own full resident = grind (arith, one_content (messages_of chain))
@@ -49,13 +46,10 @@ module _ {L : Type 0} (g : Ghosts L) (next : ℕ) (config : Config) (recovered :
     makes : Makes (messages_of chain) (Node node)
     makes = state-page g old held s is clear pid (page t.stamp (Node node)) found
 
-    tests-judged : (rejection : Rejection) → Judges before.fault pages pid t (Err rejection) → ⊥
-    tests-judged rejection judges =
-        judged-fresh rejection judges is.tells (sym is.fault ∙ clear) (ap is_reserved (sym same) ∙ own) (node-full chain node makes)
-        (sym (ap (λ (l : List ℕ). slice_get l pid) is.stamps) ∙ map-at (λ (p : StampedPage). p.stamp) s.pages pid (page t.stamp (Node node)) found)
-
   pub judged-tests : t.pid ≡ pid → (rejection : Rejection) → Judges before.fault pages pid t (Err rejection) → (link : NodeLink) (answer : Swapped NodeLink) → TestsFirst g old t link answer
-  judged-tests same rejection judges link answer held s node is clear own resident there = absurd (tests-judged same held s node is clear own there rejection judges)
+  judged-tests same rejection judges link answer held s node is clear own resident there =
+      absurd (judged-fresh rejection judges is.tells (sym is.fault ∙ clear) (ap is_reserved (sym same) ∙ own) (node-full chain node (makes same held s node is clear own there))
+      (sym (ap (λ (l : List ℕ). slice_get l pid) is.stamps) ∙ map-at (λ (p : StampedPage). p.stamp) s.pages pid (page t.stamp (Node node)) (found same held s node is clear own there)))
 
   module _ (q : KeptPage) (fresh : IsFresh before.fault pages pid t q) (link : NodeLink) where
     kept-own : IsFreeOrNode q.kept

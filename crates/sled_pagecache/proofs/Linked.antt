@@ -20,42 +20,13 @@ infos-length messages infos count info = grind (arith, length-append infos (info
 pub begun-handed : (T U : Type 0) (refusal : Refusal) (events : List (Event Message)) → (let one : Result T Refusal = Err refusal in begun_by one events) ≡ (let other : Result U Refusal = Err refusal in begun_by other events)
 begun-handed T U refusal events = grind arith
 
--- a refusal of the log is handed on
-module _ {L : Type 0} (g : Ghosts L)
-    (old new : StickyLog L) (pid : ℕ) (one other : Update) (same : one ≡ other) (refusal : Refusal) (T U : Type 0) where
-  pub went-handed : (let err : Result T Refusal = Err refusal in Went g old new (begun_by err (Change pid (message_of one) ∷ [])))
-      → (let err : Result U Refusal = Err refusal in Went g old new (begun_by err (Change pid (message_of other) ∷ [])))
-  went-handed went =
-      let err : Result U Refusal = Err refusal in
-      subst (λ (u : Update). Went g old new (begun_by err (Change pid (message_of u) ∷ []))) same
-      (subst (λ (events : List (Event Message)). Went g old new events) (begun-handed T U refusal (Change pid (message_of one) ∷ [])) went)
-
-  pub cause-handed : (let err : Result T Refusal = Err refusal in IsCaused g old new (g.is_full old.log (length (message_of one).payload)) err)
-      → (let err : Result U Refusal = Err refusal in IsCaused g old new (g.is_full old.log (length (message_of other).payload)) err)
-  cause-handed cause =
-      let err : Result U Refusal = Err refusal in
-      subst (λ (u : Update). IsCaused g old new (g.is_full old.log (length (message_of u).payload)) err) same
-      (IsCaused-handed_on g old new (g.is_full old.log (length (message_of one).payload)) refusal cause)
-
-pub refuses-node : (stamp : ℕ) (held : Kept) (link : NodeLink) (node : WholeNode) (refusal : Refusal) → held ≡ kept.Node node
-    → ((¬ Accepts node link) × (refusal ≡ ReportableBug LinkRefused)) ⊎ (Accepts node link × RefusesSwap stamp refusal) → RefusesLink stamp held link refusal
-refuses-node stamp held link node refusal is why = subst (λ (k : Kept). RefusesLink stamp k link refusal) (sym is) why
-
 -- a page that has a content isn't free
 pub full-free : (chain : Chain) (held : Kept) → is_empty effect_of_entry chain ≡ false → HoldsChain chain held → is_free held ≡ false
 full-free chain held full holds = sym (kept-free chain held holds) ∙ full
 
 -- or the node that a link made of it is forgotten
 pub kept-away : (chain : Chain) (old new : Page) → IsKept chain old → is_empty effect_of_entry chain ≡ false → new.infos.items ≡ old.infos.items → new.kept ≡ kept.Away → IsKept chain new
-kept-away chain old new is full infos held = record {
-  places = λ _. is.places (full-free chain old.kept full is.holds) ∙ sym (ap (map place_of) infos);
-  long = is.long ∙ sym (ap length infos);
-  holds = subst (HoldsChain chain) (sym held) full;
-}
-
--- the chain of a page where no chain has changed
-pub kept-still : (old new : List Chain) (pid : ℕ) (page : Page) → new ≡ old → IsKept (slice_index_or old pid []) page → IsKept (slice_index_or new pid []) page
-kept-still old new pid page same is = subst (λ (chains : List Chain). IsKept (slice_index_or chains pid []) page) (sym same) is
+kept-away chain old new is full infos held = grind (arith, full-free chain old.kept)
 
 -- ---- a page that a link was applied to
 

@@ -57,11 +57,10 @@ module _ {L : Type 0} (g : Ghosts L) (old mid new : StickyLog L) (pid : ℕ) (q 
       → (let err : Result (Unit {0}) Refusal = Err refusal in Went g mid new (begun_by err (events (kept.Node node))))
       → (refusal ≡ Io Write → IsUpdate (message_of (update (kept.Node node))) (update (kept.Node node)))
       → RefusesAppended g old pid q link new refusal
-  of-log node OutOfMemory made accepts below why second reads = inl (joined [] second, tt)
-  of-log node (Io Read) made accepts below why second reads = inl (joined [] second, tt)
-  of-log node (Io Write) made accepts below why second reads = inr (refl, tells node (λ _. made) accepts below (reads refl) second)
-  of-log node (Unsupported LogFull) made accepts below why second reads = inl (joined [] second, (node, made, accepts, below))
-  of-log node refusal made accepts below why second reads = absurd why
+  of-log node refusal made accepts below why second reads =
+      let none = joined [] in
+      let told = tells node (λ _. made) accepts below in
+      grind arith
 
   pub refused : (k : Kept) (refusal : Refusal) → HoldsChain chain k → is_resident k ≡ true → is_free k ≡ false → IsFreeOrNode k → RefusesLink page.stamp k link refusal
       → (let err : Result (Unit {0}) Refusal = Err refusal in Went g mid new (begun_by err (events k)))
@@ -90,10 +89,5 @@ module _ {L : Type 0} (g : Ghosts L) (old mid new : StickyLog L) (pid : ℕ) (q 
       → IsCaused g old new (g.tells → HadNoRoom g old pid q link) result
   caused result why room cause =
       let since = IsCaused-since g old mid new [] (g.is_full mid.log (length (message_of (update page.kept)).payload)) result went cause in
-      record {
-        fault = since.fault;
-        read = since.read;
-        write = since.write;
-        full = λ said known. full-by page.kept (is known).holds (subst (λ (r : Result (Unit {0}) Refusal). IfErr r (RefusesLink page.stamp page.kept link)) said (why known)) room (since.full said);
-      }
-
+      let full = λ (known : g.tells). full-by page.kept (is known).holds in
+      grind arith

@@ -1,12 +1,8 @@
 -- What a page more makes of the chains, and of the table.
-use Rattle.sled_pagecache.proofs.Names.{◌≡◌, ℕ, cond, List, [], ◌∷◌, ◌++◌, length, map, refl, sym, ◌∙◌, ap, eq-eqb, slice_set, slice_index_or, chains_from, Node, Put, Change, Entry, Chain, placed_entry, effect_of_entry, IsUpdate, message_of, WholeNode, HasOneMore, place_of, IsKept, CacheInfo, Page}
+use Rattle.sled_pagecache.proofs.Names.{◌≡◌, ℕ, cond, List, [], ◌∷◌, ◌++◌, length, map, refl, sym, ◌∙◌, ap, eq-eqb, slice_set, slice_index_or, chains_from, Node, Put, Change, Entry, Chain, placed_entry, effect_of_entry, IsUpdate, message_of, WholeNode, HasOneMore, place_of, IsKept, CacheInfo, Page, arith}
 use Rattle.std.proofs.Math.Seq.{get_or-append_seam}
 use Rattle.sled_pagecache.proofs.Swaps.{kept-put}
 use Rattle.sled_pagecache.specs.declared.pagecache.page.Kept.TheVariants as kept
-
--- the only one of a list that was empty
-pub only-one : (infos before : List CacheInfo) (info : CacheInfo) → infos ≡ before ++ info ∷ [] → before ≡ [] → infos ≡ info ∷ []
-only-one infos before info is none = is ∙ ap (λ (l : List CacheInfo). l ++ info ∷ []) none
 
 module _ (chains : List Chain) (pid : ℕ) (last : pid ≡ length chains) (after : List Chain) (node : WholeNode) (info : CacheInfo)
     (came : after ≡ chains_from effect_of_entry chains (Change pid (placed_entry (message_of (Put (Node node))) (place_of info)))) where

@@ -1,13 +1,11 @@
 -- Opening a cache over a log.
-use Rattle.sled_pagecache.proofs.Names.{Recency, Option, ⊎_elim, ◌≡◌, ◌≢◌, ◌≤◌, ◌<◌, ◌^◌, ℕ, zero, suc, Bool, false, List, [], ◌∷◌, ◌++◌, length, map, take, drop, None, Some, Result, Ok, Err, refl, sym, ◌∙◌, ap, subst, arith, drop-nil, take-append_seam, drop-append_seam, length-map, take-append-drop, take-map, drop-map, none-some, AllZip-long, error_of, Read, Write, Error, Refusal, ReportableBug, Io, Corruption, LogFull, is_open, open_after, Content, Counter, Roots, Update, Put, contents_after, Event, Change, Pin, Seal, Cancel, seen_event, holds-after, Message, Entry, Chain, Messages, messages_of, effect_of, effect_of_entry, Holds, Hold, AreEvents, events-take, reads-open, unplaced_state, is_open-unplaced, now-unplaced, message_of, CanWrite, written-update, Ghosts, Cache, IsOpenedWith, counter_event, events_at_start, Logged, IsLogged, fault_of, drop_all, cases_lt, sticky_log_of, changes_of_start, opened_state, is_fault, Comes, LacksRoom, Proceeds, IsProper, StayProper, Starts, IsFit, RefusesOpening, IsHindrance, HasAdded, CrashLeaves, LacksRoomFor, WasFull, Opens, IsBlamedOpening, MayBeOpened, page, contents_of, Config, StickyLog, slice_get, StampedPage, add-by-id, at-id, zip-first, all-at, map-at, holds_now}
+use Rattle.sled_pagecache.proofs.Names.{roots_event, Recency, Option, ⊎_elim, ◌≡◌, ◌≢◌, ◌≤◌, ◌<◌, ◌^◌, ℕ, zero, suc, Bool, false, List, [], ◌∷◌, ◌++◌, length, map, take, drop, None, Some, Result, Ok, Err, refl, sym, ◌∙◌, ap, subst, arith, drop-nil, take-append_seam, drop-append_seam, length-map, take-append-drop, take-map, drop-map, none-some, AllZip-long, error_of, Read, Write, Error, Refusal, ReportableBug, Io, Corruption, LogFull, is_open, open_after, Content, Counter, Roots, Update, Put, contents_after, Event, Change, Pin, Seal, Cancel, seen_event, holds-after, Message, Entry, Chain, Messages, messages_of, effect_of, effect_of_entry, Holds, Hold, AreEvents, events-take, reads-open, unplaced_state, is_open-unplaced, now-unplaced, message_of, CanWrite, written-update, Ghosts, Cache, IsOpenedWith, counter_event, events_at_start, Logged, IsLogged, fault_of, drop_all, cases_lt, sticky_log_of, changes_of_start, opened_state, is_fault, Comes, LacksRoom, Proceeds, IsProper, StayProper, Starts, IsFit, RefusesOpening, IsHindrance, HasAdded, CrashLeaves, LacksRoomFor, WasFull, Opens, IsBlamedOpening, MayBeOpened, page, contents_of, Config, StickyLog, slice_get, StampedPage, add-by-id, at-id, zip-first, all-at, map-at, holds_now}
 use Rattle.sled_base.specs.declared.types.Error.TheVariants as errors
 use Rattle.sled_base.specs.declared.types.Refusal.TheVariants.{Unsupported}
 use Rattle.sled_log.specs.LogState as log
 use Rattle.sled_pagecache.proofs.Carrying.{Carries, carries, leaves, proper-now}
 use Rattle.sled_pagecache.proofs.Staying.{no-changes, stay-none, stay-one, stay-take}
-use Rattle.sled_pagecache.proofs.Starting.{events-same, changes-closed}
 use Rattle.sled_pagecache.specs.Logged.{now}
-use Rattle.sled_pagecache.specs.Inside.LogCalls as proceeding
 use Rattle.sled_pagecache.specs.Logged.{AreOwn, IsOwnAt}
 
 -- ---- what is told of the system pages that are missing
@@ -47,7 +45,7 @@ error-same : (refusal other : Refusal) → error_of refusal ≡ error_of other �
 error-same refusal other is = grind arith
 
 -- but after a write error the log may be called
-no-fault : (refusal : Refusal) → error_of refusal ≢ errors.Io Write → is_fault (Some refusal) ≡ false
+pub no-fault : (refusal : Refusal) → error_of refusal ≢ errors.Io Write → is_fault (Some refusal) ≡ false
 no-fault refusal other = grind arith
 
 -- ---- a log that a cache left refuses no opening but for a hindrance
@@ -69,11 +67,8 @@ hindrance : (config : Config) (chains : List Chain) (held : List Content) (refus
     → Hold (map messages_of chains) held → IsProper (map messages_of chains) held → RefusesOpening config chains (error_of refusal) → IsHindrance (error_of refusal)
 hindrance config chains held (ReportableBug bug) sound hold proper r = absurd r
 hindrance config chains held (Corruption None) sound hold proper r =
-    let long : length held ≡ length (map messages_of chains) = AllZip-long Holds (map messages_of chains) held hold in
-    let same = length-map chains messages_of in
-    let few = proper.few in
     let many : 2 ^ 37 < length chains = r in
-    absurd (omega (arith, long, same, few, many))
+    absurd (omega (arith, AllZip-long Holds (map messages_of chains) held hold, length-map chains messages_of, proper.few, many))
 hindrance config chains held (Corruption (Some pointer)) sound hold proper r = absurd (r.1.amiss (fit-at chains held hold proper r.1.pid r.1.chain r.1.is))
 hindrance config chains held (Unsupported why) sound hold proper r =
     ⊎_elim (λ full. subst (λ w. IsHindrance (errors.Unsupported w)) (sym full) tt) (λ fault. absurd (none-some why (sym sound ∙ fault))) r
@@ -107,13 +102,10 @@ module _ {L : Type 0} (g : Ghosts L) (known : g.tells) (config : Config) (old : 
   changes = changes_of_start (now held)
 
   long-now : length chains ≡ length (now held)
-  long-now =
-      let long : length (now held) ≡ length (map messages_of chains) = AllZip-long Holds (map messages_of chains) (now held) (holds_now (g.state old.log) held logged) in
-      let same = length-map chains messages_of in
-      omega (arith, long, same)
+  long-now = omega (arith, AllZip-long Holds (map messages_of chains) (now held) (holds_now (g.state old.log) held logged), length-map chains messages_of)
 
   events-now : events_at_start chains ≡ events_at_start (now held)
-  events-now = events-same chains (now held) long-now
+  events-now = ap (λ n. drop n (roots_event ∷ counter_event ∷ [])) long-now
 
   stays : StayProper (log.now effect_of (unplaced_state (g.state old.log))) (now held) (events_at_start (now held)) changes
   stays =
@@ -122,40 +114,21 @@ module _ {L : Type 0} (g : Ghosts L) (known : g.tells) (config : Config) (old : 
 
   -- some of the messages came, which are as many of the changes
   module _ (came rest : List (Event Message)) (is : came ++ rest ≡ events_at_start chains) where
-    abbrev n : ℕ
-    n = length came
+    part : take (length came) (events_at_start (now held)) ≡ came
+    part = ap (take (length came)) (sym events-now ∙ sym is) ∙ take-append_seam came rest
 
-    part : take n (events_at_start (now held)) ≡ came
-    part = ap (take n) (sym events-now ∙ sym is) ∙ take-append_seam came rest
-
-    reached : (new : StickyLog L) → Comes g old new came → CrashLeaves g old.log held (take n changes) new.log × (new.fault ≡ false → HasAdded g held (take n changes) new.log)
+    reached : (new : StickyLog L) → Comes g old new came → CrashLeaves g old.log held (take (length came) changes) new.log × (new.fault ≡ false → HasAdded g held (take (length came) changes) new.log)
     reached new went =
         let pages = log.now effect_of (unplaced_state (g.state old.log)) in
-        let told = subst (λ (l : List (Event Message)). AreEvents (now held) l (take n changes) × StayProper pages (now held) l (take n changes)) part
-        (events-take (now held) n (events_at_start (now held)) changes (events-start (now held)), stay-take n pages (now held) (events_at_start (now held)) changes (events-start (now held)) stays) in
-        carried g known old new held came (take n changes) logged told.0 told.1 went
+        let told = subst (λ (l : List (Event Message)). AreEvents (now held) l (take (length came) changes) × StayProper pages (now held) l (take (length came) changes)) part
+        (events-take (now held) (length came) (events_at_start (now held)) changes (events-start (now held)), stay-take (length came) pages (now held) (events_at_start (now held)) changes (events-start (now held)) stays) in
+        carried g known old new held came (take (length came) changes) logged told.0 told.1 went
 
-    lacks : (l : L) → LacksRoom g l rest → LacksRoomFor g l (drop n changes)
+    lacks : (l : L) → LacksRoom g l rest → LacksRoomFor g l (drop (length came) changes)
     lacks l full =
-        let then : LacksRoom g l (map tell (drop n changes)) =
-        subst (LacksRoom g l) (sym (drop-append_seam came rest) ∙ ap (drop n) (is ∙ events-now ∙ events-are (now held)) ∙ drop-map tell n changes) full in
+        let then : LacksRoom g l (map tell (drop (length came) changes)) =
+        subst (LacksRoom g l) (sym (drop-append_seam came rest) ∙ ap (drop (length came)) (is ∙ events-now ∙ events-are (now held)) ∙ drop-map tell (length came) changes) full in
         grind arith
-
-    was-full : (new : StickyLog L) → new.fault ≡ false → proceeding.WasFull g old new came rest → WasFull g old.log held (take n changes) (drop n changes) new.log
-    was-full new clear full =
-        let at = full.at in
-        let then = reached at full.went in
-        let added = then.1 full.clear in
-        let state = unplaced_state (g.state at.log) in
-        let nothing = carried g known at new added.held_then [] [] added.logged tt (stay-none (log.now effect_of state) (now added.held_then) (proper-now state added.held_then added.logged)) full.behind in
-        record {
-          given = λ none. lacks old.log (full.given (sym part ∙ ap (take n) (events-are (now held)) ∙ take-map tell n changes ∙ ap (map tell) none));
-          at = at.log;
-          came = then.0;
-          added = added;
-          room = lacks at.log full.room;
-          nothing = (nothing.0, nothing.1 clear);
-        }
 
   -- it was refused
   pub opens-refused : (new : StickyLog L) (refusal : Refusal) → fault_of config ≡ None
@@ -174,7 +147,20 @@ module _ {L : Type 0} (g : Ghosts L) (known : g.tells) (config : Config) (old : 
         added = λ other. reach.1 (done.fault ∙ no-fault refusal other);
         full = λ so.
             let full_is : refusal ≡ Unsupported LogFull = error-same refusal (Unsupported LogFull) so in
-            was-full cut.came cut.rest cut.is new (done.fault ∙ ap (λ r. is_fault (Some r)) full_is) (cut.full full_is);
+            let full = cut.full full_is in
+            let at = full.at in
+            let then = reached cut.came cut.rest cut.is at full.went in
+            let added = then.1 full.clear in
+            let state = unplaced_state (g.state at.log) in
+            let nothing = carried g known at new added.held_then [] [] added.logged tt (stay-none (log.now effect_of state) (now added.held_then) (proper-now state added.held_then added.logged)) full.behind in
+            record {
+              given = λ none. lacks cut.came cut.rest cut.is old.log (full.given (sym (part cut.came cut.rest cut.is) ∙ ap (take n) (events-are (now held)) ∙ take-map tell n changes ∙ ap (map tell) none));
+              at = at.log;
+              came = then.0;
+              added = added;
+              room = lacks cut.came cut.rest cut.is at.log full.room;
+              nothing = (nothing.0, nothing.1 (done.fault ∙ ap (λ r. is_fault (Some r)) full_is));
+            };
       }
 
   -- a cache was opened
@@ -207,17 +193,3 @@ module _ {L : Type 0} (g : Ghosts L) (known : g.tells) (config : Config) (old : 
         config_is = config_is;
         recovered = with_it.recovered_is;
       }
-
--- ---- what is told, and a log that comes back
-
--- what the pages say that are there is told
-pub starts : {L X : Type 0} (g : Ghosts L) (old new : StickyLog L) (xs : List X) (refusal : Option Refusal) → (g.tells → events_at_start xs ≡ events_at_start (log.now effect_of_entry (g.state old.log)))
-    → Proceeds g old new (events_at_start xs) refusal → Starts g old new refusal
-starts g old new xs refusal are proceeds = record { events = events_at_start xs; are = are; marks = changes-closed (length xs); proceeds = proceeds }
-
-pub opened-again : {L : Type 0} (g : Ghosts L) (old new : StickyLog L) (refusal : Refusal) → Starts g old new (Some refusal)
-    → is_open (g.state old.log).pending ≡ false → error_of refusal ≢ errors.Io Write → MayBeOpened g new.log
-opened-again g old new refusal began closed other =
-    let clear : new.fault ≡ false = began.proceeds.fault ∙ no-fault refusal other in
-    let cut = began.proceeds.reaches in
-    (cut.went.usable clear, cut.went.opened clear ∙ ap (λ b. open_after b cut.came) closed ∙ began.marks cut.came cut.rest cut.is)

@@ -27,15 +27,10 @@ own-one (entry ∷ next ∷ chain) content own h = absurd (node-leads (applied h
 
 -- ---- which pages are so
 
-abbrev misfit_by : ℕ → ℕ → Bool → Bool
-misfit_by pid len free = ltb 10 len || (ltb pid 2 && (free || ltb 1 len))
-
 own-fits : (pid : ℕ) (chain : Chain) (page : Page) (content : Content) → IsLoaded chain page → IsOwn content → Makes (messages_of chain) content → is_misfit pid page ≡ false
 own-fits pid chain page content is own makes =
     let one = own-one chain content own makes in
-    let sole = is.kept.long in
-    let full = full-free chain page.kept one.1 is.kept.holds in
-    grind (arith, nat_tests, one.0, sole, full)
+    grind (arith, nat_tests, one.0, is.kept.long, full-free chain page.kept one.1 is.kept.holds)
 
 -- a page that no cache leaves so isn't fit
 pub misfit-unfit : (pid : ℕ) (chain : Chain) (page : Page) → IsLoaded chain page → is_misfit pid page ≡ true → ¬ IsFit pid chain
@@ -47,20 +42,12 @@ misfit-unfit (suc (suc pid)) chain page is misfit fit =
     grind (arith, nat_tests)
 
 -- a system page that is fit has one message, and isn't free
-pub fits-one : (pid len : ℕ) (free : Bool) → pid < 2 → 0 < len → misfit_by pid len free ≡ false → (len ≡ 1) × (free ≡ false)
-fits-one pid len free own some fits = (grind (arith, nat_tests), grind (arith, nat_tests))
+pub fits-one : (pid : ℕ) (page : Page) → pid < 2 → 0 < length page.infos.items → is_misfit pid page ≡ false → (length page.infos.items ≡ 1) × (is_free page.kept ≡ false)
+fits-one pid page own some fits = (grind (arith, nat_tests), grind (arith, nat_tests))
 
 pub sole-found : (chain : Chain) (found : List Found) (first : Found) → AllZip IsFoundAs chain found → length found ≡ 1 → first ≡ get_or found 0 first → AllZip IsFoundAs chain (first ∷ [])
 sole-found chain (x ∷ []) first zip one is = subst (λ (f : Found). AllZip IsFoundAs chain (f ∷ [])) (sym is) zip
 sole-found chain found first zip one is = absurd (omega (arith, one))
-
--- and what was found of it doesn't say that the page is free
-pub found-full : (pid : ℕ) (chain : Chain) (page : Page) (found : List Found) (first : Found)
-    → pid < 2 → 0 < length page.infos.items → IsLoaded chain page → is_misfit pid page ≡ false → AllZip IsFoundAs chain found → first ≡ get_or found 0 first → ¬ (first.kind ≡ kinds.Free)
-found-full pid chain page found first own some is fits zip first-is frees =
-    let sole = fits-one pid (length page.infos.items) (is_free page.kept) own some fits in
-    let one = AllZip-long IsFoundAs chain found zip ∙ is.kept.long ∙ sole.0 in
-    begins-full chain (first ∷ []) (sole-found chain found first zip one first-is) (kept-free chain page.kept is.kept.holds ∙ sole.1) frees
 
 -- ---- the pointer of the first message
 
@@ -71,10 +58,6 @@ first-pointer [] (info ∷ infos) pointer at is = (let e = at in cc)
 first-pointer (entry ∷ chain) (info ∷ infos) pointer at is =
     let same : freed_of entry ≡ place_of_freeing info = (let e = at in cc) in
     ap (λ (at : ℤ × DiskPtr). Some at.1) same ∙ is
-
-pub begins-at : (chain : Chain) (infos : List CacheInfo) (info : CacheInfo) → map freed_of chain ≡ map place_of_freeing infos → 0 < length infos → info ≡ get_or infos 0 info
-    → slice_get (map (λ (entry : Entry). entry.place.pointer) chain) 0 ≡ Some info.pointer
-begins-at chain infos info at some is = first-pointer chain infos info.pointer at (first-place infos info some is)
 
 found-at : (chain : Chain) (first : Found) → AllZip IsFoundAs chain (first ∷ []) → slice_get (map (λ (entry : Entry). entry.place.pointer) chain) 0 ≡ Some first.pointer
 found-at [] first zip = absurd zip

@@ -47,21 +47,6 @@ module _ {L : Type 0} (g : Ghosts L) (next : ℕ) (config : Config) (recovered :
   abbrev cache : StickyLog L → List Page → Cache L
   cache sticky_log pages = view next config recovered lru sticky_log pages
 
-  -- no page is there
-  pub brings-none : (sticky_log : StickyLog L) (pages : List Page) (free : List ℕ) (pid : ℕ) → IsConsistent g.tells g.state sticky_log pages free → is_reserved pid ≡ false → sticky_log.fault ≡ false → length pages ≤ pid
-      → ((l : List _) → g.tells → (g.state sticky_log.log).usable ≡ true → g.left_since sticky_log.log (g.moment sticky_log.log) l → IsLeft effect_of (unplaced_state (g.state sticky_log.log)) [] l)
-      → (let ok : Result (Unit {0}) Refusal = Ok tt in BringsIn g (cache sticky_log pages) pid ok (cache sticky_log pages))
-  brings-none sticky_log pages free pid is behind ready past only = record {
-    left = leaves-went g _ _ (record { config = refl; recovered = refl }) refl refl (Went-none g sticky_log (is.beside ready).usable only) (λ _ _. refl);
-    cause = record { fault = ready; read = λ h. cc; write = λ h. cc; full = λ h. cc };
-    sound = λ known damaged. absurd (false≢true (sym damaged.0 ∙ ap (is_empty effect_of_entry) (past-chain known)));
-    in_memory = (behind, λ away. none-some false (sym (slice_get_past (resident_in pages) pid (let l = length-map pages (λ (page : Page). is_resident page.kept) in omega (arith, past, l))) ∙ away));
-    refused = λ _. tt;
-  }
-    where
-      past-chain : g.tells → chain_at (g.state sticky_log.log) pid ≡ []
-      past-chain known = get_or_past (now effect_of_entry (g.state sticky_log.log)) pid [] (let long = AllZip-long IsKept _ pages ((is.beside ready).kept known) in omega (arith, past, long))
-
   module _ (before after : StickyLog L) (pages : List Page) (free : List ℕ) (pid : ℕ) (q page : Page) (c : IsConsistent g.tells g.state before pages free) (ready : before.fault ≡ false)
       (behind : is_reserved pid ≡ false) (at : slice_get pages pid ≡ Some q) where
     old_resident : slice_get (resident_in pages) pid ≡ Some (is_resident q.kept)
@@ -93,29 +78,22 @@ module _ {L : Type 0} (g : Ghosts L) (next : ℕ) (config : Config) (recovered :
     pub length-before : g.tells → length q.infos.items ≡ chain_length g.state (cache before pages) pid
     length-before known = sym (places-length (chain_at (g.state before.log) pid) q (page-kept-at g before after pages free pid q page c ready behind at known))
 
-    module _ (result : Result (Unit {0}) Refusal)
-        (same : g.tells → after.fault ≡ false → now effect_of_entry (g.state after.log) ≡ now effect_of_entry (g.state before.log))
-        (stamp : page.stamp ≡ q.stamp)
-        (resident : OnOk result (is_resident page.kept ≡ true)) (err : OnErr result (page.kept ≡ q.kept))
-        (is_there : is_resident q.kept ≡ true → IsOk result) where
-      -- the page was pulled
-      pub brings-pulled : Went g before after [] → IsCaused g before after ⊥ result
-          → (g.tells → IsKept (chain_at (g.state before.log) pid) page) → IsFreeOrNode page.kept → (g.tells → IfErr result (RefusesPull (chain_at (g.state before.log) pid)))
-          → BringsIn g (cache before pages) pid result (cache after (slice_set pages pid page))
-      brings-pulled went cause is own refused = record {
-        left = leaves-went g _ _ (record { config = refl; recovered = refl }) (stamps-same stamp) refl went same;
-        cause = cause;
-        in_memory = on_ok_weaker result (λ resident. (behind, λ away. false≢true (sym (after-is false away) ∙ resident))) resident;
-        sound = λ known. on_ok_weaker result (λ resident damaged. let holds = (is known).holds in grind arith) resident;
-        refused = λ known. by known result is_there (refused known);
-      }
-        where
-          by : g.tells → (result : Result (Unit {0}) Refusal) → (is_resident q.kept ≡ true → IsOk result) → IfErr result (RefusesPull (chain_at (g.state before.log) pid)) → IfErr result (RefusesReading (chain_at (g.state before.log) pid) pid)
-          by known (Ok done) is_there why = tt
-          by known (Err refusal) is_there why = inr (behind, away-full known (false_from_ne_true (is_resident q.kept) (λ is. false≢true (is_there is))), why)
-
-      pub kept_out-pulled : OnErr result (IsAway (cache before pages) pid → IsAway (cache after (slice_set pages pid page)) pid)
-      kept_out-pulled = on_err_weaker result (λ same away. is-after false (ap is_resident same ∙ before-is false away)) err
+    -- the page was pulled
+    pub brings-pulled : (result : Result (Unit {0}) Refusal) → (g.tells → after.fault ≡ false → now effect_of_entry (g.state after.log) ≡ now effect_of_entry (g.state before.log))
+        → page.stamp ≡ q.stamp → OnOk result (is_resident page.kept ≡ true) → (is_resident q.kept ≡ true → IsOk result) → Went g before after [] → IsCaused g before after ⊥ result
+        → (g.tells → IsKept (chain_at (g.state before.log) pid) page) → IsFreeOrNode page.kept → (g.tells → IfErr result (RefusesPull (chain_at (g.state before.log) pid)))
+        → BringsIn g (cache before pages) pid result (cache after (slice_set pages pid page))
+    brings-pulled result same stamp resident is_there went cause is own refused = record {
+      left = leaves-went g _ _ (record { config = refl; recovered = refl }) (stamps-same stamp) refl went same;
+      cause = cause;
+      in_memory = on_ok_weaker result (λ resident. (behind, λ away. false≢true (sym (after-is false away) ∙ resident))) resident;
+      sound = λ known. on_ok_weaker result (λ resident damaged. let holds = (is known).holds in grind arith) resident;
+      refused = λ known. by known result is_there (refused known);
+    }
+      where
+        by : g.tells → (result : Result (Unit {0}) Refusal) → (is_resident q.kept ≡ true → IsOk result) → IfErr result (RefusesPull (chain_at (g.state before.log) pid)) → IfErr result (RefusesReading (chain_at (g.state before.log) pid) pid)
+        by known (Ok done) is_there why = tt
+        by known (Err refusal) is_there why = inr (behind, away-full known (false_from_ne_true (is_resident q.kept) (λ is. false≢true (is_there is))), why)
 
     -- how often the log was read, where a page was pulled, and nothing is read then
     pub reads-pulled : (result : Result (Unit {0}) Refusal)

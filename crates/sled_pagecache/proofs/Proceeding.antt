@@ -17,7 +17,7 @@ IsOwnRefusal other = Unit {0}
 
 module _ {L : Type 0} (g : Ghosts L) where
   -- each of the events came, whatever was answered then
-  proceeds-ended : {T : Type 0} (old new : StickyLog L) (events : List (Event Message)) (result : Result T Refusal) → Comes g old new events → IsCaused g old new ⊥ result
+  pub proceeds-ended : {T : Type 0} (old new : StickyLog L) (events : List (Event Message)) (result : Result T Refusal) → Comes g old new events → IsCaused g old new ⊥ result
       → (events ≡ [] → TakesNoRoom g old.log new.log) → Proceeds g old new events (refusal_in result)
   proceeds-ended old new events (Ok answer) went cause room = record { reaches = went; fault = cause.fault; room = room }
   proceeds-ended {T} old new events (Err refusal) went cause room = record {
@@ -34,57 +34,9 @@ module _ {L : Type 0} (g : Ghosts L) where
     room = room;
   }
 
-  -- a call that tells nothing, behind others that were done
-  pub proceeds-behind : {T : Type 0} (old mid new : StickyLog L) (events : List (Event Message)) (result : Result T Refusal) → Proceeds g old mid events None
-      → Comes g mid new []
-      → IsCaused g mid new ⊥ result
-      → (events ≡ [] → TakesNoRoom g mid.log new.log)
-      → Proceeds g old new events (refusal_in result)
-  proceeds-behind old mid new events result done went cause room =
-      proceeds-ended old new events result (Went-last g old mid new events done.reaches done.fault went)
-      (IsCaused-since g old mid new events ⊥ result done.reaches cause) (λ none n full. done.room none n (room none n full))
-
-  -- no call at all
-  pub proceeds-none : (sticky_log : StickyLog L)
-      → ((pages : List Messages) → g.tells → (g.state sticky_log.log).usable ≡ true → g.left_since sticky_log.log (g.moment sticky_log.log) pages → IsLeft effect_of (unplaced_state (g.state sticky_log.log)) [] pages)
-      → sticky_log.fault ≡ false → (g.state sticky_log.log).usable ≡ true → Proceeds g sticky_log sticky_log [] None
-  proceeds-none sticky_log only clear usable = record {
-    reaches = Went-none g sticky_log usable only;
-    fault = clear;
-    room = λ none n full. full;
-  }
-
-  -- a call that tells one message
-  pub proceeds-unplaced : {T : Type 0} (old new : StickyLog L) (event : Event Message) (result : Result T Refusal)
-      → ((pages : List Messages) → g.tells → (g.state old.log).usable ≡ true → g.left_since old.log (g.moment old.log) pages → IsLeft effect_of (unplaced_state (g.state old.log)) [] pages)
-      → old.fault ≡ false → (g.state old.log).usable ≡ true
-      → Comes g old new (begun_by result (event ∷ []))
-      → IsCaused g old new (LacksRoom g old.log (event ∷ [])) result
-      → Proceeds g old new (event ∷ []) (refusal_in result)
-  proceeds-unplaced old new event result only clear usable went cause = record { reaches = by result went cause; fault = cause.fault ∙ fault-same result; room = λ none. (let e = none in cc) }
-    where
-      by : {T : Type 0} (result : Result T Refusal) → Comes g old new (begun_by result (event ∷ []))
-          → IsCaused g old new (LacksRoom g old.log (event ∷ [])) result → Reaches g old new (event ∷ []) (refusal_in result)
-      by (Ok answer) went cause = went
-      by (Err (Io Write)) went cause = record { came = event ∷ []; rest = []; is = refl; went = went; read = λ is. (let e = is in cc); write = λ is. cause.write refl; full = λ is. (let e = is in cc) }
-      by (Err refusal) went cause = record {
-        came = [];
-        rest = event ∷ [];
-        is = refl;
-        went = went;
-        read = λ is. cause.read (ap Err is);
-        write = λ is. cause.write (ap Err is);
-        full = λ is.
-            let lacks = cause.full (ap Err is) in
-            record { at = old; went = Went-none g old usable only; clear = clear; room = lacks; given = λ _. lacks; behind = went };
-      }
-
-  own-caused : (old new : StickyLog L) (refusal : Refusal) → IsOwnRefusal refusal → new.fault ≡ false → (let result : Result (Unit {0}) Refusal = Err refusal in IsCaused g old new ⊥ result)
-  own-caused old new refusal own clear = grind arith
-
   -- a refusal of the cache's own, after calls that were done
   pub proceeds-refused : (old new : StickyLog L) (events : List (Event Message)) (refusal : Refusal) → IsOwnRefusal refusal → Proceeds g old new events None → Proceeds g old new events (Some refusal)
-  proceeds-refused old new events refusal own done = proceeds-ended old new events (Err refusal) done.reaches (own-caused old new refusal own done.fault) done.room
+  proceeds-refused old new events refusal own done = let clear = done.fault in proceeds-ended {T = Unit {0}} old new events (Err refusal) done.reaches (grind arith) done.room
 
   -- ---- calls after calls
 
@@ -145,9 +97,33 @@ module _ {L : Type 0} (g : Ghosts L) where
         room = λ none. one.room (nil-parts first second none).0;
       }
 
-  -- nothing was called, for a refusal of the cache's own
-  pub proceeds-not : (sticky_log : StickyLog L) (events : List (Event Message)) (refusal : Refusal) → IsOwnRefusal refusal
-      → ((pages : List Messages) → g.tells → (g.state sticky_log.log).usable ≡ true → g.left_since sticky_log.log (g.moment sticky_log.log) pages → IsLeft effect_of (unplaced_state (g.state sticky_log.log)) [] pages)
-      → sticky_log.fault ≡ false → (g.state sticky_log.log).usable ≡ true → Proceeds g sticky_log sticky_log events (Some refusal)
-  proceeds-not sticky_log events refusal own only clear usable =
-      proceeds-first sticky_log sticky_log [] events refusal (proceeds-refused sticky_log sticky_log [] refusal own (proceeds-none sticky_log only clear usable))
+  module _ (old : StickyLog L) (only : (pages : List Messages) → g.tells → (g.state old.log).usable ≡ true → g.left_since old.log (g.moment old.log) pages → IsLeft effect_of (unplaced_state (g.state old.log)) [] pages)
+      (clear : old.fault ≡ false) (usable : (g.state old.log).usable ≡ true) where
+    -- no call at all
+    pub proceeds-none : Proceeds g old old [] None
+    proceeds-none = record { reaches = Went-none g old usable only; fault = clear; room = λ none n full. full }
+
+    -- a call that tells one message
+    pub proceeds-unplaced : {T : Type 0} (new : StickyLog L) (event : Event Message) (result : Result T Refusal) → Comes g old new (begun_by result (event ∷ []))
+        → IsCaused g old new (LacksRoom g old.log (event ∷ [])) result → Proceeds g old new (event ∷ []) (refusal_in result)
+    proceeds-unplaced new event result went cause = record { reaches = by result went cause; fault = cause.fault ∙ fault-same result; room = λ none. (let e = none in cc) }
+      where
+        by : {T : Type 0} (result : Result T Refusal) → Comes g old new (begun_by result (event ∷ []))
+            → IsCaused g old new (LacksRoom g old.log (event ∷ [])) result → Reaches g old new (event ∷ []) (refusal_in result)
+        by (Ok answer) went cause = went
+        by (Err (Io Write)) went cause = record { came = event ∷ []; rest = []; is = refl; went = went; read = λ is. (let e = is in cc); write = λ is. cause.write refl; full = λ is. (let e = is in cc) }
+        by (Err refusal) went cause = record {
+          came = [];
+          rest = event ∷ [];
+          is = refl;
+          went = went;
+          read = λ is. cause.read (ap Err is);
+          write = λ is. cause.write (ap Err is);
+          full = λ is.
+              let lacks = cause.full (ap Err is) in
+              record { at = old; went = Went-none g old usable only; clear = clear; room = lacks; given = λ _. lacks; behind = went };
+        }
+
+    -- nothing was called, for a refusal of the cache's own
+    pub proceeds-not : (events : List (Event Message)) (refusal : Refusal) → IsOwnRefusal refusal → Proceeds g old old events (Some refusal)
+    proceeds-not events refusal own = proceeds-first old old [] events refusal (proceeds-refused old old [] refusal own proceeds-none)

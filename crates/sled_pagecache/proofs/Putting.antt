@@ -4,7 +4,7 @@ use Rattle.sled_base.specs.declared.types.Error.TheVariants.{Io, OutOfMemory}
 use Rattle.sled_base.specs.declared.types.Refusal.TheVariants as refusals
 use Rattle.sled_pagecache.proofs.CacheSteps.{steps-went}
 use Rattle.sled_pagecache.proofs.Carrying.{proper-now}
-use Rattle.sled_pagecache.proofs.Changing.{steps-untold, leads-begun, leads-set, leads-add}
+use Rattle.sled_pagecache.proofs.Changing.{steps-untold, leads-begun, leads-set, leads-to}
 use Rattle.sled_pagecache.proofs.ProperPages.{IsPut, put-proper, add-proper}
 use Rattle.sled_pagecache.proofs.Standing.{AreKnown, known-in, known-length}
 use Rattle.sled_pagecache.specs.Logged.{now}
@@ -110,10 +110,10 @@ module _ {L : Type 0} (g : Ghosts L) where
                 steps-went g (cache before table) (cache after (table ++ q ∷ [])) before after call answer (Change pid (message_of (Put content)) ∷ []) (record { config = refl; recovered = refl }) refl refl refl ready went
                 (λ held s is clear.
                 let m = may held s is clear in
-                leads-add g (cache before table) (cache after (table ++ q ∷ [])) held s is clear call answer refl pid (Put content) reads m.may m.proper stamp content (step held s is clear (known held s is clear))
-                (rw (eq-eqb pid (length (now held)) (last ∙ sym (many held s is clear))) refl)
-                (map-append (λ (p : KeptPage). p.stamp) table (q ∷ []) ∙ ap (λ n. stamps_in table ++ n ∷ []) at)
-                free)
+                leads-to g (cache before table) (cache after (table ++ q ∷ [])) held s is clear call answer refl pid (Put content) reads m.may m.proper (record s { pages = s.pages ++ page stamp content ∷ [] }) (step held s is clear (known held s is clear))
+                (map-append (λ (p : StampedPage). p.stamp) s.pages (page stamp content ∷ []) ∙ ap (λ (l : List ℕ). l ++ stamp ∷ []) is.stamps ∙ sym (map-append (λ (p : KeptPage). p.stamp) table (q ∷ []) ∙ ap (λ n. stamps_in table ++ n ∷ []) at)) refl (clear ∙ sym free) refl
+                (λ _. rw (eq-eqb pid (length (now held)) (last ∙ sym (many held s is clear)))
+                (map-append (λ (p : StampedPage). p.content) s.pages (page stamp content ∷ []) ∙ ap (λ (l : List Content). l ++ content ∷ []) (is.known clear).contents)))
 
   -- a fault is told only where its count grew
   pub blamed : {T U : Type 0} (old new : Cache L) (no_room : Type 0) (refusal : Refusal)

@@ -4,14 +4,11 @@ use Rattle.sled_base.specs.declared.types.page_state.PageState.TheVariants as sa
 use Rattle.sled_pagecache.proofs.FreeIds.{behind, later}
 use Rattle.sled_pagecache.proofs.ProperPages.{all-append}
 
-abbrev pub Place : Type 0
-Place = ℤ × DiskPtr × ℕ
-
 -- ---- places
 
-places-same : (places : List Place) → map place_of (map info_at places) ≡ places
+places-same : (places : List (ℤ × DiskPtr × ℕ)) → map place_of (map info_at places) ≡ places
 places-same [] = refl
-places-same (place ∷ places) = ap (λ (l : List Place). place ∷ l) (places-same places)
+places-same (place ∷ places) = ap (λ (l : List (ℤ × DiskPtr × ℕ)). place ∷ l) (places-same places)
 
 -- ---- a recovered page is kept as its chain says
 
@@ -33,7 +30,7 @@ freed-said (entry ∷ chain) = ap (λ (l : List (ℤ × DiskPtr)). freed_of entr
 
 at-places : (chain : Chain) (state : PageState) (page : Page) → IsRecovered state page → IsPageState chain state → map freed_of chain ≡ map place_of_freeing page.infos.items
 at-places chain (said.Present base frags) page from is =
-    freed-said chain ∙ ap (λ (places : List Place). map place_of_freeing (map info_at places)) is.1 ∙ sym (ap (map place_of_freeing) from.infos)
+    freed-said chain ∙ ap (λ (places : List (ℤ × DiskPtr × ℕ)). map place_of_freeing (map info_at places)) is.1 ∙ sym (ap (map place_of_freeing) from.infos)
 at-places chain (said.Free lsn pointer) page from is = is.1 ∙ sym (ap (map place_of_freeing) from.infos)
 
 pub all-loaded : (chains : List Chain) (states : List PageState) (pages : List Page) → AllZip IsRecovered states pages → AllZip IsPageState chains states → AllZip IsLoaded chains pages
@@ -47,12 +44,9 @@ all-unread [] [] from = tt
 all-unread (state ∷ states) (page ∷ pages) from = (subst IsUnread (sym from.0.kept) (let unread : IsUnread (kept_by state) = grind arith in unread), all-unread states pages from.1)
 all-unread states pages from = absurd from
 
--- the pages so far, and one more
-pub recovered-more : (states : List PageState) (i : ℕ) (state : PageState) (pages : List Page) (page : Page)
-    → i < length states → state ≡ get_or states i state → AllZip IsRecovered (take i states) pages → IsRecovered state page → AllZip IsRecovered (take (i + 1) states) (pages ++ page ∷ [])
-recovered-more states i state pages page lt is all one =
-    subst (λ (l : List PageState). AllZip IsRecovered l (pages ++ page ∷ [])) (sym (take_more states i state lt ∙ ap (λ (s : PageState). take i states ++ s ∷ []) (sym is)))
-    (zip-append IsRecovered (take i states) pages (state ∷ []) (page ∷ []) all (one, tt))
+-- lists side by side so far, and one more
+pub zip-more : {A B : Type 0} (R : A → B → Type 0) (xs : List A) (ys : List B) (i : ℕ) (x : A) (y : B) → i < length xs → AllZip R (take i xs) ys → R (get_or xs i x) y → AllZip R (take (i + 1) xs) (ys ++ y ∷ [])
+zip-more R xs ys i x y lt all one = rw (take_more xs i x lt) (zip-append R (take i xs) ys (get_or xs i x ∷ []) (y ∷ []) all (one, tt))
 
 -- ---- the first page that no cache leaves so
 

@@ -10,22 +10,8 @@ use Rattle.sled_pagecache.specs.State.{StampedPage, is_free}
 use Rattle.sled_pagecache.specs.declared.pagecache.shape.Kind.{Kind}
 use Rattle.sled_pagecache.specs.declared.pagecache.shape.PageShape.{PageShape}
 
-users-kind : (content : Content) (k : Kept) → proper.IsUsers content → IsFreeOrNode k → is_free content ≡ kept.is_free k → kind_of content ≡ kind_of_kept k
-users-kind content k own kept_own same = grind arith
-
-roots-kind : (content : Content) (k : Kept) → proper.AreRoots content → IsRoots k → kind_of content ≡ kind_of_kept k
-roots-kind content k own kept_own = grind arith
-
-counter-kind : (content : Content) (k : Kept) → proper.IsCounter content → IsCounter k → kind_of content ≡ kind_of_kept k
-counter-kind content k own kept_own = grind arith
-
-one-kind : (pid : ℕ) (content : Content) (k : Kept) → proper.IsOwnAt pid content → IsOwnAt pid k → is_free content ≡ kept.is_free k → kind_of content ≡ kind_of_kept k
-one-kind pid content k h1 h2 h3 = grind arith
-
 one-shape : (pid : ℕ) (p : StampedPage) (q : KeptPage) → proper.IsOwnAt pid p.content → IsOwnAt pid q.kept → IsKnown p q → shape_of_page p ≡ shape_of_kept q
-one-shape pid p q own kept_own known =
-    let made : ℕ → Kind → PageShape = λ stamp kind. record { stamp = stamp; kind = kind } in
-    ap (λ n. made n (kind_of p.content)) known.stamp ∙ ap (made q.stamp) (one-kind pid p.content q.kept own kept_own known.free)
+one-shape pid p q own kept_own known = grind arith
 
 same-shapes : (at : ℕ → ℕ) (pages : List StampedPage) (table_pages : List KeptPage)
     → ((id : ℕ) → IfSome (slice_get (map (λ (p : StampedPage). p.content) pages) id) (proper.IsOwnAt (at id)))
@@ -39,31 +25,15 @@ same-shapes at (p ∷ pages) (q ∷ others) own kept_own known =
     ap (λ x. made x (map shape_of_page pages)) (one-shape (at 0) p q (own 0) (kept_own 0) known.0)
     ∙ ap (made (shape_of_kept q)) (same-shapes (λ id. at (suc id)) pages others (λ id. own (suc id)) (λ id. kept_own (suc id)) known.1)
 
--- one page more
-pub shapes_more : (table_pages : List KeptPage) (i : ℕ) (q : KeptPage) → slice_get table_pages i ≡ Some q → map shape_of_kept (take i table_pages) ++ shape_of_kept q ∷ [] ≡ map shape_of_kept (take (suc i) table_pages)
-shapes_more [] i q at = absurd (none-some q at)
-shapes_more (p ∷ others) zero q at = ap (λ (r : KeptPage). shape_of_kept r ∷ []) (sym (same_Some p q at))
-shapes_more (p ∷ others) (suc i) q at = ap (λ (l : List PageShape). shape_of_kept p ∷ l) (shapes_more others i q at)
-
 stamps-kept : (table_pages : List KeptPage) → map (λ (s : PageShape). s.stamp) (map shape_of_kept table_pages) ≡ stamps_in table_pages
 stamps-kept [] = refl
 stamps-kept (q ∷ others) = ap (λ (l : List ℕ). q.stamp ∷ l) (stamps-kept others)
 
 -- ---- what is known over any log
 
-kept-by : (pid size : ℕ) (k : Kept) → IsOwnAt pid k → kind_of_kept k ≡ kind_at pid (Some (is_resident k)) (Some (size_if size k))
-kept-by pid size k own = grind arith
-
 kinds-kept : (table_pages : List KeptPage) → AreOwn table_pages → (pid : ℕ)
     → IfSome (slice_get (map shape_of_kept table_pages) pid) (λ page. page.kind ≡ kind_at pid (slice_get (resident_in table_pages) pid) (slice_get (nodes_in table_pages) pid))
-kinds-kept table_pages own pid =
-    rw (slice_get-map shape_of_kept table_pages pid, slice_get-map (λ (q : KeptPage). is_resident q.kept) table_pages pid, slice_get-map (λ (q : KeptPage). node_access_size q) table_pages pid)
-    (by (slice_get table_pages pid) (own pid))
-  where
-    by : (found : Option KeptPage) → IfSome found (λ q. IsOwnAt pid q.kept)
-        → IfSome (option_map shape_of_kept found) (λ page. page.kind ≡ kind_at pid (option_map (λ (q : KeptPage). is_resident q.kept) found) (option_map (λ (q : KeptPage). node_access_size q) found))
-    by None own = tt
-    by (Some q) own = kept-by pid (access_size q) q.kept own
+kinds-kept table_pages own pid = let own_at = own pid in grind (arith, slice_get-map)
 
 module _ {L : Type 0} (g : Ghosts L) where
   pub shows : (cache : Cache L) (table_pages : List KeptPage) (shape : Shape)

@@ -1,9 +1,9 @@
 -- Why every run of openings shows pages after a prefix of the changes, which holds all that was flushed, and gives no generated id twice:
 -- what opens over a log, however a cache over it ended, begins above every id that was answered.
-use Rattle.sled_pagecache.proofs.Names.{Entry, seen_event, map, message_in, Answer, Bool, Cache, Call, Config, Content, Err, Error, Flushed, Generated, Ghosts, Represents, IsLogged, IsStep, List, Logged, Messages, Ok, Result, Started, State, Outcome, LogFull, [], ◌∷◌, ◌++◌, ap, append-nil, append_assoc, arith, changes_of_start, false, inl, inr, IfErr, IsErrAnd, missing_pages, stable_contents, opened_state, refl, subst, sym, true, unplaced_state, ℕ, ◌≡◌, ◌≢◌, ◌≤◌, ◌+◌, ◌⊎◌, ⊎_elim, ◌∙◌, true≢false, Update, Event, StepOver, Adds, IsPrefix, IsPrefix-all, IsPrefix-none, Crashed, CrashedIn, Ending, HandedOn, IsEmpty, IsRun, Lasted, Leaves, LeavesUnopened, Opening, HoldsCrash, KeepIntervals, OnlyNow, left-now, AreMade, AreRising, AreSteps, CoversId, IsCovered, IsMade, ReportsBytes, IsOpened, Opens, MayBeOpened, Unsupported, Write, has_own, cases_Bool, cases_lt, contents_after, contents_of, first_id, id_in, ids_in, ids_of, length, length-drop, AddsEvents-then, CrashKeeps-added, CrashKeeps-more, IsFair-none, contents_after-append, drop-nil, log_after, step-stuck}
+use Rattle.sled_pagecache.proofs.Names.{Counter, Roots, drop_all, Entry, seen_event, map, message_in, Answer, Bool, Cache, Call, Config, Content, Err, Error, Flushed, Generated, Ghosts, Represents, IsLogged, IsStep, List, Logged, Messages, Ok, Result, Started, State, Outcome, LogFull, [], ◌∷◌, ◌++◌, ap, append-nil, append_assoc, arith, changes_of_start, false, inl, inr, IfErr, IsErrAnd, missing_pages, stable_contents, opened_state, refl, subst, sym, true, unplaced_state, ℕ, ◌≡◌, ◌≢◌, ◌≤◌, ◌+◌, ◌⊎◌, ⊎_elim, ◌∙◌, true≢false, Update, Event, StepOver, Adds, IsPrefix, IsPrefix-all, IsPrefix-none, Crashed, CrashedIn, Ending, HandedOn, IsEmpty, IsRun, Lasted, Leaves, LeavesUnopened, Opening, HoldsCrash, KeepIntervals, OnlyNow, left-now, AreMade, AreRising, AreSteps, CoversId, IsCovered, IsMade, ReportsBytes, IsOpened, Opens, MayBeOpened, Unsupported, Write, has_own, cases_Bool, cases_lt, contents_after, contents_of, first_id, id_in, ids_in, ids_of, length, length-drop, AddsEvents-then, CrashKeeps-added, CrashKeeps-more, IsFair-none, contents_after-append, drop-nil, log_after, step-stuck}
 use Rattle.sled_pagecache.specs.Openings.{Refused}
 use Rattle.sled_pagecache.proofs.Carrying.{proper-now}
-use Rattle.sled_pagecache.proofs.Counting.{BeginsAbove, CountsTo, IsSafe, Rises, first-at, now-added, rises-first, safe-added, safe-crash, safe-now, start-counts, start-rises}
+use Rattle.sled_pagecache.proofs.Counting.{BeginsAbove, CountsTo, IsSafe, Rises, first-at, now-added, rises-over, rises-parts, safe-added, safe-crash, start-counts, start-rises}
 use Rattle.sled_pagecache.proofs.Endings.{by-settings, crash-since, sound-settings}
 use Rattle.sled_pagecache.proofs.IdRuns.{RiseFrom, rising}
 use Rattle.sled_pagecache.proofs.Staying.{no-changes}
@@ -77,9 +77,7 @@ module _ (h : History) (least bound : ℕ) (held : Logged) (told : Tells h least
 
 -- a start makes nothing where no system page is missing
 lacks-none : (contents : List Content) → missing_pages contents ≡ [] → changes_of_start contents ≡ []
-lacks-none [] none = absurd cc
-lacks-none (x ∷ []) none = absurd cc
-lacks-none (x ∷ y ∷ contents) none = drop-nil (length contents)
+lacks-none contents none = drop_all (length contents) _ (omega (arith, length-drop (length contents) (Roots [] ∷ Counter 0 ∷ []), ap length none))
 
 -- the changes of a start were made
 tells-start : (changes : List (Event Update)) (h : History) (least bound : ℕ) (held : Logged) → Tells (with_made changes h) least bound held → (changes ≢ [] → held.pending ≡ []) → Tells (history_after_start_with changes h) least bound held
@@ -88,8 +86,7 @@ tells-start (change ∷ changes) h least bound held told none = tells-flushed (w
 
 -- the answer covers the id that it gives
 covers : {L : Type 0} (g : Ghosts L) (answer : Answer) (id : ℕ) (new : Cache L) → id_in answer ≡ id ∷ [] → CoversId g answer new → IsCovered g new id
-covers g (Generated (Ok other)) id new is covered = subst (IsCovered g new) (let e : other ≡ id = cc in e) covered
-covers g answer id new is covered = absurd cc
+covers g answer id new is covered = grind arith
 
 module _ {L : Type 0} (g : Ghosts L) (tells : g.tells)
     (only_now : OnlyNow g)
@@ -138,10 +135,6 @@ module _ {L : Type 0} (g : Ghosts L) (tells : g.tells)
     pub held : Logged
     pub is : Represents g cache held s
     pub so : GoesOn h interval bound cache held s ⊎ IsFaulty h interval bound cache s
-
-  has-pages : (h : History) (interval bound : ℕ) (cache : Cache L) (s : State) → Stands h interval bound cache s → HasPagesOf h s
-  has-pages h interval bound cache s stands free =
-      ⊎_elim (λ on. (stands.is.known free).contents ∙ tells-now h interval bound stands.held on.told) (λ stuck. absurd (true≢false (sym stuck.kept ∙ free))) stands.so
 
   -- A call, as the machine may answer it, and what it leaves. All ids so far are below another bound then.
   record Goes (h : History) (interval bound : ℕ) (old : Cache L) (s : State) (call : Call) (answer : Answer) (new : Cache L) : Type 0 where
@@ -265,11 +258,7 @@ module _ {L : Type 0} (g : Ghosts L) (tells : g.tells)
 
   module _ (h : History) (l : L) (config : Config) where
     module _ (bound : ℕ) (found : IsFound h config.idgen_persist_interval bound l) where
-      record Begins (first : Cache L) : Type 0 where
-        pub opens : IsOpenedOf g h config first
-        pub stands : Stands (history_after_start h) config.idgen_persist_interval bound first (opened_state config (pages_by_now h))
-
-      begins-so : (first : Cache L) → Started g l config (Ok first) → Begins first
+      begins-so : (first : Cache L) → Started g l config (Ok first) → IsOpenedOf g h config first × Stands (history_after_start h) config.idgen_persist_interval bound first (opened_state config (pages_by_now h))
       begins-so first begun =
           let k = config.idgen_persist_interval in
           let start = begun.opens (sound-settings g l config first begun) found.held found.logged in
@@ -285,14 +274,13 @@ module _ {L : Type 0} (g : Ghosts L) (tells : g.tells)
               clear = refl;
               told = tells-start changes h k bound start.held_then all (λ some. start.stable (λ none. some (lacks-none (now found.held) none)));
               interval_is = ap (λ (c : Config). c.idgen_persist_interval) start.config_is;
-              next = safe-now k bound found.held found.told.safe k (omega arith);
+              next = omega (arith, found.told.safe.above k (omega arith), rises-over found.held.stable found.held.pending found.told.safe.rises k);
               counts = (counts.0, rw (now-added found.held start.held_then changes start.added) counts.1);
             });
-          } in
-          record {
-            opens = record { state = (start.held_then, rw pages_are at start.is); config_is = start.config_is; recovered = start.recovered ∙ ap has_own pages_are };
-            stands = subst (λ (contents : List Content). Stands (history_after_start_with (changes_of_start contents) h) k bound first (opened_state config contents)) pages_are stands;
-          }
+          } in (
+            record { state = (start.held_then, rw pages_are at start.is); config_is = start.config_is; recovered = start.recovered ∙ ap has_own pages_are },
+            subst (λ (contents : List Content). Stands (history_after_start_with (changes_of_start contents) h) k bound first (opened_state config contents)) pages_are stands,
+          )
 
     module _ (least bound : ℕ) (found : IsFound h least bound l) where
       pages_are : now found.held ≡ pages_by_now h
@@ -300,13 +288,10 @@ module _ {L : Type 0} (g : Ghosts L) (tells : g.tells)
 
       -- why no cache was opened
       why-refused : (result : Result (Cache L) (Error × L)) → Started g l config result → IfErr result (λ e. RefusesAfter h config e.0)
-      why-refused result begun =
+      why-refused (Ok cache) begun = tt
+      why-refused (Err refused) begun =
           by-settings config (λ why wrong. subst (λ (r : Result (Cache L) (Error × L)). IfErr r (λ e. RefusesAfter h config e.0)) (sym (begun.settings why wrong)) (inl wrong))
-          (λ sound. of_result result (begun.opens sound found.held found.logged))
-        where
-          of_result : (result : Result (Cache L) (Error × L)) → Opens g l config found.held result → IfErr result (λ e. RefusesAfter h config e.0)
-          of_result (Ok cache) opens = tt
-          of_result (Err refused) opens = rw (← pages_are) (refuses g l refused.1 config found.held refused.0 opens)
+          (λ sound. rw (← pages_are) (refuses g l refused.1 config found.held refused.0 (begun.opens sound found.held found.logged)))
 
       -- What is left where none was: some of the changes of a start have begun. A crash came since, or the log came back with them.
       unopened : (result : Result (Cache L) (Error × L)) (left : L) → MayBeOpened g l → Started g l config result → LeavesUnopened g l result left → Lands (EndsUnopened h) least bound left
@@ -324,7 +309,7 @@ module _ {L : Type 0} (g : Ghosts L) (tells : g.tells)
 
           by-return : (part : List (Event Update)) → IsPrefix part all → (held_then : Logged) (after : L) → left ≡ after → IsLogged (unplaced_state (g.state after)) held_then → Adds found.held part held_then → Lands (EndsUnopened h) least bound left
           by-return part prefix held_then after is logged added =
-              let rises = rises-first (now found.held) part prefix.0 (rw prefix.1 (start-rises (now found.held))) in (
+              let rises = (rises-parts (now found.held) part prefix.0 (rw prefix.1 (start-rises (now found.held)))).0 in (
                 with_made part h,
                 inr (part, rw pages_are at prefix, refl),
                 record { held = held_then; logged = rw is logged; told = tells-made h least bound found.held found.told part rises held_then added },
@@ -345,8 +330,8 @@ module _ {L : Type 0} (g : Ghosts L) (tells : g.tells)
 
   -- how it ends
   module _ (h : History) (interval bound : ℕ) (last : Cache L) (t : State) (left : L) (stands : Stands h interval bound last t) where
-    crash-ends : HoldsCrash g last.log (g.moment last.log) left → Lands (Crashes h) interval bound left
-    crash-ends crash =
+    ends : (ending : Ending) → Leaves g last ending left → Lands (Ends g last t h ending) interval bound left
+    ends Crashed crash =
         ⊎_elim
         (λ on.
         let known = stands.is.known on.clear in
@@ -355,9 +340,6 @@ module _ {L : Type 0} (g : Ghosts L) (tells : g.tells)
         subst (λ (l : List (Event Update)). SurviveAs (record h { begun = l }) interval bound pages) (append-nil h.begun)
         (survive h interval bound stands.held on.told [] [] (IsPrefix-none []) tt pages (left-now (unplaced_state (g.state last.log)) stands.held pages known.logged (only_now last.log pages tells known.usable since)))))
         (λ stuck. crash-found h interval bound stuck.since last.log left (crash-since g last.log left stuck.since (g.moment last.log) stuck.earlier crash) stuck.left) stands.so
-
-    ends : (ending : Ending) → Leaves g last ending left → Lands (Ends g last t h ending) interval bound left
-    ends Crashed crash = crash-ends crash
     ends (CrashedIn call answer) (new, made, crash) =
         let one = call-goes h interval bound last new t call answer stands made in
         let (after, crashes, is) = crash-found (with_begun one.out.changes h) interval bound one.inside new.log left (crash-since g new.log left one.inside (g.moment last.log) one.later crash) one.left in
@@ -370,20 +352,15 @@ module _ {L : Type 0} (g : Ghosts L) (tells : g.tells)
   -- ---- openings one after another
 
   -- The bound by which a log is found, where a cache is opened with this interval: it is lost where the interval is shorter.
-  record IsWidened (h : History) (least k bound : ℕ) (l : L) : Type 0 where
-    pub bound_then : ℕ
-    pub found : IsFound h k bound_then l
-    pub keeps : least ≤ k → bound_then ≡ bound
-
-  widened : (h : History) (least k bound : ℕ) (l : L) → IsFound h least bound l → IsWidened h least k bound l
+  widened : (h : History) (least k bound : ℕ) (l : L) → IsFound h least bound l → (bound_then : ℕ) × IsFound h k bound_then l × (least ≤ k → bound_then ≡ bound)
   widened h least k bound l found =
-      ⊎_elim (λ narrow. with_bound 0 (λ interval wide. omega arith) (λ wide. absurd (omega (arith, narrow, wide))))
-      (λ more. with_bound bound (λ interval wide. found.told.safe.above interval (omega (arith, more, wide))) (λ wide. refl)) (cases_lt k least)
+      ⊎_elim (λ narrow. (0, with_bound 0 (λ interval wide. omega arith), λ wide. absurd (omega (arith, narrow, wide))))
+      (λ more. (bound, with_bound bound (λ interval wide. found.told.safe.above interval (omega (arith, more, wide))), λ wide. refl)) (cases_lt k least)
     where
-      with_bound : (bound_then : ℕ) → BeginsAbove k bound_then found.held.stable → (least ≤ k → bound_then ≡ bound) → IsWidened h least k bound l
-      with_bound bound_then above keeps =
-          let told = found.told in
-          record { bound_then = bound_then; found = record { held = found.held; logged = found.logged; told = record { added = told.added; flushed = told.flushed; clear = told.clear; safe = record { rises = told.safe.rises; above = above } } }; keeps = keeps }
+      with_bound : (bound_then : ℕ) → BeginsAbove k bound_then found.held.stable → IsFound h k bound_then l
+      with_bound bound_then above =
+          let told : Tells h k bound_then found.held = record { added = found.told.added; flushed = found.told.flushed; clear = found.told.clear; safe = record { rises = found.told.safe.rises; above = above } } in
+          record { held = found.held; logged = found.logged; told = told }
 
   abbrev Shows : History → ℕ → ℕ → List (Opening L) → Type 0
   Shows h least bound openings = ShowPrefixes g h openings × (KeepIntervals least openings → RiseFrom bound (ids_of openings))
@@ -396,23 +373,19 @@ module _ {L : Type 0} (g : Ghosts L) (tells : g.tells)
       ((why-refused h l config least bound found result start.1, after, ends, shows), rise)
   run-shows h least bound l (Lasted config first calls last ending left ∷ openings) found (start, made, leaves, run) =
       let k = config.idgen_persist_interval in
-      let wide = widened h least k bound l found in
-      let begun = begins-so h l config wide.bound_then wide.found first start.1 in
-      let all = calls-go (history_after_start h) k wide.bound_then first last (opened_state config (pages_by_now h)) calls begun.stands made in
+      let (bound_then, found_then, same) = widened h least k bound l found in
+      let (opens, stands) = begins-so h l config bound_then found_then first start.1 in
+      let all = calls-go (history_after_start h) k bound_then first last (opened_state config (pages_by_now h)) calls stands made in
       let then = history_after_calls calls all.outs (history_after_start h) in
+      let has-pages : HasPagesOf then all.t = λ free.
+      ⊎_elim (λ on. (all.stands.is.known free).contents ∙ tells-now then k all.bound_then all.stands.held on.told) (λ stuck. absurd (true≢false (sym stuck.kept ∙ free))) all.stands.so in
       let (after, end, is) = ends then k all.bound_then last all.t left all.stands ending leaves in
       let (shows, rise) = run-shows after k all.bound_then left openings is run in (
-        (begun.opens, all.outs, all.t, all.steps, has-pages then k all.bound_then last all.t all.stands, after, end, shows),
-        λ keeps. subst (λ b. RiseFrom b (ids_in calls ++ ids_of openings)) (wide.keeps keeps.0) (all.rise (ids_of openings) (rise keeps.1)),
+        (opens, all.outs, all.t, all.steps, has-pages, after, end, shows),
+        λ keeps. subst (λ b. RiseFrom b (ids_in calls ++ ids_of openings)) (same keeps.0) (all.rise (ids_of openings) (rise keeps.1)),
       )
 
-  every-shows : (l : L) (openings : List (Opening L)) → IsEmpty g l → IsRun g l openings → Shows (history_from []) 0 0 openings
+  pub every-shows : (l : L) (openings : List (Opening L)) → IsEmpty g l → IsRun g l openings → Shows (history_from []) 0 0 openings
   every-shows l openings empty =
       run-shows (history_from []) 0 0 l openings
       (record { held = stable_contents []; logged = rw empty (empty-logged true); told = tells-nothing [] 0 0 (λ interval wide. omega arith) })
-
-  pub prefixes-shown : (l : L) (openings : List (Opening L)) → IsEmpty g l → IsRun g l openings → ShowPrefixes g (history_from []) openings
-  prefixes-shown l openings empty run = (every-shows l openings empty run).0
-
-  pub given-once : (l : L) (openings : List (Opening L)) → IsEmpty g l → IsRun g l openings → KeepIntervals 0 openings → AreRising (ids_of openings)
-  given-once l openings empty run keeps = rising 0 (ids_of openings) ((every-shows l openings empty run).1 keeps)

@@ -3,19 +3,14 @@ use Rattle.sled_pagecache.proofs.Names.{◌≡◌, ◌+◌, ◌-◌, ℕ, zero, 
 
 -- one message more, at the next stamp
 pub stamps-more : (stamp n : ℕ) → stamps_to stamp n ++ (stamp + 1) ∷ [] ≡ stamps_to (stamp + 1) (suc n)
-stamps-more stamp zero =
-    let same : stamp + 1 ≡ (stamp + 1) - 0 = omega arith in
-    ap (λ (k : ℕ). k ∷ []) same
-stamps-more stamp (suc n) =
-    let less : stamp - n ≡ (stamp + 1) - suc n = omega arith in
-    ap (λ (k : ℕ). k ∷ (stamps_to stamp n ++ (stamp + 1) ∷ [])) less ∙ ap (λ (l : List ℕ). ((stamp + 1) - suc n) ∷ l) (stamps-more stamp n)
+stamps-more stamp zero = ap (λ (k : ℕ). k ∷ []) (omega arith)
+stamps-more stamp (suc n) = ap (λ (k : ℕ). k ∷ (stamps_to stamp n ++ (stamp + 1) ∷ [])) (omega arith) ∙ ap (λ (l : List ℕ). ((stamp + 1) - suc n) ∷ l) (stamps-more stamp n)
 
 -- the messages of a recovered page have none
 pub stamps-none : (places : List (ℤ × DiskPtr × ℕ)) → map (λ (info : CacheInfo). info.ts) (map info_at places) ≡ stamps_to 0 (length (map info_at places))
 stamps-none [] = refl
 stamps-none (place ∷ places) =
-    let none : 0 ≡ 0 - length (map info_at places) = omega arith in
-    ap (λ (k : ℕ). k ∷ map (λ (info : CacheInfo). info.ts) (map info_at places)) none ∙ ap (λ (l : List ℕ). (0 - length (map info_at places)) ∷ l) (stamps-none places)
+    ap (λ (k : ℕ). k ∷ map (λ (info : CacheInfo). info.ts) (map info_at places)) (omega arith) ∙ ap (λ (l : List ℕ). (0 - length (map info_at places)) ∷ l) (stamps-none places)
 
 abbrev info_stamps : List CacheInfo → List ℕ
 info_stamps infos = map (λ (info : CacheInfo). info.ts) infos

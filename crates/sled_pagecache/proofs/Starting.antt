@@ -1,12 +1,14 @@
 -- The pages that a cache is opened with.
-use Rattle.sled_pagecache.proofs.Names.{◌≡◌, ◌≤◌, ◌<◌, ◌^◌, ℕ, zero, suc, Bool, true, false, cond, List, [], ◌∷◌, ◌++◌, length, map, take, drop, set, get_or, slice_get, slice_index_or, Option, None, Some, is_some, Result, Ok, refl, sym, ◌∙◌, ap, subst, arith, eq-eqb, drop-nil, take-nil, take-append_seam, nat_tests, length-append, length-map, append-nil, AllZip-long, slice_get-get_or, slice_get_past, slice_get_within, none-some, same_Some, AllByRecursion, AllZip, IfSome, DiskPtr, Refusal, Io, Corruption, OutOfMemory, is_open, open_after, is_chain, is_empty, chains_with_change, Content, Put, Event, Change, Message, Entry, Chain, Messages, messages_of, placed_entry, effect_of, effect_of_entry, holds-made, IsSized, Makes, Holds, Hold, IsLeft, now, unplaced_state, message_of, zip-append, Ghosts, place_of, roots_event, IsLoaded, IsUnread, AreRecovered, AreRead, AreFound, IsFoundAt, IsOwnAt, IfSome_then, IsTable, IsOpenedWith, RefusesOwn, RefusesPages, next_id, counter_event, events_of_roots, events_at_start, stamps_at_start, first_id, HoldsChain, IsKept, is_resident, place_of_freeing, free_ids, Proceeds, refusal_in, is_misfit, AllFit, BeginsMisfit, IsFit, Wrote, IsRoots, IsCounter, IsFreeOrNode, AreOwn, IsConsistent, stamps_in, resident_in, CacheInfo, Config, StickyLog, Kept, Page, get_or_from_slice_get, begin_page, zip-set, set-get_or, length-set, Counter, Roots, add-by-id, all-by-id, at-id, by-id-all, past-two, zip-first, zip-second}
+use Rattle.sled_pagecache.proofs.Names.{Recency, IsBounded, IsSound, IsUnused, slice_get_cases, node_access_size, view, inl, inr, ◌≡◌, ◌≤◌, ◌<◌, ◌^◌, ℕ, zero, suc, Bool, true, false, cond, List, [], ◌∷◌, ◌++◌, length, map, take, drop, set, get_or, slice_get, slice_index_or, Option, None, Some, is_some, Result, Ok, refl, sym, ◌∙◌, ap, subst, arith, eq-eqb, drop-nil, take-nil, take-append_seam, nat_tests, length-append, length-map, append-nil, AllZip-long, slice_get-get_or, slice_get_past, slice_get_within, none-some, same_Some, AllByRecursion, AllZip, IfSome, DiskPtr, Refusal, Io, Corruption, OutOfMemory, is_open, open_after, is_chain, is_empty, chains_with_change, Content, Put, Event, Change, Message, Entry, Chain, Messages, messages_of, placed_entry, effect_of, effect_of_entry, holds-made, IsSized, Makes, Holds, Hold, IsLeft, now, unplaced_state, message_of, zip-append, Ghosts, place_of, roots_event, IsLoaded, IsUnread, AreRecovered, AreRead, AreFound, IsFoundAt, IsOwnAt, IfSome_then, IsTable, IsOpenedWith, RefusesOwn, RefusesPages, next_id, counter_event, events_of_roots, events_at_start, stamps_at_start, first_id, HoldsChain, IsKept, is_resident, place_of_freeing, free_ids, Proceeds, refusal_in, Comes, IsCaused, IsCaused-since, Went-last, is_misfit, AllFit, BeginsMisfit, IsFit, Wrote, IsRoots, IsCounter, IsFreeOrNode, AreOwn, IsConsistent, stamps_in, resident_in, CacheInfo, Config, StickyLog, Kept, Page, get_or_from_slice_get, begin_page, zip-set, set-get_or, length-set, Counter, Roots, add-by-id, all-by-id, at-id, by-id-all, past-two, zip-first, zip-second}
 use Rattle.sled_base.specs.declared.kinds.LogKind.TheVariants as effects
 use Rattle.sled_node.specs.Meta as meta
 use Rattle.sled_pagecache.proofs.ProperPages.{all-append}
+use Rattle.sled_pagecache.proofs.InMemory.{past-view, none-at}
 use Rattle.sled_pagecache.proofs.Linked.{full-free}
 use Rattle.sled_pagecache.proofs.OwnPages.{IsOwn, own-one, misfit-unfit, first-pointer}
-use Rattle.sled_pagecache.proofs.Proceeding.{nil-parts, proceeds-unplaced, proceeds-then, proceeds-first}
+use Rattle.sled_pagecache.proofs.Proceeding.{nil-parts, proceeds-ended, proceeds-unplaced, proceeds-then, proceeds-first}
 use Rattle.sled_pagecache.proofs.RecoveredPages.{if-some}
+use Rattle.sled_pagecache.proofs.Sizes.{sized-view}
 use Rattle.sled_pagecache.proofs.Tables.{went-chains}
 use Rattle.sled_pagecache.specs.Inside.Loading.{AreBeside}
 use Rattle.sled_pagecache.specs.State as state
@@ -14,35 +16,30 @@ use Rattle.sled_pagecache.specs.declared.pagecache.page.Kept.TheVariants as kept
 
 -- ---- a system page that is made
 
-module _ {L : Type 0} (g : Ghosts L) where
-  module _ (old new : StickyLog L) (pid stamp : ℕ) (content : Content) (info : CacheInfo) (wrote : Wrote g old new pid (Put content) stamp (Ok info)) where
-    abbrev entry : Entry
-    entry = placed_entry (message_of (Put content)) (place_of info)
-
-    pub own-table : (pages before after : List Page) (page : Page) → IsTable g.tells (now effect_of_entry (g.state old.log)) pages
-        → after ≡ before ++ page ∷ [] → before ≡ pages
-        → pid ≡ length pages → pid < 2
-        → effect_of (message_of (Put content)) ≡ effects.Replace
-        → page.infos.items ≡ info ∷ []
-        → ((chain : Chain) → Makes (messages_of chain) content → HoldsChain chain page.kept)
-        → IsOwnAt pid page.kept
-        → IsTable g.tells (now effect_of_entry (g.state new.log)) after
-    own-table pages before after page table more same last few effect infos holds own =
-        let one = ap length infos in
-        subst (IsTable g.tells (now effect_of_entry (g.state new.log))) (sym (more ∙ ap (λ (l : List Page). l ++ page ∷ []) same))
-        (record {
-          kept = λ known.
-              let held = now effect_of_entry (g.state old.log) in
-              let long : length pages ≡ length held = AllZip-long IsKept held pages (table.kept known) in
-              let is : now effect_of_entry (g.state new.log) ≡ held ++ (entry ∷ []) ∷ [] =
-              wrote.writes.chains known ∙ ap (λ kind. chains_with_change effect_of_entry kind held pid entry) effect ∙ ap (λ b. cond b (held ++ (entry ∷ []) ∷ []) (set held pid (entry ∷ []))) (eq-eqb pid (length held) (last ∙ long)) in
-              let kept : IsKept (entry ∷ []) page = record { places = λ _. sym (ap (map place_of) infos); long = sym (ap length infos); holds = holds (entry ∷ []) (content, wrote.is, refl) } in
-              subst (λ (l : List Chain). AllZip IsKept l (pages ++ page ∷ [])) (sym is) (zip-append IsKept held pages ((entry ∷ []) ∷ []) (page ∷ []) (table.kept known) (kept, tt));
-          hold = (add-by-id _ pages page table.hold.0 (subst (λ n. IsOwnAt n page.kept) last own), all-append _ pages (page ∷ []) table.hold.1 ((omega (arith, one)), tt));
-          few = let l = length-append pages (page ∷ []) in omega (arith, l, last, few);
-          chains_are = λ known. went-chains g old new (Change pid (message_of (Put content)) ∷ []) wrote.writes.went known wrote.writes.cause.fault (table.chains_are known);
-          sized = wrote.writes.sized;
-        })
+module _ {L : Type 0} (g : Ghosts L) (old new : StickyLog L) (pid stamp : ℕ) (content : Content) (info : CacheInfo) (wrote : Wrote g old new pid (Put content) stamp (Ok info)) where
+  pub own-table : (pages : List Page) (page : Page) → IsTable g.tells (now effect_of_entry (g.state old.log)) pages
+      → pid ≡ length pages → pid < 2
+      → effect_of (message_of (Put content)) ≡ effects.Replace
+      → page.infos.items ≡ info ∷ []
+      → ((chain : Chain) → Makes (messages_of chain) content → HoldsChain chain page.kept)
+      → IsOwnAt pid page.kept
+      → IsTable g.tells (now effect_of_entry (g.state new.log)) (pages ++ page ∷ [])
+  own-table pages page table last few effect infos holds own =
+      let one = ap length infos in
+      record {
+        kept = λ known.
+            let held = now effect_of_entry (g.state old.log) in
+            let entry : Entry = placed_entry (message_of (Put content)) (place_of info) in
+            let long : length pages ≡ length held = AllZip-long IsKept held pages (table.kept known) in
+            let is : now effect_of_entry (g.state new.log) ≡ held ++ (entry ∷ []) ∷ [] =
+            wrote.writes.chains known ∙ ap (λ kind. chains_with_change effect_of_entry kind held pid entry) effect ∙ ap (λ b. cond b (held ++ (entry ∷ []) ∷ []) (set held pid (entry ∷ []))) (eq-eqb pid (length held) (last ∙ long)) in
+            let kept : IsKept (entry ∷ []) page = record { places = λ _. sym (ap (map place_of) infos); long = sym (ap length infos); holds = holds (entry ∷ []) (content, wrote.is, refl) } in
+            subst (λ (l : List Chain). AllZip IsKept l (pages ++ page ∷ [])) (sym is) (zip-append IsKept held pages ((entry ∷ []) ∷ []) (page ∷ []) (table.kept known) (kept, tt));
+        hold = (add-by-id _ pages page table.hold.0 (subst (λ n. IsOwnAt n page.kept) last own), all-append _ pages (page ∷ []) table.hold.1 ((omega (arith, one)), tt));
+        few = let l = length-append pages (page ∷ []) in omega (arith, l, last, few);
+        chains_are = λ known. went-chains g old new (Change pid (message_of (Put content)) ∷ []) wrote.writes.went known wrote.writes.cause.fault (table.chains_are known);
+        sized = wrote.writes.sized;
+      }
 
 -- ---- the contents of the system pages
 
@@ -92,7 +89,7 @@ first-fits (c ∷ held) roots makes zero lt = (roots, makes)
 first-fits (c ∷ held) roots makes (suc before) lt = absurd (omega (arith, lt))
 
 -- the first page that is amiss is one of those that were recovered
-amiss-refuses : (pid : ℕ) (held : List Chain) (pages : List Page) (pointer : DiskPtr) → AllZip IsLoaded held pages → length pages ≤ 2 ^ 37 → pid < length pages
+pub amiss-refuses : (pid : ℕ) (held : List Chain) (pages : List Page) (pointer : DiskPtr) → AllZip IsLoaded held pages → length pages ≤ 2 ^ 37 → pid < length pages
     → ((before : ℕ) → before < pid → IfSome (slice_get held before) (IsFit before))
     → RefusesOwn pid (slice_index_or held pid []) (Corruption (Some pointer)) → RefusesPages held (Corruption (Some pointer))
 amiss-refuses pid held pages pointer loaded few lt first r =
@@ -111,62 +108,26 @@ own-refuses pid held then pages refusal same are known lt first r = absurd r
 
 -- ---- the first page that no cache leaves so
 
-short-by : (pid : ℕ) (page : Page) → is_misfit pid page ≡ false → length page.infos.items ≤ 10
+pub short-by : (pid : ℕ) (page : Page) → is_misfit pid page ≡ false → length page.infos.items ≤ 10
 short-by pid page fits = grind (arith, nat_tests)
 
-page-fit : (counter : Option ℕ) (k : ℕ) (chain : Chain) (page : Page) → IsLoaded chain page → IsFoundAt counter k page.kept → is_misfit k page ≡ false → IsFit k chain
-page-fit counter k chain page is found fits =
-    let short = short-by k page fits in
-    let same = is.kept.long in
-    let holds = is.kept.holds in
-    grind arith
-
-fits-at : (held : List Chain) (pages : List Page) (counter : Option ℕ) → AllZip IsLoaded held pages → AreFound pages counter
+pub fits-at : (held : List Chain) (pages : List Page) (counter : Option ℕ) → AllZip IsLoaded held pages → AreFound pages counter
     → (k : ℕ) → IfSome (slice_get pages k) (λ page. is_misfit k page ≡ false) → IfSome (slice_get held k) (IsFit k)
 fits-at held pages counter loaded found k fits = if-some (slice_get held k) (λ chain at.
     let paired = zip-first IsLoaded held pages k chain loaded at in
     let page = paired.0 in
-    page-fit counter k chain page paired.2 (at-id _ pages k page found.0 paired.1) (subst (λ (o : Option Page). IfSome o (λ page. is_misfit k page ≡ false)) paired.1 fits))
-
-pub begins-amiss : {tells : Type 0} (held : List Chain) (pages : List Page) (counter : Option ℕ) (pointer : DiskPtr) → AreRead tells held pages counter → tells → BeginsMisfit pages pointer
-    → RefusesPages held (Corruption (Some pointer))
-begins-amiss held pages counter pointer are known begins =
-    let loaded = are.kept known in
-    let page = begins.page in
-    let chain = slice_index_or held begins.pid [] in
-    let lt = slice_get_within pages begins.pid page begins.is in
-    let at = zip-second IsLoaded held pages begins.pid page [] loaded begins.is in
-    amiss-refuses begins.pid held pages pointer loaded are.few lt (λ before le. fits-at held pages counter loaded are.hold before (begins.first before le))
-    (misfit-unfit begins.pid chain page at begins.misfit, first-pointer chain page.infos.items pointer at.at begins.begins)
+    let is = at-id _ pages k page found.0 paired.1 in
+    let short = short-by k page (subst (λ (o : Option Page). IfSome o (λ page. is_misfit k page ≡ false)) paired.1 fits) in
+    let same = paired.2.kept.long in
+    let holds = paired.2.kept.holds in
+    grind arith)
 
 -- ---- the table then
 
-all-kept : (held : List Chain) (pages : List Page) → AllZip IsLoaded held pages → AllZip IsKept held pages
+pub all-kept : (held : List Chain) (pages : List Page) → AllZip IsLoaded held pages → AllZip IsKept held pages
 all-kept [] [] loaded = tt
 all-kept (c ∷ held) (p ∷ pages) loaded = (loaded.0.kept, all-kept held pages loaded.1)
 all-kept held pages loaded = absurd loaded
-
-own-by : (counter : Option ℕ) (k : ℕ) (held : Kept) → IsFoundAt counter k held → IsOwnAt k held
-own-by counter k held found = grind arith
-
-pub read-table : (tells : Type 0) (held : List Chain) (pages : List Page) (counter : Option ℕ) → AreRead tells held pages counter → AllFit pages → IsTable tells held pages
-read-table tells held pages counter are fit = record {
-  kept = λ known. all-kept held pages (are.kept known);
-  hold = ((λ k. IfSome_then (slice_get pages k) (are.hold.0 k) (λ page. own-by counter k page.kept)), by-id-all _ pages (λ k. IfSome_then (slice_get pages k) (fit k) (λ page. short-by k page)));
-  few = are.few;
-  chains_are = are.chains_are;
-  sized = are.sized;
-}
-
--- where the chains are the same
-pub read-from : (tells : Type 0) {held then : List Chain} {pages : List Page} {counter : Option ℕ} → (tells → then ≡ held) → AreRead tells then pages counter → AreRead tells held pages counter
-read-from tells {held} {then} {pages} {counter} same are = record {
-  kept = λ known. subst (λ (l : List Chain). AllZip IsLoaded l pages) (same known) (are.kept known);
-  hold = are.hold;
-  few = are.few;
-  chains_are = λ known. subst (λ (l : List Chain). AllByRecursion (λ chain. is_chain effect_of_entry chain ≡ true) l) (same known) (are.chains_are known);
-  sized = λ known. subst (λ (l : List Chain). AllByRecursion IsSized l) (same known) (are.sized known);
-}
 
 pub all-fresh : (held : List Chain) (pages : List Page) → AllZip IsLoaded held pages → stamps_in pages ≡ map (λ _. 0) pages
 all-fresh [] [] loaded = refl
@@ -175,26 +136,17 @@ all-fresh held pages loaded = absurd loaded
 
 -- ---- which contents lie in memory
 
-unread-empty : (chain : Chain) (held : Kept) → HoldsChain chain held → IsUnread held → is_resident held ≡ true → is_empty effect_of_entry chain ≡ true
-unread-empty chain held holds unread is = grind arith
-
 pub resident-empty : (held : List Chain) (pages : List Page) → AllZip IsKept held pages → (pid : ℕ) → IfSome (slice_get pages pid) (λ page. IsUnread page.kept)
     → slice_get (resident_in pages) pid ≡ Some true → is_empty effect_of_entry (slice_index_or held pid []) ≡ true
 resident-empty held [] all pid unread is = absurd (none-some true is)
 resident-empty [] (p ∷ pages) all pid unread is = absurd all
-resident-empty (c ∷ held) (p ∷ pages) all zero unread is = unread-empty c p.kept all.0.holds unread (same_Some (is_resident p.kept) true is)
+resident-empty (c ∷ held) (p ∷ pages) all zero unread is = (let holds = all.0.holds in let resident = same_Some (is_resident p.kept) true is in grind arith)
 resident-empty (c ∷ held) (p ∷ pages) all (suc pid) unread is = resident-empty held pages all.1 pid unread is
 
 -- ---- what is told of the pages that are missing
 
 pub events-split : {X : Type 0} (pages : List X) → length pages < 2 → events_of_roots pages ++ counter_event ∷ [] ≡ events_at_start pages
 events-split pages h1 = grind arith
-
-pub events-same : {X Y : Type 0} (pages : List X) (others : List Y) → length pages ≡ length others → events_at_start pages ≡ events_at_start others
-events-same pages others long = ap (λ n. drop n (roots_event ∷ counter_event ∷ [])) long
-
-pub read-fewer : {tells : Type 0} (held : List Chain) (pages : List Page) (counter : Option ℕ) → AreRead tells held pages counter → tells → length held < 2 → length pages < 2
-read-fewer held pages counter are known few = let long : length pages ≡ length held = AllZip-long IsLoaded held pages (are.kept known) in omega (arith, long, few)
 
 -- however many of them came, no batch is open
 pub changes-closed : (n : ℕ) (came rest : List (Event Message)) → came ++ rest ≡ drop n (roots_event ∷ counter_event ∷ []) → open_after false came ≡ false
@@ -222,8 +174,14 @@ module _ {L : Type 0} (g : Ghosts L) where
     missing-both new refusal one two =
         subst (λ (l : List (Event Message)). Proceeds g old new l refusal) (events-split pages few) (proceeds-then g old mid new (events_of_roots pages) (counter_event ∷ []) refusal one two)
 
-    pub missing-some : events_at_start pages ≡ [] → ⊥
-    missing-some none = (let e = (nil-parts (events_of_roots pages) (counter_event ∷ []) (events-split pages few ∙ none)).1 in cc)
+    -- and then all is made stable
+    pub missing-stable : {T : Type 0} (made new : StickyLog L) (result : Result T Refusal) → Proceeds g old mid (events_of_roots pages) None → Proceeds g mid made (counter_event ∷ []) None
+        → Comes g made new [] → IsCaused g made new ⊥ result → Proceeds g old new (events_at_start pages) (refusal_in result)
+    missing-stable made new result one two went cause =
+        let events = events_at_start pages in
+        let done = missing-both made None one two in
+        proceeds-ended g old new events result (Went-last g old made new events done.reaches done.fault went) (IsCaused-since g old made new events ⊥ result done.reaches cause)
+        (λ none. absurd (let parts = nil-parts (events_of_roots pages) (counter_event ∷ []) (events-split pages few ∙ none) in let e = parts.1 in cc))
 
 -- ---- what the cache is opened with
 
@@ -231,12 +189,6 @@ zeros : (pages : List Page) (held : List Content) → length pages ≡ length he
 zeros [] [] long = refl
 zeros (p ∷ pages) (c ∷ held) long = ap (λ (l : List ℕ). 0 ∷ l) (zeros pages held (omega (arith, long)))
 zeros pages held long = absurd (omega (arith, long))
-
-counted : (interval n : ℕ) (own : Kept) (counter : Option ℕ) (chain : Chain) (roots content : Content) (held : List Content)
-    → own ≡ kept.Counter n → counter ≡ Some n → HoldsChain chain own → Holds (messages_of chain) content → next_id interval counter ≡ first_id interval (roots ∷ content ∷ held)
-counted interval n own counter chain roots content held is some holds makes =
-    let same : Counter n ≡ content = sym (holds-made (messages_of chain) content (Counter n) makes (subst (HoldsChain chain) is holds)) in
-    ap (next_id interval) some ∙ ap (λ (c : Content). first_id interval (roots ∷ c ∷ held)) same
 
 pub opened-with : {tells : Type 0} (config : Config) (chains : List Chain) (pages : List Page) (counter : Option ℕ) (stamps : List ℕ) (next : ℕ) (recovered : Bool)
     → AreRead tells chains pages counter → tells → stamps ≡ stamps_at_start pages → next ≡ next_id config.idgen_persist_interval counter → recovered ≡ is_some counter
@@ -254,7 +206,28 @@ opened-with config chains pages counter stamps next recovered are known stamps-a
         let read = found.0 1 in
         record {
           stamps_are = rw (drop-nil {A = Content} (length held)) (stamps-are ∙ zeros (p ∷ q ∷ pages) (x ∷ y ∷ held) (omega (arith, wide, long, same)));
-          next_is = next-is ∙ counted config.idgen_persist_interval read.0 q.kept counter d x y held read.1 read.2 loaded.1.0.kept.holds hold.1.0;
+          next_is =
+              let counter = sym (holds-made (messages_of d) y (Counter read.0) hold.1.0 (subst (HoldsChain d) read.1 loaded.1.0.kept.holds)) in
+              next-is ∙ ap (next_id config.idgen_persist_interval) read.2 ∙ ap (λ (c : Content). first_id config.idgen_persist_interval (x ∷ c ∷ held)) counter;
           recovered_is = recovered-is ∙ ap is_some read.2;
         }
     by chains pages loaded found stamps-are held hold = absurd (assumption (loaded, hold))
+
+-- ---- what lies in memory once a cache was opened
+
+none-kept : (pid : ℕ) (q : Page) → IsOwnAt pid q.kept → (2 ≤ pid → IsUnread q.kept) → node_access_size q ≡ None
+none-kept pid q h1 h2 = grind arith
+
+-- no node lies in memory, and none is listed
+pub opened-bounded : {L : Type 0} (g : Ghosts L) (next : ℕ) (config : Config) (recovered : Bool) (lru : Recency) (sticky_log : StickyLog L) (pages : List Page) (free : List ℕ) → IsConsistent g.tells g.state sticky_log pages free
+    → ((pid : ℕ) → 2 ≤ pid → IfSome (slice_get pages pid) (λ page. IsUnread page.kept)) → IsUnused config.cache_capacity lru → IsSound lru → IsBounded g (view next config recovered lru sticky_log pages)
+opened-bounded g next config recovered lru sticky_log pages free is unread unused sound = record {
+  listed = λ pid size has. absurd (elim (slice_get_cases pages pid).1 [
+    | inl w ↦ none-at next next config recovered lru sticky_log sticky_log pages pid w.0 w.2
+        (none-kept pid w.0 (at-id _ pages pid w.0 is.own w.2) (λ from. subst (λ (o : Option Page). IfSome o (λ page. IsUnread page.kept)) w.2 (unread pid from))) size has
+    | inr w ↦ past-view next next config recovered lru sticky_log sticky_log pages pid w.0 size has
+  ]);
+  sized = sized-view g next config recovered lru sticky_log pages free is;
+  sound = sound;
+  capacity = unused.capacity;
+}

@@ -29,8 +29,5 @@ pub kept-put : (chain : Chain) (page : Page) (k : Kept) → CanPut k → (info :
     → chain ≡ placed_entry (message_of (Put (content_of k))) (place_of info) ∷ [] → page.infos.items ≡ info ∷ [] → page.kept ≡ k
     → IsUpdate (message_of (Put (content_of k))) (Put (content_of k)) → IsKept chain page
 kept-put chain page k can info is infos holds reads =
-    record {
-      places = λ _. ap (map said_of) is ∙ sym (ap (map place_of) infos);
-      long = ap length is ∙ sym (ap length infos);
-      holds = subst (HoldsChain chain) (sym holds) (subst (λ (c : Chain). HoldsChain c k) (sym is) (put-holds k can info reads));
-    }
+    let put = put-holds k can info reads in
+    grind arith

@@ -45,16 +45,8 @@ module _ {L : Type 0} (g : Ghosts L) where
   makes-written {pid} {old} {new} {accesses} {then} {q} {page} {info} {size} held can wrote there raised infos holds takes accessed =
       let writes = wrote.writes in
       let set = λ (told : g.tells). writes.chains told ∙ put-chains _ pid (there told) held can info in
-      record {
-        is = wrote.is;
-        went = writes.went;
-        fault = writes.cause.fault;
-        reads = writes.reads;
-        sized = writes.sized;
-        others = λ told. other-pages _ pid (there told) _ _ (set told);
-        kept = λ told. kept-put (chain_at (g.state new.log) pid) page held can info (at-page _ pid (there told) _ _ (set told)) infos holds wrote.is;
-        stamp = raised;
-        holds = holds;
-        stamps = ap (map (λ (info : CacheInfo). info.ts)) infos ∙ ap (λ n. n ∷ []) (writes.at ∙ sym raised.1);
-        accessed = subst (λ n. WasAccessed accesses pid n then) (takes ∙ size-alone page.infos.items info (length (message_of (Put (content_of held))).payload) infos writes.size.0) accessed;
-      }
+      let others = λ (told : g.tells). other-pages _ pid (there told) _ _ (set told) in
+      let kept = λ (told : g.tells). kept-put (chain_at (g.state new.log) pid) page held can info (at-page _ pid (there told) _ _ (set told)) infos holds wrote.is in
+      let stamps = ap (map (λ (info : CacheInfo). info.ts)) infos ∙ ap (λ n. n ∷ []) (writes.at ∙ sym raised.1) in
+      let accessed = subst (λ n. WasAccessed accesses pid n then) (takes ∙ size-alone page.infos.items info (length (message_of (Put (content_of held))).payload) infos writes.size.0) accessed in
+      assumption (others, kept, stamps, accessed, writes.cause.fault)

@@ -20,17 +20,59 @@ use Rattle.sled_node.specs.declared.node.link.Link.{Link as NodeLink}
 use Rattle.sled_pagecache.specs.Inside.PageEntry.{WasAccessed, IsTouched, IsKept, is_resident, access_size}
 use Rattle.sled_pagecache.specs.Cache.{chain_at}
 use Rattle.sled_pagecache.specs.Memory.{count_after}
-use Rattle.sled_pagecache.specs.Inside.StickyLog.{Went, IsCaused, IsOfLog}
+use Rattle.sled_pagecache.specs.Inside.StickyLog.{Went, IsCaused, IsOfLog, begun_by}
 use Rattle.sled_pagecache.specs.Table.{is_free}
 use Rattle.sled_pagecache.specs.Damage.{IsWrongAt}
 use Rattle.sled_pagecache.specs.Step.{link_update}
-use Rattle.sled_pagecache.specs.Inside.PageWrites.{IsRaised, RefusesLink}
+use Rattle.sled_pagecache.specs.Inside.PageWrites.{IsLinked, IsRaised, RefusesLink, update_of}
 use Rattle.sled_pagecache.specs.Answers.{linked_length}
 use Rattle.sled_pagecache.specs.Inside.Invariant.{IsFreeOrNode}
 use Rattle.sled_pagecache.specs.declared.pagecache.accesses.Accesses.{Accesses}
 use Rattle.sled_pagecache.specs.declared.pagecache.sticky_log.StickyLog.{StickyLog}
 use Rattle.sled_pagecache.specs.declared.pagecache.page.Kept.TheVariants as kept
 use Rattle.sled_pagecache.specs.declared.pagecache.page.Page.{Page}
+
+-- a link was applied to the node of a page that lies in memory, or that was refused
+module _ {L : Type 0} (g : Ghosts L) (old : StickyLog L) (pid : ℕ) (page : Page) (link : NodeLink) (new : StickyLog L) (accesses then : Accesses) (page_then : Page) where
+  -- what is written of it
+  abbrev pub written_update : Update
+  written_update = update_of (length page.infos.items) link page.kept
+
+  -- The node took the link, which was written, or the node was. The page was accessed.
+  pub record AppliesLink : Type 0 where
+    pub is : IsUpdate (message_of written_update) written_update
+    pub went : Went g old new (Change pid (message_of written_update) ∷ [])
+    pub fault : new.fault ≡ false
+    pub reads : (g.counts new.log).reads ≡ (g.counts old.log).reads
+    pub sized : g.tells → AllByRecursion IsSized (now effect_of_entry (g.state new.log))
+    pub others : g.tells → now effect_of_entry (g.state new.log) ≡ slice_set (now effect_of_entry (g.state old.log)) pid (chain_at (g.state new.log) pid)
+    pub kept : g.tells → IsKept (chain_at (g.state new.log) pid) page_then
+    pub stamp : IsRaised page.stamp page_then.stamp
+    pub linked : IsLinked page.kept link page_then.kept
+    pub len : length page_then.infos.items ≡ linked_length (length page.infos.items)
+    pub accessed : WasAccessed accesses pid (access_size page_then) then
+
+  -- It was refused. The page stays but that its node may be lost; at most it was accessed, and only a refusal of the log's may have
+  -- left it so.
+  pub record RefusesLinkHere (refusal : Refusal) : Type 0 where
+    pub is : refusal ≡ Io Write → IsUpdate (message_of written_update) written_update
+    pub went : let told : Result (Unit {0}) Refusal = Err refusal in Went g old new (begun_by told (Change pid (message_of written_update) ∷ []))
+    pub cause : let told : Result (Unit {0}) Refusal = Err refusal in IsCaused g old new (g.is_full old.log (length (message_of written_update).payload)) told
+    pub reads : (g.counts new.log).reads ≡ (g.counts old.log).reads
+    pub same : g.tells → new.fault ≡ false → now effect_of_entry (g.state new.log) ≡ now effect_of_entry (g.state old.log)
+    pub still : g.tells → new.fault ≡ false → IsKept (chain_at (g.state new.log) pid) page_then
+    pub refused : g.tells → RefusesLink page.stamp page.kept link refusal
+    pub stamp : page_then.stamp ≡ page.stamp
+    pub infos : page_then.infos.items ≡ page.infos.items
+    pub free : is_free page_then.kept ≡ is_free page.kept
+    pub own : IsFreeOrNode page.kept → IsFreeOrNode page_then.kept
+    pub touched : IsTouched accesses pid then
+    pub lost : (page_then.kept ≡ page.kept) ⊎ (page_then.kept ≡ kept.Away)
+    pub unasked : g.tells → IsOfLog refusal ⊎ ((page_then.kept ≡ page.kept) × (then ≡ accesses))
+
+  abbrev pub LinksPage : Result (Unit {0}) Refusal → Type 0
+  LinksPage (Ok done) = AppliesLink
+  LinksPage (Err refusal) = RefusesLinkHere refusal
 
 -- why a link was refused of which nothing was appended to the log
 abbrev pub RefusesUnappended : Chain → ℕ → NodeLink → Refusal → Type 0

@@ -17,6 +17,7 @@ ghost use Rattle.sled_log.specs.Reading.{message_of};
 ghost use Rattle.sled_node.specs.Links.{Accepts, applied};
 ghost use Rattle.sled_node.specs.Payloads.Links.{CanWriteLink};
 ghost use Rattle.sled_pagecache.specs.Inside.Appends.{Puts};
+ghost use Rattle.sled_pagecache.specs.Inside.LinkWrites.{LinksPage};
 ghost use Rattle.sled_pagecache.specs.Inside.PageEntry.{WasAccessed, IsTouched, capped_size};
 ghost use Rattle.sled_pagecache.specs.Cache.{chain_at};
 ghost use Rattle.sled_pagecache.specs.Inside.StickyLog.{Went, IsCaused, IsOfLog, begun_by};
@@ -162,43 +163,8 @@ pub(super) fn link_page<L: Log>(
     requires usable { (L.state sticky_log.old.log).usable ≡ true }
     requires there { L.tells → pid < length (now effect_of_entry (L.state sticky_log.old.log)) }
     requires kept { L.tells → IsKept (chain_at (L.state sticky_log.old.log) pid) page.old }
-    ensures stamp { OnOk result (IsRaised page.old.stamp page.new.stamp) }
-    ensures linked { OnOk result (IsLinked page.old.kept link.now page.new.kept) }
-    ensures kept { L.tells
-        → OnOk result (IsKept (chain_at (L.state sticky_log.new.log) pid) page.new) }
-    ensures len { OnOk result
-        (length page.new.infos.items ≡ linked_length (length page.old.infos.items)) }
-    ensures others { L.tells → OnOk result (now effect_of_entry (L.state sticky_log.new.log)
-        ≡ slice_set (now effect_of_entry (L.state sticky_log.old.log)) pid
-        (chain_at (L.state sticky_log.new.log) pid)) }
-    ensures left { OnErr result ((page.new.stamp ≡ page.old.stamp)
-        × (page.new.infos.items ≡ page.old.infos.items)) }
-    ensures same { L.tells → OnErr result (sticky_log.new.fault ≡ false → now effect_of_entry
-        (L.state sticky_log.new.log) ≡ now effect_of_entry (L.state sticky_log.old.log)) }
-    ensures still { L.tells → OnErr result (sticky_log.new.fault ≡ false
-        → IsKept (chain_at (L.state sticky_log.new.log) pid) page.new) }
-    ensures refused { L.tells → IfErr result (RefusesLink page.old.stamp page.old.kept link.now) }
-    ensures went { Went L.Log sticky_log.old sticky_log.new (begun_by result (Change pid
-        (message_of (update_of (length page.old.infos.items) link.now page.old.kept)) ∷ [])) }
-    ensures cause { IsCaused L.Log sticky_log.old sticky_log.new
-        (L.is_full sticky_log.old.log (length (message_of
-        (update_of (length page.old.infos.items) link.now page.old.kept)).payload)) result }
-    ensures reads { (L.counts sticky_log.new.log).reads ≡ (L.counts sticky_log.old.log).reads }
-    ensures is { OnOk result (IsUpdate (message_of (update_of (length page.old.infos.items) link.now
-        page.old.kept)) (update_of (length page.old.infos.items) link.now page.old.kept)) }
-    ensures is_begun { IsErrOf result (Io Write)
-        → IsUpdate (message_of (update_of (length page.old.infos.items) link.now page.old.kept))
-        (update_of (length page.old.infos.items) link.now page.old.kept) }
-    ensures sized { L.tells
-        → OnOk result (AllByRecursion IsSized (now effect_of_entry (L.state sticky_log.new.log))) }
-    ensures free { is_free page.new.kept ≡ is_free page.old.kept }
-    ensures own { IsFreeOrNode page.old.kept → IsFreeOrNode page.new.kept }
-    ensures accessed { OnOk result
-        (WasAccessed accesses.old pid (access_size page.new) accesses.new) }
-    ensures touched { OnErr result (IsTouched accesses.old pid accesses.new) }
-    ensures lost { OnErr result ((page.new.kept ≡ page.old.kept) ⊎ (page.new.kept ≡ kept.Away)) }
-    ensures unasked { L.tells → IfErr result (λ refusal. IsOfLog refusal
-        ⊎ ((page.new.kept ≡ page.old.kept) × (accesses.new ≡ accesses.old))) }
+    ensures { LinksPage L.Log sticky_log.old pid page.old link.now sticky_log.new accesses.old
+        accesses.new page.new result }
 {
     let Kept::Node(node) = &mut page.kept else {
         return Err(Refusal::Corruption(None));

@@ -1,7 +1,7 @@
-use Rattle.sled_pagecache.proofs.Names.{inl, inr, subst, sym, ◌+◌, ◌≡◌, [], ◌∷◌, length, ◌∙◌, refl, rules, arith, le-leb, effect_of_entry, now, Node, Put, message_of, written-update, PagesUsedUp, head_size, WasAccessed, capped_size, refused-is}
+use Rattle.sled_pagecache.proofs.Names.{inl, inr, subst, sym, ◌+◌, ◌≡◌, [], ◌∷◌, length, ◌∙◌, refl, rules, arith, le-leb, effect_of_entry, now, Node, Put, message_of, written-update, PagesUsedUp, head_size, WasAccessed, capped_size, refused-is, ap, ◌++◌, map}
 use Rattle.sled_pagecache.proofs.InMemory.{accessed-added}
 use Rattle.sled_pagecache.proofs.Sizes.{size-alone}
-use Rattle.sled_pagecache.proofs.NewPages.{only-one, added-others, new-kept, has-one-more}
+use Rattle.sled_pagecache.proofs.NewPages.{added-others, new-kept, has-one-more}
 use Rattle.sled_pagecache.proofs.Writes.{refuses-memory, refuses-unasked, refuses-written}
 use Rattle.sled_pagecache.proofs.pagecache.add.add_page.Goals as goal
 
@@ -44,7 +44,7 @@ returns g c =
     let pages = c.push_reserved-2.new.self.pages in
     let payload = length (message_of (Put (Node c.args.node))).payload in
     let takes : capped_size c.size_with.result ≡ capped_size (head_size + payload) = omega (arith, c.size_with.ensures, c.serialized_size-size.ensures) in
-    let alone : infos ≡ info ∷ [] = only-one infos c.in-Ok-with_capacity.infos.items info c.push_reserved.ensures.items c.in-Ok-with_capacity.ensures.items in
+    let alone : infos ≡ info ∷ [] = c.push_reserved.ensures.items ∙ ap (λ l. l ++ info ∷ []) c.in-Ok-with_capacity.ensures.items in
     record {
       is = c.in_ok-info.ensures.is;
       went = rw (← at) wrote.went;

@@ -6,7 +6,7 @@ use Rattle.sled_pagecache.proofs.pagecache.own.add_roots.Goals as goal
 pub returns-in_default-clause-proceeds : goal.returns-in_default-clause-proceeds
 returns-in_default-clause-proceeds g c =
     let sticky_log = c.args.sticky_log.now in
-    proceeds-not g.L.Log sticky_log (events_of_roots c.args.pages.now.pages) OutOfMemory tt (g.met.L.Log.only_now sticky_log.log) c.requires.ready c.requires.usable
+    proceeds-not g.L.Log sticky_log (g.met.L.Log.only_now sticky_log.log) c.requires.ready c.requires.usable (events_of_roots c.args.pages.now.pages) OutOfMemory tt
 
 pub returns-in_err-info-clause-proceeds : goal.returns-in_err-info-clause-proceeds
 returns-in_err-info-clause-proceeds g c =
@@ -14,12 +14,13 @@ returns-in_err-info-clause-proceeds g c =
     let writes = c.in_err-info.ensures.writes in
     rw (refused-is c.from_residual.result _ c.from_residual.ensures.1, nil_from_length c.args.pages.now.pages (search rules))
     (subst (λ roots. Proceeds g.L.Log sticky_log c.write_roots.new.sticky_log (Change 0 (message_of (Put (Roots roots))) ∷ []) (Some c.in_err-info.field-0.0)) c.default-roots.ensures
-    (proceeds-unplaced g.L.Log {T = CacheInfo} sticky_log c.write_roots.new.sticky_log _ (Err c.in_err-info.field-0.0) (g.met.L.Log.only_now sticky_log.log) c.requires.ready c.requires.usable writes.went writes.cause))
+    (proceeds-unplaced g.L.Log sticky_log (g.met.L.Log.only_now sticky_log.log) c.requires.ready c.requires.usable {T = CacheInfo} c.write_roots.new.sticky_log _ (Err c.in_err-info.field-0.0) writes.went writes.cause))
 
 pub returns-clause-table : goal.returns-clause-table
 returns-clause-table g c =
     let pages = c.args.pages.now.pages in
     let none = nil_from_length pages (search rules) in
     let infos = c.push_reserved.ensures.items ∙ ap (λ (l : List CacheInfo). l ++ c.in_ok-info.info ∷ []) c.in-Ok-Ok.ensures'.items in
-    own-table g.L.Log c.args.sticky_log.now c.write_roots.new.sticky_log 0 1 (Roots c.default-roots.result) c.in_ok-info.info c.in_ok-info.ensures pages c.reserve.new.self.pages c.push_reserved-2.new.self.pages _
-    c.requires.table c.push_reserved-2.ensures c.reserve.ensures.same (sym (ap length none)) (omega arith) refl infos (λ chain makes. makes) tt
+    rw (c.push_reserved-2.ensures, c.reserve.ensures.same)
+    (own-table g.L.Log c.args.sticky_log.now c.write_roots.new.sticky_log 0 1 (Roots c.default-roots.result) c.in_ok-info.info c.in_ok-info.ensures pages _
+    c.requires.table (sym (ap length none)) (omega arith) refl infos (λ chain makes. makes) tt)

@@ -1,5 +1,5 @@
 use Rattle.sled_pagecache.proofs.Names.{◌≡◌, ◌+◌, [], ◌∷◌, ◌++◌, List, length, take, sym, ◌∙◌, ap, subst, rules, take_all, AllZip, PageState, IsRecovered, Page, length_push}
-use Rattle.sled_pagecache.proofs.RecoveredPages.{all-loaded, all-unread, recovered-more}
+use Rattle.sled_pagecache.proofs.RecoveredPages.{all-loaded, all-unread, zip-more}
 use Rattle.sled_pagecache.proofs.pagecache.recovered.recovered_pages.Goals as goal
 
 pub loop-pid-preserved : goal.loop-pid-preserved
@@ -9,7 +9,7 @@ loop-pid-preserved c =
     let grown : c.insert.new.self.pages ≡ c.loop-pid.pages.pages ++ c.in_ok-page.page ∷ [] = search rules in
     record {
       recovered = subst (λ (l : List Page). AllZip IsRecovered (take (pid + 1) states) l) (sym grown)
-          (recovered-more states pid c.index-states-pid.result c.loop-pid.pages.pages c.in_ok-page.page c.loop-pid-test.true c.index-states-pid.is c.loop-pid.invariant.recovered c.in_ok-page.ensures);
+          (zip-more IsRecovered states c.loop-pid.pages.pages pid c.index-states-pid.result c.in_ok-page.page c.loop-pid-test.true c.loop-pid.invariant.recovered (rw c.index-states-pid.is at c.in_ok-page.ensures));
       len = ap length grown ∙ length_push c.loop-pid.pages.pages c.in_ok-page.page ∙ ap (λ n. n + 1) c.loop-pid.invariant.len;
     }
 

@@ -1,11 +1,20 @@
-use Rattle.sled_pagecache.proofs.Names.{TableView, ap, rules, OutOfMemory, events_at_start, ◌∙◌, sym, arith, IfSome_then, slice_get, past-two, IsRoots, IsUnread}
+use Rattle.sled_pagecache.proofs.Names.{TableView, ap, rules, OutOfMemory, events_at_start, by-id-all, ◌∙◌, sym, arith, IfSome_then, slice_get, past-two, IsRoots, IsUnread}
 use Rattle.sled_pagecache.proofs.Counted.{opened-counted}
 use Rattle.sled_pagecache.proofs.Proceeding.{proceeds-refused}
-use Rattle.sled_pagecache.proofs.Starting.{read-table, all-fresh, stays-closed, events-closed, opened-with}
+use Rattle.sled_pagecache.proofs.Starting.{all-kept, short-by, all-fresh, stays-closed, events-closed, opened-with}
 use Rattle.sled_pagecache.proofs.pagecache.start.complete.Goals as goal
 
 pub add_missing-requires-clause-table : goal.add_missing-requires-clause-table
-add_missing-requires-clause-table g c = read-table g.L.Log.tells _ c.args.pages.pages c.args.counter c.requires.read c.requires.fit
+add_missing-requires-clause-table g c =
+    let read = c.requires.read in
+    let pages = c.args.pages.pages in
+    record {
+      kept = λ known. all-kept _ pages (read.kept known);
+      hold = ((λ k. IfSome_then (slice_get pages k) (read.hold.0 k) (λ page found. grind arith)), by-id-all _ pages (λ k. IfSome_then (slice_get pages k) (c.requires.fit k) (λ page. short-by k page)));
+      few = read.few;
+      chains_are = read.chains_are;
+      sized = read.sized;
+    }
 
 pub add_missing-requires-clause-fresh : goal.add_missing-requires-clause-fresh
 add_missing-requires-clause-fresh g c = λ told. all-fresh _ c.args.pages.pages (c.requires.read.kept told)

@@ -1,6 +1,6 @@
-use Rattle.sled_pagecache.proofs.Names.{[], length, refl, sym, ◌∙◌, ap, arith, slice_get_within, count_after, own_among, refused-is, zip-second, other-at, past-end, IsLoaded, Roots, Counter}
+use Rattle.sled_pagecache.proofs.Names.{◌≡◌, [], length, refl, sym, ◌∙◌, ap, arith, slice_get_within, count_after, own_among, refused-is, zip-second, other-at, past-end, IsLoaded, Roots, Counter}
 use Rattle.sled_pagecache.proofs.Proceeding.{proceeds-then}
-use Rattle.sled_pagecache.proofs.ReadCounts.{own-some, own-one, own-two, read-known, read-handed, read-then}
+use Rattle.sled_pagecache.proofs.ReadCounts.{own-is, read-then}
 use Rattle.sled_pagecache.proofs.Starting.{read-page, found-first, found-both, first-fits, own-refuses}
 use Rattle.sled_pagecache.proofs.pagecache.start.read_system_pages.Goals as goal
 
@@ -46,22 +46,26 @@ returns-clause-read g c =
 
 pub returns-in_err-roots-clause-reads : goal.returns-in_err-roots-clause-reads
 returns-in_err-roots-clause-reads g c =
-    rw (refused-is c.from_residual.result _ c.from_residual.ensures.1) (read-handed g.L.Log.counts c.args.sticky_log.now.log c.read_roots.new.sticky_log.log 1 (own_among (length c.args.pages.now.pages)) c.in_err-roots.field-0.0 c.in_err-roots.field-0.0
-    (own-some (length c.args.pages.now.pages) (slice_get_within _ 0 _ c.in-Some.ensures)) c.in_err-roots.ensures.reads)
+    let n = length c.args.pages.now.pages in
+    rw (refused-is c.from_residual.result _ c.from_residual.ensures.1) (read-then g.L.Log.counts c.args.sticky_log.now.log c.args.sticky_log.now.log c.read_roots.new.sticky_log.log 0 1 (own_among n) c.in_err-roots.field-0.0 _
+    (omega (arith, own-is n, slice_get_within _ 0 _ c.in-Some.ensures)) refl c.in_err-roots.ensures.reads)
 
 pub returns-in_err-n-clause-reads : goal.returns-in_err-n-clause-reads
 returns-in_err-n-clause-reads g c =
-    rw (refused-is c.from_residual-in_err-n.result _ c.from_residual-in_err-n.ensures.1, sym (own-two (length c.args.pages.now.pages) (slice_get_within _ 1 _ (sym (other-at _ 0 1 _ (omega arith)) ∙ c.in-Some-get.ensures))))
-    (read-then g.L.Log.counts c.args.sticky_log.now.log c.read_roots.new.sticky_log.log c.read_counter.new.sticky_log.log 1 1 c.in_err-n.field-0.0 c.in_ok-roots.ensures.reads.whole c.in_err-n.ensures.reads)
+    let n = length c.args.pages.now.pages in
+    rw (refused-is c.from_residual-in_err-n.result _ c.from_residual-in_err-n.ensures.1)
+    (read-then g.L.Log.counts c.args.sticky_log.now.log c.read_roots.new.sticky_log.log c.read_counter.new.sticky_log.log 1 1 (own_among n) c.in_err-n.field-0.0 _
+    (omega (arith, own-is n, slice_get_within c.args.pages.now.pages 1 _ (sym (other-at _ 0 1 _ (omega arith)) ∙ c.in-Some-get.ensures))) c.in_ok-roots.ensures.reads.whole c.in_err-n.ensures.reads)
 
 pub returns-clause-reads : goal.returns-clause-reads
 returns-clause-reads g c =
-    let count = (g.L.Log.counts c.args.sticky_log.now.log).reads in
-    read-known g.L.Log.counts c.args.sticky_log.now.log c.read_counter.new.sticky_log.log (own_among (length c.args.pages.now.pages)) _
-    (c.in_ok-n.ensures.reads.whole ∙ ap (count_after 1) c.in_ok-roots.ensures.reads.whole ∙ ap (λ n. count_after n count) (own-two (length c.args.pages.now.pages) (slice_get_within _ 1 _ (sym (other-at _ 0 1 _ (omega arith)) ∙ c.in-Some-get.ensures))))
+    let pages = c.args.pages.now.pages in
+    let two : 2 ≡ own_among (length pages) = omega (arith, own-is (length pages), slice_get_within pages 1 _ (sym (other-at _ 0 1 _ (omega arith)) ∙ c.in-Some-get.ensures)) in
+    record { whole = c.in_ok-n.ensures.reads.whole ∙ ap (count_after 1) c.in_ok-roots.ensures.reads.whole ∙ ap (λ n. count_after n (g.L.Log.counts c.args.sticky_log.now.log).reads) two; part = tt }
 
 pub returns-in_default-get-clause-reads : goal.returns-in_default-get-clause-reads
 returns-in_default-get-clause-reads g c =
-    let count = (g.L.Log.counts c.args.sticky_log.now.log).reads in
-    read-known g.L.Log.counts c.args.sticky_log.now.log c.read_roots.new.sticky_log.log (own_among (length c.args.pages.now.pages)) _
-    (c.in_ok-roots.ensures.reads.whole ∙ ap (λ n. count_after n count) (own-one (length c.args.pages.now.pages) (slice_get_within _ 0 _ c.in-Some.ensures) (omega (arith, past-end c.args.pages.now.pages 1 (sym (other-at _ 0 1 _ (omega arith)) ∙ c.in_default-get.ensures)))))
+    let pages = c.args.pages.now.pages in
+    let few = past-end pages 1 (sym (other-at _ 0 1 _ (omega arith)) ∙ c.in_default-get.ensures) in
+    let one : 1 ≡ own_among (length pages) = omega (arith, own-is (length pages), slice_get_within pages 0 _ c.in-Some.ensures, few) in
+    record { whole = c.in_ok-roots.ensures.reads.whole ∙ ap (λ n. count_after n (g.L.Log.counts c.args.sticky_log.now.log).reads) one; part = tt }

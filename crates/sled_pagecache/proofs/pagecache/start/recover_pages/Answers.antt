@@ -7,8 +7,7 @@ returns-then-len-gt-MAX_PAGES-clause-refused g c = λ told.
     let more : 2 ^ 37 < length states = search rules in
     let chains = now effect_of_entry (g.L.Log.state c.args.sticky_log.now.log) in
     let long : length states ≡ length chains = AllZip-long IsPageState chains states (c.in_ok-states.ensures.pages told) in
-    let e : 2 ^ 37 < length chains = omega (arith, long, more) in
-    e
+    omega (arith, long, more)
 
 pub returns-clause-pages : goal.returns-clause-pages
 returns-clause-pages g c =

@@ -1,5 +1,5 @@
 use Rattle.sled_pagecache.proofs.Names.{ℕ, Token, [], Ok, Err, refl, ⊤, empty_leaf, MakesTree, PutsIndex, refused-is}
-use Rattle.sled_pagecache.proofs.TreeSteps.{ends-with, goes-on}
+use Rattle.sled_pagecache.proofs.TreeSteps.{ends-with, goes-on, same-fault}
 use Rattle.sled_pagecache.proofs.pagecache.trees.make_tree.Goals as goal
 
 pub returns-in_err-leaf-clause-goes : goal.returns-in_err-leaf-clause-goes
@@ -7,8 +7,8 @@ returns-in_err-leaf-clause-goes g c =
     let e = c.in_err-leaf.field-0.0 in
     let done = c.in_err-leaf.ensures in
     rw (refused-is c.from_residual.result _ c.from_residual.ensures.1)
-    (ends-with g.L.Log c.args.cache.now c.allocate.new.self empty_leaf e (MakesTree ⊤ c.args.name.now (Err e)) c.requires
-    (record { step = rw c.default-node.ensures at done.step; bytes = tt; faults = done.blame; covered = tt; keeps = done.keeps }) done.unread done.leaves done.bounded (Err e, [], refl, (refl, refl)))
+    (ends-with g.L.Log c.requires
+    (record { step = rw c.default-node.ensures at done.step; bytes = tt; faults = done.blame; covered = tt; keeps = done.keeps }) done.unread done.leaves done.bounded (Err e, [], refl, (refl, refl)) done.keeps (same-fault (ℕ × Token) ℕ e) done.keeps.refused)
 
 pub returns-clause-goes : goal.returns-clause-goes
 returns-clause-goes g c =

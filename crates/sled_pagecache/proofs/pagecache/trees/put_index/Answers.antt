@@ -1,5 +1,5 @@
 use Rattle.sled_pagecache.proofs.Names.{ℕ, Token, [], Ok, Err, inr, refl, ⊤, NamesRoot, PutsIndex, index_over, refused-is}
-use Rattle.sled_pagecache.proofs.TreeSteps.{ends-with, goes-on}
+use Rattle.sled_pagecache.proofs.TreeSteps.{ends-with, goes-on, same-fault}
 use Rattle.sled_pagecache.proofs.pagecache.trees.put_index.Goals as goal
 
 pub returns-in_err-root-clause-goes : goal.returns-in_err-root-clause-goes
@@ -7,8 +7,8 @@ returns-in_err-root-clause-goes g c =
     let e = c.in_err-root.field-0.0 in
     let done = c.in_err-root.ensures in
     rw (refused-is c.from_residual-in_err-root.result _ c.from_residual-in_err-root.ensures.1)
-    (ends-with g.L.Log c.args.cache.now c.allocate.new.self (index_over c.args.leaf) e (PutsIndex ⊤ c.args.name.now (Err e) c.args.leaf) c.requires.clear
-    (record { step = rw c.in_ok-index.ensures at done.step; bytes = tt; faults = done.blame; covered = tt; keeps = done.keeps }) done.unread done.leaves done.bounded (inr (Err e, [], refl, (refl, refl))))
+    (ends-with g.L.Log c.requires.clear
+    (record { step = rw c.in_ok-index.ensures at done.step; bytes = tt; faults = done.blame; covered = tt; keeps = done.keeps }) done.unread done.leaves done.bounded (inr (Err e, [], refl, (refl, refl))) done.keeps (same-fault (ℕ × Token) ℕ e) done.keeps.refused)
 
 pub returns-clause-goes : goal.returns-clause-goes
 returns-clause-goes g c =

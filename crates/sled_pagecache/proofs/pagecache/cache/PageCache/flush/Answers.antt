@@ -16,9 +16,8 @@ returns-then-self-clause-same g c = keeps-same c.args.self.now
 
 pub returns-then-self-2-clause-step : goal.returns-then-self-2-clause-step
 returns-then-self-2-clause-step g c =
-    let inside = c.self.inside in
     rw (← c.self.view_is)
-    (flush_is_too_early g.L.Log inside.next inside.config inside.recovered inside.accesses.lru inside.pages.pages inside.sticky_log c.if-self.false c.if-self-2.true (c.self.invariant.whole.consistent.beside c.if-self.false).usable (g.met.L.Log.only_now inside.sticky_log.log))
+    (flush_is_too_early g.L.Log _ _ _ _ c.self.inside.pages.pages c.self.inside.sticky_log c.if-self.false c.if-self-2.true (c.self.invariant.whole.consistent.beside c.if-self.false).usable (g.met.L.Log.only_now _))
 
 pub returns-then-self-2-clause-bounded : goal.returns-then-self-2-clause-bounded
 returns-then-self-2-clause-bounded g c = rw (← c.self.view_is) c.self.invariant.bounded
@@ -31,16 +30,14 @@ make_stable-requires-clause-closed g c = c.self.invariant.whole.consistent.opene
 
 pub returns-in_err-make_stable-clause-step : goal.returns-in_err-make_stable-clause-step
 returns-in_err-make_stable-clause-step g c =
-    let inside = c.self.inside in
     let refused = c.in_err-make_stable.ensures in
     let p = err_from_is_err_and c.from_residual.result c.from_residual.ensures.1 in
     rw (p.1, p.2 ∙ ap error_of refused.only, ← c.self.view_is)
-    (flush_is_refused g.L.Log inside.next inside.config inside.recovered inside.accesses.lru inside.pages.pages inside.sticky_log c.if-self.false c.if-self-2.false c.make_stable.new.self refused.went
+    (flush_is_refused g.L.Log _ _ _ _ c.self.inside.pages.pages c.self.inside.sticky_log c.if-self.false c.if-self-2.false c.make_stable.new.self refused.went
     (refused.cause.fault ∙ rw refused.only refl))
 
 pub returns-clause-step : goal.returns-clause-step
 returns-clause-step g c =
-    let inside = c.self.inside in
     let done = c.in_ok-make_stable.ensures in
     rw (← c.self.view_is)
-    (flushes g.L.Log inside.next inside.config inside.recovered inside.accesses.lru inside.pages.pages inside.sticky_log c.if-self.false c.if-self-2.false c.make_stable.new.self done.went _ done.cause.fault)
+    (flushes g.L.Log _ _ _ _ c.self.inside.pages.pages c.self.inside.sticky_log c.if-self.false c.if-self-2.false c.make_stable.new.self done.went _ done.cause.fault)

@@ -12,11 +12,10 @@ own_counter-requires g c = keeps-counter c.self.inside.pages.pages c.self.invari
 
 pub returns-clause-step : goal.returns-clause-step
 returns-clause-step g c =
-    let inside = c.self.inside in
     let found = c.own_counter.ensures in
     rw (← c.self.view_is)
-    (gets-idgen g.L.Log inside.next inside.config inside.recovered inside.accesses.lru inside.sticky_log inside.pages.pages inside.free.ids.keys c.self.invariant.whole.consistent c.if-self.false found.page c.own_counter.result.1 found.at found.counter
-    (g.met.L.Log.only_now inside.sticky_log.log) c.own_counter.result.0 found.token)
+    (gets-idgen g.L.Log _ _ _ _ _ _ _ c.self.invariant.whole.consistent c.if-self.false found.page c.own_counter.result.1 found.at found.counter
+    (g.met.L.Log.only_now _) c.own_counter.result.0 found.token)
 
 pub returns-clause-token : goal.returns-clause-token
 returns-clause-token g c =

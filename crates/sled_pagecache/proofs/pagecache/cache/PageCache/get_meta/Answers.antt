@@ -9,11 +9,10 @@ own_roots-requires g c = keeps-roots c.self.inside.pages.pages c.self.invariant.
 
 pub returns-clause-step : goal.returns-clause-step
 returns-clause-step g c =
-    let inside = c.self.inside in
     let view = c.in_ok-view.view in
     let found = c.in_ok-view.ensures in
     rw (← c.self.view_is)
-    (gets-meta g.L.Log inside.next inside.config inside.recovered inside.accesses.lru inside.sticky_log inside.pages.pages inside.free.ids.keys c.self.invariant.whole.consistent found.0 view.meta.now view.token.stamp found.2 (g.met.L.Log.only_now inside.sticky_log.log) view.token (ap (λ n. token n view.token.stamp) found.1))
+    (gets-meta g.L.Log _ _ _ _ _ _ _ c.self.invariant.whole.consistent found.0 view.meta.now view.token.stamp found.2 (g.met.L.Log.only_now _) view.token (ap (λ n. token n view.token.stamp) found.1))
 
 pub returns-in_err-view-clause-step : goal.returns-in_err-view-clause-step
 returns-in_err-view-clause-step g c =

@@ -14,22 +14,19 @@ returns-in_err-view-clause-step g c =
 
 pub returns-in-Some-clause-step : goal.returns-in-Some-clause-step
 returns-in-Some-clause-step g c =
-    let inside = c.self.inside in
     let view = c.in_ok-view.view in
     let found = c.in_ok-view.ensures in
-    rw (← c.self.view_is) (finds-root g.L.Log inside.next inside.config inside.recovered inside.accesses.lru inside.sticky_log inside.pages.pages inside.free.ids.keys c.self.invariant.whole.consistent found.0 view.meta.now view.token.stamp found.2 (g.met.L.Log.only_now inside.sticky_log.log) c.args.name.now c.in-Some.root (ap (root_of c.args.name.now) (sym c.meta.ensures) ∙ sym c.get_root.ensures ∙ c.in-Some.is))
+    rw (← c.self.view_is) (finds-root g.L.Log _ _ _ _ _ _ _ c.self.invariant.whole.consistent found.0 view.meta.now view.token.stamp found.2 (g.met.L.Log.only_now _) c.args.name.now c.in-Some.root (ap (root_of c.args.name.now) (sym c.meta.ensures) ∙ sym c.get_root.ensures ∙ c.in-Some.is))
 
 pub returns-in_err-copy-clause-step : goal.returns-in_err-copy-clause-step
 returns-in_err-copy-clause-step g c =
-    let inside = c.self.inside in
     let view = c.in_ok-view.view in
     let found = c.in_ok-view.ensures in
     let p = err_from_is_err_and c.from_residual-in_err-copy.result c.from_residual-in_err-copy.ensures.1 in
-    rw (p.1, p.2, ← c.self.view_is) (lacks-root g.L.Log inside.next inside.config inside.recovered inside.accesses.lru inside.sticky_log inside.pages.pages inside.free.ids.keys c.self.invariant.whole.consistent found.0 view.meta.now view.token.stamp found.2 (g.met.L.Log.only_now inside.sticky_log.log) c.args.name.now OutOfMemory (ap (root_of c.args.name.now) (sym c.meta.ensures) ∙ sym c.get_root.ensures ∙ c.in_default.is) (inr refl))
+    rw (p.1, p.2, ← c.self.view_is) (lacks-root g.L.Log _ _ _ _ _ _ _ c.self.invariant.whole.consistent found.0 view.meta.now view.token.stamp found.2 (g.met.L.Log.only_now _) c.args.name.now OutOfMemory (ap (root_of c.args.name.now) (sym c.meta.ensures) ∙ sym c.get_root.ensures ∙ c.in_default.is) (inr refl))
 
 pub returns-clause-step : goal.returns-clause-step
 returns-clause-step g c =
-    let inside = c.self.inside in
     let view = c.in_ok-view.view in
     let found = c.in_ok-view.ensures in
-    rw (← c.self.view_is) (lacks-root g.L.Log inside.next inside.config inside.recovered inside.accesses.lru inside.sticky_log inside.pages.pages inside.free.ids.keys c.self.invariant.whole.consistent found.0 view.meta.now view.token.stamp found.2 (g.met.L.Log.only_now inside.sticky_log.log) c.args.name.now (CollectionNotFound c.in_ok-copy.copy) (ap (root_of c.args.name.now) (sym c.meta.ensures) ∙ sym c.get_root.ensures ∙ c.in_default.is) (inl (ap CollectionNotFound c.in_ok-copy.ensures.ok)))
+    rw (← c.self.view_is) (lacks-root g.L.Log _ _ _ _ _ _ _ c.self.invariant.whole.consistent found.0 view.meta.now view.token.stamp found.2 (g.met.L.Log.only_now _) c.args.name.now (CollectionNotFound c.in_ok-copy.copy) (ap (root_of c.args.name.now) (sym c.meta.ensures) ∙ sym c.get_root.ensures ∙ c.in_default.is) (inl (ap CollectionNotFound c.in_ok-copy.ensures.ok)))

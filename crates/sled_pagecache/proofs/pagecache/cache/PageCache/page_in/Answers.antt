@@ -1,18 +1,15 @@
-use Rattle.sled_pagecache.proofs.Names.{on_err_weaker, None, IsOk, ◌≡◌, inr, true, is_resident, false, [], Result, Ok, refl, sym, ◌∙◌, ap, subst, arith, slice_set, Refusal, BringsIn, is_reserved, behind-own}
+use Rattle.sled_pagecache.proofs.Names.{on_err_weaker, None, IsOk, ◌≡◌, inr, true, is_resident, false, [], Result, Ok, refl, sym, ◌∙◌, ap, subst, arith, slice_set, Refusal, BringsIn, is_reserved, behind-own, length, ◌≤◌, Went-none, false≢true, is_empty, effect_of_entry, get_or_past, now, AllZip-long, IsKept, none-some, slice_get_past, resident_in, length-map, Page, same_Some, map-at}
 use Rattle.sled_pagecache.proofs.Counted.{behind-counter, other-at, whole-then}
 use Rattle.sled_pagecache.proofs.Evicting.{keeps-same, settled, settles}
 use Rattle.sled_pagecache.proofs.Settling.{brings-moved, makes-found, reads-moved}
 use Rattle.sled_pagecache.proofs.InMemory.{past-view, listed-at, finds-node, refused-stay}
-use Rattle.sled_pagecache.proofs.PagingIn.{page-kept-at, page-own-at, same-consistent, brings-none, brings-pulled, kept_out-pulled, reads-pulled, before-is}
+use Rattle.sled_pagecache.proofs.LeftPages.{leaves-went}
+use Rattle.sled_pagecache.proofs.PagingIn.{page-kept-at, page-own-at, same-consistent, brings-pulled, reads-pulled}
 use Rattle.sled_pagecache.proofs.pagecache.cache.PageCache.page_in.Goals as goal
 
 pub pull_and_access-read-requires-clause-kept : goal.pull_and_access-read-requires-clause-kept
 pull_and_access-read-requires-clause-kept g c =
-    let inside = c.self.inside in
-    let q = c.get_mut-page.result.now in
-    let behind : is_reserved c.args.pid ≡ false = sym c.is_reserved.ensures ∙ c.if-is_reserved.false in
-    let at = c.get_mut-page.ensures.page in
-    page-kept-at g.L.Log inside.sticky_log inside.sticky_log inside.pages.pages inside.free.ids.keys c.args.pid q q c.self.invariant.whole.consistent c.if-self.false behind at
+    page-kept-at g.L.Log _ c.self.inside.sticky_log _ _ c.args.pid _ c.get_mut-page.result.now c.self.invariant.whole.consistent c.if-self.false (sym c.is_reserved.ensures ∙ c.if-is_reserved.false) c.get_mut-page.ensures.page
 
 pub invariant_of-self : goal.invariant_of-self
 invariant_of-self g c =
@@ -34,13 +31,18 @@ invariant_of-self g c =
     settled c.self.invariant whole c.evict.ensures found.bounded
 
 pub returns-then-pid-count-clause-brings : goal.returns-then-pid-count-clause-brings
-returns-then-pid-count-clause-brings g c =
+returns-then-pid-count-clause-brings g c = λ ready.
     let inside = c.self.inside in
-    let ok : Result (Unit {0}) Refusal = Ok tt in
-    λ ready.
-    subst (λ cache. BringsIn g.L.Log cache c.args.pid ok cache) c.self.view_is
-    (brings-none g.L.Log inside.next inside.config inside.recovered inside.accesses.lru inside.sticky_log inside.pages.pages inside.free.ids.keys c.args.pid c.self.invariant.whole.consistent (sym c.is_reserved.ensures ∙ c.if-is_reserved.false) c.if-self.false
-    (omega (arith, c.if-pid-count.true, c.len-count.ensures.number)) (g.met.L.Log.only_now inside.sticky_log.log))
+    let table = inside.pages.pages in
+    let past : length table ≤ c.args.pid = omega (arith, c.if-pid-count.true, c.len-count.ensures.number) in
+    let beside = c.self.invariant.whole.consistent.beside c.if-self.false in
+    rw (← c.self.view_is) (record {
+      left = leaves-went g.L.Log _ _ (record { config = refl; recovered = refl }) refl refl (Went-none g.L.Log inside.sticky_log beside.usable (g.met.L.Log.only_now _)) (λ _ _. refl);
+      cause = record { fault = c.if-self.false; read = λ h. cc; write = λ h. cc; full = λ h. cc };
+      sound = λ known damaged. absurd (false≢true (sym damaged.0 ∙ ap (is_empty effect_of_entry) (get_or_past (now effect_of_entry (g.L.Log.state inside.sticky_log.log)) c.args.pid [] (omega (arith, past, AllZip-long IsKept _ table (beside.kept known))))));
+      in_memory = (sym c.is_reserved.ensures ∙ c.if-is_reserved.false, λ away. none-some false (sym (slice_get_past (resident_in table) c.args.pid (omega (arith, past, length-map table (λ (page : Page). is_resident page.kept)))) ∙ away));
+      refused = λ _. tt;
+    })
 
 pub returns-then-pid-count-clause-accesses : goal.returns-then-pid-count-clause-accesses
 returns-then-pid-count-clause-accesses g c =
@@ -72,7 +74,6 @@ returns g c =
     let at = c.get_mut-page.ensures.page in
     let done = c.pull_and_access-read.ensures in
     let after = c.pull_and_access-read.new.page in
-    let log = c.pull_and_access-read.new.sticky_log in
     let result = c.pull_and_access-read.result in
     let own = done.own (page-own-at g.L.Log _ c.self.inside.sticky_log _ _ c.args.pid q q c.self.invariant.whole.consistent c.if-self.false behind at) in
     let whole =
@@ -88,12 +89,11 @@ returns g c =
     rw (← c.self.view_is) (record {
       stuck = λ kept. absurd (let clear = c.if-self.false in cc);
       brings = λ ready. brings-moved paged_out c.args.pid result found.back (brings-pulled g.L.Log _ _ _ _ _ _ _ _ c.args.pid q after c.self.invariant.whole.consistent c.if-self.false behind at
-          result done.same done.stamp done.resident done.err there done.went done.cause done.kept own done.refused);
-      always = λ ready free resident. there (before-is g.L.Log inside.next inside.config inside.recovered inside.accesses.lru inside.sticky_log log table inside.free.ids.keys c.args.pid q after c.self.invariant.whole.consistent c.if-self.false behind at true resident);
+          result done.same done.stamp done.resident there done.went done.cause done.kept own done.refused);
+      always = λ ready free resident. there (same_Some (is_resident q.kept) true (sym (map-at (λ (page : Page). is_resident page.kept) table c.args.pid q at) ∙ resident));
       reads = reads-moved paged_out c.args.pid (reads-pulled g.L.Log _ _ _ _ _ _ _ _ c.args.pid q after c.self.invariant.whole.consistent c.if-self.false behind at
           result (λ held. ap (λ sticky_log. (g.L.Log.counts sticky_log.log).reads) (done.unread held)) done.reads (λ away. let err = done.err in let most = done.at_most in grind arith));
-      kept_out = on_err_weaker result (λ out away. paged_out.out.away c.args.pid (out away)) (kept_out-pulled g.L.Log inside.next inside.config inside.recovered inside.accesses.lru inside.sticky_log log table inside.free.ids.keys c.args.pid q after c.self.invariant.whole.consistent c.if-self.false behind at
-          result done.same done.stamp done.resident done.err there);
+      kept_out = on_err_weaker result (λ same away. (same.stay c.args.pid).resident ∙ away) found.same;
       bounded = found.bounded;
       accesses = found.accessed;
       same = found.same;

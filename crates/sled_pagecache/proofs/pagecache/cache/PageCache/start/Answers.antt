@@ -1,10 +1,9 @@
 use Rattle.sled_log.specs.LogState.{now as log_now}
-use Rattle.sled_pagecache.proofs.Names.{◌∙◌, false, [], List, None, Some, subst, sym, refl, Event, Message, effect_of_entry, Proceeds, stamps_in, resident_in, nodes_in, StickyLog, OutOfMemory, events_at_start, holds_now}
+use Rattle.sled_pagecache.proofs.Names.{ap, open_after, ◌∙◌, false, [], List, None, Some, subst, sym, refl, Event, Message, effect_of_entry, Proceeds, stamps_in, resident_in, nodes_in, StickyLog, OutOfMemory, events_at_start, holds_now}
 use Rattle.sled_pagecache.proofs.Counted.{positive}
-use Rattle.sled_pagecache.proofs.Opened.{opened-bounded}
-use Rattle.sled_pagecache.proofs.Opening.{opens-refused, opens-done, opened-again}
+use Rattle.sled_pagecache.proofs.Opening.{no-fault, opens-refused, opens-done}
 use Rattle.sled_pagecache.proofs.Proceeding.{proceeds-not}
-use Rattle.sled_pagecache.proofs.Starting.{resident-empty}
+use Rattle.sled_pagecache.proofs.Starting.{resident-empty, opened-bounded}
 use Rattle.sled_pagecache.specs.Logged.{now}
 use Rattle.sled_pagecache.proofs.pagecache.cache.PageCache.start.Goals as goal
 
@@ -15,26 +14,23 @@ returns-in_default-new-clause-opens g c =
     let chains = log_now effect_of_entry (g.L.Log.state c.args.log) in
     λ sound told held logged.
     opens-refused g.L.Log told c.args.config before held logged before OutOfMemory sound
-    (proceeds-not g.L.Log before (events_at_start chains) OutOfMemory tt (g.met.L.Log.only_now c.args.log) refl c.requires.usable) tt
+    (proceeds-not g.L.Log before (g.met.L.Log.only_now c.args.log) refl c.requires.usable (events_at_start chains) OutOfMemory tt) tt
 
 pub invariant_of-result : goal.invariant_of-result
 invariant_of-result g c =
-    let opening = c.in-Ok-open.opening in
     let done = c.in-Ok-open.ensures in
     record {
       whole = record { consistent = done.consistent; positive = positive c.args.config (sym c.fault_of.ensures ∙ c.in_default.is); counted = done.counted };
       none = refl;
-      bounded = opened-bounded g.L.Log opening.next c.args.config opening.recovered c.in-Ok.lru c.open.new.sticky_log opening.pages.pages opening.free.ids.keys done.consistent done.unread c.in-Ok.ensures.empty c.in-Ok.ensures.sound;
+      bounded = opened-bounded g.L.Log _ _ _ _ _ _ _ done.consistent done.unread c.in-Ok.ensures.empty c.in-Ok.ensures.sound;
     }
 
 pub returns-in-Ok-open-clause-opens : goal.returns-in-Ok-open-clause-opens
 returns-in-Ok-open-clause-opens g c =
-    let before : StickyLog g.row.L.Denot = record { log = c.args.log; fault = false; batch = false } in
     let done = c.in-Ok-open.ensures in
     let reaches = done.proceeds.proceeds.reaches in
     λ sound told held logged.
-    opens-done g.L.Log told c.args.config before held logged _
-    (subst (λ (l : List (Event Message)). Proceeds g.L.Log before c.open.new.sticky_log l None) (done.proceeds.are told) done.proceeds.proceeds)
+    opens-done g.L.Log told c.args.config _ held logged _ (rw (done.proceeds.are told) at done.proceeds.proceeds)
     (done.consistent.opened done.proceeds.proceeds.fault ∙ reaches.batch) reaches.batch (done.opened told (now held) (holds_now (g.L.Log.state c.args.log) held logged)) refl (done.stable told)
 
 pub returns-in-Ok-open-clause-unread : goal.returns-in-Ok-open-clause-unread
@@ -44,18 +40,17 @@ returns-in-Ok-open-clause-unread g c =
 
 pub returns-in-Ok-open-clause-bounded : goal.returns-in-Ok-open-clause-bounded
 returns-in-Ok-open-clause-bounded g c =
-    let opening = c.in-Ok-open.opening in
     let done = c.in-Ok-open.ensures in
-    opened-bounded g.L.Log opening.next c.args.config opening.recovered c.in-Ok.lru c.open.new.sticky_log opening.pages.pages opening.free.ids.keys done.consistent done.unread c.in-Ok.ensures.empty c.in-Ok.ensures.sound
+    opened-bounded g.L.Log _ _ _ _ _ _ _ done.consistent done.unread c.in-Ok.ensures.empty c.in-Ok.ensures.sound
 
 pub returns-in-Err-clause-opens : goal.returns-in-Err-clause-opens
 returns-in-Err-clause-opens g c =
-    let before : StickyLog g.row.L.Denot = record { log = c.args.log; fault = false; batch = false } in
-    λ sound told held logged. rw c.from.ensures
-    (opens-refused g.L.Log told c.args.config before held logged c.open.new.sticky_log c.in-Err.refusal sound
-    (subst (λ (l : List (Event Message)). Proceeds g.L.Log before c.open.new.sticky_log l (Some c.in-Err.refusal)) (c.in-Err.ensures.proceeds.are told) c.in-Err.ensures.proceeds.proceeds) (c.in-Err.ensures.refused told))
+    let done = c.in-Err.ensures in
+    λ sound told held logged. rw c.from.ensures (opens-refused g.L.Log told c.args.config _ held logged c.open.new.sticky_log c.in-Err.refusal sound (rw (done.proceeds.are told) at done.proceeds.proceeds) (done.refused told))
 
 pub returns-in-Err-clause-again : goal.returns-in-Err-clause-again
-returns-in-Err-clause-again g c =
-    let before : StickyLog g.row.L.Denot = record { log = c.args.log; fault = false; batch = false } in
-    rw c.from.ensures (opened-again g.L.Log before c.open.new.sticky_log c.in-Err.refusal c.in-Err.ensures.proceeds c.requires.closed)
+returns-in-Err-clause-again g c = rw c.from.ensures (λ other.
+    let began = c.in-Err.ensures.proceeds in
+    let clear = began.proceeds.fault ∙ no-fault c.in-Err.refusal other in
+    let cut = began.proceeds.reaches in
+    (cut.went.usable clear, cut.went.opened clear ∙ ap (λ b. open_after b cut.came) c.requires.closed ∙ began.marks cut.came cut.rest cut.is))
