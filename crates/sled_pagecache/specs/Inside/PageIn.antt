@@ -1,5 +1,5 @@
 -- What reading a page from the log answers, and what bringing it into memory makes of a cache.
-use Rattle.std.specs.Prelude.{◌≡◌, ℕ, [], List, ◌∷◌, ◌⊎◌, false, Some, ⊤, true, Option, None, Result, OnOk, IfErr, slice_get}
+use Rattle.std.specs.Prelude.{◌≡◌, ◌≤◌, ℕ, [], List, ◌∷◌, ◌⊎◌, false, Some, ⊤, true, length, Option, None, Result, OnOk, OnErr, IfErr, slice_get}
 use Rattle.sled_base.specs.declared.types.DiskPtr.{DiskPtr}
 use Rattle.sled_log.specs.Messages.{Entry, Chain, effect_of_entry, Message, messages_of, message}
 use Rattle.sled_log.specs.Pages.{IsRead}
@@ -18,7 +18,13 @@ use Rattle.sled_pagecache.specs.Damage.{IsFirstWrong, IsWrongAt, IsDamaged, Leav
 use Rattle.sled_base.specs.declared.types.Why.TheVariants.{ReservedId}
 use Rattle.sled_log.specs.declared.log.Log.{Ghosts}
 use Rattle.sled_pagecache.specs.Cache.{Cache, IsResident, IsAway, chain_at}
-use Rattle.sled_pagecache.specs.Inside.StickyLog.{IsCaused}
+use Rattle.sled_log.specs.LogState.{now}
+use Rattle.sled_pagecache.specs.Memory.{count_after}
+use Rattle.sled_pagecache.specs.Table.{is_free}
+use Rattle.sled_pagecache.specs.Inside.Invariant.{IsFreeOrNode}
+use Rattle.sled_pagecache.specs.Inside.PageEntry.{IsKept, is_resident}
+use Rattle.sled_pagecache.specs.Inside.StickyLog.{IsCaused, Went}
+use Rattle.sled_pagecache.specs.declared.pagecache.page.Page.{Page}
 use Rattle.sled_pagecache.specs.Step.{is_reserved}
 use Rattle.sled_pagecache.specs.State.{token}
 use Rattle.sled_pagecache.specs.declared.pagecache.sticky_log.StickyLog.{StickyLog}
@@ -72,6 +78,26 @@ RefusesPull chain (Io device) = ⊤
 RefusesPull chain (Corruption (Some pointer)) = IsWrongAt chain pointer
 -- there is no other reason, since a page that is free lies in memory
 RefusesPull chain refusal = ⊥
+
+-- A page was read where it didn't lie in memory, by one read for each of its messages, or that was refused and the page stays. Nothing
+-- was written.
+pub record PullsPage {L : Type 0} (g : Ghosts L) (old : StickyLog L) (pid : ℕ) (page : Page) (new : StickyLog L) (page_then : Page) (result : Result (Unit {0}) Refusal) : Type 0 where
+  pub went : Went g old new []
+  pub cause : IsCaused g old new ⊥ result
+  pub refused : g.tells → IfErr result (RefusesPull (chain_at (g.state old.log) pid))
+  pub same : g.tells → new.fault ≡ false → now effect_of_entry (g.state new.log) ≡ now effect_of_entry (g.state old.log)
+  pub room : (n : ℕ) → g.is_full new.log n → g.is_full old.log n
+  pub unread : is_resident page.kept ≡ true → new ≡ old
+  pub reads : is_resident page.kept ≡ false → OnOk result ((g.counts new.log).reads ≡ count_after (length page.infos.items) (g.counts old.log).reads)
+  pub at_most : OnErr result ((times : ℕ) × (times ≤ length page.infos.items) × ((g.counts new.log).reads ≡ count_after times (g.counts old.log).reads))
+  pub kept : g.tells → IsKept (chain_at (g.state old.log) pid) page_then
+  pub stamp : page_then.stamp ≡ page.stamp
+  pub infos : page_then.infos.items ≡ page.infos.items
+  pub free : is_free page_then.kept ≡ is_free page.kept
+  pub own : IsFreeOrNode page.kept → IsFreeOrNode page_then.kept
+  pub resident : OnOk result (is_resident page_then.kept ≡ true)
+  pub stays : is_resident page.kept ≡ true → page_then.kept ≡ page.kept
+  pub err : OnErr result (page_then.kept ≡ page.kept)
 
 -- the log of a cache, and the write fault that is kept of it
 abbrev pub sticky_log_of : {L : Type 0} → Cache L → StickyLog L

@@ -11,7 +11,7 @@ ghost use Rattle.sled_pagecache.specs.Inside.StickyLog.{Went, IsCaused, IsOfLog}
 ghost use Rattle.sled_pagecache.specs.Inside.LinkWrites.{PutsLink};
 ghost use Rattle.sled_pagecache.specs.Inside.PageEntry.{IsKept, is_resident, access_size};
 ghost use Rattle.sled_pagecache.specs.Table.{is_free};
-ghost use Rattle.sled_pagecache.specs.Inside.PageIn.{RefusesPull};
+ghost use Rattle.sled_pagecache.specs.Inside.PageIn.{PullsPage};
 ghost use Rattle.sled_pagecache.specs.Inside.PageWrites.{RefusesLink};
 ghost use Rattle.sled_pagecache.specs.Inside.Invariant.{IsFreeOrNode};
 ghost use Rattle.sled_pagecache.specs.Inside.RecentUse.{IsListedAt, AccessesNode};
@@ -38,28 +38,8 @@ pub(super) fn pull<L: Log>(
     requires ready { sticky_log.old.fault ≡ false }
     requires usable { (L.state sticky_log.old.log).usable ≡ true }
     requires kept { L.tells → IsKept (chain_at (L.state sticky_log.old.log) pid) page.old }
-    ensures kept { L.tells → IsKept (chain_at (L.state sticky_log.old.log) pid) page.new }
-    ensures same { L.tells → sticky_log.new.fault ≡ false → now effect_of_entry
-        (L.state sticky_log.new.log) ≡ now effect_of_entry (L.state sticky_log.old.log) }
-    ensures stamp { page.new.stamp ≡ page.old.stamp }
-    ensures infos { page.new.infos.items ≡ page.old.infos.items }
-    ensures resident { OnOk result (is_resident page.new.kept ≡ true) }
-    ensures err { OnErr result (page.new.kept ≡ page.old.kept) }
-    ensures free { is_free page.new.kept ≡ is_free page.old.kept }
-    ensures own { IsFreeOrNode page.old.kept → IsFreeOrNode page.new.kept }
+    ensures pulled { PullsPage L.Log sticky_log.old pid page.old sticky_log.new page.new result }
     ensures is_there { is_resident page.old.kept ≡ true → IsOk result }
-    ensures stays { is_resident page.old.kept ≡ true → page.new.kept ≡ page.old.kept }
-    ensures unread { is_resident page.old.kept ≡ true → sticky_log.new ≡ sticky_log.old }
-    ensures went { Went L.Log sticky_log.old sticky_log.new [] }
-    ensures cause { IsCaused L.Log sticky_log.old sticky_log.new ⊥ result }
-    ensures room { (n : ℕ) → L.is_full sticky_log.new.log n → L.is_full sticky_log.old.log n }
-    ensures reads { is_resident page.old.kept ≡ false
-        → OnOk result ((L.counts sticky_log.new.log).reads
-        ≡ count_after (length page.old.infos.items) (L.counts sticky_log.old.log).reads) }
-    ensures at_most { OnErr result ((times : ℕ) × (times ≤ length page.old.infos.items) × ((L.counts
-        sticky_log.new.log).reads ≡ count_after times (L.counts sticky_log.old.log).reads)) }
-    ensures refused { L.tells
-        → IfErr result (RefusesPull (chain_at (L.state sticky_log.old.log) pid)) }
 {
     if let Kept::Away = page.kept {
         let found = read_chain(alloc, sticky_log, pid, &page.infos)?;
@@ -80,29 +60,10 @@ pub(super) fn pull_and_access<L: Log>(
     requires ready { sticky_log.old.fault ≡ false }
     requires usable { (L.state sticky_log.old.log).usable ≡ true }
     requires kept { L.tells → IsKept (chain_at (L.state sticky_log.old.log) pid) page.old }
-    ensures kept { L.tells → IsKept (chain_at (L.state sticky_log.old.log) pid) page.new }
-    ensures same { L.tells → sticky_log.new.fault ≡ false → now effect_of_entry
-        (L.state sticky_log.new.log) ≡ now effect_of_entry (L.state sticky_log.old.log) }
-    ensures stamp { page.new.stamp ≡ page.old.stamp }
-    ensures infos { page.new.infos.items ≡ page.old.infos.items }
-    ensures resident { OnOk result (is_resident page.new.kept ≡ true) }
-    ensures err { OnErr result (page.new.kept ≡ page.old.kept) }
+    ensures pulled { PullsPage L.Log sticky_log.old pid page.old sticky_log.new page.new result }
     ensures left { OnErr result (accesses.new ≡ accesses.old) }
-    ensures free { is_free page.new.kept ≡ is_free page.old.kept }
-    ensures own { IsFreeOrNode page.old.kept → IsFreeOrNode page.new.kept }
     ensures is_there { is_resident page.old.kept ≡ true → IsListedAt pid page.old accesses.old.lru
         → IsOk result }
-    ensures stays { is_resident page.old.kept ≡ true → page.new.kept ≡ page.old.kept }
-    ensures unread { is_resident page.old.kept ≡ true → sticky_log.new ≡ sticky_log.old }
-    ensures went { Went L.Log sticky_log.old sticky_log.new [] }
-    ensures cause { IsCaused L.Log sticky_log.old sticky_log.new ⊥ result }
-    ensures reads { is_resident page.old.kept ≡ false
-        → OnOk result ((L.counts sticky_log.new.log).reads
-        ≡ count_after (length page.old.infos.items) (L.counts sticky_log.old.log).reads) }
-    ensures at_most { OnErr result ((times : ℕ) × (times ≤ length page.old.infos.items) × ((L.counts
-        sticky_log.new.log).reads ≡ count_after times (L.counts sticky_log.old.log).reads)) }
-    ensures refused { L.tells
-        → IfErr result (RefusesPull (chain_at (L.state sticky_log.old.log) pid)) }
     ensures accessed { OnOk result (AccessesNode accesses.old pid page.new accesses.new) }
 {
     let was_away = matches!(page.kept, Kept::Away);

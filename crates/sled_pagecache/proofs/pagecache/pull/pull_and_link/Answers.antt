@@ -6,7 +6,7 @@ use Rattle.sled_pagecache.proofs.pagecache.pull.pull_and_link.Goals as goal
 
 pub returns-in-Ok : goal.returns-in-Ok
 returns-in-Ok g c =
-    let read = c.in_ok-pull.ensures in
+    let read = c.in_ok-pull.ensures.pulled in
     let done = c.in-Ok.ensures in
     let taken = taken g.L.Log c.args.sticky_log.now c.pull.new.sticky_log c.link_page.new.sticky_log c.args.pid c.args.page.now c.pull.new.page c.link_page.new.page c.args.link.now read.went read.cause.fault read.same read.kept read.stamp read.infos read.resident c.pull.new.page.kept (λ told. (read.kept told).holds) done.linked done.is done.went done.stamp done.kept done.len done.others done.sized in
     grind arith
@@ -18,7 +18,7 @@ returns-in_err-pull g c = rw (refused-is c.from_residual.result _ c.from_residua
 -- the link was refused: what was read goes
 pub returns-then-was_away : goal.returns-then-was_away
 returns-then-was_away g c =
-    let read = c.in_ok-pull.ensures in
+    let read = c.in_ok-pull.ensures.pulled in
     let done = c.in-Err.ensures in
     let result : Result (Unit {0}) Refusal = Err c.in-Err.refusal in
     let refused = λ (told : g.L.Log.tells). refused g.L.Log c.args.sticky_log.now c.pull.new.sticky_log c.link_page.new.sticky_log c.args.pid c.args.page.now c.pull.new.page c.link_page.new.page c.args.link.now read.went read.cause.fault read.same read.kept read.stamp read.infos read.resident c.pull.new.page.kept c.in-Err.refusal (read.kept told).holds read.resident (read.free ∙ c.requires.full) (read.own c.requires.own) (done.refused told) done.went done.is in
@@ -29,7 +29,7 @@ returns-then-was_away g c =
 
 pub returns-else-was_away : goal.returns-else-was_away
 returns-else-was_away g c =
-    let read = c.in_ok-pull.ensures in
+    let read = c.in_ok-pull.ensures.pulled in
     let done = c.in-Err.ensures in
     let result : Result (Unit {0}) Refusal = Err c.in-Err.refusal in
     let refused = λ (told : g.L.Log.tells). refused g.L.Log c.args.sticky_log.now c.pull.new.sticky_log c.link_page.new.sticky_log c.args.pid c.args.page.now c.pull.new.page c.link_page.new.page c.args.link.now read.went read.cause.fault read.same read.kept read.stamp read.infos read.resident c.pull.new.page.kept c.in-Err.refusal (read.kept told).holds read.resident (read.free ∙ c.requires.full) (read.own c.requires.own) (done.refused told) done.went done.is in

@@ -19,15 +19,15 @@ invariant_of-self g c =
     let done = c.pull_and_access-read.ensures in
     let after = c.pull_and_access-read.new.page in
     let result = c.pull_and_access-read.result in
-    let own = done.own (page-own-at g.L.Log _ c.self.inside.sticky_log _ _ c.args.pid q q c.self.invariant.whole.consistent c.if-self.false behind at) in
+    let own = done.pulled.own (page-own-at g.L.Log _ c.self.inside.sticky_log _ _ c.args.pid q q c.self.invariant.whole.consistent c.if-self.false behind at) in
     let whole =
-    whole-then g.L.Log c.self.invariant.whole c.if-self.false (λ told clear. ([], done.went, tt)) (other-at c.self.inside.pages.pages c.args.pid after (behind-counter c.args.pid (behind-own c.args.pid behind)))
+    whole-then g.L.Log c.self.invariant.whole c.if-self.false (λ told clear. ([], done.pulled.went, tt)) (other-at c.self.inside.pages.pages c.args.pid after (behind-counter c.args.pid (behind-own c.args.pid behind)))
     (same-consistent g.L.Log _ _ _ _ c.args.pid q after c.self.invariant.whole.consistent c.if-self.false behind at
-    [] done.went refl done.same (λ known _. done.kept known) done.infos done.free own) in
+    [] done.pulled.went refl done.pulled.same (λ known _. done.pulled.kept known) done.pulled.infos done.pulled.free own) in
     let paged_out = settles c.self.invariant whole c.evict.ensures in
     let found = makes-found paged_out c.args.pid result (λ kept. absurd (let clear = c.if-self.false in cc))
-    (finds-node _ _ _ _ _ _ _ c.args.pid q after at c.self.inside.accesses c.pull_and_access-read.new.accesses result done.accessed done.resident own done.free done.stays done.infos)
-    (refused-stay _ _ _ _ _ _ _ c.args.pid q after at c.self.inside.accesses c.pull_and_access-read.new.accesses result done.err done.infos) done.left in
+    (finds-node _ _ _ _ _ _ _ c.args.pid q after at c.self.inside.accesses c.pull_and_access-read.new.accesses result done.accessed done.pulled.resident own done.pulled.free done.pulled.stays done.pulled.infos)
+    (refused-stay _ _ _ _ _ _ _ c.args.pid q after at c.self.inside.accesses c.pull_and_access-read.new.accesses result done.pulled.err done.pulled.infos) done.left in
     settled c.self.invariant whole c.evict.ensures found.bounded
 
 pub returns-then-pid-count-clause-brings : goal.returns-then-pid-count-clause-brings
@@ -75,24 +75,24 @@ returns g c =
     let done = c.pull_and_access-read.ensures in
     let after = c.pull_and_access-read.new.page in
     let result = c.pull_and_access-read.result in
-    let own = done.own (page-own-at g.L.Log _ c.self.inside.sticky_log _ _ c.args.pid q q c.self.invariant.whole.consistent c.if-self.false behind at) in
+    let own = done.pulled.own (page-own-at g.L.Log _ c.self.inside.sticky_log _ _ c.args.pid q q c.self.invariant.whole.consistent c.if-self.false behind at) in
     let whole =
-    whole-then g.L.Log c.self.invariant.whole c.if-self.false (λ told clear. ([], done.went, tt)) (other-at table c.args.pid after (behind-counter c.args.pid (behind-own c.args.pid behind)))
+    whole-then g.L.Log c.self.invariant.whole c.if-self.false (λ told clear. ([], done.pulled.went, tt)) (other-at table c.args.pid after (behind-counter c.args.pid (behind-own c.args.pid behind)))
     (same-consistent g.L.Log _ _ _ _ c.args.pid q after c.self.invariant.whole.consistent c.if-self.false behind at
-    [] done.went refl done.same (λ known _. done.kept known) done.infos done.free own) in
+    [] done.pulled.went refl done.pulled.same (λ known _. done.pulled.kept known) done.pulled.infos done.pulled.free own) in
     let paged_out = settles c.self.invariant whole c.evict.ensures in
     let found = makes-found paged_out c.args.pid result (λ kept. absurd (let clear = c.if-self.false in cc))
-    (finds-node _ _ _ _ _ _ _ c.args.pid q after at c.self.inside.accesses c.pull_and_access-read.new.accesses result done.accessed done.resident own done.free done.stays done.infos)
-    (refused-stay _ _ _ _ _ _ _ c.args.pid q after at c.self.inside.accesses c.pull_and_access-read.new.accesses result done.err done.infos) done.left in
+    (finds-node _ _ _ _ _ _ _ c.args.pid q after at c.self.inside.accesses c.pull_and_access-read.new.accesses result done.accessed done.pulled.resident own done.pulled.free done.pulled.stays done.pulled.infos)
+    (refused-stay _ _ _ _ _ _ _ c.args.pid q after at c.self.inside.accesses c.pull_and_access-read.new.accesses result done.pulled.err done.pulled.infos) done.left in
     let listed = listed-at inside.next inside.config inside.recovered inside.accesses.lru inside.sticky_log inside.sticky_log table c.args.pid q q at inside.accesses inside.accesses c.self.invariant.bounded.listed in
     let there : is_resident q.kept ≡ true → IsOk result = λ held. done.is_there held listed in
     rw (← c.self.view_is) (record {
       stuck = λ kept. absurd (let clear = c.if-self.false in cc);
       brings = λ ready. brings-moved paged_out c.args.pid result found.back (brings-pulled g.L.Log _ _ _ _ _ _ _ _ c.args.pid q after c.self.invariant.whole.consistent c.if-self.false behind at
-          result done.same done.stamp done.resident there done.went done.cause done.kept own done.refused);
+          result done.pulled.same done.pulled.stamp done.pulled.resident there done.pulled.went done.pulled.cause done.pulled.kept own done.pulled.refused);
       always = λ ready free resident. there (same_Some (is_resident q.kept) true (sym (map-at (λ (page : Page). is_resident page.kept) table c.args.pid q at) ∙ resident));
       reads = reads-moved paged_out c.args.pid (reads-pulled g.L.Log _ _ _ _ _ _ _ _ c.args.pid q after c.self.invariant.whole.consistent c.if-self.false behind at
-          result (λ held. ap (λ sticky_log. (g.L.Log.counts sticky_log.log).reads) (done.unread held)) done.reads (λ away. let err = done.err in let most = done.at_most in grind arith));
+          result (λ held. ap (λ sticky_log. (g.L.Log.counts sticky_log.log).reads) (done.pulled.unread held)) done.pulled.reads (λ away. let err = done.pulled.err in let most = done.pulled.at_most in grind arith));
       kept_out = on_err_weaker result (λ same away. (same.stay c.args.pid).resident ∙ away) found.same;
       bounded = found.bounded;
       accesses = found.accessed;
