@@ -1,9 +1,8 @@
 -- Allocating a page, as a step of the machine.
-use Rattle.sled_pagecache.proofs.Names.{Recency, ◌≡◌, ◌≢◌, ◌⊎◌, inl, inr, ⊎_elim, ◌≤◌, ◌<◌, ◌+◌, ◌-◌, ◌^◌, ℕ, zero, suc, Bool, true, false, cond, List, [], ◌∷◌, ◌++◌, length, take, Option, Some, None, Result, Ok, Err, slice_get, slice_set, refl, sym, ◌∙◌, ap, subst, arith, eq-eqb, ne_eqb, false≢true, none-some, same_Some, slice_get-get_or, slice_get_within, Error, Unsupported, Refusal, PagesUsedUp, StampUsedUp, Event, Update, Node, Put, Change, IsUpdate, message_of, Ghosts, WholeNode, RefusesPage, Cache, chain_length, HasNoRoom, StepOver, Represents, Steps, Went, IsCaused, begun_by, Logged, free_ids, page, State, with_page, free_token, later_token, greatest_free, Does, Outcome, outcome, no_change, Allocates, RefusesSwap, IsRoots, IsCounter, AreOwn, IsBeside, IsConsistent, Token, token, Allocated, Allocate, Config, StickyLog, Kept, error_by, StampedPage, KeptPage, at-id, view, length-append, nil_from_length, take_more, past-end, get_or_from_slice_get, take_all, AddsPage, ReusesPage}
+use Rattle.sled_pagecache.proofs.Names.{Recency, ◌≡◌, ◌≢◌, inl, inr, ◌≤◌, ◌+◌, ◌-◌, ◌^◌, ℕ, suc, Bool, true, false, cond, List, [], ◌∷◌, ◌++◌, length, take, Option, Some, None, Result, Ok, Err, slice_get, slice_set, refl, sym, ◌∙◌, ap, arith, eq-eqb, ne_eqb, slice_get_within, Error, Unsupported, Refusal, PagesUsedUp, StampUsedUp, Node, Put, Change, IsUpdate, message_of, Ghosts, WholeNode, RefusesPage, Cache, chain_length, HasNoRoom, StepOver, Represents, Steps, Went, IsCaused, begun_by, Logged, free_ids, page, State, with_page, free_token, later_token, greatest_free, Outcome, outcome, no_change, RefusesSwap, AreOwn, IsConsistent, Token, token, Allocated, Allocate, Config, StickyLog, error_by, StampedPage, KeptPage, at-id, view, length-append, nil_from_length, take_more, past-end, get_or_from_slice_get, take_all, AddsPage, ReusesPage}
 use Rattle.sled_pagecache.proofs.Putting.{unless-clear, MayPut, may-set, may-add, nothing-appended, put-refused, put-set, put-added}
 use Rattle.sled_pagecache.proofs.Standing.{AreKnown, known-length}
 use Rattle.sled_pagecache.specs.Table as shown
-use Rattle.sled_pagecache.specs.declared.pagecache.page.Kept.TheVariants as held
 
 -- ---- the last of a list
 
@@ -19,8 +18,8 @@ nil_behind b x xs ys none = grind arith
 pub none-free : (first : ℕ) (table : List KeptPage) → free_ids first table ≡ [] → (pages : List StampedPage) → AreKnown pages table → greatest_free first pages ≡ None
 none-free first [] none [] known = refl
 none-free first (q ∷ table) none (p ∷ pages) known =
-    let rest = none-free (first + 1) table (nil_behind (shown.is_free q.kept) first _ _ none).1 pages known.1 in
-    ap (λ o. later_token o (free_token first p)) rest ∙ ap (λ b. cond b (Some (token first p.stamp)) None) (known.0.free ∙ (nil_behind (shown.is_free q.kept) first _ _ none).0)
+    let full = nil_behind (shown.is_free q.kept) first _ _ none in
+    rw (none-free (first + 1) table full.1 pages known.1, known.0.free, full.0)
 none-free first table none pages known = absurd known
 
 -- the last free id, and its page
@@ -33,49 +32,39 @@ pub record IsLastFree (first : ℕ) (table : List KeptPage) (before : List ℕ) 
   pub taken : (other : KeptPage) → shown.is_free other.kept ≡ false → free_ids first (slice_set table place other) ≡ before
   pub greatest : (pages : List StampedPage) → AreKnown pages table → greatest_free first pages ≡ Some (token pid page.stamp)
 
-module _ (first : ℕ) (q : KeptPage) (table : List KeptPage) (pid : ℕ) where
-  -- one of the others is the last
-  behind : (b : Bool) (before : List ℕ) → shown.is_free q.kept ≡ b → IsLastFree (first + 1) table before pid → IsLastFree first (q ∷ table) (cond b (first ∷ before) before) pid
-  behind b before is_b rest = record {
-    place = suc rest.place;
-    is = let is = rest.is in omega arith;
-    page = rest.page;
-    at = rest.at;
-    free = rest.free;
-    taken = λ other no.
-        let others = free_ids (first + 1) (slice_set table rest.place other) in
-        ap (λ b. cond b (first ∷ others) others) is_b ∙ ap (λ (l : List ℕ). cond b (first ∷ l) l) (rest.taken other no);
-    greatest = elim [ [] ↦ λ known. absurd known | p ∷ pages ↦ λ known. ap (λ o. later_token o (free_token first p)) (rest.greatest pages known.1) ];
-  }
-
-  -- this one is
-  here : first ≡ pid → shown.is_free q.kept ≡ true → free_ids (first + 1) table ≡ [] → IsLastFree first (q ∷ table) [] pid
-  here same free none = record {
-    place = 0;
-    is = omega arith;
-    page = q;
-    at = refl;
-    free = free;
-    taken = λ other no. ap (λ b. cond b (first ∷ free_ids (first + 1) table) (free_ids (first + 1) table)) no ∙ none;
-    greatest = elim [
-      | [] ↦ λ known. absurd known
-      | p ∷ pages ↦ λ known.
-          ap (λ o. later_token o (free_token first p)) (none-free (first + 1) table none pages known.1)
-          ∙ ap (λ b. cond b (Some (token first p.stamp)) None) (known.0.free ∙ free)
-          ∙ ap (λ n. Some (token n p.stamp)) same
-          ∙ ap (λ n. Some (token pid n)) known.0.stamp
-    ];
-  }
-
 pub last-free : (first : ℕ) (table : List KeptPage) (before : List ℕ) (pid : ℕ) → free_ids first table ≡ before ++ pid ∷ [] → IsLastFree first table before pid
 last-free first [] before pid is = absurd (omega (arith, length-append before (pid ∷ []), ap length is))
 last-free first (q ∷ table) before pid is = by (shown.is_free q.kept) refl before is (λ rest. last-free (first + 1) table rest pid)
   where
+    -- one of the others is the last
+    behind : (b : Bool) (rest before : List ℕ) → shown.is_free q.kept ≡ b → cond b (first ∷ rest) rest ≡ before → IsLastFree (first + 1) table rest pid → IsLastFree first (q ∷ table) before pid
+    behind b rest before is_b same last = record {
+      place = suc last.place;
+      is = let is = last.is in omega arith;
+      page = last.page;
+      at = last.at;
+      free = last.free;
+      taken = λ other no. let others = last.taken other no in rw (is_b, others) same;
+      greatest = elim [ [] ↦ λ known. absurd known | p ∷ pages ↦ λ known. ap (λ o. later_token o (free_token first p)) (last.greatest pages known.1) ];
+    }
+
     by : (b : Bool) → shown.is_free q.kept ≡ b → (before : List ℕ) → cond b (first ∷ free_ids (first + 1) table) (free_ids (first + 1) table) ≡ before ++ pid ∷ []
         → ((rest : List ℕ) → free_ids (first + 1) table ≡ rest ++ pid ∷ [] → IsLastFree (first + 1) table rest pid) → IsLastFree first (q ∷ table) before pid
-    by false full before is others = behind first q table pid false before full (others before is)
-    by true free [] is others = here first q table pid (cc) free (cc)
-    by true free (n ∷ before) is others = subst (λ (m : ℕ). IsLastFree first (q ∷ table) (m ∷ before) pid) (cc) (behind first q table pid true before free (others before (cc)))
+    by false full before is others = behind false before before full refl (others before is)
+    by true free (n ∷ before) is others = behind true before (n ∷ before) free (cc) (others before (cc))
+    -- this one is
+    by true free [] is others =
+        let same : first ≡ pid = cc in
+        let none : free_ids (first + 1) table ≡ [] = cc in
+        record {
+          place = 0;
+          is = omega arith;
+          page = q;
+          at = refl;
+          free = free;
+          taken = λ other no. rw no none;
+          greatest = elim [ [] ↦ λ known. absurd known | p ∷ pages ↦ λ known. rw (none-free (first + 1) table none pages known.1, known.0.free, free, known.0.stamp, same) ];
+        }
 
 pub last-at : (table : List KeptPage) (front : List ℕ) (pid : ℕ) (last : IsLastFree 0 table front pid) → slice_get table pid ≡ Some last.page
 last-at table front pid last = ap (slice_get table) (let is = last.is in let place : pid ≡ last.place = omega arith in place) ∙ last.at
@@ -105,32 +94,23 @@ module _ {L : Type 0} (g : Ghosts L) (next : ℕ) (config : Config) (recovered :
   abbrev cache : StickyLog L → List KeptPage → Cache L
   cache sticky_log now = view next config recovered lru sticky_log now
 
-  abbrev lengths : ℕ → ℕ
-  lengths = chain_length g.state (cache before table)
-
-  abbrev no_room : Event Update → Type 0
-  no_room = HasNoRoom g before.log
-
-  beside : IsBeside g.tells g.state before.log table
-  beside = kept.beside ready
-
   -- no page is free
   module _ (none : free ≡ []) where
-    adds : (s : State) → s.fault ≡ false → AreKnown s.pages table → (answer : Result (ℕ × Token) Error) (out : Outcome) → AddsPage lengths no_room s node answer out → StepOver g (cache before table) s (Allocate node) (Allocated answer) out
+    adds : (s : State) → s.fault ≡ false → AreKnown s.pages table → (answer : Result (ℕ × Token) Error) (out : Outcome) → AddsPage (chain_length g.state (cache before table)) (HasNoRoom g before.log) s node answer out → StepOver g (cache before table) s (Allocate node) (Allocated answer) out
     adds s clear are answer out h = unless-clear s answer out _ clear (rw (none-free 0 table (sym kept.free ∙ none) s.pages are) h)
 
     may-new : length table ≢ 2 ^ 37 → (held : Logged) (s : State) → Represents g (cache before table) held s → s.fault ≡ false → MayPut g before.log held (length table) (Node node)
-    may-new room held s is clear = may-add g next config recovered lru before table ready beside held s is clear node kept.both (let few = kept.few in omega (arith, few, room))
+    may-new room held s is clear = may-add g next config recovered lru before table ready (kept.beside ready) held s is clear node kept.both (let few = kept.few in omega (arith, few, room))
 
     pub adds-refused : pages ≡ table → (refusal : Refusal) → RefusesPage (length table) refusal
         → (let told : Result (Unit {0}) Refusal = Err refusal in Went g before after (begun_by told (Change (length table) (message_of (Put (Node node))) ∷ [])))
         → (let told : Result (Unit {0}) Refusal = Err refusal in IsCaused g before after (g.is_full before.log (length (message_of (Put (Node node))).payload)) told)
         → Steps g (cache before table) (Allocate node) (Allocated (Err (error_by refusal))) (cache after pages)
     adds-refused back refusal (inl (many, is)) =
-        rw is (λ went cause. nothing-appended g next config recovered lru before table ready beside after (Allocate node) pages back (Allocated (Err (Unsupported PagesUsedUp))) went cause.fault
+        rw is (λ went cause. nothing-appended g next config recovered lru before table ready (kept.beside ready) after (Allocate node) pages back (Allocated (Err (Unsupported PagesUsedUp))) went cause.fault
         (λ held s _ clear are. adds s clear are (Err (Unsupported PagesUsedUp)) (no_change s) (rw (eq-eqb (length s.pages) (2 ^ 37) (known-length s.pages table are ∙ many)) (refl, refl))))
     adds-refused back refusal (inr (room, of)) =
-        put-refused g next config recovered lru before table ready beside after (Allocate node) (length table) (Node node) reads (may-new room) (Unit {0}) pages back (λ e. Allocated (Err e))
+        put-refused g next config recovered lru before table ready (kept.beside ready) after (Allocate node) (length table) (Node node) reads (may-new room) (Unit {0}) pages back (λ e. Allocated (Err e))
         (λ held s _ clear are e out fails. adds s clear are (Err e) out (rw (known-length s.pages table are, ne_eqb (length table) (2 ^ 37) room) fails))
         refusal of
 
@@ -138,8 +118,7 @@ module _ {L : Type 0} (g : Ghosts L) (next : ℕ) (config : Config) (recovered :
         → (added : KeptPage) → added.stamp ≡ 1 → pages ≡ table ++ added ∷ [] → (pid : ℕ) → pid ≡ length table → (made : Token) → made ≡ token pid 1
         → Steps g (cache before table) (Allocate node) (Allocated (Ok (pid, made))) (cache after pages)
     adds-done room went clear_after added first behind pid last made is =
-        subst (λ (l : List KeptPage). Steps g (cache before table) (Allocate node) (Allocated (Ok (pid, made))) (cache after l)) (sym behind)
-        (put-added g next config recovered lru before table ready beside after (Allocate node) (length table) (Node node) reads (may-new room) went clear_after (Allocated (Ok (pid, made))) 1 added first refl
+        rw behind (put-added g next config recovered lru before table ready (kept.beside ready) after (Allocate node) (length table) (Node node) reads (may-new room) went clear_after (Allocated (Ok (pid, made))) 1 added first refl
         (λ held s _ clear are.
         adds s clear are (Ok (pid, made)) (outcome (record s { pages = s.pages ++ page 1 (Node node) ∷ [] }) (Change (length table) (Put (Node node)) ∷ []))
         (rw (known-length s.pages table are, ne_eqb (length table) (2 ^ 37) room) (refl, (last, is ∙ ap (λ n. token n 1) last, refl)))))
@@ -148,9 +127,9 @@ module _ {L : Type 0} (g : Ghosts L) (next : ℕ) (config : Config) (recovered :
   module _ (front : List ℕ) (pid : ℕ) (last : IsLastFree 0 table front pid) where
     may-reuse : (held : Logged) (s : State) → Represents g (cache before table) held s → s.fault ≡ false → MayPut g before.log held pid (Node node)
     may-reuse held s is clear =
-        may-set g next config recovered lru before table ready beside held s is clear pid (Node node) tt (free-from table pid last.page kept.own (last-at table front pid last) last.free) (slice_get_within table pid last.page (last-at table front pid last))
+        may-set g next config recovered lru before table ready (kept.beside ready) held s is clear pid (Node node) tt (free-from table pid last.page kept.own (last-at table front pid last) last.free) (slice_get_within table pid last.page (last-at table front pid last))
 
-    reuses : (s : State) → s.fault ≡ false → AreKnown s.pages table → (answer : Result (ℕ × Token) Error) (out : Outcome) → ReusesPage lengths no_room s node (token pid last.page.stamp) answer out → StepOver g (cache before table) s (Allocate node) (Allocated answer) out
+    reuses : (s : State) → s.fault ≡ false → AreKnown s.pages table → (answer : Result (ℕ × Token) Error) (out : Outcome) → ReusesPage (chain_length g.state (cache before table)) (HasNoRoom g before.log) s node (token pid last.page.stamp) answer out → StepOver g (cache before table) s (Allocate node) (Allocated answer) out
     reuses s clear are answer out h = unless-clear s answer out _ clear (rw (last.greatest s.pages are) h)
 
     pub reuses-refused : pages ≡ table → (refusal : Refusal) → RefusesSwap last.page.stamp refusal
@@ -158,10 +137,10 @@ module _ {L : Type 0} (g : Ghosts L) (next : ℕ) (config : Config) (recovered :
         → (let told : Result (Unit {0}) Refusal = Err refusal in IsCaused g before after (g.is_full before.log (length (message_of (Put (Node node))).payload)) told)
         → Steps g (cache before table) (Allocate node) (Allocated (Err (error_by refusal))) (cache after pages)
     reuses-refused back refusal (inl (greatest, is)) =
-        rw is (λ went cause. nothing-appended g next config recovered lru before table ready beside after (Allocate node) pages back (Allocated (Err (Unsupported StampUsedUp))) went cause.fault
+        rw is (λ went cause. nothing-appended g next config recovered lru before table ready (kept.beside ready) after (Allocate node) pages back (Allocated (Err (Unsupported StampUsedUp))) went cause.fault
         (λ held s _ clear are. reuses s clear are (Err (Unsupported StampUsedUp)) (no_change s) (rw (eq-eqb last.page.stamp (2 ^ 64 - 1) greatest) (refl, refl))))
     reuses-refused back refusal (inr (below, of)) =
-        put-refused g next config recovered lru before table ready beside after (Allocate node) pid (Node node) reads may-reuse (Unit {0}) pages back (λ e. Allocated (Err e))
+        put-refused g next config recovered lru before table ready (kept.beside ready) after (Allocate node) pid (Node node) reads may-reuse (Unit {0}) pages back (λ e. Allocated (Err e))
         (λ held s _ clear are e out fails. reuses s clear are (Err e) out (rw (ne_eqb last.page.stamp (2 ^ 64 - 1) below) fails))
         refusal of
 
@@ -169,8 +148,7 @@ module _ {L : Type 0} (g : Ghosts L) (next : ℕ) (config : Config) (recovered :
         → (changed : KeptPage) → changed.stamp ≡ last.page.stamp + 1 → pages ≡ slice_set table pid changed → (made : Token) → made ≡ token pid changed.stamp
         → Steps g (cache before table) (Allocate node) (Allocated (Ok (pid, made))) (cache after pages)
     reuses-done below went clear_after changed risen back made is =
-        subst (λ (l : List KeptPage). Steps g (cache before table) (Allocate node) (Allocated (Ok (pid, made))) (cache after l)) (sym back)
-        (put-set g next config recovered lru before table ready beside after (Allocate node) pid (Node node) reads may-reuse went clear_after (Allocated (Ok (pid, made))) (last.page.stamp + 1) changed risen (slice_get_within table pid last.page (last-at table front pid last))
+        rw back (put-set g next config recovered lru before table ready (kept.beside ready) after (Allocate node) pid (Node node) reads may-reuse went clear_after (Allocated (Ok (pid, made))) (last.page.stamp + 1) changed risen (slice_get_within table pid last.page (last-at table front pid last))
         (λ held s _ clear are.
         reuses s clear are (Ok (pid, made)) (outcome (with_page s pid (page (last.page.stamp + 1) (Node node))) (Change pid (Put (Node node)) ∷ []))
         (rw (ne_eqb last.page.stamp (2 ^ 64 - 1) below) (refl, (refl, is ∙ ap (λ n. token pid n) risen, refl)))))

@@ -1,5 +1,5 @@
 -- What a call keeps, by what it appended to its log.
-use Rattle.sled_pagecache.proofs.Names.{◌≡◌, ◌<◌, ℕ, Bool, true, false, cond, List, [], ◌∷◌, ◌++◌, length, Some, Result, Ok, Err, slice_get, slice_set, refl, sym, ◌∙◌, ap, arith, eq-eqb, false≢true, ne_eqb, length-map, map-append, map-set, slice_get_within, error_of, Write, Error, Refusal, Keeps, stamps_with, Cache, stamps_in, Token, token, Page, met_fault, map-at, set-at, last-at}
+use Rattle.sled_pagecache.proofs.Names.{◌≡◌, ◌<◌, ℕ, true, false, List, [], ◌∷◌, ◌++◌, length, Some, Result, Ok, Err, slice_get, slice_set, refl, arith, eq-eqb, ne_eqb, length-map, map-append, map-set, slice_get_within, error_of, Write, Error, Refusal, Keeps, stamps_with, Cache, stamps_in, Token, token, Page, met_fault, map-at, set-at, last-at}
 use Rattle.sled_base.specs.declared.types.Error.TheVariants as errors
 use Rattle.sled_pagecache.specs.Answers.{is_write_fault}
 

@@ -1,13 +1,14 @@
 -- A batch stands whole after a crash, or none of it does.
-use Rattle.sled_pagecache.proofs.Names.{◌≡◌, ◌⊎◌, inl, inr, ◌≤◌, ℕ, Bool, true, false, List, [], ◌∷◌, ◌++◌, take, drop, Result, Ok, Err, refl, sym, ◌∙◌, ap, subst, true≢false, append-nil, take-nil, AllByRecursion, Error, Event, Pin, Seal, Update, contents_after, is_open, Messages, unplaced_state, Ghosts, Cache, Represents, IsStep, StepOver, Steps, Logged, State, contents_of, Outcome, no_change, Answer, Call, Flush, Flushed, row-one, row-then, contents_after-append, AreThoseOf, AreWithout, ClosesNone, RunsBatch, StandsInPart, StandsWhole, with_pin, CrashReopens, OnlyNow, IsLonger, left-now, one-longer, step-stuck, AreSteps, IsMade, IsRow, changes_of, Closes, Flushes, Pinned, Sealed, Cancelled, IsPrefix, none-came, zero, suc, length, arith, false≢true, take_all, Change, Cancel, open_after, IsFair, is_cancelled, ⊎_elim, cases_lt, cases_Bool, Content, length-append, append_assoc, take-append-drop, open_after-append, ◌-◌, ◌+◌}
+use Rattle.sled_pagecache.proofs.Names.{AreAfterPrefix, ◌≡◌, ◌⊎◌, inl, inr, ◌≤◌, ℕ, true, false, List, [], ◌∷◌, ◌++◌, take, drop, Result, Ok, refl, sym, ◌∙◌, ap, subst, true≢false, append-nil, take-nil, AllByRecursion, Error, Event, Pin, Seal, Update, contents_after, is_open, Messages, unplaced_state, Ghosts, Cache, Represents, IsStep, Steps, Logged, State, contents_of, Outcome, no_change, Answer, Call, Flush, Flushed, row-one, row-then, contents_after-append, AreThoseOf, AreWithout, ClosesNone, RunsBatch, StandsInPart, StandsWhole, with_pin, CrashReopens, OnlyNow, IsLonger, left-now, one-longer, step-stuck, AreSteps, IsMade, IsRow, changes_of, Pinned, Sealed, Cancelled, IsPrefix, zero, suc, length, arith, false≢true, Change, Cancel, open_after, IsFair, is_cancelled, ⊎_elim, cases_lt, cases_Bool, Content, length-append, append_assoc, take-append-drop, open_after-append, ◌-◌, ◌+◌}
 use Rattle.std.proofs.Math.Seq.{drop-append-add, take-append-add}
 use Rattle.std.proofs.lemmas.List.{drop-append-le, take-append-le}
 use Rattle.sled_pagecache.proofs.Counting.{now-added}
 use Rattle.sled_pagecache.proofs.Staying.{no-changes}
 use Rattle.sled_pagecache.proofs.ProperPages.{all-append}
-use Rattle.sled_pagecache.proofs.Reopening.{IsKeptAs, crash-reopens, crash-reopens-to, kept-prefix}
+use Rattle.sled_pagecache.proofs.Reopening.{after-none, IsKeptAs, crash-reopens, crash-reopens-to, kept-prefix}
 use Rattle.sled_pagecache.proofs.CallForms.{IsChange, call-inside}
 use Rattle.sled_pagecache.specs.Logged.{AreKept, IsLeft, now}
+use Rattle.sled_pagecache.specs.Batches.{Stand}
 use Rattle.sled_pagecache.specs.declared.pagecache.call.Call.TheVariants as call
 
 -- ---- cuts that split no batch
@@ -93,8 +94,8 @@ module _ (held : Logged) (closed : is_open held.pending ≡ false) (pages : List
       }))
       (λ (n, fair, same).
       let whole = all-came cs left.came n all left.beginning fair in
-      inr (omega (arith, ap length whole, length-append cs (Seal ∷ []), length-append (take (suc n) left.came) (drop (suc n) left.came), ap length (take-append-drop (suc n) left.came)),
-      subst (λ (l : List (Event Update)). AreKept pages (contents_after held.stable l)) (same ∙ ap (λ l. held.pending ++ l) whole) left.is))
+      let long : length cs + 2 ≤ length left.came = omega (arith, ap length whole, length-append cs (Seal ∷ []), length-append (take (suc n) left.came) (drop (suc n) left.came), ap length (take-append-drop (suc n) left.came)) in
+      inr (long, subst (λ (l : List (Event Update)). AreKept pages (contents_after held.stable l)) (same ∙ ap (λ l. held.pending ++ l) whole) left.is))
       (cut-behind held.pending left.came left.cut closed left.fair)
 
   -- before it is sealed, none
@@ -104,30 +105,15 @@ module _ (held : Logged) (closed : is_open held.pending ≡ false) (pages : List
       ⊎_elim (λ none. none) (λ whole. absurd (omega (arith, whole.0, ap length is, length-append left.came rest)))
       (left-sealed cs all (record { came = left.came; beginning = (rest ++ Seal ∷ [], sym (append_assoc left.came rest (Seal ∷ [])) ∙ ap (λ l. l ++ Seal ∷ []) is); cut = left.cut; fair = left.fair; is = left.is }))
 
--- ---- contents
-
-kept-all : (held : Logged) (pages : List Messages) (s : State) → held.pending ≡ [] → contents_of s ≡ now held → IsLeft held [] pages → IsKeptAs pages (AreThoseOf s)
-kept-all held pages s none contents left =
-    let nothing : held.pending ++ left.came ≡ [] = ap (λ l. l ++ left.came) none ∙ none-came left.came left.beginning in
-    let stable : contents_after held.stable (take left.cut (held.pending ++ left.came)) ≡ held.stable = ap (λ l. contents_after held.stable (take left.cut l)) nothing ∙ ap (contents_after held.stable) (take-nil left.cut) in
-    (held.stable, subst (AreKept pages) stable left.is, sym (contents ∙ ap (contents_after held.stable) none))
-
 module _ {L : Type 0} (g : Ghosts L) where
   -- ---- the steps
 
-  is-pinned : (cache : Cache L) (s : State) (out : Outcome) → StepOver g cache s call.Pin (Pinned (Ok tt)) out → s.fault ≡ false → (s.batch ≡ false) × (out.changes ≡ Pin ∷ []) × (out.state.batch ≡ true)
-  is-pinned cache s out step clear = grind arith
-
-  is-sealed : (s : State) (answer : Result (Unit {0}) Error) (out : Outcome) → Closes Seal s answer out → s.fault ≡ false → (out.changes ≡ Seal ∷ []) × (contents_of out.state ≡ contents_of s)
-  is-sealed s answer out step clear = grind arith
-
   steps-inside : (old new : Cache L) (s t : State) (calls : List (Call × Answer)) (outs : List Outcome) → s.batch ≡ true → AllByRecursion (λ made. ClosesNone made.0) calls → AreSteps g (Steps g) old s calls outs new t → AllByRecursion IsChange (changes_of outs)
   steps-inside old new s t [] [] opened none steps = tt
-  steps-inside old new s t [] (out ∷ outs) opened none steps = absurd steps
-  steps-inside old new s t (made ∷ calls) [] opened none steps = absurd steps
   steps-inside old new s t (made ∷ calls) (out ∷ outs) opened none (mid, called, step, is, steps) =
       let one = call-inside g old s opened made.0 made.1 out none.0 step in
       all-append IsChange out.changes (changes_of outs) one.changes (steps-inside mid new out.state t calls outs (one.batch ∙ opened) none.1 steps)
+  steps-inside old new s t calls outs opened none steps = absurd steps
 
   -- ---- a batch that was opened
 
@@ -146,14 +132,18 @@ module _ {L : Type 0} (g : Ghosts L) where
       of : (row : IsRow g old (with_pin calls) new held s) (outs : List Outcome) → row.outs ≡ outs → AreSteps g (Steps g) old s (with_pin calls) outs new row.t → IsRun old calls new held s
       of row [] are steps = absurd steps
       of row (out ∷ outs) are (mid, called, step, in_state, steps) =
-          let (closed, changes, opened) = is-pinned old s out step clear in
+          let pinned : (s.batch ≡ false) × (out.changes ≡ Pin ∷ []) × (out.state.batch ≡ true) = grind (arith, step) in
           record {
             row = row;
-            closed = sym (is.known clear).opened ∙ closed;
+            closed = sym (is.known clear).opened ∙ pinned.0;
             inner = changes_of outs;
-            changes = ap changes_of are ∙ ap (λ (l : List (Event Update)). l ++ changes_of outs) changes;
-            all = steps-inside mid new out.state row.t calls outs opened batch.inside steps;
+            changes = ap changes_of are ∙ ap (λ (l : List (Event Update)). l ++ changes_of outs) pinned.1;
+            all = steps-inside mid new out.state row.t calls outs pinned.2 batch.inside steps;
           }
+
+  stands : {old new : Cache L} {calls : List (Call × Answer)} {held : Logged} {s : State} (Are : List (Event Update) → State → List Content → Type 0)
+      → (row : IsRow g old calls new held s) → CrashReopens g new.log (g.moment old.log) (Are (changes_of row.outs) row.t) → Stand g old calls new held s Are
+  stands Are row crash = record { held_then = row.held_then; t = row.t; is = row.is; outs = row.outs; steps = row.steps; crash = crash }
 
   module _ (since_earlier : (log : L) (t u : ℕ) (pages : List Messages) → g.tells → t ≤ u → g.left_since log u pages → g.left_since log t pages) where
     pub unsealed : (old new : Cache L) (calls : List (Call × Answer)) → RunsBatch g old calls new → (held : Logged) (s : State) → Represents g old held s → s.fault ≡ false → CrashReopens g new.log (g.moment old.log) (AreWithout held)
@@ -166,89 +156,64 @@ module _ {L : Type 0} (g : Ghosts L) where
       abbrev run : IsRun old calls mid held s
       run = runs old mid calls batch held s is clear
 
-      abbrev so : IsRow g old (with_pin calls) mid held s
-      so = run.row
-
       module _ (result : Result (Unit {0}) Error) (seal : Steps g mid call.Seal (Sealed result) new) where
-        abbrev one : IsStep g mid call.Seal (Sealed result) new so.held_then so.t
-        one = seal.from_each so.held_then so.t so.is
+        abbrev one : IsStep g mid call.Seal (Sealed result) new run.row.held_then run.row.t
+        one = seal.from_each run.row.held_then run.row.t run.row.is
 
-        abbrev calls_then : List (Call × Answer)
-        calls_then = with_pin calls ++ (call.Seal, Sealed result) ∷ []
-
-        whole : IsLonger g old new calls_then held s ((changes_of so.outs) ++ one.out.changes) one.out.state
-        whole = one-longer g old mid new (with_pin calls) call.Seal (Sealed result) held s so seal
+        whole : IsLonger g old new (with_pin calls ++ (call.Seal, Sealed result) ∷ []) held s ((changes_of run.row.outs) ++ one.out.changes) one.out.state
+        whole = one-longer g old mid new (with_pin calls) call.Seal (Sealed result) held s run.row seal
 
         -- what a crash leaves of the log
-        leaves : (pages : List Messages) → g.left_since new.log (g.moment old.log) pages → IsLeft held ((changes_of so.outs) ++ one.out.changes) pages
+        leaves : (pages : List Messages) → g.left_since new.log (g.moment old.log) pages → IsLeft held ((changes_of run.row.outs) ++ one.out.changes) pages
         leaves pages left = subst (λ l. IsLeft held l pages) whole.writes ((whole.row.stop clear).each pages left)
 
         -- the pages, where a crash leaves all
-        all-of-it : so.t.fault ≡ false → contents_of one.out.state ≡ contents_of so.t → contents_after held.stable (held.pending ++ (Pin ∷ run.inner ++ Seal ∷ [])) ≡ contents_of one.out.state
+        all-of-it : run.row.t.fault ≡ false → contents_of one.out.state ≡ contents_of run.row.t → contents_after held.stable (held.pending ++ (Pin ∷ run.inner ++ Seal ∷ [])) ≡ contents_of one.out.state
         all-of-it free same =
-            contents_after-append held.stable held.pending (Pin ∷ run.inner ++ Seal ∷ [])
-            ∙ contents_after-append (now held) (Pin ∷ run.inner) (Seal ∷ [])
-            ∙ ap (contents_after (now held)) (sym run.changes)
-            ∙ sym (now-added held so.held_then (changes_of so.outs) (so.added free))
-            ∙ sym (so.is.known free).contents
-            ∙ sym same
+            rw (contents_after-append held.stable held.pending, contents_after-append (now held) (Pin ∷ run.inner) (Seal ∷ []), ← run.changes)
+            (sym (same ∙ (run.row.is.known free).contents ∙ now-added held run.row.held_then (changes_of run.row.outs) (run.row.added free)))
 
         abbrev Stays : List Content → Type 0
         Stays contents = AreWithout held contents ⊎ AreThoseOf one.out.state contents
 
         crash : (pages : List Messages) → g.left_since new.log (g.moment old.log) pages → IsKeptAs pages Stays
-        crash pages left = ⊎_elim stuck goes-on (cases_Bool so.t.fault)
+        crash pages left = ⊎_elim stuck goes-on (cases_Bool run.row.t.fault)
           where
             none : IsLeft held [] pages → IsKeptAs pages Stays
             none left = let kept = kept-prefix held [] pages left in (kept.0, kept.1, inl kept.2)
 
-            stuck : so.t.fault ≡ true → IsKeptAs pages Stays
+            stuck : run.row.t.fault ≡ true → IsKeptAs pages Stays
             stuck kept =
-                let nothing : one.out.changes ≡ [] = ap (λ (o : Outcome). o.changes) (step-stuck g mid so.t call.Seal (Sealed result) one.out one.step kept) in
-                none (left-open held run.closed pages run.inner run.all (subst (λ l. IsLeft held l pages) (ap (λ l. (changes_of so.outs) ++ l) nothing ∙ append-nil (changes_of so.outs) ∙ run.changes) (leaves pages left)))
+                let nothing : one.out.changes ≡ [] = ap (λ (o : Outcome). o.changes) (step-stuck g mid run.row.t call.Seal (Sealed result) one.out one.step kept) in
+                none (left-open held run.closed pages run.inner run.all (subst (λ l. IsLeft held l pages) (ap (λ l. (changes_of run.row.outs) ++ l) nothing ∙ append-nil (changes_of run.row.outs) ∙ run.changes) (leaves pages left)))
 
-            goes-on : so.t.fault ≡ false → IsKeptAs pages Stays
+            goes-on : run.row.t.fault ≡ false → IsKeptAs pages Stays
             goes-on free =
-                let (mark, same) = is-sealed so.t result one.out one.step free in
-                ⊎_elim none (λ whole. (contents_after held.stable (held.pending ++ (Pin ∷ run.inner ++ Seal ∷ [])), whole.1, inr (all-of-it free same)))
-                (left-sealed held run.closed pages run.inner run.all (subst (λ l. IsLeft held l pages) (ap (λ l. (changes_of so.outs) ++ l) mark ∙ ap (λ l. l ++ Seal ∷ []) run.changes) (leaves pages left)))
+                let sealed : (one.out.changes ≡ Seal ∷ []) × (contents_of one.out.state ≡ contents_of run.row.t) = grind (arith, one.step) in
+                ⊎_elim none (λ whole. (contents_after held.stable (held.pending ++ (Pin ∷ run.inner ++ Seal ∷ [])), whole.1, inr (all-of-it free sealed.1)))
+                (left-sealed held run.closed pages run.inner run.all (subst (λ l. IsLeft held l pages) (ap (λ l. (changes_of run.row.outs) ++ l) sealed.0 ∙ ap (λ l. l ++ Seal ∷ []) run.changes) (leaves pages left)))
 
-        pub sealed : StandsWhole g old calls_then new held s
-        sealed = record {
-          held_then = whole.row.held_then;
-          t = whole.row.t;
-          is = whole.row.is;
-          outs = whole.row.outs;
-          steps = whole.row.steps;
-          crash =
-              subst (λ t. CrashReopens g new.log (g.moment old.log) (λ contents. AreWithout held contents ⊎ AreThoseOf t contents)) (sym whole.leaves)
-              (crash-reopens-to g (λ l t u pages. since_earlier l t u pages is.tells) new.log (g.moment old.log) Stays crash);
-        }
+        pub sealed : StandsWhole g old (with_pin calls ++ (call.Seal, Sealed result) ∷ []) new held s
+        sealed =
+            stands (λ changes t contents. AreWithout held contents ⊎ AreThoseOf t contents) whole.row
+            (subst (λ t. CrashReopens g new.log (g.moment old.log) (λ contents. AreWithout held contents ⊎ AreThoseOf t contents)) (sym whole.leaves)
+            (crash-reopens-to g (λ l t u pages. since_earlier l t u pages is.tells) new.log (g.moment old.log) Stays crash))
 
       pub cancelled : (result : Result (Unit {0}) Error) → Steps g mid call.Cancel (Cancelled result) new → StandsInPart g old (with_pin calls ++ (call.Cancel, Cancelled result) ∷ []) new held s
       cancelled result cancel =
-          let row = (one-longer g old mid new (with_pin calls) call.Cancel (Cancelled result) held s so cancel).row in
-          record {
-            held_then = row.held_then;
-            t = row.t;
-            is = row.is;
-            outs = row.outs;
-            steps = row.steps;
-            crash = crash-reopens g (λ l t u pages. since_earlier l t u pages is.tells) new.log (g.moment old.log) held (changes_of row.outs) (row.stop clear).each;
-          }
+          let row = (one-longer g old mid new (with_pin calls) call.Cancel (Cancelled result) held s run.row cancel).row in
+          stands (λ changes t. AreAfterPrefix held changes) row (crash-reopens g (λ l t u pages. since_earlier l t u pages is.tells) new.log (g.moment old.log) held (changes_of row.outs) (row.stop clear).each)
 
     -- ---- a flush
-
-    flush-ok : (s : State) (n : ℕ) (out : Outcome) → Flushes s (Ok n) out → (s.fault ≡ false) × (out ≡ no_change s)
-    flush-ok s n out step = grind arith
 
     pub flushed : OnlyNow g
         → (old new : Cache L) (n : ℕ) → IsMade g old Flush (Flushed (Ok n)) new → (held : Logged) (s : State) → Represents g old held s → CrashReopens g new.log (g.moment new.log) (AreThoseOf s)
     flushed only_now old new n made held s is =
         let one = made.step.from_each held s is in
-        let same = flush-ok s n one.out one.step in
+        let same : (s.fault ≡ false) × (one.out ≡ no_change s) = grind (arith, one.step) in
         let known = one.is.known (ap (λ (o : Outcome). o.state.fault) same.1 ∙ same.0) in
         let none : one.held_then.pending ≡ [] = no-changes one.held_then.stable (unplaced_state (g.state new.log)).pending one.held_then.pending (ap (λ l. (unplaced_state (record (g.state new.log) { pending = l })).pending) made.bytes.1) known.logged.pending in
         crash-reopens-to g (λ l t u pages. since_earlier l t u pages is.tells) new.log (g.moment new.log) (AreThoseOf s)
-        (λ pages left. kept-all one.held_then pages s none (ap (λ (o : Outcome). contents_of o.state) (sym same.1) ∙ known.contents)
-        (left-now (unplaced_state (g.state new.log)) one.held_then pages known.logged (only_now new.log pages is.tells known.usable left)))
+        (λ pages left.
+        let (contents, kept, after) = kept-prefix one.held_then [] pages (left-now (unplaced_state (g.state new.log)) one.held_then pages known.logged (only_now new.log pages is.tells known.usable left)) in
+        (contents, kept, after-none one.held_then contents none after ∙ sym known.contents ∙ ap (λ (o : Outcome). contents_of o.state) same.1))

@@ -1,6 +1,6 @@
 -- Opening and closing a batch, as steps of the machine.
-use Rattle.sled_pagecache.proofs.Names.{arith, no_name, Recency, ◌≡◌, ℕ, AllByRecursion, effect_of_entry, is_open, is_write_fault, Bool, true, false, List, [], ◌∷◌, Result, Ok, Err, refl, sym, ◌∙◌, subst, false≢true, Read, Write, Error, Refusal, LogFull, chains_from, Content, Update, contents_from, Event, Pin, Message, Messages, effect_of, open_after, Ghosts, Cache, Represents, Steps, StepOver, Went, Went-none, IsCaused, IsOfLog, begun_by, Logged, State, Outcome, outcome, no_change, Answer, Call, Config, StickyLog, Page, KeepsMemory, HasGrown, error_of, BatchOpen, IsEvent, MayCome, IsWhole, SparesCounter, Closes, with_batch_closed, Pinned, view}
-use Rattle.sled_base.specs.declared.types.Error.TheVariants.{Unsupported, Io, OutOfMemory}
+use Rattle.sled_pagecache.proofs.Names.{arith, no_name, Recency, ◌≡◌, ℕ, AllByRecursion, effect_of_entry, is_open, is_write_fault, Bool, true, false, List, [], ◌∷◌, Result, Ok, Err, refl, sym, ◌∙◌, subst, false≢true, Write, Error, Refusal, chains_from, Content, Update, contents_from, Event, Pin, Message, Messages, effect_of, open_after, Ghosts, Cache, Represents, Steps, StepOver, Went, Went-none, IsCaused, IsOfLog, begun_by, Logged, State, Outcome, outcome, no_change, Answer, Call, Config, StickyLog, Page, HasGrown, error_of, BatchOpen, IsEvent, MayCome, IsWhole, SparesCounter, Closes, with_batch_closed, Pinned, view}
+use Rattle.sled_base.specs.declared.types.Error.TheVariants.{Unsupported, Io}
 use Rattle.sled_base.specs.declared.types.Refusal.TheVariants as refusals
 use Rattle.sled_log.specs.LogState as log
 use Rattle.sled_pagecache.proofs.Answers.{fault-same}
@@ -16,7 +16,6 @@ use Rattle.sled_pagecache.specs.Logged.{now}
 use Rattle.sled_pagecache.specs.Inside.StickyLog.{mark_of}
 use Rattle.sled_pagecache.specs.declared.pagecache.call.Call.TheVariants as call
 use Rattle.sled_pagecache.specs.declared.pagecache.sticky_log.Closing.{Closing}
-use Rattle.sled_pagecache.specs.declared.pagecache.sticky_log.Closing.TheVariants as closings
 
 -- an event that is a mark changes no page, and may always come
 pub record IsMark (message : Event Message) (event : Event Update) : Type 0 where
@@ -28,14 +27,9 @@ pub record IsMark (message : Event Message) (event : Event Update) : Type 0 wher
 pub pin-mark : IsMark Pin Pin
 pin-mark = record { is = tt; may = λ _. tt; chains = λ _. refl; contents = λ _. refl }
 
-pub closing-mark : (closing : Closing) → IsMark (mark_of closing) (mark_of closing)
-closing-mark closings.Seal = record { is = tt; may = λ _. tt; chains = λ _. refl; contents = λ _. refl }
-closing-mark closings.Cancel = record { is = tt; may = λ _. tt; chains = λ _. refl; contents = λ _. refl }
-
 -- no batch is open then
 closing-ends : (E : Type 0) (closing : Closing) (was : Bool) → (let events : List (Event E) = mark_of closing ∷ [] in open_after was events ≡ false)
-closing-ends E closings.Seal was = refl
-closing-ends E closings.Cancel was = refl
+closing-ends E closing was = grind arith
 
 module _ {L : Type 0} (g : Ghosts L) (next : ℕ) (config : Config) (recovered : Bool) (lru : Recency) (pages : List Page) where
   abbrev cache : StickyLog L → Cache L
@@ -81,9 +75,9 @@ module _ {L : Type 0} (g : Ghosts L) (next : ℕ) (config : Config) (recovered :
         → OpensBatch g (cache before) (Err (Unsupported BatchOpen)) (cache before)
     opens-twice opened usable only =
         let step =
-            steps-went g (cache before) (cache before) before before call.Pin (Pinned (Err (Unsupported BatchOpen))) [] (record { config = refl; recovered = refl }) refl refl refl ready
-            (Went-none g before usable only)
-            (λ held s is clear. leads-same g (cache before) (cache before) held s is clear call.Pin (Pinned (Err (Unsupported BatchOpen))) refl (rw (clear, is.batch ∙ opened) (refl, refl)) refl ready) in
+        steps-went g (cache before) (cache before) before before call.Pin (Pinned (Err (Unsupported BatchOpen))) [] (record { config = refl; recovered = refl }) refl refl refl ready
+        (Went-none g before usable only)
+        (λ held s is clear. leads-same g (cache before) (cache before) held s is clear call.Pin (Pinned (Err (Unsupported BatchOpen))) refl (rw (clear, is.batch ∙ opened) (refl, refl)) refl ready) in
         grind (arith, step)
 
     module _ (none : before.batch ≡ false) (after : StickyLog L) (unread : (g.counts after.log).reads ≡ (g.counts before.log).reads) where
@@ -99,20 +93,14 @@ module _ {L : Type 0} (g : Ghosts L) (next : ℕ) (config : Config) (recovered :
           → Steps g (cache before) call.Pin (Pinned (Err (error_of refusal))) (cache after)
       refused-step refusal told of refused = by refusal of refused.0 refused.1
         where
-          quiet : (e : Error) → Went g before after [] → after.fault ≡ false → ((s : State) → s.fault ≡ false → s.batch ≡ false → StepOver g (cache before) s call.Pin (Pinned (Err e)) (no_change s)) → Steps g (cache before) call.Pin (Pinned (Err e)) (cache after)
-          quiet e went free step =
-              steps-went g (cache before) (cache after) before after call.Pin (Pinned (Err e)) [] (record { config = refl; recovered = refl }) refl refl refl ready went
-              (λ held s is clear. leads-same g (cache before) (cache after) held s is clear call.Pin (Pinned (Err e)) refl (step s clear (is.batch ∙ none)) refl free)
-
           by : (refusal : Refusal) → IsOfLog refusal → (let told : Result (Unit {0}) Refusal = Err refusal in Went g before after (begun_by told (Pin ∷ []))) → (let told : Result (Unit {0}) Refusal = Err refusal in IsCaused g before after (g.is_full_for_batch before.log) told)
               → Steps g (cache before) call.Pin (Pinned (Err (error_of refusal))) (cache after)
           by (refusals.Io Write) of went cause =
               rw went.batch (steps-mark before before after refl ready call.Pin (Pinned (Err (Io Write))) Pin Pin pin-mark went before.batch (λ free. absurd (false≢true (sym free ∙ cause.fault)))
               (λ s clear same. rw (clear, same ∙ none, none, cause.fault) refl))
-          by (refusals.Io Read) of went cause = quiet (Io Read) went cause.fault (λ s clear closed. rw (clear, closed) refl)
-          by refusals.OutOfMemory of went cause = quiet OutOfMemory went cause.fault (λ s clear closed. rw (clear, closed) refl)
-          by (refusals.Unsupported LogFull) of went cause = quiet (Unsupported LogFull) went cause.fault (λ s clear closed. rw (clear, closed) (cause.full refl, refl))
-          by refusal of went cause = absurd of
+          by refusal of went cause =
+              steps-went g (cache before) (cache after) before after call.Pin (Pinned (Err (error_of refusal))) [] (record { config = refl; recovered = refl }) refl refl refl ready went
+              (λ held s is clear. leads-same g (cache before) (cache after) held s is clear call.Pin (Pinned (Err (error_of refusal))) refl (let closed = is.batch ∙ none in grind arith) refl cause.fault)
 
       pub opens-refused : (refusal : Refusal) → (g.tells → IsOfLog refusal)
           → (let told : Result (Unit {0}) Refusal = Err refusal in Went g before after (begun_by told (Pin ∷ [])) × IsCaused g before after (g.is_full_for_batch before.log) told)
@@ -127,8 +115,7 @@ module _ {L : Type 0} (g : Ghosts L) (next : ℕ) (config : Config) (recovered :
   -- ---- seal and cancel
 
   step-closes : (closing : Closing) (before : StickyLog L) (s : State) (answer : Result (Unit {0}) Error) (out : Outcome) → Closes (mark_of closing) s answer out → StepOver g (cache before) s (call_of closing) (answer_of closing answer) out
-  step-closes closings.Seal before s answer out h = h
-  step-closes closings.Cancel before s answer out h = h
+  step-closes closing before s answer out h = grind arith
 
   module _ (closing : Closing) (before : StickyLog L) (opened : before.batch ≡ true) where
     -- with a write fault kept
@@ -149,19 +136,22 @@ module _ {L : Type 0} (g : Ghosts L) (next : ℕ) (config : Config) (recovered :
         grind (arith, step)
 
     module _ (ready : before.fault ≡ false) (after : StickyLog L) (went : Went g (record before { batch = false }) after (mark_of closing ∷ [])) (unread : (g.counts after.log).reads ≡ (g.counts before.log).reads) where
+      closed-so : (result : Result (Unit {0}) Error) → ((s : State) → s.fault ≡ false → s.batch ≡ true → Closes (mark_of closing) s result (outcome (record s { batch = false; fault = after.fault }) (mark_of closing ∷ [])))
+          → Steps g (cache before) (call_of closing) (answer_of closing result) (cache after)
+      closed-so result step =
+          let mark : IsMark (mark_of closing) (mark_of closing) = grind arith in
+          rw went.batch (steps-mark before (record before { batch = false }) after refl ready (call_of closing) (answer_of closing result) (mark_of closing) (mark_of closing) mark went false (λ _. closing-ends Update closing)
+          (λ s clear same. step-closes closing before s result _ (step s clear (same ∙ opened))))
+
       pub closes : after.fault ≡ false → ClosesBatch g (call_of closing) (answer_of closing) (cache before) (Ok tt) (cache after)
       closes free =
-          let step : Steps g (cache before) (call_of closing) (answer_of closing (Ok tt)) (cache after) =
-              rw went.batch (steps-mark before (record before { batch = false }) after refl ready (call_of closing) (answer_of closing (Ok tt)) (mark_of closing) (mark_of closing) (closing-mark closing) went false (λ _. closing-ends Update closing)
-              (λ s clear same. step-closes closing before s (Ok tt) _ (same ∙ opened, rw (clear, free) refl))) in
+          let step = closed-so (Ok tt) (λ s clear batch. (batch, rw (clear, free) refl)) in
           let closed = went.batch in
           grind (arith, step)
 
       pub closes-refused : after.fault ≡ true → HasGrown (g.counts before.log).write_faults (g.counts after.log).write_faults → ClosesBatch g (call_of closing) (answer_of closing) (cache before) (Err (Io Write)) (cache after)
       closes-refused kept grew =
-          let step : Steps g (cache before) (call_of closing) (answer_of closing (Err (Io Write))) (cache after) =
-              rw went.batch (steps-mark before (record before { batch = false }) after refl ready (call_of closing) (answer_of closing (Err (Io Write))) (mark_of closing) (mark_of closing) (closing-mark closing) went false (λ _. closing-ends Update closing)
-              (λ s clear same. step-closes closing before s (Err (Io Write)) _ (same ∙ opened, rw (clear, kept) (refl, refl)))) in
+          let step = closed-so (Err (Io Write)) (λ s clear batch. (batch, rw (clear, kept) (refl, refl))) in
           let closed = went.batch in
           grind (arith, step)
 
@@ -180,24 +170,14 @@ module _ {L : Type 0} (g : Ghosts L) {k next : ℕ} {before : StickyLog L} {tabl
   pub whole-refused : (refusal : Refusal) → (let told : Result (Unit {0}) Refusal = Err refusal in Went g before after (begun_by told (Pin ∷ [])) × (after.fault ≡ is_write_fault told))
       → IsWhole g.tells g.state k next after table free
   whole-refused refusal refused =
-      whole-then g whole ready (spares-refused g (Unit {0}) refusal (Pin ∷ []) refused) refl
-      (consistent-kept g before after table free free whole.consistent ready refused.0.usable (λ clear. opened refusal refused clear) same)
-    where
-      opened : (refusal : Refusal) → (let told : Result (Unit {0}) Refusal = Err refusal in Went g before after (begun_by told (Pin ∷ [])) × (after.fault ≡ is_write_fault told)) → after.fault ≡ false
-          → is_open (g.state after.log).pending ≡ after.batch
-      opened (refusals.Io Write) (went, fault) clear = absurd (false≢true (sym clear ∙ fault))
-      opened (refusals.Io Read) (went, fault) clear = went.opened clear ∙ whole.consistent.opened ready ∙ sym went.batch
-      opened refusal (went, fault) clear = went.opened clear ∙ whole.consistent.opened ready ∙ sym went.batch
+      let opened : after.fault ≡ false → is_open (g.state after.log).pending ≡ after.batch = grind (arith, refused, whole.consistent.opened ready) in
+      whole-then g whole ready (spares-refused g (Unit {0}) refusal (Pin ∷ []) refused) refl (consistent-kept g before after table free free whole.consistent ready refused.0.usable opened same)
 
   -- the batch was closed
   pub whole-closed : (closing : Closing) → Went g (record before { batch = false }) after (mark_of closing ∷ []) → IsWhole g.tells g.state k next after table free
   whole-closed closing went =
-      subst (λ b. IsWhole g.tells g.state k next (record after { batch = b }) table free) (sym went.batch)
-      (whole-marked false (record before { batch = false }) refl (mark_of closing) (closing-ends Message closing) (spares closing) went)
-    where
-      spares : (closing : Closing) → (let events : List (Event Message) = mark_of closing ∷ [] in AllByRecursion SparesCounter events)
-      spares closings.Seal = (tt, tt)
-      spares closings.Cancel = (tt, tt)
+      let spares : (let events : List (Event Message) = mark_of closing ∷ [] in AllByRecursion SparesCounter events) = grind arith in
+      rw went.batch (whole-marked false (record before { batch = false }) refl (mark_of closing) (closing-ends Message closing) spares went)
 
 -- with a write fault kept it may be closed
 pub whole-stuck : {L : Type 0} (g : Ghosts L) {k next : ℕ} {before : StickyLog L} {table : List Page} {free : List ℕ} → IsWhole g.tells g.state k next before table free → before.fault ≡ true

@@ -13,23 +13,20 @@ module _ {X : Type 0} where
   -- another item is set
   pub set-by-id : (P : ℕ → X → Type 0) (xs : List X) (i : ℕ) (x : X) → AllById P xs → P i x → (k : ℕ) → IfSome (slice_get (slice_set xs i x) k) (P k)
   set-by-id P [] i x all so k = tt
-  set-by-id P (y ∷ xs) zero x all so zero = so
-  set-by-id P (y ∷ xs) zero x all so (suc k) = all (suc k)
+  set-by-id P (y ∷ xs) zero x all so k = grind (arith, all k)
   set-by-id P (y ∷ xs) (suc i) x all so zero = all 0
   set-by-id P (y ∷ xs) (suc i) x all so (suc k) = set-by-id (λ n. P (suc n)) xs i x (λ n. all (suc n)) so k
 
   -- one is added
   pub add-by-id : (P : ℕ → X → Type 0) (xs : List X) (x : X) → AllById P xs → P (length xs) x → (k : ℕ) → IfSome (slice_get (xs ++ x ∷ []) k) (P k)
-  add-by-id P [] x all so zero = so
-  add-by-id P [] x all so (suc k) = tt
+  add-by-id P [] x all so k = grind arith
   add-by-id P (y ∷ xs) x all so zero = all 0
   add-by-id P (y ∷ xs) x all so (suc k) = add-by-id (λ n. P (suc n)) xs x (λ n. all (suc n)) so k
 
   -- where the id says nothing
   pub all-by-id : (P : X → Type 0) (xs : List X) → AllByRecursion P xs → (k : ℕ) → IfSome (slice_get xs k) P
   all-by-id P [] all k = tt
-  all-by-id P (x ∷ xs) all zero = all.0
-  all-by-id P (x ∷ xs) all (suc k) = all-by-id P xs all.1 k
+  all-by-id P (x ∷ xs) all k = grind (arith, all-by-id P xs all.1)
 
   pub by-id-all : (P : X → Type 0) (xs : List X) → ((k : ℕ) → IfSome (slice_get xs k) P) → AllByRecursion P xs
   by-id-all P [] all = tt

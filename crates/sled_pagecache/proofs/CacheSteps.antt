@@ -1,9 +1,9 @@
 -- One call of the cache is one step of the machine.
-use Rattle.sled_pagecache.proofs.Names.{◌≡◌, Bool, true, false, List, [], ◌++◌, refl, sym, ◌∙◌, ap, subst, false≢true, is_open, open_after, Update, contents_after, Event, open_after-append, is_open-drop, Message, effect_of, AreEvents, Ghosts, Cache, Represents, IsSameOpening, IsStep, StepOver, Steps, Went, Logged, IsLogged, Adds, StayProper, State, Outcome, no_change, contents_of, stamps_of, Answer, Call, StickyLog, KnowsLog}
+use Rattle.sled_pagecache.proofs.Names.{◌≡◌, Bool, true, false, List, [], ◌++◌, refl, sym, ◌∙◌, ap, subst, false≢true, is_open, open_after, Update, contents_after, Event, open_after-append, is_open-drop, Message, effect_of, AreEvents, Ghosts, Cache, Represents, IsSameOpening, StepOver, Steps, Went, Logged, Adds, StayProper, State, Outcome, no_change, contents_of, stamps_of, Answer, Call, StickyLog, KnowsLog}
 use Rattle.sled_log.specs.LogState as log
 use Rattle.sled_pagecache.proofs.Carrying.{carries, leaves, proper-now}
 use Rattle.sled_pagecache.proofs.Staying.{stay-none}
-use Rattle.sled_pagecache.specs.Logged.{now, IsLeft}
+use Rattle.sled_pagecache.specs.Logged.{now}
 
 -- the changes leave a batch open or closed as they say, up to whatever cut they became stable
 open-added : (held held_then : Logged) (changes : List (Event Update)) → Adds held changes held_then → is_open held_then.pending ≡ open_after (is_open held.pending) changes
@@ -56,34 +56,21 @@ module _ {L : Type 0} (g : Ghosts L) where
   module _ (old new : Cache L) (before after : StickyLog L) (call : Call) (answer : Answer) (messages : List (Event Message)) (new_fault : new.fault ≡ after.fault) (ready : old.fault ≡ false)
       (went : Went g (record before { log = old.log }) (record after { log = new.log }) messages)
       (held : Logged) (s : State) (is : Represents g old held s) (way : Leads old new held s call answer messages) where
-    logged : IsLogged (log.unplaced_state (g.state old.log)) held
-    logged = (is.known (is.fault ∙ ready)).logged
-
     -- what the log holds then; behind a write error nothing is known of it
-    by : (fault : Bool) → new.fault ≡ fault
+    ends : (fault : Bool) → new.fault ≡ fault
         → (held_then : Logged) × (way.out.state.fault ≡ false → KnowsLog g new held_then way.out.state) × (way.out.state.fault ≡ false → Adds held way.out.changes held_then)
-    by true kept = (held, λ no. absurd (false≢true (sym no ∙ way.fault ∙ kept)), λ no. absurd (false≢true (sym no ∙ way.fault ∙ kept)))
-    by false free =
-        let carried = carries g (record before { log = old.log }) (record after { log = new.log }) held messages way.out.changes logged way.told way.stays went is.tells (sym new_fault ∙ free) in
-        (carried.held_then, λ _. record {
-          usable = went.usable (sym new_fault ∙ free);
-          logged = carried.logged;
-          contents = way.contents free ∙ sym carried.now_is;
-          opened = sym (way.marks free) ∙ ap (λ b. open_after b way.out.changes) (is.known (is.fault ∙ ready)).opened ∙ sym (open-added held carried.held_then way.out.changes carried.added);
-        }, λ _. carried.added)
-
-    from : IsStep g old call answer new held s
-    from =
-        let ends = by new.fault refl in
-        record {
-          out = way.out;
-          step = way.step;
-          held_then = ends.0;
-          is = record { tells = is.tells; stamps = way.stamps; next = way.next; fault = way.fault; batch = way.batch; known = ends.1 };
-          added = ends.2;
-          stop = λ _. leaves g (record before { log = old.log }) (record after { log = new.log }) held messages way.out.changes logged way.told way.stays went is.tells;
-          stuck = λ kept. absurd (false≢true (sym (is.fault ∙ ready) ∙ kept));
-        }
+    ends true kept = (held, λ no. absurd (false≢true (sym no ∙ way.fault ∙ kept)), λ no. absurd (false≢true (sym no ∙ way.fault ∙ kept)))
+    ends false free =
+        let carried = carries g (record before { log = old.log }) (record after { log = new.log }) held messages way.out.changes (is.known (is.fault ∙ ready)).logged way.told way.stays went is.tells (sym new_fault ∙ free) in (
+          carried.held_then,
+          λ _. record {
+            usable = went.usable (sym new_fault ∙ free);
+            logged = carried.logged;
+            contents = way.contents free ∙ sym carried.now_is;
+            opened = sym (way.marks free) ∙ ap (λ b. open_after b way.out.changes) (is.known (is.fault ∙ ready)).opened ∙ sym (open-added held carried.held_then way.out.changes carried.added);
+          },
+          λ _. carried.added,
+        )
 
   -- without a write fault before it, a call is a step, also one that opens a batch or closes it
   pub steps-marked : (old new : Cache L) (before after : StickyLog L) (call : Call) (answer : Answer) (messages : List (Event Message))
@@ -93,7 +80,19 @@ module _ {L : Type 0} (g : Ghosts L) where
       → Steps g old call answer new
   steps-marked old new before after call answer messages same old_log new_log new_fault ready went leads = record {
     opening = same;
-    from_each = λ held s is. from old new before after call answer messages new_fault ready (rw (old_log, new_log) went) held s is (leads held s is (is.fault ∙ ready));
+    from_each = λ held s is.
+        let way = leads held s is (is.fault ∙ ready) in
+        let went : Went g (record before { log = old.log }) (record after { log = new.log }) messages = rw (old_log, new_log) went in
+        let ends = ends old new before after call answer messages new_fault ready went held s is way new.fault refl in
+        record {
+          out = way.out;
+          step = way.step;
+          held_then = ends.0;
+          is = record { tells = is.tells; stamps = way.stamps; next = way.next; fault = way.fault; batch = way.batch; known = ends.1 };
+          added = ends.2;
+          stop = λ _. leaves g (record before { log = old.log }) (record after { log = new.log }) held messages way.out.changes (is.known (is.fault ∙ ready)).logged way.told way.stays went is.tells;
+          stuck = λ kept. absurd (false≢true (sym (is.fault ∙ ready) ∙ kept));
+        };
   }
 
   -- one that leaves a batch open or closed, as it was

@@ -1,17 +1,14 @@
 -- What a call of the machine leaves, in a few forms: most change at most one page, which isn't the counter's, and use no id.
-use Rattle.sled_pagecache.proofs.Names.{slice_get_within, length-map, CasRoot, FoundRoot, MetaPidForName, RootSwapped, SetsRoot, AllByRecursion, Allocate, Allocated, Allocates, Answer, Bool, Cache, Call, Change, Content, Counter, Does, Err, Error, Event, Fails, Finds, FindsContent, Flush, Flushed, Flushes, Free, Freed, GenerateId, Generated, Get, GetIdgen, GetMeta, Gets, GetsIdgen, GetsMeta, Ghosts, Got, GotIdgen, GotMeta, HasNoRoom, IsCorruption, IsHindered, IsRefused, Linked, Links, LinksContent, List, MatchBool, MatchOption, Node, None, Ok, Option, Outcome, Put, Replace, Replaced, Result, Roots, SizeOnDisk, Sized, Sizes, Some, State, StepOver, Swapped, Swaps, SwapsContent, SwapsPage, Token, Update, WholeNode, [], ap, arith, chain_length, cond, contents_of, false, false≢true, free_token, greatest_free, inl, inr, is_reserved, later_token, length, ltb-true, none-some, outcome, page_at, refl, same_Some, slice_get, subst, suc, sym, token, true, true≢false, no_change, ℕ, ⊎_elim, ⊤, ◌+◌, ◌-◌, ◌==◌, ◌^◌, ◌∙◌, ◌∷◌, ◌≡◌, ◌≢◌, ◌≤◌, ◌⊎◌, nat_lt, Bytes, Pin, Seal, Cancel, NodeLink, ClosesNone, SparesCounter, id_in, Pinned, Sealed, Cancelled, map-at}
+use Rattle.sled_pagecache.proofs.Names.{slice_get_within, length-map, CasRoot, FoundRoot, MetaPidForName, RootSwapped, AllByRecursion, Allocate, Allocated, Allocates, Answer, Bool, Cache, Call, Change, Content, Counter, Does, Error, Event, Flush, Flushed, Free, Freed, GenerateId, Generated, Get, GetIdgen, GetMeta, Ghosts, Got, GotIdgen, GotMeta, HasNoRoom, IsRefused, Linked, Links, LinksContent, List, MatchBool, Node, Ok, Option, Outcome, Put, Replace, Replaced, Result, Roots, SizeOnDisk, Sized, Some, State, StepOver, Swapped, Swaps, SwapsContent, SwapsPage, Token, Update, WholeNode, [], ap, arith, chain_length, contents_of, false, false≢true, free_token, greatest_free, is_reserved, later_token, length, ltb-true, none-some, outcome, page_at, refl, same_Some, slice_get, subst, suc, sym, token, true, no_change, ℕ, ⊤, ◌+◌, ◌-◌, ◌==◌, ◌^◌, ◌∙◌, ◌∷◌, ◌≡◌, ◌≢◌, ◌≤◌, ◌⊎◌, nat_lt, Pin, Seal, Cancel, NodeLink, ClosesNone, SparesCounter, id_in, Pinned, Sealed, Cancelled, map-at}
 use Rattle.sled_node.specs.Meta as meta
 use Rattle.sled_pagecache.proofs.Counting.{CountsTo, start-above}
 use Rattle.sled_pagecache.specs.State.{StampedPage, is_free, page, with_page}
-use Rattle.sled_pagecache.specs.Step.{AddsPage, AreRoots, Closes, FindsRoot, RootSwap, SwapsRoot, Generates, HoldsCounter, HoldsRoots, IsCounterAnd, Pins, PutsCounter, Reads, ReusesPage, interval_start, with_next_id}
+use Rattle.sled_pagecache.specs.Step.{Generates, HoldsCounter, HoldsRoots, interval_start, with_next_id}
 use Rattle.sled_pagecache.specs.declared.pagecache.call.Call.TheVariants as call
 
-pub split : {A B X : Type 0} (test : Bool) → MatchBool test A B → (test ≡ true → A → X) → (test ≡ false → B → X) → X
+split : {A B X : Type 0} (test : Bool) → MatchBool test A B → (test ≡ true → A → X) → (test ≡ false → B → X) → X
 split true h where_true where_false = where_true refl h
 split false h where_true where_false = where_false refl h
-
-pub ok-err : {T : Type 0} (value : T) (e : Error) → Ok value ≡ Err e → ⊥
-ok-err value e is = cc
 
 -- a change of a page, and no mark
 abbrev pub IsChange : {E : Type 0} → Event E → Type 0
@@ -70,17 +67,16 @@ pub record IsFreeAt (first : ℕ) (pages : List StampedPage) (free : Token) : Ty
 
 pub free-at : (first : ℕ) (pages : List StampedPage) (free : Token) → greatest_free first pages ≡ Some free → IsFreeAt first pages free
 free-at first [] free is = absurd (none-some free is)
-free-at first (p ∷ pages) free is = by (greatest_free (first + 1) pages) refl is (free-at (first + 1) pages free)
+free-at first (p ∷ pages) free is = by is (free-at (first + 1) pages free)
   where
-    here : (empty : Bool) → is_free p.content ≡ empty → cond empty (Some (token first p.stamp)) None ≡ Some free → IsFreeAt first (p ∷ pages) free
-    here true empty is = record { place = 0; is = let same = ap (λ t. t.pid) (same_Some (token first p.stamp) free is) in omega (arith, same); page = p; at = refl; empty = empty }
-    here false full is = absurd (none-some free is)
+    here : is_free p.content ≡ true → Some (token first p.stamp) ≡ Some free → IsFreeAt first (p ∷ pages) free
+    here empty is = record { place = 0; is = let same = ap (λ t. t.pid) (same_Some (token first p.stamp) free is) in omega (arith, same); page = p; at = refl; empty = empty }
 
-    by : (last : Option Token) → greatest_free (first + 1) pages ≡ last → later_token last (free_token first p) ≡ Some free → (greatest_free (first + 1) pages ≡ Some free → IsFreeAt (first + 1) pages free) → IsFreeAt first (p ∷ pages) free
-    by None none is others = here (is_free p.content) refl is
-    by (Some last) some is others =
-        let rest = others (some ∙ is) in
-        record { place = suc rest.place; is = omega (arith, rest.is); page = rest.page; at = rest.at; empty = rest.empty }
+    behind : IsFreeAt (first + 1) pages free → IsFreeAt first (p ∷ pages) free
+    behind rest = record { place = suc rest.place; is = omega (arith, rest.is); page = rest.page; at = rest.at; empty = rest.empty }
+
+    by : later_token (greatest_free (first + 1) pages) (free_token first p) ≡ Some free → (greatest_free (first + 1) pages ≡ Some free → IsFreeAt (first + 1) pages free) → IsFreeAt first (p ∷ pages) free
+    by is others = grind (arith, here, behind)
 
 not-free : (s : State) (free : Token) → greatest_free 0 s.pages ≡ Some free → (n : ℕ) → CountsTo (contents_of s) n → free.pid ≢ 1
 not-free s free greatest n counts is = grind (arith, free-at 0 s.pages free greatest, map-at (λ (p : StampedPage). p.content) s.pages 1)
@@ -122,14 +118,8 @@ module _ (s : State) (out : Outcome) (call : Call) where
     swaps-content : {R : Type 0} (old : Token) (update : Update) (content : Content) (answer : Swapped R) → SwapsContent messages no_room s old update content answer out → old.pid ≢ 1 → IsPlain
     swaps-content old update content answer step other = grind (arith, as-it-was, changes)
 
-    links-content : (old : Token) (link : NodeLink) (answer : Swapped NodeLink) → old.pid ≢ 1 → (content : Content) → LinksContent messages no_room s old link answer out content → IsPlain
-    links-content old link answer other content h = grind (arith, as-it-was, faulty, swaps-content)
-
     links : (old : Token) (link : NodeLink) (answer : Swapped NodeLink) → Links messages no_room s old link answer out → IsPlain
-    links old link answer step = swaps old link answer (LinksContent messages no_room s old link answer out) step (links-content old link answer)
-
-    swaps-root : (name : Bytes) (old new : Option ℕ) (answer : RootSwap) → SwapsRoot messages no_room s name old new answer out → IsPlain
-    swaps-root name old new answer step = grind (arith, as-it-was, faulty, changes)
+    links old link answer step = swaps old link answer (LinksContent messages no_room s old link answer out) step (λ other content h. grind (arith, as-it-was, faulty, swaps-content))
 
 -- ---- the marks of batches, and ids
 
@@ -138,16 +128,7 @@ module _ (s : State) (out : Outcome) (call : Call) where
     marks : (mark : Event Update) → SparesCounter mark → out.changes ≡ mark ∷ [] → out.state.next ≡ s.next → Form s call [] out
     marks mark spares is next = Marks refl (record { next = next; spares = λ n counts. subst (AllByRecursion SparesCounter) (sym is) (spares, tt) }) leaves
 
-    unmarked : out ≡ no_change (record s { batch = false }) → Form s call [] out
-    unmarked is = subst (Form s call []) (sym is) (Marks refl (record { next = refl; spares = λ n counts. tt }) leaves)
-
-    closes : (mark : Event Update) (answer : Result (Unit {0}) Error) → SparesCounter mark → Closes mark s answer out → Form s call [] out
-    closes mark answer h1 h2 = grind arith
-
   module _ (messages : ℕ → ℕ) (no_room : Event Update → Type 0) where
-    pins : (s.batch ≡ false → s.batch ≡ true → ClosesNone call → ⊥) → (answer : Result (Unit {0}) Error) → Pins messages no_room s answer out → Form s call [] out
-    pins leaves answer step = grind (arith, as-it-was, faulty, marks)
-
     refused : (answer : Result ℕ Error) {e : Error} → IsRefused s answer out e → Form s call (id_in (Generated answer)) out
     refused answer h1 = grind arith
 
@@ -192,25 +173,17 @@ module _ {L : Type 0} (g : Ghosts L) (cache : Cache L) (s : State) where
       swaps s out (call.Free old) old tt answer _ step (λ other content h. swaps-content s out (call.Free old) lengths no_room old (Put Free) Free answer h other)
   call-form GetMeta (GotMeta answer) out step = grind (arith, as-it-was s out GetMeta)
   call-form (MetaPidForName name) (FoundRoot answer) out step = grind (arith, as-it-was s out (MetaPidForName name))
-  call-form (CasRoot name old new) (RootSwapped answer) out step = swaps-root s out (CasRoot name old new) lengths no_room name old new answer step
+  call-form (CasRoot name old new) (RootSwapped answer) out step =
+      grind (arith, as-it-was s out (CasRoot name old new), faulty s out (CasRoot name old new), changes s out (CasRoot name old new) lengths no_room)
   call-form GetIdgen (GotIdgen answer) out step = grind (arith, as-it-was s out GetIdgen)
   call-form GenerateId (Generated answer) out step = generates s out GenerateId lengths no_room cache.config.idgen_persist_interval answer step
   call-form Flush (Flushed answer) out step = grind (arith, as-it-was s out Flush, faulty s out Flush)
   call-form SizeOnDisk (Sized answer) out step = grind (arith, as-it-was s out SizeOnDisk)
-  call-form call.Pin (Pinned answer) out step = pins s out call.Pin lengths no_room (λ closed opened _. true≢false (sym opened ∙ closed)) answer step
-  call-form call.Seal (Sealed answer) out step = closes s out call.Seal (λ _ none. none) Seal answer tt step
-  call-form call.Cancel (Cancelled answer) out step = closes s out call.Cancel (λ _ none. none) Cancel answer tt step
+  call-form call.Pin (Pinned answer) out step = grind (arith, as-it-was s out call.Pin, faulty s out call.Pin, marks s out call.Pin)
+  call-form call.Seal (Sealed answer) out step = grind (arith, marks s out call.Seal)
+  call-form call.Cancel (Cancelled answer) out step = grind (arith, marks s out call.Cancel)
   call-form asked answer out step = absurd step
 
   -- a call inside a batch, which doesn't close it
   pub call-inside : s.batch ≡ true → (call : Call) (answer : Answer) (out : Outcome) → ClosesNone call → StepOver g cache s call answer out → IsInside s out
-  call-inside opened call answer out none step = by (id_in answer) (call-form call answer out step)
-    where
-      by : (ids : List ℕ) → Form s call ids out → IsInside s out
-      by ids (Plain no_id quiet inside) = inside
-      by ids (Marks no_id quiet leaves) = absurd (leaves opened none)
-      by ids (Next clear given is) = subst (IsInside s) (sym is) (record { batch = refl; changes = tt })
-      by ids (Raises raised) = record {
-        batch = ⊎_elim (λ e. ap (λ (u : State). u.batch) e.1) (λ e. ap (λ (u : State). u.batch) e.2) raised.end;
-        changes = subst (AllByRecursion IsChange) (sym raised.changes) (tt, tt);
-      }
+  call-inside opened call answer out none step = grind (arith, call-form call answer out step)

@@ -1,15 +1,8 @@
 -- What a cache tells its log, as one sees it who knows contents and no messages.
-use Rattle.sled_pagecache.proofs.Names.{Ghosts, ◌≡◌, ℕ, false, List, ◌++◌, length, take, drop, refl, sym, ◌∙◌, ap, subst, take-append-drop, take-append_seam, chains_after, Update, contents_after, Event, holds-after, holds-added, Message, Messages, effect_of, AreEvents, events-append, events-take, reads-fair, CrashesSinceLeave-weaker, Went, Logged, IsLogged, Adds, AreKept, IsProper, StayProper, StickyLog}
+use Rattle.sled_pagecache.proofs.Names.{Ghosts, ◌≡◌, false, List, ◌++◌, length, take, drop, refl, sym, ◌∙◌, ap, take-append-drop, take-append_seam, Update, contents_after, Event, holds-after, holds-added, Message, Messages, effect_of, AreEvents, events-append, events-take, reads-fair, CrashesSinceLeave-weaker, Went, Logged, IsLogged, Adds, IsProper, StayProper, StickyLog}
 use Rattle.sled_log.specs.LogState as log
 use Rattle.sled_pagecache.proofs.Staying.{stay-append, stay-take, stay-drop, stay-all}
 use Rattle.sled_pagecache.specs.Logged.{now, IsLeft}
-
--- what the log holds once the changes were added, up to a cut
-abbrev pub cut_at : Logged → List (Event Update) → ℕ → Logged
-cut_at held changes cut = record {
-  stable = contents_after held.stable (take cut (held.pending ++ changes));
-  pending = drop cut (held.pending ++ changes);
-}
 
 -- the pages that a log holds now are as a cache leaves them
 pub proper-now : (state : log.LogState Message) (held : Logged) → IsLogged state held → IsProper (log.now effect_of state) (now held)
@@ -27,23 +20,16 @@ module _ (before : log.LogState Message) (held : Logged) (messages : List (Event
   all_events : AreEvents held.stable (before.pending ++ messages) (held.pending ++ changes)
   all_events = events-append held.stable before.pending messages held.pending changes logged.pending told
 
-  all_stay : StayProper before.stable held.stable (before.pending ++ messages) (held.pending ++ changes)
-  all_stay = stay-append before.stable held.stable before.pending messages held.pending changes logged.pending logged.proper stays
-
   pub adds-carry : (after : log.LogState Message) → log.Adds effect_of before messages after → Carries after held changes
   adds-carry after adds =
+      let all_stay = stay-append before.stable held.stable before.pending messages held.pending changes logged.pending logged.proper stays in
       let parts = holds-added before after messages held.stable held.pending changes logged.stable logged.pending told adds in
-      let stable_then = contents_after held.stable (take adds.cut (held.pending ++ changes)) in
-      let pending_then = drop adds.cut (held.pending ++ changes) in
       record {
-        held_then = cut_at held changes adds.cut;
+        held_then = record { stable = contents_after held.stable (take adds.cut (held.pending ++ changes)); pending = drop adds.cut (held.pending ++ changes) };
         logged = record {
           stable = parts.0;
           pending = parts.1;
-          proper =
-              subst (λ (l : List Messages). StayProper l stable_then after.pending pending_then) (sym adds.stable)
-              (subst (λ (l : List (Event Message)). StayProper (chains_after effect_of before.stable (take adds.cut (before.pending ++ messages))) stable_then l pending_then) (sym adds.pending)
-              (stay-drop adds.cut before.stable held.stable (before.pending ++ messages) (held.pending ++ changes) all_events all_stay));
+          proper = rw (adds.stable, adds.pending) (stay-drop adds.cut before.stable held.stable (before.pending ++ messages) (held.pending ++ changes) all_events all_stay);
         };
         added = record {
           cut = adds.cut;
@@ -59,9 +45,8 @@ module _ (before : log.LogState Message) (held : Logged) (messages : List (Event
       let n = length left.came in
       let some = take n changes in
       let part : take n messages ≡ left.came = ap (take n) (sym left.beginning.1) ∙ take-append_seam left.came left.beginning.0 in
-      let came : AreEvents (now held) left.came some = subst (λ (l : List (Event Message)). AreEvents (now held) l some) part (events-take (now held) n messages changes told) in
-      let some_stay : StayProper (log.now effect_of before) (now held) left.came some =
-      subst (λ (l : List (Event Message)). StayProper (log.now effect_of before) (now held) l some) part (stay-take n (log.now effect_of before) (now held) messages changes told stays) in
+      let came : AreEvents (now held) left.came some = rw part at (events-take (now held) n messages changes told) in
+      let some_stay : StayProper (log.now effect_of before) (now held) left.came some = rw part at (stay-take n (log.now effect_of before) (now held) messages changes told stays) in
       let kept : List (Event Message) = before.pending ++ left.came in
       let known : List (Event Update) = held.pending ++ some in
       let all : AreEvents held.stable kept known = events-append held.stable before.pending left.came held.pending some logged.pending came in
@@ -70,7 +55,7 @@ module _ (before : log.LogState Message) (held : Logged) (messages : List (Event
         beginning = (drop n changes, take-append-drop n changes);
         cut = left.cut;
         fair = reads-fair held.stable kept known left.cut all left.fair;
-        is = subst (λ (l : List Messages). AreKept l (contents_after held.stable (take left.cut known))) (sym left.is) (record {
+        is = rw left.is (record {
           holds = holds-after before.stable held.stable (take left.cut kept) (take left.cut known) logged.stable (events-take held.stable left.cut kept known all);
           proper = stay-append before.stable held.stable before.pending left.came held.pending some logged.pending logged.proper some_stay left.cut;
         });

@@ -1,5 +1,5 @@
 -- The chain of a page whose places are kept, and what reading it found.
-use Rattle.sled_pagecache.proofs.Names.{zip-append, ◌≡◌, ◌+◌, ◌<◌, ◌≤◌, ℕ, zero, suc, ℤ, List, [], ◌∷◌, ◌++◌, length, map, take, get_or, sym, ◌∙◌, ap, subst, arith, add-one, zero-add, pos, get_or-map, length-map, take_more, take_all, get_or_default, AllZip, Any, DiskPtr, Inline, one_more, Entry, message, said_of, IsAt, IsFoundAs, place_of, count_after, CacheInfo, Found}
+use Rattle.sled_pagecache.proofs.Names.{◌≡◌, ◌+◌, ℕ, zero, suc, ℤ, List, [], length, map, get_or, sym, ◌∙◌, ap, arith, add-one, zero-add, pos, get_or-map, length-map, Inline, one_more, Entry, message, said_of, IsAt, place_of, count_after, CacheInfo}
 use Rattle.sled_base.specs.declared.kinds.MessageKind.TheVariants as kinds
 
 -- one more after so many more
@@ -25,10 +25,6 @@ module _ (chain : List Entry) (infos : List CacheInfo) (known : map said_of chai
   pub length-known : length chain ≡ length infos
   length-known = sym (length-map chain said_of) ∙ ap length known ∙ length-map infos place_of
 
-  said_at : (i : ℕ) (info : CacheInfo) → said_of (get_or chain i (entry_at info)) ≡ place_of (get_or infos i info)
-  said_at i info =
-      sym (get_or-map said_of chain i (entry_at info)) ∙ ap (λ (places : List (ℤ × DiskPtr × ℕ)). get_or places i (place_of info)) known ∙ get_or-map place_of infos i info
-
   -- the entry stands where its page keeps it
   pub is_at : (i : ℕ) (info : CacheInfo) (lsn : ℤ) → lsn ≡ (get_or infos i info).lsn → IsAt lsn (get_or infos i info).pointer (get_or chain i (entry_at info))
-  is_at i info lsn is = (ap (λ (place : ℤ × DiskPtr × ℕ). place.0) (said_at i info) ∙ sym is, ap (λ (place : ℤ × DiskPtr × ℕ). place.1) (said_at i info))
+  is_at i info lsn is = grind (arith, is, known, get_or-map said_of chain i (entry_at info), get_or-map place_of infos i info)

@@ -1,5 +1,5 @@
 -- What a call leads to that changes one page at most.
-use Rattle.sled_pagecache.proofs.Names.{◌≡◌, ℕ, true, false, List, [], ◌∷◌, ◌++◌, map, Result, Err, slice_set, refl, sym, ◌∙◌, ap, false≢true, map-append, map-set, Read, Write, Refusal, Io, chains_from, Content, Update, contents_from, Change, Messages, effect_of, IsUpdate, MayChange, message_of, Ghosts, Cache, Represents, StepOver, is_write_fault, Logged, IsProper, page, State, contents_of, stamps_of, with_page, outcome, no_change, Answer, Call, StampedPage, Recency, Bool, Config, StickyLog, KeptPage, Went, Went-none, Steps, stamps_in, IsLeft, view}
+use Rattle.sled_pagecache.proofs.Names.{◌≡◌, ℕ, true, false, List, [], ◌∷◌, Result, Err, slice_set, refl, sym, ◌∙◌, ap, false≢true, map-set, Read, Write, Refusal, Io, chains_from, Content, Update, contents_from, Change, Messages, effect_of, IsUpdate, MayChange, message_of, Ghosts, Cache, Represents, StepOver, is_write_fault, Logged, IsProper, page, State, contents_of, stamps_of, with_page, outcome, no_change, Answer, Call, StampedPage, Recency, Bool, Config, StickyLog, KeptPage, Went, Went-none, Steps, stamps_in, IsLeft, view, Event, Message, AreEvents, StayProper, open_after, contents_after}
 use Rattle.sled_log.specs.LogState as log
 use Rattle.sled_pagecache.proofs.CacheSteps.{LeadsTo, stays-none, steps-went}
 use Rattle.sled_pagecache.proofs.Carrying.{proper-now}
@@ -13,29 +13,30 @@ module _ {L : Type 0} (g : Ghosts L) where
     abbrev pages_now : List Messages
     pages_now = log.now effect_of (log.unplaced_state (g.state old.log))
 
-    -- nothing was told
-    unappended : (t : State) → StepOver g old s call answer (outcome t []) → t.pages ≡ s.pages → t.next ≡ s.next → t.fault ≡ new.fault → t.batch ≡ s.batch → new.stamps ≡ old.stamps
-        → LeadsTo g old new held s call answer []
-    unappended t step pages same_next fault batch stamps = record {
-      out = outcome t [];
+    -- a state that it leaves
+    leads : (t : State) (changes : List (Event Update)) (messages : List (Event Message)) → StepOver g old s call answer (outcome t changes) → AreEvents (now held) messages changes → StayProper pages_now (now held) messages changes
+        → open_after s.batch changes ≡ s.batch → stamps_of t ≡ new.stamps → t.next ≡ s.next → t.fault ≡ new.fault → t.batch ≡ s.batch → (new.fault ≡ false → contents_of t ≡ contents_after (now held) changes)
+        → LeadsTo g old new held s call answer messages
+    leads t changes messages step told stays marks stamps same_next fault batch contents = record {
+      out = outcome t changes;
       step = step;
-      told = tt;
-      stays = stays-none g old held s is clear;
-      stamps = ap (map (λ (p : StampedPage). p.stamp)) pages ∙ is.stamps ∙ sym stamps;
+      told = told;
+      stays = stays;
+      stamps = stamps;
       next = same_next ∙ is.next ∙ sym next;
       fault = fault;
       batch = batch;
-      marks = λ _. sym batch;
-      contents = λ _. ap (map (λ (p : StampedPage). p.content)) pages ∙ (is.known clear).contents;
+      marks = λ _. marks ∙ sym batch;
+      contents = contents;
     }
 
-    -- and nothing changes
+    -- nothing was told, and nothing changes
     pub leads-same : StepOver g old s call answer (no_change s) → new.stamps ≡ old.stamps → new.fault ≡ false → LeadsTo g old new held s call answer []
-    leads-same step stamps free = unappended s step refl refl (clear ∙ sym free) refl stamps
+    leads-same step stamps free = leads s [] [] step tt (stays-none g old held s is clear) refl (is.stamps ∙ sym stamps) refl (clear ∙ sym free) refl (λ _. (is.known clear).contents)
 
     -- or a write fault came before
     pub leads-fault : StepOver g old s call answer (outcome (record s { fault = true }) []) → new.stamps ≡ old.stamps → new.fault ≡ true → LeadsTo g old new held s call answer []
-    leads-fault step stamps kept = unappended (record s { fault = true }) step refl refl (sym kept) refl stamps
+    leads-fault step stamps kept = leads (record s { fault = true }) [] [] step tt (stays-none g old held s is clear) refl (is.stamps ∙ sym stamps) refl (sym kept) refl (λ _. (is.known clear).contents)
 
     -- a page couldn't be read
     pub leads-unread : (refusal : Refusal) → StepOver g old s call answer (unread s refusal) → new.stamps ≡ old.stamps
@@ -50,18 +51,9 @@ module _ {L : Type 0} (g : Ghosts L) where
       pub leads-to : (t : State) → StepOver g old s call answer (outcome t (Change pid update ∷ [])) → stamps_of t ≡ new.stamps → t.next ≡ s.next → t.fault ≡ new.fault → t.batch ≡ s.batch
           → (new.fault ≡ false → contents_of t ≡ contents_from (now held) (Change pid update))
           → LeadsTo g old new held s call answer (Change pid (message_of update) ∷ [])
-      leads-to t step stamps same_next fault batch contents = record {
-        out = outcome t (Change pid update ∷ []);
-        step = step;
-        told = ((refl, reads), may, tt);
-        stays = stay-one pages_now (now held) (Change pid (message_of update)) (Change pid update) (proper-now (log.unplaced_state (g.state old.log)) held (is.known clear).logged) proper;
-        stamps = stamps;
-        next = same_next ∙ is.next ∙ sym next;
-        fault = fault;
-        batch = batch;
-        marks = λ _. sym batch;
-        contents = contents;
-      }
+      leads-to t step stamps same_next fault batch contents =
+          leads t (Change pid update ∷ []) (Change pid (message_of update) ∷ []) step ((refl, reads), may, tt)
+          (stay-one pages_now (now held) (Change pid (message_of update)) (Change pid update) (proper-now (log.unplaced_state (g.state old.log)) held (is.known clear).logged) proper) refl stamps same_next fault batch contents
 
       -- and then a write fault came
       pub leads-begun : StepOver g old s call answer (outcome (record s { fault = true }) (Change pid update ∷ [])) → new.stamps ≡ old.stamps → new.fault ≡ true

@@ -1,5 +1,5 @@
 -- The counter of generated ids stays durable as far as the next id needs it.
-use Rattle.sled_pagecache.proofs.Names.{AllByRecursion, AllZip-long, AreEvents, AreFound, IsFoundAt, Makes, map, length-map, eqb-false, nat_lt, inl, inr, ◌⊎◌, Bool, Chain, Change, Config, Content, Counter, Err, Event, Ghosts, Holds, HoldsChain, Io, IsConsistent, IsKept, IsLogged, IsPagedOut, Kept, Link, List, Logged, Message, Messages, None, Option, Page, Put, Read, Refusal, Result, Some, StickyLog, Update, Went, Write, [], after_link, ap, arith, begun_by, cond, contents_after, contents_from, drop, effect_of, effect_of_entry, eqb-true, fault_of, false, get_or-map, holds-made, length, next_id, none-some, kept_behind_eviction, refl, same_Some, slice_get, slice_get-get_or, slice_get_within, slice_index_or, slice_set, suc, sym, subst, true, messages_of, unplaced_events, unplaced_state, zero, ℕ, ⊎_elim, ◌*◌, ◌++◌, ◌+◌, ◌<◌, ◌==◌, ◌∙◌, ◌∷◌, ◌≡◌, true≢false, ◌≢◌, ◌≤◌, Free, cases_lt, lt-div-mul-add, CapacityTooSmall, IntervalZero, SegmentZero, IsEvent, NodeLink, IsCounted, IsWhole, SparesCounter, IsBelowCounter, RefusesAppended, interval_start, is_write_fault, at-id, Token, zip-first, kept-at, other-at as set-other, other-before, set-at, holds_now, eqb_tells}
+use Rattle.sled_pagecache.proofs.Names.{AllByRecursion, AllZip-long, AreEvents, AreFound, IsFoundAt, Makes, map, length-map, Config, Content, Counter, Err, Event, Ghosts, Holds, HoldsChain, Io, IsConsistent, IsKept, IsLogged, IsPagedOut, List, Logged, Message, Messages, None, Option, Page, Read, Refusal, Result, Some, StickyLog, Update, Went, Write, [], ap, arith, begun_by, contents_after, contents_from, drop, effect_of, effect_of_entry, fault_of, false, get_or-map, holds-made, length, next_id, slice_get, slice_get-get_or, slice_get_within, slice_index_or, slice_set, suc, sym, subst, messages_of, unplaced_events, unplaced_state, zero, ℕ, ⊎_elim, ◌*◌, ◌++◌, ◌+◌, ◌<◌, ◌∙◌, ◌∷◌, ◌≡◌, true≢false, ◌≢◌, ◌≤◌, cases_lt, NodeLink, IsCounted, IsWhole, SparesCounter, IsBelowCounter, RefusesAppended, interval_start, is_write_fault, at-id, Token, zip-first, kept-at, other-at as set-other, other-before, set-at, holds_now, eqb_tells}
 use Rattle.sled_log.specs.LogState as log
 use Rattle.sled_pagecache.proofs.Counting.{CountsTo}
 use Rattle.sled_pagecache.proofs.ProperPages.{all-append}
@@ -78,13 +78,6 @@ whole-next g {k} {next} whole = record {
   counted = λ some clear told page n at holds few. whole.counted some clear told page n at holds (let up : interval_start k next ≤ interval_start k (next + 1) = grind arith in omega (arith, up, few));
 }
 
-covers : (k next n : ℕ) → 0 < k → interval_start k next ≤ interval_start k n → next < n + k
-covers k next n h1 h2 = grind arith
-
--- two intervals above the counter a new one is needed
-needs-new : (k n : ℕ) → 0 < k → interval_start k (n + 2 * k) ≤ interval_start k n → ⊥
-needs-new k n h1 h2 = grind arith
-
 -- ---- what is durable
 
 held-spares : (contents : List Content) (ms : List (Event Message)) (us : List (Event Update)) → AreEvents contents ms us → AllByRecursion SparesCounter ms → AllByRecursion SparesCounter us
@@ -93,46 +86,25 @@ held-spares contents (m ∷ ms) (u ∷ us) are spare = (let one : SparesCounter 
 held-spares contents [] (u ∷ us) are spare = absurd are
 held-spares contents (m ∷ ms) [] are spare = absurd are
 
-back-one : (contents : List Content) (u : Event Update) (n : ℕ) → SparesCounter u → CountsTo (contents_from contents u) n → CountsTo contents n
-back-one contents u n spare at = grind (arith, other-before, set-other)
-
 back-all : (contents : List Content) (us : List (Event Update)) (n : ℕ) → AllByRecursion SparesCounter us → CountsTo (contents_after contents us) n → CountsTo contents n
 back-all contents [] n spare at = at
-back-all contents (u ∷ us) n spare at = back-one contents u n spare.0 (back-all (contents_from contents u) us n spare.1 at)
+back-all contents (u ∷ us) n spare at = let rest = back-all (contents_from contents u) us n spare.1 at in grind (arith, other-before, set-other)
 
-module _ {L : Type 0} (g : Ghosts L) (k : ℕ) (sticky_log : StickyLog L) (table : List Page) (free : List ℕ) (c : IsConsistent g.tells g.state sticky_log table free) (clear : sticky_log.fault ≡ false) (told : g.tells)
-    (q : Page) (n : ℕ) (at : slice_get table 1 ≡ Some q) (holds : q.kept ≡ kept.Counter n) (held : Logged) (logged : IsLogged (unplaced_state (g.state sticky_log.log)) held) where
-  abbrev chains : List Chain
-  chains = log.now effect_of_entry (g.state sticky_log.log)
-
-  counts-now : CountsTo (now held) n
-  counts-now =
-      let kept = (c.beside clear).kept told in
-      let long = AllZip-long IsKept chains table kept in
-      let within = slice_get_within table 1 q at in
-      let long_too = length-map chains messages_of in
-      let found = zip-first Holds (map messages_of chains) (now held) 1 _ (holds_now (g.state sticky_log.log) held logged) (slice_get-get_or (map messages_of chains) 1 [] (omega (arith, long, within, long_too))) in
-      let made : Makes (messages_of (slice_index_or chains 1 [])) (Counter n) = subst (HoldsChain (slice_index_or chains 1 [])) holds (kept-at chains table 1 q kept at).holds in
-      found.1 ∙ ap (λ (content : Content). Some content)
-      (holds-made (messages_of (slice_index_or chains 1 [])) found.0 (Counter n) (subst (λ (m : Messages). Holds m found.0) (get_or-map messages_of chains 1 []) found.2) made)
-
-  -- an id that the counter covers
-  pub below-counter : (next : ℕ) → next < n + k → AllByRecursion SparesCounter (unplaced_state (g.state sticky_log.log)).pending → IsBelowCounter k held.stable next
-  below-counter next below spare = (n, back-all held.stable held.pending n (held-spares held.stable (unplaced_state (g.state sticky_log.log)).pending held.pending logged.pending spare) counts-now, below)
-
--- the next id, where it needs no new counter
+-- an id that the counter covers, as far as is durable
 pub covered-next : {L : Type 0} (g : Ghosts L) {k next : ℕ} {sticky_log : StickyLog L} {table : List Page} {free : List ℕ} → IsWhole g.tells g.state k next sticky_log table free → sticky_log.fault ≡ false
     → {counter : Token × ℕ} → IsCounterIn table counter → interval_start k next ≤ interval_start k counter.1 → g.tells → (held : Logged) → IsLogged (unplaced_state (g.state sticky_log.log)) held → IsBelowCounter k held.stable next
-covered-next g {k} {next} {sticky_log} {table} {free} whole clear {counter} found few told held logged =
-    below-counter g k sticky_log table free whole.consistent clear told found.page counter.1 found.at found.counter held logged next (covers k next counter.1 whole.positive few) (whole.counted whole.positive clear told found.page counter.1 found.at found.counter few)
-
--- and where one was put, which is durable
-pub covered-put : {L : Type 0} (g : Ghosts L) (k next : ℕ) (sticky_log : StickyLog L) (table : List Page) (free : List ℕ) → IsConsistent g.tells g.state sticky_log table free → 0 < k → sticky_log.fault ≡ false → g.tells
-    → (q : Page) → slice_get table 1 ≡ Some q → q.kept ≡ kept.Counter (interval_start k next) → (g.state sticky_log.log).pending ≡ []
-    → (held : Logged) → IsLogged (unplaced_state (g.state sticky_log.log)) held → IsBelowCounter k held.stable next
-covered-put g k next sticky_log table free c some clear told q at holds none held logged =
-    below-counter g k sticky_log table free c clear told q (interval_start k next) at holds held logged next (lt-div-mul-add some)
-    (subst (λ l. AllByRecursion SparesCounter (unplaced_events l)) (sym none) tt)
+covered-next g {k} {next} {sticky_log} {table} whole clear {counter} found few told held logged =
+    let some = whole.positive in
+    let chains = log.now effect_of_entry (g.state sticky_log.log) in
+    let chain = slice_index_or chains 1 [] in
+    let kept = (whole.consistent.beside clear).kept told in
+    let within = slice_get_within table 1 found.page found.at in
+    let stands = zip-first Holds (map messages_of chains) (now held) 1 _ (holds_now (g.state sticky_log.log) held logged) (slice_get-get_or (map messages_of chains) 1 [] (omega (arith, AllZip-long IsKept chains table kept, within, length-map chains messages_of))) in
+    let made : Makes (messages_of chain) (Counter counter.1) = subst (HoldsChain chain) found.counter (kept-at chains table 1 found.page kept found.at).holds in
+    let counts = stands.1 ∙ ap (λ (content : Content). Some content) (holds-made (messages_of chain) stands.0 (Counter counter.1) (subst (λ (m : Messages). Holds m stands.0) (get_or-map messages_of chains 1 []) stands.2) made) in
+    let spare = whole.counted some clear told found.page counter.1 found.at found.counter few in
+    let below : next < counter.1 + k = grind arith in
+    (counter.1, back-all held.stable held.pending counter.1 (held-spares held.stable (unplaced_state (g.state sticky_log.log)).pending held.pending logged.pending spare) counts, below)
 
 -- ---- an opening
 
@@ -142,10 +114,8 @@ positive config sound = grind arith
 -- A counter that was found is two intervals below the next id, and else all is durable.
 pub opened-counted : {L : Type 0} (g : Ghosts L) (k : ℕ) (sticky_log : StickyLog L) (table pages : List Page) (counter : Option ℕ) → AreFound table counter
     → (1 < length table → pages ≡ table) → (length table < 2 → (g.state sticky_log.log).pending ≡ []) → IsCounted g.tells g.state k (next_id k counter) sticky_log pages
-opened-counted g k sticky_log table pages counter found same stable = by (cases_lt 1 (length table))
-  where
-    by : (1 < length table) ⊎ (length table ≤ 1) → IsCounted g.tells g.state k (next_id k counter) sticky_log pages
-    by (inr few) = counted-stable g k (next_id k counter) sticky_log pages (stable (omega (arith, few)))
-    by (inl many) = λ some clear told page n at holds needs.
-        let own = at-id (λ pid (page : Page). IsFoundAt counter pid page.kept) table 1 page found.0 (sym (ap (λ (l : List Page). slice_get l 1) (same many)) ∙ at) in
-        absurd (needs-new k n some (subst (λ c. interval_start k (next_id k c) ≤ interval_start k n) (own.2 ∙ ap (λ m. Some m) (let same : own.0 ≡ n = cc in same)) needs))
+opened-counted g k sticky_log table pages counter found same stable some clear told page n at holds needs =
+    ⊎_elim (λ many.
+    let own = at-id (λ pid (page : Page). IsFoundAt counter pid page.kept) table 1 page found.0 (sym (ap (λ (l : List Page). slice_get l 1) (same many)) ∙ at) in
+    absurd (let more : interval_start k (n + 2 * k) ≤ interval_start k n = subst (λ c. interval_start k (next_id k c) ≤ interval_start k n) (own.2 ∙ ap (λ m. Some m) (let same : own.0 ≡ n = cc in same)) needs in grind arith))
+    (λ few. counted-stable g k (next_id k counter) sticky_log pages (stable (omega (arith, few))) some clear told page n at holds needs) (cases_lt 1 (length table))

@@ -1,7 +1,6 @@
 -- The counter of generated ids, through changes of pages: what opens behind them begins no lower than before.
-use Rattle.sled_pagecache.proofs.Names.{slice_get_within, set-at, AllByRecursion, Bool, Content, Counter, Event, Link, List, Put, Update, [], after_link, ap, arith, changes_of_start, cond, contents_after, contents_from, drop-nil, false, first_id, length, ne_eqb, none-some, refl, slice_get, slice_index_or, slice_set, sym, subst, take, take-append-drop, true, ℕ, ⊤, ◌*◌, ◌++◌, ◌+◌, ◌<◌, ◌==◌, ◌∙◌, ◌∷◌, ◌≡◌, ◌≢◌, ◌≤◌, Some, Change, Free, drop, AreKept, Messages, cond-false, contents_after-append, SparesCounter, interval_start, more-at, other-at}
-use Rattle.sled_pagecache.specs.Logged.{Adds, IsLeft, Logged, now}
-use Rattle.sled_pagecache.specs.Logged.{AreOwn, IsCounter}
+use Rattle.sled_pagecache.proofs.Names.{slice_get_within, set-at, AllByRecursion, Content, Counter, Event, List, Put, Update, [], arith, changes_of_start, contents_after, contents_from, drop-nil, first_id, length, refl, slice_get, take, take-append-drop, ℕ, ⊤, ◌*◌, ◌++◌, ◌+◌, ◌<◌, ◌∷◌, ◌≡◌, ◌≤◌, Some, Change, drop, Messages, contents_after-append, SparesCounter, interval_start, more-at, other-at}
+use Rattle.sled_pagecache.specs.Logged.{Adds, IsLeft, Logged, now, AreOwn, IsCounter}
 
 -- page 1 holds this counter
 abbrev pub CountsTo : List Content → ℕ → Type 0
@@ -29,13 +28,8 @@ first-at interval contents n at = grind arith
 
 -- ---- changes of other pages
 
-other-put : (added : Bool) (contents : List Content) (id : ℕ) (content y : Content) → id ≢ 1 → slice_get contents 1 ≡ Some y → slice_get (cond added (contents ++ content ∷ []) (slice_set contents id content)) 1 ≡ Some y
-other-put added contents id content y other at = grind (arith, more-at {A = Content}, other-at {A = Content})
-
 spared-one : (contents : List Content) (change : Event Update) (n : ℕ) → SparesCounter change → CountsTo contents n → CountsTo (contents_from contents change) n
-spared-one contents (Change id (Put content)) n other at = other-put (id == length contents) contents id content (Counter n) other at
-spared-one contents (Change id (Link link)) n other at = other-put false contents id (after_link link (slice_index_or contents id Free)) (Counter n) other at
-spared-one contents mark n other at = at
+spared-one contents change n other at = grind (arith, more-at {A = Content}, other-at {A = Content})
 
 pub spared-counts : (contents : List Content) (changes : List (Event Update)) (n : ℕ) → AllByRecursion SparesCounter changes → CountsTo contents n → CountsTo (contents_after contents changes) n
 spared-counts contents [] n others at = at
@@ -44,10 +38,8 @@ spared-counts contents (change ∷ changes) n others at = spared-counts (content
 pub spared-rises : (contents : List Content) (changes : List (Event Update)) (n : ℕ) → AllByRecursion SparesCounter changes → CountsTo contents n → Rises contents changes
 spared-rises contents [] n others at = tt
 spared-rises contents (change ∷ changes) n others at =
-    let then = spared-one contents change n others.0 at in (
-      λ interval. let a = first-at interval contents n at in let b = first-at interval (contents_from contents change) n then in omega arith,
-      spared-rises (contents_from contents change) changes n others.1 then,
-    )
+    let then = spared-one contents change n others.0 at in
+    (λ interval. omega (arith, first-at interval contents n at, first-at interval (contents_from contents change) n then), spared-rises (contents_from contents change) changes n others.1 then)
 
 -- ---- a counter is put there
 
@@ -91,11 +83,7 @@ pub record IsSafe (least bound : ℕ) (held : Logged) : Type 0 where
 pub now-added : (held new : Logged) (changes : List (Event Update)) → Adds held changes new → now new ≡ contents_after (now held) changes
 now-added held new changes added =
     let all = held.pending ++ changes in
-    ap (λ (l : List Content). contents_after l new.pending) added.stable
-    ∙ ap (contents_after (contents_after held.stable (take added.cut all))) added.pending
-    ∙ sym (contents_after-append held.stable (take added.cut all) (drop added.cut all))
-    ∙ ap (contents_after held.stable) (take-append-drop added.cut all)
-    ∙ contents_after-append held.stable held.pending changes
+    rw (added.stable, added.pending, ← contents_after-append held.stable (take added.cut all) (drop added.cut all), take-append-drop added.cut all) (contents_after-append held.stable held.pending changes)
 
 module _ (least bound : ℕ) (held : Logged) (safe : IsSafe least bound held) (changes : List (Event Update)) (rises : Rises (now held) changes) where
   rises-cut : (cut : ℕ) → (let part = take cut (held.pending ++ changes) in Rises held.stable part × Rises (contents_after held.stable part) (drop cut (held.pending ++ changes)))

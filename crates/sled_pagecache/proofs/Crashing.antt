@@ -1,12 +1,12 @@
 -- A cache that is opened again over what a crash left of one that was flushed.
-use Rattle.sled_pagecache.proofs.Names.{◌≡◌, ◌≤◌, ◌<◌, ◌+◌, ℕ, Bool, true, false, cond, ◌==◌, List, [], ◌∷◌, ◌++◌, length, map, take, drop, min, refl, sym, ◌∙◌, ap, subst, arith, drop-nil, take-nil, append-nil, length-map, AllZip-long, slice_set, slice_index_or, Result, Ok, Err, IfOk, IfErr, Error, Update, Content, Free, Put, Link, Change, after_link, contents_from, contents_after, Event, seen_event, Message, Messages, Chain, Entry, message_in, AreEvents, Holds, unplaced_state, Ghosts, LogFull, missing_pages, changes_of_start, opened_state, Cache, Logged, IsLogged, Started, Opens, stable_state, stable_contents, Config, State, page, contents_of, error_of, LacksRoomFor, replicate, length-append, length-set, length-replicate, drop_all, LogState, LogError, most_pages, Steps, AreSteps, IsRow, StepInRow, changes_of, IsOpened, IsUnopened, StampedPage, Outcome, Answer, Call, none-came, nil_from_length, inl, inr, ⊎_elim, ◌⊎◌, ◌≢◌}
+use Rattle.sled_pagecache.proofs.Names.{◌≡◌, ◌≤◌, ◌<◌, ◌+◌, ℕ, true, List, [], ◌∷◌, ◌++◌, length, map, take, drop, min, refl, sym, ◌∙◌, ap, subst, arith, drop-nil, append-nil, length-map, AllZip-long, Result, Ok, Err, IfOk, IfErr, Error, Update, Content, contents_from, contents_after, Event, seen_event, Message, Messages, Chain, Entry, message_in, AreEvents, Holds, unplaced_state, Ghosts, LogFull, missing_pages, changes_of_start, opened_state, Cache, Logged, IsLogged, Started, stable_state, stable_contents, Config, State, page, contents_of, error_of, replicate, length-append, length-set, length-replicate, drop_all, LogState, LogError, most_pages, IsRow, StepInRow, changes_of, IsOpened, IsUnopened, StampedPage, Outcome, Answer, Call, nil_from_length, inl, inr, ⊎_elim, ◌⊎◌, ◌≢◌}
 use Rattle.sled_pagecache.proofs.Endings.{by-settings, sound-settings}
 use Rattle.sled_pagecache.proofs.Staying.{no-changes}
 use Rattle.sled_base.specs.declared.types.Error.TheVariants as errors
 use Rattle.sled_log.specs.Calls.{refusal_of}
 use Rattle.sled_log.specs.declared.log.LogError.TheVariants as failures
-use Rattle.sled_pagecache.proofs.Reopening.{IsKeptAs, empty-logged, kept-logged, kept-prefix}
-use Rattle.sled_pagecache.specs.Reopening.{RefusesReopening, AreFlushedThen, IsFlushed, OpensAgain, ReopensAfter, HasFlushed}
+use Rattle.sled_pagecache.proofs.Reopening.{after-none, IsKeptAs, empty-logged, kept-logged, kept-prefix}
+use Rattle.sled_pagecache.specs.Reopening.{RefusesReopening, AreFlushedThen, IsFlushed, ReopensAfter, HasFlushed}
 use Rattle.sled_pagecache.specs.Logged.{IsLeft, now}
 
 -- ---- contents
@@ -47,9 +47,10 @@ pub refuses : {L : Type 0} (g : Ghosts L) (log after : L) (config : Config) (hel
 refuses g log after config held errors.OutOfMemory un = inl tt
 refuses g log after config held (errors.Io device) un = inl tt
 refuses g log after config held (errors.Unsupported LogFull) un =
-    inr (refl, λ none.
-    let empty : length un.begun + length un.rest ≡ 0 = sym (length-append un.begun un.rest) ∙ ap length (un.are ∙ none) in
-    absurd (rw (nil_from_length un.rest (omega arith)) at ((un.full refl).given (nil_from_length un.begun (omega arith)))))
+    let never : changes_of_start (now held) ≢ [] = λ none.
+        let empty : length un.begun + length un.rest ≡ 0 = sym (length-append un.begun un.rest) ∙ ap length (un.are ∙ none) in
+        absurd (rw (nil_from_length un.rest (omega arith)) at ((un.full refl).given (nil_from_length un.begun (omega arith)))) in
+    inr (refl, never)
 refuses g log after config held other un = absurd un.why
 
 -- a cache that was opened is durable where nothing is pending
@@ -88,14 +89,11 @@ module _ {L : Type 0} (g : Ghosts L) (first : Cache L) (calls : List (Call × An
         ((row.stop flushed.clear).each pages (subst (λ (l : L). g.left_since l (g.moment first.log) pages) same (since_earlier (g.moment first.log) moment pages flushed.is.tells is-since left)))
 
     -- where the log isn't opened
-    unopened : (failure : LogError) (config : Config) → (failure ≡ failures.Corruption → (pages : List Messages) → g.left_since crashed moment pages) → (failure ≡ failures.Full → ⊥) → RefusesReopening config (error_of (refusal_of failure))
-    unopened failures.Full config corrupt full = absurd (full refl)
-    unopened failures.Corruption config corrupt full = absurd (not-all (most_pages + 1) (stable_contents (contents_of s)) (changes_of row.outs) (omega arith) (λ pages. crash-state pages (corrupt refl pages)))
-    unopened failure config corrupt full = tt
-
     pub reopens-unopened : (failure : LogError) (error : Error) → error ≡ error_of (refusal_of failure) → (config : Config) → (failure ≡ failures.Corruption → (pages : List Messages) → g.left_since crashed moment pages) → (failure ≡ failures.Full → ⊥) → ReopensAfter g first s calls last config (Err error)
     reopens-unopened failure error is config corrupt full =
-        record { outs = row.outs; t = row.t; steps = row.steps; opens = tt; refused = subst (RefusesReopening config) (sym is) (unopened failure config corrupt full) }
+        let never : ((pages : List Messages) → g.left_since crashed moment pages) → ⊥ = λ all. not-all (most_pages + 1) (stable_contents (contents_of s)) (changes_of row.outs) (omega arith) (λ pages. crash-state pages (all pages)) in
+        let why : RefusesReopening config (error_of (refusal_of failure)) = grind (arith, never) in
+        record { outs = row.outs; t = row.t; steps = row.steps; opens = tt; refused = rw is why }
 
     module _ (log : L) (usable : (g.state log).usable ≡ true) (none : (g.state log).pending ≡ []) (left : g.left_since crashed moment (unplaced_state (g.state log)).stable) (config : Config) where
       abbrev pub pages : List Messages
@@ -129,16 +127,17 @@ module _ {L : Type 0} (g : Ghosts L) (first : Cache L) (calls : List (Call × An
       reopens-refused error after result is start =
           let begun = rw is at start in
           let why : RefusesReopening config error =
-              by-settings config (λ why wrong. subst (λ (r : Result (Cache L) (Error × L)). IfErr r (λ e. RefusesReopening config e.0)) (sym (begun.settings why wrong)) wrong)
-              (λ sound. ⊎_elim (λ why. why) (λ full. absurd (full.1 (drop_all (length kept.0) _ both))) (refuses g log after config (stable_contents kept.0) error (begun.opens sound (stable_contents kept.0) logged))) in
+          by-settings config (λ why wrong. subst (λ (r : Result (Cache L) (Error × L)). IfErr r (λ e. RefusesReopening config e.0)) (sym (begun.settings why wrong)) wrong)
+          (λ sound. ⊎_elim (λ why. why) (λ full. absurd (full.1 (drop_all (length kept.0) _ both))) (refuses g log after config (stable_contents kept.0) error (begun.opens sound (stable_contents kept.0) logged))) in
           record { outs = row.outs; t = row.t; steps = row.steps; opens = tt; refused = why }
 
 -- with no calls since, what is opened again is what was flushed
 pub flushed-again : {L : Type 0} (g : Ghosts L) (first last : Cache L) (s : State) (config : Config) (result : Result (Cache L) Error) → 2 ≤ length s.pages → ReopensAfter g first s [] last config result → IfOk result (HasFlushed g s config) × IfErr result (RefusesReopening config)
 flushed-again g first last s config (Err error) both after = (tt, after.refused)
 flushed-again g first last s config (Ok cache) both after =
-    let are : AreFlushedThen s [] after.opens.contents = subst (λ (outs : List Outcome). AreFlushedThen s (changes_of outs) after.opens.contents) (none-out after.outs after.steps) after.opens.are in
-    let same = are.is ∙ ap (λ (l : List (Event Update)). contents_after (contents_of s) (take are.cut l)) (none-came are.came are.beginning) ∙ ap (contents_after (contents_of s)) (take-nil are.cut) in
+    let none-out : after.outs ≡ [] = grind (arith, after.steps) in
+    let are : AreFlushedThen s [] after.opens.contents = subst (λ (outs : List Outcome). AreFlushedThen s (changes_of outs) after.opens.contents) none-out after.opens.are in
+    let same = after-none (stable_contents (contents_of s)) after.opens.contents refl are in
     let none : missing_pages (contents_of s) ≡ [] = drop_all (length (contents_of s)) _ (omega (arith, both, length-map s.pages (λ (p : StampedPage). p.content))) in (
       record {
         flushed = subst (λ (contents : List Content). IsFlushed g cache (opened_state config contents)) same after.opens.flushed;
@@ -146,10 +145,6 @@ flushed-again g first last s config (Ok cache) both after =
       },
       tt,
     )
-  where
-    none-out : (outs : List Outcome) → AreSteps g (Steps g) first s [] outs last after.t → outs ≡ []
-    none-out [] steps = refl
-    none-out (out ∷ outs) steps = absurd steps
 
 -- ---- a cache over an empty log
 

@@ -1,5 +1,5 @@
 -- A message that was written and then made stable.
-use Rattle.sled_pagecache.proofs.Names.{AllByRecursion, CacheInfo, Change, Err, Ghosts, HasGrown, HasGrown-since, Io, IsCaused, IsSized, Ok, Refusal, Result, StickyLog, Update, Went, Went-last, Write, Wrote, [], ap, effect_of_entry, false, false≢true, is_write_fault, message_of, subst, sym, true, ℕ, ◌∙◌, ◌∷◌, ◌≡◌, now, arith}
+use Rattle.sled_pagecache.proofs.Names.{CacheInfo, Change, Err, Ghosts, HasGrown-since, Io, IsCaused, Ok, Refusal, Result, StickyLog, Update, Went, Went-last, Write, Wrote, [], ap, effect_of_entry, false, message_of, ℕ, ◌∷◌, ◌≡◌, now, arith}
 
 module _ {L : Type 0} (g : Ghosts L) (old mid new : StickyLog L) (pid : ℕ) (update : Update) (stamp : ℕ) (info : CacheInfo)
     (wrote : Wrote g old mid pid update stamp (Ok info))
@@ -11,9 +11,6 @@ module _ {L : Type 0} (g : Ghosts L) (old mid new : StickyLog L) (pid : ℕ) (up
   pub durable-done : new.fault ≡ false → (g.tells → new.fault ≡ false → now effect_of_entry (g.state new.log) ≡ now effect_of_entry (g.state mid.log))
       → Wrote g old new pid update stamp (Ok info)
   durable-done free same =
-      let writes = wrote.writes in
-      let chains = λ (told : g.tells). same told free ∙ writes.chains told in
-      let sized = λ (told : g.tells). subst (AllByRecursion IsSized) (sym (same told free)) (writes.sized told) in
       grind (arith, both)
 
   pub durable-failed : (refusal : Refusal) → refusal ≡ Io Write → (let failed : Result ℕ Refusal = Err refusal in IsCaused g mid new ⊥ failed)

@@ -1,16 +1,9 @@
 -- What is left of a log over which no cache was opened, and of a cache that keeps a write fault: for laws on openings one after another.
-use Rattle.sled_pagecache.proofs.Names.{◌≡◌, ◌≢◌, ◌≤◌, ℕ, true, List, [], Option, None, Some, Result, Ok, Err, refl, sym, ◌∙◌, ap, subst, arith, ⊎_elim, IsErrAnd, Error, Write, Unsupported, Update, Event, Messages, unplaced_state, IsPrefix, IsPrefix-none, IsPrefix-all, Ghosts, Why, fault_of, changes_of_start, Cache, Represents, StepOver, Logged, IsLogged, Started, Opens, Config, State, Outcome, Answer, Call, HoldsCrash, IsMade, LeavesUnopened, MayBeOpened, OnlyNow, left-now, step-stuck, log_after}
-use Rattle.sled_base.specs.declared.types.Error.TheVariants.{Io}
-use Rattle.sled_pagecache.specs.Logged.{Adds, IsLeft, now}
-use Rattle.sled_pagecache.specs.Inside.SequenceLaws.{adds-none}
+use Rattle.sled_pagecache.proofs.Names.{◌≡◌, ◌≤◌, ℕ, None, Some, Ok, arith, Ghosts, Why, fault_of, Cache, Started, Config, HoldsCrash}
 
 -- the settings are wrong, or sound
 pub by-settings : {P : Type 0} (config : Config) → ((why : Why) → fault_of config ≡ Some why → P) → (fault_of config ≡ None → P) → P
-by-settings {P} config wrong sound = by (fault_of config) refl
-  where
-    by : (fault : Option Why) → fault_of config ≡ fault → P
-    by (Some why) is = wrong why is
-    by None is = sound is
+by-settings config wrong sound = grind arith
 
 module _ {L : Type 0} (g : Ghosts L) where
   -- those of a cache that was opened are sound

@@ -1,5 +1,5 @@
 -- A flush, and the size of the log, as steps of the machine.
-use Rattle.sled_pagecache.proofs.Names.{Recency, ◌≡◌, ℕ, Bool, true, false, List, [], Ok, Err, refl, ◌∙◌, Write, Ghosts, Cache, Steps, Went, State, Flushes, outcome, no_change, Flushed, Sized, Flush, SizeOnDisk, Config, StickyLog, Page, BatchOpen, view}
+use Rattle.sled_pagecache.proofs.Names.{Recency, ◌≡◌, ℕ, Bool, true, false, List, [], Ok, Err, refl, ◌∙◌, Write, Ghosts, Cache, Steps, Went, Flushed, Sized, Flush, SizeOnDisk, Config, StickyLog, Page, BatchOpen, view}
 use Rattle.sled_base.specs.declared.types.Error.TheVariants.{Unsupported, Io}
 use Rattle.sled_pagecache.proofs.CacheSteps.{steps-went}
 use Rattle.sled_pagecache.proofs.Changing.{KnowsNow, leads-fault, steps-uncalled, steps-untold}

@@ -1,5 +1,5 @@
 -- The messages of a page make one content, and each beginning of them makes a node.
-use Rattle.sled_pagecache.proofs.Names.{◌≡◌, ℕ, ◌+◌, ◌-◌, ◌<◌, ◌≤◌, List, [], ◌∷◌, ◌++◌, length, map, take, drop, get_or, Some, refl, sym, ap, subst, ◌∙◌, inl, inr, arith, get_or_after_one, take_all, take_more, drop_more, length-drop, length-append, length-map, append_assoc, ◌⊎◌, take-append-drop, map-append, MessageKind, DiskPtr, Refusal, Corruption, OutOfMemory, Content, Node, Put, Link, Message, Messages, Decodes, IsUpdate, LeadTo, Makes, one_content, one_update, Accepts, applied, WholeNode, ReadsNode, Found, found_message, MakesNode, IsFirstWrong, Leads, RefusesMessage, RefusesNode, NodeLink}
+use Rattle.sled_pagecache.proofs.Names.{◌≡◌, ℕ, ◌+◌, ◌-◌, ◌<◌, List, [], ◌∷◌, ◌++◌, length, map, take, drop, get_or, Some, refl, sym, ap, subst, ◌∙◌, arith, get_or_after_one, take_all, drop_more, length-drop, length-append, length-map, append_assoc, ◌⊎◌, take-append-drop, map-append, DiskPtr, Refusal, Corruption, OutOfMemory, Content, Node, Message, Messages, LeadTo, Makes, one_content, applied, WholeNode, Found, found_message, MakesNode, IsFirstWrong, Leads, RefusesMessage, RefusesNode}
 
 -- ---- messages behind others
 
@@ -18,16 +18,14 @@ makes-more [] before m after h l = absurd h
 makes-more (x ∷ told) before m after h l = (h.0, h.1, lead-join h.0 (Node before) (Node after) told (m ∷ []) h.2 (before, l.0, refl, l.1, l.2, ap Node (sym l.3)))
 
 -- A message behind those that make a node makes another with them only where the one leads to the other.
-makes-last : (told : Messages) (before : WholeNode) (m : Message) (after : WholeNode)
+pub makes-last : (told : Messages) (before : WholeNode) (m : Message) (after : WholeNode)
     → Makes told (Node before) → Makes (told ++ m ∷ []) (Node after) → Leads before m after
 makes-last [] before m after h k = absurd h
 makes-last (x ∷ told) before m after h k =
     let r = lead-split k.0 (Node after) told (m ∷ []) k.2 in
     let link = r.2 in
-    let is = one_content (x ∷ told) r.0 (Node before) (k.0, k.1, r.1) h in
-    let made = link.5 in
-    let was = link.2 in
-    subst (λ (n : WholeNode). Leads n m after) (let e : link.0 ≡ before = cc in e) (link.1, link.3, link.4, cc)
+    let e : link.0 ≡ before = cc (one_content (x ∷ told) r.0 (Node before) (k.0, k.1, r.1) h, link.2) in
+    subst (λ (n : WholeNode). Leads n m after) e (link.1, link.3, link.4, cc (link.5))
 
 lead-node : (content : Content) (told : Messages) (after : WholeNode) → LeadTo content told (Node after) → (node : WholeNode) × (content ≡ Node node)
 lead-node content [] after h = (after, h)
@@ -52,14 +50,8 @@ refuses_so pointer a b f e h = grind arith
 pub at_rest : (found : List Found) (i : ℕ) (m : Found) → i < length (take (length found - 1) (drop 1 found)) → m ≡ get_or (take (length found - 1) (drop 1 found)) i m
     → (i + 1 < length found) × (m ≡ get_or found (i + 1) m)
 at_rest found i m h e =
-    let d : length (drop 1 found) ≡ length found - 1 = length-drop 1 found in
-    let r : take (length found - 1) (drop 1 found) ≡ drop 1 found = take_all (length found - 1) (drop 1 found) (omega arith) in
-    let l : length (take (length found - 1) (drop 1 found)) ≡ length (drop 1 found) = ap (λ (l : List Found). length l) r in
-    (omega arith, e ∙ ap (λ (l : List Found). get_or l i m) r ∙ get_or_after_one found i m ∙ ap (λ (n : ℕ). get_or found n m) (omega arith))
-
-pub made-first : (found : List Found) (m : Found) (node : WholeNode) → 0 < length found → m ≡ get_or found 0 m
-    → IsUpdate (found_message m) (Put (Node node)) → Makes (map found_message (take (0 + 1) found)) (Node node)
-made-first found m node h1 h2 h3 = grind arith
+    let all = take_all (length found - 1) (drop 1 found) (omega (arith, length-drop 1 found)) in
+    (grind (arith, length-drop 1 found, all), grind (arith, all, get_or_after_one found i m))
 
 -- ---- all messages, refused
 
@@ -80,16 +72,9 @@ refused-at found i m amiss (Corruption (Some place)) lt is sound wrong r = recor
 }
 refused-at found i m amiss e lt is sound wrong r = absurd r
 
-pub refused-more : (found : List Found) (i : ℕ) (m : Found) (before : WholeNode) → Makes (map found_message (take i found)) (Node before)
-    → ((after : WholeNode) → ¬ Leads before (found_message m) after) → ¬ MakesNode (map found_message (take i found ++ m ∷ []))
-refused-more found i m before made nowhere (after, makes) =
-    nowhere after (makes-last (map found_message (take i found)) before (found_message m) after made (subst (λ (told : Messages). Makes told (Node after)) (map-append found_message (take i found) (m ∷ [])) makes))
-
 -- messages of which one is wrong make no node
 pub wrong-none : {M : Type 0} (message : M → Message) (kept_at : M → DiskPtr) (messages : List M) (pointer : DiskPtr) → IsFirstWrong message kept_at messages pointer → ¬ MakesNode (map message messages)
 wrong-none message kept_at messages pointer r (node, makes) =
     let told = r.before ++ r.first ∷ [] in
-    let long = length-append r.before (r.first ∷ []) in
-    let same = length-map told message in
-    r.wrong (makes-front (map message told) (map message r.after) node (omega arith)
+    r.wrong (makes-front (map message told) (map message r.after) node (omega (arith, length-append r.before (r.first ∷ []), length-map told message))
     (subst (λ (told : Messages). Makes told (Node node)) (ap (map message) (r.is ∙ sym (append_assoc r.before (r.first ∷ []) r.after)) ∙ map-append message told r.after) makes))

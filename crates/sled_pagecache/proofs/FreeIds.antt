@@ -1,5 +1,5 @@
 -- The ids of the free pages, where one is put in and taken out again.
-use Rattle.sled_pagecache.proofs.Names.{◌≡◌, ◌≢◌, ◌≤◌, ◌<◌, ◌+◌, ℕ, zero, suc, Bool, true, false, cond, List, [], ◌∷◌, ◌++◌, Some, slice_get, slice_set, ap, ◌∙◌, arith, none-some, same_Some, AllByRecursion, refl, is_free, free_ids, Page, insert_key, nat_cmp}
+use Rattle.sled_pagecache.proofs.Names.{◌≡◌, ◌≢◌, ◌≤◌, ◌<◌, ◌+◌, ℕ, zero, suc, Bool, true, false, cond, List, [], ◌∷◌, ◌++◌, Some, slice_get, slice_set, arith, none-some, same_Some, AllByRecursion, refl, is_free, free_ids, Page, insert_key, nat_cmp}
 use Rattle.std.specs.BTreeMap.{is_at}
 use Rattle.std.specs.Set.{remove_key}
 
@@ -13,21 +13,15 @@ weaker P Q into (id ∷ ids) all = (into id all.0, weaker P Q into ids all.1)
 each : (P : ℕ → Type 0) (free : Bool) (n : ℕ) (ids : List ℕ) → (free ≡ true → P n) → AllByRecursion P ids → AllByRecursion P (cond free (n ∷ ids) ids)
 each P free n ids here all = grind arith
 
-back-one : (pid id : ℕ) (ids : List ℕ) → id ≢ pid → remove_key (is_at (nat_cmp pid)) (insert_key nat_cmp ids pid) ≡ ids → remove_key (is_at (nat_cmp pid)) (insert_key nat_cmp (id ∷ ids) pid) ≡ id ∷ ids
-back-one pid id ids other rest = grind arith
-
 -- an id that is put among others and taken out leaves them
 pub back : (pid : ℕ) (ids : List ℕ) → AllByRecursion (λ id. id ≢ pid) ids → remove_key (is_at (nat_cmp pid)) (insert_key nat_cmp ids pid) ≡ ids
 back pid [] lacks = grind arith
-back pid (id ∷ ids) lacks = back-one pid id ids lacks.0 (back pid ids lacks.1)
-
-behind-one : (pid id : ℕ) (ids : List ℕ) → id < pid → insert_key nat_cmp (id ∷ ids) pid ≡ id ∷ insert_key nat_cmp ids pid
-behind-one pid id ids less = grind arith
+back pid (id ∷ ids) lacks = let rest = back pid ids lacks.1 in grind arith
 
 -- one that is greater than all stands behind them
 pub behind : (pid : ℕ) (ids : List ℕ) → AllByRecursion (λ id. id < pid) ids → insert_key nat_cmp ids pid ≡ ids ++ pid ∷ []
 behind pid [] less = refl
-behind pid (id ∷ ids) less = behind-one pid id ids less.0 ∙ ap (λ (l : List ℕ). id ∷ l) (behind pid ids less.1)
+behind pid (id ∷ ids) less = let rest = behind pid ids less.1 in grind arith
 
 pub later : (pid : ℕ) (ids : List ℕ) → AllByRecursion (λ id. id < pid) ids → AllByRecursion (λ id. id < pid + 1) ids
 later pid = weaker (λ id. id < pid) (λ id. id < pid + 1) (λ id less. omega (arith, less))
@@ -50,9 +44,6 @@ lacks-full n (p ∷ pages) zero pid q is at full =
 lacks-full n (p ∷ pages) (suc place) pid q is at full =
     each (λ id. id ≢ pid) (is_free p.kept) n (free_ids (n + 1) pages) (λ _ same. omega (arith, is, same)) (lacks-full (n + 1) pages place pid q (omega (arith, is)) at full)
 
-freed-one : (free : Bool) (n pid : ℕ) (ids after : List ℕ) → n < pid → insert_key nat_cmp ids pid ≡ after → insert_key nat_cmp (cond free (n ∷ ids) ids) pid ≡ cond free (n ∷ after) after
-freed-one free n pid ids after less rest = grind arith
-
 -- where it is freed, it is put among them
 freed-ids : (n : ℕ) (pages : List Page) (place pid : ℕ) (q page : Page) → pid ≡ n + place → slice_get pages place ≡ Some q → is_free q.kept ≡ false → is_free page.kept ≡ true
     → insert_key nat_cmp (free_ids n pages) pid ≡ free_ids n (slice_set pages place page)
@@ -60,8 +51,7 @@ freed-ids n [] place pid q page is at full free = absurd (none-some q at)
 freed-ids n (p ∷ pages) zero pid q page is at full free =
     let same : pid ≡ n = omega (arith, is) in
     rw (same_Some p q at, full, free, same) (first n (free_ids (n + 1) pages) (all-from (n + 1) (n + 1) pages (omega arith)))
-freed-ids n (p ∷ pages) (suc place) pid q page is at full free =
-    freed-one (is_free p.kept) n pid (free_ids (n + 1) pages) (free_ids (n + 1) (slice_set pages place page)) (omega (arith, is)) (freed-ids (n + 1) pages place pid q page (omega (arith, is)) at full free)
+freed-ids n (p ∷ pages) (suc place) pid q page is at full free = let rest = freed-ids (n + 1) pages place pid q page (omega (arith, is)) at full free in grind arith
 
 -- the same of all pages
 pub lacks-at : (pages : List Page) (ids : List ℕ) (pid : ℕ) (q : Page) → ids ≡ free_ids 0 pages → slice_get pages pid ≡ Some q → is_free q.kept ≡ false → AllByRecursion (λ id. id ≢ pid) ids

@@ -1,5 +1,5 @@
 -- A get as a step of the machine: a page is brought in, and then its node is lent.
-use Rattle.sled_pagecache.proofs.Names.{⊎_elim, MeetsDamage, ReportsDamage, MatchOption, HasNode, HasNoNode, IsBounded, KeepsMemory, AccessesPage, FindsPage, ◌≡◌, inl, inr, ℕ, Bool, true, false, List, [], Option, Some, None, Result, Ok, Err, slice_get, slice_index_or, refl, sym, ◌∙◌, ap, subst, false≢true, false_from_ne_true, error_of, IsOk, IsErrOf, Write, Error, Refusal, Io, ReservedId, Content, Free, Node, Damaged, Chain, messages_of, holds-made, Makes, Holds, Ghosts, WholeNode, Keeps, Cache, Represents, IsResident, IsAway, Steps, IsBlamed, chain_at, ReportsWrong, is_write_fault, Logged, sticky_log_of, RefusesReading, BringsIn, IsNodeAt, IsUsers, RefusesPull, ReadsPage, page, State, page_at, is_reserved, Finds, FindsContent, Token, Got, Get, NodeView, IsGot, Outcome, no_change, Gets, IfSome, StampedPage, answered, arith, behind-own}
+use Rattle.sled_pagecache.proofs.Names.{option_map, MeetsDamage, ReportsDamage, MatchOption, HasNode, HasNoNode, IsBounded, KeepsMemory, FindsPage, ◌≡◌, inl, inr, ℕ, Bool, true, false, List, [], Option, Some, None, Result, Ok, Err, slice_get, slice_index_or, refl, sym, ◌∙◌, ap, subst, false≢true, false_from_ne_true, error_of, IsOk, IsErrOf, Write, Error, Refusal, Io, ReservedId, Content, Node, Chain, messages_of, holds-made, Ghosts, WholeNode, Keeps, Cache, Represents, IsResident, IsAway, Steps, IsBlamed, chain_at, Logged, sticky_log_of, RefusesReading, BringsIn, IsNodeAt, ReadsPage, page, State, page_at, is_reserved, Finds, FindsContent, Token, Got, Get, NodeView, IsGot, Outcome, no_change, Gets, StampedPage, answered, arith, behind-own}
 use Rattle.sled_pagecache.proofs.LeftPages.{went-left}
 use Rattle.sled_base.specs.declared.types.Error.TheVariants as error
 use Rattle.sled_pagecache.proofs.Answers.{keeps-stuck, keeps-err, keeps-ok}
@@ -42,16 +42,6 @@ module _ {L : Type 0} (g : Ghosts L) (old new : Cache L) (pid : ℕ) (known : g.
     chain-same : chain_at (g.state new.log) pid ≡ chain_at (g.state old.log) pid
     chain-same = ap (λ (l : List Chain). slice_index_or l pid []) (brings.left.same known brings.cause.fault)
 
-    nothing-is : ((node : WholeNode) → ¬ Makes (messages_of (chain_at (g.state old.log) pid)) (Node node)) → (o : Option StampedPage) → page_at s pid ≡ o → Finds s pid o (Ok None) (no_change s)
-    nothing-is unmade None at = (refl, refl)
-    nothing-is unmade (Some p) at = by p.content (state-page g old held s is clear pid p at) (state-own g old held s is clear pid (behind-own pid brings.in_memory.0) p at)
-      where
-        by : (content : Content) → Holds (messages_of (chain_at (g.state old.log) pid)) content → IsUsers content → FindsContent s pid p.stamp content (Ok None) (no_change s)
-        by Free made own = (refl, refl)
-        by (Node node) made own = absurd (unmade node made)
-        by Damaged holds own = absurd (brings.sound known (sym (full-unplaced (chain_at (g.state old.log) pid)) ∙ holds.0, λ made. holds.1 (Node made.0) made.1))
-        by content made own = absurd own
-
     found-leads : (found : Option NodeView) → IsNodeAt g new pid found → LeadsTo g old new held s (Get pid) (Got (answered (Ok found))) []
     found-leads (Some view) (is_token, at, resident, made) =
         let stamp = view.token.stamp in
@@ -65,8 +55,11 @@ module _ {L : Type 0} (g : Ghosts L) (old new : Cache L) (pid : ℕ) (known : g.
         brings.left.stamps brings.cause.fault
     found-leads None (inl away) = absurd (brings.in_memory.1 away)
     found-leads None (inr unmade) =
+        let made = rw chain-same at (unmade known brings.cause.fault) in
+        let own = state-own g old held s is clear pid (behind-own pid brings.in_memory.0) in
         leads-same g old new held s is clear (Get pid) (Got (Ok None)) brings.left.next
-        (passes s pid (finds s pid) (Ok None) (no_change s) clear brings.in_memory.0 (nothing-is (rw chain-same at (unmade known brings.cause.fault)) (page_at s pid) refl))
+        (passes s pid (finds s pid) (Ok None) (no_change s) clear brings.in_memory.0
+        (grind (arith, made, own, state-page g old held s is clear pid, brings.sound known, full-unplaced (chain_at (g.state old.log) pid))))
         brings.left.stamps brings.cause.fault
 
 -- ---- what a caller knows
@@ -80,37 +73,24 @@ module _ {L : Type 0} (g : Ghosts L) (old new : Cache L) (pid : ℕ) where
   got-found found stuck brings reads at there accesses bounded =
       let ready : old.fault ≡ false = false_from_ne_true old.fault (λ kept. absurd (let h = (stuck kept).0 in cc)) in
       let brings = brings ready in
-      let seen = by found brings ready at in
+      let answer : Option (Token × WholeNode) = option_map (λ view. (view.token, view.node.now)) found in
+      let is : answered (Ok found) ≡ Ok answer = grind arith in
       record {
         step = steps-known g old new (Get pid) (Got (answered (Ok found))) brings.left.opening (λ known.
             steps-went g old new (sticky_log_of old) (sticky_log_of new) (Get pid) (Got (answered (Ok found))) [] brings.left.opening refl refl refl ready (went-left g old new brings.left)
             (λ held s is clear. found-leads g old new pid known held s is clear brings found at));
-        blame = seen.0;
-        keeps = seen.1;
+        blame = rw is (record { read = λ h. cc; write = λ h. cc });
+        keeps = rw is (keeps-ok old new (λ _. old.stamps) answer ready brings.cause.fault brings.left.stamps brings.left.batch);
         reads = reads;
-        once = seen.2;
-        token = seen.3;
+        once = grind arith;
+        token = grind arith;
         kept_out = tt;
         damaged = λ meets. absurd (brings.sound meets.tells meets.damaged);
         always = λ _ _ _. refl;
-        accesses = accessed found there accesses;
+        accesses = grind arith;
         same = tt;
         bounded = bounded;
       }
-    where
-      accessed : (found : Option NodeView) → MatchOption found (HasNoNode new pid) (λ _. (size : ℕ) × HasNode new pid size) → FindsPage old pid new
-          → MatchOption found (KeepsMemory old new) (λ _. AccessesPage old pid new)
-      accessed found there accesses = grind arith
-
-      by : (found : Option NodeView) → (let ok : Result (Unit {0}) Refusal = Ok tt in BringsIn g old pid ok new) → old.fault ≡ false → IsNodeAt g new pid found
-          → IsBlamed g old new (answered (Ok found)) × Keeps old new (answered (Ok found)) (λ _. old.stamps) × IfSome found (λ view. IsResident new pid) × IfSome found (λ view. view.token.pid ≡ pid)
-      by None brings ready at = (record { read = λ h. cc; write = λ h. cc }, keeps-ok old new (λ _. old.stamps) None ready brings.cause.fault brings.left.stamps brings.left.batch, tt, tt)
-      by (Some view) brings ready at = (
-        record { read = λ h. cc; write = λ h. cc },
-        keeps-ok old new (λ _. old.stamps) (Some (view.token, view.node.now)) ready brings.cause.fault brings.left.stamps brings.left.batch,
-        at.2,
-        ap (λ (t : Token). t.pid) at.0,
-      )
 
   pub got-refused : (refusal : Refusal)
       → (let err : Result (Unit {0}) Refusal = Err refusal in old.fault ≡ true → IsErrOf err (Io Write) × (new ≡ old))
@@ -138,7 +118,5 @@ module _ {L : Type 0} (g : Ghosts L) (old new : Cache L) (pid : ℕ) where
                 (λ held s is clear. refused-leads g old new pid known held s is clear refusal done (done.refused known))),
             blamed g old new ⊥ refusal done.cause,
             keeps-err old new (λ _. old.stamps) (Unit {0}) refusal ready done.cause.fault done.left.stamps done.left.batch,
-            λ meets.
-                let why : RefusesPull (chain_at (g.state old.log) pid) refusal = ⊎_elim (λ own. absurd (false≢true (sym meets.behind ∙ own.0))) (λ read. read.2) (done.refused meets.tells) in
-                record { reported = grind arith; left = done.left },
+            λ meets. record { reported = grind (arith, done.refused meets.tells, meets.behind); left = done.left },
           )

@@ -1,9 +1,10 @@
 -- The page of a state at an id beside the chain that the log has of it.
-use Rattle.sled_pagecache.proofs.Names.{◌≡◌, ◌≤◌, ℕ, zero, suc, true, false, List, [], ◌∷◌, map, Some, Result, Err, slice_get, refl, sym, ◌∙◌, ap, subst, false≢true, none-some, same_Some, error_of, Read, Write, Error, Refusal, Io, Corruption, OutOfMemory, is_empty, Content, Free, Node, Damaged, Chain, messages_of, effect_of_entry, Holds, Hold, Ghosts, WholeNode, Cache, Represents, chain_at, Logged, RefusesPull, IsUsers, page, State, contents_of, page_at, Outcome, outcome, no_change, IsCorruption, IsHindered, map-at, content-own, holds-at, stands-full, holds_now}
+use Rattle.sled_pagecache.proofs.Names.{arith, ◌≡◌, ◌≤◌, ℕ, zero, suc, true, false, List, [], ◌∷◌, map, Some, Result, Err, slice_get, sym, ◌∙◌, ap, subst, none-some, same_Some, error_of, Write, Error, Refusal, Io, is_empty, Content, Node, Damaged, Chain, messages_of, effect_of_entry, Holds, Hold, Ghosts, WholeNode, Cache, Represents, chain_at, Logged, RefusesPull, IsUsers, page, State, contents_of, page_at, Outcome, outcome, no_change, IsCorruption, IsHindered, map-at, content-own, holds-at, stands-full, holds_now}
 use Rattle.sled_log.specs.LogState as log
 use Rattle.sled_pagecache.proofs.Carrying.{proper-now}
 use Rattle.sled_pagecache.proofs.FoundMessages.{wrong-none}
 use Rattle.sled_pagecache.proofs.Standing.{holds-free}
+use Rattle.sled_pagecache.proofs.Names.{DiskPtr, IsWrongAt, Makes}
 use Rattle.sled_pagecache.specs.Logged.{AreOwn}
 use Rattle.sled_pagecache.specs.State.{StampedPage, is_free}
 
@@ -28,23 +29,11 @@ unread s (Io Write) = outcome (record s { fault = true }) []
 unread s refusal = no_change s
 
 module _ (s : State) (pid : ℕ) (chain : Chain) (stands : FullStands s pid chain) (P : Content → Type 0) where
-  full-content : ((node : WholeNode) → Holds (messages_of chain) (Node node) → P (Node node)) → P Damaged → P stands.content
-  full-content of_node damaged = by stands.content stands.own stands.full stands.holds
-    where
-      by : (content : Content) → IsUsers content → is_free content ≡ false → Holds (messages_of chain) content → P content
-      by Free own full holds = absurd (false≢true (sym full))
-      by (Node node) own full holds = of_node node holds
-      by Damaged own full holds = damaged
-      by content own full holds = absurd own
-
   -- The page couldn't be read: the call is hindered, or the page is damaged.
   pub unread-content : (T : Type 0) (refusal : Refusal) → RefusesPull chain refusal → ((node : WholeNode) → IsHindered s (error_of refusal) (unread s refusal) → P (Node node))
       → ((let answer : Result T Error = Err (error_of refusal) in IsCorruption s answer (unread s refusal)) → P Damaged) → P stands.content
-  unread-content T OutOfMemory why of_node damaged = full-content (λ node holds. of_node node refl) (damaged refl)
-  unread-content T (Io Read) why of_node damaged = full-content (λ node holds. of_node node refl) (damaged refl)
-  unread-content T (Io Write) why of_node damaged = full-content (λ node holds. of_node node refl) (damaged refl)
-  unread-content T (Corruption (Some pointer)) why of_node damaged = full-content (λ node holds. absurd (wrong-none _ _ chain pointer why (node, holds))) (damaged refl)
-  unread-content T refusal why of_node damaged = absurd why
+  unread-content T refusal why of_node damaged =
+      grind (arith, stands.own, stands.full, stands.holds, λ (pointer : DiskPtr) (wrong : IsWrongAt chain pointer) (node : WholeNode) (made : Makes (messages_of chain) (Node node)). wrong-none _ _ chain pointer wrong (node, made))
 
 module _ {L : Type 0} (g : Ghosts L) (cache : Cache L) (held : Logged) (s : State) (is : Represents g cache held s) (clear : s.fault ≡ false) (pid : ℕ) where
   abbrev chains : List Chain

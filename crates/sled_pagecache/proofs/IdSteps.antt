@@ -1,6 +1,6 @@
 -- What a call does to the generated ids: no call but that for an id touches the counter or uses an id.
-use Rattle.sled_pagecache.proofs.Names.{map, Answer, Cache, Call, Counter, Event, Generated, Ghosts, List, Ok, Outcome, Some, State, StepOver, Update, [], ap, arith, contents_after, contents_of, false, inl, inr, page_at, refl, same_Some, slice_get, slice_set, stamps_of, subst, sym, true, true≢false, ℕ, ⊎_elim, ◌+◌, ◌∙◌, ◌∷◌, ◌≡◌, ◌≤◌, ◌⊎◌, id_in, StampedPage, page, with_page, with_next_id, map-at, set-at}
-use Rattle.sled_pagecache.proofs.CallForms.{Form, IsQuiet, IsRaised, Marks, Next, Plain, Raises, call-form}
+use Rattle.sled_pagecache.proofs.Names.{map, Answer, Cache, Call, Event, Generated, Ghosts, List, Ok, Outcome, Some, State, StepOver, Update, [], ap, arith, contents_after, contents_of, false, inl, inr, refl, slice_get, slice_set, stamps_of, subst, sym, true, ℕ, ⊎_elim, ◌+◌, ◌∙◌, ◌∷◌, ◌≡◌, ◌≤◌, ◌⊎◌, id_in, StampedPage, map-at, set-at}
+use Rattle.sled_pagecache.proofs.CallForms.{Form, IsQuiet, Marks, Next, Plain, Raises, call-form}
 use Rattle.sled_pagecache.proofs.Counting.{CountsTo, Rises, put-counts, put-rises, spared-counts, spared-rises}
 
 -- ---- What an id does, and no other call: the next one is given, and the counter doesn't fall.
@@ -21,15 +21,6 @@ quiet s ids n out none counts is = record {
   given = inl none;
 }
 
-raises : (s : State) (ids : List ℕ) (out : Outcome) → IsRaised s ids out → Passes s ids out
-raises s ids out to = record {
-  rises = subst (Rises (contents_of s)) (sym to.changes) (put-rises (contents_of s) to.old to.new to.counts to.up);
-  counter = to.new;
-  counts = subst (λ (l : List (Event Update)). CountsTo (contents_after (contents_of s) l) to.new) (sym to.changes) (put-counts (contents_of s) to.old to.new to.counts);
-  next = ⊎_elim (λ h. let e = ap (λ (u : State). u.next) h.1 in omega (arith, e)) (λ h. let e = ap (λ (u : State). u.next) h.2 in omega (arith, e)) to.end;
-  given = ⊎_elim (λ h. inl h.0) (λ h. inr (h.0, ap (λ (u : State). u.fault) h.2 ∙ h.1, ap (λ (u : State). u.next) h.2)) to.end;
-}
-
 pub call-passes : {L : Type 0} (g : Ghosts L) (cache : Cache L) (s : State) (n : ℕ) → CountsTo (contents_of s) n → (call : Call) (answer : Answer) (out : Outcome) → StepOver g cache s call answer out → Passes s (id_in answer) out
 call-passes g cache s n counts call answer out step = by (id_in answer) (call-form g cache s call answer out step)
   where
@@ -37,7 +28,13 @@ call-passes g cache s n counts call answer out step = by (id_in answer) (call-fo
     by ids (Plain none is inside) = quiet s ids n out none counts is
     by ids (Marks none is leaves) = quiet s ids n out none counts is
     by ids (Next clear given is) = subst (Passes s ids) (sym is) (record { rises = tt; counter = n; counts = counts; next = omega arith; given = inr (given, clear, refl) })
-    by ids (Raises raised) = raises s ids out raised
+    by ids (Raises to) = record {
+      rises = subst (Rises (contents_of s)) (sym to.changes) (put-rises (contents_of s) to.old to.new to.counts to.up);
+      counter = to.new;
+      counts = subst (λ (l : List (Event Update)). CountsTo (contents_after (contents_of s) l) to.new) (sym to.changes) (put-counts (contents_of s) to.old to.new to.counts);
+      next = ⊎_elim (λ h. let e = ap (λ (u : State). u.next) h.1 in omega (arith, e)) (λ h. let e = ap (λ (u : State). u.next) h.2 in omega (arith, e)) to.end;
+      given = ⊎_elim (λ h. inl h.0) (λ h. inr (h.0, ap (λ (u : State). u.fault) h.2 ∙ h.1, ap (λ (u : State). u.next) h.2)) to.end;
+    }
 
 -- with a write fault kept no id is given
 pub none-given : {L : Type 0} (g : Ghosts L) (cache : Cache L) (s : State) → s.fault ≡ true → (call : Call) (answer : Answer) (out : Outcome) → StepOver g cache s call answer out → id_in answer ≡ []
@@ -49,13 +46,4 @@ same-stamp pages p put there same = cc (map-at (λ (q : StampedPage). q.stamp) p
 
 -- an id that leaves every stamp wrote nothing
 pub wrote-none : {L : Type 0} (g : Ghosts L) (cache : Cache L) (s : State) (call : Call) (id : ℕ) (out : Outcome) → StepOver g cache s call (Generated (Ok id)) out → stamps_of out.state ≡ stamps_of s → out.changes ≡ []
-wrote-none g cache s call id out step same = by (id ∷ []) refl (call-form g cache s call (Generated (Ok id)) out step)
-  where
-    by : (ids : List ℕ) → ids ≡ id ∷ [] → Form s call ids out → out.changes ≡ []
-    by ids given (Plain none is inside) = absurd cc
-    by ids given (Marks none is leaves) = absurd cc
-    by ids given (Next clear next is) = ap (λ (o : Outcome). o.changes) is
-    by ids given (Raises to) = ⊎_elim (λ h. let none = h.0 in absurd cc) (λ h. rises to.stamp to.new to.stands h.2) to.end
-      where
-        rises : (stamp start : ℕ) → (p : StampedPage) × (page_at s 1 ≡ Some p) × (p.stamp ≡ stamp) → out.state ≡ with_next_id (with_page s 1 (page (stamp + 1) (Counter start))) → out.changes ≡ []
-        rises stamp start (p, there, is) then = absurd (let e = same-stamp s.pages p (page (stamp + 1) (Counter start)) there (sym (ap stamps_of then) ∙ same) in omega (arith, e, is))
+wrote-none g cache s call id out step same = grind (arith, call-form g cache s call (Generated (Ok id)) out step, same-stamp)

@@ -1,13 +1,12 @@
 -- What the tests of a swap answer is a step of the machine, for each call that makes them.
-use Rattle.sled_pagecache.proofs.Names.{Recency, ◌≡◌, ◌+◌, ℕ, Bool, true, false, List, [], Option, Some, None, Ok, Err, slice_get, slice_set, refl, sym, ◌∙◌, ap, subst, ne_eqb, map-set, MatchBool, Write, Unsupported, Refusal, ReservedId, Content, Free, Put, Node, Messages, effect_of, Ghosts, WholeNode, Keeps, stamps_after_swap, Cache, chain_length, HasNoRoom, StepOver, Steps, Went-none, Judges, IsRejected, IsFresh, State, page_at, Outcome, no_change, is_reserved, Swapped, SwapsPage, Swaps, SwapsContent, LinksContent, stamps_in, IsBeside, Token, token, IsAnswered, Answer, Freed, Linked, Replaced, Call, Config, StickyLog, Rejection, Refused, Stale, Gone, answer_to, IfOk, IfErr, OnOk, OnErr, IsBlamed, HasNoName, EvictsAtMost, false≢true, same_Some, Page, error_by, NodeLink, map-at, view, IsLeft, unplaced_state, arith}
+use Rattle.sled_pagecache.proofs.Names.{Recency, ◌≡◌, ◌+◌, ℕ, Bool, true, false, List, [], Option, Some, None, Ok, Err, slice_get, slice_set, refl, sym, ◌∙◌, ap, subst, ne_eqb, map-set, MatchBool, Write, Unsupported, ReservedId, Content, Free, Put, Node, Messages, effect_of, Ghosts, WholeNode, Keeps, stamps_after_swap, Cache, chain_length, HasNoRoom, StepOver, Steps, Went-none, Judges, IsRejected, IsFresh, State, page_at, Outcome, no_change, is_reserved, Swapped, SwapsPage, Swaps, SwapsContent, LinksContent, stamps_in, IsBeside, Token, token, IsAnswered, Answer, Freed, Linked, Replaced, Call, Config, StickyLog, Rejection, Refused, Stale, Gone, answer_to, IfOk, IfErr, OnOk, OnErr, IsBlamed, HasNoName, EvictsAtMost, same_Some, Page, error_by, NodeLink, map-at, view, IsLeft, unplaced_state, arith}
 use Rattle.sled_base.specs.declared.types.Error.TheVariants.{Io}
 use Rattle.sled_base.specs.declared.types.Refusal.TheVariants as refusals
 use Rattle.sled_pagecache.proofs.Answers.{keeps-err, keeps-ok, keeps-stuck}
 use Rattle.sled_pagecache.proofs.CacheSteps.{steps-stuck}
 use Rattle.sled_pagecache.proofs.Evicting.{leaves-same}
-use Rattle.sled_pagecache.proofs.Passing.{passes, stuck-passes, reserved-passes}
-use Rattle.sled_pagecache.proofs.Putting.{nothing-appended}
-use Rattle.sled_pagecache.proofs.Standing.{AreKnown, found-known, found-none, IsFound}
+use Rattle.sled_pagecache.proofs.Putting.{nothing-appended, unless-clear}
+use Rattle.sled_pagecache.proofs.Standing.{AreKnown, found-known, found-none}
 use Rattle.sled_pagecache.specs.declared.pagecache.call.Call.TheVariants as call
 
 -- a call that tests its token, and goes on with the content of its page
@@ -49,10 +48,6 @@ module _ {L : Type 0} (g : Ghosts L) (next : ℕ) (config : Config) (recovered :
   abbrev cache : Cache L
   cache = view next config recovered lru sticky_log table
 
-  -- what follows the tests that come first
-  abbrev tests_then : State → Swapped R → Outcome → Type 0
-  tests_then s answer out = SwapsPage s old rejected (page_at s old.pid) answer out (goes_on s answer out)
-
   still : (answer : Swapped R) → sticky_log.fault ≡ false → ((s : State) → s.fault ≡ false → AreKnown s.pages table → StepOver g cache s call (answered answer) (no_change s)) → Steps g cache call (answered answer) cache
   still answer ready step =
       nothing-appended g next config recovered lru sticky_log table ready (beside ready) sticky_log call table refl (answered answer)
@@ -65,8 +60,7 @@ module _ {L : Type 0} (g : Ghosts L) (next : ℕ) (config : Config) (recovered :
       let answer : Swapped R = Ok (Err back) in
       let keeps = keeps-ok cache cache (stamps_after_swap {R = R} (stamps_in table)) (Err back) ready ready refl refl in
       let step = still answer ready (λ s clear are. swap.step s answer (no_change s)
-          (passes s old.pid (tests_then s) answer (no_change s) clear (ap is_reserved same ∙ free)
-          (subst (λ (n : ℕ). SwapsPage s old rejected (page_at s n) answer (no_change s) (goes_on s answer (no_change s))) (sym same) (is s are)))) in
+      (unless-clear s answer (no_change s) _ clear (rw (ap is_reserved same ∙ free, ap (page_at s) same) (is s are)))) in
       grind arith
 
   pub unswapped : (rejection : Rejection) → Judges sticky_log.fault table pid old (Err rejection) → (answer : Swapped R) → answer ≡ answer_to rejection rejected → Unswapped g cache pid old rejected call answered answer
@@ -76,13 +70,13 @@ module _ {L : Type 0} (g : Ghosts L) (next : ℕ) (config : Config) (recovered :
       by : (fault : Bool) → sticky_log.fault ≡ fault → MatchBool fault (refusal ≡ refusals.Io Write) ((is_reserved pid ≡ true) × (refusal ≡ refusals.Unsupported ReservedId))
           → Unswapped g cache pid old rejected call answered (Err (error_by refusal))
       by true kept is = rw is (
-        let step = steps-stuck g cache call (answered (Err (Io Write))) kept (λ s stuck. swap.step s (Err (Io Write)) (no_change s) (stuck-passes s old.pid (tests_then s) stuck)) in
-        let keeps = keeps-stuck cache cache (stamps_after_swap {R = R} (stamps_in table)) kept refl in
-        grind (arith, leaves-same cache g.tells pid (Io Write)))
+          let step = steps-stuck g cache call (answered (Err (Io Write))) kept (λ s stuck. swap.step s (Err (Io Write)) (no_change s) (rw stuck (refl, refl))) in
+          let keeps = keeps-stuck cache cache (stamps_after_swap {R = R} (stamps_in table)) kept refl in
+          grind (arith, leaves-same cache g.tells pid (Io Write)))
       by false ready (own, is) = rw is (
-        let step = still (Err (Unsupported ReservedId)) ready (λ s clear are. swap.step s (Err (Unsupported ReservedId)) (no_change s) (reserved-passes s old.pid (tests_then s) clear (ap is_reserved same ∙ own))) in
-        let keeps = keeps-err cache cache (stamps_after_swap {R = R} (stamps_in table)) (Unit {0}) (refusals.Unsupported ReservedId) ready ready refl refl in
-        grind (arith, leaves-same cache g.tells pid (Unsupported ReservedId)))
+          let step = still (Err (Unsupported ReservedId)) ready (λ s clear are. swap.step s (Err (Unsupported ReservedId)) (no_change s) (rw (clear, ap is_reserved same ∙ own) (refl, refl))) in
+          let keeps = keeps-err cache cache (stamps_after_swap {R = R} (stamps_in table)) (Unit {0}) (refusals.Unsupported ReservedId) ready ready refl refl in
+          grind (arith, leaves-same cache g.tells pid (Unsupported ReservedId)))
   unswapped (Stale present) (ready, free, judged) answer is = rw is (by (slice_get table pid) refl judged)
     where
       by : (o : Option Page) → slice_get table pid ≡ o → IsRejected o pid old (Stale present) → Unswapped g cache pid old rejected call answered (Ok (Err (Some (present, rejected))))

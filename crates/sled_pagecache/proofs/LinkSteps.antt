@@ -1,5 +1,5 @@
 -- A link as a step of the machine.
-use Rattle.sled_pagecache.proofs.Names.{Recency, ◌≡◌, ◌≢◌, ◌≤◌, ◌<◌, ◌+◌, ◌-◌, ◌^◌, inl, inr, ℕ, Bool, true, false, cond, ltb, List, [], ◌∷◌, ◌++◌, length, Option, Some, Result, Ok, Err, slice_get, slice_set, slice_index_or, refl, sym, ◌∙◌, ap, subst, arith, eq-eqb, get_or-map, ne_eqb, ltb-true, length-map, map-set, same_Some, slice_get_within, get_or_from_slice_get, error_of, LinkRefused, Write, Error, Refusal, ReportableBug, Io, Corruption, OutOfMemory, StampUsedUp, LogFull, chains_from, Content, Free, Node, Update, Put, Link, after_link, contents_from, Event, Change, Entry, Chain, Messages, messages_of, effect_of, effect_of_entry, holds-made, one_content, Makes, Hold, MayChange, now-unplaced, message_of, Ghosts, Accepts, applied, WholeNode, Cache, chain_length, Represents, HasNoRoom, StepOver, Steps, link_update, chain_at, IsCaused, is_write_fault, RefusesUnappended, RefusesPull, update_by, AppendsLink, TakesLink, RefusesAppended, Logged, HoldsChain, is_free, IsProper, page, State, page_at, with_page, Outcome, outcome, no_change, is_reserved, Does, Links, LinksNode, LinksContent, stamps_in, IsConsistent, Token, token, Linked, Config, StickyLog, NodeLink, StampedPage, is_free_content, KeptPage, map-at, behind-own, holds_now, IsKept}
+use Rattle.sled_pagecache.proofs.Names.{Recency, ◌≡◌, ◌≢◌, ◌≤◌, ◌+◌, ◌-◌, ◌^◌, inl, inr, ℕ, Bool, true, false, cond, ltb, List, [], ◌∷◌, ◌++◌, length, Option, Some, Result, Ok, Err, slice_get, slice_set, slice_index_or, refl, sym, ◌∙◌, ap, subst, arith, eq-eqb, get_or-map, ne_eqb, ltb-true, length-map, map-set, same_Some, slice_get_within, get_or_from_slice_get, error_of, LinkRefused, Write, Error, Refusal, ReportableBug, Io, Corruption, OutOfMemory, StampUsedUp, LogFull, chains_from, Content, Free, Node, Update, Put, Link, after_link, contents_from, Change, Entry, Chain, Messages, messages_of, effect_of, effect_of_entry, holds-made, one_content, Makes, Hold, MayChange, now-unplaced, message_of, Ghosts, Accepts, applied, WholeNode, Cache, chain_length, Represents, HasNoRoom, StepOver, Steps, link_update, chain_at, IsCaused, is_write_fault, RefusesUnappended, RefusesPull, update_by, TakesLink, RefusesAppended, Logged, is_free, IsProper, page, State, page_at, with_page, Outcome, outcome, no_change, is_reserved, Does, LinksNode, LinksContent, stamps_in, IsConsistent, Token, token, Linked, Config, StickyLog, NodeLink, StampedPage, KeptPage, map-at, behind-own, IsKept, Swapped}
 use Rattle.sled_base.specs.declared.types.Error.TheVariants as error
 use Rattle.sled_base.specs.declared.types.Refusal.TheVariants.{Unsupported}
 use Rattle.sled_log.specs.LogState as log
@@ -7,7 +7,7 @@ use Rattle.sled_pagecache.proofs.CacheSteps.{LeadsTo, steps-went}
 use Rattle.sled_pagecache.proofs.Carrying.{proper-now}
 use Rattle.sled_pagecache.proofs.Changing.{leads-same, leads-unread, leads-begun, leads-set}
 use Rattle.sled_pagecache.proofs.Held.{FullStands, unread, unread-content, full-stands}
-use Rattle.sled_pagecache.proofs.PagingIn.{page-kept-at, places-length, length-before, stamps-same}
+use Rattle.sled_pagecache.proofs.PagingIn.{page-kept-at, stamps-same}
 use Rattle.sled_pagecache.proofs.Putting.{unless-clear, holds_unplaced}
 use Rattle.sled_pagecache.proofs.ProperPages.{link-proper, put-proper}
 use Rattle.sled_pagecache.proofs.TableNodes.{view}
@@ -42,13 +42,7 @@ link-way contents pages hold proper pid from link node at accepts n count = by (
           stays = put-proper pages contents hold proper pid from (Node (applied link node)) tt lt;
         }
 
--- ---- the machine
-
--- a link that was stale or not, and refused or done
-abbrev pub Answered : Type 0
-Answered = Result (Result Token (Option (Token × NodeLink))) Error
-
--- ---- the cache
+-- ---- the step
 
 module _ {L : Type 0} (g : Ghosts L) where
   module _ (next : ℕ) (config : Config) (recovered : Bool) (lru : Recency) (before : StickyLog L) (pages : List KeptPage) (free : List ℕ) (pid : ℕ)
@@ -58,12 +52,6 @@ module _ {L : Type 0} (g : Ghosts L) where
 
     abbrev chain : Chain
     chain = chain_at (g.state before.log) pid
-
-    abbrev lengths : ℕ → ℕ
-    lengths = chain_length g.state old
-
-    abbrev no_room : Event Update → Type 0
-    no_room = HasNoRoom g before.log
 
     module _ (behind : is_reserved pid ≡ false) (q : KeptPage) (at : slice_get pages pid ≡ Some q) (not : is_free q.kept ≡ false) (after : StickyLog L) (page_then : KeptPage) (is_fresh : q.stamp ≡ t.stamp) where
       abbrev new : Cache L
@@ -83,7 +71,7 @@ module _ {L : Type 0} (g : Ghosts L) where
             (sym (map-at (λ (p : StampedPage). p.stamp) s.pages pid (page stands.stamp stands.content) stands.there) ∙ ap (λ (l : List ℕ). slice_get l pid) is.stamps
             ∙ map-at (λ (p : KeptPage). p.stamp) pages pid q at ∙ ap (λ n. Some n) is_fresh)
 
-        step : (answer : Answered) (out : Outcome) → LinksContent lengths no_room s t link answer out stands.content → StepOver g old s (call.Link t link) (Linked answer) out
+        step : (answer : Swapped NodeLink) (out : Outcome) → LinksContent (chain_length g.state old) (HasNoRoom g before.log) s t link answer out stands.content → StepOver g old s (call.Link t link) (Linked answer) out
         step answer out h = unless-clear s answer out _ clear (rw (ap is_reserved same ∙ behind, ap (page_at s) same ∙ stands.there, stands.full, eq-eqb stands.stamp t.stamp at_stamp) h)
 
         -- it holds the node that its chain makes
@@ -94,16 +82,16 @@ module _ {L : Type 0} (g : Ghosts L) where
           way : Accepts node link → IsWay (now held) (log.now effect_of (log.unplaced_state (g.state before.log))) pid (applied link node) (update_by q link node)
           way accepts =
               let there : slice_get (now held) pid ≡ Some (Node node)
-                  = ap (λ (l : List Content). slice_get l pid) (sym (is.known clear).contents) ∙ map-at (λ (p : StampedPage). p.content) s.pages pid (page stands.stamp stands.content) stands.there ∙ ap (λ c. Some c) holds in
+              = ap (λ (l : List Content). slice_get l pid) (sym (is.known clear).contents) ∙ map-at (λ (p : StampedPage). p.content) s.pages pid (page stands.stamp stands.content) stands.there ∙ ap (λ c. Some c) holds in
               link-way (now held) _ (holds_unplaced g old held s is clear) (proper-now (log.unplaced_state (g.state before.log)) held (is.known clear).logged) pid (behind-own pid behind) link node there accepts (length q.infos.items)
               (ap (λ (l : List Messages). length (slice_index_or l pid [])) (sym (now-unplaced (g.state before.log)))
               ∙ ap length (get_or-map messages_of (log.now effect_of_entry (g.state before.log)) pid []) ∙ length-map chain (λ (e : Entry). e.message) ∙ kept.long)
 
-          node-step : (answer : Answered) (out : Outcome) → LinksNode lengths no_room s t link node answer out → StepOver g old s (call.Link t link) (Linked answer) out
-          node-step answer out h = step answer out (subst (LinksContent lengths no_room s t link answer out) (sym holds) h)
+          node-step : (answer : Swapped NodeLink) (out : Outcome) → LinksNode (chain_length g.state old) (HasNoRoom g before.log) s t link node answer out → StepOver g old s (call.Link t link) (Linked answer) out
+          node-step answer out h = step answer out (subst (LinksContent (chain_length g.state old) (HasNoRoom g before.log) s t link answer out) (sym holds) h)
 
-          accepted-step : Accepts node link → q.stamp ≢ 2 ^ 64 - 1 → (answer : Answered) (out : Outcome)
-              → Does lengths no_room s (Change pid (update_by q link node)) answer out (λ swapped u. (swapped ≡ Ok (token pid (t.stamp + 1))) × (u ≡ with_page s pid (page (t.stamp + 1) (Node (applied link node)))))
+          accepted-step : Accepts node link → q.stamp ≢ 2 ^ 64 - 1 → (answer : Swapped NodeLink) (out : Outcome)
+              → Does (chain_length g.state old) (HasNoRoom g before.log) s (Change pid (update_by q link node)) answer out (λ swapped u. (swapped ≡ Ok (token pid (t.stamp + 1))) × (u ≡ with_page s pid (page (t.stamp + 1) (Node (applied link node)))))
               → StepOver g old s (call.Link t link) (Linked answer) out
           accepted-step accepts below answer out h = node-step answer out (inr (inr (accepts, rw (ne_eqb t.stamp (2 ^ 64 - 1) (λ most. below (is_fresh ∙ most)), same, kept.long) h)))
 
@@ -119,11 +107,11 @@ module _ {L : Type 0} (g : Ghosts L) where
             let e = error_of refusal in
             leads-unread g old new held s is clear (call.Link t link) (Linked (Err e)) refl refusal
             (step held s is clear (Err e) (unread s refusal)
-            (unread-content s pid chain (stands held s is clear) (LinksContent lengths no_room s t link (Err e) (unread s refusal)) (Result Token (Option (Token × NodeLink))) refusal why (λ node h. inl h) (λ h. h)))
+            (unread-content s pid chain (stands held s is clear) (LinksContent (chain_length g.state old) (HasNoRoom g before.log) s t link (Err e) (unread s refusal)) (Result Token (Option (Token × NodeLink))) refusal why (λ node h. inl h) (λ h. h)))
             stamps fault
 
         -- the node was read
-        still : (node : WholeNode) → Makes (messages_of chain) (Node node) → (e : Error) → LinksNode lengths no_room s t link node (Err e) (no_change s) → after.fault ≡ false → LeadsTo g old new held s (call.Link t link) (Linked (Err e)) []
+        still : (node : WholeNode) → Makes (messages_of chain) (Node node) → (e : Error) → LinksNode (chain_length g.state old) (HasNoRoom g before.log) s t link node (Err e) (no_change s) → after.fault ≡ false → LeadsTo g old new held s (call.Link t link) (Linked (Err e)) []
         still node made e h fault = leads-same g old new held s is clear (call.Link t link) (Linked (Err e)) refl (node-step held s is clear node made (Err e) (no_change s) h) stamps fault
 
         unappended : (refusal : Refusal) → RefusesUnappended chain q.stamp link refusal
@@ -152,9 +140,8 @@ module _ {L : Type 0} (g : Ghosts L) where
           → (let err : Result (Unit {0}) Refusal = Err refusal in IsCaused g before after (g.tells → linked.HadNoRoom g before pid q link) err)
           → page_then.stamp ≡ q.stamp → Steps g old (call.Link t link) (Linked (Err (error_of refusal))) new
       link-refused refusal (inl (went, why)) = λ cause stamp.
-          let again : Refusal → Result (Unit {0}) Refusal = λ r. Err r in
           steps-went g old new before after (call.Link t link) (Linked (Err (error_of refusal))) [] (record { config = refl; recovered = refl }) refl refl refl ready went
-          (λ held s is clear. unappended stamp held s is clear refusal why cause.fault (λ e. cause.full (ap again e) is.tells))
+          (λ held s is clear. unappended stamp held s is clear refusal why cause.fault (λ e. cause.full (ap {B = Result (Unit {0}) Refusal} Err e) is.tells))
       link-refused refusal (inr (write, tells)) = rw write (λ cause stamp.
           let update = update_by q link tells.node in
           steps-went g old new before after (call.Link t link) (Linked (Err (error.Io Write))) (Change pid (message_of update) ∷ []) (record { config = refl; recovered = refl }) refl refl refl ready tells.went
@@ -169,7 +156,7 @@ module _ {L : Type 0} (g : Ghosts L) where
       pub link-taken : TakesLink g before pid q link after page_then → after.fault ≡ false → Steps g old (call.Link t link) (Linked (Ok (Ok (token pid (t.stamp + 1))))) new
       link-taken takes clear_after =
           let tells = takes.tells in
-          let answer : Answered = Ok (Ok (token pid (t.stamp + 1))) in
+          let answer : Swapped NodeLink = Ok (Ok (token pid (t.stamp + 1))) in
           let update = update_by q link tells.node in
           steps-went g old new before after (call.Link t link) (Linked answer) (Change pid (message_of update) ∷ []) (record { config = refl; recovered = refl }) refl refl refl ready tells.went
           (λ held s is clear.

@@ -1,5 +1,5 @@
 -- The table of a cache after a link, and what one sees of it who knows the cache by its model.
-use Rattle.sled_pagecache.proofs.Names.{Recency, ◌≡◌, ◌≤◌, ◌+◌, ℕ, Bool, true, false, cond, ltb, List, [], ◌∷◌, length, Some, slice_get, slice_set, refl, sym, ◌∙◌, ap, subst, arith, ltb-true, is_open, Change, effect_of_entry, message_of, Ghosts, Cache, chain_length, IsResident, IsAway, chain_at, update_by, TakesLink, WasBegun, IsKept, is_free, is_resident, is_reserved, linked_length, IsFreeOrNode, IsConsistent, Config, StickyLog, Page, NodeLink, now, view, behind-own}
+use Rattle.sled_pagecache.proofs.Names.{Recency, ◌≡◌, ◌≤◌, ℕ, Bool, true, false, List, length, Some, slice_get, slice_set, sym, ◌∙◌, ap, subst, arith, is_open, effect_of_entry, message_of, Ghosts, Cache, chain_length, IsResident, IsAway, chain_at, update_by, TakesLink, WasBegun, IsKept, is_free, is_resident, is_reserved, linked_length, IsFreeOrNode, IsConsistent, Config, StickyLog, Page, NodeLink, now, view, behind-own}
 use Rattle.sled_pagecache.proofs.PagingIn.{page-short-at, places-length, length-before, same-consistent, before-is, is-after}
 use Rattle.sled_pagecache.proofs.Tables.{consistent-put, free-same}
 

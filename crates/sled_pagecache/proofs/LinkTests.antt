@@ -1,10 +1,9 @@
 -- A link that is tested, and one of a damaged page.
-use Rattle.sled_pagecache.proofs.Names.{Recency, ◌≡◌, inl, inr, ℕ, Bool, true, false, List, Option, Some, None, Err, slice_get, slice_set, refl, sym, ◌∙◌, ap, subst, false≢true, option_map, slice_get-map, none-some, same_Some, MatchBool, error_of, LinkRefused, Write, Refusal, ReportableBug, Io, Corruption, OutOfMemory, ReservedId, StampUsedUp, LogFull, is_empty, Node, Chain, messages_of, effect_of_entry, Makes, one_content, Ghosts, Accepts, WholeNode, Cache, Represents, IsResident, chain_at, ReportsWrong, MeetsDamage, ReportsDamage, Judges, IsFresh, IsRejected, IsTested, TestsFirst, RefusesUnappended, TakesLink, RefusesAppended, Logged, HoldsChain, is_resident, is_free, State, page, page_at, Swapped, is_reserved, RefusesLink, stamps_in, resident_in, IsFreeOrNode, IsConsistent, Token, Config, StickyLog, Rejection, Refused, Stale, Gone, Kept, NodeLink, StampedPage, KeptPage, map-at, kept-at, own-at, behind-own, arith}
+use Rattle.sled_pagecache.proofs.Names.{Recency, ◌≡◌, inl, inr, ℕ, Bool, true, false, List, Some, Err, slice_get, slice_set, refl, sym, ◌∙◌, ap, slice_get-map, same_Some, error_of, Refusal, is_empty, Node, Chain, messages_of, effect_of_entry, Makes, one_content, Ghosts, WholeNode, Cache, Represents, chain_at, ReportsWrong, MeetsDamage, ReportsDamage, Judges, IsFresh, IsTested, TestsFirst, RefusesUnappended, TakesLink, RefusesAppended, Logged, HoldsChain, is_resident, is_free, State, page, page_at, Swapped, is_reserved, RefusesLink, stamps_in, resident_in, IsFreeOrNode, IsConsistent, Token, Config, StickyLog, Rejection, Kept, NodeLink, StampedPage, KeptPage, map-at, kept-at, own-at, behind-own, arith}
 use Rattle.sled_pagecache.proofs.LeftPages.{leaves-went}
-use Rattle.sled_base.specs.declared.types.Refusal.TheVariants.{Unsupported}
 use Rattle.sled_log.specs.LogState as log
 use Rattle.sled_pagecache.proofs.Held.{state-page}
-use Rattle.sled_pagecache.proofs.PagingIn.{stamps-same}
+use Rattle.sled_pagecache.proofs.PagingIn.{stamps-same, page-kept-at}
 use Rattle.sled_pagecache.proofs.Standing.{node-full, kept-free}
 use Rattle.sled_pagecache.proofs.TableNodes.{view}
 use Rattle.sled_pagecache.specs.declared.pagecache.page.Kept.TheVariants as kept
@@ -30,7 +29,7 @@ module _ {L : Type 0} (g : Ghosts L) (next : ℕ) (config : Config) (recovered :
   judged-fresh rejection judges known ready behind full stamp =
       let stamps = slice_get-map (λ (q : KeptPage). q.stamp) pages pid in
       let frees : (q : KeptPage) → slice_get pages pid ≡ Some q → is_empty effect_of_entry chain ≡ is_free q.kept
-          = λ q at. kept-free chain q.kept (kept-at (log.now effect_of_entry (g.state before.log)) pages pid q ((c.beside ready).kept known) at).holds in
+      = λ q at. kept-free chain q.kept (kept-at (log.now effect_of_entry (g.state before.log)) pages pid q ((c.beside ready).kept known) at).holds in
       grind arith
 
   pub judged-undamaged : (rejection : Rejection) → Judges before.fault pages pid t (Err rejection) → MeetsDamage g old pid → slice_get old.stamps pid ≡ Some t.stamp → ⊥
@@ -40,44 +39,30 @@ module _ {L : Type 0} (g : Ghosts L) (next : ℕ) (config : Config) (recovered :
 
   module _ (same : t.pid ≡ pid) (held : Logged) (s : State) (node : WholeNode) (is : Represents g old held s) (clear : s.fault ≡ false) (own : is_reserved t.pid ≡ false)
       (there : page_at s t.pid ≡ Some (page t.stamp (Node node))) where
-    found : page_at s pid ≡ Some (page t.stamp (Node node))
-    found = ap (page_at s) (sym same) ∙ there
-
     makes : Makes (messages_of chain) (Node node)
-    makes = state-page g old held s is clear pid (page t.stamp (Node node)) found
+    makes = state-page g old held s is clear pid (page t.stamp (Node node)) (ap (page_at s) (sym same) ∙ there)
 
   pub judged-tests : t.pid ≡ pid → (rejection : Rejection) → Judges before.fault pages pid t (Err rejection) → (link : NodeLink) (answer : Swapped NodeLink) → TestsFirst g old t link answer
   judged-tests same rejection judges link answer held s node is clear own resident there =
       absurd (judged-fresh rejection judges is.tells (sym is.fault ∙ clear) (ap is_reserved (sym same) ∙ own) (node-full chain node (makes same held s node is clear own there))
-      (sym (ap (λ (l : List ℕ). slice_get l pid) is.stamps) ∙ map-at (λ (p : StampedPage). p.stamp) s.pages pid (page t.stamp (Node node)) (found same held s node is clear own there)))
+      (sym (ap (λ (l : List ℕ). slice_get l pid) is.stamps) ∙ map-at (λ (p : StampedPage). p.stamp) s.pages pid (page t.stamp (Node node)) (ap (page_at s) (sym same) ∙ there)))
 
   module _ (q : KeptPage) (fresh : IsFresh before.fault pages pid t q) (link : NodeLink) where
-    kept-own : IsFreeOrNode q.kept
-    kept-own = own-at pages pid q c.own (behind-own pid fresh.behind) fresh.at
-
-    kept-holds : g.tells → HoldsChain chain q.kept
-    kept-holds known = (kept-at (log.now effect_of_entry (g.state before.log)) pages pid q ((c.beside fresh.clear).kept known) fresh.at).holds
-
-    resident-kept : IsResident old t.pid → t.pid ≡ pid → is_resident q.kept ≡ true
-    resident-kept resident same =
-        same_Some (is_resident q.kept) true (sym (map-at (λ (p : KeptPage). is_resident p.kept) pages pid q fresh.at) ∙ ap (λ n. slice_get (resident_in pages) n) (sym same) ∙ resident)
-
     -- a link that was refused
     pub refused-tests : t.pid ≡ pid → (refusal : Refusal) → (g.tells → is_resident q.kept ≡ true → RefusesLink q.stamp q.kept link refusal) → TestsFirst g old t link (Err (error_of refusal))
     refused-tests same refusal why held s node is clear own resident there =
-        let lies = resident-kept resident same in
-        let is_node = node-kept chain node q.kept (makes same held s node is clear own there) (kept-holds is.tells) kept-own fresh.full lies in
+        let lies = same_Some (is_resident q.kept) true (sym (map-at (λ (p : KeptPage). is_resident p.kept) pages pid q fresh.at) ∙ ap (λ n. slice_get (resident_in pages) n) (sym same) ∙ resident) in
+        let holds = (page-kept-at g before before pages free pid q q c fresh.clear fresh.behind fresh.at is.tells).holds in
+        let is_node = node-kept chain node q.kept (makes same held s node is clear own there) holds (own-at pages pid q c.own (behind-own pid fresh.behind) fresh.at) fresh.full lies in
         rw (← fresh.stamp) (tested node link q.stamp refusal (rw is_node at (why is.tells lies)))
 
     -- a link that was taken
     pub taken-tests : t.pid ≡ pid → (after : StickyLog L) (page_then : KeptPage) → TakesLink g before pid q link after page_then → (answer : Swapped NodeLink) → TestsFirst g old t link answer
     taken-tests same after page_then takes answer held s node is clear own resident there =
-        let one : takes.tells.node ≡ node
-            = (let e : Node takes.tells.node ≡ Node node = one_content (messages_of chain) (Node takes.tells.node) (Node node) (takes.tells.made is.tells) (makes same held s node is clear own there) in cc) in
-        record {
-          refused = λ not. absurd (not (subst (λ (n : WholeNode). Accepts n link) one takes.tells.accepts));
-          used_up = λ _ last. absurd (takes.tells.below (fresh.stamp ∙ last));
-        }
+        let one : Node takes.tells.node ≡ Node node = one_content (messages_of chain) (Node takes.tells.node) (Node node) (takes.tells.made is.tells) (makes same held s node is clear own there) in
+        let below = takes.tells.below in
+        let stamp = fresh.stamp in
+        grind arith
 
     -- ---- a damaged page
 

@@ -8,12 +8,7 @@ use Rattle.sled_pagecache.proofs.Standing.{node-full, kept-free}
 -- what a link wrote, in the words of the page before it
 pub update-is : (messages : ℕ) (infos : List CacheInfo) (link : NodeLink) (before made : WholeNode) (held : Kept)
     → messages ≡ length infos → made ≡ applied link before → held ≡ kept.Node before → link_update messages link made ≡ update_of (length infos) link held
-update-is messages infos link before made held count is holds =
-    ap (λ n. link_update n link made) count ∙ ap (link_update (length infos) link) is ∙ sym (ap (update_of (length infos) link) holds)
-
--- how many messages make the page then
-pub infos-length : (messages : ℕ) (infos : List CacheInfo) → messages ≡ length infos → (info : CacheInfo) → length (joined_infos (ltb messages 10) infos info) ≡ linked_length (length infos)
-infos-length messages infos count info = grind (arith, length-append infos (info ∷ []))
+update-is messages infos link before made held count is holds = grind arith
 
 -- ---- a link that was refused
 
@@ -23,10 +18,6 @@ begun-handed T U refusal events = grind arith
 -- a page that has a content isn't free
 pub full-free : (chain : Chain) (held : Kept) → is_empty effect_of_entry chain ≡ false → HoldsChain chain held → is_free held ≡ false
 full-free chain held full holds = sym (kept-free chain held holds) ∙ full
-
--- or the node that a link made of it is forgotten
-pub kept-away : (chain : Chain) (old new : Page) → IsKept chain old → is_empty effect_of_entry chain ≡ false → new.infos.items ≡ old.infos.items → new.kept ≡ kept.Away → IsKept chain new
-kept-away chain old new is full infos held = grind (arith, full-free chain old.kept)
 
 -- ---- a page that a link was applied to
 
@@ -53,12 +44,14 @@ module _ (chains : List Chain) (pid : ℕ) (there : pid < length chains) (page :
           let last = placed_entry (message_of (Link link)) (place_of info) ∷ [] in
           let set : after ≡ slice_set chains pid (chain ++ last) = came ∙ ap (λ b. slice_set chains pid (cond b chain (chain ++ last))) page-full in
           let same = at-page chains pid there after (chain ++ last) set in
-          let more = map-append said_of chain last ∙ ap (λ places. places ++ place_of info ∷ []) (is.places (ap is_free holds)) ∙ sym (ap (map place_of) infos ∙ map-append place_of page.infos.items (info ∷ [])) in
-          (other-pages chains pid there after (chain ++ last) set, record {
-            places = λ _. ap (map said_of) same ∙ more;
-            long = ap length same ∙ sym (length-map (chain ++ last) said_of) ∙ ap length more ∙ length-map new.infos.items place_of;
-            holds = rw (held, same, map-append (λ (entry : Entry). entry.message) chain last) (makes-more (messages_of chain) before (message_of (Link link)) made makes (link, reads, accepts, applies));
-          })
+          let more = map-append said_of chain last ∙ ap (λ places. places ++ place_of info ∷ []) (is.places (ap is_free holds)) ∙ sym (ap (map place_of) infos ∙ map-append place_of page.infos.items (info ∷ [])) in (
+            other-pages chains pid there after (chain ++ last) set,
+            record {
+              places = λ _. ap (map said_of) same ∙ more;
+              long = ap length same ∙ sym (length-map (chain ++ last) said_of) ∙ ap length more ∙ length-map new.infos.items place_of;
+              holds = rw (held, same, map-append (λ (entry : Entry). entry.message) chain last) (makes-more (messages_of chain) before (message_of (Link link)) made makes (link, reads, accepts, applies));
+            },
+          )
       by false came reads infos =
           let set = came ∙ put-chains chains pid there (kept.Node made) tt info in
           (other-pages chains pid there after _ set, kept-put _ new (kept.Node made) tt info (at-page chains pid there after _ set) infos held reads)

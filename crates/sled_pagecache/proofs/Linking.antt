@@ -1,11 +1,10 @@
 -- A link of a page that is read first: what the two calls of the log make together.
-use Rattle.sled_pagecache.proofs.Names.{◌≡◌, ◌≢◌, ◌≤◌, ◌-◌, ◌^◌, inl, inr, ℕ, Bool, true, false, List, [], ◌∷◌, length, Result, Ok, Err, slice_set, refl, sym, ◌∙◌, ap, subst, arith, false≢true, AllByRecursion, IfErr, OnOk, OnErr, IsErrOf, Read, Write, Refusal, Io, OutOfMemory, LogFull, Event, Change, Message, Chain, messages_of, effect_of_entry, IsSized, IsUpdate, Makes, now, message_of, Ghosts, Accepts, applied, WholeNode, chain_at, count_after, Went, IsCaused, IsOfLog, begun_by, Went-then, IsCaused-since, AppendsLink, TakesLink, RefusesAppended, HadNoRoom, WasBegun, HoldsChain, IsKept, is_free, is_resident, IsRaised, IsLinked, RefusesLink, update_of, link_update, linked_length, IsFreeOrNode, StickyLog, Kept, Page, NodeLink}
+use Rattle.sled_pagecache.proofs.Names.{◌≡◌, ◌≢◌, ◌-◌, ◌^◌, ℕ, true, false, List, [], ◌∷◌, length, Result, Err, slice_set, ◌∙◌, ap, subst, arith, AllByRecursion, IfErr, Write, Refusal, Io, LogFull, Event, Change, Message, Chain, messages_of, effect_of_entry, IsSized, IsUpdate, Makes, now, message_of, Ghosts, Accepts, applied, WholeNode, chain_at, Went, IsCaused, IsOfLog, begun_by, Went-then, IsCaused-since, AppendsLink, TakesLink, RefusesAppended, HadNoRoom, HoldsChain, IsKept, is_free, is_resident, IsRaised, IsLinked, RefusesLink, update_of, link_update, linked_length, IsFreeOrNode, StickyLog, Kept, Page, NodeLink}
 use Rattle.sled_base.specs.declared.types.Refusal.TheVariants.{Unsupported}
 use Rattle.sled_log.specs.Contents as content
-use Rattle.sled_pagecache.proofs.Tables.{marks-begun}
 use Rattle.sled_pagecache.specs.declared.pagecache.page.Kept.TheVariants as kept
 
-module _ {L : Type 0} (g : Ghosts L) (old mid new : StickyLog L) (pid : ℕ) (q page page_then : Page) (link : NodeLink)
+module _ {L : Type 0} (g : Ghosts L) {old mid : StickyLog L} (new : StickyLog L) (pid : ℕ) (q : Page) {page : Page} (page_then : Page) (link : NodeLink)
     (went : Went g old mid []) (clear : mid.fault ≡ false) (same : g.tells → mid.fault ≡ false → now effect_of_entry (g.state mid.log) ≡ now effect_of_entry (g.state old.log))
     (is : g.tells → IsKept (chain_at (g.state old.log) pid) page) (stamp : page.stamp ≡ q.stamp) (infos : page.infos.items ≡ q.infos.items) (resident : is_resident page.kept ≡ true) where
   abbrev chain : Chain
@@ -66,12 +65,9 @@ module _ {L : Type 0} (g : Ghosts L) (old mid new : StickyLog L) (pid : ℕ) (q 
       → (let err : Result (Unit {0}) Refusal = Err refusal in Went g mid new (begun_by err (events k)))
       → (refusal ≡ Io Write → IsUpdate (message_of (update k)) (update k))
       → RefusesAppended g old pid q link new refusal
-  refused kept.Free refusal holds there full own why = absurd (false≢true (sym full))
-  refused kept.Away refusal holds there full own why = absurd (false≢true there)
-  refused (kept.Node node) refusal holds there full own (inl (not, why)) = rw why (λ second reads. inl (joined [] second, (node, holds, not)))
-  refused (kept.Node node) refusal holds there full own (inr (accepts, inl (last, why))) = rw why (λ second reads. inl (joined [] second, (node, holds, accepts, sym stamp ∙ last)))
-  refused (kept.Node node) refusal holds there full own (inr (accepts, inr (below, why))) = of-log node refusal holds accepts (λ last. below (stamp ∙ last)) why
-  refused k refusal holds there full own why = absurd own
+  refused k refusal holds there full own why second reads =
+      let none = joined [] in
+      grind (arith, of-log)
 
   -- ---- its cause
 

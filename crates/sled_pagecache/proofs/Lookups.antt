@@ -7,23 +7,22 @@ use Rattle.sled_log.specs.LogState.{LogState, now, unplaced_state}
 use Rattle.sled_log.specs.Messages.{Chain, Entry, Messages, effect_of_entry, messages_of}
 use Rattle.sled_log.specs.Reading.{Hold, Holds}
 use Rattle.sled_log.specs.Inside.UnplacedLaws.{now-unplaced}
-use Rattle.sled_pagecache.specs.Limits.{batch_manifest_pid, counter_pid, meta_pid}
 use Rattle.sled_pagecache.specs.Logged.{IsLogged, Logged}
 use Rattle.sled_pagecache.specs.Inside.PageEntry.{IsKept}
 use Rattle.sled_pagecache.specs.Logged.{IsUsers}
 use Rattle.sled_pagecache.specs.State.{StampedPage}
 use Rattle.sled_pagecache.specs.Step.{is_reserved}
 use Rattle.sled_pagecache.specs.declared.pagecache.page.Page.{Page as KeptPage}
-use Rattle.std.proofs.Common.{List, None, Some, [], ap, arith, false, length, map, refl, slice_get, slice_index_or, slice_set, subst, suc, sym, zero, ℕ, ◌++◌, ◌+◌, ◌<◌, ◌==◌, ◌||◌, ◌∙◌, ◌∷◌, ◌≡◌, ◌≢◌, ◌≤◌}
+use Rattle.std.proofs.Common.{List, None, Some, [], ap, arith, false, length, map, refl, slice_get, slice_index_or, slice_set, subst, suc, sym, zero, ℕ, ◌++◌, ◌+◌, ◌<◌, ◌∙◌, ◌∷◌, ◌≡◌, ◌≢◌, ◌≤◌}
 use Rattle.std.proofs.Math.ListN.{get_or-map}
-use Rattle.std.proofs.lemmas.Bool.{eqb-false, false≢true, or_parts}
-use Rattle.std.proofs.lemmas.List.{set-get_or}
-use Rattle.std.proofs.lemmas.Option.{get_or_from_slice_get, slice_get-map, slice_get_within}
+use Rattle.std.proofs.lemmas.Bool.{false≢true}
+use Rattle.std.proofs.lemmas.List.{set-get_or, length_push}
+use Rattle.std.proofs.lemmas.Option.{get_or_from_slice_get, slice_get-map, slice_get_cases, slice_get_past, slice_get_within}
 use Rattle.std.specs.List.{AllByRecursion, AllZip}
 use Rattle.std.specs.Option.{option_map}
 use Rattle.sled_pagecache.proofs.ByIds.{all-by-id, at-id, past-two, zip-second}
 use Rattle.sled_pagecache.specs.Logged.{now as held_now}
-use Rattle.sled_pagecache.specs.Logged.{AreOwn, AreRoots, IsCounter, IsOwnAt}
+use Rattle.sled_pagecache.specs.Logged.{AreOwn}
 use Rattle.sled_pagecache.specs.Inside.Invariant as table
 
 -- ---- lists
@@ -52,18 +51,13 @@ pub more-at : {A : Type 0} (xs ys : List A) (i : ℕ) (x : A) → slice_get xs i
 more-at xs ys i x at = at-left xs ys i (slice_get_within xs i x at) ∙ at
 
 pub other-before : {A : Type 0} (xs : List A) (y : A) (j : ℕ) → j ≢ length xs → slice_get (xs ++ y ∷ []) j ≡ slice_get xs j
-other-before [] y zero apart = absurd (apart refl)
-other-before [] y (suc j) apart = refl
-other-before (x ∷ xs) y zero apart = refl
-other-before (x ∷ xs) y (suc j) apart = other-before xs y j (λ e. apart (ap suc e))
+other-before xs y j apart = grind (arith, at-left, slice_get_past, length_push)
 
 pub last-at : {A : Type 0} (xs : List A) (y : A) → slice_get (xs ++ y ∷ []) (length xs) ≡ Some y
 last-at xs y = at-right xs (y ∷ []) 0 (length xs) (omega arith)
 
 pub past-end : {A : Type 0} (xs : List A) (i : ℕ) → slice_get xs i ≡ None → length xs ≤ i
-past-end [] i none = omega arith
-past-end (x ∷ xs) zero none = absurd cc
-past-end (x ∷ xs) (suc i) none = omega (arith, past-end xs i none)
+past-end xs i none = grind (arith, slice_get_cases)
 
 -- what is put back leaves the list
 pub put-back : {A : Type 0} (xs : List A) (i : ℕ) (x : A) → slice_get xs i ≡ Some x → slice_set xs i x ≡ xs
@@ -76,15 +70,7 @@ all-at P xs i x all at = at-id (λ _. P) xs i x (all-by-id P xs all) at
 
 -- a page that isn't reserved comes behind the cache's own
 pub behind-own : (pid : ℕ) → is_reserved pid ≡ false → 2 ≤ pid
-behind-own pid free =
-    let outer = or_parts ((pid == meta_pid) || (pid == counter_pid)) (pid == batch_manifest_pid) free in
-    let inner = or_parts (pid == meta_pid) (pid == counter_pid) outer.0 in
-    from pid (eqb-false pid 0 inner.0) (eqb-false pid 1 inner.1)
-  where
-    from : (n : ℕ) → (n ≡ 0 → ⊥) → (n ≡ 1 → ⊥) → 2 ≤ n
-    from zero first second = absurd (first refl)
-    from (suc zero) first second = absurd (second refl)
-    from (suc (suc n)) first second = omega arith
+behind-own pid free = grind arith
 
 -- ---- the table
 
@@ -92,12 +78,12 @@ pub kept-at : (chains : List Chain) (pages : List KeptPage) (pid : ℕ) (q : Kep
 kept-at chains pages pid q kept at = zip-second IsKept chains pages pid q [] kept at
 
 pub own-at : (pages : List KeptPage) (pid : ℕ) (q : KeptPage) → table.AreOwn pages → 2 ≤ pid → slice_get pages pid ≡ Some q → table.IsFreeOrNode q.kept
-own-at pages pid q own from at = (past-two table.IsRoots table.IsCounter table.IsFreeOrNode pid q.kept from).1 (at-id _ pages pid q own at)
+own-at pages pid q own from at = grind (arith, at-id, past-two)
 
 -- ---- the state
 
 pub content-own : (contents : List Content) (pid : ℕ) (content : Content) → AreOwn contents → 2 ≤ pid → slice_get contents pid ≡ Some content → IsUsers content
-content-own contents pid content own from at = (past-two AreRoots IsCounter IsUsers pid content from).1 (at-id IsOwnAt contents pid content own at)
+content-own contents pid content own from at = grind (arith, at-id, past-two)
 
 -- what the log holds now makes the contents of the state
 pub holds_now : (state : LogState Entry) (held : Logged) → IsLogged (unplaced_state state) held → Hold (map messages_of (now effect_of_entry state)) (held_now held)

@@ -1,9 +1,11 @@
 -- Opening a cache over a log.
-use Rattle.sled_pagecache.proofs.Names.{roots_event, Recency, Option, ⊎_elim, ◌≡◌, ◌≢◌, ◌≤◌, ◌<◌, ◌^◌, ℕ, zero, suc, Bool, false, List, [], ◌∷◌, ◌++◌, length, map, take, drop, None, Some, Result, Ok, Err, refl, sym, ◌∙◌, ap, subst, arith, drop-nil, take-append_seam, drop-append_seam, length-map, take-append-drop, take-map, drop-map, none-some, AllZip-long, error_of, Read, Write, Error, Refusal, ReportableBug, Io, Corruption, LogFull, is_open, open_after, Content, Counter, Roots, Update, Put, contents_after, Event, Change, Pin, Seal, Cancel, seen_event, holds-after, Message, Entry, Chain, Messages, messages_of, effect_of, effect_of_entry, Holds, Hold, AreEvents, events-take, reads-open, unplaced_state, is_open-unplaced, now-unplaced, message_of, CanWrite, written-update, Ghosts, Cache, IsOpenedWith, counter_event, events_at_start, Logged, IsLogged, fault_of, drop_all, cases_lt, sticky_log_of, changes_of_start, opened_state, is_fault, Comes, LacksRoom, Proceeds, IsProper, StayProper, Starts, IsFit, RefusesOpening, IsHindrance, HasAdded, CrashLeaves, LacksRoomFor, WasFull, Opens, IsBlamedOpening, MayBeOpened, page, contents_of, Config, StickyLog, slice_get, StampedPage, add-by-id, at-id, zip-first, all-at, map-at, holds_now}
+use Rattle.sled_pagecache.proofs.Names.{roots_event, ⊎_elim, ◌≡◌, ◌≢◌, ◌≤◌, ◌<◌, ℕ, zero, suc, false, List, [], ◌∷◌, ◌++◌, length, map, take, drop, None, Some, Ok, Err, refl, sym, ◌∙◌, ap, subst, arith, drop-nil, take-append_seam, drop-append_seam, length-map, take-append-drop, take-map, drop-map, AllZip-long, error_of, Write, Refusal, LogFull, is_open, Content, Counter, Roots, Update, Put, contents_after, Event, Change, Pin, Seal, Cancel, seen_event, holds-after, Message, Entry, Chain, Messages, messages_of, effect_of, effect_of_entry, Holds, Hold, AreEvents, events-take, reads-open, unplaced_state, is_open-unplaced, now-unplaced, message_of, written-update, Ghosts, Cache, IsOpenedWith, counter_event, events_at_start, Logged, IsLogged, fault_of, drop_all, cases_lt, sticky_log_of, changes_of_start, opened_state, is_fault, Comes, LacksRoom, Proceeds, IsProper, StayProper, IsFit, RefusesOpening, IsHindrance, HasAdded, CrashLeaves, LacksRoomFor, Opens, page, contents_of, Config, StickyLog, slice_get, StampedPage, add-by-id, at-id, zip-first, all-at, map-at, holds_now}
 use Rattle.sled_base.specs.declared.types.Error.TheVariants as errors
 use Rattle.sled_base.specs.declared.types.Refusal.TheVariants.{Unsupported}
 use Rattle.sled_log.specs.LogState as log
-use Rattle.sled_pagecache.proofs.Carrying.{Carries, carries, leaves, proper-now}
+use Rattle.sled_pagecache.proofs.RecoveredPages.{map-map}
+use Rattle.std.proofs.lemmas.List.{append-nil, map-id}
+use Rattle.sled_pagecache.proofs.Carrying.{carries, leaves, proper-now}
 use Rattle.sled_pagecache.proofs.Staying.{no-changes, stay-none, stay-one, stay-take}
 use Rattle.sled_pagecache.specs.Logged.{now}
 use Rattle.sled_pagecache.specs.Logged.{AreOwn, IsOwnAt}
@@ -41,9 +43,6 @@ stays-start pages held hold proper n = absurd (assumption hold)
 
 -- ---- which errors there are
 
-error-same : (refusal other : Refusal) → error_of refusal ≡ error_of other → refusal ≡ other
-error-same refusal other is = grind arith
-
 -- but after a write error the log may be called
 pub no-fault : (refusal : Refusal) → error_of refusal ≢ errors.Io Write → is_fault (Some refusal) ≡ false
 no-fault refusal other = grind arith
@@ -56,32 +55,17 @@ fit-at : (chains : List Chain) (held : List Content) → Hold (map messages_of c
 fit-at chains held hold proper pid chain is =
     let at = map-at messages_of chains pid chain is in
     let holds = zip-first Holds (map messages_of chains) held pid (messages_of chain) hold at in
-    let content = holds.0 in
-    let made = holds.2 in
-    let own = at-id IsOwnAt held pid content proper.own holds.1 in
-    let fits : length (messages_of chain) ≤ 10 = all-at (λ (unplaced : Messages). length unplaced ≤ 10) (map messages_of chains) pid (messages_of chain) proper.short at in
-    let same = length-map chain (λ (entry : Entry). entry.message) in
-    grind arith
-
-hindrance : (config : Config) (chains : List Chain) (held : List Content) (refusal : Refusal) → fault_of config ≡ None
-    → Hold (map messages_of chains) held → IsProper (map messages_of chains) held → RefusesOpening config chains (error_of refusal) → IsHindrance (error_of refusal)
-hindrance config chains held (ReportableBug bug) sound hold proper r = absurd r
-hindrance config chains held (Corruption None) sound hold proper r =
-    let many : 2 ^ 37 < length chains = r in
-    absurd (omega (arith, AllZip-long Holds (map messages_of chains) held hold, length-map chains messages_of, proper.few, many))
-hindrance config chains held (Corruption (Some pointer)) sound hold proper r = absurd (r.1.amiss (fit-at chains held hold proper r.1.pid r.1.chain r.1.is))
-hindrance config chains held (Unsupported why) sound hold proper r =
-    ⊎_elim (λ full. subst (λ w. IsHindrance (errors.Unsupported w)) (sym full) tt) (λ fault. absurd (none-some why (sym sound ∙ fault))) r
-hindrance config chains held refusal sound hold proper r = tt
+    let own = at-id IsOwnAt held pid holds.0 proper.own holds.1 in
+    let fits = all-at (λ (unplaced : Messages). length unplaced ≤ 10) (map messages_of chains) pid (messages_of chain) proper.short at in
+    grind (arith, own, holds.2, fits, length-map chain (λ (entry : Entry). entry.message))
 
 -- ---- what opening makes of the log
 
-contents-kept : (held : List Content) → map (λ (p : StampedPage). p.content) (map (page 0) held ++ []) ≡ held
-contents-kept [] = refl
-contents-kept (content ∷ held) = ap (λ (l : List Content). content ∷ l) (contents-kept held)
-
 contents-start : (config : Config) (held : List Content) → contents_of (opened_state config held) ≡ contents_after held (changes_of_start held)
-contents-start config (roots ∷ counter ∷ held) = rw (drop-nil {A = Content} (length held), drop-nil {A = Event Update} (length held)) (contents-kept (roots ∷ counter ∷ held))
+contents-start config (roots ∷ counter ∷ held) =
+    let all = roots ∷ counter ∷ held in
+    let kept = ap (map (λ (p : StampedPage). p.content)) (append-nil (map (page 0) all)) ∙ map-map (λ (p : StampedPage). p.content) (page 0) all ∙ map-id all in
+    rw (drop-nil {A = Content} (length held), drop-nil {A = Event Update} (length held)) kept
 contents-start config held = refl
 
 module _ {L : Type 0} (g : Ghosts L) (known : g.tells) where
@@ -136,17 +120,18 @@ module _ {L : Type 0} (g : Ghosts L) (known : g.tells) (config : Config) (old : 
   opens-refused new refusal sound done why =
       let cut = done.reaches in
       let n = length cut.came in
+      let hold = holds_now (g.state old.log) held logged in
       let proper = subst (λ (l : List Messages). IsProper l (now held)) (sym (now-unplaced (g.state old.log))) (proper-now (unplaced_state (g.state old.log)) held logged) in
       let reach = reached cut.came cut.rest cut.is new cut.went in
       record {
-        why = hindrance config chains (now held) refusal sound (holds_now (g.state old.log) held logged) proper why;
+        why = grind (arith, why, sound, AllZip-long Holds (map messages_of chains) (now held) hold, length-map chains messages_of, proper.few, fit-at chains (now held) hold proper);
         begun = take n changes;
         rest = drop n changes;
         are = take-append-drop n changes;
         stop = reach.0;
         added = λ other. reach.1 (done.fault ∙ no-fault refusal other);
         full = λ so.
-            let full_is : refusal ≡ Unsupported LogFull = error-same refusal (Unsupported LogFull) so in
+            let full_is : refusal ≡ Unsupported LogFull = grind (arith, so) in
             let full = cut.full full_is in
             let at = full.at in
             let then = reached cut.came cut.rest cut.is at full.went in

@@ -1,11 +1,7 @@
 -- The cache's own pages, as they are read from a log, and as they are made.
-use Rattle.sled_pagecache.proofs.Names.{◌≡◌, ◌≤◌, ◌<◌, ◌&&◌, ◌||◌, ℤ, ℕ, zero, suc, Bool, true, false, List, [], ◌∷◌, length, map, get_or, ltb, Some, refl, sym, ◌∙◌, ap, subst, arith, false≢true, nat_tests, none-some, AllZip-long, AllZip, MessageKind, DiskPtr, Refusal, Corruption, OutOfMemory, ReadsU64, is_freeing, is_empty, Content, Counter, Roots, Node, Put, effect_of_update, Entry, Chain, Messages, messages_of, effect_of_entry, freed_of, Decodes, IsUpdate, LeadTo, Makes, reads_effect, applied, WholeNode, ReadsRoots, IsFoundAs, IsLoaded, RefusesOwn, is_free, place_of_freeing, found_message, RefusesMessage, is_misfit, IsFit, CacheInfo, Page, Found, slice_get}
-use Rattle.sled_base.specs.declared.kinds.MessageKind.TheVariants as kinds
-use Rattle.sled_node.specs.Meta as meta
+use Rattle.sled_pagecache.proofs.Names.{slice_get-map, ◌≡◌, ◌<◌, ℕ, true, false, List, [], ◌∷◌, length, map, get_or, Some, refl, sym, ◌∙◌, ap, subst, arith, nat_tests, AllZip, DiskPtr, Refusal, is_freeing, is_empty, Content, Counter, Roots, Node, Put, effect_of_update, Entry, Chain, Messages, messages_of, effect_of_entry, freed_of, IsUpdate, LeadTo, Makes, reads_effect, applied, WholeNode, IsFoundAs, IsLoaded, RefusesOwn, is_free, place_of_freeing, found_message, RefusesMessage, is_misfit, IsFit, CacheInfo, Page, Found, slice_get}
 use Rattle.sled_pagecache.proofs.Linked.{full-free}
-use Rattle.sled_pagecache.proofs.Pulls.{found-makes, begins-full}
-use Rattle.sled_pagecache.proofs.RecoveredPages.{first-place}
-use Rattle.sled_pagecache.proofs.Standing.{kept-free}
+use Rattle.sled_pagecache.proofs.Pulls.{found-makes}
 
 -- ---- what makes the named roots or the counter is one message
 
@@ -27,19 +23,9 @@ own-one (entry ∷ next ∷ chain) content own h = absurd (node-leads (applied h
 
 -- ---- which pages are so
 
-own-fits : (pid : ℕ) (chain : Chain) (page : Page) (content : Content) → IsLoaded chain page → IsOwn content → Makes (messages_of chain) content → is_misfit pid page ≡ false
-own-fits pid chain page content is own makes =
-    let one = own-one chain content own makes in
-    grind (arith, nat_tests, one.0, is.kept.long, full-free chain page.kept one.1 is.kept.holds)
-
 -- a page that no cache leaves so isn't fit
 pub misfit-unfit : (pid : ℕ) (chain : Chain) (page : Page) → IsLoaded chain page → is_misfit pid page ≡ true → ¬ IsFit pid chain
-misfit-unfit zero chain page is misfit fit = false≢true (sym (own-fits 0 chain page (Roots fit.0) is tt fit.1) ∙ misfit)
-misfit-unfit (suc zero) chain page is misfit fit = false≢true (sym (own-fits 1 chain page (Counter fit.0) is tt fit.1) ∙ misfit)
-misfit-unfit (suc (suc pid)) chain page is misfit fit =
-    let same = is.kept.long in
-    let short : length chain ≤ 10 = fit in
-    grind (arith, nat_tests)
+misfit-unfit pid chain page is misfit fit = grind (arith, nat_tests, own-one chain, full-free chain page.kept, is.kept.long, is.kept.holds)
 
 -- a system page that is fit has one message, and isn't free
 pub fits-one : (pid : ℕ) (page : Page) → pid < 2 → 0 < length page.infos.items → is_misfit pid page ≡ false → (length page.infos.items ≡ 1) × (is_free page.kept ≡ false)
@@ -53,11 +39,8 @@ sole-found chain found first zip one is = absurd (omega (arith, one))
 
 pub first-pointer : (chain : Chain) (infos : List CacheInfo) (pointer : DiskPtr) → map freed_of chain ≡ map place_of_freeing infos
     → slice_get (map (λ (info : CacheInfo). info.pointer) infos) 0 ≡ Some pointer → slice_get (map (λ (entry : Entry). entry.place.pointer) chain) 0 ≡ Some pointer
-first-pointer chain [] pointer at is = absurd (none-some pointer is)
-first-pointer [] (info ∷ infos) pointer at is = (let e = at in cc)
-first-pointer (entry ∷ chain) (info ∷ infos) pointer at is =
-    let same : freed_of entry ≡ place_of_freeing info = (let e = at in cc) in
-    ap (λ (at : ℤ × DiskPtr). Some at.1) same ∙ is
+first-pointer chain infos pointer at is =
+    grind (arith, slice_get-map freed_of chain 0, slice_get-map place_of_freeing infos 0, slice_get-map (λ (info : CacheInfo). info.pointer) infos 0, slice_get-map (λ (entry : Entry). entry.place.pointer) chain 0)
 
 found-at : (chain : Chain) (first : Found) → AllZip IsFoundAs chain (first ∷ []) → slice_get (map (λ (entry : Entry). entry.place.pointer) chain) 0 ≡ Some first.pointer
 found-at [] first zip = absurd zip
@@ -73,6 +56,4 @@ one-made chain first content zip makes =
 -- ---- why the one message was refused
 
 pub refuses-one : (chain : Chain) (first : Found) → AllZip IsFoundAs chain (first ∷ []) → (pid : ℕ) (amiss : Type 0) → (amiss → ¬ IsFit pid chain) → (e : Refusal) → RefusesMessage first.pointer amiss e → RefusesOwn pid chain e
-refuses-one chain first zip pid amiss unfit OutOfMemory r = tt
-refuses-one chain first zip pid amiss unfit (Corruption (Some pointer)) r = (unfit r.1, found-at chain first zip ∙ ap (λ (p : DiskPtr). Some p) (sym r.0))
-refuses-one chain first zip pid amiss unfit e r = absurd r
+refuses-one chain first zip pid amiss unfit e r = let at = found-at chain first zip in grind arith

@@ -1,5 +1,5 @@
 -- What the chunks of a table keep at an id, and what a change of one chunk makes of them.
-use Rattle.sled_pagecache.proofs.Names.{false≢true, ltb-false, append-nil, append_assoc, length-set, set-append_left, set-append_right, set-get_or, slice_get-map, slice_get_past, slice_get_read, take, Vec, IsItemAt, Page, ◌≡◌, ◌+◌, ◌-◌, ◌*◌, ◌<◌, ◌≤◌, ℕ, zero, suc, Bool, true, false, List, [], ◌∷◌, ◌++◌, length, Option, Some, None, slice_get, get_or, set, vec_len, Bor, refl, sym, ◌∙◌, ap, subst, arith, length-append, MatchOption, option_and_then, option_map, unwrap_or, with_item, pages_in, AreFilled, at_last, is_unfilled, at-left, at-right, last-at, none-some, same_Some, map}
+use Rattle.sled_pagecache.proofs.Names.{false≢true, ltb-false, append-nil, append_assoc, length-set, set-append_left, set-append_right, set-get_or, slice_get-map, slice_get_past, slice_get_read, take, Vec, IsItemAt, Page, ◌≡◌, ◌+◌, ◌-◌, ◌*◌, ◌<◌, ◌≤◌, ℕ, zero, suc, Bool, true, false, List, [], ◌∷◌, ◌++◌, length, Option, Some, None, slice_get, get_or, set, vec_len, Bor, refl, sym, ◌∙◌, ap, arith, length-append, MatchOption, option_and_then, with_item, pages_in, AreFilled, at_last, is_unfilled, at-left, at-right, last-at, none-some, same_Some, map}
 use Rattle.std.proofs.Math.Seq.{map-set_same, take-length}
 use Rattle.std.proofs.lemmas.List.{length_push, take_more_set}
 
@@ -11,18 +11,14 @@ got-is xs i (Some x) is = slice_get_read xs (length xs) i x.now refl is.3.0 is.1
 -- ---- the last chunk
 
 module _ (test : Vec Page → Bool) where
-  tested : Option (Vec Page) → Bool
-  tested chunk = unwrap_or (option_map test chunk) false
-
   pub some-last : (chunks : List (Vec Page)) → at_last test chunks ≡ true → 0 < length chunks
   some-last [] is = absurd (false≢true is)
   some-last (chunk ∷ chunks) is = omega arith
 
   pub at_last-push : (chunks : List (Vec Page)) (chunk : Vec Page) → at_last test (chunks ++ chunk ∷ []) ≡ test chunk
-  unfolding tested
   at_last-push chunks chunk =
       let last : length (chunks ++ chunk ∷ []) - 1 ≡ length chunks = omega (arith, length_push chunks chunk) in
-      ap (λ (k : ℕ). tested (slice_get (chunks ++ chunk ∷ []) k)) last ∙ ap tested (last-at chunks chunk)
+      rw (last, last-at chunks chunk) refl
 
   -- another chunk stands for one that is tested alike
   pub at_last-same : (chunks : List (Vec Page)) (i : ℕ) (chunk new : Vec Page) → chunk ≡ get_or chunks i chunk → test new ≡ test chunk → at_last test (set chunks i new) ≡ at_last test chunks

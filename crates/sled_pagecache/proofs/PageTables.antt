@@ -60,27 +60,33 @@ table-length {chunks} is {chunk} at =
     let filled = of_chunks.length-front fan front chunk (subst (AreFilled fan) was is.filled) in
     omega (arith, ap length (ap pages_in was ∙ of_chunks.pages-push front chunk), length-append (pages_in front) chunk.items, chunk.ok.0, filled.0, ap length was, length-append front (chunk ∷ []))
 
-module _ (chunks : List (Vec Page)) (last : ℕ) (is_last : last + 1 ≡ length chunks) {chunk : Vec Page} (lent : chunk ≡ get_or chunks last chunk) where
-  last-test : (test : Vec Page → Bool) → at_last test chunks ≡ test chunk
-  last-test test = ap (at_last test) (of_chunks.ends-in chunks last is_last chunk lent) ∙ of_chunks.at_last-push test (take last chunks) chunk
+module _ (chunks : Vec (Vec Page)) (test : Vec Page → Bool) (some : at_last test chunks.items ≡ true) {n : ℕ} (len : n ≡ vec_len chunks) {chunk : Vec Page} (lent : chunk ≡ get_or chunks.items (n - 1) chunk) where
+  is_last : n - 1 + 1 ≡ length chunks.items
+  is_last = let more = of_chunks.some-last test chunks.items some in omega (arith, chunks.ok.0)
+
+  was : chunks.items ≡ take (n - 1) chunks.items ++ chunk ∷ []
+  was = of_chunks.ends-in chunks.items (n - 1) is_last chunk lent
+
+  last-test : (test : Vec Page → Bool) → at_last test chunks.items ≡ test chunk
+  last-test test = ap (at_last test) was ∙ of_chunks.at_last-push test (take (n - 1) chunks.items) chunk
 
   -- where there is room, the chunk isn't full
-  pub room-in : at_last (has_room fan) chunks ≡ true → vec_len chunk < fan
+  pub room-in : at_last (has_room fan) chunks.items ≡ true → vec_len chunk < fan
   room-in room = ltb-true (vec_len chunk) fan (and_parts (is_unfilled fan chunk) (nat_lt (vec_len chunk) (vec_capacity chunk)) (sym (last-test (has_room fan)) ∙ room)).0
 
-  pub room-after : at_last (is_unfilled fan) chunks ≡ true → (new : Vec Page) → vec_len new ≡ vec_len chunk → vec_len new < vec_capacity new → at_last (has_room fan) (set chunks last new) ≡ true
-  room-after is_open new len spare =
+  pub room-after : at_last (is_unfilled fan) chunks.items ≡ true → (new : Vec Page) → vec_len new ≡ vec_len chunk → vec_len new < vec_capacity new → at_last (has_room fan) (set chunks.items (n - 1) new) ≡ true
+  room-after is_open new same spare =
       let few = ltb-true (vec_len chunk) fan (sym (last-test (is_unfilled fan)) ∙ is_open) in
-      ap (at_last (has_room fan)) (of_chunks.ends chunks last is_last new) ∙ of_chunks.at_last-push (has_room fan) (take last chunks) new ∙ and_from (is_unfilled fan new) (nat_lt (vec_len new) (vec_capacity new)) (lt-ltb (vec_len new) fan (omega arith)) (lt-ltb (vec_len new) (vec_capacity new) spare)
+      ap (at_last (has_room fan)) (of_chunks.ends chunks.items (n - 1) is_last new) ∙ of_chunks.at_last-push (has_room fan) (take (n - 1) chunks.items) new
+      ∙ and_from (is_unfilled fan new) (nat_lt (vec_len new) (vec_capacity new)) (lt-ltb (vec_len new) fan (omega arith)) (lt-ltb (vec_len new) (vec_capacity new) spare)
 
   -- another one in place of it, with more pages
-  pub grown : IsPageTable chunks → (new : Vec Page) (more : List Page) → new.items ≡ chunk.items ++ more → (vec_len chunk ≤ fan → vec_len new ≤ fan) → length (pages_in chunks) + length more ≤ most_pages
-      → IsPageTable (set chunks last new) × (pages_in (set chunks last new) ≡ pages_in chunks ++ more)
+  pub grown : IsPageTable chunks.items → (new : Vec Page) (more : List Page) → new.items ≡ chunk.items ++ more → (vec_len chunk ≤ fan → vec_len new ≤ fan) → length (pages_in chunks.items) + length more ≤ most_pages
+      → IsPageTable (set chunks.items (n - 1) new) × (pages_in (set chunks.items (n - 1) new) ≡ pages_in chunks.items ++ more)
   grown is new more items few room =
-      let front = take last chunks in
-      let was = of_chunks.ends-in chunks last is_last chunk lent in
-      let then = of_chunks.ends chunks last is_last new in
-      let pages : pages_in (set chunks last new) ≡ pages_in chunks ++ more =
+      let front = take (n - 1) chunks.items in
+      let then = of_chunks.ends chunks.items (n - 1) is_last new in
+      let pages : pages_in (set chunks.items (n - 1) new) ≡ pages_in chunks.items ++ more =
       ap pages_in then ∙ of_chunks.pages-push front new ∙ ap (λ (l : List Page). pages_in front ++ l) items ∙ sym (append_assoc (pages_in front) chunk.items more) ∙ ap (λ (l : List Page). l ++ more) (sym (ap pages_in was ∙ of_chunks.pages-push front chunk)) in
       let filled = subst (AreFilled fan) was is.filled in
-      (record { filled = subst (AreFilled fan) (sym then) (of_chunks.filled-last fan front chunk new filled (few (of_chunks.length-front fan front chunk filled).1)); few = omega (arith, ap length pages, length-append (pages_in chunks) more, room) }, pages)
+      (record { filled = subst (AreFilled fan) (sym then) (of_chunks.filled-last fan front chunk new filled (few (of_chunks.length-front fan front chunk filled).1)); few = omega (arith, ap length pages, length-append (pages_in chunks.items) more, room) }, pages)

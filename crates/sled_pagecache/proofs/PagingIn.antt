@@ -1,7 +1,7 @@
 -- A page that is brought into memory: the table beside its log, and what one sees who knows the cache by its model.
-use Rattle.sled_pagecache.proofs.Names.{Recency, on_ok_weaker, on_err_weaker, ⊎_elim, cases_Bool, ◌≡◌, ◌≤◌, inr, ℕ, Bool, true, false, List, [], length, Some, Result, Ok, Err, slice_get, slice_set, slice_index_or, refl, sym, ◌∙◌, ap, subst, arith, false≢true, false_from_ne_true, map-set, set-get_or, length-map, get_or_past, none-some, same_Some, slice_get_past, AllZip-long, AllByRecursion, IfErr, OnOk, OnErr, IsOk, Refusal, is_open, open_after, is_empty, is_chain, Event, Message, Chain, effect_of, effect_of_entry, IsSized, Ghosts, Cache, chain_length, IsResident, IsAway, chain_at, count_after, Went, IsCaused, Went-none, HoldsChain, IsKept, is_free, is_resident, RefusesReading, BringsIn, RefusesPull, IsDamaged, ReadsPage, is_reserved, stamps_in, resident_in, IsFreeOrNode, IsConsistent, Config, StickyLog, Kept, Page, unplaced_state, IsLeft, now, view, map-at, set-at, put-back, all-at, behind-own, kept-at, own-at}
+use Rattle.sled_pagecache.proofs.Names.{Recency, on_ok_weaker, ⊎_elim, cases_Bool, ◌≡◌, ◌≤◌, ℕ, Bool, true, false, List, [], length, Some, Result, Ok, Err, slice_get, slice_set, slice_index_or, refl, sym, ◌∙◌, ap, subst, arith, false≢true, map-set, set-get_or, same_Some, AllByRecursion, IfErr, OnOk, OnErr, IsOk, Refusal, is_open, open_after, is_chain, Event, Message, Chain, effect_of_entry, IsSized, Ghosts, Cache, chain_length, IsAway, chain_at, count_after, Went, IsCaused, IsKept, is_free, is_resident, BringsIn, RefusesPull, ReadsPage, is_reserved, stamps_in, resident_in, IsFreeOrNode, IsConsistent, Config, StickyLog, Page, now, view, map-at, set-at, put-back, all-at, behind-own, kept-at, own-at}
 use Rattle.sled_pagecache.proofs.LeftPages.{leaves-went}
-use Rattle.sled_pagecache.proofs.Tables.{IsSet, consistent-set, free-same}
+use Rattle.sled_pagecache.proofs.Tables.{consistent-set, free-same}
 
 -- how many messages make a page
 pub places-length : (chain : Chain) (page : Page) → IsKept chain page → length chain ≡ length page.infos.items
@@ -31,21 +31,21 @@ module _ {L : Type 0} (g : Ghosts L) (before after : StickyLog L) (pages : List 
       (subst (λ n. n ≤ 10) (sym (ap length infos)) page-short-at)
       (λ clear. went.opened clear ∙ marks ∙ c.opened ready ∙ sym went.batch)
       (λ clear.
-          let beside = c.beside ready in
-          record {
-            usable = went.usable clear;
-            kept = λ known. subst (λ (l : List Chain). IsKept (slice_index_or l pid []) page) (sym (same known clear)) (is known clear);
-            others = λ known. sym (set-get_or (now effect_of_entry (g.state after.log)) pid []) ∙ ap (λ (l : List Chain). slice_set l pid (chain_at (g.state after.log) pid)) (same known clear);
-            chains = λ known. subst (λ (l : List Chain). AllByRecursion (λ chain. is_chain effect_of_entry chain ≡ true) l) (sym (same known clear)) (beside.chains known);
-            sized = λ known. subst (λ (l : List Chain). AllByRecursion IsSized l) (sym (same known clear)) (beside.sized known);
-          })
+      let beside = c.beside ready in
+      record {
+        usable = went.usable clear;
+        kept = λ known. subst (λ (l : List Chain). IsKept (slice_index_or l pid []) page) (sym (same known clear)) (is known clear);
+        others = λ known. sym (set-get_or (now effect_of_entry (g.state after.log)) pid []) ∙ ap (λ (l : List Chain). slice_set l pid (chain_at (g.state after.log) pid)) (same known clear);
+        chains = λ known. subst (λ (l : List Chain). AllByRecursion (λ chain. is_chain effect_of_entry chain ≡ true) l) (sym (same known clear)) (beside.chains known);
+        sized = λ known. subst (λ (l : List Chain). AllByRecursion IsSized l) (sym (same known clear)) (beside.sized known);
+      })
       (c.free ∙ sym (free-same 0 pages pid page q at freed))
 
 -- ---- in the words of the model
 
 module _ {L : Type 0} (g : Ghosts L) (next : ℕ) (config : Config) (recovered : Bool) (lru : Recency) where
   abbrev cache : StickyLog L → List Page → Cache L
-  cache sticky_log pages = view next config recovered lru sticky_log pages
+  cache = view next config recovered lru
 
   module _ (before after : StickyLog L) (pages : List Page) (free : List ℕ) (pid : ℕ) (q page : Page) (c : IsConsistent g.tells g.state before pages free) (ready : before.fault ≡ false)
       (behind : is_reserved pid ≡ false) (at : slice_get pages pid ≡ Some q) where
@@ -71,10 +71,6 @@ module _ {L : Type 0} (g : Ghosts L) (next : ℕ) (config : Config) (recovered :
     stamps-same stamp =
         map-set (λ (p : Page). p.stamp) pages pid page ∙ ap (λ (n : ℕ). slice_set (stamps_in pages) pid n) stamp ∙ put-back (stamps_in pages) pid q.stamp (map-at (λ (p : Page). p.stamp) pages pid q at)
 
-    -- a page that doesn't lie in memory has a chain that isn't empty
-    pub away-full : g.tells → is_resident q.kept ≡ false → is_empty effect_of_entry (chain_at (g.state before.log) pid) ≡ false
-    away-full known away = let holds = (page-kept-at g before after pages free pid q page c ready behind at known).holds in grind arith
-
     pub length-before : g.tells → length q.infos.items ≡ chain_length g.state (cache before pages) pid
     length-before known = sym (places-length (chain_at (g.state before.log) pid) q (page-kept-at g before after pages free pid q page c ready behind at known))
 
@@ -88,12 +84,8 @@ module _ {L : Type 0} (g : Ghosts L) (next : ℕ) (config : Config) (recovered :
       cause = cause;
       in_memory = on_ok_weaker result (λ resident. (behind, λ away. false≢true (sym (after-is false away) ∙ resident))) resident;
       sound = λ known. on_ok_weaker result (λ resident damaged. let holds = (is known).holds in grind arith) resident;
-      refused = λ known. by known result is_there (refused known);
+      refused = λ known. grind (arith, refused known, (page-kept-at g before after pages free pid q page c ready behind at known).holds);
     }
-      where
-        by : g.tells → (result : Result (Unit {0}) Refusal) → (is_resident q.kept ≡ true → IsOk result) → IfErr result (RefusesPull (chain_at (g.state before.log) pid)) → IfErr result (RefusesReading (chain_at (g.state before.log) pid) pid)
-        by known (Ok done) is_there why = tt
-        by known (Err refusal) is_there why = inr (behind, away-full known (false_from_ne_true (is_resident q.kept) (λ is. false≢true (is_there is))), why)
 
     -- how often the log was read, where a page was pulled, and nothing is read then
     pub reads-pulled : (result : Result (Unit {0}) Refusal)
@@ -106,9 +98,6 @@ module _ {L : Type 0} (g : Ghosts L) (next : ℕ) (config : Config) (recovered :
         (λ held. record { in_memory = λ _. unread held; whole = λ _ away _. absurd (false≢true (sym (before-is false away) ∙ held)); times = 0; most = omega arith; is = unread held })
         (λ away. by result away (whole away) (part away)) (cases_Bool (is_resident q.kept))
       where
-        short : length q.infos.items ≤ 10
-        short = page-short-at g before after pages free pid q page c ready behind at
-
         by : (result : Result (Unit {0}) Refusal) → is_resident q.kept ≡ false → OnOk result ((g.counts after.log).reads ≡ count_after (length q.infos.items) (g.counts before.log).reads)
             → OnErr result ((is_resident page.kept ≡ false) × (times : ℕ) × (times ≤ length q.infos.items) × ((g.counts after.log).reads ≡ count_after times (g.counts before.log).reads))
             → ReadsPage g (cache before pages) pid (cache after (slice_set pages pid page))
@@ -116,13 +105,13 @@ module _ {L : Type 0} (g : Ghosts L) (next : ℕ) (config : Config) (recovered :
           in_memory = λ not. absurd (not (before-away away));
           whole = λ known _ _. is ∙ ap (λ n. count_after n (g.counts before.log).reads) (length-before known);
           times = length q.infos.items;
-          most = short;
+          most = page-short-at g before after pages free pid q page c ready behind at;
           is = is;
         }
         by (Err refusal) away whole (out, times, few, is) = record {
           in_memory = λ not. absurd (not (before-away away));
           whole = λ _ _ resident. absurd (false≢true (sym out ∙ after-is true resident));
           times = times;
-          most = omega (arith, few, short);
+          most = omega (arith, few, page-short-at g before after pages free pid q page c ready behind at);
           is = is;
         }

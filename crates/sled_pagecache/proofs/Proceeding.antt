@@ -1,9 +1,6 @@
 -- Calls of a log, one after another up to the first that is refused.
-use Rattle.sled_pagecache.proofs.Names.{◌≡◌, true, false, List, [], ◌∷◌, ◌++◌, Option, None, Some, Result, Ok, Err, refl, sym, ◌∙◌, ap, subst, append_assoc, append-nil, Write, Refusal, Io, Event, Message, Messages, effect_of, IsLeft, unplaced_state, Ghosts, IsCaused, is_write_fault, begun_by, HasGrown-since, IsCaused-since, Went-none, Went-then, Went-last, refusal_in, is_fault, Comes, TakesNoRoom, LacksRoom, Reaches, Proceeds, StickyLog, arith}
+use Rattle.sled_pagecache.proofs.Names.{◌≡◌, true, false, List, [], ◌∷◌, ◌++◌, Option, None, Some, Result, Ok, Err, refl, sym, ◌∙◌, ap, append_assoc, append-nil, Write, Refusal, Io, Event, Message, Messages, effect_of, IsLeft, unplaced_state, Ghosts, IsCaused, begun_by, HasGrown-since, Went-none, Went-then, refusal_in, Comes, TakesNoRoom, LacksRoom, Reaches, Proceeds, StickyLog, arith}
 use Rattle.sled_base.specs.declared.types.Refusal.TheVariants.{Unsupported}
-
-fault-same : {T : Type 0} (result : Result T Refusal) → is_write_fault result ≡ is_fault (refusal_in result)
-fault-same result = grind arith
 
 pub nil-parts : {X : Type 0} (xs ys : List X) → xs ++ ys ≡ [] → (xs ≡ []) × (ys ≡ [])
 nil-parts [] ys is = (refl, is)
@@ -20,7 +17,7 @@ module _ {L : Type 0} (g : Ghosts L) where
   pub proceeds-ended : {T : Type 0} (old new : StickyLog L) (events : List (Event Message)) (result : Result T Refusal) → Comes g old new events → IsCaused g old new ⊥ result
       → (events ≡ [] → TakesNoRoom g old.log new.log) → Proceeds g old new events (refusal_in result)
   proceeds-ended old new events (Ok answer) went cause room = record { reaches = went; fault = cause.fault; room = room }
-  proceeds-ended {T} old new events (Err refusal) went cause room = record {
+  proceeds-ended old new events (Err refusal) went cause room = record {
     reaches = record {
       came = events;
       rest = [];
@@ -30,7 +27,7 @@ module _ {L : Type 0} (g : Ghosts L) where
       write = λ is. cause.write (ap Err is);
       full = λ is. absurd (cause.full (ap Err is));
     };
-    fault = cause.fault ∙ fault-same {T = T} (Err refusal);
+    fault = grind (arith, cause.fault);
     room = room;
   }
 
@@ -65,17 +62,10 @@ module _ {L : Type 0} (g : Ghosts L) where
               went = Went-then g old mid full.at first two.came one.reaches one.fault full.went;
               clear = full.clear;
               room = full.room;
-              given = λ none.
-                  let parts = nil-parts first two.came none in
-                  let same = one.room parts.0 in
-                  let lacks = full.given parts.1 in
-                  grind arith;
+              given = λ none. let parts = nil-parts first two.came none in grind (arith, one.room parts.0, full.given parts.1);
               behind = full.behind;
             };
       }
-
-  lacks-more : (log : L) (rest more : List (Event Message)) → LacksRoom g log rest → LacksRoom g log (rest ++ more)
-  lacks-more log rest more h1 = grind arith
 
   -- a refusal of the first calls, where more were to come
   pub proceeds-first : (old new : StickyLog L) (first second : List (Event Message)) (refusal : Refusal) → Proceeds g old new first (Some refusal) → Proceeds g old new (first ++ second) (Some refusal)
@@ -91,7 +81,7 @@ module _ {L : Type 0} (g : Ghosts L) where
           write = cut.write;
           full = λ is.
               let full = cut.full is in
-              record { at = full.at; went = full.went; clear = full.clear; room = lacks-more full.at.log cut.rest second full.room; given = λ none. lacks-more old.log cut.rest second (full.given none); behind = full.behind };
+              record { at = full.at; went = full.went; clear = full.clear; room = grind (arith, full.room); given = λ none. grind (arith, full.given none); behind = full.behind };
         };
         fault = one.fault;
         room = λ none. one.room (nil-parts first second none).0;
@@ -106,7 +96,7 @@ module _ {L : Type 0} (g : Ghosts L) where
     -- a call that tells one message
     pub proceeds-unplaced : {T : Type 0} (new : StickyLog L) (event : Event Message) (result : Result T Refusal) → Comes g old new (begun_by result (event ∷ []))
         → IsCaused g old new (LacksRoom g old.log (event ∷ [])) result → Proceeds g old new (event ∷ []) (refusal_in result)
-    proceeds-unplaced new event result went cause = record { reaches = by result went cause; fault = cause.fault ∙ fault-same result; room = λ none. (let e = none in cc) }
+    proceeds-unplaced new event result went cause = record { reaches = by result went cause; fault = grind (arith, cause.fault); room = λ none. (let e = none in cc) }
       where
         by : {T : Type 0} (result : Result T Refusal) → Comes g old new (begun_by result (event ∷ []))
             → IsCaused g old new (LacksRoom g old.log (event ∷ [])) result → Reaches g old new (event ∷ []) (refusal_in result)

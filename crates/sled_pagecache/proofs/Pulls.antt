@@ -1,5 +1,5 @@
 -- What was found of a page makes what the messages of its chain make, and why no node is read.
-use Rattle.sled_pagecache.proofs.Names.{◌≡◌, ◌⊎◌, inl, inr, ℕ, false, List, [], ◌∷◌, ◌++◌, map, Some, refl, sym, ◌∙◌, ap, subst, AllZip, log_kind_of, MessageKind, FreeInPull, DiskPtr, Refusal, ReportableBug, Corruption, OutOfMemory, is_empty, Content, Node, Update, Put, Link, Message, Entry, Chain, Messages, messages_of, effect_of_entry, blob_kind, kind_at, Decodes, IsUpdate, LeadTo, Makes, zip-append, applied, IsFoundAs, RefusesPull, found_message, MakesNode, IsFoundWrong, IsWrongAt, BeginsFree, RefusesNode, Found, arith, nil_from_length, AllZip-long, length}
+use Rattle.sled_pagecache.proofs.Names.{◌≡◌, inl, inr, ℕ, false, List, [], ◌∷◌, ◌++◌, map, refl, sym, ◌∙◌, ap, subst, AllZip, DiskPtr, Refusal, is_empty, Content, Node, Update, Put, Link, Entry, Chain, messages_of, effect_of_entry, kind_at, Decodes, IsUpdate, LeadTo, Makes, zip-append, applied, IsFoundAs, RefusesPull, found_message, IsFoundWrong, IsWrongAt, BeginsFree, RefusesNode, Found, arith, nil_from_length, AllZip-long, length}
 
 -- ---- what was found of a chain
 
@@ -49,21 +49,16 @@ wrong-at : (chain : Chain) (found : List Found) (pointer : DiskPtr) → AllZip I
 wrong-at chain found pointer zip r =
     let at = split chain r.before r.first r.after (subst (λ (l : List Found). AllZip IsFoundAs chain l) r.is zip) in
     let both : AllZip IsFoundAs (at.0 ++ at.1 ∷ []) (r.before ++ r.first ∷ []) = zip-append IsFoundAs at.0 r.before (at.1 ∷ []) (r.first ∷ []) at.4 (at.5, tt) in
-    let sound : (r.before ≡ []) ⊎ MakesNode (map found_message r.before) → (at.0 ≡ []) ⊎ MakesNode (messages_of at.0) =
-    elim [ inl none ↦ inl (nil_from_length at.0 (sym (AllZip-long IsFoundAs at.0 r.before at.4) ∙ ap length none)) | inr made ↦ inr (made.0, makes-found at.0 r.before (Node made.0) at.4 made.1) ] in
     record {
       before = at.0;
       first = at.1;
       after = at.2;
       is = at.3;
       kept = sym at.5.1 ∙ r.kept;
-      sound = sound r.sound;
+      sound = elim r.sound [ inl none ↦ inl (nil_from_length at.0 (sym (AllZip-long IsFoundAs at.0 r.before at.4) ∙ ap length none)) | inr made ↦ inr (made.0, makes-found at.0 r.before (Node made.0) at.4 made.1) ];
       wrong = λ (node, makes). r.wrong (node, found-makes (at.0 ++ at.1 ∷ []) (r.before ++ r.first ∷ []) (Node node) both makes);
     }
 
 -- why no node is read of a page that isn't free
 pub unmade : (chain : Chain) (found : List Found) (e : Refusal) → AllZip IsFoundAs chain found → is_empty effect_of_entry chain ≡ false → RefusesNode found e → RefusesPull chain e
-unmade chain found OutOfMemory zip full h = tt
-unmade chain found (Corruption (Some pointer)) zip full h = wrong-at chain found pointer zip h
-unmade chain found (ReportableBug FreeInPull) zip full h = absurd (begins-full chain found zip full h)
-unmade chain found e zip full h = absurd h
+unmade chain found e zip full h = grind (arith, wrong-at chain found, begins-full chain found)

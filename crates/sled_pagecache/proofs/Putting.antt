@@ -1,5 +1,5 @@
 -- A call that puts a content on one page, as a step of the machine, told of the table that the cache keeps.
-use Rattle.sled_pagecache.proofs.Names.{Recency, ◌≡◌, ◌≤◌, ◌<◌, ◌^◌, ℕ, Bool, true, false, List, [], ◌∷◌, ◌++◌, length, Result, Err, slice_set, refl, sym, ◌∙◌, ap, subst, arith, eq-eqb, ne_eqb, length-map, map-append, map-set, MatchBool, Read, Write, Error, Unsupported, Refusal, LogFull, chains_from, Node, Update, Put, contents_from, Content, Free, Event, Change, holds-after, effect_of, IsUpdate, MayChange, Hold, message_of, Ghosts, WholeNode, Cache, chain_length, Represents, HasNoRoom, StepOver, Steps, IsBlamed, Went, IsCaused, IsOfLog, begun_by, Logged, sticky_log_of, IsProper, page, State, with_page, Outcome, outcome, no_change, IsRefused, UnlessFaulty, Fails, stamps_in, IsBeside, Answer, Call, Config, StickyLog, error_by, StampedPage, KeptPage, view, log_now, unplaced_state}
+use Rattle.sled_pagecache.proofs.Names.{Recency, ◌≡◌, ◌≤◌, ◌<◌, ◌^◌, ℕ, Bool, true, false, List, [], ◌∷◌, ◌++◌, length, Result, Err, slice_set, refl, sym, ◌∙◌, ap, subst, arith, eq-eqb, ne_eqb, length-map, map-append, map-set, MatchBool, Read, Write, Error, Unsupported, Refusal, LogFull, chains_from, Node, Put, contents_from, Content, Change, effect_of, IsUpdate, MayChange, Hold, message_of, Ghosts, WholeNode, Cache, chain_length, Represents, HasNoRoom, StepOver, Steps, IsBlamed, Went, IsCaused, IsOfLog, begun_by, Logged, sticky_log_of, IsProper, page, State, with_page, Outcome, outcome, no_change, IsRefused, UnlessFaulty, Fails, stamps_in, IsBeside, Answer, Call, Config, StickyLog, error_by, StampedPage, KeptPage, view, log_now, unplaced_state, Messages, holds_now, now-unplaced}
 use Rattle.sled_base.specs.declared.types.Error.TheVariants.{Io, OutOfMemory}
 use Rattle.sled_base.specs.declared.types.Refusal.TheVariants as refusals
 use Rattle.sled_pagecache.proofs.CacheSteps.{steps-went}
@@ -21,9 +21,7 @@ module _ {L : Type 0} (g : Ghosts L) where
 
   -- what the log holds makes the contents, which are as many as the pages
   pub holds_unplaced : (cache : Cache L) (held : Logged) (s : State) → Represents g cache held s → s.fault ≡ false → Hold (log_now effect_of (unplaced_state (g.state cache.log))) (now held)
-  holds_unplaced cache held s is clear =
-      let logged = (is.known clear).logged in
-      holds-after (unplaced_state (g.state cache.log)).stable held.stable (unplaced_state (g.state cache.log)).pending held.pending logged.stable logged.pending
+  holds_unplaced cache held s is clear = subst (λ (l : List Messages). Hold l (now held)) (now-unplaced (g.state cache.log)) (holds_now (g.state cache.log) held (is.known clear).logged)
 
   module _ (next : ℕ) (config : Config) (recovered : Bool) (lru : Recency) where
     abbrev cache : StickyLog L → List KeptPage → Cache L
@@ -65,12 +63,9 @@ module _ {L : Type 0} (g : Ghosts L) where
 
         module _ (pid : ℕ) (content : Content) (reads : IsUpdate (message_of (Put content)) (Put content))
             (may : (held : Logged) (s : State) → Represents g (cache before table) held s → s.fault ≡ false → MayPut before.log held pid content) where
-          abbrev change : Event Update
-          change = Change pid (Put content)
-
           -- the log refused it, or failed
           pub put-refused : (T : Type 0) (pages : List KeptPage) → pages ≡ table → (answer : Error → Answer)
-              → ((held : Logged) (s : State) → Represents g (cache before table) held s → s.fault ≡ false → AreKnown s.pages table → (e : Error) (out : Outcome) → Fails (chain_length g.state (cache before table)) (HasNoRoom g before.log) s change e out → StepOver g (cache before table) s call (answer e) out)
+              → ((held : Logged) (s : State) → Represents g (cache before table) held s → s.fault ≡ false → AreKnown s.pages table → (e : Error) (out : Outcome) → Fails (chain_length g.state (cache before table)) (HasNoRoom g before.log) s (Change pid (Put content)) e out → StepOver g (cache before table) s call (answer e) out)
               → (refusal : Refusal) → IsOfLog refusal
               → (let told : Result T Refusal = Err refusal in Went g before after (begun_by told (Change pid (message_of (Put content)) ∷ [])))
               → (let told : Result T Refusal = Err refusal in IsCaused g before after (g.is_full before.log (length (message_of (Put content)).payload)) told)
@@ -84,14 +79,14 @@ module _ {L : Type 0} (g : Ghosts L) where
               (λ held s is clear.
               let m = may held s is clear in
               leads-begun g (cache before table) (cache after pages) held s is clear call (answer (Io Write)) refl pid (Put content) reads m.may m.proper
-              (step held s is clear (known held s is clear) (Io Write) (outcome (record s { fault = true }) (change ∷ [])) refl) (ap stamps_in back) cause.fault)
+              (step held s is clear (known held s is clear) (Io Write) (outcome (record s { fault = true }) (Change pid (Put content) ∷ [])) refl) (ap stamps_in back) cause.fault)
           put-refused T pages back answer step (refusals.Unsupported LogFull) of went cause =
               nothing-appended pages back (answer (Unsupported LogFull)) went cause.fault (λ held s is clear are. step held s is clear are (Unsupported LogFull) (no_change s) (cause.full refl, refl))
           put-refused T pages back answer step refusal of went cause = absurd of
 
           module _ (went : Went g before after (Change pid (message_of (Put content)) ∷ [])) (free : after.fault ≡ false) (answer : Answer) (stamp : ℕ) (q : KeptPage) (at : q.stamp ≡ stamp) where
             -- the page that was there holds it
-            pub put-set : pid < length table → ((held : Logged) (s : State) → Represents g (cache before table) held s → s.fault ≡ false → AreKnown s.pages table → StepOver g (cache before table) s call answer (outcome (with_page s pid (page stamp content)) (change ∷ [])))
+            pub put-set : pid < length table → ((held : Logged) (s : State) → Represents g (cache before table) held s → s.fault ≡ false → AreKnown s.pages table → StepOver g (cache before table) s call answer (outcome (with_page s pid (page stamp content)) (Change pid (Put content) ∷ [])))
                 → Steps g (cache before table) call answer (cache after (slice_set table pid q))
             put-set there step =
                 steps-went g (cache before table) (cache after (slice_set table pid q)) before after call answer (Change pid (message_of (Put content)) ∷ []) (record { config = refl; recovered = refl }) refl refl refl ready went
@@ -104,7 +99,7 @@ module _ {L : Type 0} (g : Ghosts L) where
                 free)
 
             -- a new page holds it
-            pub put-added : pid ≡ length table → ((held : Logged) (s : State) → Represents g (cache before table) held s → s.fault ≡ false → AreKnown s.pages table → StepOver g (cache before table) s call answer (outcome (record s { pages = s.pages ++ page stamp content ∷ [] }) (change ∷ [])))
+            pub put-added : pid ≡ length table → ((held : Logged) (s : State) → Represents g (cache before table) held s → s.fault ≡ false → AreKnown s.pages table → StepOver g (cache before table) s call answer (outcome (record s { pages = s.pages ++ page stamp content ∷ [] }) (Change pid (Put content) ∷ [])))
                 → Steps g (cache before table) call answer (cache after (table ++ q ∷ []))
             put-added last step =
                 steps-went g (cache before table) (cache after (table ++ q ∷ [])) before after call answer (Change pid (message_of (Put content)) ∷ []) (record { config = refl; recovered = refl }) refl refl refl ready went

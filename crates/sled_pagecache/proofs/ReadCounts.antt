@@ -1,5 +1,5 @@
 -- How often a call that may bring a page into memory reads its log.
-use Rattle.sled_pagecache.proofs.Names.{min, ◌≡◌, ◌≤◌, ◌<◌, ◌+◌, ℕ, List, length, Result, Ok, Err, ◌∙◌, ap, arith, AllZip-long, AllZip, Bool, true, false, Refusal, is_resident, StickyLog, Counts, Chain, Ghosts, Cache, chain_length, IsResident, IsAway, count_after, IsLoaded, Page, ReadsNothing, ReadsPage, HasRead, own_among, OnErr}
+use Rattle.sled_pagecache.proofs.Names.{min, ◌≡◌, ◌≤◌, ◌+◌, ℕ, List, length, Result, Err, ◌∙◌, ap, arith, AllZip-long, AllZip, Bool, true, false, Refusal, is_resident, StickyLog, Counts, Chain, count_after, IsLoaded, Page, HasRead, own_among, OnErr}
 use Rattle.sled_pagecache.proofs.ChainReads.{more-add}
 
 -- ---- how many pages are the cache's own
@@ -14,9 +14,7 @@ module _ {L : Type 0} (counts : L → Counts) where
   pub read-then : {T U E F : Type 0} (old mid new : L) (m n k : ℕ) (e : E) (f : F) → n + m ≤ k → (counts mid).reads ≡ count_after m (counts old).reads → (let result : Result T E = Err e in HasRead counts mid new n result)
       → (let result : Result U F = Err f in HasRead counts old new k result)
   read-then old mid new m n k e f le first second =
-      let part = second.part in
-      let most = part.1 in
-      record { whole = tt; part = (part.0 + m, omega (arith, most, le), part.2 ∙ ap (count_after part.0) first ∙ more-add part.0 m (counts old).reads) }
+      record { whole = tt; part = (second.part.0 + m, omega (arith, second.part.1, le), second.part.2 ∙ ap (count_after second.part.0) first ∙ more-add second.part.0 m (counts old).reads) }
 
   -- the system pages were read, of as many pages as the log has chains
   pub read-loaded : (old mid new : L) (chains : List Chain) (pages : List Page) → AllZip IsLoaded chains pages → (counts mid).reads ≡ (counts old).reads

@@ -1,42 +1,33 @@
 -- Pages as they are recovered are kept as their chains say, and the first of them that no cache leaves so.
-use Rattle.sled_pagecache.proofs.Names.{◌≡◌, ◌+◌, ◌<◌, ◌≤◌, ℕ, ℤ, true, false, List, [], ◌∷◌, ◌++◌, length, map, take, drop, get_or, Option, Some, None, refl, sym, ◌∙◌, ap, subst, inl, inr, arith, false≢true, length-map, take_more, slice_get_cases, zip-append, AllZip, AllByRecursion, IfSome, DiskPtr, PageState, Chain, IsPageState, said_of, freed_of, place_of, IsLoaded, IsUnread, HoldsChain, IsKept, is_free, place_of_freeing, info_at, kept_by, IsRecovered, is_misfit, AllFit, BeginsMisfit, CacheInfo, Kept, Page, Bool, drop_more, free_ids, append_assoc, slice_get_within, get_or_from_slice_get, if◌then◌else◌, slice_get, insert_key, nat_cmp}
-use Rattle.sled_base.specs.declared.types.page_state.PageState.TheVariants as said
+use Rattle.sled_pagecache.proofs.Names.{◌≡◌, ◌+◌, ◌<◌, ℕ, true, false, List, [], ◌∷◌, ◌++◌, length, map, take, drop, get_or, Option, Some, None, refl, sym, ◌∙◌, ap, subst, arith, length-map, take_more, zip-append, AllZip, AllByRecursion, IfSome, PageState, Chain, IsPageState, said_of, freed_of, place_of, IsLoaded, IsUnread, is_free, place_of_freeing, info_at, kept_by, IsRecovered, Page, Bool, drop_more, free_ids, append_assoc, slice_get_within, get_or_from_slice_get, if◌then◌else◌, slice_get, insert_key, nat_cmp}
+use Rattle.std.proofs.lemmas.List.{map-id}
+use Rattle.sled_pagecache.specs.Inside.Recovery.{places_in}
 use Rattle.sled_pagecache.proofs.FreeIds.{behind, later}
 use Rattle.sled_pagecache.proofs.ProperPages.{all-append}
 
--- ---- places
-
-places-same : (places : List (ℤ × DiskPtr × ℕ)) → map place_of (map info_at places) ≡ places
-places-same [] = refl
-places-same (place ∷ places) = ap (λ (l : List (ℤ × DiskPtr × ℕ)). place ∷ l) (places-same places)
+pub map-map : {X Y Z : Type 0} (f : Y → Z) (h : X → Y) (xs : List X) → map f (map h xs) ≡ map (λ x. f (h x)) xs
+map-map f h [] = refl
+map-map f h (x ∷ xs) = ap (λ l. f (h x) ∷ l) (map-map f h xs)
 
 -- ---- a recovered page is kept as its chain says
 
-is-kept : (chain : Chain) (state : PageState) (page : Page) → IsRecovered state page → IsPageState chain state → IsKept chain page
-is-kept chain (said.Present base frags) page from is = record {
-  places = λ _. is.1 ∙ sym (ap (map place_of) from.infos ∙ places-same (base ∷ frags.items));
-  long = sym (length-map chain said_of) ∙ ap length is.1 ∙ sym (ap length from.infos ∙ length-map (base ∷ frags.items) info_at);
-  holds = subst (λ (kept : Kept). HoldsChain chain kept) (sym from.kept) is.0;
-}
-is-kept chain (said.Free lsn pointer) page from is = record {
-  places = λ full. absurd (false≢true (sym full ∙ ap is_free from.kept));
-  long = sym (length-map chain freed_of) ∙ ap length is.1 ∙ sym (ap length from.infos);
-  holds = subst (λ (kept : Kept). HoldsChain chain kept) (sym from.kept) is.0;
-}
-
-freed-said : (chain : Chain) → map freed_of chain ≡ map place_of_freeing (map info_at (map said_of chain))
-freed-said [] = refl
-freed-said (entry ∷ chain) = ap (λ (l : List (ℤ × DiskPtr)). freed_of entry ∷ l) (freed-said chain)
-
-at-places : (chain : Chain) (state : PageState) (page : Page) → IsRecovered state page → IsPageState chain state → map freed_of chain ≡ map place_of_freeing page.infos.items
-at-places chain (said.Present base frags) page from is =
-    freed-said chain ∙ ap (λ (places : List (ℤ × DiskPtr × ℕ)). map place_of_freeing (map info_at places)) is.1 ∙ sym (ap (map place_of_freeing) from.infos)
-at-places chain (said.Free lsn pointer) page from is = is.1 ∙ sym (ap (map place_of_freeing) from.infos)
+is-loaded : (chain : Chain) (state : PageState) (page : Page) → IsRecovered state page → IsPageState chain state → IsLoaded chain page
+is-loaded chain state page from is =
+    let places = map-map place_of info_at (places_in state) ∙ map-id (places_in state) in
+    let freed : map place_of_freeing (map info_at (map said_of chain)) ≡ map freed_of chain =
+    map-map place_of_freeing info_at (map said_of chain) ∙ map-map (λ place. place_of_freeing (info_at place)) said_of chain in
+    let infos = from.infos in
+    let kept = from.kept in
+    record {
+      kept = record { places = λ full. grind arith; long = grind (arith, length-map chain said_of, length-map chain freed_of, length-map (places_in state) info_at); holds = grind arith };
+      at = grind arith;
+      stamp = from.stamp;
+    }
 
 pub all-loaded : (chains : List Chain) (states : List PageState) (pages : List Page) → AllZip IsRecovered states pages → AllZip IsPageState chains states → AllZip IsLoaded chains pages
 all-loaded [] [] [] from are = tt
 all-loaded (chain ∷ chains) (state ∷ states) (page ∷ pages) from are =
-    (record { kept = is-kept chain state page from.0 are.0; at = at-places chain state page from.0 are.0; stamp = from.0.stamp }, all-loaded chains states pages from.1 are.1)
+    (is-loaded chain state page from.0 are.0, all-loaded chains states pages from.1 are.1)
 all-loaded chains states pages from are = absurd (assumption (from, are))
 
 pub all-unread : (states : List PageState) (pages : List Page) → AllZip IsRecovered states pages → AllByRecursion (λ page. IsUnread page.kept) pages
@@ -53,10 +44,6 @@ zip-more R xs ys i x y lt all one = rw (take_more xs i x lt) (zip-append R (take
 pub if-some : {X : Type 0} {P : X → Type 0} (o : Option X) → ((x : X) → o ≡ Some x → P x) → IfSome o P
 if-some None all = tt
 if-some (Some x) all = all x refl
-
-pub first-place : (infos : List CacheInfo) (info : CacheInfo) → 0 < length infos → info ≡ get_or infos 0 info → slice_get (map (λ (info : CacheInfo). info.pointer) infos) 0 ≡ Some info.pointer
-first-place [] info lt is = absurd (omega arith)
-first-place (x ∷ infos) info lt is = sym (ap (λ (info : CacheInfo). Some info.pointer) is)
 
 -- ---- the ids of the free pages
 
@@ -80,8 +67,3 @@ module _ (pages : List Page) (ids now : List ℕ) (pid : ℕ) (less : AllByRecur
   free-passed page at full is =
       let step = ap (free_ids pid) (drop-at pages pid page at) ∙ ap (λ (b : Bool). if b then pid ∷ rest else rest) full in
       (subst (AllByRecursion (λ id. id < pid + 1)) (sym is) (later pid ids less), ap (λ (l : List ℕ). l ++ rest) is ∙ ap (λ (l : List ℕ). ids ++ l) (sym step) ∙ so_far)
-
--- ---- a page as a log says it
-
-pub said-all : (infos : List CacheInfo) (first : CacheInfo) → 0 < length infos → first ≡ get_or infos 0 first → map place_of infos ≡ place_of first ∷ map place_of (drop 1 infos)
-said-all infos first h1 h2 = grind arith

@@ -1,8 +1,8 @@
 -- A cache that is opened over a crash state is what is opened of the pages after a prefix of the changes.
-use Rattle.sled_pagecache.proofs.Names.{◌≡◌, ◌≤◌, ℕ, Bool, true, List, [], ◌++◌, arith, take, refl, sym, subst, Result, Ok, Err, IfOk, Error, Update, contents_after, Event, Message, Messages, unplaced_state, Ghosts, Cache, Logged, IsLogged, Started, Content, AreKept, CrashReopens, stable_state, stable_contents, Config, LogState, AreAfterPrefix, ReopensTo, HoldsCrash}
+use Rattle.sled_pagecache.proofs.Names.{none-came, take-nil, ◌≡◌, ◌≤◌, ℕ, Bool, true, List, [], ◌++◌, arith, take, refl, sym, subst, Ok, Err, Update, contents_after, Event, Message, Messages, unplaced_state, Ghosts, Logged, IsLogged, Content, AreKept, CrashReopens, stable_state, stable_contents, LogState, AreAfterPrefix, HoldsCrash}
 use Rattle.sled_pagecache.proofs.Endings.{sound-settings}
 use Rattle.sled_pagecache.proofs.Staying.{stay-none}
-use Rattle.sled_pagecache.specs.Logged.{IsLeft}
+use Rattle.sled_pagecache.specs.Logged.{IsLeft, now}
 
 -- pages of these messages are kept, and hold contents that are so
 abbrev pub IsKeptAs : List Messages → (List Content → Type 0) → Type 0
@@ -16,6 +16,10 @@ kept-prefix held begun pages left = (
   record { came = left.came; beginning = left.beginning; cut = left.cut; fair = left.fair; is = refl },
 )
 
+-- of a log at which nothing is pending it is all the pages
+pub after-none : (held : Logged) (contents : List Content) → held.pending ≡ [] → AreAfterPrefix held [] contents → contents ≡ now held
+after-none held contents none after = rw none (rw (none, none-came after.came after.beginning, take-nil after.cut) at after.is)
+
 pub kept-logged : (pages : List Messages) (contents : List Content) → AreKept pages contents → (usable : Bool) → IsLogged (stable_state pages usable) (stable_contents contents)
 kept-logged pages contents kept usable = record {
   stable = kept.holds;
@@ -26,10 +30,6 @@ kept-logged pages contents kept usable = record {
 -- a log to which nothing was appended holds no page
 pub empty-logged : (usable : Bool) → IsLogged (stable_state [] usable) (stable_contents [])
 empty-logged = kept-logged [] [] (record { holds = tt; proper = record { own = λ pid. tt; short = tt; few = omega arith } })
-
--- what a crash leaves is a log again that a cache can be opened over
-pub crashed-logged : (held : Logged) (changes : List (Event Update)) (pages : List Messages) (left : IsLeft held changes pages) (usable : Bool) → IsLogged (stable_state pages usable) (stable_contents (contents_after held.stable (take left.cut (held.pending ++ left.came))))
-crashed-logged held changes pages left usable = kept-logged pages (contents_after held.stable (take left.cut (held.pending ++ left.came))) left.is usable
 
 module _ {L : Type 0} (g : Ghosts L) (since_earlier : (log : L) (t u : ℕ) (pages : List Messages) → t ≤ u → g.left_since log u pages → g.left_since log t pages) where
   -- a crash state that is opened

@@ -1,5 +1,5 @@
 -- The page of the named roots, in the table and in the state that the cache is in, and the calls of it as steps of the machine.
-use Rattle.sled_pagecache.proofs.Names.{Recency, ◌≡◌, ◌≢◌, ◌≤◌, ◌+◌, ◌-◌, ◌^◌, ◌⊎◌, inl, inr, ℕ, Bool, false, arith, List, [], ◌∷◌, length, Option, Some, None, Result, Ok, Err, refl, sym, ◌∙◌, ap, subst, slice_get, slice_set, slice_index_or, eq-eqb, ne_eqb, same_Some, Error, Unsupported, Refusal, StampUsedUp, Content, Roots, Put, Event, Update, Change, messages_of, effect_of_entry, Makes, holds-made, effect_of, IsUpdate, message_of, Ghosts, Cache, Represents, Steps, StepOver, HasNoRoom, chain_length, Went, IsCaused, begun_by, Logged, IsConsistent, HoldsChain, page, State, page_at, with_page, Outcome, outcome, no_change, Does, RefusesSwap, token, Token, Config, StickyLog, Kept, GotMeta, GetMeta, FoundRoot, MetaPidForName, RootSwapped, CasRoot, PutsRoots, IsRoots, KeepsRoots, AreKeptRoots, Answer, Call, error_by, Bytes, NameTooLong, TooManyNames, roots_in, AreOwn, KeptPage, view, kept-at}
+use Rattle.sled_pagecache.proofs.Names.{Recency, Accesses, MakesAppend, RefusesAppend, ◌≡◌, ◌≢◌, ◌≤◌, ◌+◌, ◌-◌, ◌^◌, ◌⊎◌, inl, inr, ℕ, Bool, false, arith, List, [], ◌∷◌, length, Option, Some, None, Result, Ok, Err, refl, sym, ◌∙◌, ap, subst, slice_get, slice_set, eq-eqb, ne_eqb, same_Some, Error, Unsupported, Refusal, StampUsedUp, Content, Roots, Put, Change, Ghosts, Cache, Represents, Steps, StepOver, HasNoRoom, chain_length, Logged, IsConsistent, page, State, page_at, with_page, Outcome, outcome, no_change, Does, RefusesSwap, token, Token, Config, StickyLog, Kept, GotMeta, GetMeta, FoundRoot, MetaPidForName, RootSwapped, CasRoot, IsRoots, KeepsRoots, AreKeptRoots, Answer, Call, error_by, Bytes, NameTooLong, TooManyNames, roots_in, AreOwn, KeptPage, view}
 use Rattle.sled_base.specs.declared.types.Error.TheVariants.{CollectionNotFound, OutOfMemory}
 use Rattle.sled_base.specs.declared.types.Refusal.TheVariants as refusals
 use Rattle.sled_node.specs.Meta as meta
@@ -72,23 +72,23 @@ module _ {L : Type 0} (g : Ghosts L) (next : ℕ) (config : Config) (recovered :
         → StepOver g (cache before table) s (CasRoot name old new) (RootSwapped answer) out
     risen s clear there below answer out done = unless-clear s answer out _ clear (rw there (inr (same, inr (inr (can, rw (ne_eqb stamp (2 ^ 64 - 1) below) done)))))
 
-    pub root-refused : (pages : List KeptPage) → pages ≡ table → IsUpdate (message_of (Put content)) (Put content) → (refusal : Refusal) → RefusesSwap stamp refusal
-        → (let told : Result (Unit {0}) Refusal = Err refusal in Went g before after (begun_by told (Change 0 (message_of (Put content)) ∷ [])))
-        → (let told : Result (Unit {0}) Refusal = Err refusal in IsCaused g before after (g.is_full before.log (length (message_of (Put content)).payload)) told)
+    pub root-refused : (pages : List KeptPage) → pages ≡ table → {accesses between : Accesses} {left : Type 0} {refusal : Refusal} → RefusesAppend g 0 (Put content) before after accesses between (RefusesSwap stamp) left refusal → RefusesSwap stamp refusal
         → Steps g (cache before table) (CasRoot name old new) (RootSwapped (Err (error_by refusal))) (cache after pages)
-    root-refused pages back reads refusal (inl (last, is)) =
-        rw is (λ went cause. nothing-appended g next config recovered lru before table ready (c.beside ready) after (CasRoot name old new) pages back (RootSwapped (Err (Unsupported StampUsedUp))) went cause.fault
+    root-refused pages back {refusal = refusal} refused (inl (last, is)) =
+        let known = rw is at refused in
+        rw is
+        (nothing-appended g next config recovered lru before table ready (c.beside ready) after (CasRoot name old new) pages back (RootSwapped (Err (Unsupported StampUsedUp))) known.went known.cause.fault
         (λ held s is clear are. rw (clear, roots-at held s is clear) (inr (same, inr (inr (can, rw (eq-eqb stamp (2 ^ 64 - 1) last) (refl, refl)))))))
-    root-refused pages back reads refusal (inr (below, of)) =
-        put-refused g next config recovered lru before table ready (c.beside ready) after (CasRoot name old new) 0 content reads may (Unit {0}) pages back (λ e. RootSwapped (Err e))
-        (λ held s is clear are e out fails. risen s clear (roots-at held s is clear) below (Err e) out fails)
-        refusal of
+    root-refused pages back {refusal = refusal} refused (inr (below, of)) =
+        put-refused g next config recovered lru before table ready (c.beside ready) after (CasRoot name old new) 0 content refused.is may (Unit {0}) pages back (λ e. RootSwapped (Err e))
+        (λ held s is clear are e out fails. risen s clear (roots-at held s is clear) below (Err e) out fails) refusal of refused.went refused.cause
 
-    pub root-swapped : IsUpdate (message_of (Put content)) (Put content) → stamp ≢ 2 ^ 64 - 1 → Went g before after (Change 0 (message_of (Put content)) ∷ []) → after.fault ≡ false
-        → (changed : KeptPage) → changed.stamp ≡ stamp + 1 → Steps g (cache before table) (CasRoot name old new) (RootSwapped (Ok (Ok tt))) (cache after (slice_set table 0 changed))
-    root-swapped reads below went clear_after changed risen_to =
-        put-set g next config recovered lru before table ready (c.beside ready) after (CasRoot name old new) 0 content reads may went clear_after (RootSwapped (Ok (Ok tt))) (stamp + 1) changed risen_to (let both = c.both in omega (arith, both))
-        (λ held s is clear are. risen s clear (roots-at held s is clear) below (Ok (Ok tt)) (outcome (with_page s 0 (page (stamp + 1) content)) (Change 0 (Put content) ∷ [])) (refl, (refl, refl)))
+    pub root-swapped : {accesses between : Accesses} {q changed : KeptPage} {held : Kept} → MakesAppend g 0 (Put content) before after accesses between q changed held → q.stamp ≡ stamp
+        → Steps g (cache before table) (CasRoot name old new) (RootSwapped (Ok (Ok tt))) (cache after (slice_set table 0 changed))
+    root-swapped {changed = changed} made was =
+        put-set g next config recovered lru before table ready (c.beside ready) after (CasRoot name old new) 0 content made.is may made.went made.fault (RootSwapped (Ok (Ok tt))) (stamp + 1) changed (made.stamp.1 ∙ ap (λ n. n + 1) was) (let both = c.both in omega (arith, both))
+        (λ held s is clear are.
+        risen s clear (roots-at held s is clear) (λ last. let below = made.stamp.0 in omega (arith, below, was, last)) (Ok (Ok tt)) (outcome (with_page s 0 (page (stamp + 1) content)) (Change 0 (Put content) ∷ [])) (refl, (refl, refl)))
 
 -- ---- a page of named roots that is about to be swapped
 

@@ -1,13 +1,11 @@
 -- The kinds of the pages of a state are those of what the table keeps.
-use Rattle.sled_pagecache.proofs.Names.{none-some, same_Some, take, ◌++◌, ◌≡◌, ℕ, zero, suc, Bool, false, List, [], ◌∷◌, map, Some, slice_get, refl, sym, ◌∙◌, ap, subst, Ghosts, Cache, Content, stamps_in, resident_in, nodes_in, is_resident, node_access_size, access_size, size_if, IsBeside, Kept, Option, None, slice_get-map, option_map, IfSome, KeptPage, unplaced_state, IsFreeOrNode, IsCounter, AreOwn, IsRoots, IsOwnAt, arith}
+use Rattle.sled_pagecache.proofs.Names.{◌≡◌, ℕ, suc, false, List, [], ◌∷◌, map, slice_get, refl, sym, ◌∙◌, ap, subst, Ghosts, Cache, stamps_in, resident_in, nodes_in, IsBeside, slice_get-map, IfSome, KeptPage, unplaced_state, AreOwn, IsOwnAt, arith}
 use Rattle.sled_pagecache.proofs.Carrying.{proper-now}
 use Rattle.sled_pagecache.proofs.Standing.{IsKnown, AreKnown, known-in}
-use Rattle.sled_pagecache.specs.Table as kept
 use Rattle.sled_pagecache.specs.Logged as proper
-use Rattle.sled_pagecache.specs.Shapes.{Shape, kind_at, kind_of, shape_of_page, Shows}
-use Rattle.sled_pagecache.specs.Inside.Shapes.{kind_of_kept, shape_of_kept}
-use Rattle.sled_pagecache.specs.State.{StampedPage, is_free}
-use Rattle.sled_pagecache.specs.declared.pagecache.shape.Kind.{Kind}
+use Rattle.sled_pagecache.specs.Shapes.{Shape, kind_at, shape_of_page, Shows}
+use Rattle.sled_pagecache.specs.Inside.Shapes.{shape_of_kept}
+use Rattle.sled_pagecache.specs.State.{StampedPage}
 use Rattle.sled_pagecache.specs.declared.pagecache.shape.PageShape.{PageShape}
 
 one-shape : (pid : ℕ) (p : StampedPage) (q : KeptPage) → proper.IsOwnAt pid p.content → IsOwnAt pid q.kept → IsKnown p q → shape_of_page p ≡ shape_of_kept q
@@ -48,6 +46,5 @@ module _ {L : Type 0} (g : Ghosts L) where
         let known = known-in g cache table_pages held s is clear stamps (beside (sym is.fault ∙ clear)) in
         let here = subst proper.AreOwn (sym (is.known clear).contents) (proper-now (unplaced_state (g.state cache.log)) held (is.known clear).logged).own in
         let same : map shape_of_page s.pages ≡ shape.pages = same-shapes (λ id. id) s.pages table_pages here own known ∙ sym pages in
-        let made : List PageShape → ℕ → Bool → Shape = λ p n f. record { pages = p; next = n; fault = f } in
-        ap (λ p. made p s.next s.fault) same ∙ ap (λ n. made shape.pages n s.fault) (is.next ∙ sym next) ∙ ap (made shape.pages shape.next) (is.fault ∙ sym fault);
+        rw (same, is.next ∙ sym next, is.fault ∙ sym fault) refl;
   }

@@ -1,20 +1,19 @@
 -- Why every run of openings shows pages after a prefix of the changes, which holds all that was flushed, and gives no generated id twice:
 -- what opens over a log, however a cache over it ended, begins above every id that was answered.
-use Rattle.sled_pagecache.proofs.Names.{Counter, Roots, drop_all, Entry, seen_event, map, message_in, Answer, Bool, Cache, Call, Config, Content, Err, Error, Flushed, Generated, Ghosts, Represents, IsLogged, IsStep, List, Logged, Messages, Ok, Result, Started, State, Outcome, LogFull, [], ◌∷◌, ◌++◌, ap, append-nil, append_assoc, arith, changes_of_start, false, inl, inr, IfErr, IsErrAnd, missing_pages, stable_contents, opened_state, refl, subst, sym, true, unplaced_state, ℕ, ◌≡◌, ◌≢◌, ◌≤◌, ◌+◌, ◌⊎◌, ⊎_elim, ◌∙◌, true≢false, Update, Event, StepOver, Adds, IsPrefix, IsPrefix-all, IsPrefix-none, Crashed, CrashedIn, Ending, HandedOn, IsEmpty, IsRun, Lasted, Leaves, LeavesUnopened, Opening, HoldsCrash, KeepIntervals, OnlyNow, left-now, AreMade, AreRising, AreSteps, CoversId, IsCovered, IsMade, ReportsBytes, IsOpened, Opens, MayBeOpened, Unsupported, Write, has_own, cases_Bool, cases_lt, contents_after, contents_of, first_id, id_in, ids_in, ids_of, length, length-drop, AddsEvents-then, CrashKeeps-added, CrashKeeps-more, IsFair-none, contents_after-append, drop-nil, log_after, step-stuck}
+use Rattle.sled_pagecache.proofs.Names.{Counter, Roots, drop_all, seen_event, map, message_in, Answer, Cache, Call, Config, Content, Err, Error, Generated, Ghosts, Represents, IsLogged, IsStep, List, Logged, Messages, Ok, Result, Started, State, Outcome, [], ◌∷◌, ◌++◌, ap, append-nil, append_assoc, arith, changes_of_start, false, inl, inr, IfErr, IsErrAnd, stable_contents, opened_state, refl, subst, sym, true, unplaced_state, ℕ, ◌≡◌, ◌≢◌, ◌≤◌, ◌+◌, ◌⊎◌, ⊎_elim, ◌∙◌, true≢false, Update, Event, StepOver, Adds, IsPrefix, IsPrefix-all, IsPrefix-none, Crashed, CrashedIn, Ending, HandedOn, IsEmpty, IsRun, Lasted, Leaves, LeavesUnopened, Opening, HoldsCrash, KeepIntervals, OnlyNow, left-now, AreMade, AreSteps, CoversId, IsCovered, IsMade, ReportsBytes, Opens, MayBeOpened, Unsupported, Write, has_own, cases_Bool, cases_lt, contents_after, contents_of, id_in, ids_in, ids_of, length, length-drop, AddsEvents-then, CrashKeeps-added, CrashKeeps-more, IsFair-none, contents_after-append, log_after, step-stuck}
 use Rattle.sled_pagecache.specs.Openings.{Refused}
 use Rattle.sled_pagecache.proofs.Carrying.{proper-now}
 use Rattle.sled_pagecache.proofs.Counting.{BeginsAbove, CountsTo, IsSafe, Rises, first-at, now-added, rises-over, rises-parts, safe-added, safe-crash, start-counts, start-rises}
 use Rattle.sled_pagecache.proofs.Endings.{by-settings, crash-since, sound-settings}
-use Rattle.sled_pagecache.proofs.IdRuns.{RiseFrom, rising}
+use Rattle.sled_pagecache.proofs.IdRuns.{RiseFrom}
 use Rattle.sled_pagecache.proofs.Staying.{no-changes}
 use Rattle.sled_base.specs.declared.types.Error.TheVariants.{Io}
 use Rattle.sled_pagecache.proofs.Crashing.{refuses}
 use Rattle.sled_pagecache.proofs.IdSteps.{Passes, call-passes, none-given, wrote-none}
 use Rattle.sled_pagecache.proofs.Reopening.{IsKeptAs, crash-holds, empty-logged, kept-prefix}
-use Rattle.sled_pagecache.specs.Prefixes.{History, Crashes, history_after_answer, with_begun, begun_by_start, history_after_call, history_after_calls, with_made, pages_by_now, history_after_start, history_after_start_with, history_from, Survives, with_all_flushed}
+use Rattle.sled_pagecache.specs.Prefixes.{History, Crashes, history_after_answer, with_begun, begun_by_start, history_after_call, history_after_calls, with_made, pages_by_now, history_after_start, history_after_start_with, history_from, Survives, with_all_flushed, Ends, EndsUnopened, HasPagesOf, IsOpenedOf, RefusesAfter, ShowPrefixes}
 use Rattle.sled_pagecache.specs.Logged.{IsLeft, now, AreKept}
 use Rattle.sled_pagecache.specs.Inside.SequenceLaws.{adds-none}
-use Rattle.sled_pagecache.specs.Prefixes.{Ends, EndsUnopened, HasPagesOf, IsOpenedOf, RefusesAfter, ShowPrefixes}
 
 -- The log holds what the history says, no write has failed, and all that is flushed is durable. What opens over it begins at the bound or
 -- above.
@@ -69,20 +68,14 @@ module _ (h : History) (least bound : ℕ) (held : Logged) (told : Tells h least
         contents,
         kept,
         (
-          subst (λ (l : List (Event Update)). Survives (record h { begun = l }) contents) (ap (λ (l : List (Event Update)). l ++ all) (sym told.clear))
-          (record { prefix = behind.0; holds = omega (arith, flushed, cut) }),
+          rw told.clear (record { prefix = behind.0; holds = omega (arith, flushed, cut) }),
           safe-crash least bound held told.safe all rises pages left,
         ),
       )
 
--- a start makes nothing where no system page is missing
-lacks-none : (contents : List Content) → missing_pages contents ≡ [] → changes_of_start contents ≡ []
-lacks-none contents none = drop_all (length contents) _ (omega (arith, length-drop (length contents) (Roots [] ∷ Counter 0 ∷ []), ap length none))
-
 -- the changes of a start were made
 tells-start : (changes : List (Event Update)) (h : History) (least bound : ℕ) (held : Logged) → Tells (with_made changes h) least bound held → (changes ≢ [] → held.pending ≡ []) → Tells (history_after_start_with changes h) least bound held
-tells-start [] h least bound held told none = subst (λ (l : List (Event Update)). Tells (record h { changes = l }) least bound held) (append-nil h.changes) told
-tells-start (change ∷ changes) h least bound held told none = tells-flushed (with_made (change ∷ changes) h) least bound held told (none (λ e. absurd cc))
+tells-start changes h least bound held told none = grind (arith, tells-flushed (with_made changes h) least bound held told, append-nil h.changes)
 
 -- the answer covers the id that it gives
 covers : {L : Type 0} (g : Ghosts L) (answer : Answer) (id : ℕ) (new : Cache L) → id_in answer ≡ id ∷ [] → CoversId g answer new → IsCovered g new id
@@ -94,10 +87,7 @@ module _ {L : Type 0} (g : Ghosts L) (tells : g.tells)
   -- an answer, that flushes all or doesn't
   tells-answer : (old new : Cache L) (answer : Answer) (changes : List (Event Update)) (h : History) (least bound : ℕ) (held : Logged) → Tells (with_made changes h) least bound held → ReportsBytes g old answer new
       → ((g.state new.log).pending ≡ [] → held.pending ≡ []) → ((id : ℕ) → answer ≡ Generated (Ok id) → new ≡ record old { next = old.next + 1 } → changes ≡ []) → Tells (history_after_answer answer changes h) least bound held
-  tells-answer old new (Flushed (Ok written)) changes h least bound held told bytes none wrote = tells-flushed (with_made changes h) least bound held told (none bytes.1)
-  tells-answer old new (Generated (Ok id)) (change ∷ changes) h least bound held told (inl stable) none wrote = tells-flushed (with_made (change ∷ changes) h) least bound held told (none stable)
-  tells-answer old new (Generated (Ok id)) (change ∷ changes) h least bound held told (inr next) none wrote = absurd (let nothing = wrote id refl next in cc)
-  tells-answer old new answer changes h least bound held told bytes none wrote = told
+  tells-answer old new answer changes h least bound held told bytes none wrote = grind (arith, tells-flushed (with_made changes h) least bound held told)
 
   record IsFound (h : History) (least bound : ℕ) (l : L) : Type 0 where
     pub held : Logged
@@ -164,9 +154,6 @@ module _ {L : Type 0} (g : Ghosts L) (tells : g.tells)
       left : (pages : List Messages) → g.left_since new.log (g.moment old.log) pages → SurviveAs (with_begun one.out.changes h) interval bound pages
       left pages since = survive h interval bound held on.told one.out.changes one.out.changes (IsPrefix-all one.out.changes) rises pages ((one.stop on.clear).each pages since)
 
-      stuck : one.out.state.fault ≡ true → Stands (history_after_call answer one.out h) interval bound new one.out.state
-      stuck kept = record { held = one.held_then; is = one.is; so = inr (record { kept = kept; since = g.moment old.log; earlier = (one.stop on.clear).later; left = rw kept left }) }
-
       goes-on : (free : one.out.state.fault ≡ false) (bound_then : ℕ) → bound_then ≤ one.out.state.next → BeginsAbove interval bound_then one.held_then.stable → Stands (history_after_call answer one.out h) interval bound_then new one.out.state
       goes-on free bound_then next above = record {
         held = one.held_then;
@@ -180,12 +167,10 @@ module _ {L : Type 0} (g : Ghosts L) (tells : g.tells)
         });
       }
         where
-          none : (g.state new.log).pending ≡ [] → one.held_then.pending ≡ []
-          none is = no-changes one.held_then.stable _ one.held_then.pending (ap (map (seen_event message_in)) is) (one.is.known free).logged.pending
-
           told : Tells (history_after_answer answer one.out.changes h) interval bound one.held_then
           told =
-              tells-answer old new answer one.out.changes h interval bound one.held_then (tells-made h interval bound held on.told one.out.changes rises one.held_then (one.added free)) made.bytes none
+              tells-answer old new answer one.out.changes h interval bound one.held_then (tells-made h interval bound held on.told one.out.changes rises one.held_then (one.added free)) made.bytes
+              (λ is. no-changes one.held_then.stable _ one.held_then.pending (ap (map (seen_event message_in)) is) (one.is.known free).logged.pending)
               (λ id given next. wrote-none g old s call id one.out (subst (λ a. StepOver g old s call a one.out) given one.step) (one.is.stamps ∙ ap (λ (c : Cache L). c.stamps) next ∙ sym is.stamps))
 
       -- an id that it gives is below the counter that is durable
@@ -193,14 +178,14 @@ module _ {L : Type 0} (g : Ghosts L) (tells : g.tells)
       above-id gives free wide more =
           let below = covers g answer s.next new gives made.covered tells one.held_then (one.is.known free).logged in
           let same : new.config.idgen_persist_interval ≡ interval = ap (λ (c : Config). c.idgen_persist_interval) made.step.opening.config ∙ on.interval_is in
-          let at = first-at wide one.held_then.stable below.0 below.1 in
-          omega (arith, below.2, same, more, at)
+          omega (arith, below.2, same, more, first-at wide one.held_then.stable below.0 below.1)
 
       clear-goes : Goes h interval bound old s call answer new
       clear-goes =
           ⊎_elim
           (λ none. goes bound
-          (⊎_elim stuck (λ free. goes-on free bound (omega (arith, on.next, passes.next)) (safe-added interval bound held on.told.safe one.out.changes rises one.held_then (one.added free)).above) (cases_Bool one.out.state.fault))
+          (⊎_elim (λ kept. record { held = one.held_then; is = one.is; so = inr (record { kept = kept; since = g.moment old.log; earlier = (one.stop on.clear).later; left = rw kept left }) })
+          (λ free. goes-on free bound (omega (arith, on.next, passes.next)) (safe-added interval bound held on.told.safe one.out.changes rises one.held_then (one.added free)).above) (cases_Bool one.out.state.fault))
           (λ more below. rw none below))
           (λ given. goes (s.next + 1) (goes-on given.1 (s.next + 1) (omega (arith, given.2)) (above-id given.0 given.1)) (λ more below. rw given.0 (on.next, below))) passes.given
         where
@@ -272,7 +257,8 @@ module _ {L : Type 0} (g : Ghosts L) (tells : g.tells)
             is = start.is;
             so = inl (record {
               clear = refl;
-              told = tells-start changes h k bound start.held_then all (λ some. start.stable (λ none. some (lacks-none (now found.held) none)));
+              told = tells-start changes h k bound start.held_then all
+                  (λ some. start.stable (λ none. some (drop_all (length (now found.held)) _ (omega (arith, length-drop (length (now found.held)) (Roots [] ∷ Counter 0 ∷ []), ap length none)))));
               interval_is = ap (λ (c : Config). c.idgen_persist_interval) start.config_is;
               next = omega (arith, found.told.safe.above k (omega arith), rises-over found.held.stable found.held.pending found.told.safe.rises k);
               counts = (counts.0, rw (now-added found.held start.held_then changes start.added) counts.1);

@@ -1,5 +1,5 @@
 -- The pages of the state that a cache is in, beside those of its table.
-use Rattle.sled_pagecache.proofs.Names.{◌≡◌, ◌≤◌, ◌<◌, ℕ, zero, suc, Bool, true, false, List, [], ◌∷◌, ◌++◌, length, map, Some, None, slice_get, slice_set, refl, sym, ◌∙◌, ap, subst, arith, length-map, none-some, same_Some, AllZip-long, AllZip, is_freeing, is_empty, Content, Counter, Roots, Node, Damaged, Put, effect_of_update, Chain, Entry, Messages, messages_of, effect_of, effect_of_entry, LeadTo, Makes, Holds, Hold, reads_effect, Ghosts, applied, WholeNode, Cache, Represents, Logged, HoldsChain, IsKept, State, stamps_in, resident_in, IsBeside, CacheInfo, Kept, KeptPage, LogState, now, slice_get_past, get_set_there, last-at, map-at, past-end, holds_now}
+use Rattle.sled_pagecache.proofs.Names.{◌≡◌, ◌≤◌, ◌<◌, ℕ, zero, suc, Bool, true, false, List, [], ◌∷◌, ◌++◌, length, map, Some, None, slice_get, slice_set, refl, sym, ◌∙◌, ap, subst, arith, length-map, same_Some, AllZip-long, AllZip, is_freeing, is_empty, Content, Node, Put, effect_of_update, Chain, Entry, Messages, messages_of, effect_of, effect_of_entry, LeadTo, Makes, Holds, Hold, reads_effect, Ghosts, applied, WholeNode, Cache, Represents, Logged, HoldsChain, IsKept, State, stamps_in, resident_in, IsBeside, CacheInfo, Kept, KeptPage, LogState, now, slice_get_past, get_set_there, last-at, map-at, past-end, holds_now}
 use Rattle.sled_pagecache.specs.Table as kept_table
 use Rattle.sled_pagecache.specs.Inside.PageEntry as kept
 use Rattle.sled_pagecache.specs.State.{StampedPage, is_free}
@@ -44,13 +44,11 @@ AreKnown = AllZip IsKnown
 are-known : (pages : List StampedPage) (chains : List Chain) (table : List KeptPage)
     → map (λ (p : StampedPage). p.stamp) pages ≡ stamps_in table → Hold (map messages_of chains) (map (λ (p : StampedPage). p.content) pages) → AllZip IsKept chains table → AreKnown pages table
 are-known [] chains [] same holds beside = tt
-are-known [] chains (q ∷ table) same holds beside = absurd cc
-are-known (p ∷ pages) chains [] same holds beside = absurd cc
-are-known (p ∷ pages) [] (q ∷ table) same holds beside = absurd beside
 are-known (p ∷ pages) (chain ∷ chains) (q ∷ table) same holds beside = (
   record { stamp = cc; free = sym (holds-free chain p.content holds.0) ∙ kept-free chain q.kept beside.0.holds },
   are-known pages chains table (cc) holds.1 beside.1,
 )
+are-known pages chains table same holds beside = grind arith
 
 module _ {L : Type 0} (g : Ghosts L) where
   -- in whatever state the cache is
@@ -73,11 +71,10 @@ pub record IsFound (pages : List StampedPage) (pid : ℕ) (kept_page : KeptPage)
   pub known : IsKnown page kept_page
 
 pub found-known : (pages : List StampedPage) (table : List KeptPage) (pid : ℕ) (q : KeptPage) → AreKnown pages table → slice_get table pid ≡ Some q → IsFound pages pid q
-found-known pages [] pid q known at = absurd (none-some q at)
-found-known [] (k ∷ table) pid q known at = absurd known
 found-known (p ∷ pages) (k ∷ table) zero q known at = record { page = p; is = refl; known = subst (IsKnown p) (same_Some k q at) known.0 }
 found-known (p ∷ pages) (k ∷ table) (suc pid) q known at =
     let rest = found-known pages table pid q known.1 at in record { page = rest.page; is = rest.is; known = rest.known }
+found-known pages table pid q known at = absurd (grind arith)
 
 -- there is none where the table ends
 pub found-none : (pages : List StampedPage) (table : List KeptPage) (pid : ℕ) → AreKnown pages table → slice_get table pid ≡ None → slice_get pages pid ≡ None
@@ -98,8 +95,7 @@ resident-add table page node holds = map-at (λ (q : KeptPage). kept.is_resident
 
 -- a page of one message has a chain of one
 pub one-long : (chain : Chain) (page : KeptPage) → IsKept chain page → map (λ (info : CacheInfo). info.ts) page.infos.items ≡ page.stamp ∷ [] → length chain ≡ 1
-one-long chain page is one =
-    is.long ∙ sym (length-map page.infos.items (λ (info : CacheInfo). info.ts)) ∙ ap length one
+one-long chain page is one = is.long ∙ sym (length-map page.infos.items (λ (info : CacheInfo). info.ts)) ∙ ap length one
 
 pub one-short : (page : KeptPage) → map (λ (info : CacheInfo). info.ts) page.infos.items ≡ page.stamp ∷ [] → length page.infos.items ≤ 10
 one-short page one = let same : length page.infos.items ≡ 1 = sym (length-map page.infos.items (λ (info : CacheInfo). info.ts)) ∙ ap length one in omega (arith, same)

@@ -1,12 +1,11 @@
 -- The pages that a cache is opened with.
-use Rattle.sled_pagecache.proofs.Names.{Recency, IsBounded, IsSound, IsUnused, slice_get_cases, node_access_size, view, inl, inr, ◌≡◌, ◌≤◌, ◌<◌, ◌^◌, ℕ, zero, suc, Bool, true, false, cond, List, [], ◌∷◌, ◌++◌, length, map, take, drop, set, get_or, slice_get, slice_index_or, Option, None, Some, is_some, Result, Ok, refl, sym, ◌∙◌, ap, subst, arith, eq-eqb, drop-nil, take-nil, take-append_seam, nat_tests, length-append, length-map, append-nil, AllZip-long, slice_get-get_or, slice_get_past, slice_get_within, none-some, same_Some, AllByRecursion, AllZip, IfSome, DiskPtr, Refusal, Io, Corruption, OutOfMemory, is_open, open_after, is_chain, is_empty, chains_with_change, Content, Put, Event, Change, Message, Entry, Chain, Messages, messages_of, placed_entry, effect_of, effect_of_entry, holds-made, IsSized, Makes, Holds, Hold, IsLeft, now, unplaced_state, message_of, zip-append, Ghosts, place_of, roots_event, IsLoaded, IsUnread, AreRecovered, AreRead, AreFound, IsFoundAt, IsOwnAt, IfSome_then, IsTable, IsOpenedWith, RefusesOwn, RefusesPages, next_id, counter_event, events_of_roots, events_at_start, stamps_at_start, first_id, HoldsChain, IsKept, is_resident, place_of_freeing, free_ids, Proceeds, refusal_in, Comes, IsCaused, IsCaused-since, Went-last, is_misfit, AllFit, BeginsMisfit, IsFit, Wrote, IsRoots, IsCounter, IsFreeOrNode, AreOwn, IsConsistent, stamps_in, resident_in, CacheInfo, Config, StickyLog, Kept, Page, get_or_from_slice_get, begin_page, zip-set, set-get_or, length-set, Counter, Roots, add-by-id, all-by-id, at-id, by-id-all, past-two, zip-first, zip-second}
+use Rattle.sled_pagecache.proofs.Names.{slice_get-map, kept-at, Recency, IsBounded, IsSound, IsUnused, slice_get_cases, view, inl, inr, ◌≡◌, ◌≤◌, ◌<◌, ◌^◌, ℕ, zero, suc, Bool, true, false, cond, List, [], ◌∷◌, ◌++◌, length, map, take, drop, set, slice_get, slice_index_or, Option, None, Some, is_some, Result, Ok, refl, sym, ◌∙◌, ap, subst, arith, eq-eqb, drop-nil, take-append_seam, nat_tests, length-append, length-map, AllZip-long, slice_get-get_or, AllByRecursion, AllZip, IfSome, DiskPtr, Refusal, Corruption, is_open, open_after, is_empty, chains_with_change, Content, Put, Event, Change, Message, Entry, Chain, messages_of, placed_entry, effect_of, effect_of_entry, holds-made, Makes, Holds, Hold, now, message_of, zip-append, Ghosts, place_of, roots_event, IsLoaded, IsUnread, AreRecovered, AreRead, AreFound, IsOwnAt, IsTable, IsOpenedWith, RefusesOwn, RefusesPages, next_id, counter_event, events_of_roots, events_at_start, stamps_at_start, HoldsChain, IsKept, is_resident, place_of_freeing, Proceeds, refusal_in, Comes, IsCaused, IsCaused-since, Went-last, is_misfit, IsFit, Wrote, IsRoots, IsConsistent, stamps_in, resident_in, CacheInfo, Config, StickyLog, Page, zip-set, set-get_or, length-set, Counter, add-by-id, all-by-id, at-id, zip-first, zip-second}
 use Rattle.sled_base.specs.declared.kinds.LogKind.TheVariants as effects
-use Rattle.sled_node.specs.Meta as meta
 use Rattle.sled_pagecache.proofs.ProperPages.{all-append}
 use Rattle.sled_pagecache.proofs.InMemory.{past-view, none-at}
 use Rattle.sled_pagecache.proofs.Linked.{full-free}
-use Rattle.sled_pagecache.proofs.OwnPages.{IsOwn, own-one, misfit-unfit, first-pointer}
-use Rattle.sled_pagecache.proofs.Proceeding.{nil-parts, proceeds-ended, proceeds-unplaced, proceeds-then, proceeds-first}
+use Rattle.sled_pagecache.proofs.OwnPages.{IsOwn, own-one}
+use Rattle.sled_pagecache.proofs.Proceeding.{nil-parts, proceeds-ended, proceeds-then}
 use Rattle.sled_pagecache.proofs.RecoveredPages.{if-some}
 use Rattle.sled_pagecache.proofs.Sizes.{sized-view}
 use Rattle.sled_pagecache.proofs.Tables.{went-chains}
@@ -24,22 +23,20 @@ module _ {L : Type 0} (g : Ghosts L) (old new : StickyLog L) (pid stamp : ℕ) (
       → ((chain : Chain) → Makes (messages_of chain) content → HoldsChain chain page.kept)
       → IsOwnAt pid page.kept
       → IsTable g.tells (now effect_of_entry (g.state new.log)) (pages ++ page ∷ [])
-  own-table pages page table last few effect infos holds own =
-      let one = ap length infos in
-      record {
-        kept = λ known.
-            let held = now effect_of_entry (g.state old.log) in
-            let entry : Entry = placed_entry (message_of (Put content)) (place_of info) in
-            let long : length pages ≡ length held = AllZip-long IsKept held pages (table.kept known) in
-            let is : now effect_of_entry (g.state new.log) ≡ held ++ (entry ∷ []) ∷ [] =
-            wrote.writes.chains known ∙ ap (λ kind. chains_with_change effect_of_entry kind held pid entry) effect ∙ ap (λ b. cond b (held ++ (entry ∷ []) ∷ []) (set held pid (entry ∷ []))) (eq-eqb pid (length held) (last ∙ long)) in
-            let kept : IsKept (entry ∷ []) page = record { places = λ _. sym (ap (map place_of) infos); long = sym (ap length infos); holds = holds (entry ∷ []) (content, wrote.is, refl) } in
-            subst (λ (l : List Chain). AllZip IsKept l (pages ++ page ∷ [])) (sym is) (zip-append IsKept held pages ((entry ∷ []) ∷ []) (page ∷ []) (table.kept known) (kept, tt));
-        hold = (add-by-id _ pages page table.hold.0 (subst (λ n. IsOwnAt n page.kept) last own), all-append _ pages (page ∷ []) table.hold.1 ((omega (arith, one)), tt));
-        few = let l = length-append pages (page ∷ []) in omega (arith, l, last, few);
-        chains_are = λ known. went-chains g old new (Change pid (message_of (Put content)) ∷ []) wrote.writes.went known wrote.writes.cause.fault (table.chains_are known);
-        sized = wrote.writes.sized;
-      }
+  own-table pages page table last few effect infos holds own = record {
+    kept = λ known.
+        let held = now effect_of_entry (g.state old.log) in
+        let entry : Entry = placed_entry (message_of (Put content)) (place_of info) in
+        let long : length pages ≡ length held = AllZip-long IsKept held pages (table.kept known) in
+        let is : now effect_of_entry (g.state new.log) ≡ held ++ (entry ∷ []) ∷ [] =
+        wrote.writes.chains known ∙ ap (λ kind. chains_with_change effect_of_entry kind held pid entry) effect ∙ ap (λ b. cond b (held ++ (entry ∷ []) ∷ []) (set held pid (entry ∷ []))) (eq-eqb pid (length held) (last ∙ long)) in
+        let kept : IsKept (entry ∷ []) page = record { places = λ _. sym (ap (map place_of) infos); long = sym (ap length infos); holds = holds (entry ∷ []) (content, wrote.is, refl) } in
+        subst (λ (l : List Chain). AllZip IsKept l (pages ++ page ∷ [])) (sym is) (zip-append IsKept held pages ((entry ∷ []) ∷ []) (page ∷ []) (table.kept known) (kept, tt));
+    hold = (add-by-id _ pages page table.hold.0 (subst (λ n. IsOwnAt n page.kept) last own), all-append _ pages (page ∷ []) table.hold.1 ((omega (arith, ap length infos)), tt));
+    few = omega (arith, length-append pages (page ∷ []), last, few);
+    chains_are = λ known. went-chains g old new (Change pid (message_of (Put content)) ∷ []) wrote.writes.went known wrote.writes.cause.fault (table.chains_are known);
+    sized = wrote.writes.sized;
+  }
 
 -- ---- the contents of the system pages
 
@@ -82,12 +79,6 @@ found-both pages first second n both unread roots counter = absurd (omega (arith
 
 -- ---- why they weren't read
 
-pub first-fits : (held : List Chain) (roots : meta.Roots) → Makes (messages_of (slice_index_or held 0 [])) (Roots roots)
-    → (before : ℕ) → before < 1 → IfSome (slice_get held before) (IsFit before)
-first-fits [] roots makes before lt = tt
-first-fits (c ∷ held) roots makes zero lt = (roots, makes)
-first-fits (c ∷ held) roots makes (suc before) lt = absurd (omega (arith, lt))
-
 -- the first page that is amiss is one of those that were recovered
 pub amiss-refuses : (pid : ℕ) (held : List Chain) (pages : List Page) (pointer : DiskPtr) → AllZip IsLoaded held pages → length pages ≤ 2 ^ 37 → pid < length pages
     → ((before : ℕ) → before < pid → IfSome (slice_get held before) (IsFit before))
@@ -97,30 +88,21 @@ amiss-refuses pid held pages pointer loaded few lt first r =
     let is = slice_get-get_or held pid [] (omega (arith, long, lt)) in
     (omega (arith, long, few), record { pid = pid; chain = slice_index_or held pid []; is = is; amiss = r.0; first = first; begins = r.1 })
 
-pub own-refuses : {tells : Type 0} (pid : ℕ) (held then : List Chain) (pages : List Page) (refusal : Refusal) → then ≡ held → AreRecovered tells held pages → tells → pid < length pages
+pub own-refuses : {tells : Type 0} (pid : ℕ) (held : List Chain) (pages : List Page) (refusal : Refusal) → AreRecovered tells held pages → tells → pid < length pages
     → ((before : ℕ) → before < pid → IfSome (slice_get held before) (IsFit before))
-    → RefusesOwn pid (slice_index_or then pid []) refusal → RefusesPages held refusal
-own-refuses pid held then pages OutOfMemory same are known lt first r = tt
-own-refuses pid held then pages (Io device) same are known lt first r = tt
-own-refuses pid held then pages (Corruption (Some pointer)) same are known lt first r =
-    amiss-refuses pid held pages pointer (are.kept known) are.few lt first (subst (λ (l : List Chain). RefusesOwn pid (slice_index_or l pid []) (Corruption (Some pointer))) same r)
-own-refuses pid held then pages refusal same are known lt first r = absurd r
+    → RefusesOwn pid (slice_index_or held pid []) refusal → RefusesPages held refusal
+own-refuses pid held pages refusal are known lt first r =
+    grind (arith, λ (pointer : DiskPtr) (r : RefusesOwn pid (slice_index_or held pid []) (Corruption (Some pointer))). amiss-refuses pid held pages pointer (are.kept known) are.few lt first r)
 
 -- ---- the first page that no cache leaves so
-
-pub short-by : (pid : ℕ) (page : Page) → is_misfit pid page ≡ false → length page.infos.items ≤ 10
-short-by pid page fits = grind (arith, nat_tests)
 
 pub fits-at : (held : List Chain) (pages : List Page) (counter : Option ℕ) → AllZip IsLoaded held pages → AreFound pages counter
     → (k : ℕ) → IfSome (slice_get pages k) (λ page. is_misfit k page ≡ false) → IfSome (slice_get held k) (IsFit k)
 fits-at held pages counter loaded found k fits = if-some (slice_get held k) (λ chain at.
     let paired = zip-first IsLoaded held pages k chain loaded at in
     let page = paired.0 in
-    let is = at-id _ pages k page found.0 paired.1 in
-    let short = short-by k page (subst (λ (o : Option Page). IfSome o (λ page. is_misfit k page ≡ false)) paired.1 fits) in
-    let same = paired.2.kept.long in
-    let holds = paired.2.kept.holds in
-    grind arith)
+    let fit = subst (λ (o : Option Page). IfSome o (λ page. is_misfit k page ≡ false)) paired.1 fits in
+    grind (arith, nat_tests, at-id _ pages k page found.0 paired.1, fit, paired.2.kept.long, paired.2.kept.holds))
 
 -- ---- the table then
 
@@ -138,10 +120,8 @@ all-fresh held pages loaded = absurd loaded
 
 pub resident-empty : (held : List Chain) (pages : List Page) → AllZip IsKept held pages → (pid : ℕ) → IfSome (slice_get pages pid) (λ page. IsUnread page.kept)
     → slice_get (resident_in pages) pid ≡ Some true → is_empty effect_of_entry (slice_index_or held pid []) ≡ true
-resident-empty held [] all pid unread is = absurd (none-some true is)
-resident-empty [] (p ∷ pages) all pid unread is = absurd all
-resident-empty (c ∷ held) (p ∷ pages) all zero unread is = (let holds = all.0.holds in let resident = same_Some (is_resident p.kept) true is in grind arith)
-resident-empty (c ∷ held) (p ∷ pages) all (suc pid) unread is = resident-empty held pages all.1 pid unread is
+resident-empty held pages all pid unread is =
+    grind (arith, slice_get-map (λ (page : Page). is_resident page.kept) pages pid, λ (q : Page) (at : slice_get pages pid ≡ Some q). (kept-at held pages pid q all at).holds)
 
 -- ---- what is told of the pages that are missing
 
@@ -154,13 +134,9 @@ changes-closed n came rest is = ap (open_after false) (sym (take-append_seam cam
   where
     by : (k n : ℕ) → open_after false (take k (drop n (roots_event ∷ counter_event ∷ []))) ≡ false
     by zero n = refl
-    by (suc zero) zero = refl
-    by (suc (suc k)) zero = rw (take-nil {A = Event Message} k) refl
-    by (suc k) (suc zero) = rw (take-nil {A = Event Message} k) refl
+    by (suc k) zero = by k 1
+    by (suc k) (suc zero) = by k 2
     by (suc k) (suc (suc n)) = rw (drop-nil {A = Event Message} n) refl
-
-pub events-closed : {X : Type 0} (pages : List X) → open_after false (events_at_start pages) ≡ false
-events-closed pages = changes-closed (length pages) (events_at_start pages) [] (append-nil (events_at_start pages))
 
 module _ {L : Type 0} (g : Ghosts L) where
   -- no batch is open then
@@ -200,23 +176,16 @@ opened-with config chains pages counter stamps next recovered are known stamps-a
     by [] [] loaded found stamps-are [] hold = record { stamps_are = stamps-are; next_is = next-is ∙ ap (next_id config.idgen_persist_interval) (found.1 (omega arith)); recovered_is = recovered-is ∙ ap is_some (found.1 (omega arith)) }
     by (c ∷ []) (p ∷ []) loaded found stamps-are (x ∷ []) hold = record { stamps_are = stamps-are; next_is = next-is ∙ ap (next_id config.idgen_persist_interval) (found.1 (omega arith)); recovered_is = recovered-is ∙ ap is_some (found.1 (omega arith)) }
     by (c ∷ d ∷ chains) (p ∷ q ∷ pages) loaded found stamps-are (x ∷ y ∷ held) hold =
-        let wide : length pages ≡ length chains = AllZip-long IsLoaded chains pages loaded.1.1 in
-        let long : length held ≡ length (map messages_of chains) = AllZip-long Holds (map messages_of chains) held hold.1.1 in
-        let same = length-map chains messages_of in
+        let long : length pages ≡ length held = omega (arith, AllZip-long IsLoaded chains pages loaded.1.1, AllZip-long Holds (map messages_of chains) held hold.1.1, length-map chains messages_of) in
         let read = found.0 1 in
         record {
-          stamps_are = rw (drop-nil {A = Content} (length held)) (stamps-are ∙ zeros (p ∷ q ∷ pages) (x ∷ y ∷ held) (omega (arith, wide, long, same)));
-          next_is =
-              let counter = sym (holds-made (messages_of d) y (Counter read.0) hold.1.0 (subst (HoldsChain d) read.1 loaded.1.0.kept.holds)) in
-              next-is ∙ ap (next_id config.idgen_persist_interval) read.2 ∙ ap (λ (c : Content). first_id config.idgen_persist_interval (x ∷ c ∷ held)) counter;
+          stamps_are = rw (drop-nil {A = Content} (length held)) (stamps-are ∙ zeros (p ∷ q ∷ pages) (x ∷ y ∷ held) (omega (arith, long)));
+          next_is = grind (arith, next-is, read.2, holds-made (messages_of d) y (Counter read.0) hold.1.0 (subst (HoldsChain d) read.1 loaded.1.0.kept.holds));
           recovered_is = recovered-is ∙ ap is_some read.2;
         }
     by chains pages loaded found stamps-are held hold = absurd (assumption (loaded, hold))
 
 -- ---- what lies in memory once a cache was opened
-
-none-kept : (pid : ℕ) (q : Page) → IsOwnAt pid q.kept → (2 ≤ pid → IsUnread q.kept) → node_access_size q ≡ None
-none-kept pid q h1 h2 = grind arith
 
 -- no node lies in memory, and none is listed
 pub opened-bounded : {L : Type 0} (g : Ghosts L) (next : ℕ) (config : Config) (recovered : Bool) (lru : Recency) (sticky_log : StickyLog L) (pages : List Page) (free : List ℕ) → IsConsistent g.tells g.state sticky_log pages free
@@ -224,7 +193,7 @@ pub opened-bounded : {L : Type 0} (g : Ghosts L) (next : ℕ) (config : Config) 
 opened-bounded g next config recovered lru sticky_log pages free is unread unused sound = record {
   listed = λ pid size has. absurd (elim (slice_get_cases pages pid).1 [
     | inl w ↦ none-at next next config recovered lru sticky_log sticky_log pages pid w.0 w.2
-        (none-kept pid w.0 (at-id _ pages pid w.0 is.own w.2) (λ from. subst (λ (o : Option Page). IfSome o (λ page. IsUnread page.kept)) w.2 (unread pid from))) size has
+        (grind (arith, at-id _ pages pid w.0 is.own w.2, λ (from : 2 ≤ pid). subst (λ (o : Option Page). IfSome o (λ page. IsUnread page.kept)) w.2 (unread pid from))) size has
     | inr w ↦ past-view next next config recovered lru sticky_log sticky_log pages pid w.0 size has
   ]);
   sized = sized-view g next config recovered lru sticky_log pages free is;

@@ -1,5 +1,7 @@
 -- Pages that stay as a cache leaves them, while messages come.
-use Rattle.sled_pagecache.proofs.Names.{ℕ, zero, suc, List, [], ◌∷◌, ◌++◌, take, drop, chains_from, chains_after, Content, Update, contents_from, contents_after, Event, Message, Messages, effect_of, AreEvents, IsProper, StayProper, ◌≡◌, arith}
+use Rattle.sled_pagecache.proofs.Names.{ℕ, zero, suc, List, [], ◌∷◌, ◌++◌, take, drop, chains_from, chains_after, Content, Update, contents_from, contents_after, Event, Message, Messages, effect_of, AreEvents, IsProper, StayProper, ◌≡◌, arith, length, take_all, ◌+◌, contents_after-append}
+use Rattle.std.proofs.Math.Seq.{take-add}
+use Rattle.sled_log.specs.Inside.Laws.{chains_after-append}
 
 -- no message is no change
 pub no-changes : (contents : List Content) (messages : List (Event Message)) (changes : List (Event Update)) → messages ≡ [] → AreEvents contents messages changes → changes ≡ []
@@ -40,14 +42,9 @@ stay-take k pages contents ms us h stays n = absurd h
 pub stay-drop : (cut : ℕ) (pages : List Messages) (contents : List Content) (ms : List (Event Message)) (us : List (Event Update))
     → AreEvents contents ms us → StayProper pages contents ms us
     → StayProper (chains_after effect_of pages (take cut ms)) (contents_after contents (take cut us)) (drop cut ms) (drop cut us)
-stay-drop zero pages contents ms us h stays = stays
-stay-drop (suc cut) pages contents [] [] h stays = stays
-stay-drop (suc cut) pages contents (m ∷ ms) (u ∷ us) h stays = stay-drop cut (chains_from effect_of pages m) (contents_from contents u) ms us h.2 (λ k. stays (suc k))
-stay-drop cut pages contents ms us h stays = absurd h
+stay-drop cut pages contents ms us h stays n = rw (take-add cut n ms, take-add cut n us, chains_after-append effect_of, contents_after-append) at (stays (cut + n))
 
 -- all of them have come
 pub stay-all : (pages : List Messages) (contents : List Content) (ms : List (Event Message)) (us : List (Event Update))
     → AreEvents contents ms us → StayProper pages contents ms us → IsProper (chains_after effect_of pages ms) (contents_after contents us)
-stay-all pages contents [] [] h stays = stays zero
-stay-all pages contents (m ∷ ms) (u ∷ us) h stays = stay-all (chains_from effect_of pages m) (contents_from contents u) ms us h.2 (λ k. stays (suc k))
-stay-all pages contents ms us h stays = absurd h
+stay-all pages contents ms us h stays = let n = length ms + length us in rw (take_all n ms (omega arith), take_all n us (omega arith)) at (stays n)

@@ -1,5 +1,5 @@
 -- What one call of a log makes of the sticky log that makes it.
-use Rattle.sled_pagecache.proofs.Names.{Ghosts, ◌≡◌, ◌||◌, ℕ, Bool, false, not, List, [], Result, Ok, Err, refl, sym, ◌∙◌, ap, subst, false≢true, IfOk, OnErr, Called, chains_after, Event, now-Adds, Message, Chain, Entry, effect_of, effect_of_entry, now, unplaced_state, unplaced_events, Adds-unplaced, LogError, WriteFault, Went, cache_answer, begun_by, StickyLog, begun_of, log_met_fault, arith}
+use Rattle.sled_pagecache.proofs.Names.{Ghosts, ◌≡◌, ◌||◌, ℕ, false, not, List, [], Result, Ok, Err, refl, sym, ◌∙◌, ap, subst, false≢true, IfOk, OnErr, Called, chains_after, Event, now-Adds, Message, Chain, Entry, effect_of, effect_of_entry, now, unplaced_state, unplaced_events, Adds-unplaced, LogError, WriteFault, Went, cache_answer, begun_by, StickyLog, begun_of, log_met_fault, arith}
 use Rattle.sled_log.specs.LogState.{Adds}
 
 begun-same : {T : Type 0} (outcome : Result T LogError) (begun : List (Event Message)) → begun_of outcome begun ≡ begun_by (cache_answer outcome) begun
@@ -29,8 +29,7 @@ module _ {L : Type 0} (g : Ghosts L) {T : Type 0} where
 
   stays : (old new : L) (count : ℕ) (events : T → List (Event Entry)) (begun : List (Event Message)) (outcome : Result T LogError) → Calls old new count events begun outcome
       → ((answer : T) (chains : List Chain) → chains_after effect_of_entry chains (events answer) ≡ chains) → g.tells → log_met_fault outcome ≡ false → now effect_of_entry (g.state new) ≡ now effect_of_entry (g.state old)
-  stays old new count events begun (Ok answer) called none told clear = (chains-called old new count events begun (Ok answer) called told).0 ∙ none answer (now effect_of_entry (g.state old))
-  stays old new count events begun (Err error) called none told clear = (chains-called old new count events begun (Err error) called told).1 clear
+  stays old new count events begun outcome called none told clear = let both = chains-called old new count events begun outcome called told in grind arith
 
   module _ (old new : StickyLog L) {count : ℕ} {events : T → List (Event Entry)} {begun : List (Event Message)} {outcome : Result T LogError} (called : Calls old.log new.log count events begun outcome)
       (ready : old.fault ≡ false) (kept : new.fault ≡ (old.fault || log_met_fault outcome)) where

@@ -1,6 +1,5 @@
 -- What always holds of a cache's table stays so where a page changes, or one is added.
-use Rattle.sled_pagecache.proofs.Names.{Ghosts, ◌≡◌, ◌≤◌, ◌<◌, ◌+◌, ◌^◌, ℕ, zero, suc, Bool, true, false, cond, List, [], ◌∷◌, ◌++◌, length, map, Some, Result, slice_get, slice_set, refl, sym, ◌∙◌, ap, subst, arith, length-append, length-set, none-some, same_Some, AllByRecursion, AllZip, list_all, LogKind, Refusal, is_open, open_after, is_linking, may_follow, is_chain, Event, Change, Message, Entry, Chain, messages_of, effect_of, effect_of_entry, IsSized, AreChains, chains-are, now-unplaced, zip-append, zip-set, chain_at, Went, begun_by, now-Went, IsKept, is_free, free_ids, IsCounter, IsFreeOrNode, IsRoots, IsOwnAt, IsConsistent, StickyLog, Page, LogState, unplaced_state, now, each-set, add-by-id, past-two, set-by-id}
-use Rattle.sled_base.specs.declared.kinds.LogKind.TheVariants as kinds
+use Rattle.sled_pagecache.proofs.Names.{Ghosts, ◌≡◌, ◌≤◌, ◌<◌, ◌+◌, ◌^◌, ℕ, zero, suc, Bool, true, false, cond, List, [], ◌∷◌, ◌++◌, length, map, Some, Result, slice_get, slice_set, refl, sym, ◌∙◌, ap, subst, arith, length-append, length-set, none-some, same_Some, AllByRecursion, list_all, Refusal, is_open, open_after, is_linking, is_chain, Event, Change, Message, Entry, Chain, messages_of, effect_of, effect_of_entry, IsSized, AreChains, chains-are, now-unplaced, zip-append, zip-set, chain_at, Went, begun_by, now-Went, IsKept, is_free, free_ids, IsCounter, IsFreeOrNode, IsRoots, IsOwnAt, IsBeside, IsConsistent, StickyLog, Page, LogState, unplaced_state, now, each-set, add-by-id, past-two, set-by-id}
 use Rattle.sled_pagecache.proofs.ProperPages.{all-append}
 
 -- ---- chains, with their places and without
@@ -9,32 +8,26 @@ links-unplaced : (chain : Chain) → list_all (λ (m : Message). is_linking (eff
 links-unplaced [] = refl
 links-unplaced (entry ∷ chain) = rw (links-unplaced chain) refl
 
-follow-unplaced : (kind : LogKind) (chain : Chain) → may_follow effect_of kind (messages_of chain) ≡ may_follow effect_of_entry kind chain
-follow-unplaced kinds.Replace chain = links-unplaced chain
-follow-unplaced kinds.Free [] = refl
-follow-unplaced kind chain = refl
-
 is_chain-unplaced : (chain : Chain) → is_chain effect_of (messages_of chain) ≡ is_chain effect_of_entry chain
 is_chain-unplaced [] = refl
-is_chain-unplaced (entry ∷ chain) = follow-unplaced (effect_of_entry entry) chain
+is_chain-unplaced (entry ∷ chain) = let rest = links-unplaced chain in grind arith
 
-unplaced-chains : (chains : List Chain) → AreChains effect_of_entry chains → AreChains effect_of (map messages_of chains)
-unplaced-chains [] h = tt
-unplaced-chains (chain ∷ chains) h = (is_chain-unplaced chain ∙ h.0, unplaced-chains chains h.1)
-
-chains-unplaced : (chains : List Chain) → AreChains effect_of (map messages_of chains) → AreChains effect_of_entry chains
-chains-unplaced [] h = tt
-chains-unplaced (chain ∷ chains) h = (sym (is_chain-unplaced chain) ∙ h.0, chains-unplaced chains h.1)
+chains-unplaced : (chains : List Chain) → (AreChains effect_of_entry chains → AreChains effect_of (map messages_of chains)) × (AreChains effect_of (map messages_of chains) → AreChains effect_of_entry chains)
+chains-unplaced [] = (λ _. tt, λ _. tt)
+chains-unplaced (chain ∷ chains) =
+    let rest = chains-unplaced chains in
+    let same = is_chain-unplaced chain in
+    (λ h. (same ∙ h.0, rest.0 h.1), λ h. (sym same ∙ h.0, rest.1 h.1))
 
 module _ {L : Type 0} (g : Ghosts L) where
   -- whatever messages a log was told, its chains are chains
   pub went-chains : (old new : StickyLog L) (events : List (Event Message)) → Went g old new events → g.tells → new.fault ≡ false
       → AreChains effect_of_entry (now effect_of_entry (g.state old.log)) → AreChains effect_of_entry (now effect_of_entry (g.state new.log))
   went-chains old new events went known clear h =
-      chains-unplaced (now effect_of_entry (g.state new.log))
+      (chains-unplaced (now effect_of_entry (g.state new.log))).1
       (subst (AreChains effect_of) (sym (now-unplaced (g.state new.log) ∙ now-Went g old new events went known clear))
       (chains-are effect_of (now effect_of (unplaced_state (g.state old.log))) events
-      (subst (AreChains effect_of) (now-unplaced (g.state old.log)) (unplaced-chains (now effect_of_entry (g.state old.log)) h))))
+      (subst (AreChains effect_of) (now-unplaced (g.state old.log)) ((chains-unplaced (now effect_of_entry (g.state old.log))).0 h))))
 
   -- where the messages leave a batch open or closed, the cache's own mark says so as before
   pub went-opened : (old new : StickyLog L) (events : List (Event Message)) → Went g old new events → ((was : Bool) → open_after was events ≡ was) → new.fault ≡ false
@@ -64,21 +57,16 @@ module _ {L : Type 0} (g : Ghosts L) (old new : StickyLog L) (pages : List Page)
       → IsConsistent g.tells g.state new (slice_set pages pid page) free_then
   consistent-set-own pid page own short opened set frees = record {
     opened = opened;
-    beside = λ clear.
-        let done = set clear in
-        let beside = c.beside ready in
-        record {
-          usable = done.usable;
-          kept = λ known.
-              subst (λ (l : List Chain). AllZip IsKept l (slice_set pages pid page)) (sym (done.others known))
-              (zip-set IsKept pid (now effect_of_entry (g.state old.log)) pages (chain_at (g.state new.log) pid) page (beside.kept known) (done.kept known));
-          chains = done.chains;
-          sized = done.sized;
-        };
+    beside = λ clear. record {
+      usable = (set clear).usable;
+      kept = λ known. rw ((set clear).others known) (zip-set IsKept pid (now effect_of_entry (g.state old.log)) pages (chain_at (g.state new.log) pid) page ((c.beside ready).kept known) ((set clear).kept known));
+      chains = (set clear).chains;
+      sized = (set clear).sized;
+    };
     own = set-by-id _ pages pid page c.own own;
-    both = subst (λ n. 2 ≤ n) (sym (length-set pages pid page)) c.both;
+    both = rw (length-set pages pid page) c.both;
     short = each-set _ pages pid page short c.short;
-    few = subst (λ n. n ≤ 2 ^ 37) (sym (length-set pages pid page)) c.few;
+    few = rw (length-set pages pid page) c.few;
     free = frees;
   }
 
@@ -93,22 +81,14 @@ module _ {L : Type 0} (g : Ghosts L) (old new : StickyLog L) (pages : List Page)
   pub consistent-kept : (new.fault ≡ false → (g.state new.log).usable ≡ true) → (new.fault ≡ false → is_open (g.state new.log).pending ≡ new.batch)
       → (g.tells → new.fault ≡ false → now effect_of_entry (g.state new.log) ≡ now effect_of_entry (g.state old.log))
       → IsConsistent g.tells g.state new pages free
-  consistent-kept usable opened same = record {
-    opened = opened;
-    beside = λ clear.
-        let beside = c.beside ready in
-        record {
-          usable = usable clear;
-          kept = λ known. subst (λ (l : List Chain). AllZip IsKept l pages) (sym (same known clear)) (beside.kept known);
-          chains = λ known. subst (AreChains effect_of_entry) (sym (same known clear)) (beside.chains known);
-          sized = λ known. subst (AllByRecursion IsSized) (sym (same known clear)) (beside.sized known);
-        };
-    own = c.own;
-    both = c.both;
-    short = c.short;
-    few = c.few;
-    free = c.free;
-  }
+  consistent-kept usable opened same =
+      let beside : new.fault ≡ false → IsBeside g.tells g.state new.log pages = λ clear. record {
+        usable = usable clear;
+        kept = λ known. rw (same known clear) ((c.beside ready).kept known);
+        chains = λ known. rw (same known clear) ((c.beside ready).chains known);
+        sized = λ known. rw (same known clear) ((c.beside ready).sized known);
+      } in
+      search (c, beside, opened)
 
   -- nothing comes to the log, but where a write fault is kept
   pub consistent-same : (events : List (Event Message))
@@ -118,9 +98,7 @@ module _ {L : Type 0} (g : Ghosts L) (old new : StickyLog L) (pages : List Page)
   consistent-same events went marks same =
       consistent-kept went.usable (λ clear. went-opened g old new events went marks clear (c.opened ready)) same
 
-  module _ (pid : ℕ) (m : Message) (went : Went g old new (Change pid m ∷ []))
-      (page : Page) (short : length page.infos.items ≤ 10) (is_kept : g.tells → IsKept (chain_at (g.state new.log) pid) page)
-      (sized : g.tells → AllByRecursion IsSized (now effect_of_entry (g.state new.log))) where
+  module _ (pid : ℕ) (m : Message) (went : Went g old new (Change pid m ∷ [])) (page : Page) where
     still-opened : new.fault ≡ false → is_open (g.state new.log).pending ≡ new.batch
     still-opened clear = went-opened g old new (Change pid m ∷ []) went (λ was. refl) clear (c.opened ready)
 
@@ -128,38 +106,34 @@ module _ {L : Type 0} (g : Ghosts L) (old new : StickyLog L) (pages : List Page)
     still-chains clear known = went-chains g old new (Change pid m ∷ []) went known clear ((c.beside ready).chains known)
 
     -- a content was put on a page, from 2 on or one of the cache's own
-    pub consistent-put-own : IsOwnAt pid page.kept → (g.tells → now effect_of_entry (g.state new.log) ≡ slice_set (now effect_of_entry (g.state old.log)) pid (chain_at (g.state new.log) pid))
-        → free_then ≡ free_ids 0 (slice_set pages pid page) → IsConsistent g.tells g.state new (slice_set pages pid page) free_then
-    consistent-put-own own others frees =
-        consistent-set-own pid page own short still-opened
-        (λ clear. record { usable = went.usable clear; kept = is_kept; others = others; chains = still-chains clear; sized = sized }) frees
+    pub consistent-put-own : IsOwnAt pid page.kept → length page.infos.items ≤ 10 → (g.tells → IsKept (chain_at (g.state new.log) pid) page) → (g.tells → AllByRecursion IsSized (now effect_of_entry (g.state new.log)))
+        → (g.tells → now effect_of_entry (g.state new.log) ≡ slice_set (now effect_of_entry (g.state old.log)) pid (chain_at (g.state new.log) pid)) → free_then ≡ free_ids 0 (slice_set pages pid page)
+        → IsConsistent g.tells g.state new (slice_set pages pid page) free_then
+    consistent-put-own own short is_kept sized others frees =
+        consistent-set-own pid page own short still-opened (λ clear. record { usable = went.usable clear; kept = is_kept; others = others; chains = still-chains clear; sized = sized }) frees
 
-  module _ (pid : ℕ) (m : Message) (went : Went g old new (Change pid m ∷ []))
-      (page : Page) (own : IsFreeOrNode page.kept) (short : length page.infos.items ≤ 10) (is_kept : g.tells → IsKept (chain_at (g.state new.log) pid) page)
-      (sized : g.tells → AllByRecursion IsSized (now effect_of_entry (g.state new.log))) where
-    pub consistent-put : 2 ≤ pid → (g.tells → now effect_of_entry (g.state new.log) ≡ slice_set (now effect_of_entry (g.state old.log)) pid (chain_at (g.state new.log) pid))
-        → free_then ≡ free_ids 0 (slice_set pages pid page) → IsConsistent g.tells g.state new (slice_set pages pid page) free_then
-    consistent-put from others frees = consistent-put-own pid m went page short is_kept sized ((past-two IsRoots IsCounter IsFreeOrNode pid page.kept from).0 own) others frees
+    module _ (own : IsFreeOrNode page.kept) (short : length page.infos.items ≤ 10) (is_kept : g.tells → IsKept (chain_at (g.state new.log) pid) page) (sized : g.tells → AllByRecursion IsSized (now effect_of_entry (g.state new.log))) where
+      pub consistent-put : 2 ≤ pid → (g.tells → now effect_of_entry (g.state new.log) ≡ slice_set (now effect_of_entry (g.state old.log)) pid (chain_at (g.state new.log) pid))
+          → free_then ≡ free_ids 0 (slice_set pages pid page) → IsConsistent g.tells g.state new (slice_set pages pid page) free_then
+      consistent-put from others frees = consistent-put-own ((past-two IsRoots IsCounter IsFreeOrNode pid page.kept from).0 own) short is_kept sized others frees
 
-    -- a content was put on a new page
-    pub consistent-new : length pages < 2 ^ 37 → (g.tells → now effect_of_entry (g.state new.log) ≡ now effect_of_entry (g.state old.log) ++ chain_at (g.state new.log) pid ∷ [])
-        → free_then ≡ free_ids 0 (pages ++ page ∷ []) → IsConsistent g.tells g.state new (pages ++ page ∷ []) free_then
-    consistent-new room others frees = record {
-      opened = still-opened pid m went page short is_kept sized;
-      beside = λ clear. record {
-        usable = went.usable clear;
-        kept = λ known.
-            subst (λ (l : List Chain). AllZip IsKept l (pages ++ page ∷ [])) (sym (others known))
-            (zip-append IsKept (now effect_of_entry (g.state old.log)) pages (chain_at (g.state new.log) pid ∷ []) (page ∷ []) ((c.beside ready).kept known) (is_kept known, tt));
-        chains = still-chains pid m went page short is_kept sized clear;
-        sized = sized;
-      };
-      own = add-by-id _ pages page c.own ((past-two IsRoots IsCounter IsFreeOrNode (length pages) page.kept c.both).0 own);
-      both = let l = length-append pages (page ∷ []) in let b = c.both in omega (arith, l, b);
-      short = all-append _ pages (page ∷ []) c.short (short, tt);
-      few = let l = length-append pages (page ∷ []) in omega (arith, l, room);
-      free = frees;
-    }
+      -- a content was put on a new page
+      pub consistent-new : length pages < 2 ^ 37 → (g.tells → now effect_of_entry (g.state new.log) ≡ now effect_of_entry (g.state old.log) ++ chain_at (g.state new.log) pid ∷ [])
+          → free_then ≡ free_ids 0 (pages ++ page ∷ []) → IsConsistent g.tells g.state new (pages ++ page ∷ []) free_then
+      consistent-new room others frees = record {
+        opened = still-opened;
+        beside = λ clear. record {
+          usable = went.usable clear;
+          kept = λ known. rw (others known) (zip-append IsKept (now effect_of_entry (g.state old.log)) pages (chain_at (g.state new.log) pid ∷ []) (page ∷ []) ((c.beside ready).kept known) (is_kept known, tt));
+          chains = still-chains clear;
+          sized = sized;
+        };
+        own = add-by-id _ pages page c.own ((past-two IsRoots IsCounter IsFreeOrNode (length pages) page.kept c.both).0 own);
+        both = let l = length-append pages (page ∷ []) in let b = c.both in omega (arith, l, b);
+        short = all-append _ pages (page ∷ []) c.short (short, tt);
+        few = let l = length-append pages (page ∷ []) in omega (arith, l, room);
+        free = frees;
+      }
 
 -- ---- the free pages
 

@@ -3,8 +3,7 @@ use Rattle.std.specs.Prelude.{◌≡◌, ◌≢◌, ◌⊎◌, ℕ, true}
 use Rattle.sled_base.specs.declared.types.Error.{Error}
 use Rattle.sled_pagecache.specs.Inside.PageEntry.{WasAccessed, IsTouched}
 use Rattle.sled_pagecache.specs.Cache.{Cache}
-use Rattle.sled_pagecache.specs.Memory.{HasNode, HasNoNode, StaysAt}
-use Rattle.sled_pagecache.specs.Memory.{IsHindrance}
+use Rattle.sled_pagecache.specs.Memory.{HasNode, HasNoNode, StaysAt, IsHindrance}
 use Rattle.sled_pagecache.specs.declared.pagecache.accesses.Accesses.{Accesses}
 
 -- no node lies in memory

@@ -1,18 +1,11 @@
 -- The calls of an opening of a tree, one after another; and that the swap of its root finds no other root.
-use Rattle.sled_pagecache.proofs.Names.{◌≡◌, ◌==◌, inl, inr, ◌+◌, ◌-◌, ◌^◌, ◌||◌, ◌≢◌, ⊤, ℕ, zero, suc, Bool, false, List, [], ◌∷◌, length, Option, Some, None, Result, Ok, Err, slice_get, refl, sym, ◌∙◌, ap, subst, arith, MatchBool, MatchOption, same_Some, IfOk, OnErr, Error, Roots, Ghosts, WholeNode, Cache, chain_length, HasNoRoom, StepOver, page, State, page_at, greatest_free, IsRefused, Outcome, no_change, Token, Allocated, Allocate, GetMeta, GotMeta, CasRoot, RootSwapped, IsBounded, ReadsNothing, SetsRoot, made-row, Bytes, Keeps, Call, Answer, empty_leaf, IsMade, AreMade, OnlyNow, StampedPage, ⊎_elim, true≢false, more-at, other-at}
-use Rattle.sled_pagecache.proofs.CallForms.{IsFreeAt, free-at, roots-read}
+use Rattle.sled_pagecache.proofs.Names.{◌≡◌, ◌||◌, ◌≢◌, ⊤, ℕ, false, List, [], ◌∷◌, Option, Some, None, Result, Ok, Err, slice_get, refl, sym, ◌∙◌, ap, subst, arith, Error, Roots, Ghosts, WholeNode, Cache, StepOver, page, State, page_at, greatest_free, Outcome, Token, Allocated, Allocate, GetMeta, GotMeta, CasRoot, RootSwapped, IsBounded, ReadsNothing, made-row, Bytes, Keeps, Call, Answer, empty_leaf, IsMade, AreMade, OnlyNow, StampedPage, more-at, other-at}
+use Rattle.sled_pagecache.proofs.CallForms.{free-at}
 use Rattle.sled_node.specs.Meta as meta
 use Rattle.sled_node.specs.Meta.{root_of}
-use Rattle.sled_pagecache.specs.Answers.{is_write_fault, stamps_after_root_swap}
-use Rattle.sled_pagecache.specs.Step.{AddsPage, ReusesPage, RootSwap}
-use Rattle.sled_pagecache.specs.Trees.{MadeCalls, EndsSwap, FindsTree, GoesOnOver, GoesOnWith, IsKnown, IsTreeOpened, MakesTree, NamesRoot, OpensTree, TellsTree, Touches, index_over, stamps_after, stamps_then, AreTouched}
+use Rattle.sled_pagecache.specs.Answers.{is_write_fault}
+use Rattle.sled_pagecache.specs.Trees.{MadeCalls, FindsTree, IsKnown, IsTreeOpened, MakesTree, OpensTree, Touches, index_over, stamps_after, stamps_then, AreTouched}
 use Rattle.sled_pagecache.specs.Inside.Trees.{GoesOn, Looks}
-use Rattle.sled_pagecache.specs.State.{is_free}
-
--- ---- what is tested and not refused
-
-accepted : {T : Type 0} (s : State) (value : T) (out : Outcome) (e : Error) (B : Type 0) (test : Bool) → MatchBool test (IsRefused s (Ok value) out e) B → B
-accepted s value out e B test h = grind arith
 
 -- the greatest free id isn't that of a page 0 which holds named roots
 above-roots : (pages : List StampedPage) (free : Token) (stamp : ℕ) (roots : meta.Roots) → slice_get pages 0 ≡ Some (page stamp (Roots roots)) → greatest_free 0 pages ≡ Some free → 0 ≢ free.pid
@@ -28,16 +21,10 @@ module _ {L : Type 0} (g : Ghosts L) where
   roots-stay cache s node made out stamp roots step at = grind (arith, more-at, other-at, above-roots)
 
   -- the map of named roots that was answered is that of page 0
-  roots-told : (cache : Cache L) (s : State) (told : Token × meta.Roots) (out : Outcome) → StepOver g cache s GetMeta (GotMeta (Ok told)) out
-      → (stamp : ℕ) × HasRoots s stamp told.1 × (out ≡ no_change s)
-  roots-told cache s told out step =
-      roots-read s _ (accepted s told out _ _ s.fault step)
-      (λ stamp roots at holds. let is = holds.0 in let same : roots ≡ told.1 = cc in (stamp, at ∙ ap (λ r. Some (page stamp (Roots r))) same, holds.1))
+  roots-told : (cache : Cache L) (s : State) (told : Token × meta.Roots) (out : Outcome) → StepOver g cache s GetMeta (GotMeta (Ok told)) out → HasRoots out.state told.0.stamp told.1
+  roots-told cache s told out step = grind arith
 
   -- a name that has no root has none in a swap
-  abbrev another_root : Option ℕ → RootSwap
-  another_root another = Ok (Err another)
-
   no-other : (cache : Cache L) (s : State) (name : Bytes) (root : ℕ) (another : Option ℕ) (out : Outcome) (stamp : ℕ) (roots : meta.Roots)
       → HasRoots s stamp roots → root_of name roots ≡ None → StepOver g cache s (CasRoot name None (Some root)) (RootSwapped (Ok (Err another))) out → ⊥
   no-other cache s name root another out stamp roots at none step = grind arith
@@ -45,20 +32,19 @@ module _ {L : Type 0} (g : Ghosts L) where
   -- ---- the calls of an opening
 
   -- so in whatever state a cache is, the last call of an opening finds no other root
-  pub finds-no-other : (old new : Cache L) (name : Bytes) (told : Token × meta.Roots) (leaf index : WholeNode) (first second : ℕ × Token) (root : ℕ) (another : Option ℕ)
-      → root_of name told.1 ≡ None
-      → AreMade g old ((GetMeta, GotMeta (Ok told)) ∷ (Allocate leaf, Allocated (Ok first)) ∷ (Allocate index, Allocated (Ok second)) ∷ (CasRoot name None (Some root), RootSwapped (Ok (Err another))) ∷ []) new
+  finds-no-other : (old new : Cache L) (name : Bytes) (look : Result (Token × meta.Roots) Error) → FindsTree name look (Ok None) → (first second : ℕ × Token) (another : Option ℕ)
+      → AreMade g old ((GetMeta, GotMeta look) ∷ (Allocate empty_leaf, Allocated (Ok first)) ∷ (Allocate (index_over first.0), Allocated (Ok second)) ∷ (CasRoot name None (Some second.0), RootSwapped (Ok (Err another))) ∷ []) new
       → ¬ IsKnown g old
-  finds-no-other old new name told leaf index first second root another none (one, looked, (two, leafed, (three, indexed, (four, swapped, same)))) (held, s, is) =
+  finds-no-other old new name (Err e) finds first second another made known = absurd (let at = finds in cc)
+  finds-no-other old new name (Ok told) finds first second another (one, looked, (two, leafed, (three, indexed, (four, swapped, same)))) (held, s, is) =
+      let none : root_of name told.1 ≡ None = grind arith in
       let look = looked.step.from_each held s is in
-      let roots = roots-told old s told look.out look.step in
-      let at_look : HasRoots look.out.state roots.0 told.1 = ap (λ (o : Outcome). page_at o.state 0) roots.2 ∙ roots.1 in
       let put = leafed.step.from_each look.held_then look.out.state look.is in
-      let at_leaf = roots-stay one look.out.state leaf first put.out roots.0 told.1 put.step at_look in
+      let at_leaf = roots-stay one look.out.state empty_leaf first put.out told.0.stamp told.1 put.step (roots-told old s told look.out look.step) in
       let over = indexed.step.from_each put.held_then put.out.state put.is in
-      let at_index = roots-stay two put.out.state index second over.out roots.0 told.1 over.step at_leaf in
+      let at_index = roots-stay two put.out.state (index_over first.0) second over.out told.0.stamp told.1 over.step at_leaf in
       let swap = swapped.step.from_each over.held_then over.out.state over.is in
-      no-other three over.out.state name root another swap.out roots.0 told.1 at_index none swap.step
+      no-other three over.out.state name second.0 another swap.out told.0.stamp told.1 at_index none swap.step
 
   -- a node was allocated, and the opening goes on
   pub goes-on : (old mid new : Cache L) (node : WholeNode) (made : ℕ × Token) (result : Result ℕ Error) (Are All : MadeCalls → Type 0)
@@ -126,11 +112,6 @@ module _ {L : Type 0} (g : Ghosts L) (cache : Cache L) (name : Bytes) where
     -- a tree was made, as far as that went
     pub opens-tree : {result : Result ℕ Error} {new : Cache L} → Looks g cache name (Ok None) → GoesOn g cache (MakesTree ⊤ name result) result new → IsTreeOpened g cache name result new
     opens-tree {result} {new} looks rest =
-        opens looks rest.calls (tree-known (¬ IsKnown g cache) name result rest.calls (λ first second another is. unknown first second another is looks.look looks.made looks.finds) rest.are) rest.made rest.stamps rest.touched (λ none. absurd (let is = sym none ∙ rest.are.2 in cc))
-      where
-        unknown : (first second : ℕ × Token) (another : Option ℕ)
-            → rest.calls ≡ (Allocate empty_leaf, Allocated (Ok first)) ∷ (Allocate (index_over first.0), Allocated (Ok second)) ∷ (CasRoot name None (Some second.0), RootSwapped (Ok (Err another))) ∷ []
-            → (look : Result (Token × meta.Roots) Error) → IsMade g cache GetMeta (GotMeta look) cache → FindsTree name look (Ok None) → ¬ IsKnown g cache
-        unknown first second another is (Ok told) looked finds =
-            finds-no-other g cache new name told empty_leaf (index_over first.0) first second second.0 another (let none : root_of name told.1 ≡ None = grind arith in none) (cache, looked, subst (λ calls. AreMade g cache calls new) is rest.made)
-        unknown first second another is (Err e) looked finds = absurd (let at = finds in cc)
+        opens looks rest.calls
+        (tree-known (¬ IsKnown g cache) name result rest.calls (λ first second another is. finds-no-other g cache new name looks.look looks.finds first second another (cache, looks.made, subst (λ calls. AreMade g cache calls new) is rest.made)) rest.are)
+        rest.made rest.stamps rest.touched (λ none. absurd (let is = sym none ∙ rest.are.2 in cc))

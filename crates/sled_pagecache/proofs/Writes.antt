@@ -1,5 +1,5 @@
 -- What is promised of a page where its message was written to the log, where the log refused it, and where none was told to it.
-use Rattle.sled_pagecache.proofs.Names.{◌≡◌, ◌≢◌, ◌<◌, ◌+◌, ℕ, true, false, List, [], ◌∷◌, length, map, refl, sym, ◌∙◌, ap, subst, inl, inr, Ok, Err, Refusal, OutOfMemory, Why, LogFull, Change, Update, Put, Message, Messages, effect_of, effect_of_entry, now, IsLeft, unplaced_state, IsUpdate, message_of, head_size, Ghosts, StickyLog, Accesses, CacheInfo, Page, Kept, chain_at, Went, Went-none, IsCaused-handed_on, IsOfLog, WasAccessed, IsTouched, capped_size, CanPut, content_of, IsRaised, WritesMessage, Wrote, WritesMap, MakesAppend, RefusesAppend, arith}
+use Rattle.sled_pagecache.proofs.Names.{◌≡◌, ◌≢◌, ◌<◌, ◌+◌, ℕ, true, false, List, [], ◌∷◌, length, refl, ◌∙◌, subst, inl, Ok, Err, Refusal, OutOfMemory, Why, LogFull, Change, Update, Put, Message, Messages, effect_of, effect_of_entry, now, IsLeft, unplaced_state, IsUpdate, message_of, head_size, Ghosts, StickyLog, Accesses, CacheInfo, Page, Kept, chain_at, Went, Went-none, IsCaused-handed_on, IsOfLog, WasAccessed, IsTouched, capped_size, CanPut, content_of, IsRaised, WritesMessage, Wrote, WritesMap, MakesAppend, RefusesAppend, arith}
 use Rattle.sled_base.specs.declared.types.Refusal.TheVariants.{Unsupported}
 use Rattle.sled_pagecache.proofs.Linked.{begun-handed}
 use Rattle.sled_pagecache.proofs.Sizes.{size-alone}
@@ -47,6 +47,5 @@ module _ {L : Type 0} (g : Ghosts L) where
       let set = λ (told : g.tells). writes.chains told ∙ put-chains _ pid (there told) held can info in
       let others = λ (told : g.tells). other-pages _ pid (there told) _ _ (set told) in
       let kept = λ (told : g.tells). kept-put (chain_at (g.state new.log) pid) page held can info (at-page _ pid (there told) _ _ (set told)) infos holds wrote.is in
-      let stamps = ap (map (λ (info : CacheInfo). info.ts)) infos ∙ ap (λ n. n ∷ []) (writes.at ∙ sym raised.1) in
       let accessed = subst (λ n. WasAccessed accesses pid n then) (takes ∙ size-alone page.infos.items info (length (message_of (Put (content_of held))).payload) infos writes.size.0) accessed in
-      assumption (others, kept, stamps, accessed, writes.cause.fault)
+      grind arith

@@ -1,7 +1,7 @@
-use Rattle.sled_pagecache.proofs.Names.{inl, inr, subst, sym, ◌+◌, ◌≡◌, [], ◌∷◌, length, ◌∙◌, refl, rules, arith, le-leb, effect_of_entry, now, Node, Put, message_of, written-update, PagesUsedUp, head_size, WasAccessed, capped_size, refused-is, ap, ◌++◌, map}
+use Rattle.sled_pagecache.proofs.Names.{inl, inr, subst, sym, ◌+◌, ◌≡◌, [], ◌∷◌, length, ◌∙◌, refl, rules, arith, le-leb, effect_of_entry, now, Node, Put, message_of, written-update, PagesUsedUp, head_size, WasAccessed, capped_size, refused-is, ap, ◌++◌}
 use Rattle.sled_pagecache.proofs.InMemory.{accessed-added}
 use Rattle.sled_pagecache.proofs.Sizes.{size-alone}
-use Rattle.sled_pagecache.proofs.NewPages.{added-others, new-kept, has-one-more}
+use Rattle.sled_pagecache.proofs.NewPages.{made-new, has-one-more}
 use Rattle.sled_pagecache.proofs.Writes.{refuses-memory, refuses-unasked, refuses-written}
 use Rattle.sled_pagecache.proofs.pagecache.add.add_page.Goals as goal
 
@@ -45,19 +45,18 @@ returns g c =
     let payload = length (message_of (Put (Node c.args.node))).payload in
     let takes : capped_size c.size_with.result ≡ capped_size (head_size + payload) = omega (arith, c.size_with.ensures, c.serialized_size-size.ensures) in
     let alone : infos ≡ info ∷ [] = c.push_reserved.ensures.items ∙ ap (λ l. l ++ info ∷ []) c.in-Ok-with_capacity.ensures.items in
+    let new = λ (told : g.L.Log.tells). made-new _ c.len-pid.result (at ∙ c.requires.there told) _ c.args.node info (wrote.chains told) _ refl alone c.in_ok-info.ensures.is in
+    let page = has-one-more g.L.Log.tells _ c.args.node info c.args.pages.now.pages c.reserve.new.self.pages pages _ c.reserve.ensures.same c.push_reserved-2.ensures refl refl alone wrote.at (λ told. (new told).1) in
+    let accessed = accessed-added c.args.accesses.now c.access.new.self c.args.pages.now.pages c.reserve.new.self.pages pages _ c.len-pid.result at c.reserve.ensures.same c.push_reserved-2.ensures
+    (subst (λ n. WasAccessed c.args.accesses.now c.len-pid.result n c.access.new.self) (takes ∙ size-alone infos info payload alone wrote.size.0) c.in-Ok-access.ensures.accessed) in
     record {
       is = c.in_ok-info.ensures.is;
       went = rw (← at) wrote.went;
       fault = wrote.cause.fault;
       reads = wrote.reads;
       sized = wrote.sized;
-      others = λ told. rw (← at) (added-others _ c.len-pid.result (at ∙ c.requires.there told) _ c.args.node info (wrote.chains told));
-      page = rw (← at)
-          (has-one-more g.L.Log.tells _ c.args.node info c.args.pages.now.pages c.reserve.new.self.pages pages _ c.reserve.ensures.same c.push_reserved-2.ensures refl refl alone wrote.at
-          (λ told. new-kept _ c.len-pid.result (at ∙ c.requires.there told) _ c.args.node info (wrote.chains told) _ refl alone c.in_ok-info.ensures.is));
+      others = λ told. rw (← at) (new told).0;
+      page = rw (← at) page;
       room = λ all. c.if-len-eq-MAX_PAGES.false (c.len.ensures.number ∙ all);
-      accessed = accessed-added c.args.accesses.now c.access.new.self c.args.pages.now.pages c.reserve.new.self.pages pages _ c.len-pid.result at c.reserve.ensures.same c.push_reserved-2.ensures
-          (subst (λ n. WasAccessed c.args.accesses.now c.len-pid.result n c.access.new.self)
-          (takes ∙ size-alone infos info payload alone wrote.size.0)
-          c.in-Ok-access.ensures.accessed);
+      accessed = accessed;
     }

@@ -1,4 +1,4 @@
-use Rattle.sled_pagecache.proofs.Names.{◌+◌, ◌<◌, ◌≤◌, List, [], length, take, get_or, slice_index_or, sym, ◌∙◌, ap, subst, arith, rules, to_z, of_z, w64, SFits, to_z-of_z, err_from_is_err_and, All, AllZip, Any, one_more, Chain, IsAt, IsRead, IsFoundAs, chain_at, Went-then, Found, Entry, take_all, get_or_default}
+use Rattle.sled_pagecache.proofs.Names.{◌+◌, ◌<◌, ◌≤◌, List, [], length, take, get_or, slice_index_or, sym, ◌∙◌, ap, subst, arith, rules, to_z, of_z, w64, to_z-of_z, err_from_is_err_and, All, AllZip, Any, one_more, Chain, IsAt, IsRead, IsFoundAs, chain_at, Went-then, Found, Entry, take_all, get_or_default}
 use Rattle.sled_pagecache.proofs.ChainReads.{is_at, length-known, more-next, no_info, entry_at}
 use Rattle.sled_pagecache.proofs.RecoveredPages.{zip-more}
 use Rattle.sled_pagecache.proofs.pagecache.chain.read_chain.Goals as goal

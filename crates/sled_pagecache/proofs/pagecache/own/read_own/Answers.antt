@@ -1,8 +1,7 @@
-use Rattle.sled_pagecache.proofs.Names.{AllZip-long, IsFoundAs, ◌∷◌, ◌≡◌, [], length, Some, sym, ◌∙◌, ap, arith, rules, Corruption, is_free, chain_at}
+use Rattle.sled_pagecache.proofs.Names.{refl, CacheInfo, map-at, slice_get_read, AllZip-long, IsFoundAs, ◌∷◌, ◌≡◌, [], length, Some, sym, ◌∙◌, ap, arith, rules, Corruption, chain_at}
 use Rattle.sled_pagecache.proofs.OwnPages.{misfit-unfit, first-pointer, fits-one, sole-found}
 use Rattle.sled_pagecache.proofs.Proceeding.{proceeds-not}
 use Rattle.sled_pagecache.proofs.Pulls.{begins-full}
-use Rattle.sled_pagecache.proofs.RecoveredPages.{first-place}
 use Rattle.sled_pagecache.proofs.Standing.{kept-free}
 use Rattle.sled_pagecache.proofs.pagecache.own.read_own.Goals as goal
 
@@ -14,8 +13,10 @@ returns-then-is_misfit-clause-proceeds g c =
 pub returns-then-is_misfit-clause-refused : goal.returns-then-is_misfit-clause-refused
 returns-then-is_misfit-clause-refused g c = λ told.
     let chain = chain_at (g.L.Log.state c.args.sticky_log.now.log) c.args.pid in
-    let page = c.args.page.now in
-    (misfit-unfit c.args.pid chain page (c.requires.loaded told) (sym c.is_misfit.ensures ∙ c.if-is_misfit.true), first-pointer chain page.infos.items c.index.result.now.pointer (c.requires.loaded told).at (first-place page.infos.items c.index.result.now (search rules) (search rules)))
+    let page = c.args.page.now in (
+      misfit-unfit c.args.pid chain page (c.requires.loaded told) (sym c.is_misfit.ensures ∙ c.if-is_misfit.true),
+      first-pointer chain page.infos.items c.index.result.now.pointer (c.requires.loaded told).at (map-at (λ (info : CacheInfo). info.pointer) page.infos.items 0 c.index.result.now (slice_get_read _ _ 0 _ refl (search rules) (search rules))),
+    )
 
 pub index-requires-2 : goal.index-requires-2
 index-requires-2 g c =

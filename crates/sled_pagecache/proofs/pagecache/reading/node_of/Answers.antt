@@ -1,5 +1,5 @@
 use Rattle.sled_pagecache.proofs.Names.{◌+◌, ◌++◌, ◌∷◌, ◌∙◌, [], List, inl, inr, refl, sym, ap, subst, map, take, take_more, take_all, map-append, arith, refused-is, Content, Node, Put, IsUpdate, Messages, Makes, Found, found_message}
-use Rattle.sled_pagecache.proofs.FoundMessages.{at_rest, made-first, makes-more, refused-at, refused-more}
+use Rattle.sled_pagecache.proofs.FoundMessages.{at_rest, makes-more, makes-last, refused-at}
 use Rattle.sled_pagecache.proofs.pagecache.reading.node_of.Goals as goal
 
 pub returns-in_err-node-clause-refused : goal.returns-in_err-node-clause-refused
@@ -10,17 +10,19 @@ returns-in_err-node-clause-refused c =
     (λ none (node, made). none node (subst (λ (content : Content). IsUpdate (found_message m) (Put content)) made.2 made.1)) c.in_err-node.ensures.refused)
 
 pub loop-found-init : goal.loop-found-init
-loop-found-init c = made-first c.args.messages.now c.index-messages-0.result c.in_ok-node.node c.requires c.index-messages-0.is c.in_ok-node.ensures.read
+loop-found-init c = grind (arith, c.requires, c.index-messages-0.is, c.in_ok-node.ensures.read)
 
 pub returns-in_err-apply_link-clause-refused : goal.returns-in_err-apply_link-clause-refused
 returns-in_err-apply_link-clause-refused c =
     let all = c.args.messages.now in
     let i = c.loop-found.found-index in
     let at = at_rest all i c.found-item.result c.loop-found-test.true c.found-item.is in
+    let m = c.found-item.result in
     let before = c.loop-found.node in
+    let told = take (i + 1) all in
     rw (refused-is c.from_residual-in_err-apply_link.result _ c.from_residual-in_err-apply_link.ensures.1)
-    (refused-at all (i + 1) c.found-item.result _ c.in_err-apply_link.field-0.0 at.0 at.1 (inr (before, c.loop-found.invariant))
-    (refused-more all (i + 1) c.found-item.result before c.loop-found.invariant) c.in_err-apply_link.ensures.refused)
+    (refused-at all (i + 1) m _ c.in_err-apply_link.field-0.0 at.0 at.1 (inr (before, c.loop-found.invariant))
+    (λ nowhere (after, makes). nowhere after (makes-last (map found_message told) before (found_message m) after c.loop-found.invariant (rw (map-append found_message told (m ∷ [])) at makes))) c.in_err-apply_link.ensures.refused)
 
 pub loop-found-preserved : goal.loop-found-preserved
 loop-found-preserved c =

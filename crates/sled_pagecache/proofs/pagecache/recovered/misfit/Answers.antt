@@ -1,11 +1,12 @@
-use Rattle.sled_pagecache.proofs.Names.{arith, rules, ◌≡◌, false, subst, Option, IfSome, is_misfit, Page, slice_get, slice_get_within}
-use Rattle.sled_pagecache.proofs.RecoveredPages.{if-some, first-place}
+use Rattle.sled_pagecache.proofs.Names.{arith, rules, refl, CacheInfo, map-at, slice_get_read, ◌≡◌, false, subst, Option, IfSome, is_misfit, Page, slice_get, slice_get_within}
+use Rattle.sled_pagecache.proofs.RecoveredPages.{if-some}
 use Rattle.sled_pagecache.proofs.pagecache.recovered.misfit.Goals as goal
 
 pub returns-in-loop-pid : goal.returns-in-loop-pid
 returns-in-loop-pid c =
     let page = c.in-Some.page.now in
-    record { pid = c.loop-pid.pid; page = page; is = c.in-Some.ensures; misfit = search rules; first = c.loop-pid.invariant; begins = first-place page.infos.items c.index.result.now (search rules) (search rules) }
+    let begins = map-at (λ (info : CacheInfo). info.pointer) page.infos.items 0 c.index.result.now (slice_get_read _ _ 0 _ refl (search rules) (search rules)) in
+    record { pid = c.loop-pid.pid; page = page; is = c.in-Some.ensures; misfit = search rules; first = c.loop-pid.invariant; begins = begins }
 
 pub returns : goal.returns
 returns c =

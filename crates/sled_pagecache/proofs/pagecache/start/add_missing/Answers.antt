@@ -1,6 +1,6 @@
-use Rattle.sled_pagecache.proofs.Names.{◌<◌, List, length, None, subst, sym, rules, Ok, Err, Event, Message, events_at_start, Proceeds, refused-is, drop_all, roots_event, counter_event, events_of_roots, slice_get_past, ◌∙◌, ◌∷◌, [], arith}
+use Rattle.sled_pagecache.proofs.Names.{append-nil, ◌<◌, List, length, None, subst, sym, rules, Ok, Err, Event, Message, events_at_start, Proceeds, refused-is, drop_all, roots_event, counter_event, events_of_roots, slice_get_past, ◌∙◌, ◌∷◌, [], arith}
 use Rattle.sled_pagecache.proofs.Proceeding.{proceeds-none, proceeds-first}
-use Rattle.sled_pagecache.proofs.Starting.{events-split, missing-both, missing-stable, stays-closed, events-closed}
+use Rattle.sled_pagecache.proofs.Starting.{events-split, missing-both, missing-stable, stays-closed, changes-closed}
 use Rattle.sled_pagecache.proofs.pagecache.start.add_missing.Goals as goal
 
 pub returns-then-len-gt1-clause-proceeds : goal.returns-then-len-gt1-clause-proceeds
@@ -23,18 +23,20 @@ pub make_stable-requires-clause-closed : goal.make_stable-requires-clause-closed
 make_stable-requires-clause-closed g c =
     let pages = c.args.pages.now.pages in
     stays-closed g.L.Log c.args.sticky_log.now c.add_counter.new.sticky_log (events_at_start pages)
-    (missing-both g.L.Log c.args.sticky_log.now c.add_roots.new.sticky_log pages (search rules) c.add_counter.new.sticky_log None c.in_ok-add_roots.ensures.proceeds c.in_ok-add_counter.ensures.proceeds) c.requires.closed (events-closed pages)
+    (missing-both g.L.Log c.args.sticky_log.now c.add_roots.new.sticky_log pages (search rules) c.add_counter.new.sticky_log None c.in_ok-add_roots.ensures.proceeds c.in_ok-add_counter.ensures.proceeds) c.requires.closed (changes-closed (length pages) (events_at_start pages) [] (append-nil _))
 
 pub returns-in_err-make_stable-clause-proceeds : goal.returns-in_err-make_stable-clause-proceeds
 returns-in_err-make_stable-clause-proceeds g c =
     let done = c.in_err-make_stable.ensures in
     rw (refused-is c.from_residual-in_err-make_stable.result _ c.from_residual-in_err-make_stable.ensures.1)
-    (missing-stable g.L.Log c.args.sticky_log.now c.add_roots.new.sticky_log c.args.pages.now.pages (search rules) c.add_counter.new.sticky_log c.make_stable.new.self (Err c.in_err-make_stable.field-0.0) c.in_ok-add_roots.ensures.proceeds c.in_ok-add_counter.ensures.proceeds done.went done.cause)
+    (missing-stable g.L.Log c.args.sticky_log.now c.add_roots.new.sticky_log c.args.pages.now.pages (search rules) c.add_counter.new.sticky_log c.make_stable.new.self (Err c.in_err-make_stable.field-0.0)
+    c.in_ok-add_roots.ensures.proceeds c.in_ok-add_counter.ensures.proceeds done.went done.cause)
 
 pub returns-clause-proceeds : goal.returns-clause-proceeds
 returns-clause-proceeds g c =
     let done = c.in_ok-make_stable.ensures in
-    missing-stable g.L.Log c.args.sticky_log.now c.add_roots.new.sticky_log c.args.pages.now.pages (search rules) c.add_counter.new.sticky_log c.make_stable.new.self (Ok c.in_ok-make_stable.field-0) c.in_ok-add_roots.ensures.proceeds c.in_ok-add_counter.ensures.proceeds done.went done.cause
+    missing-stable g.L.Log c.args.sticky_log.now c.add_roots.new.sticky_log c.args.pages.now.pages (search rules) c.add_counter.new.sticky_log c.make_stable.new.self (Ok c.in_ok-make_stable.field-0)
+    c.in_ok-add_roots.ensures.proceeds c.in_ok-add_counter.ensures.proceeds done.went done.cause
 
 pub returns-clause-others : goal.returns-clause-others
 returns-clause-others g c = λ pid from.

@@ -1,7 +1,7 @@
-use Rattle.sled_pagecache.proofs.Names.{TableView, ap, rules, OutOfMemory, events_at_start, by-id-all, ◌∙◌, sym, arith, IfSome_then, slice_get, past-two, IsRoots, IsUnread}
+use Rattle.sled_pagecache.proofs.Names.{append-nil, [], length, TableView, ap, rules, OutOfMemory, events_at_start, nat_tests, by-id-all, ◌∙◌, sym, arith, IfSome_then, slice_get, past-two, IsRoots, IsUnread}
 use Rattle.sled_pagecache.proofs.Counted.{opened-counted}
 use Rattle.sled_pagecache.proofs.Proceeding.{proceeds-refused}
-use Rattle.sled_pagecache.proofs.Starting.{all-kept, short-by, all-fresh, stays-closed, events-closed, opened-with}
+use Rattle.sled_pagecache.proofs.Starting.{all-kept, all-fresh, stays-closed, changes-closed, opened-with}
 use Rattle.sled_pagecache.proofs.pagecache.start.complete.Goals as goal
 
 pub add_missing-requires-clause-table : goal.add_missing-requires-clause-table
@@ -10,7 +10,7 @@ add_missing-requires-clause-table g c =
     let pages = c.args.pages.pages in
     record {
       kept = λ known. all-kept _ pages (read.kept known);
-      hold = ((λ k. IfSome_then (slice_get pages k) (read.hold.0 k) (λ page found. grind arith)), by-id-all _ pages (λ k. IfSome_then (slice_get pages k) (c.requires.fit k) (λ page. short-by k page)));
+      hold = ((λ k. IfSome_then (slice_get pages k) (read.hold.0 k) (λ page found. grind arith)), by-id-all _ pages (λ k. IfSome_then (slice_get pages k) (c.requires.fit k) (λ page fits. grind (arith, nat_tests))));
       few = read.few;
       chains_are = read.chains_are;
       sized = read.sized;
@@ -28,7 +28,7 @@ returns-clause-consistent g c =
     let table = added.table in
     let pages = c.args.pages.pages in
     record {
-      opened = λ clear. stays-closed g.L.Log c.args.sticky_log.now c.add_missing.new.sticky_log (events_at_start pages) added.proceeds c.requires.closed (events-closed pages) ∙ sym (added.proceeds.reaches.batch ∙ c.requires.unopened);
+      opened = λ clear. stays-closed g.L.Log c.args.sticky_log.now c.add_missing.new.sticky_log (events_at_start pages) added.proceeds c.requires.closed (changes-closed (length pages) (events_at_start pages) [] (append-nil _)) ∙ sym (added.proceeds.reaches.batch ∙ c.requires.unopened);
       beside = λ clear. record { usable = added.proceeds.reaches.usable clear; kept = table.kept; chains = table.chains_are; sized = table.sized };
       own = table.hold.0;
       both = omega (arith, added.both);

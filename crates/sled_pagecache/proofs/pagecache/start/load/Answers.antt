@@ -1,4 +1,4 @@
-use Rattle.sled_pagecache.proofs.Names.{List, subst, ◌≡◌, ◌+◌, ℕ, [], length, Option, None, Some, sym, ap, arith, AllZip-long, Corruption, Chain, effect_of_entry, now, own_among, IsLoaded, RefusesPages, refused-is, zip-second, slice_get_within}
+use Rattle.sled_pagecache.proofs.Names.{List, subst, ◌≡◌, [], length, None, Some, ap, arith, AllZip-long, Corruption, Chain, effect_of_entry, now, own_among, IsLoaded, RefusesPages, refused-is, zip-second, slice_get_within}
 use Rattle.sled_pagecache.proofs.Proceeding.{proceeds-then, proceeds-refused}
 use Rattle.sled_pagecache.proofs.ReadCounts.{read-loaded, read-then}
 use Rattle.sled_pagecache.proofs.OwnPages.{misfit-unfit, first-pointer}
@@ -50,7 +50,8 @@ returns-in_err-counter-clause-reads g c = λ told.
     let pages = c.in_ok-pages.pages.pages in
     let same : own_among (length pages) ≡ own_among (length chains) = ap own_among (AllZip-long IsLoaded chains pages (c.in_ok-pages.ensures.pages.kept told)) in
     rw (refused-is c.from_residual-in_err-counter.result _ c.from_residual-in_err-counter.ensures.1)
-    (read-then g.L.Log.counts c.args.sticky_log.now.log c.recover_pages.new.sticky_log.log c.read_system_pages.new.sticky_log.log 0 (own_among (length pages)) (own_among (length chains)) c.in_err-counter.field-0.0 _ (omega (arith, same)) c.in_ok-pages.ensures.unread c.in_err-counter.ensures.reads)
+    (read-then g.L.Log.counts c.args.sticky_log.now.log c.recover_pages.new.sticky_log.log c.read_system_pages.new.sticky_log.log 0 (own_among (length pages)) (own_among (length chains)) c.in_err-counter.field-0.0 _
+    (omega (arith, same)) c.in_ok-pages.ensures.unread c.in_err-counter.ensures.reads)
 
 pub returns-in-Some-clause-reads : goal.returns-in-Some-clause-reads
 returns-in-Some-clause-reads g c = λ told.

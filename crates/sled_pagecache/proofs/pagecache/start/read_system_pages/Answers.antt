@@ -1,12 +1,14 @@
-use Rattle.sled_pagecache.proofs.Names.{◌≡◌, [], length, refl, sym, ◌∙◌, ap, arith, slice_get_within, count_after, own_among, refused-is, zip-second, other-at, past-end, IsLoaded, Roots, Counter}
+use Rattle.sled_pagecache.proofs.Names.{slice_get, get_or_from_slice_get, ◌≡◌, [], length, refl, sym, ◌∙◌, ap, arith, slice_get_within, count_after, own_among, refused-is, zip-second, other-at, past-end, IsLoaded, Roots, Counter}
 use Rattle.sled_pagecache.proofs.Proceeding.{proceeds-then}
 use Rattle.sled_pagecache.proofs.ReadCounts.{own-is, read-then}
-use Rattle.sled_pagecache.proofs.Starting.{read-page, found-first, found-both, first-fits, own-refuses}
+use Rattle.sled_pagecache.proofs.RecoveredPages.{if-some}
+use Rattle.sled_pagecache.proofs.Starting.{read-page, found-first, found-both, own-refuses}
 use Rattle.sled_pagecache.proofs.pagecache.start.read_system_pages.Goals as goal
 
 pub returns-in_err-roots-clause-refused : goal.returns-in_err-roots-clause-refused
 returns-in_err-roots-clause-refused g c = λ told.
-    rw (refused-is c.from_residual.result _ c.from_residual.ensures.1) (own-refuses 0 _ _ c.args.pages.now.pages c.in_err-roots.field-0.0 refl c.requires.recovered told (slice_get_within _ 0 _ c.in-Some.ensures) (λ before lt. absurd (omega (arith, lt))) (c.in_err-roots.ensures.refused told))
+    rw (refused-is c.from_residual.result _ c.from_residual.ensures.1)
+    (own-refuses 0 _ c.args.pages.now.pages c.in_err-roots.field-0.0 c.requires.recovered told (slice_get_within _ 0 _ c.in-Some.ensures) (λ before lt. absurd (omega (arith, lt))) (c.in_err-roots.ensures.refused told))
 
 pub read_counter-requires-clause-loaded : goal.read_counter-requires-clause-loaded
 read_counter-requires-clause-loaded g c = λ told.
@@ -28,8 +30,9 @@ returns-in_err-n-clause-proceeds g c =
 pub returns-in_err-n-clause-refused : goal.returns-in_err-n-clause-refused
 returns-in_err-n-clause-refused g c = λ told.
     rw (refused-is c.from_residual-in_err-n.result _ c.from_residual-in_err-n.ensures.1)
-    (own-refuses 1 _ _ c.args.pages.now.pages c.in_err-n.field-0.0 (c.in_ok-roots.ensures.same told c.in_ok-roots.ensures.proceeds.fault) c.requires.recovered told (slice_get_within _ 1 _ (sym (other-at _ 0 1 _ (omega arith)) ∙ c.in-Some-get.ensures))
-    (first-fits _ c.in_ok-roots.roots (c.in_ok-roots.ensures.read told)) (c.in_err-n.ensures.refused told))
+    (own-refuses 1 _ c.args.pages.now.pages c.in_err-n.field-0.0 c.requires.recovered told (slice_get_within _ 1 _ (sym (other-at _ 0 1 _ (omega arith)) ∙ c.in-Some-get.ensures))
+    (λ before lt. if-some (slice_get _ before) (λ chain at. grind (arith, c.in_ok-roots.ensures.read told, get_or_from_slice_get _ before chain [] at)))
+    (rw (c.in_ok-roots.ensures.same told c.in_ok-roots.ensures.proceeds.fault) at (c.in_err-n.ensures.refused told)))
 
 pub returns-clause-proceeds : goal.returns-clause-proceeds
 returns-clause-proceeds g c =

@@ -1,13 +1,10 @@
-use Rattle.sled_pagecache.proofs.Names.{◌≡◌, ◌≤◌, ◌<◌, ◌^◌, length, sym, arith, rules, AllZip-long, effect_of_entry, IsPageState, now, IsRecovered}
+use Rattle.sled_pagecache.proofs.Names.{◌≤◌, ◌<◌, ◌^◌, length, sym, arith, rules, AllZip-long, IsPageState, IsRecovered}
 use Rattle.sled_pagecache.proofs.pagecache.start.recover_pages.Goals as goal
 
 pub returns-then-len-gt-MAX_PAGES-clause-refused : goal.returns-then-len-gt-MAX_PAGES-clause-refused
 returns-then-len-gt-MAX_PAGES-clause-refused g c = λ told.
-    let states = c.in_ok-states.states.items in
-    let more : 2 ^ 37 < length states = search rules in
-    let chains = now effect_of_entry (g.L.Log.state c.args.sticky_log.now.log) in
-    let long : length states ≡ length chains = AllZip-long IsPageState chains states (c.in_ok-states.ensures.pages told) in
-    omega (arith, long, more)
+    let more : 2 ^ 37 < length c.in_ok-states.states.items = search rules in
+    omega (arith, AllZip-long IsPageState _ c.in_ok-states.states.items (c.in_ok-states.ensures.pages told), more)
 
 pub returns-clause-pages : goal.returns-clause-pages
 returns-clause-pages g c =

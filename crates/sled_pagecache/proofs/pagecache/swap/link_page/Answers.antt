@@ -1,7 +1,7 @@
-use Rattle.sled_pagecache.proofs.Names.{[], ◌∷◌, ◌+◌, length, ap, subst, sym, ◌∙◌, inr, refl, rules, Update, Change, effect_of_entry, now, message_of, Went, Went-none, CacheInfo, joined_infos, ltb, head_size, WasAccessed, arith, link_update, IsCaused-handed_on}
+use Rattle.sled_pagecache.proofs.Names.{length-append, [], ◌∷◌, ◌+◌, length, ap, subst, sym, ◌∙◌, inr, refl, rules, Update, Change, effect_of_entry, now, message_of, Went, Went-none, CacheInfo, joined_infos, ltb, head_size, WasAccessed, arith, link_update, IsCaused-handed_on}
 use Rattle.sled_pagecache.specs.declared.pagecache.page.Kept.TheVariants as kept
 use Rattle.sled_pagecache.proofs.Sizes.{linked-size}
-use Rattle.sled_pagecache.proofs.Linked.{kept-away, page-full, page-linked, update-is, infos-length, begun-handed}
+use Rattle.sled_pagecache.proofs.Linked.{page-full, page-linked, update-is, begun-handed}
 use Rattle.sled_pagecache.proofs.pagecache.swap.link_page.Goals as goal
 
 pub returns-in_default : goal.returns-in_default
@@ -42,7 +42,7 @@ returns-in-Ok-write_linked g c =
     let accessed = subst (λ n. WasAccessed c.args.accesses.now c.args.pid n c.access_linked.new.accesses)
         (linked-size (ltb c.len-joins.result 10) c.deref.result.now c.prepare.new.infos.items c.linked_size-size.result c.keep_linked.new.page done.info c.deref.ensures.value c.keep_linked.ensures.infos (writes.size.0 ∙ ap (λ n. head_size + n) (sym c.linked_size-size.ensures)))
         c.in-Ok-access_linked.ensures.accessed in
-    grind (arith, infos-length c.len-joins.result page.infos.items)
+    grind (arith, length-append page.infos.items (done.info ∷ []))
 
 pub returns-in-Err : goal.returns-in-Err
 returns-in-Err g c =

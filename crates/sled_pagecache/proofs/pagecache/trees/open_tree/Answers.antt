@@ -1,4 +1,4 @@
-use Rattle.sled_pagecache.proofs.Names.{Some, Ok, Err, refl, ⊤, GoesOn, MakesTree, refused-is}
+use Rattle.sled_pagecache.proofs.Names.{refl, ⊤, GoesOn, MakesTree, refused-is}
 use Rattle.sled_pagecache.proofs.TreeSteps.{opens-none, opens-tree}
 use Rattle.sled_pagecache.proofs.pagecache.trees.open_tree.Goals as goal
 

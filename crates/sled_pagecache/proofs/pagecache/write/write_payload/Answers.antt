@@ -1,4 +1,4 @@
-use Rattle.sled_pagecache.proofs.Names.{rules, [], ◌∷◌, subst, refl, length, DiskPtr, ℕ, ℤ, Change, CacheInfo, message, Went, IsCaused-handed_on, refused-is}
+use Rattle.sled_pagecache.proofs.Names.{rules, [], ◌∷◌, subst, length, DiskPtr, ℕ, ℤ, Change, CacheInfo, message, Went, IsCaused-handed_on, refused-is}
 use Rattle.sled_pagecache.proofs.Linked.{begun-handed}
 use Rattle.sled_pagecache.proofs.pagecache.write.write_payload.Goals as goal
 

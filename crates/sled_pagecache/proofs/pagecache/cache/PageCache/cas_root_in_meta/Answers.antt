@@ -1,5 +1,5 @@
 use Rattle.sled_base.specs.declared.types.Error.TheVariants.{Io}
-use Rattle.sled_pagecache.proofs.Names.{err_from_is_err_and, rules, Err, refl, Write, CasRoot, RootSwapped, Steps, no_name, refused-is}
+use Rattle.sled_pagecache.proofs.Names.{rules, Err, refl, Write, CasRoot, RootSwapped, Steps, no_name, refused-is}
 use Rattle.sled_pagecache.proofs.CacheSteps.{steps-stuck}
 use Rattle.sled_pagecache.proofs.Evicting.{keeps-same, leaves-same}
 use Rattle.sled_pagecache.proofs.RootSwaps.{root-made, root-unmade}
@@ -12,9 +12,8 @@ own_roots-requires g c = keeps-roots c.self.inside.pages.pages c.self.invariant.
 pub returns-in_err-view : goal.returns-in_err-view
 returns-in_err-view g c =
     let step : Steps g.L.Log c.args.self.now (CasRoot c.args.name.now c.args.old c.args.new) (RootSwapped (Err (Io Write))) c.args.self.now =
-        steps-stuck g.L.Log _ (CasRoot c.args.name.now c.args.old c.args.new) (RootSwapped (Err (Io Write))) (search (rules, c.in_err-view.ensures)) (λ s kept. rw kept (refl, refl)) in
-    let bounded = rw c.self.view_is at c.self.invariant.bounded in
-    rw (refused-is c.from_residual.result _ c.from_residual.ensures.1, c.in_err-view.ensures.1) (search (rules, leaves-same, no_name))
+    steps-stuck g.L.Log _ (CasRoot c.args.name.now c.args.old c.args.new) (RootSwapped (Err (Io Write))) (search (rules, c.in_err-view.ensures)) (λ s kept. rw kept (refl, refl)) in
+    rw (refused-is c.from_residual.result _ c.from_residual.ensures.1, c.in_err-view.ensures.1) (search (rules, leaves-same, no_name, rw c.self.view_is at c.self.invariant.bounded))
 
 pub returns-in_err-root : goal.returns-in_err-root
 returns-in_err-root g c =

@@ -1,4 +1,4 @@
-use Rattle.sled_pagecache.proofs.Names.{on_err_weaker, None, IsOk, ◌≡◌, inr, true, is_resident, false, [], Result, Ok, refl, sym, ◌∙◌, ap, subst, arith, slice_set, Refusal, BringsIn, is_reserved, behind-own, length, ◌≤◌, Went-none, false≢true, is_empty, effect_of_entry, get_or_past, now, AllZip-long, IsKept, none-some, slice_get_past, resident_in, length-map, Page, same_Some, map-at}
+use Rattle.sled_pagecache.proofs.Names.{on_err_weaker, None, IsOk, ◌≡◌, inr, true, is_resident, false, [], Ok, refl, sym, ◌∙◌, ap, arith, is_reserved, behind-own, length, ◌≤◌, Went-none, false≢true, is_empty, effect_of_entry, get_or_past, now, AllZip-long, IsKept, none-some, slice_get_past, resident_in, length-map, Page, same_Some, map-at}
 use Rattle.sled_pagecache.proofs.Counted.{behind-counter, other-at, whole-then}
 use Rattle.sled_pagecache.proofs.Evicting.{keeps-same, settled, settles}
 use Rattle.sled_pagecache.proofs.Settling.{brings-moved, makes-found, reads-moved}
@@ -39,7 +39,9 @@ returns-then-pid-count-clause-brings g c = λ ready.
     rw (← c.self.view_is) (record {
       left = leaves-went g.L.Log _ _ (record { config = refl; recovered = refl }) refl refl (Went-none g.L.Log inside.sticky_log beside.usable (g.met.L.Log.only_now _)) (λ _ _. refl);
       cause = record { fault = c.if-self.false; read = λ h. cc; write = λ h. cc; full = λ h. cc };
-      sound = λ known damaged. absurd (false≢true (sym damaged.0 ∙ ap (is_empty effect_of_entry) (get_or_past (now effect_of_entry (g.L.Log.state inside.sticky_log.log)) c.args.pid [] (omega (arith, past, AllZip-long IsKept _ table (beside.kept known))))));
+      sound = λ known damaged.
+          let long = AllZip-long IsKept _ table (beside.kept known) in
+          absurd (false≢true (sym damaged.0 ∙ ap (is_empty effect_of_entry) (get_or_past (now effect_of_entry (g.L.Log.state inside.sticky_log.log)) c.args.pid [] (omega (arith, past, long)))));
       in_memory = (sym c.is_reserved.ensures ∙ c.if-is_reserved.false, λ away. none-some false (sym (slice_get_past (resident_in table) c.args.pid (omega (arith, past, length-map table (λ (page : Page). is_resident page.kept)))) ∙ away));
       refused = λ _. tt;
     })

@@ -1,5 +1,5 @@
 use Rattle.sled_log.specs.LogState.{now as log_now}
-use Rattle.sled_pagecache.proofs.Names.{ap, open_after, ◌∙◌, false, [], List, None, Some, subst, sym, refl, Event, Message, effect_of_entry, Proceeds, stamps_in, resident_in, nodes_in, StickyLog, OutOfMemory, events_at_start, holds_now}
+use Rattle.sled_pagecache.proofs.Names.{ap, open_after, ◌∙◌, false, sym, refl, effect_of_entry, StickyLog, OutOfMemory, events_at_start, holds_now}
 use Rattle.sled_pagecache.proofs.Counted.{positive}
 use Rattle.sled_pagecache.proofs.Opening.{no-fault, opens-refused, opens-done}
 use Rattle.sled_pagecache.proofs.Proceeding.{proceeds-not}

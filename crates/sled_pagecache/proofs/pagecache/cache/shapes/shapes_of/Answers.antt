@@ -1,4 +1,4 @@
-use Rattle.sled_pagecache.proofs.Names.{get_or_from_slice_get, map-append, refl, slice_get_within, take, take_more}
+use Rattle.sled_pagecache.proofs.Names.{get_or_from_slice_get, map-append, refl, slice_get_within, take_more}
 use Rattle.sled_pagecache.proofs.pagecache.cache.shapes.shapes_of.Goals as goal
 
 pub loop-pid-preserved : goal.loop-pid-preserved

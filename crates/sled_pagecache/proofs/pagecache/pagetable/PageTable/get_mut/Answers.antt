@@ -6,14 +6,12 @@ use Rattle.sled_pagecache.proofs.pagecache.pagetable.PageTable.get_mut.Goals as 
 pub index_mut-chunk-requires : goal.index_mut-chunk-requires
 index_mut-chunk-requires c =
     let split = c.split_fanout-left.ensures in
-    let within = chunk-within c.self.invariant _ split.left split.right (rw (← c.self.view_is) at c.requires) in
-    omega (arith, within, c.self.inside.chunks.ok.0)
+    omega (arith, chunk-within c.self.invariant c.args.pid split.left split.right (rw (← c.self.view_is) at c.requires), c.self.inside.chunks.ok.0)
 
 pub index_mut-requires : goal.index_mut-requires
 index_mut-requires c =
     let split = c.split_fanout-left.ensures in
-    let within = page-within c.self.invariant _ split.left split.right (rw (← c.self.view_is) at c.requires) c.index_mut-chunk.ensures.value in
-    omega (arith, within)
+    omega (arith, page-within c.self.invariant c.args.pid split.left split.right (rw (← c.self.view_is) at c.requires) c.index_mut-chunk.ensures.value)
 
 pub invariant_of-self-lent : goal.invariant_of-self-lent
 invariant_of-self-lent c =
