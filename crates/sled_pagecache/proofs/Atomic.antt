@@ -9,7 +9,7 @@ use Rattle.sled_pagecache.proofs.Reopening.{after-none, IsKeptAs, crash-reopens,
 use Rattle.sled_pagecache.proofs.CallForms.{IsChange, call-inside}
 use Rattle.sled_pagecache.specs.Logged.{AreKept, IsLeft, now}
 use Rattle.sled_pagecache.specs.Batches.{Stand}
-use Rattle.sled_pagecache.specs.declared.pagecache.call.Call.TheVariants as call
+use Rattle.sled_pagecache.specs.declared.pagecache.handles.call.Call.TheVariants as call
 
 -- ---- cuts that split no batch
 

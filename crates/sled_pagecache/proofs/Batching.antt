@@ -14,8 +14,8 @@ use Rattle.sled_pagecache.proofs.Tables.{consistent-kept}
 use Rattle.sled_pagecache.specs.Batches.{OpensBatch, ClosesBatch, answer_of, call_of}
 use Rattle.sled_pagecache.specs.Logged.{now}
 use Rattle.sled_pagecache.specs.Inside.StickyLog.{mark_of}
-use Rattle.sled_pagecache.specs.declared.pagecache.call.Call.TheVariants as call
-use Rattle.sled_pagecache.specs.declared.pagecache.sticky_log.Closing.{Closing}
+use Rattle.sled_pagecache.specs.declared.pagecache.handles.call.Call.TheVariants as call
+use Rattle.sled_pagecache.specs.declared.pagecache.write.sticky_log.Closing.{Closing}
 
 -- an event that is a mark changes no page, and may always come
 pub record IsMark (message : Event Message) (event : Event Update) : Type 0 where

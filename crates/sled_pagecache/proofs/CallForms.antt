@@ -4,7 +4,7 @@ use Rattle.sled_node.specs.Meta as meta
 use Rattle.sled_pagecache.proofs.Counting.{CountsTo, start-above}
 use Rattle.sled_pagecache.specs.State.{StampedPage, is_free, page, with_page}
 use Rattle.sled_pagecache.specs.Step.{Generates, HoldsCounter, HoldsRoots, interval_start, with_next_id}
-use Rattle.sled_pagecache.specs.declared.pagecache.call.Call.TheVariants as call
+use Rattle.sled_pagecache.specs.declared.pagecache.handles.call.Call.TheVariants as call
 
 split : {A B X : Type 0} (test : Bool) → MatchBool test A B → (test ≡ true → A → X) → (test ≡ false → B → X) → X
 split true h where_true where_false = where_true refl h

@@ -5,7 +5,7 @@ use Rattle.sled_pagecache.proofs.Counting.{CountsTo}
 use Rattle.sled_pagecache.proofs.ProperPages.{all-append}
 use Rattle.sled_pagecache.specs.Inside.CounterPage.{IsCounterIn}
 use Rattle.sled_pagecache.specs.Logged.{now}
-use Rattle.sled_pagecache.specs.declared.pagecache.page.Kept.TheVariants as kept
+use Rattle.sled_pagecache.specs.declared.pagecache.table.page.Kept.TheVariants as kept
 
 -- ---- lists
 

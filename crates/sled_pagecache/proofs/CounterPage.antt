@@ -8,7 +8,7 @@ use Rattle.sled_pagecache.proofs.Putting.{MayPut, holds_unplaced, many}
 use Rattle.sled_pagecache.proofs.Standing.{found-known, known-in}
 use Rattle.sled_pagecache.specs.Inside.CounterPage.{KeepsCounter}
 use Rattle.sled_pagecache.specs.Logged.{IsOwnAt, now as held_now}
-use Rattle.sled_pagecache.specs.declared.pagecache.page.Kept.TheVariants as kept
+use Rattle.sled_pagecache.specs.declared.pagecache.table.page.Kept.TheVariants as kept
 
 -- it is kept there
 pub keeps-counter : (table : List KeptPage) → AreOwn table → 2 ≤ length table → KeepsCounter table

@@ -48,8 +48,8 @@ refuses g log after config held errors.OutOfMemory un = inl tt
 refuses g log after config held (errors.Io device) un = inl tt
 refuses g log after config held (errors.Unsupported LogFull) un =
     let never : changes_of_start (now held) ≢ [] = λ none.
-        let empty : length un.begun + length un.rest ≡ 0 = sym (length-append un.begun un.rest) ∙ ap length (un.are ∙ none) in
-        absurd (rw (nil_from_length un.rest (omega arith)) at ((un.full refl).given (nil_from_length un.begun (omega arith)))) in
+    let empty : length un.begun + length un.rest ≡ 0 = sym (length-append un.begun un.rest) ∙ ap length (un.are ∙ none) in
+    absurd (rw (nil_from_length un.rest (omega arith)) at ((un.full refl).given (nil_from_length un.begun (omega arith)))) in
     inr (refl, never)
 refuses g log after config held other un = absurd un.why
 

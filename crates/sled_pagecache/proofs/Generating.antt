@@ -8,7 +8,7 @@ use Rattle.sled_pagecache.proofs.CounterPage.{may-put, own-at}
 use Rattle.sled_pagecache.proofs.Putting.{MayPut, many, nothing-appended, put-refused}
 use Rattle.sled_pagecache.proofs.Staying.{stay-one}
 use Rattle.sled_pagecache.specs.Logged.{now}
-use Rattle.sled_pagecache.specs.declared.pagecache.page.Kept.TheVariants as kept
+use Rattle.sled_pagecache.specs.declared.pagecache.table.page.Kept.TheVariants as kept
 
 module _ {L : Type 0} (g : Ghosts L) {next : ℕ} {config : Config} {recovered : Bool} {before : StickyLog L} {table : List KeptPage} {free : List ℕ} {accesses : Accesses}
     (settled : IsSettled g next config recovered before table free accesses) (ready : before.fault ≡ false) where

@@ -9,7 +9,7 @@ use Rattle.sled_pagecache.proofs.Putting.{blamed}
 use Rattle.sled_pagecache.proofs.Standing.{one-short}
 use Rattle.sled_pagecache.proofs.Tables.{consistent-put-own, free-same}
 use Rattle.sled_pagecache.specs.Inside.CounterPage.{IsCounterIn}
-use Rattle.sled_pagecache.specs.declared.pagecache.page.Kept.TheVariants as kept
+use Rattle.sled_pagecache.specs.declared.pagecache.table.page.Kept.TheVariants as kept
 
 same-start : (k next start : ℕ) → 0 < k → start ≡ interval_start k next → interval_start k next ≤ interval_start k start
 same-start k next start some starts = grind arith

@@ -1,6 +1,6 @@
 -- Which pages of a table lie in memory, where one of them changes.
 use Rattle.sled_pagecache.proofs.Names.{Recency, eqb, eqb_tells, capped_size, is_resident, IsFreeOrNode, CacheInfo, Result, Ok, Err, ◌≡◌, ◌≢◌, ◌⊎◌, ◌≤◌, inl, inr, ℕ, Bool, true, false, List, [], ◌∷◌, ◌++◌, length, map, Option, Some, None, slice_get, slice_set, refl, sym, ◌∙◌, ap, subst, arith, length-map, none-some, same_Some, slice_get-map, slice_get_past, option_map, error_of, Refusal, IsOfLog, IsHindrance, WholeNode, Cache, is_free, nodes_in, resident_in, Config, StickyLog, Kept, Page, IsListed, rounded, IsTouched, WasAccessed, HasNode, HasNoNode, AreListed, StaysAt, node_access_size, access_size, size_if, size_in, AllStay, IsListedAt, AccessesNode, TakesNode, TakesPage, FindsNode, LosesAtMost, Accesses, OnOk, OnErr, IfSome, MatchOption, view, map-at, set-at, other-at, other-before, last-at}
-use Rattle.sled_pagecache.specs.declared.pagecache.page.Kept.TheVariants as kept
+use Rattle.sled_pagecache.specs.declared.pagecache.table.page.Kept.TheVariants as kept
 
 -- ---- lists
 

@@ -7,7 +7,7 @@ use Rattle.sled_pagecache.proofs.CacheSteps.{steps-stuck}
 use Rattle.sled_pagecache.proofs.Evicting.{leaves-same}
 use Rattle.sled_pagecache.proofs.Putting.{nothing-appended, unless-clear}
 use Rattle.sled_pagecache.proofs.Standing.{AreKnown, found-known, found-none}
-use Rattle.sled_pagecache.specs.declared.pagecache.call.Call.TheVariants as call
+use Rattle.sled_pagecache.specs.declared.pagecache.handles.call.Call.TheVariants as call
 
 -- a call that tests its token, and goes on with the content of its page
 pub record IsSwap {L R : Type 0} (g : Ghosts L) (cache : Cache L) (old : Token) (rejected : R) (call : Call) (answered : Swapped R → Answer) (goes_on : State → Swapped R → Outcome → Content → Type 0) : Type 0 where

@@ -14,7 +14,7 @@ use Rattle.sled_pagecache.proofs.TableNodes.{view}
 use Rattle.sled_pagecache.proofs.Standing.{kept-free}
 use Rattle.sled_pagecache.specs.Inside.LinkWrites as linked
 use Rattle.sled_pagecache.specs.Logged.{now}
-use Rattle.sled_pagecache.specs.declared.pagecache.call.Call.TheVariants as call
+use Rattle.sled_pagecache.specs.declared.pagecache.handles.call.Call.TheVariants as call
 
 -- ---- what is written
 

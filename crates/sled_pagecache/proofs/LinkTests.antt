@@ -6,7 +6,7 @@ use Rattle.sled_pagecache.proofs.Held.{state-page}
 use Rattle.sled_pagecache.proofs.PagingIn.{stamps-same, page-kept-at}
 use Rattle.sled_pagecache.proofs.Standing.{node-full, kept-free}
 use Rattle.sled_pagecache.proofs.TableNodes.{view}
-use Rattle.sled_pagecache.specs.declared.pagecache.page.Kept.TheVariants as kept
+use Rattle.sled_pagecache.specs.declared.pagecache.table.page.Kept.TheVariants as kept
 
 -- a page in memory whose chain makes the node holds it
 node-kept : (chain : Chain) (node : WholeNode) (k : Kept) → Makes (messages_of chain) (Node node) → HoldsChain chain k → IsFreeOrNode k → is_free k ≡ false → is_resident k ≡ true → k ≡ kept.Node node

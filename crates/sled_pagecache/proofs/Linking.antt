@@ -2,7 +2,7 @@
 use Rattle.sled_pagecache.proofs.Names.{◌≡◌, ◌≢◌, ◌-◌, ◌^◌, ℕ, true, false, List, [], ◌∷◌, length, Result, Err, slice_set, ◌∙◌, ap, subst, arith, AllByRecursion, IfErr, Write, Refusal, Io, LogFull, Event, Change, Message, Chain, messages_of, effect_of_entry, IsSized, IsUpdate, Makes, now, message_of, Ghosts, Accepts, applied, WholeNode, chain_at, Went, IsCaused, IsOfLog, begun_by, Went-then, IsCaused-since, AppendsLink, TakesLink, RefusesAppended, HadNoRoom, HoldsChain, IsKept, is_free, is_resident, IsRaised, IsLinked, RefusesLink, update_of, link_update, linked_length, IsFreeOrNode, StickyLog, Kept, Page, NodeLink}
 use Rattle.sled_base.specs.declared.types.Refusal.TheVariants.{Unsupported}
 use Rattle.sled_log.specs.Contents as content
-use Rattle.sled_pagecache.specs.declared.pagecache.page.Kept.TheVariants as kept
+use Rattle.sled_pagecache.specs.declared.pagecache.table.page.Kept.TheVariants as kept
 
 module _ {L : Type 0} (g : Ghosts L) {old mid : StickyLog L} (new : StickyLog L) (pid : ℕ) (q : Page) {page : Page} (page_then : Page) (link : NodeLink)
     (went : Went g old mid []) (clear : mid.fault ≡ false) (same : g.tells → mid.fault ≡ false → now effect_of_entry (g.state mid.log) ≡ now effect_of_entry (g.state old.log))

@@ -12,7 +12,7 @@ use Rattle.sled_pagecache.specs.Inside.PageEntry.{IsKept}
 use Rattle.sled_pagecache.specs.Logged.{IsUsers}
 use Rattle.sled_pagecache.specs.State.{StampedPage}
 use Rattle.sled_pagecache.specs.Step.{is_reserved}
-use Rattle.sled_pagecache.specs.declared.pagecache.page.Page.{Page as KeptPage}
+use Rattle.sled_pagecache.specs.declared.pagecache.table.page.Page.{Page as KeptPage}
 use Rattle.std.proofs.Common.{List, None, Some, [], ap, arith, false, length, map, refl, slice_get, slice_index_or, slice_set, subst, suc, sym, zero, ℕ, ◌++◌, ◌+◌, ◌<◌, ◌∙◌, ◌∷◌, ◌≡◌, ◌≢◌, ◌≤◌}
 use Rattle.std.proofs.Math.ListN.{get_or-map}
 use Rattle.std.proofs.lemmas.Bool.{false≢true}

@@ -110,20 +110,20 @@ pub use Rattle.sled_pagecache.specs.Inside.Invariant.{AreOwn, IsBeside, IsConsis
 pub use Rattle.sled_pagecache.specs.State.{IsAnswered, Token, pid_of, stamp_of, token}
 pub use Rattle.sled_pagecache.specs.Inside.RecentUse.{AccessesNode, IsListedAt}
 pub use Rattle.sled_pagecache.proofs.Touched.{AllStay, FindsNode, LacksNodes, LosesAtMost, LosesNone, TakesNode, TakesPage}
-pub use Rattle.sled_pagecache.specs.declared.pagecache.accesses.Accesses.{Accesses}
-pub use Rattle.sled_pagecache.specs.declared.pagecache.call.Answer.TheVariants.{Allocated, Cancelled, Flushed, FoundRoot, Freed, Generated, Got, GotIdgen, GotMeta, Linked, Pinned, Replaced, RootSwapped, Sealed, Sized}
-pub use Rattle.sled_pagecache.specs.declared.pagecache.call.Answer.{Answer}
-pub use Rattle.sled_pagecache.specs.declared.pagecache.call.Call.TheVariants.{Allocate, CasRoot, Flush, GenerateId, Get, GetIdgen, GetMeta, MetaPidForName, Replace, SizeOnDisk}
-pub use Rattle.sled_pagecache.specs.declared.pagecache.page.CacheInfo.{CacheInfo}
-pub use Rattle.sled_pagecache.specs.declared.pagecache.call.Call.{Call}
-pub use Rattle.sled_pagecache.specs.declared.pagecache.config.Config.{Config}
-pub use Rattle.sled_pagecache.specs.declared.pagecache.sticky_log.StickyLog.{StickyLog}
-pub use Rattle.sled_pagecache.specs.declared.pagecache.judge.Rejection.TheVariants.{Gone, Refused, Stale}
-pub use Rattle.sled_pagecache.specs.declared.pagecache.judge.Rejection.{Rejection}
-pub use Rattle.sled_pagecache.specs.declared.pagecache.page.Kept.{Kept}
-pub use Rattle.sled_pagecache.specs.declared.pagecache.page.Page.{Page, Page as KeptPage}
-pub use Rattle.sled_pagecache.specs.declared.pagecache.reading.Found.{Found}
-pub use Rattle.sled_pagecache.specs.declared.pagecache.view.NodeView.{NodeView}
+pub use Rattle.sled_pagecache.specs.declared.pagecache.memory.accesses.Accesses.{Accesses}
+pub use Rattle.sled_pagecache.specs.declared.pagecache.handles.call.Answer.TheVariants.{Allocated, Cancelled, Flushed, FoundRoot, Freed, Generated, Got, GotIdgen, GotMeta, Linked, Pinned, Replaced, RootSwapped, Sealed, Sized}
+pub use Rattle.sled_pagecache.specs.declared.pagecache.handles.call.Answer.{Answer}
+pub use Rattle.sled_pagecache.specs.declared.pagecache.handles.call.Call.TheVariants.{Allocate, CasRoot, Flush, GenerateId, Get, GetIdgen, GetMeta, MetaPidForName, Replace, SizeOnDisk}
+pub use Rattle.sled_pagecache.specs.declared.pagecache.table.page.CacheInfo.{CacheInfo}
+pub use Rattle.sled_pagecache.specs.declared.pagecache.handles.call.Call.{Call}
+pub use Rattle.sled_pagecache.specs.declared.pagecache.handles.config.Config.{Config}
+pub use Rattle.sled_pagecache.specs.declared.pagecache.write.sticky_log.StickyLog.{StickyLog}
+pub use Rattle.sled_pagecache.specs.declared.pagecache.write.judge.Rejection.TheVariants.{Gone, Refused, Stale}
+pub use Rattle.sled_pagecache.specs.declared.pagecache.write.judge.Rejection.{Rejection}
+pub use Rattle.sled_pagecache.specs.declared.pagecache.table.page.Kept.{Kept}
+pub use Rattle.sled_pagecache.specs.declared.pagecache.table.page.Page.{Page, Page as KeptPage}
+pub use Rattle.sled_pagecache.specs.declared.pagecache.memory.reading.Found.{Found}
+pub use Rattle.sled_pagecache.specs.declared.pagecache.handles.view.NodeView.{NodeView}
 pub use Rattle.std.proofs.Common.{Bool, Bor, Equal, Err, Greater, Less, List, None, Ok, Option, Result, SFits, Some, [], add-one, ap, arith, below_more, cond, drop, eq-eqb, false, get_or, inl, inr, is_some, length, ltb, map, nat_lt, not, of_z, pos, refl, rules, set, slice_get, slice_index_or, slice_set, subst, suc, sym, take, to_z, true, vec_capacity, vec_len, w64, zero, zero-add, ℕ, ℤ, ⊎_elim, ◌%◌, ◌&&◌, ◌*◌, ◌++◌, ◌+◌, ◌-◌, ◌/◌, ◌<◌, ◌==◌, ◌^◌, ◌||◌, ◌∙◌, ◌∷◌, ◌≡◌, ◌≢◌, ◌≤◌, ◌⊎◌}
 pub use Rattle.std.proofs.Math.Dec.{eqb}
 pub use Rattle.std.proofs.Math.ListN.{get_or-map}
@@ -163,8 +163,8 @@ pub use Rattle.sled_node.specs.Meta.{IsRootMap, changed_roots, root_of, with_roo
 pub use Rattle.sled_pagecache.specs.Inside.CounterPage.{IsCounterIn, KeepsCounter}
 pub use Rattle.std.specs.BTreeMap.{is_at}
 pub use Rattle.std.specs.Set.{remove_key}
-pub use Rattle.sled_pagecache.specs.declared.pagecache.shape.Kind.{Kind}
-pub use Rattle.sled_pagecache.specs.declared.pagecache.shape.PageShape.{PageShape}
+pub use Rattle.sled_pagecache.specs.declared.pagecache.handles.shape.Kind.{Kind}
+pub use Rattle.sled_pagecache.specs.declared.pagecache.handles.shape.PageShape.{PageShape}
 pub use Rattle.sled_pagecache.specs.Trees.{EndsSwap, FindsTree, GoesOnOver, GoesOnWith, IsKnown, IsTreeOpened, MadeCalls, MakesTree, NamesRoot, OpensTree, PutsIndex, TellsTree, Touches, index_over, stamps_after, stamps_then}
 pub use Rattle.sled_pagecache.specs.Inside.Trees.{GoesOn, Looks}
 pub use Rattle.sled_pagecache.specs.Inside.Shapes.{shape_of_kept}

@@ -2,7 +2,7 @@
 use Rattle.sled_pagecache.proofs.Names.{◌≡◌, ℕ, cond, List, [], ◌∷◌, ◌++◌, length, map, sym, ◌∙◌, ap, eq-eqb, slice_set, slice_index_or, chains_from, Node, Put, Change, Chain, placed_entry, effect_of_entry, IsUpdate, message_of, WholeNode, HasOneMore, place_of, IsKept, CacheInfo, Page}
 use Rattle.std.proofs.Math.Seq.{get_or-append_seam}
 use Rattle.sled_pagecache.proofs.Swaps.{kept-put}
-use Rattle.sled_pagecache.specs.declared.pagecache.page.Kept.TheVariants as kept
+use Rattle.sled_pagecache.specs.declared.pagecache.table.page.Kept.TheVariants as kept
 
 -- the chain of the new page stands behind the others, and it is kept so
 pub made-new : (chains : List Chain) (pid : ℕ) → pid ≡ length chains → (after : List Chain) (node : WholeNode) (info : CacheInfo)

@@ -3,7 +3,7 @@ use Rattle.sled_pagecache.proofs.Names.{set-get_or, slice_index_or, zip-set, Rec
 use Rattle.sled_pagecache.proofs.InMemory.{stays-same, stays-then, set-others, set-none}
 use Rattle.sled_pagecache.proofs.Standing.{node-full}
 use Rattle.sled_pagecache.proofs.Tables.{free-same}
-use Rattle.sled_pagecache.specs.declared.pagecache.page.Kept.TheVariants as kept
+use Rattle.sled_pagecache.specs.declared.pagecache.table.page.Kept.TheVariants as kept
 
 -- ---- what a page holds then
 

@@ -12,7 +12,7 @@ use Rattle.sled_pagecache.proofs.InMemory.{stays-has, loses-none, stay-view, pas
 use Rattle.sled_pagecache.proofs.Putting.{blamed}
 use Rattle.sled_pagecache.proofs.Standing.{resident-add, one-short}
 use Rattle.sled_pagecache.proofs.Tables.{consistent-same, consistent-new, marks-begun, free-add}
-use Rattle.sled_pagecache.specs.declared.pagecache.page.Kept.TheVariants as kept
+use Rattle.sled_pagecache.specs.declared.pagecache.table.page.Kept.TheVariants as kept
 
 -- All that an allocation promises.
 abbrev pub PagePromises : {L : Type 0} → Ghosts L → Cache L → WholeNode → Cache L → Result (ℕ × Token) Error → Type 0

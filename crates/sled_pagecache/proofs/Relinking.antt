@@ -13,7 +13,7 @@ use Rattle.sled_pagecache.proofs.LinkTests.{refused-tests, taken-tests, refused-
 use Rattle.sled_pagecache.proofs.PagingIn.{page-own-at, stamps-same, reads-pulled}
 use Rattle.sled_pagecache.proofs.Putting.{blamed}
 use Rattle.sled_pagecache.specs.Inside.LinkWrites.{PutsLink}
-use Rattle.sled_pagecache.specs.declared.pagecache.call.Call.TheVariants as call
+use Rattle.sled_pagecache.specs.declared.pagecache.handles.call.Call.TheVariants as call
 
 -- All that a link promises.
 abbrev pub LinkPromises : {L : Type 0} → Ghosts L → Cache L → ℕ → Token → NodeLink → Cache L → Swapped NodeLink → Type 0

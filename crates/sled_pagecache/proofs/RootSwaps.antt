@@ -8,7 +8,7 @@ use Rattle.sled_pagecache.proofs.Putting.{blamed}
 use Rattle.sled_pagecache.proofs.RootsPage.{IsSwappable, root-refused, root-swapped}
 use Rattle.sled_pagecache.proofs.Standing.{one-short}
 use Rattle.sled_pagecache.proofs.Tables.{consistent-put-own, free-same}
-use Rattle.sled_pagecache.specs.declared.pagecache.page.Kept.TheVariants as kept
+use Rattle.sled_pagecache.specs.declared.pagecache.table.page.Kept.TheVariants as kept
 
 module _ {L : Type 0} (g : Ghosts L) {next : ℕ} {config : Config} {recovered : Bool} {before after : StickyLog L} {table pages : List Page} {free : List ℕ} {accesses between then : Accesses}
     (is : IsSettled g next config recovered before table free accesses) (clear : before.fault ≡ false) {name : Bytes} {old new : Option ℕ} {q page : Page} (swaps : IsSwappable table q name old new) where

@@ -7,7 +7,7 @@ use Rattle.sled_node.specs.Meta.{IsTooLong, LacksRoom, CanChange, root_of, chang
 use Rattle.sled_pagecache.proofs.Changing.{KnowsNow, steps-uncalled}
 use Rattle.sled_pagecache.proofs.CounterPage.{may-put, own-at}
 use Rattle.sled_pagecache.proofs.Putting.{MayPut, nothing-appended, put-refused, put-set, unless-clear}
-use Rattle.sled_pagecache.specs.declared.pagecache.page.Kept.TheVariants as kept
+use Rattle.sled_pagecache.specs.declared.pagecache.table.page.Kept.TheVariants as kept
 
 -- the page at id 0 of a cache's table keeps named roots
 pub keeps-roots : (table : List KeptPage) → AreOwn table → 2 ≤ length table → KeepsRoots table

@@ -181,11 +181,12 @@ module _ {L : Type 0} {g : Ghosts L} {old mid new : Cache L} {accesses between :
 
       accessed-bounded : ((its : ℕ) → HasNode new pid its → IsListed pid (rounded its) new.lru) → IsBounded g new
       accessed-bounded own = record {
-        listed = λ other its has. elim (eqb_tells other pid)
-            [ inl same ↦ subst (λ n. IsListed n (rounded its) new.lru) (sym same.1) (own its (subst (λ n. HasNode new n its) same.1 has))
-            | inr apart ↦ elim (others_stay_or_leave pid (rounded size) old.lru new.lru was.dropped was.is settles.bounded.sound.count other (rounded its) apart.1
-            (settles.bounded.listed other its (stays-has old mid other its (others other apart.1) (was.out.nodes other its has))))
-            [ inl listed ↦ listed | inr gone ↦ absurd (was.out.out other (Contains-append_left was.dropped lost other gone) its has) ] ];
+        listed = λ other its has. elim (eqb_tells other pid) [
+          | inl same ↦ subst (λ n. IsListed n (rounded its) new.lru) (sym same.1) (own its (subst (λ n. HasNode new n its) same.1 has))
+          | inr apart ↦ elim (others_stay_or_leave pid (rounded size) old.lru new.lru was.dropped was.is settles.bounded.sound.count other (rounded its) apart.1
+              (settles.bounded.listed other its (stays-has old mid other its (others other apart.1) (was.out.nodes other its has))))
+              [ inl listed ↦ listed | inr gone ↦ absurd (was.out.out other (Contains-append_left was.dropped lost other gone) its has) ]
+        ];
         sized = settles.sized;
         sound = was.sound;
         capacity = capacity was.is.capacity;
@@ -210,36 +211,41 @@ module _ {L : Type 0} {g : Ghosts L} {old mid new : Cache L} {accesses between :
 
     pub untaken : (error : Error) → LosesAtMost old accesses pid mid between g.tells error → (lost ≡ pid ∷ []) ⊎ ((lost ≡ []) × HasNoNode mid pid) → IsUntaken g old mid new pid error
     untaken error loses which = record {
-      bounded = elim loses.touched
-          [ inl same ↦ same-bounded same back
-          | inr it ↦ let was = drops it.0 it.1 in accessed-bounded it.0 was loses.others only (λ its has. absurd (no-node it.0 was its has)) ];
+      bounded = elim loses.touched [
+        | inl same ↦ same-bounded same back
+        | inr it ↦ let was = drops it.0 it.1 in accessed-bounded it.0 was loses.others only (λ its has. absurd (no-node it.0 was its has))
+      ];
       leaves = record {
-        others = elim loses.touched
-            [ inl same ↦ inr (record { lru = lru-same same; others = λ other apart. stay-new same other (loses.others other apart) })
-            | inr it ↦ inl (accessed-page it.0 (drops it.0 it.1) loses.others only) ];
+        others = elim loses.touched [
+          | inl same ↦ inr (record { lru = lru-same same; others = λ other apart. stay-new same other (loses.others other apart) })
+          | inr it ↦ inl (accessed-page it.0 (drops it.0 it.1) loses.others only)
+        ];
         unasked = λ told. elim (loses.unasked told) [ inl hindered ↦ inl hindered | inr stay ↦ inr (same-memory stay.1 stay.0) ];
       };
       stuck = λ kept is. same-all (loses.stuck kept) is;
     }
       where
         only : (other : ℕ) → Contains lost other → other ≡ pid
-        only other within = elim which
-            [ inl one ↦ elim (contains_cases pid [] other (subst (λ (l : List ℕ). Contains l other) one within)) [ inl same ↦ sym same | inr none ↦ absurd (contains_none other none) ]
-            | inr none ↦ absurd (contains_none other (subst (λ (l : List ℕ). Contains l other) none.0 within)) ]
+        only other within = elim which [
+          | inl one ↦ elim (contains_cases pid [] other (subst (λ (l : List ℕ). Contains l other) one within)) [ inl same ↦ sym same | inr none ↦ absurd (contains_none other none) ]
+          | inr none ↦ absurd (contains_none other (subst (λ (l : List ℕ). Contains l other) none.0 within))
+        ]
 
         no-node : (size : ℕ) → IsDropped size → HasNoNode new pid
-        no-node size was = elim which
-            [ inl one ↦ was.out.out pid (Contains-append_right was.dropped lost pid (subst (λ (l : List ℕ). Contains l pid) (sym one) (contains_first pid [])))
-            | inr none ↦ (λ its has. none.1 its (was.out.nodes pid its has)) ]
+        no-node size was = elim which [
+          | inl one ↦ was.out.out pid (Contains-append_right was.dropped lost pid (subst (λ (l : List ℕ). Contains l pid) (sym one) (contains_first pid [])))
+          | inr none ↦ (λ its has. none.1 its (was.out.nodes pid its has))
+        ]
 
         of : (its : ℕ) → StaysAt old mid pid ⊎ HasNoNode mid pid → HasNode mid pid its → HasNode old pid its
         of its (inl stays) at = stays-has old mid pid its stays at
         of its (inr none) at = absurd (none its at)
 
         back : (other its : ℕ) → HasNode mid other its → HasNode old other its
-        back other its has = elim (eqb_tells other pid)
-            [ inl same ↦ subst (λ n. HasNode old n its) (sym same.1) (of its loses.lost (subst (λ n. HasNode mid n its) same.1 has))
-            | inr apart ↦ stays-has old mid other its (loses.others other apart.1) has ]
+        back other its has = elim (eqb_tells other pid) [
+          | inl same ↦ subst (λ n. HasNode old n its) (sym same.1) (of its loses.lost (subst (λ n. HasNode mid n its) same.1 has))
+          | inr apart ↦ stays-has old mid other its (loses.others other apart.1) has
+        ]
 
 -- a page whose node lies in memory
 pub node-takes : {L : Type 0} (old mid : Cache L) (accesses between : Accesses) (pid : ℕ) → TakesNode old accesses pid mid between → TakesPage old accesses pid mid between

@@ -6,7 +6,7 @@ use Rattle.sled_pagecache.specs.Logged as proper
 use Rattle.sled_pagecache.specs.Shapes.{Shape, kind_at, shape_of_page, Shows}
 use Rattle.sled_pagecache.specs.Inside.Shapes.{shape_of_kept}
 use Rattle.sled_pagecache.specs.State.{StampedPage}
-use Rattle.sled_pagecache.specs.declared.pagecache.shape.PageShape.{PageShape}
+use Rattle.sled_pagecache.specs.declared.pagecache.handles.shape.PageShape.{PageShape}
 
 one-shape : (pid : ℕ) (p : StampedPage) (q : KeptPage) → proper.IsOwnAt pid p.content → IsOwnAt pid q.kept → IsKnown p q → shape_of_page p ≡ shape_of_kept q
 one-shape pid p q own kept_own known = grind arith

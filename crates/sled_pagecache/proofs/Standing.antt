@@ -3,7 +3,7 @@ use Rattle.sled_pagecache.proofs.Names.{◌≡◌, ◌≤◌, ◌<◌, ℕ, zero
 use Rattle.sled_pagecache.specs.Table as kept_table
 use Rattle.sled_pagecache.specs.Inside.PageEntry as kept
 use Rattle.sled_pagecache.specs.State.{StampedPage, is_free}
-use Rattle.sled_pagecache.specs.declared.pagecache.page.Kept.TheVariants as held
+use Rattle.sled_pagecache.specs.declared.pagecache.table.page.Kept.TheVariants as held
 
 -- ---- a chain is empty where what it makes is free
 

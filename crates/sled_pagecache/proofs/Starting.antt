@@ -11,7 +11,7 @@ use Rattle.sled_pagecache.proofs.Sizes.{sized-view}
 use Rattle.sled_pagecache.proofs.Tables.{went-chains}
 use Rattle.sled_pagecache.specs.Inside.Loading.{AreBeside}
 use Rattle.sled_pagecache.specs.State as state
-use Rattle.sled_pagecache.specs.declared.pagecache.page.Kept.TheVariants as kept
+use Rattle.sled_pagecache.specs.declared.pagecache.table.page.Kept.TheVariants as kept
 
 -- ---- a system page that is made
 

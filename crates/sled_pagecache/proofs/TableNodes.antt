@@ -2,7 +2,7 @@
 pub use Rattle.sled_pagecache.specs.Inside.Eviction.{cache_of as view}
 use Rattle.sled_pagecache.proofs.Names.{Recency, ◌≡◌, ◌≤◌, inl, inr, ℕ, Bool, false, List, [], length, Some, None, slice_get, refl, sym, ◌∙◌, ap, subst, arith, false≢true, get_or_past, AllZip-long, Chain, messages_of, effect_of_entry, Makes, one_content, Ghosts, WholeNode, Cache, chain_at, HoldsChain, IsKept, is_resident, IsNodeAt, IsConsistent, Token, token, Config, StickyLog, Kept, Page, NodeView, Counter, Roots, Node, now, map-at, kept-at}
 use Rattle.sled_pagecache.proofs.Standing.{node-full}
-use Rattle.sled_pagecache.specs.declared.pagecache.page.Kept.TheVariants as kept
+use Rattle.sled_pagecache.specs.declared.pagecache.table.page.Kept.TheVariants as kept
 
 module _ {L : Type 0} (g : Ghosts L) (next : ℕ) (config : Config) (recovered : Bool) (lru : Recency) (sticky_log : StickyLog L) (pages : List Page) (free : List ℕ) (pid : ℕ)
     (is : IsConsistent g.tells g.state sticky_log pages free) where

@@ -4,7 +4,7 @@ use Rattle.sled_base.specs.declared.types.Error.{Error}
 use Rattle.sled_pagecache.specs.Inside.PageEntry.{WasAccessed, IsTouched}
 use Rattle.sled_pagecache.specs.Cache.{Cache}
 use Rattle.sled_pagecache.specs.Memory.{HasNode, HasNoNode, StaysAt, IsHindrance}
-use Rattle.sled_pagecache.specs.declared.pagecache.accesses.Accesses.{Accesses}
+use Rattle.sled_pagecache.specs.declared.pagecache.memory.accesses.Accesses.{Accesses}
 
 -- no node lies in memory
 abbrev pub LacksNodes : {L : Type 0} → Cache L → Type 0

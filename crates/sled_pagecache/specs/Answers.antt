@@ -18,7 +18,7 @@ use Rattle.sled_pagecache.specs.Logged.{Logged, IsLogged}
 use Rattle.sled_pagecache.specs.Step.{Swapped, is_reserved}
 use Rattle.sled_base.specs.declared.types.Refusal.TheVariants.{Unsupported, ReportableBug}
 use Rattle.sled_log.specs.LogState.{unplaced_state}
-use Rattle.sled_pagecache.specs.declared.pagecache.page.Kept.TheVariants.{Counter, Node}
+use Rattle.sled_pagecache.specs.declared.pagecache.table.page.Kept.TheVariants.{Counter, Node}
 use Rattle.sled_pagecache.specs.Memory.{AccessesPage}
 
 -- The error owns no name. Only the question for the root of a name is answered by one that does.

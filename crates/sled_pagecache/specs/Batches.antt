@@ -10,17 +10,17 @@ use Rattle.sled_log.specs.Contents.{Update}
 use Rattle.sled_log.specs.Events.{Event}
 use Rattle.sled_pagecache.specs.Calls.{Steps, IsBlamed}
 use Rattle.sled_pagecache.specs.Memory.{KeepsMemory, ReadsNothing}
-use Rattle.sled_pagecache.specs.declared.pagecache.call.Answer.{Answer}
-use Rattle.sled_pagecache.specs.declared.pagecache.call.Answer.TheVariants.{Pinned, Sealed, Cancelled}
-use Rattle.sled_pagecache.specs.declared.pagecache.call.Call.{Call}
-use Rattle.sled_pagecache.specs.declared.pagecache.call.Call.TheVariants.{Pin, Seal, Cancel}
-use Rattle.sled_pagecache.specs.declared.pagecache.sticky_log.Closing.{Closing}
-use Rattle.sled_pagecache.specs.declared.pagecache.sticky_log.Closing.TheVariants as closings
+use Rattle.sled_pagecache.specs.declared.pagecache.handles.call.Answer.{Answer}
+use Rattle.sled_pagecache.specs.declared.pagecache.handles.call.Answer.TheVariants.{Pinned, Sealed, Cancelled}
+use Rattle.sled_pagecache.specs.declared.pagecache.handles.call.Call.{Call}
+use Rattle.sled_pagecache.specs.declared.pagecache.handles.call.Call.TheVariants.{Pin, Seal, Cancel}
+use Rattle.sled_pagecache.specs.declared.pagecache.write.sticky_log.Closing.{Closing}
+use Rattle.sled_pagecache.specs.declared.pagecache.write.sticky_log.Closing.TheVariants as closings
 use Rattle.std.specs.Borrow.{Fml, RattleType, MutBor, RestsIfErr, Lends}
 use mir.Syntax.{named}
-use Rattle.sled_pagecache.specs.declared.pagecache.guard.RecoveryGuard.{RecoveryGuard}
+use Rattle.sled_pagecache.specs.declared.pagecache.cache.guard.RecoveryGuard.{RecoveryGuard}
 use Rattle.sled_pagecache.specs.contracts.pagecache.cache.PageCache as cache
-use Rattle.sled_pagecache.specs.contracts.pagecache.guard.RecoveryGuard as guard
+use Rattle.sled_pagecache.specs.contracts.pagecache.cache.guard.RecoveryGuard as guard
 use Rattle.std.specs.List.{AllByRecursion}
 use Rattle.sled_log.specs.Contents.{Content}
 use Rattle.sled_pagecache.specs.Logged.{Logged}

@@ -8,7 +8,7 @@ use Rattle.sled_log.specs.LogState as log
 use Rattle.sled_log.specs.declared.log.Log.{Ghosts}
 use Rattle.sled_pagecache.specs.Logged.{Logged, IsLogged, now}
 use Rattle.sled_pagecache.specs.State.{State, contents_of, stamps_of}
-use Rattle.sled_pagecache.specs.declared.pagecache.config.Config.{Config}
+use Rattle.sled_pagecache.specs.declared.pagecache.handles.config.Config.{Config}
 
 -- the chain of a page
 abbrev pub chain_at : log.LogState Entry → ℕ → Chain

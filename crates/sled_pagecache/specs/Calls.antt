@@ -14,8 +14,8 @@ use Rattle.sled_pagecache.specs.Cache.{Cache, chain_length, Represents}
 use Rattle.sled_pagecache.specs.Logged.{Logged, Adds, IsLeft}
 use Rattle.sled_pagecache.specs.State.{State}
 use Rattle.sled_pagecache.specs.Step.{Outcome, Step}
-use Rattle.sled_pagecache.specs.declared.pagecache.call.Answer.{Answer}
-use Rattle.sled_pagecache.specs.declared.pagecache.call.Call.{Call}
+use Rattle.sled_pagecache.specs.declared.pagecache.handles.call.Answer.{Answer}
+use Rattle.sled_pagecache.specs.declared.pagecache.handles.call.Call.{Call}
 
 -- what stays while a cache is open: its settings, and whether the system pages were found
 pub record IsSameOpening {L : Type 0} (old new : Cache L) : Type 0 where

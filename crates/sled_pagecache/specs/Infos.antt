@@ -1,7 +1,7 @@
 -- Where a page keeps the messages that make it, and their stamps.
 use Rattle.std.specs.Prelude.{◌≡◌, ℕ, zero, suc, ℤ, [], ◌-◌, List, ◌∷◌, length, map, slice_get, Some}
 use Rattle.sled_base.specs.declared.types.DiskPtr.{DiskPtr}
-use Rattle.sled_pagecache.specs.declared.pagecache.page.CacheInfo.{CacheInfo}
+use Rattle.sled_pagecache.specs.declared.pagecache.table.page.CacheInfo.{CacheInfo}
 
 -- the place of a message, as its page keeps it
 abbrev pub place_of : CacheInfo → ℤ × DiskPtr × ℕ

@@ -2,9 +2,9 @@
 use Rattle.std.specs.Prelude.{ℕ, slice_set, ◌≡◌, false, ⊤, Option, Some, None, Result, Ok, Err, IsOk, OnErr, IfOk, IfSome, MatchOption}
 use Rattle.std.specs.Borrow.{Lends, MutBor, Fml, RattleType, follows_so}
 use Rattle.sled_pagecache.specs.Table.{TableView}
-use Rattle.sled_pagecache.specs.declared.pagecache.page.Page.{Page}
-use Rattle.sled_pagecache.specs.contracts.pagecache.page.Page.{the_row as page_row}
-use Rattle.sled_pagecache.specs.contracts.pagecache.pagetable.PageTable.{the_row as table_row}
+use Rattle.sled_pagecache.specs.declared.pagecache.table.page.Page.{Page}
+use Rattle.sled_pagecache.specs.contracts.pagecache.table.page.Page.{the_row as page_row}
+use Rattle.sled_pagecache.specs.contracts.pagecache.table.pagetable.PageTable.{the_row as table_row}
 use mathlib.Core.Option.{none}
 use Rattle.sled_base.specs.Errors.{error_of}
 use Rattle.sled_base.specs.declared.types.Error.{Error}
@@ -19,10 +19,10 @@ use Rattle.sled_pagecache.specs.Damage.{MeetsDamage, ReportsDamage}
 use Rattle.sled_pagecache.specs.Memory.{IsBounded, KeepsMemory, AccessesPage, ReadsPage}
 use Rattle.sled_pagecache.specs.Step.{is_reserved}
 use Rattle.sled_pagecache.specs.State.{Token}
-use Rattle.sled_pagecache.specs.declared.pagecache.call.Answer.TheVariants.{Got}
-use Rattle.sled_pagecache.specs.declared.pagecache.call.Call.TheVariants.{Get}
-use Rattle.sled_pagecache.specs.declared.pagecache.view.MetaView.{MetaView}
-use Rattle.sled_pagecache.specs.declared.pagecache.view.NodeView.{NodeView}
+use Rattle.sled_pagecache.specs.declared.pagecache.handles.call.Answer.TheVariants.{Got}
+use Rattle.sled_pagecache.specs.declared.pagecache.handles.call.Call.TheVariants.{Get}
+use Rattle.sled_pagecache.specs.declared.pagecache.handles.view.MetaView.{MetaView}
+use Rattle.sled_pagecache.specs.declared.pagecache.handles.view.NodeView.{NodeView}
 use Rattle.sled_pagecache.specs.contracts.pagecache.cache.PageCache.{the_row}
 
 -- the table with another page at the id

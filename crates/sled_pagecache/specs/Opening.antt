@@ -5,7 +5,7 @@ use Rattle.sled_base.specs.declared.types.Why.TheVariants.{CapacityTooSmall, Int
 use Rattle.sled_log.specs.Contents.{Content, Counter, Roots, Update, Put}
 use Rattle.sled_log.specs.Events.{Event, Change, is_open}
 use Rattle.sled_pagecache.specs.State.{page, State}
-use Rattle.sled_pagecache.specs.declared.pagecache.config.Config.{Config}
+use Rattle.sled_pagecache.specs.declared.pagecache.handles.config.Config.{Config}
 use Rattle.sled_base.specs.declared.types.Device.TheVariants.{Read, Write}
 use Rattle.sled_base.specs.declared.types.DiskPtr.{DiskPtr}
 use Rattle.sled_base.specs.declared.types.Error.{Error}

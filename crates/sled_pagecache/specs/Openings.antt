@@ -10,10 +10,10 @@ use Rattle.sled_pagecache.specs.Cache.{Cache}
 use Rattle.sled_pagecache.specs.Reopening.{HoldsCrash, Started}
 use Rattle.sled_pagecache.specs.Rows.{IsMade, AreMade}
 use Rattle.sled_pagecache.specs.Opening.{MayBeOpened, log_after, stable_state}
-use Rattle.sled_pagecache.specs.declared.pagecache.call.Answer.{Answer}
-use Rattle.sled_pagecache.specs.declared.pagecache.call.Answer.TheVariants.{Generated}
-use Rattle.sled_pagecache.specs.declared.pagecache.call.Call.{Call}
-use Rattle.sled_pagecache.specs.declared.pagecache.config.Config.{Config}
+use Rattle.sled_pagecache.specs.declared.pagecache.handles.call.Answer.{Answer}
+use Rattle.sled_pagecache.specs.declared.pagecache.handles.call.Answer.TheVariants.{Generated}
+use Rattle.sled_pagecache.specs.declared.pagecache.handles.call.Call.{Call}
+use Rattle.sled_pagecache.specs.declared.pagecache.handles.config.Config.{Config}
 
 -- How an opening ends: by a crash between two calls, by a crash inside a call, which would have been answered so, or by handing its
 -- log on.

@@ -6,9 +6,9 @@ use Rattle.sled_log.specs.Events.{Event}
 use Rattle.sled_pagecache.specs.Opening.{changes_of_start, opened_state, has_own}
 use Rattle.sled_pagecache.specs.Reopening.{AreAfterPrefix, RefusesReopening}
 use Rattle.sled_pagecache.specs.Step.{Outcome}
-use Rattle.sled_pagecache.specs.declared.pagecache.call.Answer.{Answer}
-use Rattle.sled_pagecache.specs.declared.pagecache.call.Answer.TheVariants.{Flushed, Generated}
-use Rattle.sled_pagecache.specs.declared.pagecache.call.Call.{Call}
+use Rattle.sled_pagecache.specs.declared.pagecache.handles.call.Answer.{Answer}
+use Rattle.sled_pagecache.specs.declared.pagecache.handles.call.Answer.TheVariants.{Flushed, Generated}
+use Rattle.sled_pagecache.specs.declared.pagecache.handles.call.Call.{Call}
 use Rattle.sled_base.specs.declared.types.Error.{Error}
 use Rattle.sled_base.specs.declared.types.Error.TheVariants.{Unsupported}
 use Rattle.sled_base.specs.declared.types.Why.TheVariants.{LogFull}
@@ -19,7 +19,7 @@ use Rattle.sled_pagecache.specs.Calls.{StepOver}
 use Rattle.sled_pagecache.specs.Openings.{Ending, Crashed, CrashedIn, HandedOn, Opening, Refused, Lasted}
 use Rattle.sled_pagecache.specs.Rows.{AreSteps, IsInState, IsMade}
 use Rattle.sled_pagecache.specs.State.{State, contents_of}
-use Rattle.sled_pagecache.specs.declared.pagecache.config.Config.{Config}
+use Rattle.sled_pagecache.specs.declared.pagecache.handles.config.Config.{Config}
 
 -- The pages as the last crash left them, the changes that were made since, in order, how many of those are flushed, and the changes
 -- that had begun when a write failed. Marks of batches count as changes.

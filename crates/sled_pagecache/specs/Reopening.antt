@@ -11,13 +11,13 @@ use Rattle.sled_log.specs.declared.log.Log.{Ghosts}
 use Rattle.sled_pagecache.specs.Cache.{Cache, Represents}
 use Rattle.sled_pagecache.specs.Logged.{Logged, IsLogged}
 use Rattle.sled_pagecache.specs.Opening.{fault_of, opened_state, Opens, stable_state, stable_contents}
-use Rattle.sled_pagecache.specs.declared.pagecache.config.Config.{Config}
+use Rattle.sled_pagecache.specs.declared.pagecache.handles.config.Config.{Config}
 use Rattle.sled_pagecache.specs.Calls.{Steps}
 use Rattle.sled_pagecache.specs.Rows.{AreSteps, changes_of}
 use Rattle.sled_pagecache.specs.State.{State, page, contents_of}
 use Rattle.sled_pagecache.specs.Step.{Outcome}
-use Rattle.sled_pagecache.specs.declared.pagecache.call.Answer.{Answer}
-use Rattle.sled_pagecache.specs.declared.pagecache.call.Call.{Call}
+use Rattle.sled_pagecache.specs.declared.pagecache.handles.call.Answer.{Answer}
+use Rattle.sled_pagecache.specs.declared.pagecache.handles.call.Call.{Call}
 
 -- These are the pages after a prefix of the changes: all that was durable, and then a prefix of what was pending and of what was
 -- begun, which splits no batch.

@@ -6,9 +6,9 @@ use Rattle.sled_log.specs.declared.log.Log.{Ghosts}
 use Rattle.sled_pagecache.specs.Logged.{AllById, Logged}
 use Rattle.sled_pagecache.specs.Cache.{Cache, Represents}
 use Rattle.sled_pagecache.specs.State.{StampedPage, State}
-use Rattle.sled_pagecache.specs.declared.pagecache.shape.Kind.{Kind}
-use Rattle.sled_pagecache.specs.declared.pagecache.shape.Kind.TheVariants as kinds
-use Rattle.sled_pagecache.specs.declared.pagecache.shape.PageShape.{PageShape}
+use Rattle.sled_pagecache.specs.declared.pagecache.handles.shape.Kind.{Kind}
+use Rattle.sled_pagecache.specs.declared.pagecache.handles.shape.Kind.TheVariants as kinds
+use Rattle.sled_pagecache.specs.declared.pagecache.handles.shape.PageShape.{PageShape}
 
 -- the stamp and the kind of each page, the next generated id, and whether a write fault is kept
 pub record Shape : Type 0 where

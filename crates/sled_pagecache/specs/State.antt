@@ -1,6 +1,6 @@
 -- What a page cache is: a list of stamped pages, the next generated id, whether a batch is open, and a kept write fault.
 use Rattle.std.specs.Prelude.{◌≡◌, ◌≢◌, ◌+◌, ℕ, List, Option, Some, None, Result, Ok, Err, slice_get, ⊤, Bool, true, false, [], ◌∷◌, map, slice_set, if◌then◌else◌}
-use Rattle.sled_pagecache.specs.declared.pagecache.view.PageView.{PageView}
+use Rattle.sled_pagecache.specs.declared.pagecache.handles.view.PageView.{PageView}
 use Rattle.sled_log.specs.Contents.{Content, Free, Counter, Roots, Node, Damaged}
 
 abbrev pub Token : Type 0

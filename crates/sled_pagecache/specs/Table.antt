@@ -3,9 +3,9 @@ use Rattle.std.specs.Prelude.{◌≡◌, Bool, true, false, List, ◌∷◌, map
 use Rattle.sled_base.specs.declared.types.page_state.PageState.{PageState}
 use Rattle.sled_base.specs.declared.types.page_state.PageState.TheVariants as said
 use Rattle.sled_pagecache.specs.Infos.{place_of, place_of_freeing}
-use Rattle.sled_pagecache.specs.declared.pagecache.page.Kept.{Kept}
-use Rattle.sled_pagecache.specs.declared.pagecache.page.Kept.TheVariants.{Free, Away, Counter, Roots, Node}
-use Rattle.sled_pagecache.specs.declared.pagecache.page.Page.{Page}
+use Rattle.sled_pagecache.specs.declared.pagecache.table.page.Kept.{Kept}
+use Rattle.sled_pagecache.specs.declared.pagecache.table.page.Kept.TheVariants.{Free, Away, Counter, Roots, Node}
+use Rattle.sled_pagecache.specs.declared.pagecache.table.page.Page.{Page}
 
 abbrev pub is_free : Kept → Bool
 is_free Free = true

@@ -18,10 +18,10 @@ use Rattle.sled_pagecache.specs.Memory.{AccessesPage, KeepsMemory, EvictsAtMost,
 use Rattle.sled_pagecache.specs.Rows.{AreMade, StepInRow}
 use Rattle.sled_pagecache.specs.State.{State, Token}
 use Rattle.sled_pagecache.specs.Step.{RootSwap}
-use Rattle.sled_pagecache.specs.declared.pagecache.call.Answer.{Answer}
-use Rattle.sled_pagecache.specs.declared.pagecache.call.Answer.TheVariants.{Allocated, GotMeta, RootSwapped}
-use Rattle.sled_pagecache.specs.declared.pagecache.call.Call.{Call}
-use Rattle.sled_pagecache.specs.declared.pagecache.call.Call.TheVariants.{Allocate, GetMeta, CasRoot}
+use Rattle.sled_pagecache.specs.declared.pagecache.handles.call.Answer.{Answer}
+use Rattle.sled_pagecache.specs.declared.pagecache.handles.call.Answer.TheVariants.{Allocated, GotMeta, RootSwapped}
+use Rattle.sled_pagecache.specs.declared.pagecache.handles.call.Call.{Call}
+use Rattle.sled_pagecache.specs.declared.pagecache.handles.call.Call.TheVariants.{Allocate, GetMeta, CasRoot}
 
 -- calls that were made, each with its answer
 abbrev pub MadeCalls : Type 0

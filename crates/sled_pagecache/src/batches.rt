@@ -9,10 +9,10 @@ ghost use Rattle.sled_pagecache.specs.Logged.{Logged};
 ghost use Rattle.sled_pagecache.specs.Reopening.{CrashReopens};
 ghost use Rattle.sled_pagecache.specs.Rows.{IsMade};
 ghost use Rattle.sled_pagecache.specs.State.{State};
-ghost use Rattle.sled_pagecache.specs.declared.pagecache.call.Answer.{Answer};
-ghost use Rattle.sled_pagecache.specs.declared.pagecache.call.Answer.TheVariants.{Sealed, Cancelled, Flushed};
-ghost use Rattle.sled_pagecache.specs.declared.pagecache.call.Call.{Call};
-ghost use Rattle.sled_pagecache.specs.declared.pagecache.call.Call.TheVariants.{Seal, Cancel, Flush};
+ghost use Rattle.sled_pagecache.specs.declared.pagecache.handles.call.Answer.{Answer};
+ghost use Rattle.sled_pagecache.specs.declared.pagecache.handles.call.Answer.TheVariants.{Sealed, Cancelled, Flushed};
+ghost use Rattle.sled_pagecache.specs.declared.pagecache.handles.call.Call.{Call};
+ghost use Rattle.sled_pagecache.specs.declared.pagecache.handles.call.Call.TheVariants.{Seal, Cancel, Flush};
 
 use sled_log::Log;
 

@@ -9,8 +9,8 @@ ghost use Rattle.sled_pagecache.specs.Logged.{Logged};
 ghost use Rattle.sled_pagecache.specs.Opening.{opened_state};
 ghost use Rattle.sled_pagecache.specs.Rows.{StepInRow};
 ghost use Rattle.sled_pagecache.specs.State.{State};
-ghost use Rattle.sled_pagecache.specs.declared.pagecache.call.Answer.{Answer};
-ghost use Rattle.sled_pagecache.specs.declared.pagecache.call.Call.{Call};
+ghost use Rattle.sled_pagecache.specs.declared.pagecache.handles.call.Answer.{Answer};
+ghost use Rattle.sled_pagecache.specs.declared.pagecache.handles.call.Call.{Call};
 
 use crate::pagecache::{Config, PageCache};
 use crate::rows::calls_in_a_row_are_steps;

@@ -15,9 +15,9 @@ ghost use Rattle.sled_pagecache.specs.Rows.{AreSteps, StepInRow, changes_of};
 ghost use Rattle.sled_pagecache.specs.Opening.{Opens, log_after, stable_state, stable_contents};
 ghost use Rattle.sled_pagecache.specs.State.{State};
 ghost use Rattle.sled_pagecache.specs.Step.{Outcome};
-ghost use Rattle.sled_pagecache.specs.declared.pagecache.call.Answer.{Answer};
-ghost use Rattle.sled_pagecache.specs.declared.pagecache.call.Call.{Call};
-ghost use Rattle.sled_pagecache.specs.declared.pagecache.config.Config.{Config};
+ghost use Rattle.sled_pagecache.specs.declared.pagecache.handles.call.Answer.{Answer};
+ghost use Rattle.sled_pagecache.specs.declared.pagecache.handles.call.Call.{Call};
+ghost use Rattle.sled_pagecache.specs.declared.pagecache.handles.config.Config.{Config};
 ghost use Rattle.sled_base.specs.declared.types.Error.{Error};
 
 use crate::pagecache::{

@@ -4,8 +4,8 @@ ghost use Rattle.std.specs.Prelude.{List, [], ◌∷◌, ◌++◌};
 ghost use Rattle.sled_pagecache.specs.Cache.{Cache};
 ghost use Rattle.sled_pagecache.specs.Calls.{Steps};
 ghost use Rattle.sled_pagecache.specs.Rows.{StepInRow, AreMade};
-ghost use Rattle.sled_pagecache.specs.declared.pagecache.call.Answer.{Answer};
-ghost use Rattle.sled_pagecache.specs.declared.pagecache.call.Call.{Call};
+ghost use Rattle.sled_pagecache.specs.declared.pagecache.handles.call.Answer.{Answer};
+ghost use Rattle.sled_pagecache.specs.declared.pagecache.handles.call.Call.{Call};
 
 use sled_log::Log;
 

@@ -16,11 +16,11 @@ use Rattle.sled_pagecache.specs.Rows.{AreSteps, IsMade}
 use Rattle.sled_pagecache.specs.State.{State, greatest_free}
 use Rattle.sled_pagecache.specs.Step.{Outcome}
 use Rattle.sled_pagecache.specs.State.{Token}
-use Rattle.sled_pagecache.specs.declared.pagecache.call.Answer.{Answer}
-use Rattle.sled_pagecache.specs.declared.pagecache.call.Answer.TheVariants.{Allocated, Flushed}
-use Rattle.sled_pagecache.specs.declared.pagecache.call.Call.{Call}
-use Rattle.sled_pagecache.specs.declared.pagecache.call.Call.TheVariants.{Allocate, Flush}
-use Rattle.sled_pagecache.specs.declared.pagecache.config.Config.{Config}
+use Rattle.sled_pagecache.specs.declared.pagecache.handles.call.Answer.{Answer}
+use Rattle.sled_pagecache.specs.declared.pagecache.handles.call.Answer.TheVariants.{Allocated, Flushed}
+use Rattle.sled_pagecache.specs.declared.pagecache.handles.call.Call.{Call}
+use Rattle.sled_pagecache.specs.declared.pagecache.handles.call.Call.TheVariants.{Allocate, Flush}
+use Rattle.sled_pagecache.specs.declared.pagecache.handles.config.Config.{Config}
 
 -- a page was added, and all was flushed
 abbrev pub calls_of : WholeNode → ℕ × Token → ℕ → List (Call × Answer)

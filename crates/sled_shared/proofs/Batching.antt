@@ -9,10 +9,10 @@ use Rattle.sled_pagecache.specs.Inside.MadeLaws.{cancel-made, pin-made, seal-mad
 use Rattle.sled_pagecache.specs.Inside.SequenceLaws.{made-more}
 use Rattle.sled_pagecache.specs.Rows.{AreMade, IsMade}
 use Rattle.sled_pagecache.specs.Trees.{MadeCalls}
-use Rattle.sled_pagecache.specs.declared.pagecache.call.Answer.{Answer}
-use Rattle.sled_pagecache.specs.declared.pagecache.call.Answer.TheVariants.{Pinned, Sealed, Cancelled}
-use Rattle.sled_pagecache.specs.declared.pagecache.call.Call.{Call}
-use Rattle.sled_pagecache.specs.declared.pagecache.call.Call.TheVariants.{Pin, Seal, Cancel}
+use Rattle.sled_pagecache.specs.declared.pagecache.handles.call.Answer.{Answer}
+use Rattle.sled_pagecache.specs.declared.pagecache.handles.call.Answer.TheVariants.{Pinned, Sealed, Cancelled}
+use Rattle.sled_pagecache.specs.declared.pagecache.handles.call.Call.{Call}
+use Rattle.sled_pagecache.specs.declared.pagecache.handles.call.Call.TheVariants.{Pin, Seal, Cancel}
 use Rattle.sled_shared.specs.Calls.{AreSwaps, IsBatch, answer_of, call_of, refusal_of}
 use Rattle.sled_shared.specs.Kept.{swap_ended, swaps_ended}
 use Rattle.sled_shared.specs.declared.calls.Swap.{Swap}

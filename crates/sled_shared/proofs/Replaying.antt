@@ -24,15 +24,15 @@ use Rattle.sled_pagecache.specs.State.{StampedPage, State, page, page_at, is_fre
 use Rattle.sled_pagecache.specs.Step.{AddsPage, Allocates, Does, Fails, Frees, Generates, HoldsCounter, HoldsRoots, IsCounterAnd, AreRoots, Links, LinksContent, Outcome, Pins, PutsCounter, PutsRoots, Replaces, ReusesPage, RootSwap, SetsRoot, Step, Swapped, Swaps, SwapsContent, SwapsPage, SwapsRoot, interval_start, is_reserved, no_change, with_next_id}
 use Rattle.sled_pagecache.specs.State.{Token}
 use Rattle.sled_pagecache.specs.Trees.{IsKnown, MadeCalls}
-use Rattle.sled_pagecache.specs.declared.pagecache.call.Answer.{Answer}
-use Rattle.sled_pagecache.specs.declared.pagecache.call.Answer.TheVariants.{Allocated, Got, Linked, Replaced, Freed, GotMeta, GotIdgen, Generated, Flushed, Sized, FoundRoot, RootSwapped, Pinned, Sealed, Cancelled}
-use Rattle.sled_pagecache.specs.declared.pagecache.call.Call.{Call}
-use Rattle.sled_pagecache.specs.declared.pagecache.call.Call.TheVariants.{Allocate, Get, Link, Replace, GetMeta, GetIdgen, GenerateId, Flush, SizeOnDisk, MetaPidForName, CasRoot}
-use Rattle.sled_pagecache.specs.declared.pagecache.call.Call.TheVariants as call
-use Rattle.sled_pagecache.specs.declared.pagecache.config.Config.{Config}
-use Rattle.sled_pagecache.specs.declared.pagecache.shape.Kind.{Kind}
-use Rattle.sled_pagecache.specs.declared.pagecache.shape.Kind.TheVariants as kinds
-use Rattle.sled_pagecache.specs.declared.pagecache.shape.PageShape.{PageShape}
+use Rattle.sled_pagecache.specs.declared.pagecache.handles.call.Answer.{Answer}
+use Rattle.sled_pagecache.specs.declared.pagecache.handles.call.Answer.TheVariants.{Allocated, Got, Linked, Replaced, Freed, GotMeta, GotIdgen, Generated, Flushed, Sized, FoundRoot, RootSwapped, Pinned, Sealed, Cancelled}
+use Rattle.sled_pagecache.specs.declared.pagecache.handles.call.Call.{Call}
+use Rattle.sled_pagecache.specs.declared.pagecache.handles.call.Call.TheVariants.{Allocate, Get, Link, Replace, GetMeta, GetIdgen, GenerateId, Flush, SizeOnDisk, MetaPidForName, CasRoot}
+use Rattle.sled_pagecache.specs.declared.pagecache.handles.call.Call.TheVariants as call
+use Rattle.sled_pagecache.specs.declared.pagecache.handles.config.Config.{Config}
+use Rattle.sled_pagecache.specs.declared.pagecache.handles.shape.Kind.{Kind}
+use Rattle.sled_pagecache.specs.declared.pagecache.handles.shape.Kind.TheVariants as kinds
+use Rattle.sled_pagecache.specs.declared.pagecache.handles.shape.PageShape.{PageShape}
 use Rattle.sled_shared.proofs.Ids.{book_rises}
 use Rattle.sled_shared.specs.Book.{Book, AreEntries, AreRounds, RisesWithin, any_room, book, ids_of, RunsCalls, Runs}
 use Rattle.sled_shared.specs.Calls.{Entry}

@@ -9,8 +9,8 @@ use Rattle.sled_pagecache.specs.Cache.{Cache}
 use Rattle.sled_pagecache.specs.Inside.SequenceLaws.{OnlyNow, made-row, made-then}
 use Rattle.sled_pagecache.specs.Rows.{AreMade, IsMade}
 use Rattle.sled_pagecache.specs.Trees.{MadeCalls}
-use Rattle.sled_pagecache.specs.declared.pagecache.call.Answer.{Answer}
-use Rattle.sled_pagecache.specs.declared.pagecache.call.Call.{Call}
+use Rattle.sled_pagecache.specs.declared.pagecache.handles.call.Answer.{Answer}
+use Rattle.sled_pagecache.specs.declared.pagecache.handles.call.Call.{Call}
 use Rattle.sled_shared.specs.Book.{book, AreEntries}
 use Rattle.sled_shared.specs.Calls.{Answered, Asked, Entry, IsEntry, IsRefusal, Reply, Request, entry}
 use Rattle.sled_shared.specs.Held.{Held, held, IsSound, IsBookOf, with_entry, calls_of, is_full, IsEntered, IsLeftOut, Serves, Counts}

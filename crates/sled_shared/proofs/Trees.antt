@@ -9,8 +9,8 @@ use Rattle.sled_pagecache.specs.Rows.{AreMade}
 use Rattle.sled_pagecache.specs.Step.{RootSwap}
 use Rattle.sled_pagecache.specs.State.{Token}
 use Rattle.sled_pagecache.specs.Trees.{AreCallsOf, EndsSwap, GoesOnOver, GoesOnWith, IsTreeOpened, MadeCalls, NamesRoot, OpensTree, PutsIndex}
-use Rattle.sled_pagecache.specs.declared.pagecache.call.Answer.TheVariants.{GotMeta}
-use Rattle.sled_pagecache.specs.declared.pagecache.call.Call.TheVariants.{GetMeta}
+use Rattle.sled_pagecache.specs.declared.pagecache.handles.call.Answer.TheVariants.{GotMeta}
+use Rattle.sled_pagecache.specs.declared.pagecache.handles.call.Call.TheVariants.{GetMeta}
 
 module _ (found_another : Type 0) (name : Bytes) (result : Result ℕ Error) where
   ends : (root : ℕ) (answer : RootSwap) → EndsSwap found_another name result root answer → EndsSwap ⊤ name result root answer

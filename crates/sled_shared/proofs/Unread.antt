@@ -12,8 +12,8 @@ use Rattle.sled_pagecache.specs.Rows.{IsMade}
 use Rattle.sled_pagecache.specs.State.{StampedPage, State, page_at}
 use Rattle.sled_pagecache.specs.Step.{Finds, FindsContent, Gets, Outcome, is_reserved}
 use Rattle.sled_pagecache.specs.State.{Token}
-use Rattle.sled_pagecache.specs.declared.pagecache.call.Answer.TheVariants.{Got}
-use Rattle.sled_pagecache.specs.declared.pagecache.call.Call.TheVariants.{Get}
+use Rattle.sled_pagecache.specs.declared.pagecache.handles.call.Answer.TheVariants.{Got}
+use Rattle.sled_pagecache.specs.declared.pagecache.handles.call.Call.TheVariants.{Get}
 use Rattle.sled_shared.proofs.Replaying.{both}
 
 unread-gets : (s : State) (pid : ℕ) (found : Token × WholeNode) (out : Outcome) → Gets s pid (Ok (Some found)) out → Gets s pid (Err error.OutOfMemory) out

@@ -6,9 +6,9 @@ use Rattle.sled_pagecache.specs.Shapes.{Shape, shape_of}
 use Rattle.sled_pagecache.specs.State.{State}
 use Rattle.sled_pagecache.specs.Step.{Outcome, Step}
 use Rattle.sled_pagecache.specs.Trees.{MadeCalls}
-use Rattle.sled_pagecache.specs.declared.pagecache.call.Answer.{Answer}
-use Rattle.sled_pagecache.specs.declared.pagecache.call.Answer.TheVariants.{Generated}
-use Rattle.sled_pagecache.specs.declared.pagecache.call.Call.{Call}
+use Rattle.sled_pagecache.specs.declared.pagecache.handles.call.Answer.{Answer}
+use Rattle.sled_pagecache.specs.declared.pagecache.handles.call.Answer.TheVariants.{Generated}
+use Rattle.sled_pagecache.specs.declared.pagecache.handles.call.Call.{Call}
 use Rattle.sled_shared.specs.Calls.{Answered, Entry, IsEntry, Reply}
 
 -- how many calls the books before it have, the shape in which it opened, and the calls with their answers

@@ -7,10 +7,10 @@ use Rattle.sled_base.specs.declared.types.Error.{Error}
 use Rattle.sled_base.specs.declared.types.Refusal.{Refusal}
 use Rattle.sled_pagecache.specs.Batches.{with_pin}
 use Rattle.sled_pagecache.specs.Trees.{MadeCalls, AreCallsOf}
-use Rattle.sled_pagecache.specs.declared.pagecache.call.Answer.{Answer}
-use Rattle.sled_pagecache.specs.declared.pagecache.call.Answer.TheVariants.{Allocated, Got, Linked, Replaced, Freed, FoundRoot, RootSwapped, Generated, Flushed, Pinned, Sealed, Cancelled}
-use Rattle.sled_pagecache.specs.declared.pagecache.call.Call.{Call}
-use Rattle.sled_pagecache.specs.declared.pagecache.call.Call.TheVariants as call
+use Rattle.sled_pagecache.specs.declared.pagecache.handles.call.Answer.{Answer}
+use Rattle.sled_pagecache.specs.declared.pagecache.handles.call.Answer.TheVariants.{Allocated, Got, Linked, Replaced, Freed, FoundRoot, RootSwapped, Generated, Flushed, Pinned, Sealed, Cancelled}
+use Rattle.sled_pagecache.specs.declared.pagecache.handles.call.Call.{Call}
+use Rattle.sled_pagecache.specs.declared.pagecache.handles.call.Call.TheVariants as call
 use Rattle.sled_shared.specs.declared.calls.Swap.{Swap}
 use Rattle.sled_shared.specs.declared.calls.Swap.TheVariants as swap
 use Rattle.sled_shared.specs.declared.calls.SwapAnswer.{SwapAnswer}

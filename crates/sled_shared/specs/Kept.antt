@@ -8,8 +8,8 @@ use Rattle.sled_base.specs.declared.types.Error.TheVariants.{CollectionNotFound}
 use Rattle.sled_base.specs.declared.types.Refusal.{Refusal}
 use Rattle.sled_node.specs.Node.{WholeNode}
 use Rattle.sled_pagecache.specs.State.{Token, token}
-use Rattle.sled_pagecache.specs.declared.pagecache.call.Answer.TheVariants.{Allocated, Got, Linked, Replaced, Freed, FoundRoot, RootSwapped, Generated, Flushed}
-use Rattle.sled_pagecache.specs.declared.pagecache.call.Call.TheVariants as call
+use Rattle.sled_pagecache.specs.declared.pagecache.handles.call.Answer.TheVariants.{Allocated, Got, Linked, Replaced, Freed, FoundRoot, RootSwapped, Generated, Flushed}
+use Rattle.sled_pagecache.specs.declared.pagecache.handles.call.Call.TheVariants as call
 use Rattle.sled_shared.specs.Calls.{Entry, entry, Asked, OpenTree, Batch, Answered, Opened, Batched}
 use Rattle.sled_shared.specs.declared.calls.Swap.{Swap}
 use Rattle.sled_shared.specs.declared.calls.Swap.TheVariants as swap

@@ -2,8 +2,8 @@
 
 ghost use Rattle.std.specs.Prelude.{◌≡◌, IfOk, IsSome};
 ghost use Rattle.sled_pagecache.specs.Rows.{IsMade};
-ghost use Rattle.sled_pagecache.specs.declared.pagecache.call.Answer.TheVariants.{Got};
-ghost use Rattle.sled_pagecache.specs.declared.pagecache.call.Call.TheVariants.{Get};
+ghost use Rattle.sled_pagecache.specs.declared.pagecache.handles.call.Answer.TheVariants.{Got};
+ghost use Rattle.sled_pagecache.specs.declared.pagecache.handles.call.Call.TheVariants.{Get};
 ghost use Rattle.sled_shared.specs.Kept.{node_kept};
 
 use crate::entry::{Kept, RootSwap};

@@ -5,7 +5,7 @@ ghost use Rattle.sled_base.specs.declared.types.Error.TheVariants.{OutOfMemory};
 ghost use Rattle.sled_pagecache.specs.State.{pid_of};
 ghost use Rattle.sled_pagecache.specs.Trees.{IsKnown};
 ghost use Rattle.sled_shared.specs.Book.{IsLegal};
-ghost use Rattle.sled_pagecache.specs.declared.pagecache.call.Answer.TheVariants.{Allocated, Got, Linked, Replaced, Freed, FoundRoot, RootSwapped, Generated, Flushed};
+ghost use Rattle.sled_pagecache.specs.declared.pagecache.handles.call.Answer.TheVariants.{Allocated, Got, Linked, Replaced, Freed, FoundRoot, RootSwapped, Generated, Flushed};
 ghost use Rattle.sled_shared.specs.Calls.{Answered, Batched, Opened, batched};
 ghost use Rattle.sled_shared.specs.Held.{Counts, IsBookOf, ReplaysIn, calls_of};
 

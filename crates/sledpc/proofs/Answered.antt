@@ -13,8 +13,8 @@ use Rattle.sled_pagecache.specs.Rows.{StepInRow, AreMade}
 use Rattle.sled_pagecache.specs.Step.{RootSwap}
 use Rattle.sled_pagecache.specs.State.{Token}
 use Rattle.sled_pagecache.specs.Trees.{EndsSwap, GoesOnOver, GoesOnWith, IsKnown, OpensTree}
-use Rattle.sled_pagecache.specs.declared.pagecache.call.Answer.{Answer}
-use Rattle.sled_pagecache.specs.declared.pagecache.call.Call.{Call}
+use Rattle.sled_pagecache.specs.declared.pagecache.handles.call.Answer.{Answer}
+use Rattle.sled_pagecache.specs.declared.pagecache.handles.call.Call.{Call}
 use Rattle.sledpc.specs.Lines.{lines_of}
 use Rattle.sledpc.specs.Output.{AppendsPrefix, Gathered}
 use Rattle.sledpc.specs.Runs.{Served, Nothing, Made, Opened, Marked, AsksFor, AskFor, Answers, Ends, reply_to, text_of, calls_by, calls_of, is_open_after, is_open_behind}

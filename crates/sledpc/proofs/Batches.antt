@@ -13,8 +13,8 @@ use Rattle.sled_pagecache.specs.Inside.MadeLaws.{pin-made}
 use Rattle.sled_pagecache.specs.Inside.SequenceLaws.{OnlyNow, made-then, row-one, row-then}
 use Rattle.sled_pagecache.specs.Rows.{IsMade, StepInRow, AreMade}
 use Rattle.sled_pagecache.specs.Trees.{IsKnown}
-use Rattle.sled_pagecache.specs.declared.pagecache.call.Answer.TheVariants.{Cancelled}
-use Rattle.sled_pagecache.specs.declared.pagecache.call.Call.TheVariants.{Cancel}
+use Rattle.sled_pagecache.specs.declared.pagecache.handles.call.Answer.TheVariants.{Cancelled}
+use Rattle.sled_pagecache.specs.declared.pagecache.handles.call.Call.TheVariants.{Cancel}
 use Rattle.sledpc.specs.Commands.{MayMark, mark_word}
 use Rattle.sledpc.specs.declared.script.command.Mark.{Mark}
 use Rattle.sledpc.specs.declared.script.command.Mark.TheVariants as mark

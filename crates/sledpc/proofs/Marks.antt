@@ -2,8 +2,8 @@
 use Rattle.std.proofs.Common.{◌≡◌, ◌≢◌, ℕ, None, ◌∷◌, ap, arith, codes, get_or, rules, refl, false}
 use Rattle.sled_base.specs.Order.{Bytes}
 use Rattle.sled_node.specs.declared.node.link.Link.TheVariants.{ChildMergeCap}
-use Rattle.sled_pagecache.specs.declared.pagecache.call.Call.{Call}
-use Rattle.sled_pagecache.specs.declared.pagecache.call.Call.TheVariants.{Link}
+use Rattle.sled_pagecache.specs.declared.pagecache.handles.call.Call.{Call}
+use Rattle.sled_pagecache.specs.declared.pagecache.handles.call.Call.TheVariants.{Link}
 use Rattle.sledpc.specs.Asked.{AsksBehind}
 use Rattle.sledpc.specs.Commands.{IsCommand, MayAsk, MayMark, mark_word}
 use Rattle.sledpc.specs.Words.{BeginsLine}

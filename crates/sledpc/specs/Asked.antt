@@ -5,7 +5,7 @@ use Rattle.std.specs.List.{join_with_byte}
 use Rattle.sled_base.specs.Order.{Bytes}
 use Rattle.sled_node.specs.Node.{WholeNode}
 use Rattle.sled_pagecache.specs.State.{Token, pid_of, stamp_of}
-use Rattle.sled_pagecache.specs.declared.pagecache.call.Call.{Call}
+use Rattle.sled_pagecache.specs.declared.pagecache.handles.call.Call.{Call}
 use Rattle.sledpc.specs.Commands.{Asks, IsLeafOf, IsRootNumber, IsToken, root_word}
 use Rattle.sledpc.specs.Words.{after_name, HasNoSpace, EncodePairs}
 

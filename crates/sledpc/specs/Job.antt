@@ -7,7 +7,7 @@ use Rattle.sled_log.specs.declared.memory.MemLog.{MemLog}
 use Rattle.sled_pagecache.specs.Cache.{Cache, Represents}
 use Rattle.sled_pagecache.specs.Logged.{Logged}
 use Rattle.sled_pagecache.specs.Opening.{opened_state}
-use Rattle.sled_pagecache.specs.declared.pagecache.config.Config.{Config}
+use Rattle.sled_pagecache.specs.declared.pagecache.handles.config.Config.{Config}
 use Rattle.sledpc.specs.declared.program.Job.{Job}
 use Rattle.sledpc.specs.declared.program.Job.TheVariants as job
 

@@ -1,7 +1,7 @@
 -- The answers that are lent to a reply, as answers.
 use Rattle.sled_pagecache.specs.Lending.{lent_answer}
-use Rattle.sled_pagecache.specs.declared.pagecache.call.Answer.{Answer}
-use Rattle.sled_pagecache.specs.declared.pagecache.call.Answer.TheVariants.{Allocated, Got, Linked, Replaced, Freed, FoundRoot, RootSwapped, Generated, Flushed, Sized}
+use Rattle.sled_pagecache.specs.declared.pagecache.handles.call.Answer.{Answer}
+use Rattle.sled_pagecache.specs.declared.pagecache.handles.call.Answer.TheVariants.{Allocated, Got, Linked, Replaced, Freed, FoundRoot, RootSwapped, Generated, Flushed, Sized}
 use Rattle.sledpc.specs.declared.script.reply.LentAnswer.{LentAnswer}
 use Rattle.sledpc.specs.declared.script.reply.LentAnswer.TheVariants as lent
 

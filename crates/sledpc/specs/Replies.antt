@@ -9,8 +9,8 @@ use Rattle.sled_base.specs.declared.types.Error.TheVariants.{CollectionNotFound,
 use Rattle.sled_node.specs.Node.{Item, Value, Child, WholeNode}
 use Rattle.sled_pagecache.specs.State.{stamp_of}
 use Rattle.sled_pagecache.specs.Step.{Swapped}
-use Rattle.sled_pagecache.specs.declared.pagecache.call.Answer.{Answer}
-use Rattle.sled_pagecache.specs.declared.pagecache.call.Answer.TheVariants.{Allocated, Got, Linked, Replaced, Freed, GotMeta, FoundRoot, RootSwapped, GotIdgen, Generated, Flushed, Sized, Pinned, Sealed, Cancelled}
+use Rattle.sled_pagecache.specs.declared.pagecache.handles.call.Answer.{Answer}
+use Rattle.sled_pagecache.specs.declared.pagecache.handles.call.Answer.TheVariants.{Allocated, Got, Linked, Replaced, Freed, GotMeta, FoundRoot, RootSwapped, GotIdgen, Generated, Flushed, Sized, Pinned, Sealed, Cancelled}
 use Rattle.sledpc.specs.Words.{bytes_word}
 
 abbrev pub error_text : Error → Bytes

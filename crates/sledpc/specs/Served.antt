@@ -6,10 +6,10 @@ use Rattle.sled_log.specs.declared.log.Log.{Ghosts}
 use Rattle.sled_pagecache.specs.Cache.{Cache}
 use Rattle.sled_pagecache.specs.Rows.{IsMade, AreMade, StepInRow}
 use Rattle.sled_pagecache.specs.Trees.{IsKnown, IsTreeOpened}
-use Rattle.sled_pagecache.specs.declared.pagecache.call.Answer.{Answer}
-use Rattle.sled_pagecache.specs.declared.pagecache.call.Answer.TheVariants.{Pinned, Cancelled}
-use Rattle.sled_pagecache.specs.declared.pagecache.call.Call.{Call}
-use Rattle.sled_pagecache.specs.declared.pagecache.call.Call.TheVariants.{Pin, Cancel}
+use Rattle.sled_pagecache.specs.declared.pagecache.handles.call.Answer.{Answer}
+use Rattle.sled_pagecache.specs.declared.pagecache.handles.call.Answer.TheVariants.{Pinned, Cancelled}
+use Rattle.sled_pagecache.specs.declared.pagecache.handles.call.Call.{Call}
+use Rattle.sled_pagecache.specs.declared.pagecache.handles.call.Call.TheVariants.{Pin, Cancel}
 use Rattle.sledpc.specs.Commands.{mark_word}
 use Rattle.sledpc.specs.Lines.{lines_of}
 use Rattle.sledpc.specs.Output.{AppendsPrefix, Gathered, Gathers}

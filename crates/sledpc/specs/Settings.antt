@@ -1,6 +1,6 @@
 -- The numbers of the program.
 use Rattle.std.specs.Prelude.{ℕ, Result, Ok, Err}
-use Rattle.sled_pagecache.specs.declared.pagecache.config.Config.{Config}
+use Rattle.sled_pagecache.specs.declared.pagecache.handles.config.Config.{Config}
 
 -- the settings of every cache that the program opens
 abbrev pub settings : Config

@@ -16,10 +16,10 @@ use Rattle.sled_pagecache.specs.Cache.{chain_at}
 use Rattle.sled_pagecache.specs.Limits.{most_pages}
 use Rattle.sled_pagecache.specs.Inside.StickyLog.{Went, IsCaused, IsOfLog, begun_by}
 use Rattle.sled_pagecache.specs.Inside.PageWrites.{IsRaised, RefusesSwap, content_of}
-use Rattle.sled_pagecache.specs.declared.pagecache.accesses.Accesses.{Accesses}
-use Rattle.sled_pagecache.specs.declared.pagecache.page.Kept.{Kept}
-use Rattle.sled_pagecache.specs.declared.pagecache.page.Page.{Page}
-use Rattle.sled_pagecache.specs.declared.pagecache.sticky_log.StickyLog.{StickyLog}
+use Rattle.sled_pagecache.specs.declared.pagecache.memory.accesses.Accesses.{Accesses}
+use Rattle.sled_pagecache.specs.declared.pagecache.table.page.Kept.{Kept}
+use Rattle.sled_pagecache.specs.declared.pagecache.table.page.Page.{Page}
+use Rattle.sled_pagecache.specs.declared.pagecache.write.sticky_log.StickyLog.{StickyLog}
 
 module _ {L : Type 0} (g : Ghosts L) (pid : ℕ) (update : Update) (old new : StickyLog L) (accesses then : Accesses) where
   -- The update was appended. The page was accessed, and is kept at its next stamp, by this message alone; the others stay.

@@ -2,8 +2,8 @@
 use Rattle.std.specs.Prelude.{◌≡◌, ℕ, List, Some, slice_get}
 use Rattle.sled_pagecache.specs.Limits.{counter_pid}
 use Rattle.sled_pagecache.specs.State.{Token, token}
-use Rattle.sled_pagecache.specs.declared.pagecache.page.Kept.TheVariants.{Counter}
-use Rattle.sled_pagecache.specs.declared.pagecache.page.Page.{Page}
+use Rattle.sled_pagecache.specs.declared.pagecache.table.page.Kept.TheVariants.{Counter}
+use Rattle.sled_pagecache.specs.declared.pagecache.table.page.Page.{Page}
 
 -- the counter is kept on its page
 abbrev pub KeepsCounter : List Page → Type 0

@@ -6,17 +6,17 @@ use Rattle.sled_base.specs.declared.types.Error.{Error}
 use Rattle.sled_base.specs.declared.types.Refusal.{Refusal}
 use Rattle.sled_pagecache.specs.State.{Token}
 use Rattle.sled_pagecache.specs.Step.{Swapped}
-use Rattle.sled_pagecache.specs.declared.pagecache.page.Kept.{Kept}
-use Rattle.sled_pagecache.specs.declared.pagecache.page.Kept.TheVariants.{Free, Away, Counter, Roots, Node}
-use Rattle.sled_pagecache.specs.declared.pagecache.page.Page.{Page}
+use Rattle.sled_pagecache.specs.declared.pagecache.table.page.Kept.{Kept}
+use Rattle.sled_pagecache.specs.declared.pagecache.table.page.Kept.TheVariants.{Free, Away, Counter, Roots, Node}
+use Rattle.sled_pagecache.specs.declared.pagecache.table.page.Page.{Page}
 use Rattle.sled_base.specs.Lru.{Recency}
 use Rattle.sled_log.specs.declared.log.Log.{Ghosts}
 use Rattle.sled_pagecache.specs.Cache.{Cache}
 use Rattle.sled_pagecache.specs.Inside.Invariant.{IsWhole, stamps_in, resident_in, nodes_in}
 use Rattle.sled_pagecache.specs.Memory.{IsBounded}
-use Rattle.sled_pagecache.specs.declared.pagecache.accesses.Accesses.{Accesses}
-use Rattle.sled_pagecache.specs.declared.pagecache.config.Config.{Config}
-use Rattle.sled_pagecache.specs.declared.pagecache.sticky_log.StickyLog.{StickyLog}
+use Rattle.sled_pagecache.specs.declared.pagecache.memory.accesses.Accesses.{Accesses}
+use Rattle.sled_pagecache.specs.declared.pagecache.handles.config.Config.{Config}
+use Rattle.sled_pagecache.specs.declared.pagecache.write.sticky_log.StickyLog.{StickyLog}
 
 -- what a page holds once its node was let go
 abbrev pub kept_behind_eviction : Kept → Kept

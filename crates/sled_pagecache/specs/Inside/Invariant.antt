@@ -9,10 +9,10 @@ use Rattle.sled_log.specs.LogState as log
 use Rattle.sled_pagecache.specs.Logged.{AllById, FitsId}
 use Rattle.sled_pagecache.specs.Inside.PageEntry.{IsKept, is_resident, free_ids, node_access_size}
 use Rattle.sled_pagecache.specs.Limits.{most_messages, most_pages, counter_pid}
-use Rattle.sled_pagecache.specs.declared.pagecache.sticky_log.StickyLog.{StickyLog}
-use Rattle.sled_pagecache.specs.declared.pagecache.page.Kept.{Kept}
-use Rattle.sled_pagecache.specs.declared.pagecache.page.Kept.TheVariants.{Free, Away, Counter, Roots, Node}
-use Rattle.sled_pagecache.specs.declared.pagecache.page.Page.{Page}
+use Rattle.sled_pagecache.specs.declared.pagecache.write.sticky_log.StickyLog.{StickyLog}
+use Rattle.sled_pagecache.specs.declared.pagecache.table.page.Kept.{Kept}
+use Rattle.sled_pagecache.specs.declared.pagecache.table.page.Kept.TheVariants.{Free, Away, Counter, Roots, Node}
+use Rattle.sled_pagecache.specs.declared.pagecache.table.page.Page.{Page}
 use Rattle.sled_pagecache.specs.Step.{interval_start}
 
 abbrev pub stamps_in : List Page → List ℕ

@@ -27,10 +27,10 @@ use Rattle.sled_pagecache.specs.Step.{link_update}
 use Rattle.sled_pagecache.specs.Inside.PageWrites.{IsLinked, IsRaised, RefusesLink, update_of}
 use Rattle.sled_pagecache.specs.Answers.{linked_length}
 use Rattle.sled_pagecache.specs.Inside.Invariant.{IsFreeOrNode}
-use Rattle.sled_pagecache.specs.declared.pagecache.accesses.Accesses.{Accesses}
-use Rattle.sled_pagecache.specs.declared.pagecache.sticky_log.StickyLog.{StickyLog}
-use Rattle.sled_pagecache.specs.declared.pagecache.page.Kept.TheVariants as kept
-use Rattle.sled_pagecache.specs.declared.pagecache.page.Page.{Page}
+use Rattle.sled_pagecache.specs.declared.pagecache.memory.accesses.Accesses.{Accesses}
+use Rattle.sled_pagecache.specs.declared.pagecache.write.sticky_log.StickyLog.{StickyLog}
+use Rattle.sled_pagecache.specs.declared.pagecache.table.page.Kept.TheVariants as kept
+use Rattle.sled_pagecache.specs.declared.pagecache.table.page.Page.{Page}
 
 -- a link was applied to the node of a page that lies in memory, or that was refused
 module _ {L : Type 0} (g : Ghosts L) (old : StickyLog L) (pid : ℕ) (page : Page) (link : NodeLink) (new : StickyLog L) (accesses then : Accesses) (page_then : Page) where

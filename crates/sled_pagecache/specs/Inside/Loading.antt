@@ -17,10 +17,10 @@ use Rattle.sled_pagecache.specs.Infos.{place_of_freeing}
 use Rattle.sled_pagecache.specs.State.{stamps_of}
 use Rattle.sled_pagecache.specs.Inside.Invariant.{IsRoots, AreOwn}
 use Rattle.sled_pagecache.specs.Limits.{most_messages, most_pages}
-use Rattle.sled_pagecache.specs.declared.pagecache.config.Config.{Config}
-use Rattle.sled_pagecache.specs.declared.pagecache.page.Kept.{Kept}
-use Rattle.sled_pagecache.specs.declared.pagecache.page.Kept.TheVariants.{Free, Away, Counter}
-use Rattle.sled_pagecache.specs.declared.pagecache.page.Page.{Page}
+use Rattle.sled_pagecache.specs.declared.pagecache.handles.config.Config.{Config}
+use Rattle.sled_pagecache.specs.declared.pagecache.table.page.Kept.{Kept}
+use Rattle.sled_pagecache.specs.declared.pagecache.table.page.Kept.TheVariants.{Free, Away, Counter}
+use Rattle.sled_pagecache.specs.declared.pagecache.table.page.Page.{Page}
 
 -- a page that was recovered, with the places of its messages
 pub record IsLoaded (chain : Chain) (page : Page) : Type 0 where

@@ -8,8 +8,8 @@ use Rattle.sled_pagecache.specs.Batches.{CancelsBatch, OpensBatch, SealsBatch}
 use Rattle.sled_pagecache.specs.Cache.{Cache}
 use Rattle.sled_pagecache.specs.Calls.{IsBlamed, Steps}
 use Rattle.sled_pagecache.specs.Rows.{CoversId, IsMade, ReportsBytes}
-use Rattle.sled_pagecache.specs.declared.pagecache.call.Answer.TheVariants.{Pinned, Sealed, Cancelled, Generated, Flushed, Sized}
-use Rattle.sled_pagecache.specs.declared.pagecache.call.Call.TheVariants.{Pin, Seal, Cancel, GenerateId, Flush, SizeOnDisk}
+use Rattle.sled_pagecache.specs.declared.pagecache.handles.call.Answer.TheVariants.{Pinned, Sealed, Cancelled, Generated, Flushed, Sized}
+use Rattle.sled_pagecache.specs.declared.pagecache.handles.call.Call.TheVariants.{Pin, Seal, Cancel, GenerateId, Flush, SizeOnDisk}
 
 module _ {L : Type 0} (g : Ghosts L) (old new : Cache L) where
   opened : (answer : Result (Unit {0}) Error) → OnOk answer ((old.batch ≡ false) × (new.batch ≡ true)) → OnOk answer (new.batch ≡ true)

@@ -8,8 +8,8 @@ use Rattle.sled_node.specs.Node.{WholeNode}
 use Rattle.sled_pagecache.specs.Inside.StickyLog.{IsOfLog}
 use Rattle.sled_pagecache.specs.Inside.PageEntry.{IsKept}
 use Rattle.sled_pagecache.specs.Limits.{most_pages}
-use Rattle.sled_pagecache.specs.declared.pagecache.page.Kept.TheVariants.{Node}
-use Rattle.sled_pagecache.specs.declared.pagecache.page.Page.{Page}
+use Rattle.sled_pagecache.specs.declared.pagecache.table.page.Kept.TheVariants.{Node}
+use Rattle.sled_pagecache.specs.declared.pagecache.table.page.Page.{Page}
 
 -- Behind the pages there is one more. It holds the node at stamp 1, and is kept as its chain says.
 pub record HasOneMore (tells : Type 0) (before after : List Page) (chain : Chain) (node : WholeNode) : Type 0 where

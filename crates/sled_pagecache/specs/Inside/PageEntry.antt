@@ -1,7 +1,7 @@
 -- How the cache keeps a page, beside the chain that the log has of it.
 use Rattle.std.specs.Prelude.{◌≡◌, ◌⊎◌, ◌^◌, ℕ, min, IsSomeAnd, ◌+◌, nat_lt, Bool, true, false, List, [], ◌∷◌, length, map, Option, Some, None, if◌then◌else◌}
 use Rattle.sled_base.specs.Lru.{IsAccessed, IsSound, rounded}
-use Rattle.sled_pagecache.specs.declared.pagecache.accesses.Accesses.{Accesses}
+use Rattle.sled_pagecache.specs.declared.pagecache.memory.accesses.Accesses.{Accesses}
 use Rattle.std.specs.List.{sum_by}
 use Rattle.sled_log.specs.Chains.{is_empty}
 use Rattle.sled_log.specs.Contents as content
@@ -11,10 +11,10 @@ use Rattle.sled_log.specs.Reading.{Makes}
 use Rattle.sled_log.specs.Limits.{head_size}
 use Rattle.sled_pagecache.specs.Infos.{place_of}
 use Rattle.sled_pagecache.specs.Limits.{most_messages}
-use Rattle.sled_pagecache.specs.declared.pagecache.page.CacheInfo.{CacheInfo}
-use Rattle.sled_pagecache.specs.declared.pagecache.page.Kept.{Kept}
-use Rattle.sled_pagecache.specs.declared.pagecache.page.Kept.TheVariants.{Free, Away, Counter, Roots, Node}
-use Rattle.sled_pagecache.specs.declared.pagecache.page.Page.{Page}
+use Rattle.sled_pagecache.specs.declared.pagecache.table.page.CacheInfo.{CacheInfo}
+use Rattle.sled_pagecache.specs.declared.pagecache.table.page.Kept.{Kept}
+use Rattle.sled_pagecache.specs.declared.pagecache.table.page.Kept.TheVariants.{Free, Away, Counter, Roots, Node}
+use Rattle.sled_pagecache.specs.declared.pagecache.table.page.Page.{Page}
 use Rattle.sled_pagecache.specs.Table.{is_free}
 
 -- no page is accessed with more

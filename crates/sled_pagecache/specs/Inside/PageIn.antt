@@ -3,7 +3,7 @@ use Rattle.std.specs.Prelude.{◌≡◌, ◌≤◌, ℕ, [], List, ◌∷◌, �
 use Rattle.sled_base.specs.declared.types.DiskPtr.{DiskPtr}
 use Rattle.sled_log.specs.Messages.{Entry, Chain, effect_of_entry, Message, messages_of, message}
 use Rattle.sled_log.specs.Pages.{IsRead}
-use Rattle.sled_pagecache.specs.declared.pagecache.reading.Found.{Found}
+use Rattle.sled_pagecache.specs.declared.pagecache.memory.reading.Found.{Found}
 use Rattle.sled_base.specs.declared.kinds.MessageKind.TheVariants as kinds
 use Rattle.sled_base.specs.declared.types.Bug.TheVariants.{FreeInPull}
 use Rattle.sled_base.specs.declared.types.Refusal.{Refusal}
@@ -24,11 +24,11 @@ use Rattle.sled_pagecache.specs.Table.{is_free}
 use Rattle.sled_pagecache.specs.Inside.Invariant.{IsFreeOrNode}
 use Rattle.sled_pagecache.specs.Inside.PageEntry.{IsKept, is_resident}
 use Rattle.sled_pagecache.specs.Inside.StickyLog.{IsCaused, Went}
-use Rattle.sled_pagecache.specs.declared.pagecache.page.Page.{Page}
+use Rattle.sled_pagecache.specs.declared.pagecache.table.page.Page.{Page}
 use Rattle.sled_pagecache.specs.Step.{is_reserved}
 use Rattle.sled_pagecache.specs.State.{token}
-use Rattle.sled_pagecache.specs.declared.pagecache.sticky_log.StickyLog.{StickyLog}
-use Rattle.sled_pagecache.specs.declared.pagecache.view.NodeView.{NodeView}
+use Rattle.sled_pagecache.specs.declared.pagecache.write.sticky_log.StickyLog.{StickyLog}
+use Rattle.sled_pagecache.specs.declared.pagecache.handles.view.NodeView.{NodeView}
 
 -- what a reader of an entry found: its kind, or that of its blob, its payload, and where it is kept
 abbrev pub IsFoundAs : Entry → Found → Type 0

@@ -2,8 +2,8 @@
 use Rattle.std.specs.Prelude.{◌≡◌, ℕ, IfSome, MatchOption, ◌⊎◌}
 use Rattle.sled_base.specs.Lru.{Recency, IsListed, rounded}
 use Rattle.sled_pagecache.specs.Inside.PageEntry.{WasAccessed, node_access_size}
-use Rattle.sled_pagecache.specs.declared.pagecache.accesses.Accesses.{Accesses}
-use Rattle.sled_pagecache.specs.declared.pagecache.page.Page.{Page}
+use Rattle.sled_pagecache.specs.declared.pagecache.memory.accesses.Accesses.{Accesses}
+use Rattle.sled_pagecache.specs.declared.pagecache.table.page.Page.{Page}
 use Rattle.sled_pagecache.specs.Cache.{Cache}
 use Rattle.sled_pagecache.specs.Memory.{AccessesPage, HasNoNode, HasNode, KeepsMemory}
 

@@ -7,10 +7,10 @@ use Rattle.sled_log.specs.Limits.{head_size}
 use Rattle.sled_pagecache.specs.Logged.{AllById}
 use Rattle.sled_pagecache.specs.Limits.{most_messages}
 use Rattle.sled_pagecache.specs.Table.{is_free}
-use Rattle.sled_pagecache.specs.declared.pagecache.page.CacheInfo.{CacheInfo}
-use Rattle.sled_pagecache.specs.declared.pagecache.page.Kept.{Kept}
-use Rattle.sled_pagecache.specs.declared.pagecache.page.Kept.TheVariants.{Free, Away}
-use Rattle.sled_pagecache.specs.declared.pagecache.page.Page.{Page}
+use Rattle.sled_pagecache.specs.declared.pagecache.table.page.CacheInfo.{CacheInfo}
+use Rattle.sled_pagecache.specs.declared.pagecache.table.page.Kept.{Kept}
+use Rattle.sled_pagecache.specs.declared.pagecache.table.page.Kept.TheVariants.{Free, Away}
+use Rattle.sled_pagecache.specs.declared.pagecache.table.page.Page.{Page}
 
 -- the place of a recovered message, as its page keeps it
 abbrev pub info_at : ℤ × DiskPtr × ℕ → CacheInfo

@@ -14,12 +14,12 @@ use Rattle.sled_node.specs.Meta.{IsTooLong, LacksRoom, CanChange, root_of}
 use Rattle.sled_pagecache.specs.Inside.PageEntry.{WasAccessed, IsTouched, capped_size}
 use Rattle.sled_pagecache.specs.Limits.{meta_pid}
 use Rattle.sled_pagecache.specs.Inside.PageWrites.{WritesMessage}
-use Rattle.sled_pagecache.specs.declared.pagecache.accesses.Accesses.{Accesses}
-use Rattle.sled_pagecache.specs.declared.pagecache.page.CacheInfo.{CacheInfo}
-use Rattle.sled_pagecache.specs.declared.pagecache.page.Kept.TheVariants.{Roots}
-use Rattle.sled_pagecache.specs.declared.pagecache.page.Page.{Page}
-use Rattle.sled_pagecache.specs.declared.pagecache.sticky_log.StickyLog.{StickyLog}
-use Rattle.sled_pagecache.specs.declared.pagecache.view.MetaView.{MetaView}
+use Rattle.sled_pagecache.specs.declared.pagecache.memory.accesses.Accesses.{Accesses}
+use Rattle.sled_pagecache.specs.declared.pagecache.table.page.CacheInfo.{CacheInfo}
+use Rattle.sled_pagecache.specs.declared.pagecache.table.page.Kept.TheVariants.{Roots}
+use Rattle.sled_pagecache.specs.declared.pagecache.table.page.Page.{Page}
+use Rattle.sled_pagecache.specs.declared.pagecache.write.sticky_log.StickyLog.{StickyLog}
+use Rattle.sled_pagecache.specs.declared.pagecache.handles.view.MetaView.{MetaView}
 
 -- the page at id 0 keeps named roots
 pub record KeepsRoots (pages : List Page) : Type 0 where

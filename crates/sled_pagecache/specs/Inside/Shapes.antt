@@ -1,10 +1,10 @@
 -- The kind of a page as the table keeps it.
-use Rattle.sled_pagecache.specs.declared.pagecache.page.Kept.{Kept}
-use Rattle.sled_pagecache.specs.declared.pagecache.page.Kept.TheVariants as kept
-use Rattle.sled_pagecache.specs.declared.pagecache.page.Page.{Page}
-use Rattle.sled_pagecache.specs.declared.pagecache.shape.Kind.{Kind}
-use Rattle.sled_pagecache.specs.declared.pagecache.shape.Kind.TheVariants as kinds
-use Rattle.sled_pagecache.specs.declared.pagecache.shape.PageShape.{PageShape}
+use Rattle.sled_pagecache.specs.declared.pagecache.table.page.Kept.{Kept}
+use Rattle.sled_pagecache.specs.declared.pagecache.table.page.Kept.TheVariants as kept
+use Rattle.sled_pagecache.specs.declared.pagecache.table.page.Page.{Page}
+use Rattle.sled_pagecache.specs.declared.pagecache.handles.shape.Kind.{Kind}
+use Rattle.sled_pagecache.specs.declared.pagecache.handles.shape.Kind.TheVariants as kinds
+use Rattle.sled_pagecache.specs.declared.pagecache.handles.shape.PageShape.{PageShape}
 
 abbrev pub kind_of_kept : Kept → Kind
 kind_of_kept kept.Free = kinds.Free

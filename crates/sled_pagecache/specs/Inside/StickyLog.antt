@@ -10,9 +10,9 @@ use Rattle.sled_log.specs.Messages.{Message, effect_of}
 use Rattle.sled_log.specs.LogState.{Adds, IsLeft, CrashesSinceLeave, unplaced_state}
 use Rattle.sled_log.specs.declared.log.LogError.{LogError}
 use Rattle.sled_log.specs.declared.log.Log.{Ghosts}
-use Rattle.sled_pagecache.specs.declared.pagecache.sticky_log.Closing.{Closing}
-use Rattle.sled_pagecache.specs.declared.pagecache.sticky_log.Closing.TheVariants as closings
-use Rattle.sled_pagecache.specs.declared.pagecache.sticky_log.StickyLog.{StickyLog}
+use Rattle.sled_pagecache.specs.declared.pagecache.write.sticky_log.Closing.{Closing}
+use Rattle.sled_pagecache.specs.declared.pagecache.write.sticky_log.Closing.TheVariants as closings
+use Rattle.sled_pagecache.specs.declared.pagecache.write.sticky_log.StickyLog.{StickyLog}
 
 -- what a cache answers to what its log answered
 abbrev pub cache_answer : {T : Type 0} → Result T LogError → Result T Refusal

@@ -10,7 +10,7 @@ use Rattle.sled_log.specs.Messages.{Message, Messages, effect_of}
 use Rattle.sled_log.specs.LogState.{now, IsLeft, unplaced_state}
 use Rattle.sled_log.specs.declared.log.Log.{Ghosts}
 use Rattle.sled_pagecache.specs.Inside.StickyLog.{Went, IsCaused}
-use Rattle.sled_pagecache.specs.declared.pagecache.sticky_log.StickyLog.{StickyLog}
+use Rattle.sled_pagecache.specs.declared.pagecache.write.sticky_log.StickyLog.{StickyLog}
 
 -- a count that grew is above each earlier one
 pub HasGrown-since : (old mid new : ℕ) → old ≤ mid → HasGrown mid new → HasGrown old new

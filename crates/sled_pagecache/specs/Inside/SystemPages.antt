@@ -7,7 +7,7 @@ use Rattle.sled_log.specs.LogState.{now}
 use Rattle.sled_log.specs.declared.log.Log.{Ghosts}
 use Rattle.sled_pagecache.specs.Inside.Loading.{events_at_start}
 use Rattle.sled_pagecache.specs.Inside.LogCalls.{Proceeds}
-use Rattle.sled_pagecache.specs.declared.pagecache.sticky_log.StickyLog.{StickyLog}
+use Rattle.sled_pagecache.specs.declared.pagecache.write.sticky_log.StickyLog.{StickyLog}
 
 -- Some messages, which leave no batch open: where the device tells its bytes, those of the system pages that are missing.
 pub record Starts {L : Type 0} (g : Ghosts L) (old new : StickyLog L) (refusal : Option Refusal) : Type 0 where

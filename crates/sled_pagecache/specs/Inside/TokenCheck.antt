@@ -7,9 +7,9 @@ use Rattle.sled_base.specs.declared.types.Why.TheVariants.{ReservedId}
 use Rattle.sled_pagecache.specs.Table.{is_free}
 use Rattle.sled_pagecache.specs.Step.{Swapped, is_reserved}
 use Rattle.sled_pagecache.specs.State.{Token, token}
-use Rattle.sled_pagecache.specs.declared.pagecache.judge.Rejection.{Rejection}
-use Rattle.sled_pagecache.specs.declared.pagecache.judge.Rejection.TheVariants.{Refused, Stale, Gone}
-use Rattle.sled_pagecache.specs.declared.pagecache.page.Page.{Page}
+use Rattle.sled_pagecache.specs.declared.pagecache.write.judge.Rejection.{Rejection}
+use Rattle.sled_pagecache.specs.declared.pagecache.write.judge.Rejection.TheVariants.{Refused, Stale, Gone}
+use Rattle.sled_pagecache.specs.declared.pagecache.table.page.Page.{Page}
 
 -- the page that the token names, at its stamp
 pub record IsFresh (fault : Bool) (pages : List Page) (pid : ℕ) (old : Token) (page : Page) : Type 0 where

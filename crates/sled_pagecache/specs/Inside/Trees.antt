@@ -9,8 +9,8 @@ use Rattle.sled_pagecache.specs.Cache.{Cache}
 use Rattle.sled_pagecache.specs.Memory.{IsBounded, ReadsNothing}
 use Rattle.sled_pagecache.specs.Rows.{IsMade, AreMade}
 use Rattle.sled_pagecache.specs.State.{Token}
-use Rattle.sled_pagecache.specs.declared.pagecache.call.Answer.TheVariants.{GotMeta}
-use Rattle.sled_pagecache.specs.declared.pagecache.call.Call.TheVariants.{GetMeta}
+use Rattle.sled_pagecache.specs.declared.pagecache.handles.call.Answer.TheVariants.{GotMeta}
+use Rattle.sled_pagecache.specs.declared.pagecache.handles.call.Call.TheVariants.{GetMeta}
 use Rattle.sled_pagecache.specs.Trees.{AreTouched, FindsTree, MadeCalls, stamps_then}
 
 module _ {L : Type 0} (g : Ghosts L) where

@@ -14,21 +14,23 @@ ghost use Rattle.sled_pagecache.specs.Memory.{IsBounded, ListsResident, KeepsMem
 ghost use Rattle.sled_pagecache.specs.Opening.{fault_of};
 ghost use Rattle.sled_pagecache.specs.Memory.{ReadsNothing, HasRead, own_among};
 ghost use Rattle.sled_pagecache.specs.Opening.{RefusesOpening, Opens, IsBlamedOpening, MayBeOpened, HoldsNoNode, log_after};
-ghost use Rattle.sled_pagecache.specs.declared.pagecache.call.Answer.TheVariants.{Flushed, Sized};
-ghost use Rattle.sled_pagecache.specs.declared.pagecache.call.Call.TheVariants.{Flush, SizeOnDisk};
+ghost use Rattle.sled_pagecache.specs.declared.pagecache.handles.call.Answer.TheVariants.{Flushed, Sized};
+ghost use Rattle.sled_pagecache.specs.declared.pagecache.handles.call.Call.TheVariants.{Flush, SizeOnDisk};
 
 mod batches;
+pub(crate) mod guard;
 mod ids;
 mod pages;
 mod roots;
 mod shapes;
+pub(crate) mod trees;
 
-use super::accesses::Accesses;
-use super::config::{Config, fault_of};
-use super::free::FreeIds;
-use super::pagetable::PageTable;
-use super::start::open;
-use super::sticky_log::StickyLog;
+use super::handles::config::{Config, fault_of};
+use super::memory::accesses::Accesses;
+use super::open::start::open;
+use super::table::free::FreeIds;
+use super::table::pagetable::PageTable;
+use super::write::sticky_log::StickyLog;
 use sled_base::{Device, Error, Lru, Why};
 use sled_log::Log;
 use std::alloc::Global;
@@ -209,12 +211,12 @@ impl<L: Log> PageCache<L> {
     }
 
     // What the cache allocates by.
-    pub(super) fn alloc(&self) -> Global {
+    pub(crate) fn alloc(&self) -> Global {
         self.alloc
     }
 
     // Every cache lists what lies in memory. Nothing is done.
-    pub(super) fn know_listed(&self)
+    pub(crate) fn know_listed(&self)
         ensures { IsBounded L.Log self.now }
     {
         let _recovered = self.recovered;

@@ -12,8 +12,8 @@ ghost use Rattle.sled_pagecache.specs.Openings.{Crashed, Leaves};
 ghost use Rattle.sled_pagecache.specs.Reopening.{AreAfterPrefix, ReopensTo};
 ghost use Rattle.sled_pagecache.specs.State.{State};
 ghost use Rattle.sled_pagecache.specs.Step.{Outcome};
-ghost use Rattle.sled_pagecache.specs.declared.pagecache.call.Answer.{Answer};
-ghost use Rattle.sled_pagecache.specs.declared.pagecache.call.Call.{Call};
+ghost use Rattle.sled_pagecache.specs.declared.pagecache.handles.call.Answer.{Answer};
+ghost use Rattle.sled_pagecache.specs.declared.pagecache.handles.call.Call.{Call};
 
 use super::*;
 use sled_pagecache::laws::a_crash_reopens_to_a_prefix;

@@ -8,8 +8,8 @@ ghost use Rattle.sled_pagecache.specs.Reopening.{IsFlushed, ReopensAfter, HasFlu
 ghost use Rattle.sled_pagecache.specs.Rows.{StepInRow};
 ghost use Rattle.sled_pagecache.specs.State.{State};
 ghost use Rattle.sled_pagecache.specs.State.{pid_of};
-ghost use Rattle.sled_pagecache.specs.declared.pagecache.call.Answer.{Answer};
-ghost use Rattle.sled_pagecache.specs.declared.pagecache.call.Call.{Call};
+ghost use Rattle.sled_pagecache.specs.declared.pagecache.handles.call.Answer.{Answer};
+ghost use Rattle.sled_pagecache.specs.declared.pagecache.handles.call.Call.{Call};
 
 use super::disks::Disked;
 use super::steps::Sight::Empty;

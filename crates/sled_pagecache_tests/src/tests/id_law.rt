@@ -6,8 +6,8 @@ ghost use Rattle.sled_log.specs.declared.memory.MemLog.{MemLog};
 ghost use Rattle.sled_pagecache.specs.Cache.{Cache as CacheModel};
 ghost use Rattle.sled_pagecache.specs.Openings.{Crashed, Leaves, Starts};
 ghost use Rattle.sled_pagecache.specs.Rows.{AreMade};
-ghost use Rattle.sled_pagecache.specs.declared.pagecache.call.Answer.TheVariants.{Generated};
-ghost use Rattle.sled_pagecache.specs.declared.pagecache.call.Call.TheVariants.{GenerateId};
+ghost use Rattle.sled_pagecache.specs.declared.pagecache.handles.call.Answer.TheVariants.{Generated};
+ghost use Rattle.sled_pagecache.specs.declared.pagecache.handles.call.Call.TheVariants.{GenerateId};
 
 use super::crashes::crashed;
 use super::*;

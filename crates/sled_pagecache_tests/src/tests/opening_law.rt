@@ -8,8 +8,8 @@ ghost use Rattle.sled_pagecache.specs.Cache.{Cache as CacheModel};
 ghost use Rattle.sled_pagecache.specs.Openings.{Crashed, Leaves, Starts};
 ghost use Rattle.sled_pagecache.specs.Rows.{AreMade};
 ghost use Rattle.sled_pagecache.specs.State.{Token};
-ghost use Rattle.sled_pagecache.specs.declared.pagecache.call.Answer.TheVariants.{Allocated, Flushed};
-ghost use Rattle.sled_pagecache.specs.declared.pagecache.call.Call.TheVariants.{Allocate, Flush};
+ghost use Rattle.sled_pagecache.specs.declared.pagecache.handles.call.Answer.TheVariants.{Allocated, Flushed};
+ghost use Rattle.sled_pagecache.specs.declared.pagecache.handles.call.Call.TheVariants.{Allocate, Flush};
 
 use super::crashes::crashed;
 use super::*;

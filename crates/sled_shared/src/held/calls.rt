@@ -6,9 +6,9 @@
 
 ghost use Rattle.std.specs.Prelude.{◌≡◌};
 ghost use Rattle.sled_pagecache.specs.State.{pid_of};
-ghost use Rattle.sled_pagecache.specs.declared.pagecache.call.Answer.TheVariants.{Allocated, Got, Linked, Replaced, Freed, FoundRoot, RootSwapped, Generated, Flushed};
-ghost use Rattle.sled_pagecache.specs.declared.pagecache.call.Call.TheVariants.{Allocate, Get, GenerateId, Flush, MetaPidForName, CasRoot};
-ghost use Rattle.sled_pagecache.specs.declared.pagecache.call.Call.TheVariants as call;
+ghost use Rattle.sled_pagecache.specs.declared.pagecache.handles.call.Answer.TheVariants.{Allocated, Got, Linked, Replaced, Freed, FoundRoot, RootSwapped, Generated, Flushed};
+ghost use Rattle.sled_pagecache.specs.declared.pagecache.handles.call.Call.TheVariants.{Allocate, Get, GenerateId, Flush, MetaPidForName, CasRoot};
+ghost use Rattle.sled_pagecache.specs.declared.pagecache.handles.call.Call.TheVariants as call;
 ghost use Rattle.sled_shared.specs.Calls.{Answered, Asked, Batch, Batched, OpenTree, Opened, batched};
 ghost use Rattle.sled_shared.specs.Held.{Serves};
 

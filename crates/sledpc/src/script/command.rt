@@ -10,8 +10,8 @@ ghost use Rattle.sledpc.specs.Commands.{Encodes, EncodesOpen, mark_word};
 ghost use Rattle.sledpc.specs.Settings.{longest_line};
 ghost use Rattle.sledpc.specs.Words.{AreBytes, bytes_word};
 ghost use Rattle.sledpc.specs.declared.script.command.Mark.{Mark};
-ghost use Rattle.sled_pagecache.specs.declared.pagecache.call.Call.{Call};
-ghost use Rattle.sled_pagecache.specs.declared.pagecache.call.Call.TheVariants as calls;
+ghost use Rattle.sled_pagecache.specs.declared.pagecache.handles.call.Call.{Call};
+ghost use Rattle.sled_pagecache.specs.declared.pagecache.handles.call.Call.TheVariants as calls;
 
 mod arguments;
 

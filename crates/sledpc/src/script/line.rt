@@ -4,8 +4,8 @@ ghost use Rattle.std.specs.Prelude.{◌≡◌, ◌≤◌, length};
 ghost use Rattle.sledpc.specs.Commands.{Encodes, IsOfScript, mark_word};
 ghost use Rattle.sledpc.specs.Served.{RepliesTo, RepliesToOpen, RepliesLine};
 ghost use Rattle.sledpc.specs.Settings.{longest_line};
-ghost use Rattle.sled_pagecache.specs.declared.pagecache.call.Call.{Call};
-ghost use Rattle.sled_pagecache.specs.declared.pagecache.call.Call.TheVariants as calls;
+ghost use Rattle.sled_pagecache.specs.declared.pagecache.handles.call.Call.{Call};
+ghost use Rattle.sled_pagecache.specs.declared.pagecache.handles.call.Call.TheVariants as calls;
 
 use super::batch::pin_again;
 use super::command::{

@@ -5,7 +5,7 @@ ghost use Rattle.sled_pagecache.specs.Batches.{OpensBatch, ClosesBatch, SealsBat
 ghost use Rattle.sled_pagecache.specs.Memory.{IsBounded};
 
 use super::PageCache;
-use crate::pagecache::sticky_log::Closing;
+use crate::pagecache::write::sticky_log::Closing;
 use sled_base::{Device, Error, Why};
 use sled_log::Log;
 

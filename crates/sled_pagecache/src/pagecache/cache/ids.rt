@@ -8,14 +8,14 @@ ghost use Rattle.sled_pagecache.specs.Limits.{counter_pid};
 ghost use Rattle.sled_pagecache.specs.Memory.{IsBounded, EvictsAtMost};
 ghost use Rattle.sled_pagecache.specs.Memory.{ReadsNothing};
 ghost use Rattle.sled_pagecache.specs.State.{pid_of, stamp_of};
-ghost use Rattle.sled_pagecache.specs.declared.pagecache.call.Answer.TheVariants.{GotIdgen, Generated};
-ghost use Rattle.sled_pagecache.specs.declared.pagecache.call.Call.TheVariants.{GetIdgen, GenerateId};
+ghost use Rattle.sled_pagecache.specs.declared.pagecache.handles.call.Answer.TheVariants.{GotIdgen, Generated};
+ghost use Rattle.sled_pagecache.specs.declared.pagecache.handles.call.Call.TheVariants.{GetIdgen, GenerateId};
 
 use super::PageCache;
 use crate::pagecache::COUNTER_PID;
-use crate::pagecache::evict::evict;
-use crate::pagecache::ids::{interval_start, own_counter, put_counter};
-use crate::pagecache::view::PageView;
+use crate::pagecache::handles::view::PageView;
+use crate::pagecache::memory::evict::evict;
+use crate::pagecache::write::ids::{interval_start, own_counter, put_counter};
 use sled_base::{Device, Error, Why};
 use sled_log::Log;
 

@@ -7,14 +7,14 @@ ghost use Rattle.sled_pagecache.specs.Lending.{lent_meta};
 ghost use Rattle.sled_pagecache.specs.Limits.{meta_pid};
 ghost use Rattle.sled_pagecache.specs.Memory.{IsBounded, KeepsMemory, AccessesPage, EvictsAtMost};
 ghost use Rattle.sled_pagecache.specs.Memory.{ReadsNothing};
-ghost use Rattle.sled_pagecache.specs.declared.pagecache.call.Answer.TheVariants.{GotMeta, FoundRoot, RootSwapped};
-ghost use Rattle.sled_pagecache.specs.declared.pagecache.call.Call.TheVariants.{GetMeta, MetaPidForName, CasRoot};
+ghost use Rattle.sled_pagecache.specs.declared.pagecache.handles.call.Answer.TheVariants.{GotMeta, FoundRoot, RootSwapped};
+ghost use Rattle.sled_pagecache.specs.declared.pagecache.handles.call.Call.TheVariants.{GetMeta, MetaPidForName, CasRoot};
 
 use super::PageCache;
 use crate::pagecache::META_PID;
-use crate::pagecache::evict::evict;
-use crate::pagecache::roots::{judge_root, own_roots, swap_root};
-use crate::pagecache::view::MetaView;
+use crate::pagecache::handles::view::MetaView;
+use crate::pagecache::memory::evict::evict;
+use crate::pagecache::write::roots::{judge_root, own_roots, swap_root};
 use sled_base::{Error, IVec, PageId, Refusal};
 use sled_log::Log;
 

@@ -5,8 +5,8 @@ ghost use Rattle.sled_pagecache.specs.Shapes.{Shows};
 ghost use Rattle.sled_pagecache.specs.Inside.Shapes.{shape_of_kept};
 
 use super::PageCache;
-use crate::pagecache::pagetable::PageTable;
-use crate::pagecache::shape::{PageShape, Shape, kind_of};
+use crate::pagecache::handles::shape::{PageShape, Shape, kind_of};
+use crate::pagecache::table::pagetable::PageTable;
 use sled_base::PageId;
 use sled_log::Log;
 use std::alloc::{AllocError, Global};

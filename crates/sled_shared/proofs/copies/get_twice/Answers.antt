@@ -1,7 +1,7 @@
 use Rattle.std.proofs.Common.{Ok, Some}
 use Rattle.sled_pagecache.specs.Calls.{Steps}
-use Rattle.sled_pagecache.specs.declared.pagecache.call.Answer.TheVariants.{Got}
-use Rattle.sled_pagecache.specs.declared.pagecache.call.Call.TheVariants.{Get}
+use Rattle.sled_pagecache.specs.declared.pagecache.handles.call.Answer.TheVariants.{Got}
+use Rattle.sled_pagecache.specs.declared.pagecache.handles.call.Call.TheVariants.{Get}
 use Rattle.sled_shared.proofs.Unread.{unread-made}
 use Rattle.sled_shared.proofs.copies.get_twice.Goals as goal
 

@@ -5,7 +5,7 @@ use Rattle.sled_log.specs.declared.log.Log.{Ghosts}
 use Rattle.sled_pagecache.specs.Cache.{Cache}
 use Rattle.sled_pagecache.specs.Reopening.{IsFlushed, HasFlushed}
 use Rattle.sled_pagecache.specs.State.{State}
-use Rattle.sled_pagecache.specs.declared.pagecache.config.Config.{Config}
+use Rattle.sled_pagecache.specs.declared.pagecache.handles.config.Config.{Config}
 use Rattle.sled_pagecache_tests.proofs.tests.disk_law.flushed_then_crashed.Goals as goal
 
 if-opened : {L : Type 0} (g : Ghosts L) (config : Config) (first : Cache L) (s : State) (result : Result (Cache L) Error)

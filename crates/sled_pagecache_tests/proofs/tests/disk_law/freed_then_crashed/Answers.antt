@@ -5,9 +5,9 @@ use Rattle.sled_log.specs.declared.log.Log.{Ghosts}
 use Rattle.sled_pagecache.specs.Cache.{Cache}
 use Rattle.sled_pagecache.specs.Reopening.{IsFlushed, ReopensAfter}
 use Rattle.sled_pagecache.specs.State.{State}
-use Rattle.sled_pagecache.specs.declared.pagecache.call.Answer.{Answer}
-use Rattle.sled_pagecache.specs.declared.pagecache.call.Call.{Call}
-use Rattle.sled_pagecache.specs.declared.pagecache.config.Config.{Config}
+use Rattle.sled_pagecache.specs.declared.pagecache.handles.call.Answer.{Answer}
+use Rattle.sled_pagecache.specs.declared.pagecache.handles.call.Call.{Call}
+use Rattle.sled_pagecache.specs.declared.pagecache.handles.config.Config.{Config}
 use Rattle.sled_pagecache_tests.proofs.tests.disk_law.freed_then_crashed.Goals as goal
 
 if-opened : {L : Type 0} (g : Ghosts L) (config : Config) (first last : Cache L) (s : State) (calls : List (Call × Answer)) (result : Result (Cache L) Error)

@@ -4,8 +4,8 @@ use Rattle.sled_log.specs.LogState.{unplaced_state}
 use Rattle.sled_log.specs.contracts.memory.calls.MemLogLog.TheImpl as mem
 use Rattle.sled_log.specs.declared.memory.MemLog.{MemLog}
 use Rattle.sled_pagecache.specs.Openings.{Opening, Lasted, Crashed, IsRun, KeepIntervals, AreRising}
-use Rattle.sled_pagecache.specs.declared.pagecache.call.Answer.TheVariants.{Generated}
-use Rattle.sled_pagecache.specs.declared.pagecache.call.Call.TheVariants.{GenerateId}
+use Rattle.sled_pagecache.specs.declared.pagecache.handles.call.Answer.TheVariants.{Generated}
+use Rattle.sled_pagecache.specs.declared.pagecache.handles.call.Call.TheVariants.{GenerateId}
 use Rattle.sled_pagecache_tests.proofs.tests.id_law.draw_three.Goals as goal
 
 -- the ids of three, by their places

@@ -1,6 +1,6 @@
 use Rattle.std.proofs.Common.{rules, ◌≡◌, ap, ◌++◌, ◌∷◌, []}
-use Rattle.sled_pagecache.specs.declared.pagecache.call.Answer.TheVariants.{Flushed}
-use Rattle.sled_pagecache.specs.declared.pagecache.call.Call.TheVariants.{Flush}
+use Rattle.sled_pagecache.specs.declared.pagecache.handles.call.Answer.TheVariants.{Flushed}
+use Rattle.sled_pagecache.specs.declared.pagecache.handles.call.Call.TheVariants.{Flush}
 use Rattle.sled_pagecache.specs.Inside.MadeLaws.{flush-made}
 use Rattle.sled_shared.specs.Book.{book}
 use Rattle.sled_shared.specs.Calls.{Answered, Asked, entry}

@@ -1,6 +1,6 @@
 use Rattle.std.proofs.Common.{rules, ◌≡◌, ap, ◌++◌, ◌∷◌, []}
-use Rattle.sled_pagecache.specs.declared.pagecache.call.Answer.TheVariants.{Got}
-use Rattle.sled_pagecache.specs.declared.pagecache.call.Call.TheVariants.{Get}
+use Rattle.sled_pagecache.specs.declared.pagecache.handles.call.Answer.TheVariants.{Got}
+use Rattle.sled_pagecache.specs.declared.pagecache.handles.call.Call.TheVariants.{Get}
 use Rattle.sled_shared.specs.Book.{book}
 use Rattle.sled_shared.specs.Calls.{Answered, Asked, entry}
 use Rattle.sled_shared.specs.Held.{held}

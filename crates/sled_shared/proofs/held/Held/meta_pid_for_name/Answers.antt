@@ -1,6 +1,6 @@
 use Rattle.std.proofs.Common.{rules, ◌≡◌, ap, ◌++◌, ◌∷◌, []}
-use Rattle.sled_pagecache.specs.declared.pagecache.call.Answer.TheVariants.{FoundRoot}
-use Rattle.sled_pagecache.specs.declared.pagecache.call.Call.TheVariants.{MetaPidForName}
+use Rattle.sled_pagecache.specs.declared.pagecache.handles.call.Answer.TheVariants.{FoundRoot}
+use Rattle.sled_pagecache.specs.declared.pagecache.handles.call.Call.TheVariants.{MetaPidForName}
 use Rattle.sled_shared.specs.Book.{book}
 use Rattle.sled_shared.specs.Calls.{Answered, Asked, entry}
 use Rattle.sled_shared.specs.Held.{held}

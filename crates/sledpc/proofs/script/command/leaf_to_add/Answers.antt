@@ -1,7 +1,7 @@
 -- The line is the name alone, or the name, a space, and the pairs.
 use Rattle.std.proofs.Common.{◌≡◌, None, codes, get_or, arith, rules}
 use Rattle.std.proofs.lemmas.Grind.{common_steps}
-use Rattle.sled_pagecache.specs.declared.pagecache.call.Call.TheVariants as calls
+use Rattle.sled_pagecache.specs.declared.pagecache.handles.call.Call.TheVariants as calls
 use Rattle.sledpc.proofs.Commands.{six_bytes, leaf_asked, made_encoded}
 use Rattle.sledpc.proofs.script.command.leaf_to_add.Goals as goal
 

@@ -1,7 +1,7 @@
 -- The line is a name, a space, and what is read behind it.
 use Rattle.std.proofs.Common.{codes, arith, rules}
 use Rattle.std.proofs.lemmas.Grind.{common_steps}
-use Rattle.sled_pagecache.specs.declared.pagecache.call.Call.TheVariants as calls
+use Rattle.sled_pagecache.specs.declared.pagecache.handles.call.Call.TheVariants as calls
 use Rattle.sledpc.proofs.Commands.{four_bytes, made_encoded}
 use Rattle.sledpc.proofs.script.command.link_to_make.Goals as goal
 

@@ -1,4 +1,4 @@
-use Rattle.sled_pagecache.specs.declared.pagecache.call.Answer.TheVariants.{Allocated}
+use Rattle.sled_pagecache.specs.declared.pagecache.handles.call.Answer.TheVariants.{Allocated}
 use Rattle.sledpc.proofs.script.line.serve_allocate.Goals as goal
 
 pub returns : goal.returns

@@ -1,4 +1,4 @@
-use Rattle.sled_pagecache.specs.declared.pagecache.call.Answer.TheVariants.{RootSwapped}
+use Rattle.sled_pagecache.specs.declared.pagecache.handles.call.Answer.TheVariants.{RootSwapped}
 use Rattle.sledpc.proofs.script.line.serve_cas.Goals as goal
 
 pub returns : goal.returns

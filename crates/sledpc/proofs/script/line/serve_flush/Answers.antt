@@ -1,4 +1,4 @@
-use Rattle.sled_pagecache.specs.declared.pagecache.call.Answer.TheVariants.{Flushed}
+use Rattle.sled_pagecache.specs.declared.pagecache.handles.call.Answer.TheVariants.{Flushed}
 use Rattle.sled_pagecache.specs.Inside.MadeLaws.{flush-made}
 use Rattle.sledpc.proofs.script.line.serve_flush.Goals as goal
 

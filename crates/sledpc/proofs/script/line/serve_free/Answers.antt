@@ -1,4 +1,4 @@
-use Rattle.sled_pagecache.specs.declared.pagecache.call.Answer.TheVariants.{Freed}
+use Rattle.sled_pagecache.specs.declared.pagecache.handles.call.Answer.TheVariants.{Freed}
 use Rattle.sledpc.proofs.script.line.serve_free.Goals as goal
 
 pub returns : goal.returns

@@ -1,4 +1,4 @@
-use Rattle.sled_pagecache.specs.declared.pagecache.call.Answer.TheVariants.{Got}
+use Rattle.sled_pagecache.specs.declared.pagecache.handles.call.Answer.TheVariants.{Got}
 use Rattle.sled_pagecache.specs.Lending.{lent_answer}
 use Rattle.sledpc.proofs.script.line.serve_get.Goals as goal
 

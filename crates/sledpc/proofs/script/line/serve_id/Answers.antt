@@ -1,4 +1,4 @@
-use Rattle.sled_pagecache.specs.declared.pagecache.call.Answer.TheVariants.{Generated}
+use Rattle.sled_pagecache.specs.declared.pagecache.handles.call.Answer.TheVariants.{Generated}
 use Rattle.sled_pagecache.specs.Inside.MadeLaws.{id-made}
 use Rattle.sledpc.proofs.script.line.serve_id.Goals as goal
 

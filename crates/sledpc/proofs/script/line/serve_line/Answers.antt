@@ -1,6 +1,6 @@
 use Rattle.std.proofs.lemmas.Result.{err_from_is_err_and}
 use Rattle.sledpc.specs.Runs.{Made}
-use Rattle.sled_pagecache.specs.declared.pagecache.call.Call.TheVariants.{Get}
+use Rattle.sled_pagecache.specs.declared.pagecache.handles.call.Call.TheVariants.{Get}
 use Rattle.sledpc.proofs.script.line.serve_line.Goals as goal
 
 pub returns-in_err-serve_get-clause-replies : goal.returns-in_err-serve_get-clause-replies

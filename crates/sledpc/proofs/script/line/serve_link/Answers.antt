@@ -1,4 +1,4 @@
-use Rattle.sled_pagecache.specs.declared.pagecache.call.Answer.TheVariants.{Linked}
+use Rattle.sled_pagecache.specs.declared.pagecache.handles.call.Answer.TheVariants.{Linked}
 use Rattle.sledpc.proofs.script.line.serve_link.Goals as goal
 
 pub returns : goal.returns

@@ -1,6 +1,6 @@
 use Rattle.std.proofs.lemmas.Result.{err_from_is_err_and}
 use Rattle.sledpc.specs.Runs.{Made}
-use Rattle.sled_pagecache.specs.declared.pagecache.call.Call.TheVariants.{Allocate}
+use Rattle.sled_pagecache.specs.declared.pagecache.handles.call.Call.TheVariants.{Allocate}
 use Rattle.sledpc.proofs.script.line.serve_new.Goals as goal
 
 pub returns-in_err-serve_allocate-in-Ok-Some-clause-replies : goal.returns-in_err-serve_allocate-in-Ok-Some-clause-replies

@@ -1,4 +1,4 @@
-use Rattle.sled_pagecache.specs.declared.pagecache.call.Answer.TheVariants.{Replaced}
+use Rattle.sled_pagecache.specs.declared.pagecache.handles.call.Answer.TheVariants.{Replaced}
 use Rattle.sledpc.proofs.script.line.serve_replace.Goals as goal
 
 pub returns : goal.returns

@@ -1,5 +1,5 @@
 use Rattle.std.proofs.Common.{refl}
-use Rattle.sled_pagecache.specs.declared.pagecache.call.Answer.TheVariants.{FoundRoot}
+use Rattle.sled_pagecache.specs.declared.pagecache.handles.call.Answer.TheVariants.{FoundRoot}
 use Rattle.sledpc.proofs.script.line.serve_root.Goals as goal
 
 pub returns : goal.returns

@@ -1,5 +1,5 @@
 use Rattle.std.proofs.Common.{refl}
-use Rattle.sled_pagecache.specs.declared.pagecache.call.Answer.TheVariants.{Sized}
+use Rattle.sled_pagecache.specs.declared.pagecache.handles.call.Answer.TheVariants.{Sized}
 use Rattle.sled_pagecache.specs.Inside.MadeLaws.{size-made}
 use Rattle.sledpc.proofs.script.line.serve_size.Goals as goal
 

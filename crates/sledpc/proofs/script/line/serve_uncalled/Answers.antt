@@ -1,7 +1,7 @@
 use Rattle.std.proofs.Common.{◌∷◌, refl}
 use Rattle.std.proofs.lemmas.Result.{err_from_is_err_and}
-use Rattle.sled_pagecache.specs.declared.pagecache.call.Answer.TheVariants.{GotMeta}
-use Rattle.sled_pagecache.specs.declared.pagecache.call.Call.TheVariants.{GetMeta}
+use Rattle.sled_pagecache.specs.declared.pagecache.handles.call.Answer.TheVariants.{GotMeta}
+use Rattle.sled_pagecache.specs.declared.pagecache.handles.call.Call.TheVariants.{GetMeta}
 use Rattle.sledpc.specs.Runs.{Nothing, Opened}
 use Rattle.sledpc.proofs.Commands.{no_command}
 use Rattle.sledpc.proofs.script.line.serve_uncalled.Goals as goal

@@ -4,8 +4,8 @@ use Rattle.sled_pagecache.proofs.FreeIds.{lacks-at, freed-at}
 use Rattle.sled_pagecache.proofs.InMemory.{set-none}
 use Rattle.sled_pagecache.proofs.Judging.{free-swap, unswapped, fresh-at}
 use Rattle.sled_pagecache.proofs.Standing.{beside-long}
-use Rattle.sled_pagecache.specs.declared.pagecache.call.Call.TheVariants as call
-use Rattle.sled_pagecache.specs.declared.pagecache.page.Kept.TheVariants as kept
+use Rattle.sled_pagecache.specs.declared.pagecache.handles.call.Call.TheVariants as call
+use Rattle.sled_pagecache.specs.declared.pagecache.table.page.Kept.TheVariants as kept
 use Rattle.sled_pagecache.proofs.pagecache.cache.PageCache.free.Goals as goal
 
 pub returns-in-Err : goal.returns-in-Err

@@ -6,7 +6,7 @@ use Rattle.sled_pagecache.proofs.PagingIn.{page-kept-at, page-own-at}
 use Rattle.sled_pagecache.proofs.Relinking.{link-ended}
 use Rattle.sled_pagecache.proofs.RootWrites.{on-err}
 use Rattle.sled_pagecache.proofs.Standing.{beside-long}
-use Rattle.sled_pagecache.specs.declared.pagecache.call.Call.TheVariants as call
+use Rattle.sled_pagecache.specs.declared.pagecache.handles.call.Call.TheVariants as call
 use Rattle.sled_pagecache.proofs.pagecache.cache.PageCache.link.Goals as goal
 
 pub returns-in-Err : goal.returns-in-Err

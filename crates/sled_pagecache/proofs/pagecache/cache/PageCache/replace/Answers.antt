@@ -3,8 +3,8 @@ use Rattle.sled_pagecache.proofs.Appending.{either-way, swap-ended, swap-rejecte
 use Rattle.sled_pagecache.proofs.Judging.{replace-swap, unswapped, fresh-at}
 use Rattle.sled_pagecache.proofs.Standing.{beside-long}
 use Rattle.sled_pagecache.proofs.Tables.{free-same}
-use Rattle.sled_pagecache.specs.declared.pagecache.call.Call.TheVariants as call
-use Rattle.sled_pagecache.specs.declared.pagecache.page.Kept.TheVariants as kept
+use Rattle.sled_pagecache.specs.declared.pagecache.handles.call.Call.TheVariants as call
+use Rattle.sled_pagecache.specs.declared.pagecache.table.page.Kept.TheVariants as kept
 use Rattle.sled_pagecache.proofs.pagecache.cache.PageCache.replace.Goals as goal
 
 pub returns-in-Err : goal.returns-in-Err

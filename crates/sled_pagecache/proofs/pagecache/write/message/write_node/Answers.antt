@@ -1,0 +1,8 @@
+use Rattle.sled_pagecache.proofs.Names.{Node, Put, written-update}
+use Rattle.sled_pagecache.proofs.pagecache.write.message.write_node.Goals as goal
+
+pub write-requires-clause-can_write : goal.write-requires-clause-can_write
+write-requires-clause-can_write g c = c.data.ensures.well_formed
+
+pub returns : goal.returns
+returns g c = record { is = written-update (Put (Node c.args.node.now)) c.data.ensures.well_formed; writes = c.write.ensures }

@@ -1,5 +1,0 @@
-use Rattle.sled_pagecache.proofs.Names.{Counter, Put, written-update}
-use Rattle.sled_pagecache.proofs.pagecache.write.write_counter.Goals as goal
-
-pub returns : goal.returns
-returns g c = record { is = written-update (Put (Counter c.args.n)) c.ranges.n.fits; writes = c.write.ensures }

@@ -1,5 +1,0 @@
-use Rattle.sled_pagecache.proofs.Names.{Free, Put, written-update}
-use Rattle.sled_pagecache.proofs.pagecache.write.write_free.Goals as goal
-
-pub returns : goal.returns
-returns g c = record { is = written-update (Put Free) tt; writes = c.write.ensures }

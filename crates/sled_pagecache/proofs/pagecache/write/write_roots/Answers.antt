@@ -1,5 +1,0 @@
-use Rattle.sled_pagecache.proofs.Names.{Roots, Put, written-update}
-use Rattle.sled_pagecache.proofs.pagecache.write.write_roots.Goals as goal
-
-pub returns : goal.returns
-returns g c = record { is = written-update (Put (Roots c.args.roots.now)) c.requires.can_write; writes = c.write.ensures }

@@ -1,0 +1,11 @@
+//! What the cache is given and hands out.
+//!
+//! - `call`: the calls and their answers
+//! - `view`: tokens, and nodes that are lent
+//! - `config`: the settings
+//! - `shape`: what a page looks like, for debugging
+
+pub(crate) mod call;
+pub(crate) mod config;
+pub(crate) mod shape;
+pub(crate) mod view;

@@ -1,0 +1,11 @@
+//! What lies in memory.
+//!
+//! - `accesses`: the accesses to pages, and what the list of recent use drops for them
+//! - `evict`: what leaves memory behind a call
+//! - `pull`, `chain`, `reading`: reading a page that doesn't lie in memory, its chain, and the node of its messages
+
+pub(crate) mod accesses;
+pub(crate) mod chain;
+pub(crate) mod evict;
+pub(crate) mod pull;
+pub(crate) mod reading;

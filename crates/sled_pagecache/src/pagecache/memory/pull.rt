@@ -1,0 +1,120 @@
+//! The reading of a page that doesn't lie in memory.
+
+ghost use Rattle.std.specs.Prelude.{◌≡◌, ◌⊎◌, ℕ, ◌≤◌, ◌<◌, [], false, true, length, IfErr, IsOk, OnOk, OnErr};
+ghost use Rattle.sled_base.specs.declared.types.Refusal.TheVariants as refusal;
+ghost use Rattle.sled_log.specs.Messages.{effect_of_entry, messages_of};
+ghost use Rattle.sled_log.specs.LogState.{now};
+ghost use Rattle.sled_pagecache.specs.Inside.PageEntry.{WasAccessed, IsTouched};
+ghost use Rattle.sled_pagecache.specs.Cache.{chain_at};
+ghost use Rattle.sled_pagecache.specs.Memory.{count_after};
+ghost use Rattle.sled_pagecache.specs.Inside.StickyLog.{Went, IsCaused, IsOfLog};
+ghost use Rattle.sled_pagecache.specs.Inside.LinkWrites.{PutsLink};
+ghost use Rattle.sled_pagecache.specs.Inside.PageEntry.{IsKept, is_resident, access_size};
+ghost use Rattle.sled_pagecache.specs.Table.{is_free};
+ghost use Rattle.sled_pagecache.specs.Inside.PageIn.{PullsPage};
+ghost use Rattle.sled_pagecache.specs.Inside.PageWrites.{RefusesLink};
+ghost use Rattle.sled_pagecache.specs.Inside.Invariant.{IsFreeOrNode};
+ghost use Rattle.sled_pagecache.specs.Inside.RecentUse.{IsListedAt, AccessesNode};
+ghost use Rattle.sled_pagecache.specs.declared.pagecache.table.page.Kept.TheVariants as kept;
+
+use crate::pagecache::memory::accesses::Accesses;
+use crate::pagecache::memory::chain::read_chain;
+use crate::pagecache::memory::reading::node_of;
+use crate::pagecache::table::page::{Kept, Page, total_size};
+use crate::pagecache::write::sticky_log::StickyLog;
+use crate::pagecache::write::swap::link_page;
+use sled_base::{PageId, Refusal};
+use sled_log::Log;
+use sled_node::Link;
+use std::alloc::Global;
+
+// Reads the node of a page from the log, unless what the page holds lies in memory. A refusal leaves the page.
+pub(crate) fn pull<L: Log>(
+    alloc: Global,
+    sticky_log: &mut StickyLog<L>,
+    pid: PageId,
+    page: &mut Page,
+) -> Result<(), Refusal>
+    requires ready { sticky_log.old.fault ≡ false }
+    requires usable { (L.state sticky_log.old.log).usable ≡ true }
+    requires kept { L.tells → IsKept (chain_at (L.state sticky_log.old.log) pid) page.old }
+    ensures pulled { PullsPage L.Log sticky_log.old pid page.old sticky_log.new page.new result }
+    ensures is_there { is_resident page.old.kept ≡ true → IsOk result }
+{
+    if let Kept::Away = page.kept {
+        let found = read_chain(alloc, sticky_log, pid, &page.infos)?;
+        page.kept = Kept::Node(node_of(&found, alloc)?);
+    }
+    Ok(())
+}
+
+// Reads the node of a page and accesses the page, which takes no memory where it is listed with its size. What a refused access has
+// read isn't kept.
+pub(crate) fn pull_and_access<L: Log>(
+    alloc: Global,
+    sticky_log: &mut StickyLog<L>,
+    accesses: &mut Accesses,
+    pid: PageId,
+    page: &mut Page,
+) -> Result<(), Refusal>
+    requires ready { sticky_log.old.fault ≡ false }
+    requires usable { (L.state sticky_log.old.log).usable ≡ true }
+    requires kept { L.tells → IsKept (chain_at (L.state sticky_log.old.log) pid) page.old }
+    ensures pulled { PullsPage L.Log sticky_log.old pid page.old sticky_log.new page.new result }
+    ensures left { OnErr result (accesses.new ≡ accesses.old) }
+    ensures is_there { is_resident page.old.kept ≡ true → IsListedAt pid page.old accesses.old.lru
+        → IsOk result }
+    ensures accessed { OnOk result (AccessesNode accesses.old pid page.new accesses.new) }
+{
+    let was_away = matches!(page.kept, Kept::Away);
+    pull(alloc, sticky_log, pid, page)?;
+    let outcome = access_node(accesses, pid, page);
+    if was_away && outcome.is_err() {
+        page.kept = Kept::Away;
+    }
+    outcome
+}
+
+// Accesses a page of which the node lies in memory.
+fn access_node(accesses: &mut Accesses, pid: PageId, page: &Page) -> Result<(), Refusal>
+    ensures accessed { OnOk result (AccessesNode accesses.old pid page.now accesses.new) }
+    ensures err { OnErr result (accesses.new ≡ accesses.old) }
+    ensures refused { IfErr result (λ why. why ≡ refusal.OutOfMemory) }
+    ensures always { IsListedAt pid page.now accesses.old.lru → IsOk result }
+{
+    match page.kept {
+        Kept::Node(_) => accesses.access(pid, total_size(&page.infos)),
+        _ => Ok(()),
+    }
+}
+
+// Applies a link to the node of a page, which is read where it doesn't lie in memory. What a refused link has read isn't kept.
+pub(crate) fn pull_and_link<L: Log>(
+    alloc: Global,
+    sticky_log: &mut StickyLog<L>,
+    accesses: &mut Accesses,
+    pid: PageId,
+    page: &mut Page,
+    link: &Link,
+) -> Result<(), Refusal>
+    requires ready { sticky_log.old.fault ≡ false }
+    requires usable { (L.state sticky_log.old.log).usable ≡ true }
+    requires there { L.tells → pid < length (now effect_of_entry (L.state sticky_log.old.log)) }
+    requires kept { L.tells → IsKept (chain_at (L.state sticky_log.old.log) pid) page.old }
+    requires full { is_free page.old.kept ≡ false }
+    requires own { IsFreeOrNode page.old.kept }
+    ensures { PutsLink L.Log sticky_log.old pid page.old link.now sticky_log.new accesses.old
+        accesses.new page.new result }
+{
+    let was_away = matches!(page.kept, Kept::Away);
+    pull(alloc, sticky_log, pid, page)?;
+    match link_page(alloc, sticky_log, accesses, pid, page, link) {
+        Ok(()) => Ok(()),
+        Err(refusal) => {
+            if was_away {
+                page.kept = Kept::Away;
+            }
+            Err(refusal)
+        }
+    }
+}

@@ -1,0 +1,205 @@
+//! Pages as the cache keeps them.
+
+ghost use Rattle.std.specs.Prelude.{◌≡◌, ◌+◌, ◌<◌, ◌-◌, ◌^◌, ◌++◌, [], ◌∷◌, min, length, vec_len, vec_capacity, map, IfOk, true};
+ghost use Rattle.std.specs.List.{sum_by};
+ghost use Rattle.sled_pagecache.specs.Infos.{place_of};
+ghost use Rattle.sled_pagecache.specs.Limits.{most_messages};
+ghost use Rattle.sled_pagecache.specs.Infos.{stamps_to};
+ghost use Rattle.sled_pagecache.specs.Inside.Infos.{joined_infos};
+
+use crate::pagecache::PAGE_CONSOLIDATION_THRESHOLD;
+use sled_base::{DiskPtr, Lsn, PageState};
+use sled_node::{Meta, Node};
+use std::alloc::{AllocError, Global};
+
+/// How a log keeps one message of a page: the stamp of the page once the message stood, or 0 where it was recovered, its
+/// place, and its log size in bytes.
+#[derive(Clone, Copy, Debug, PartialEq, Eq)]
+pub struct CacheInfo {
+    pub ts: u64,
+    pub lsn: Lsn,
+    pub pointer: DiskPtr,
+    pub log_size: u64,
+}
+
+/// A page of the cache: its stamp, where the log keeps the messages that make it, and what it holds, where that lies in
+/// memory.
+#[derive(Debug, Drop)]
+pub struct Page {
+    pub(crate) stamp: u64,
+    // in the order of its chain
+    pub(crate) infos: Vec<CacheInfo>,
+    pub(crate) kept: Kept,
+    ghost some: { 0 < vec_len infos },
+    ghost stamped: { map (λ info. info.ts) infos.items ≡ stamps_to stamp (length infos.items) },
+}
+
+/// What a page holds.
+#[derive(Debug, Drop)]
+pub(crate) enum Kept {
+    Free,
+    /// A content that doesn't lie in memory.
+    Away,
+    Counter(u64),
+    Roots(Meta),
+    Node(Node),
+}
+
+impl Page {
+    ghost use Rattle.sled_pagecache.specs.Table.{is_free, IsSaidBy};
+    ghost use Rattle.sled_pagecache.specs.Infos.{IsLast};
+    ghost use Rattle.sled_pagecache.specs.Inside.Eviction.{IsPagedOut};
+
+    /// Where the log keeps the messages that make the page, in the order of its chain.
+    pub fn cache_infos(&self) -> &[CacheInfo]
+        ensures { result.now ≡ self.now.infos.items }
+    {
+        &self.infos
+    }
+
+    /// How much of the log these messages take up together, in bytes, or `u64::MAX` where it is no less.
+    pub fn log_size(&self) -> u64
+        ensures { sum_by (λ info. info.log_size) self.now.infos.items < 2 ^ 64
+            → result ≡ sum_by (λ info. info.log_size) self.now.infos.items }
+    {
+        total_size(&self.infos)
+    }
+
+    /// The lsn of the last of these messages.
+    pub fn last_lsn(&self) -> Lsn
+        ensures { IsLast self.now.infos.items result }
+    {
+        self.infos[self.infos.len() - 1].lsn
+    }
+
+    /// Whether the page is free.
+    pub fn is_free(&self) -> bool
+        ensures { result ≡ is_free self.now.kept }
+    {
+        matches!(self.kept, Kept::Free)
+    }
+
+    // Lets go of the node, where one lies in memory.
+    pub(crate) fn page_out(&mut self)
+        ensures { IsPagedOut self.old self.new }
+    {
+        if let Kept::Node(_) = self.kept {
+            self.kept = Kept::Away;
+        }
+    }
+
+    /// The page as a log says it: by the places of its messages.
+    pub fn to_page_state(&self, alloc: Global) -> Result<PageState, AllocError>
+        ensures { IfOk result (IsSaidBy self.now) }
+    {
+        let first = self.infos[0];
+        if self.is_free() {
+            return Ok(PageState::Free(first.lsn, first.pointer));
+        }
+        let frags = places(alloc, &self.infos[1..])?;
+        Ok(PageState::Present {
+            base: place(first),
+            frags,
+        })
+    }
+}
+
+impl Clone for Page {
+    ghost use Rattle.sled_pagecache.specs.Inside.PageEntry.{IsSame};
+
+    ghost is_clone = { IsSame };
+
+    fn clone(&self) -> Result<Page, AllocError> {
+        Ok(Page {
+            stamp: self.stamp,
+            infos: self.infos.clone()?,
+            kept: self.kept.clone()?,
+        })
+    }
+}
+
+impl Clone for Kept {
+    ghost is_clone = { λ v w. w ≡ v };
+
+    fn clone(&self) -> Result<Kept, AllocError> {
+        Ok(match self {
+            Kept::Free => Kept::Free,
+            Kept::Away => Kept::Away,
+            Kept::Counter(n) => Kept::Counter(*n),
+            Kept::Roots(roots) => Kept::Roots(roots.clone()?),
+            Kept::Node(node) => Kept::Node(node.clone()?),
+        })
+    }
+}
+
+// Keeps how a message is kept that joins the others of a page, or takes their place, at the next stamp of the page.
+pub(crate) fn keep_linked(joins: bool, page: &mut Page, info: CacheInfo)
+    requires below { page.old.stamp < 2 ^ 64 - 1 }
+    requires room { joins ≡ true → vec_len page.old.infos < vec_capacity page.old.infos }
+    requires stamped { info.ts ≡ page.old.stamp + 1 }
+    ensures stamp { page.new.stamp ≡ page.old.stamp + 1 }
+    ensures infos { page.new.infos.items ≡ joined_infos joins page.old.infos.items info }
+    ensures kept { page.new.kept ≡ page.old.kept }
+{
+    if joins {
+        keep_also(page, info);
+    } else {
+        keep_alone(page, info);
+    }
+}
+
+// Keeps how a message is kept as the only one of a page, at the next stamp.
+pub(crate) fn keep_alone(page: &mut Page, info: CacheInfo)
+    requires below { page.old.stamp < 2 ^ 64 - 1 }
+    requires stamped { info.ts ≡ page.old.stamp + 1 }
+    ensures stamp { page.new.stamp ≡ page.old.stamp + 1 }
+    ensures infos { page.new.infos.items ≡ info ∷ [] }
+    ensures kept { page.new.kept ≡ page.old.kept }
+{
+    page.infos.clear();
+    page.infos.shrink_to(1);
+    page.infos.push_reserved(info);
+    page.stamp += 1;
+}
+
+// Keeps how a message is kept behind the others of a page, at the next stamp.
+fn keep_also(page: &mut Page, info: CacheInfo)
+    requires below { page.old.stamp < 2 ^ 64 - 1 }
+    requires room { vec_len page.old.infos < vec_capacity page.old.infos }
+    requires stamped { info.ts ≡ page.old.stamp + 1 }
+    ensures stamp { page.new.stamp ≡ page.old.stamp + 1 }
+    ensures infos { page.new.infos.items ≡ page.old.infos.items ++ info ∷ [] }
+    ensures kept { page.new.kept ≡ page.old.kept }
+{
+    page.infos.push_reserved(info);
+    page.stamp += 1;
+}
+
+// How much of the log messages take up together, in bytes, or `u64::MAX` where it is no less.
+pub(crate) fn total_size(infos: &[CacheInfo]) -> u64
+    ensures { result ≡ min (sum_by (λ info. info.log_size) infos.now) (2 ^ 64 - 1) }
+{
+    let mut total: u64 = 0;
+    for info in infos {
+        total = total.saturating_add(info.log_size);
+    }
+    total
+}
+
+// The places of messages, as a log says them.
+fn places(alloc: Global, infos: &[CacheInfo]) -> Result<Vec<(Lsn, DiskPtr, u64)>, AllocError>
+    ensures { IfOk result (λ places. places.items ≡ map place_of infos.now) }
+{
+    let mut places = Vec::new(alloc);
+    for info in infos {
+        places.push(place(*info))?;
+    }
+    Ok(places)
+}
+
+// The place of a message, as a log says it.
+fn place(info: CacheInfo) -> (Lsn, DiskPtr, u64)
+    ensures { result ≡ place_of info }
+{
+    (info.lsn, info.pointer, info.log_size)
+}

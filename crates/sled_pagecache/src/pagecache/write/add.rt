@@ -1,0 +1,70 @@
+//! The making of a page.
+
+ghost use Rattle.std.specs.Prelude.{◌≡◌, ◌≢◌, ◌⊎◌, ◌++◌, [], ◌∷◌, false, true, length, slice_get, IfOk, IfErr, IfSome, OnOk, OnErr};
+ghost use Rattle.std.specs.List.{AllByRecursion};
+ghost use Rattle.sled_log.specs.Contents as contents;
+ghost use Rattle.sled_log.specs.Events.{Change};
+ghost use Rattle.sled_log.specs.Messages.{effect_of_entry};
+ghost use Rattle.sled_log.specs.Pages.{IsSized};
+ghost use Rattle.sled_log.specs.Reading.{IsUpdate};
+ghost use Rattle.sled_log.specs.LogState.{now};
+ghost use Rattle.sled_log.specs.Reading.{message_of};
+ghost use Rattle.sled_pagecache.specs.Inside.Appends.{PutsOnNewPage};
+ghost use Rattle.sled_pagecache.specs.Inside.PageEntry.{WasAccessed, IsTouched};
+ghost use Rattle.sled_pagecache.specs.Inside.NewPages.{HasOneMore, RefusesPage};
+ghost use Rattle.sled_pagecache.specs.Cache.{chain_at};
+ghost use Rattle.sled_pagecache.specs.Limits.{most_pages};
+ghost use Rattle.sled_pagecache.specs.Inside.StickyLog.{Went, IsCaused, IsOfLog, begun_by};
+ghost use Rattle.sled_pagecache.specs.Inside.PageEntry.{access_size};
+
+use crate::pagecache::MAX_PAGES;
+use crate::pagecache::memory::accesses::{Accesses, size_with};
+use crate::pagecache::table::page::{Kept, Page};
+use crate::pagecache::table::pagetable::PageTable;
+use crate::pagecache::write::message::write_node;
+use crate::pagecache::write::sticky_log::StickyLog;
+use sled_base::{PageId, Refusal, Serialize, Why};
+use sled_log::Log;
+use sled_node::Node;
+use std::alloc::Global;
+
+// Puts a node on a new page behind the others, at stamp 1. A refusal leaves the pages.
+pub(crate) fn add_page<L: Log>(
+    alloc: Global,
+    sticky_log: &mut StickyLog<L>,
+    accesses: &mut Accesses,
+    pages: &mut PageTable,
+    node: Node,
+) -> Result<(), Refusal>
+    requires ready { sticky_log.old.fault ≡ false }
+    requires usable { (L.state sticky_log.old.log).usable ≡ true }
+    requires there { L.tells
+        → length pages.old.pages ≡ length (now effect_of_entry (L.state sticky_log.old.log)) }
+    ensures { PutsOnNewPage L.Log node sticky_log.old sticky_log.new accesses.old accesses.new
+        pages.old.pages pages.new.pages result }
+{
+    // Every node is well-formed.
+    let _ = node.data();
+    if pages.len() == MAX_PAGES {
+        return Err(Refusal::Unsupported(Why::PagesUsedUp));
+    }
+    let pid = pages.len() as PageId;
+    let Ok(()) = pages.reserve() else {
+        return Err(Refusal::OutOfMemory);
+    };
+    let Ok(mut infos) = Vec::with_capacity(alloc, 1) else {
+        return Err(Refusal::OutOfMemory);
+    };
+    let size = node.serialized_size();
+    let Ok(()) = accesses.access(pid, size_with(0, size)) else {
+        return Err(Refusal::OutOfMemory);
+    };
+    let info = write_node(alloc, sticky_log, pid, &node, size, 1)?;
+    infos.push_reserved(info);
+    pages.push_reserved(Page {
+        stamp: 1,
+        infos,
+        kept: Kept::Node(node),
+    });
+    Ok(())
+}

@@ -1,0 +1,241 @@
+//! The writing of a page's messages to the log.
+
+ghost use Rattle.std.specs.Prelude.{◌≡◌, ◌<◌, ◌≤◌, false, true, length};
+ghost use Rattle.sled_log.specs.Calls.{can_append};
+ghost use Rattle.sled_log.specs.Contents as contents;
+ghost use Rattle.sled_log.specs.Messages.{effect_of_entry, message};
+ghost use Rattle.sled_log.specs.LogState.{now};
+ghost use Rattle.sled_log.specs.Reading.{message_of};
+ghost use Rattle.sled_node.specs.Meta.{IsRootMap};
+ghost use Rattle.sled_node.specs.Payloads.Links.{CanWriteLink};
+ghost use Rattle.sled_pagecache.specs.Inside.PageWrites.{CanPut, WritesMessage, Wrote, content_of};
+
+use crate::pagecache::table::page::{CacheInfo, Kept};
+use crate::pagecache::write::sticky_log::StickyLog;
+use sled_base::{MessageKind, PageId, Refusal, Serialize};
+use sled_log::Log;
+use sled_node::{Link, Meta, Node};
+use std::alloc::Global;
+
+// A payload of at most so many bytes is made without an allocation.
+const SHORT_PAYLOAD: usize = 256;
+
+// Writes a node to the log as the content of a page, in so many bytes, and answers how it is kept, at that stamp.
+pub(crate) fn write_node<L: Log>(
+    alloc: Global,
+    sticky_log: &mut StickyLog<L>,
+    pid: PageId,
+    node: &Node,
+    size: u64,
+    stamp: u64,
+) -> Result<CacheInfo, Refusal>
+    requires sized { size ≡ length (message_of (contents.Put (contents.Node node.now))).payload }
+    requires ready { sticky_log.old.fault ≡ false }
+    requires usable { (L.state sticky_log.old.log).usable ≡ true }
+    requires can { L.tells
+        → can_append effect_of_entry (now effect_of_entry (L.state sticky_log.old.log)) pid
+        (message_of (contents.Put (contents.Node node.now))).kind ≡ true }
+    ensures { Wrote L.Log sticky_log.old sticky_log.new pid (contents.Put (contents.Node node.now))
+        stamp result }
+{
+    // Every node is well-formed.
+    let _ = node.data();
+    write(
+        alloc,
+        sticky_log,
+        MessageKind::InlineNode,
+        pid,
+        node,
+        size,
+        stamp,
+    )
+}
+
+// Writes a link to the log, in so many bytes, and answers how it is kept, at that stamp.
+pub(crate) fn write_link<L: Log>(
+    alloc: Global,
+    sticky_log: &mut StickyLog<L>,
+    pid: PageId,
+    link: &Link,
+    size: u64,
+    stamp: u64,
+) -> Result<CacheInfo, Refusal>
+    requires short { CanWriteLink link.now }
+    requires sized { size ≡ length (message_of (contents.Link link.now)).payload }
+    requires ready { sticky_log.old.fault ≡ false }
+    requires usable { (L.state sticky_log.old.log).usable ≡ true }
+    requires can { L.tells → can_append effect_of_entry (now effect_of_entry
+        (L.state sticky_log.old.log)) pid (message_of (contents.Link link.now)).kind ≡ true }
+    ensures { Wrote L.Log sticky_log.old sticky_log.new pid (contents.Link link.now) stamp result }
+{
+    write(
+        alloc,
+        sticky_log,
+        MessageKind::InlineLink,
+        pid,
+        link,
+        size,
+        stamp,
+    )
+}
+
+// Writes a root map to the log as the content of a page, in so many bytes, and answers how it is kept, at that stamp.
+pub(crate) fn write_roots<L: Log>(
+    alloc: Global,
+    sticky_log: &mut StickyLog<L>,
+    pid: PageId,
+    roots: &Meta,
+    size: u64,
+    stamp: u64,
+) -> Result<CacheInfo, Refusal>
+    requires can_write { IsRootMap roots.now }
+    requires sized { size ≡ length (message_of (contents.Put (contents.Roots roots.now))).payload }
+    requires ready { sticky_log.old.fault ≡ false }
+    requires usable { (L.state sticky_log.old.log).usable ≡ true }
+    requires there { L.tells → pid ≤ length (now effect_of_entry (L.state sticky_log.old.log)) }
+    ensures { Wrote L.Log sticky_log.old sticky_log.new pid
+        (contents.Put (contents.Roots roots.now)) stamp result }
+{
+    write(
+        alloc,
+        sticky_log,
+        MessageKind::InlineMeta,
+        pid,
+        roots,
+        size,
+        stamp,
+    )
+}
+
+// Writes a counter to the log as the content of a page, and answers how it is kept, at that stamp.
+pub(crate) fn write_counter<L: Log>(
+    alloc: Global,
+    sticky_log: &mut StickyLog<L>,
+    pid: PageId,
+    n: u64,
+    stamp: u64,
+) -> Result<CacheInfo, Refusal>
+    requires ready { sticky_log.old.fault ≡ false }
+    requires usable { (L.state sticky_log.old.log).usable ≡ true }
+    requires there { L.tells → pid ≤ length (now effect_of_entry (L.state sticky_log.old.log)) }
+    ensures { Wrote L.Log sticky_log.old sticky_log.new pid (contents.Put (contents.Counter n))
+        stamp result }
+{
+    write(
+        alloc,
+        sticky_log,
+        MessageKind::Counter,
+        pid,
+        &n,
+        n.serialized_size(),
+        stamp,
+    )
+}
+
+// Writes to the log that a page is free, and answers how that is kept, at that stamp.
+fn write_free<L: Log>(
+    alloc: Global,
+    sticky_log: &mut StickyLog<L>,
+    pid: PageId,
+    stamp: u64,
+) -> Result<CacheInfo, Refusal>
+    requires ready { sticky_log.old.fault ≡ false }
+    requires usable { (L.state sticky_log.old.log).usable ≡ true }
+    requires there { L.tells → pid < length (now effect_of_entry (L.state sticky_log.old.log)) }
+    ensures { Wrote L.Log sticky_log.old sticky_log.new pid (contents.Put contents.Free) stamp
+        result }
+{
+    write(alloc, sticky_log, MessageKind::Free, pid, &(), 0, stamp)
+}
+
+// Writes what is put on a page, in so many bytes, and answers how it is kept, at that stamp.
+pub(crate) fn write_kept<L: Log>(
+    alloc: Global,
+    sticky_log: &mut StickyLog<L>,
+    pid: PageId,
+    kept: &Kept,
+    size: u64,
+    stamp: u64,
+) -> Result<CacheInfo, Refusal>
+    requires can_write { CanPut kept.now }
+    requires sized { size ≡ length (message_of (contents.Put (content_of kept.now))).payload }
+    requires ready { sticky_log.old.fault ≡ false }
+    requires usable { (L.state sticky_log.old.log).usable ≡ true }
+    requires there { L.tells → pid < length (now effect_of_entry (L.state sticky_log.old.log)) }
+    ensures { Wrote L.Log sticky_log.old sticky_log.new pid (contents.Put (content_of kept.now))
+        stamp result }
+{
+    match kept {
+        Kept::Node(node) => write_node(alloc, sticky_log, pid, node, size, stamp),
+        Kept::Roots(roots) => write_roots(alloc, sticky_log, pid, roots, size, stamp),
+        Kept::Counter(n) => write_counter(alloc, sticky_log, pid, *n, stamp),
+        Kept::Free => write_free(alloc, sticky_log, pid, stamp),
+        Kept::Away => unreachable!(),
+    }
+}
+
+// Writes a value to the log as a message of a page, in so many bytes, and answers how it is kept, at that stamp.
+fn write<L: Log, T: Serialize>(
+    alloc: Global,
+    sticky_log: &mut StickyLog<L>,
+    kind: MessageKind,
+    pid: PageId,
+    value: &T,
+    size: u64,
+    stamp: u64,
+) -> Result<CacheInfo, Refusal>
+    requires can_write { T.can_write value.now }
+    requires sized { size ≡ length (T.written value.now) }
+    requires ready { sticky_log.old.fault ≡ false }
+    requires usable { (L.state sticky_log.old.log).usable ≡ true }
+    requires can { L.tells → can_append effect_of_entry
+        (now effect_of_entry (L.state sticky_log.old.log)) pid kind ≡ true }
+    ensures { WritesMessage L.Log sticky_log.old sticky_log.new pid
+        (message kind (T.written value.now)) stamp result }
+{
+    let size = size as usize;
+    if size <= SHORT_PAYLOAD {
+        let mut room = [0; SHORT_PAYLOAD];
+        let payload = &mut room[..size];
+        fill(value, payload);
+        return write_payload(sticky_log, kind, pid, payload, stamp);
+    }
+    let Ok(mut payload) = vec![in alloc; 0; size] else {
+        return Err(Refusal::OutOfMemory);
+    };
+    fill(value, &mut payload);
+    write_payload(sticky_log, kind, pid, &payload, stamp)
+}
+
+// Writes a value over all of these bytes.
+fn fill<T: Serialize>(value: &T, bytes: &mut [u8])
+    requires can_write { T.can_write value.now }
+    requires exact { length bytes.old ≡ length (T.written value.now) }
+    ensures { bytes.new ≡ T.written value.now }
+{
+    value.serialize_into(bytes);
+}
+
+// Writes a payload to the log as a message of a page, and answers how it is kept, at that stamp.
+pub(crate) fn write_payload<L: Log>(
+    sticky_log: &mut StickyLog<L>,
+    kind: MessageKind,
+    pid: PageId,
+    payload: &[u8],
+    stamp: u64,
+) -> Result<CacheInfo, Refusal>
+    requires ready { sticky_log.old.fault ≡ false }
+    requires usable { (L.state sticky_log.old.log).usable ≡ true }
+    requires can { L.tells → can_append effect_of_entry
+        (now effect_of_entry (L.state sticky_log.old.log)) pid kind ≡ true }
+    ensures { WritesMessage L.Log sticky_log.old sticky_log.new pid (message kind payload.now) stamp
+        result }
+{
+    let (lsn, pointer, log_size) = sticky_log.append(kind, pid, payload)?;
+    Ok(CacheInfo {
+        ts: stamp,
+        lsn,
+        pointer,
+        log_size,
+    })
+}
