@@ -150,7 +150,7 @@ module _ {L : Type 0} (g : Ghosts L) where
     unsealed old new calls batch held s is clear =
         let run = runs old new calls batch held s is clear in
         crash-reopens-to g (λ l t u pages. since_earlier l t u pages is.tells) new.log (g.moment old.log) (AreWithout held)
-        (λ pages left. kept-prefix held [] pages (left-open held run.closed pages run.inner run.all (subst (λ l. IsLeft held l pages) run.changes ((run.row.stop clear).each pages left))))
+        (λ pages left. kept-prefix held [] pages (left-open held run.closed pages run.inner run.all (subst (λ l. IsLeft held l pages) run.changes ((run.row.crash clear).each pages left))))
 
     module _ (old mid new : Cache L) (calls : List (Call × Answer)) (batch : RunsBatch g old calls mid) (held : Logged) (s : State) (is : Represents g old held s) (clear : s.fault ≡ false) where
       abbrev run : IsRun old calls mid held s
@@ -165,7 +165,7 @@ module _ {L : Type 0} (g : Ghosts L) where
 
         -- what a crash leaves of the log
         leaves : (pages : List Messages) → g.left_since new.log (g.moment old.log) pages → IsLeft held ((changes_of run.row.outs) ++ one.out.changes) pages
-        leaves pages left = subst (λ l. IsLeft held l pages) whole.writes ((whole.row.stop clear).each pages left)
+        leaves pages left = subst (λ l. IsLeft held l pages) whole.writes ((whole.row.crash clear).each pages left)
 
         -- the pages, where a crash leaves all
         all-of-it : run.row.t.fault ≡ false → contents_of one.out.state ≡ contents_of run.row.t → contents_after held.stable (held.pending ++ (Pin ∷ run.inner ++ Seal ∷ [])) ≡ contents_of one.out.state
@@ -202,7 +202,7 @@ module _ {L : Type 0} (g : Ghosts L) where
       pub cancelled : (result : Result (Unit {0}) Error) → Steps g mid call.Cancel (Cancelled result) new → StandsInPart g old (with_pin calls ++ (call.Cancel, Cancelled result) ∷ []) new held s
       cancelled result cancel =
           let row = (one-longer g old mid new (with_pin calls) call.Cancel (Cancelled result) held s run.row cancel).row in
-          stands (λ changes t. AreAfterPrefix held changes) row (crash-reopens g (λ l t u pages. since_earlier l t u pages is.tells) new.log (g.moment old.log) held (changes_of row.outs) (row.stop clear).each)
+          stands (λ changes t. AreAfterPrefix held changes) row (crash-reopens g (λ l t u pages. since_earlier l t u pages is.tells) new.log (g.moment old.log) held (changes_of row.outs) (row.crash clear).each)
 
     -- ---- a flush
 

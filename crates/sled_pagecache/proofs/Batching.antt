@@ -11,7 +11,8 @@ use Rattle.sled_pagecache.proofs.Counted.{spares-refused, whole-added, whole-the
 use Rattle.sled_pagecache.proofs.Putting.{blamed}
 use Rattle.sled_pagecache.proofs.Staying.{stay-one}
 use Rattle.sled_pagecache.proofs.Tables.{consistent-kept}
-use Rattle.sled_pagecache.specs.Batches.{OpensBatch, ClosesBatch, answer_of, call_of}
+use Rattle.sled_pagecache.specs.Batches.{OpensBatch, ClosesBatch}
+use Rattle.sled_pagecache.specs.Inside.StickyLog.{answer_of, call_of}
 use Rattle.sled_pagecache.specs.Logged.{now}
 use Rattle.sled_pagecache.specs.Inside.StickyLog.{mark_of}
 use Rattle.sled_pagecache.specs.declared.pagecache.handles.call.Call.TheVariants as call
@@ -129,7 +130,7 @@ module _ {L : Type 0} (g : Ghosts L) (next : ℕ) (config : Config) (recovered :
             held_then = held;
             is = record { tells = is.tells; stamps = is.stamps; next = is.next; fault = is.fault; batch = refl; known = λ clear. absurd (false≢true (sym clear ∙ is.fault ∙ kept)) };
             added = λ clear. absurd (false≢true (sym clear ∙ is.fault ∙ kept));
-            stop = λ clear. absurd (false≢true (sym clear ∙ is.fault ∙ kept));
+            crash = λ clear. absurd (false≢true (sym clear ∙ is.fault ∙ kept));
             stuck = λ _. refl;
           };
         } in

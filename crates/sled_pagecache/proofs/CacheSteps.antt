@@ -27,7 +27,7 @@ module _ {L : Type 0} (g : Ghosts L) where
       held_then = held;
       is = is;
       added = λ clear. absurd (false≢true (sym clear ∙ is.fault ∙ stuck));
-      stop = λ clear. absurd (false≢true (sym clear ∙ is.fault ∙ stuck));
+      crash = λ clear. absurd (false≢true (sym clear ∙ is.fault ∙ stuck));
       stuck = λ _. refl;
     };
   }
@@ -90,7 +90,7 @@ module _ {L : Type 0} (g : Ghosts L) where
           held_then = ends.0;
           is = record { tells = is.tells; stamps = way.stamps; next = way.next; fault = way.fault; batch = way.batch; known = ends.1 };
           added = ends.2;
-          stop = λ _. leaves g (record before { log = old.log }) (record after { log = new.log }) held messages way.out.changes (is.known (is.fault ∙ ready)).logged way.told way.stays went is.tells;
+          crash = λ _. leaves g (record before { log = old.log }) (record after { log = new.log }) held messages way.out.changes (is.known (is.fault ∙ ready)).logged way.told way.stays went is.tells;
           stuck = λ kept. absurd (false≢true (sym (is.fault ∙ ready) ∙ kept));
         };
   }

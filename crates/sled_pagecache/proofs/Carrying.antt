@@ -73,4 +73,4 @@ module _ {L : Type 0} (g : Ghosts L) where
     leaves =
         CrashesSinceLeave-weaker g.state g.moment g.left_since g.counts old.log new.log (log.IsLeft effect_of (log.unplaced_state (g.state old.log)) messages) (IsLeft held changes)
         (stop-leaves (log.unplaced_state (g.state old.log)) held messages changes logged told stays)
-        (went.stop known)
+        (went.crash known)

@@ -49,7 +49,7 @@ refuses g log after config held (errors.Io device) un = inl tt
 refuses g log after config held (errors.Unsupported LogFull) un =
     let never : changes_of_start (now held) ≢ [] = λ none.
     let empty : length un.begun + length un.rest ≡ 0 = sym (length-append un.begun un.rest) ∙ ap length (un.are ∙ none) in
-    absurd (rw (nil_from_length un.rest (omega arith)) at ((un.full refl).given (nil_from_length un.begun (omega arith)))) in
+    absurd (rw (nil_from_length un.rest (omega arith)) at ((un.full refl).at_once (nil_from_length un.begun (omega arith)))) in
     inr (refl, never)
 refuses g log after config held other un = absurd un.why
 
@@ -83,10 +83,10 @@ module _ {L : Type 0} (g : Ghosts L) (first : Cache L) (calls : List (Call × An
 
     crash-state : (pages : List Messages) → g.left_since crashed moment pages → IsLeft (stable_contents (contents_of s)) (changes_of row.outs) pages
     crash-state pages left =
-        let later = (row.stop flushed.clear).later in
+        let later = (row.crash flushed.clear).later in
         let is-since : g.moment first.log ≤ moment = (let still = ap g.moment same in omega (arith, since, later, still)) in
         subst (λ (h : Logged). IsLeft h (changes_of row.outs) pages) holds-pages
-        ((row.stop flushed.clear).each pages (subst (λ (l : L). g.left_since l (g.moment first.log) pages) same (since_earlier (g.moment first.log) moment pages flushed.is.tells is-since left)))
+        ((row.crash flushed.clear).each pages (subst (λ (l : L). g.left_since l (g.moment first.log) pages) same (since_earlier (g.moment first.log) moment pages flushed.is.tells is-since left)))
 
     -- where the log isn't opened
     pub reopens-unopened : (failure : LogError) (error : Error) → error ≡ error_of (refusal_of failure) → (config : Config) → (failure ≡ failures.Corruption → (pages : List Messages) → g.left_since crashed moment pages) → (failure ≡ failures.Full → ⊥) → ReopensAfter g first s calls last config (Err error)

@@ -1,10 +1,9 @@
 -- What leaves memory behind a call, told of the table, and in the words of the cache's model.
-use Rattle.sled_pagecache.proofs.Names.{left_pages, IsErrOf, Write, Refusal, Call, Answer, Token, Steps, IsBlamed, Keeps, IfOk, IfErr, OnOk, OnErr, IsResident, IsAway, ReadsPage, MeetsDamage, ReportsDamage, AllStay, TakesNode, TakesPage, FindsNode, LosesAtMost, LosesNone, stamps_in, Vec, Contains, Contains-append_cases, Contains-append_left, Contains-append_right, ◌++◌, ◌≡◌, ◌⊎◌, inl, inr, ℕ, zero, suc, Bool, true, List, [], ◌∷◌, Option, Some, None, Result, slice_get, slice_set, refl, sym, ap, subst, arith, same_Some, none-some, Ghosts, Cache, HasNoNode, KeepsMemory, EvictsAtMost, IsPagedOut, Config, StickyLog, Page, Accesses, Recency, Error, IsBounded, MatchOption, IsWhole, IsOutAt, AreOut, lost_pages, Evicts, IsSettled, past-end, view}
+use Rattle.sled_pagecache.proofs.Names.{left_pages, Contains, Contains-append_cases, Contains-append_left, Contains-append_right, ◌++◌, ◌≡◌, ◌⊎◌, inl, inr, ℕ, zero, suc, Bool, List, [], ◌∷◌, Option, Some, None, slice_get, slice_set, refl, sym, ap, subst, arith, Ghosts, Cache, HasNoNode, KeepsMemory, EvictsAtMost, IsPagedOut, Config, StickyLog, Page, Accesses, Recency, Error, IsBounded, MatchOption, IsWhole, IsOutAt, AreOut, lost_pages, Evicts, IsSettled, past-end, view}
 use Rattle.sled_pagecache.proofs.Counted.{counted-out}
 use Rattle.sled_pagecache.proofs.InMemory.{past-view, stays-same}
 use Rattle.sled_pagecache.proofs.PagingOut.{PagesOut, consistent-out, out-page, out-listed, out-none, out-then}
 use Rattle.sled_pagecache.proofs.Settling.{Settles}
-use Rattle.sled_base.specs.declared.types.Refusal.TheVariants as refusal
 use Rattle.sled_pagecache.proofs.Sizes.{sized-view}
 
 -- one more

@@ -1,5 +1,5 @@
 -- What a link makes of the chain of its page.
-use Rattle.sled_pagecache.proofs.Names.{Ghosts, ◌≡◌, ◌+◌, ◌<◌, ℤ, ℕ, Bool, true, false, cond, ltb, List, [], ◌∷◌, ◌++◌, length, map, refl, sym, ◌∙◌, ap, subst, slice_set, slice_index_or, length-map, length-append, map-append, ◌⊎◌, Result, Err, LinkRefused, Read, Write, DiskPtr, Refusal, ReportableBug, Io, is_empty, chains_from, Node, Update, Put, Link, Event, Change, Message, Entry, Chain, Messages, messages_of, placed_entry, effect_of_entry, said_of, IsUpdate, Makes, message_of, Accepts, applied, WholeNode, place_of, Went, IsCaused, begun_by, IsCaused-handed_on, HoldsChain, IsKept, is_free, RefusesSwap, RefusesLink, link_update, joined_infos, linked_length, update_of, CacheInfo, StickyLog, Kept, Page, NodeLink, arith}
+use Rattle.sled_pagecache.proofs.Names.{◌≡◌, ◌<◌, ℕ, Bool, true, false, cond, ltb, List, [], ◌∷◌, ◌++◌, length, map, sym, ◌∙◌, ap, subst, slice_set, slice_index_or, length-map, map-append, Result, Err, Refusal, is_empty, chains_from, Node, Put, Link, Event, Change, Message, Entry, Chain, messages_of, placed_entry, effect_of_entry, said_of, IsUpdate, Makes, message_of, Accepts, applied, WholeNode, place_of, begun_by, HoldsChain, IsKept, is_free, link_update, joined_infos, update_of, CacheInfo, Kept, Page, NodeLink, arith}
 use Rattle.sled_pagecache.specs.declared.pagecache.table.page.Kept.TheVariants as kept
 use Rattle.sled_pagecache.proofs.FoundMessages.{makes-more}
 use Rattle.sled_pagecache.proofs.Swaps.{at-page, other-pages, put-chains, kept-put}

@@ -98,7 +98,7 @@ pub use Rattle.sled_pagecache.specs.Reopening.{AreAfterPrefix, CrashReopens, Hol
 pub use Rattle.sled_pagecache.specs.Inside.SequenceLaws.{IsLonger, OnlyNow, left-now, made-row, none-came, one-longer, row-none, row-one, row-then, step-stuck}
 pub use Rattle.sled_pagecache.specs.Infos.{stamps_to}
 pub use Rattle.sled_pagecache.specs.Inside.SystemPages.{Starts}
-pub use Rattle.sled_pagecache.specs.Opening.{HasAdded, IsBlamedOpening, IsFit, IsOpened, IsUnopened, LacksRoomFor, MayBeOpened, Opens, RefusesOpening, WasFull, has_own, log_after, stable_state, stable_contents}
+pub use Rattle.sled_pagecache.specs.Opening.{HasAdded, IsBlamedOpening, IsFit, IsOpened, IsUnopened, LacksRoomFor, MayBeOpened, Opens, RefusesOpening, RanOutOfRoom, has_own, log_after, stable_state, stable_contents}
 pub use Rattle.sled_pagecache.specs.Calls.{CrashLeaves}
 pub use Rattle.sled_pagecache.specs.Memory.{IsHindrance}
 pub use Rattle.sled_pagecache.specs.State.{StampedPage, State, contents_of, free_token, greatest_free, is_free as is_free_content, later_token, page, page_at, stamps_of, with_page}

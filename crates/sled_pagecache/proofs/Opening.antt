@@ -1,5 +1,5 @@
 -- Opening a cache over a log.
-use Rattle.sled_pagecache.proofs.Names.{roots_event, ⊎_elim, ◌≡◌, ◌≢◌, ◌≤◌, ◌<◌, ℕ, zero, suc, false, List, [], ◌∷◌, ◌++◌, length, map, take, drop, None, Some, Ok, Err, refl, sym, ◌∙◌, ap, subst, arith, drop-nil, take-append_seam, drop-append_seam, length-map, take-append-drop, take-map, drop-map, AllZip-long, error_of, Write, Refusal, LogFull, is_open, Content, Counter, Roots, Update, Put, contents_after, Event, Change, Pin, Seal, Cancel, seen_event, holds-after, Message, Entry, Chain, Messages, messages_of, effect_of, effect_of_entry, Holds, Hold, AreEvents, events-take, reads-open, unplaced_state, is_open-unplaced, now-unplaced, message_of, written-update, Ghosts, Cache, IsOpenedWith, counter_event, events_at_start, Logged, IsLogged, fault_of, drop_all, cases_lt, sticky_log_of, changes_of_start, opened_state, is_fault, Comes, LacksRoom, Proceeds, IsProper, StayProper, IsFit, RefusesOpening, IsHindrance, HasAdded, CrashLeaves, LacksRoomFor, Opens, page, contents_of, Config, StickyLog, slice_get, StampedPage, add-by-id, at-id, zip-first, all-at, map-at, holds_now}
+use Rattle.sled_pagecache.proofs.Names.{roots_event, ⊎_elim, ◌≡◌, ◌≢◌, ◌≤◌, ◌<◌, ℕ, zero, suc, false, List, [], ◌∷◌, ◌++◌, length, map, take, drop, None, Some, Ok, Err, refl, sym, ◌∙◌, ap, subst, arith, drop-nil, take-append_seam, drop-append_seam, length-map, take-append-drop, take-map, drop-map, AllZip-long, error_of, Write, Refusal, LogFull, is_open, Content, Counter, Roots, Update, Put, contents_after, Event, Change, Pin, Seal, Cancel, seen_event, holds-after, Message, Entry, Chain, Messages, messages_of, effect_of, effect_of_entry, Holds, Hold, AreEvents, events-take, reads-open, unplaced_state, is_open-unplaced, now-unplaced, message_of, written-update, Ghosts, Cache, IsOpenedWith, counter_event, events_at_start, Logged, IsLogged, fault_of, drop_all, cases_lt, sticky_log_of, changes_of_start, opened_state, is_fault, Comes, LacksRoom, Proceeds, IsProper, StayProper, IsFit, RefusesOpening, HasAdded, CrashLeaves, LacksRoomFor, Opens, page, contents_of, Config, StickyLog, slice_get, StampedPage, add-by-id, at-id, zip-first, all-at, map-at, holds_now}
 use Rattle.sled_base.specs.declared.types.Error.TheVariants as errors
 use Rattle.sled_base.specs.declared.types.Refusal.TheVariants.{Unsupported}
 use Rattle.sled_log.specs.LogState as log
@@ -128,7 +128,7 @@ module _ {L : Type 0} (g : Ghosts L) (known : g.tells) (config : Config) (old : 
         begun = take n changes;
         rest = drop n changes;
         are = take-append-drop n changes;
-        stop = reach.0;
+        crash = reach.0;
         added = λ other. reach.1 (done.fault ∙ no-fault refusal other);
         full = λ so.
             let full_is : refusal ≡ Unsupported LogFull = grind (arith, so) in
@@ -139,12 +139,12 @@ module _ {L : Type 0} (g : Ghosts L) (known : g.tells) (config : Config) (old : 
             let state = unplaced_state (g.state at.log) in
             let nothing = carried g known at new added.held_then [] [] added.logged tt (stay-none (log.now effect_of state) (now added.held_then) (proper-now state added.held_then added.logged)) full.behind in
             record {
-              given = λ none. lacks cut.came cut.rest cut.is old.log (full.given (sym (part cut.came cut.rest cut.is) ∙ ap (take n) (events-are (now held)) ∙ take-map tell n changes ∙ ap (map tell) none));
-              at = at.log;
-              came = then.0;
+              at_once = λ none. lacks cut.came cut.rest cut.is old.log (full.given (sym (part cut.came cut.rest cut.is) ∙ ap (take n) (events-are (now held)) ∙ take-map tell n changes ∙ ap (map tell) none));
+              moment = at.log;
+              reached = then.0;
               added = added;
-              room = lacks cut.came cut.rest cut.is at.log full.room;
-              nothing = (nothing.0, nothing.1 (done.fault ∙ ap (λ r. is_fault (Some r)) full_is));
+              no_room = lacks cut.came cut.rest cut.is at.log full.room;
+              still = (nothing.0, nothing.1 (done.fault ∙ ap (λ r. is_fault (Some r)) full_is));
             };
       }
 
@@ -159,7 +159,7 @@ module _ {L : Type 0} (g : Ghosts L) (known : g.tells) (config : Config) (old : 
       let told = events-start (now held) in
       let carried = carries g old new held (events_at_start (now held)) changes logged told stays went known done.fault in
       record {
-        stop = leaves g old new held (events_at_start (now held)) changes logged told stays went known;
+        crash = leaves g old new held (events_at_start (now held)) changes logged told stays went known;
         held_then = carried.held_then;
         is = record {
           tells = known;

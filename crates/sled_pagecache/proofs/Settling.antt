@@ -1,9 +1,9 @@
 -- What holds of a cache holds of it once what the list of recent use dropped is paged out, and what a call makes of memory then.
-use Rattle.sled_pagecache.proofs.Names.{◌++◌, [], ◌∷◌, append-nil, left_pages, lost_pages, Contains-append_cases, Contains-append_left, Contains-append_right, eqb, eqb_tells, Vec, Contains, IfOk, IfErr, IsSomeAnd, MatchOption, OnOk, OnErr, Recency, IsAccessed, IsListed, IsSound, rounded, itself_stays, itself_is_listed, others_stay_or_leave, ◌≡◌, ◌≢◌, ◌⊎◌, inl, inr, ℕ, Bool, true, false, List, Option, Some, None, Result, Ok, Err, refl, sym, ◌∙◌, ap, subst, same_Some, none-some, IsErrOf, Error, Write, Refusal, Ghosts, Keeps, Cache, Represents, IsResident, IsAway, chain_length, IsBlamed, IsCaused, Steps, is_reserved, ReadsNothing, ReadsPage, MeetsDamage, ReportsDamage, BringsIn, sticky_log_of, Logged, State, Answer, Call, Token, IsHindrance, count_after, WasAccessed, IsTouched, HasNode, HasNoNode, AreSized, IsBounded, StaysAt, KeepsMemory, AccessesPage, FindsPage, LeavesOthers, EvictsAtMost, LeavesNodes, LeavesPages, AllStay, TakesNode, TakesPage, FindsNode, LosesAtMost, LosesNone, Accesses}
+use Rattle.sled_pagecache.proofs.Names.{◌++◌, [], ◌∷◌, append-nil, left_pages, Contains-append_cases, Contains-append_left, Contains-append_right, eqb_tells, Vec, Contains, IfOk, IsSomeAnd, OnOk, OnErr, Recency, IsAccessed, IsListed, IsSound, rounded, itself_stays, itself_is_listed, others_stay_or_leave, ◌≡◌, ◌≢◌, ◌⊎◌, inl, inr, ℕ, Bool, true, false, List, Option, Some, None, Result, Ok, Err, refl, sym, ◌∙◌, ap, subst, same_Some, IsErrOf, Error, Write, Refusal, Ghosts, Keeps, Cache, Represents, IsAway, chain_length, IsBlamed, IsCaused, Steps, is_reserved, ReadsNothing, ReadsPage, ReportsDamage, BringsIn, sticky_log_of, Logged, State, Answer, Call, count_after, WasAccessed, HasNode, HasNoNode, AreSized, IsBounded, StaysAt, KeepsMemory, AccessesPage, FindsPage, EvictsAtMost, LeavesPages, AllStay, TakesNode, TakesPage, FindsNode, LosesAtMost, Accesses}
 use Rattle.sled_base.specs.Containing.{contains_cases, contains_first, contains_none}
 use Rattle.sled_base.specs.declared.types.Error.TheVariants.{Io}
 use Rattle.sled_base.specs.declared.types.Refusal.TheVariants as refusal
-use Rattle.sled_pagecache.proofs.InMemory.{stays-then, stays-has, stay-is}
+use Rattle.sled_pagecache.proofs.InMemory.{stays-then, stays-has}
 use Rattle.sled_pagecache.proofs.PagingOut.{PagesOut}
 
 -- A call that found nothing dropped made one cache of another, and then what the list dropped for it was paged out, and with that the
@@ -36,7 +36,7 @@ module _ {L : Type 0} {g : Ghosts L} {mid : Cache L} (resident : List Bool) (nod
     opening = record { config = steps.opening.config; recovered = steps.opening.recovered };
     from_each = λ held s is.
         let step = steps.from_each held s is in
-        record { out = step.out; step = step.step; held_then = step.held_then; is = in-moved step.is; added = step.added; stop = step.stop; stuck = step.stuck };
+        record { out = step.out; step = step.step; held_then = step.held_then; is = in-moved step.is; added = step.added; crash = step.crash; stuck = step.stuck };
   }
 
   left-record : {old : Cache L} → LeavesPages g old mid → LeavesPages g old (record mid { resident = resident; nodes = nodes; lru = lru })
@@ -50,7 +50,7 @@ module _ {L : Type 0} {g : Ghosts L} {mid : Cache L} (resident : List Bool) (nod
     failed_reads = left.failed_reads;
     write_faults = left.write_faults;
     added = left.added;
-    stop = left.stop;
+    crash = left.crash;
     same = left.same;
   }
 

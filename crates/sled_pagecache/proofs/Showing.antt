@@ -152,7 +152,7 @@ module _ {L : Type 0} (g : Ghosts L) (tells : g.tells)
       rises = rw contents at passes.rises
 
       left : (pages : List Messages) → g.left_since new.log (g.moment old.log) pages → SurviveAs (with_begun one.out.changes h) interval bound pages
-      left pages since = survive h interval bound held on.told one.out.changes one.out.changes (IsPrefix-all one.out.changes) rises pages ((one.stop on.clear).each pages since)
+      left pages since = survive h interval bound held on.told one.out.changes one.out.changes (IsPrefix-all one.out.changes) rises pages ((one.crash on.clear).each pages since)
 
       goes-on : (free : one.out.state.fault ≡ false) (bound_then : ℕ) → bound_then ≤ one.out.state.next → BeginsAbove interval bound_then one.held_then.stable → Stands (history_after_call answer one.out h) interval bound_then new one.out.state
       goes-on free bound_then next above = record {
@@ -184,7 +184,7 @@ module _ {L : Type 0} (g : Ghosts L) (tells : g.tells)
       clear-goes =
           ⊎_elim
           (λ none. goes bound
-          (⊎_elim (λ kept. record { held = one.held_then; is = one.is; so = inr (record { kept = kept; since = g.moment old.log; earlier = (one.stop on.clear).later; left = rw kept left }) })
+          (⊎_elim (λ kept. record { held = one.held_then; is = one.is; so = inr (record { kept = kept; since = g.moment old.log; earlier = (one.crash on.clear).later; left = rw kept left }) })
           (λ free. goes-on free bound (omega (arith, on.next, passes.next)) (safe-added interval bound held on.told.safe one.out.changes rises one.held_then (one.added free)).above) (cases_Bool one.out.state.fault))
           (λ more below. rw none below))
           (λ given. goes (s.next + 1) (goes-on given.1 (s.next + 1) (omega (arith, given.2)) (above-id given.0 given.1)) (λ more below. rw given.0 (on.next, below))) passes.given
@@ -309,9 +309,9 @@ module _ {L : Type 0} (g : Ghosts L) (tells : g.tells)
               (λ handed. by-return [] (IsPrefix-none all) found.held l (subst (λ r. IsErrAnd r (λ e. (e.0 ≢ Io Write) × (left ≡ e.1))) same handed).1 found.logged (adds-none found.held)) leaves
 
           of_result : (result : Result (Cache L) (Error × L)) → Opens g l config found.held result → LeavesUnopened g l result left → Lands (EndsUnopened h) least bound left
-          of_result (Ok cache) start leaves = ⊎_elim (λ crash. by-crash cache.log all (IsPrefix-all all) crash start.stop.each) (λ handed. absurd handed) leaves
+          of_result (Ok cache) start leaves = ⊎_elim (λ crash. by-crash cache.log all (IsPrefix-all all) crash start.crash.each) (λ handed. absurd handed) leaves
           of_result (Err refused) start leaves =
-              ⊎_elim (λ crash. by-crash refused.1 start.begun (start.rest, start.are) crash start.stop.each)
+              ⊎_elim (λ crash. by-crash refused.1 start.begun (start.rest, start.are) crash start.crash.each)
               (λ handed. let adds = start.added handed.0 in by-return start.begun (start.rest, start.are) adds.held_then refused.1 handed.1 adds.logged adds.added) leaves
 
   -- how it ends

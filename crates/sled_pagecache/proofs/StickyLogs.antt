@@ -45,7 +45,7 @@ module _ {L : Type 0} (g : Ghosts L) {T : Type 0} where
           usable = λ clear. called.usable ∙ ap not (sym met ∙ clear);
           opened = λ clear. called.opened (sym met ∙ clear);
           added = λ told clear. came old.log new.log count events begun outcome called are told (sym met ∙ clear);
-          stop = called.stop;
+          crash = called.stop;
           failed_reads = called.cause.failed_reads;
           write_faults = called.cause.write_faults;
         })

@@ -14,8 +14,6 @@ use Rattle.sled_pagecache.specs.declared.pagecache.handles.call.Answer.{Answer}
 use Rattle.sled_pagecache.specs.declared.pagecache.handles.call.Answer.TheVariants.{Pinned, Sealed, Cancelled}
 use Rattle.sled_pagecache.specs.declared.pagecache.handles.call.Call.{Call}
 use Rattle.sled_pagecache.specs.declared.pagecache.handles.call.Call.TheVariants.{Pin, Seal, Cancel}
-use Rattle.sled_pagecache.specs.declared.pagecache.write.sticky_log.Closing.{Closing}
-use Rattle.sled_pagecache.specs.declared.pagecache.write.sticky_log.Closing.TheVariants as closings
 use Rattle.std.specs.Borrow.{Fml, RattleType, MutBor, RestsIfErr, Lends}
 use mir.Syntax.{named}
 use Rattle.sled_pagecache.specs.declared.pagecache.cache.guard.RecoveryGuard.{RecoveryGuard}
@@ -28,15 +26,6 @@ use Rattle.sled_pagecache.specs.Reopening.{AreAfterPrefix, CrashReopens}
 use Rattle.sled_pagecache.specs.Rows.{AreSteps, StepInRow, changes_of}
 use Rattle.sled_pagecache.specs.State.{State, contents_of}
 use Rattle.sled_pagecache.specs.Step.{Outcome}
-
--- the call that closes a batch so, and its answer
-abbrev pub call_of : Closing → Call
-call_of closings.Seal = Seal
-call_of closings.Cancel = Cancel
-
-abbrev pub answer_of : Closing → Result (Unit {0}) Error → Answer
-answer_of closings.Seal = Sealed
-answer_of closings.Cancel = Cancelled
 
 module _ {L : Type 0} (g : Ghosts L) where
   -- A batch was opened, unless one was open or the log refused it. No page changes, in memory neither.

@@ -46,7 +46,7 @@ module _ {L : Type 0} (g : Ghosts L) where
     pub held_then : Logged
     pub is : Represents g new held_then out.state
     pub added : out.state.fault ≡ false → Adds held out.changes held_then
-    pub stop : s.fault ≡ false → CrashLeaves old.log held out.changes new.log
+    pub crash : s.fault ≡ false → CrashLeaves old.log held out.changes new.log
     pub stuck : s.fault ≡ true → new.log ≡ old.log
 
   -- The call is one step, in whatever state the cache is.

@@ -52,7 +52,7 @@ pub record LeavesPages {L : Type 0} (g : Ghosts L) (old new : Cache L) : Type 0 
   pub failed_reads : (g.counts old.log).failed_reads ≤ (g.counts new.log).failed_reads
   pub write_faults : (g.counts old.log).write_faults ≤ (g.counts new.log).write_faults
   pub added : g.tells → new.fault ≡ false → log.Adds effect_of (log.unplaced_state (g.state old.log)) [] (log.unplaced_state (g.state new.log))
-  pub stop : g.tells → log.CrashesSinceLeave g.moment g.left_since old.log new.log (log.IsLeft effect_of (log.unplaced_state (g.state old.log)) [])
+  pub crash : g.tells → log.CrashesSinceLeave g.moment g.left_since old.log new.log (log.IsLeft effect_of (log.unplaced_state (g.state old.log)) [])
   pub same : g.tells → new.fault ≡ false → log.now effect_of_entry (g.state new.log) ≡ log.now effect_of_entry (g.state old.log)
 
 -- the first wrong message of the page, unless memory ran out or the device failed

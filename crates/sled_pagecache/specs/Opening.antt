@@ -110,17 +110,17 @@ module _ {L : Type 0} (g : Ghosts L) where
 
   -- The log was full. Where no change had begun, it lacked room as it was given; else it did once those that began were added
   -- to it. From then on nothing was added.
-  pub record WasFull (log : L) (held : Logged) (begun rest : List (Event Update)) (after : L) : Type 0 where
-    pub given : begun ≡ [] → LacksRoomFor log rest
-    pub at : L
-    pub came : CrashLeaves g log held begun at
-    pub added : HasAdded held begun at
-    pub room : LacksRoomFor at rest
-    pub nothing : CrashLeaves g at added.held_then [] after × HasAdded added.held_then [] after
+  pub record RanOutOfRoom (log : L) (held : Logged) (begun rest : List (Event Update)) (after : L) : Type 0 where
+    pub at_once : begun ≡ [] → LacksRoomFor log rest
+    pub moment : L
+    pub reached : CrashLeaves g log held begun moment
+    pub added : HasAdded held begun moment
+    pub no_room : LacksRoomFor moment rest
+    pub still : CrashLeaves g moment added.held_then [] after × HasAdded added.held_then [] after
 
   -- A cache was opened: the missing system pages were added, and where one was missing, all is durable.
   pub record IsOpened (log : L) (config : Config) (held : Logged) (cache : Cache L) : Type 0 where
-    pub stop : CrashLeaves g log held (changes_of_start (now held)) cache.log
+    pub crash : CrashLeaves g log held (changes_of_start (now held)) cache.log
     pub held_then : Logged
     pub added : Adds held (changes_of_start (now held)) held_then
     pub stable : missing_pages (now held) ≢ [] → held_then.pending ≡ []
@@ -135,9 +135,9 @@ module _ {L : Type 0} (g : Ghosts L) where
     pub begun : List (Event Update)
     pub rest : List (Event Update)
     pub are : begun ++ rest ≡ changes_of_start (now held)
-    pub stop : CrashLeaves g log held begun after
+    pub crash : CrashLeaves g log held begun after
     pub added : error ≢ Io Write → HasAdded held begun after
-    pub full : error ≡ Unsupported LogFull → WasFull log held begun rest after
+    pub full : error ≡ Unsupported LogFull → RanOutOfRoom log held begun rest after
 
   -- What opening a cache makes of a log that held this.
   abbrev pub Opens : L → Config → Logged → Result (Cache L) (Error × L) → Type 0

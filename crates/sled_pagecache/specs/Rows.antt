@@ -39,7 +39,7 @@ module _ {L : Type 0} (g : Ghosts L) where
     pub outs : List Outcome
     pub steps : AreSteps (Steps g) old s calls outs new t
     pub added : t.fault ≡ false → Adds held (changes_of outs) held_then
-    pub stop : s.fault ≡ false → CrashLeaves g old.log held (changes_of outs) new.log
+    pub crash : s.fault ≡ false → CrashLeaves g old.log held (changes_of outs) new.log
     pub stuck : s.fault ≡ true → new.log ≡ old.log
 
   -- The calls are steps in a row, in whatever state the cache is.

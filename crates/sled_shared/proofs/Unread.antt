@@ -40,7 +40,7 @@ module _ {L : Type 0} (g : Ghosts L) (old new : Cache L) where
       opening = steps.opening;
       from_each = λ held s is.
           let one = steps.from_each held s is in
-          record { out = one.out; step = unread-gets s pid found one.out one.step; held_then = one.held_then; is = one.is; added = one.added; stop = one.stop; stuck = one.stuck };
+          record { out = one.out; step = unread-gets s pid found one.out one.step; held_then = one.held_then; is = one.is; added = one.added; crash = one.crash; stuck = one.stuck };
     };
     bytes = tt;
     faults = record { read = λ e. absurd cc; write = λ e. absurd cc };

@@ -1,5 +1,5 @@
 -- How the cache keeps a page, beside the chain that the log has of it.
-use Rattle.std.specs.Prelude.{◌≡◌, ◌⊎◌, ◌^◌, ℕ, min, IsSomeAnd, ◌+◌, nat_lt, Bool, true, false, List, [], ◌∷◌, length, map, Option, Some, None, if◌then◌else◌}
+use Rattle.std.specs.Prelude.{◌≡◌, ◌⊎◌, ◌^◌, ℕ, min, IsSomeAnd, ◌+◌, Bool, true, false, List, [], ◌∷◌, length, map, Option, Some, None, if◌then◌else◌}
 use Rattle.sled_base.specs.Lru.{IsAccessed, IsSound, rounded}
 use Rattle.sled_pagecache.specs.declared.pagecache.memory.accesses.Accesses.{Accesses}
 use Rattle.std.specs.List.{sum_by}
@@ -10,7 +10,6 @@ use Rattle.sled_log.specs.Pages.{said_of}
 use Rattle.sled_log.specs.Reading.{Makes}
 use Rattle.sled_log.specs.Limits.{head_size}
 use Rattle.sled_pagecache.specs.Infos.{place_of}
-use Rattle.sled_pagecache.specs.Limits.{most_messages}
 use Rattle.sled_pagecache.specs.declared.pagecache.table.page.CacheInfo.{CacheInfo}
 use Rattle.sled_pagecache.specs.declared.pagecache.table.page.Kept.{Kept}
 use Rattle.sled_pagecache.specs.declared.pagecache.table.page.Kept.TheVariants.{Free, Away, Counter, Roots, Node}

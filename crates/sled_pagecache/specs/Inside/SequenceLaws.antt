@@ -155,8 +155,8 @@ module _ {L : Type 0} (g : Ghosts L) where
         by false clear = clear
         by true kept = absurd (false≢true (sym free ∙ steps-stuck (Steps g) mid new row.t next.t others next.outs next.steps kept))
 
-    stop : s.fault ≡ false → CrashesSinceLeave g.moment g.left_since old.log new.log (IsLeft held all)
-    stop free = by row.t.fault refl
+    crash : s.fault ≡ false → CrashesSinceLeave g.moment g.left_since old.log new.log (IsLeft held all)
+    crash free = by row.t.fault refl
       where
         of_first : (pages : List Messages) → IsLeft held (changes_of row.outs) pages → IsLeft held all pages
         of_first pages left = left-more held (changes_of row.outs) all pages (changes_of next.outs, refl) left
@@ -164,11 +164,11 @@ module _ {L : Type 0} (g : Ghosts L) where
         by : (fault : Bool) → row.t.fault ≡ fault → CrashesSinceLeave g.moment g.left_since old.log new.log (IsLeft held all)
         by true kept =
             subst (λ l. CrashesSinceLeave g.moment g.left_since old.log l (IsLeft held all)) (sym (next.stuck kept))
-            (CrashesSinceLeave-weaker g.state g.moment g.left_since g.counts old.log mid.log (IsLeft held (changes_of row.outs)) (IsLeft held all) of_first (row.stop free))
+            (CrashesSinceLeave-weaker g.state g.moment g.left_since g.counts old.log mid.log (IsLeft held (changes_of row.outs)) (IsLeft held all) of_first (row.crash free))
         by false clear =
             stops-then g.moment g.left_since old.log mid.log new.log (IsLeft held (changes_of row.outs)) (IsLeft row.held_then (changes_of next.outs)) (IsLeft held all) of_first
             (λ pages left. left-behind held row.held_then (changes_of row.outs) (changes_of next.outs) pages (row.added clear) left)
-            (row.stop free) (next.stop clear)
+            (row.crash free) (next.crash clear)
 
     longer : IsRow g old (calls ++ others) new held s
     longer = record {
@@ -178,7 +178,7 @@ module _ {L : Type 0} (g : Ghosts L) where
       outs = row.outs ++ next.outs;
       steps = steps-then (Steps g) old mid new s row.t next.t calls others row.outs next.outs row.steps next.steps;
       added = λ free. subst (λ (l : List (Event Update)). Adds held l next.held_then) (sym (changes-then row.outs next.outs)) (adds-then held row.held_then next.held_then (changes_of row.outs) (changes_of next.outs) (row.added (clear_before free)) (next.added free));
-      stop = λ free. subst (λ (l : List (Event Update)). CrashesSinceLeave g.moment g.left_since old.log new.log (IsLeft held l)) (sym (changes-then row.outs next.outs)) (stop free);
+      crash = λ free. subst (λ (l : List (Event Update)). CrashesSinceLeave g.moment g.left_since old.log new.log (IsLeft held l)) (sym (changes-then row.outs next.outs)) (crash free);
       stuck = λ kept. next.stuck (steps-stuck (Steps g) old mid s row.t calls row.outs row.steps kept) ∙ row.stuck kept;
     }
 
@@ -197,7 +197,7 @@ module _ {L : Type 0} (g : Ghosts L) where
       outs = [];
       steps = (refl, refl);
       added = λ _. adds-none held;
-      stop = λ free. CrashesSinceLeave-none g.moment g.left_since cache.log (IsLeft held []) (λ pages left. left-now (log.unplaced_state (g.state cache.log)) held pages (is.known free).logged (only_now cache.log pages is.tells (is.known free).usable left));
+      crash = λ free. CrashesSinceLeave-none g.moment g.left_since cache.log (IsLeft held []) (λ pages left. left-now (log.unplaced_state (g.state cache.log)) held pages (is.known free).logged (only_now cache.log pages is.tells (is.known free).usable left));
       stuck = λ _. refl;
     };
   }
@@ -216,7 +216,7 @@ module _ {L : Type 0} (g : Ghosts L) where
           outs = next.out ∷ [];
           steps = (new, steps, next.step, (next.held_then, next.is), (refl, refl));
           added = λ free. subst (λ (l : List (Event Update)). Adds held l next.held_then) all (next.added free);
-          stop = λ free. subst (λ (l : List (Event Update)). CrashesSinceLeave g.moment g.left_since old.log new.log (IsLeft held l)) all (next.stop free);
+          crash = λ free. subst (λ (l : List (Event Update)). CrashesSinceLeave g.moment g.left_since old.log new.log (IsLeft held l)) all (next.crash free);
           stuck = next.stuck;
         };
   }

@@ -10,6 +10,11 @@ use Rattle.sled_log.specs.Messages.{Message, effect_of}
 use Rattle.sled_log.specs.LogState.{Adds, IsLeft, CrashesSinceLeave, unplaced_state}
 use Rattle.sled_log.specs.declared.log.LogError.{LogError}
 use Rattle.sled_log.specs.declared.log.Log.{Ghosts}
+use Rattle.sled_base.specs.declared.types.Error.{Error}
+use Rattle.sled_pagecache.specs.declared.pagecache.handles.call.Answer.{Answer}
+use Rattle.sled_pagecache.specs.declared.pagecache.handles.call.Answer.TheVariants.{Sealed, Cancelled}
+use Rattle.sled_pagecache.specs.declared.pagecache.handles.call.Call.{Call}
+use Rattle.sled_pagecache.specs.declared.pagecache.handles.call.Call.TheVariants as call
 use Rattle.sled_pagecache.specs.declared.pagecache.write.sticky_log.Closing.{Closing}
 use Rattle.sled_pagecache.specs.declared.pagecache.write.sticky_log.Closing.TheVariants as closings
 use Rattle.sled_pagecache.specs.declared.pagecache.write.sticky_log.StickyLog.{StickyLog}
@@ -36,6 +41,15 @@ abbrev pub mark_of : {E : Type 0} → Closing → Event E
 mark_of closings.Seal = Seal
 mark_of closings.Cancel = Cancel
 
+-- the call that closes a batch so, and its answer
+abbrev pub call_of : Closing → Call
+call_of closings.Seal = call.Seal
+call_of closings.Cancel = call.Cancel
+
+abbrev pub answer_of : Closing → Result (Unit {0}) Error → Answer
+answer_of closings.Seal = Sealed
+answer_of closings.Cancel = Cancelled
+
 -- a refusal that a log makes a cache answer
 abbrev pub IsOfLog : Refusal → Type 0
 IsOfLog OutOfMemory = ⊤
@@ -54,7 +68,7 @@ module _ {L : Type 0} (g : Ghosts L) where
     pub failed_reads : (g.counts old.log).failed_reads ≤ (g.counts new.log).failed_reads
     pub write_faults : (g.counts old.log).write_faults ≤ (g.counts new.log).write_faults
     pub added : g.tells → new.fault ≡ false → Adds effect_of (unplaced_state (g.state old.log)) events (unplaced_state (g.state new.log))
-    pub stop : g.tells → CrashesSinceLeave g.moment g.left_since old.log new.log (IsLeft effect_of (unplaced_state (g.state old.log)) events)
+    pub crash : g.tells → CrashesSinceLeave g.moment g.left_since old.log new.log (IsLeft effect_of (unplaced_state (g.state old.log)) events)
 
   -- Each refusal has its cause: a read or a write failed in the call, an allocation failed, or the log had no room. A write fault
   -- is kept.

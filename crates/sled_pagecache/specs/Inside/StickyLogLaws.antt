@@ -28,7 +28,7 @@ module _ {L : Type 0} (g : Ghosts L) where
     failed_reads = omega arith;
     write_faults = omega arith;
     added = λ _ clear. Adds-none effect_of (unplaced_state (g.state sticky_log.log));
-    stop = λ told. CrashesSinceLeave-none g.moment g.left_since sticky_log.log (IsLeft effect_of (unplaced_state (g.state sticky_log.log)) []) (λ pages left. only pages told usable left);
+    crash = λ told. CrashesSinceLeave-none g.moment g.left_since sticky_log.log (IsLeft effect_of (unplaced_state (g.state sticky_log.log)) []) (λ pages left. only pages told usable left);
   }
 
   -- one call after another, where the first kept no write fault
@@ -47,7 +47,7 @@ module _ {L : Type 0} (g : Ghosts L) where
         failed_reads = let a = one.failed_reads in let b = two.failed_reads in omega arith;
         write_faults = let a = one.write_faults in let b = two.write_faults in omega arith;
         added = λ told kept. Adds-then effect_of before between (unplaced_state (g.state new.log)) first second (one.added told clear) (two.added told kept);
-        stop = λ told. CrashesSinceLeave-then g.moment g.left_since old.log mid.log new.log before between first second (one.added told clear) (one.stop told) (two.stop told);
+        crash = λ told. CrashesSinceLeave-then g.moment g.left_since old.log mid.log new.log before between first second (one.added told clear) (one.crash told) (two.crash told);
       }
 
   -- a call that adds nothing after one that did

@@ -1,7 +1,8 @@
 //! Opening and closing a batch of a cache, which its guard does too.
 
 ghost use Rattle.std.specs.Prelude.{◌≡◌, true};
-ghost use Rattle.sled_pagecache.specs.Batches.{OpensBatch, ClosesBatch, SealsBatch, CancelsBatch, answer_of, call_of};
+ghost use Rattle.sled_pagecache.specs.Batches.{OpensBatch, ClosesBatch, SealsBatch, CancelsBatch};
+ghost use Rattle.sled_pagecache.specs.Inside.StickyLog.{answer_of, call_of};
 ghost use Rattle.sled_pagecache.specs.Memory.{IsBounded};
 
 use super::PageCache;

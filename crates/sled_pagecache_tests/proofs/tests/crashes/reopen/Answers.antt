@@ -10,7 +10,7 @@ returns c = λ old new call answer held s same steps is clear.
       crashed.2 c.stop.result
           (record {
             at = clock_of new.log;
-            later = ((steps.from_each held s is).stop clear).later;
+            later = ((steps.from_each held s is).crash clear).later;
             pages = pages;
             left = subst (λ (log : MemLog). might_have_left log (clock_of log) pages) (sym same) c.stop.ensures.left;
             holds = ap (λ (events : List (Event Entry)). record (stable_state pages true) { pending = map (seen_event message_in) events }) c.stop.ensures.pending;

@@ -1,4 +1,4 @@
-use Rattle.sled_pagecache.proofs.Names.{on_err_weaker, None, IsOk, ◌≡◌, inr, true, is_resident, false, [], Ok, refl, sym, ◌∙◌, ap, arith, is_reserved, behind-own, length, ◌≤◌, Went-none, false≢true, is_empty, effect_of_entry, get_or_past, now, AllZip-long, IsKept, none-some, slice_get_past, resident_in, length-map, Page, same_Some, map-at}
+use Rattle.sled_pagecache.proofs.Names.{on_err_weaker, IsOk, ◌≡◌, inr, true, is_resident, false, [], refl, sym, ◌∙◌, ap, arith, is_reserved, behind-own, length, ◌≤◌, Went-none, false≢true, is_empty, effect_of_entry, get_or_past, now, AllZip-long, IsKept, none-some, slice_get_past, resident_in, length-map, Page, same_Some, map-at}
 use Rattle.sled_pagecache.proofs.Counted.{behind-counter, other-at, whole-then}
 use Rattle.sled_pagecache.proofs.Evicting.{keeps-same, settled, settles}
 use Rattle.sled_pagecache.proofs.Settling.{brings-moved, makes-found, reads-moved}

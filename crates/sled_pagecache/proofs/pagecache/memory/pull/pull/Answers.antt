@@ -1,4 +1,4 @@
-use Rattle.sled_pagecache.proofs.Names.{◌≡◌, false, List, sym, ap, subst, arith, AllZip, is_empty, Node, effect_of_entry, IsFoundAs, IsKept, chain_at, HoldsChain, is_free, Found, refused-is}
+use Rattle.sled_pagecache.proofs.Names.{List, sym, subst, arith, AllZip, Node, IsFoundAs, chain_at, HoldsChain, Found, refused-is}
 use Rattle.sled_pagecache.proofs.Pulls.{makes-found, unmade}
 use Rattle.sled_pagecache.proofs.pagecache.memory.pull.pull.Goals as goal
 

@@ -1,4 +1,4 @@
-use Rattle.sled_pagecache.proofs.Names.{[], refl, ◌∙◌, Result, Err, Refusal, refused-is, Went-then, is_resident, ap, arith}
+use Rattle.sled_pagecache.proofs.Names.{[], refl, ◌∙◌, Result, Err, Refusal, refused-is, Went-then, is_resident, arith}
 use Rattle.sled_pagecache.proofs.Linking.{taken, refused, caused}
 use Rattle.sled_pagecache.proofs.ReadCounts.{read-all}
 use Rattle.sled_pagecache.proofs.Tables.{marks-begun}

@@ -1,5 +1,4 @@
-use Rattle.sled_pagecache.proofs.Names.{length-append, [], ◌∷◌, ◌+◌, length, ap, subst, sym, ◌∙◌, inr, refl, rules, Update, Change, effect_of_entry, now, message_of, Went, Went-none, CacheInfo, joined_infos, ltb, head_size, WasAccessed, arith, link_update, IsCaused-handed_on}
-use Rattle.sled_pagecache.specs.declared.pagecache.table.page.Kept.TheVariants as kept
+use Rattle.sled_pagecache.proofs.Names.{length-append, [], ◌∷◌, ◌+◌, length, ap, subst, sym, ◌∙◌, refl, rules, Update, Change, message_of, Went, Went-none, CacheInfo, joined_infos, ltb, head_size, WasAccessed, arith, link_update, IsCaused-handed_on}
 use Rattle.sled_pagecache.proofs.Sizes.{linked-size}
 use Rattle.sled_pagecache.proofs.Linked.{page-full, page-linked, update-is, begun-handed}
 use Rattle.sled_pagecache.proofs.pagecache.write.swap.link_page.Goals as goal
