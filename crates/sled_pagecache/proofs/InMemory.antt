@@ -27,9 +27,6 @@ module _ {L : Type 0} where
   pub stays-has : (old new : Cache L) (pid size : ℕ) → StaysAt old new pid → HasNode new pid size → HasNode old pid size
   stays-has old new pid size stays has = sym stays.node ∙ has
 
-  pub stay-is : (old new : Cache L) → new ≡ old → AllStay old new
-  stay-is old new is pid = record { resident = ap (λ cache. slice_get cache.resident pid) is; node = ap (λ cache. slice_get cache.nodes pid) is }
-
   -- no page is there
   pub none-past : (cache : Cache L) (pid : ℕ) → length cache.nodes ≤ pid → HasNoNode cache pid
   none-past cache pid past size has = none-some (Some size) (sym (slice_get_past cache.nodes pid past) ∙ has)

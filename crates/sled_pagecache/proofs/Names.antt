@@ -109,7 +109,7 @@ pub use Rattle.sled_pagecache.specs.Answers.{linked_length}
 pub use Rattle.sled_pagecache.specs.Inside.Invariant.{AreOwn, IsBeside, IsConsistent, IsCounter, IsFreeOrNode, IsOwnAt, IsRoots, nodes_in, resident_in, stamps_in}
 pub use Rattle.sled_pagecache.specs.State.{IsAnswered, Token, pid_of, stamp_of, token}
 pub use Rattle.sled_pagecache.specs.Inside.RecentUse.{AccessesNode, IsListedAt}
-pub use Rattle.sled_pagecache.proofs.Touched.{AllStay, FindsNode, LacksNodes, LosesAtMost, LosesNone, TakesNode, TakesPage}
+pub use Rattle.sled_pagecache.proofs.Touched.{AllStay, FindsNode, LosesAtMost, TakesNode, TakesPage}
 pub use Rattle.sled_pagecache.specs.declared.pagecache.memory.accesses.Accesses.{Accesses}
 pub use Rattle.sled_pagecache.specs.declared.pagecache.handles.call.Answer.TheVariants.{Allocated, Cancelled, Flushed, FoundRoot, Freed, Generated, Got, GotIdgen, GotMeta, Linked, Pinned, Replaced, RootSwapped, Sealed, Sized}
 pub use Rattle.sled_pagecache.specs.declared.pagecache.handles.call.Answer.{Answer}
@@ -158,7 +158,7 @@ pub use Rattle.std.proofs.Math.Nat.{add-mul-div_right, div-mul-le_self, lt-div-m
 pub use Rattle.sled_pagecache.specs.Answers.{GivesId, IsBelowCounter, IsCovered}
 pub use Rattle.std.specs.BTreeSet.{insert_key}
 pub use Rattle.std.specs.Ordering.{nat_cmp}
-pub use Rattle.sled_pagecache.specs.Inside.Eviction.{AreOut, Evicts, IsOutAt, IsSettled, allocated_behind, answer_behind, cache_of, cache_of as view, left_pages, lost_by, lost_pages}
+pub use Rattle.sled_pagecache.specs.Inside.Eviction.{AreOut, Evicts, IsOutAt, IsSettled, allocation_behind, answer_behind, cache_of, cache_of as view, left_pages, lost_by, lost_pages}
 pub use Rattle.sled_node.specs.Meta.{IsRootMap, changed_roots, root_of, with_root, without_root}
 pub use Rattle.sled_pagecache.specs.Inside.CounterPage.{IsCounterIn, KeepsCounter}
 pub use Rattle.std.specs.BTreeMap.{is_at}

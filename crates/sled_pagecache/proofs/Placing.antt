@@ -1,6 +1,6 @@
 -- A node that was put on a page that had none, or was refused, once what the list dropped for it is paged out: what an allocation answers.
 use Rattle.sled_pagecache.specs.Inside.Appends.{Puts, PutsOnNewPage}
-use Rattle.sled_pagecache.proofs.Names.{inr, allocated_behind, no_name, HasNoName, ReadsNothing, IfOk, IfErr, OnOk, OnErr, ◌≡◌, ◌<◌, ◌+◌, ◌^◌, ℕ, Bool, false, List, [], ◌∷◌, ◌++◌, length, Some, None, Result, Ok, Err, slice_get, slice_set, refl, sym, ◌∙◌, ap, subst, arith, same_Some, error_of, Error, Refusal, Change, message_of, begun_by, Put, Node, Ghosts, WholeNode, Cache, IsResident, HasNoNode, IsBounded, AccessesPage, LeavesNodes, RefusesSwap, RefusesAppend, Keeps, Steps, IsBlamed, stamps_with, stamps_in, resident_in, is_free, IsFreeOrNode, IsConsistent, Token, token, pid_of, stamp_of, Allocate, Allocated, Config, StickyLog, Accesses, Page, IsWhole, Evicts, IsSettled, put-back, view}
+use Rattle.sled_pagecache.proofs.Names.{inr, allocation_behind, no_name, HasNoName, ReadsNothing, IfOk, IfErr, OnOk, OnErr, ◌≡◌, ◌<◌, ◌+◌, ◌^◌, ℕ, Bool, false, List, [], ◌∷◌, ◌++◌, length, Some, None, Result, Ok, Err, slice_get, slice_set, refl, sym, ◌∙◌, ap, subst, arith, same_Some, error_of, Error, Refusal, Change, message_of, begun_by, Put, Node, Ghosts, WholeNode, Cache, IsResident, HasNoNode, IsBounded, AccessesPage, LeavesNodes, RefusesSwap, RefusesAppend, Keeps, Steps, IsBlamed, stamps_with, stamps_in, resident_in, is_free, IsFreeOrNode, IsConsistent, Token, token, pid_of, stamp_of, Allocate, Allocated, Config, StickyLog, Accesses, Page, IsWhole, Evicts, IsSettled, put-back, view}
 use Rattle.sled_pagecache.proofs.Allocating.{IsLastFree, last-at, taken-last, free-from, adds-refused, adds-done, reuses-refused, reuses-done}
 use Rattle.sled_pagecache.proofs.Answers.{keeps-err, keeps-ok, stamps-added, stamps-reused}
 use Rattle.sled_pagecache.proofs.Appending.{after-made}
@@ -68,7 +68,7 @@ module _ {L : Type 0} (g : Ghosts L) {next : ℕ} {config : Config} {recovered :
   pub added : free ≡ [] → (written : Result (Unit {0}) Refusal) → PutsOnNewPage g node before after accesses between table changed written → Evicts between None changed pages then
       → (made : Token) → made ≡ token (length table) 1
       → (let was = view next config recovered accesses.lru before table in let now = view next config recovered then.lru after pages in
-      IsSettled g next config recovered after pages free then × PagePromises g was node now (allocated_behind made written))
+      IsSettled g next config recovered after pages free then × PagePromises g was node now (allocation_behind made written))
   added none (Ok unit) done evicts made is_made =
       let pid = made.pid in
       let last : pid ≡ length table = ap pid_of is_made in
@@ -111,7 +111,7 @@ module _ {L : Type 0} (g : Ghosts L) {next : ℕ} {config : Config} {recovered :
   pub reused : (page : Page) (written : Result (Unit {0}) Refusal) → Puts g pid (kept.Node node) before after accesses between q page written → {free_then : List ℕ} → OnOk written (free_then ≡ front) → OnErr written (free_then ≡ free)
       → Evicts between None (slice_set table pid page) pages then → (made : Token) → made ≡ token pid page.stamp
       → (let was = view next config recovered accesses.lru before table in let now = view next config recovered then.lru after pages in
-      IsSettled g next config recovered after pages free_then then × PagePromises g was node now (allocated_behind made written))
+      IsSettled g next config recovered after pages free_then then × PagePromises g was node now (allocation_behind made written))
   reused page (Ok unit) done {free_then} taken untaken evicts made is_made =
       rw is_made (
       let there = last-at table front pid last in

@@ -6,10 +6,6 @@ use Rattle.sled_pagecache.specs.Cache.{Cache}
 use Rattle.sled_pagecache.specs.Memory.{HasNode, HasNoNode, StaysAt, IsHindrance}
 use Rattle.sled_pagecache.specs.declared.pagecache.memory.accesses.Accesses.{Accesses}
 
--- no node lies in memory
-abbrev pub LacksNodes : {L : Type 0} → Cache L → Type 0
-LacksNodes cache = (pid : ℕ) → HasNoNode cache pid
-
 abbrev pub AllStay : {L : Type 0} → Cache L → Cache L → Type 0
 AllStay old new = (pid : ℕ) → StaysAt old new pid
 
@@ -39,7 +35,3 @@ module _ {L : Type 0} (old : Cache L) (accesses : Accesses) (pid : ℕ) (new : C
     pub lost : StaysAt old new pid ⊎ HasNoNode new pid
     pub touched : IsTouched accesses pid then
     pub unasked : tells → IsHindrance error ⊎ (AllStay old new × (then ≡ accesses))
-
--- the same of a page that has no node in memory
-abbrev pub LosesNone : {L : Type 0} → Type 0 → Cache L → Accesses → Cache L → Accesses → Error → Type 0
-LosesNone tells old accesses new then error = (pid : ℕ) × HasNoNode old pid × LosesAtMost old accesses pid new then tells error

@@ -1,6 +1,6 @@
 //! Crashes of a cache on a disk in memory, and the cache that is opened over what is left.
 
-ghost use Rattle.std.specs.Prelude.{◌≡◌, ◌≤◌, ◌<◌, ◌-◌, ◌^◌, ℕ, [], false, List, IfOk, IfErr};
+ghost use Rattle.std.specs.Prelude.{◌≡◌, ◌≤◌, ◌<◌, ◌-◌, ◌^◌, [], false, List, IfOk, IfErr};
 ghost use Rattle.sled_disk.specs.declared.disk.memory.MemDisk.{MemDisk};
 ghost use Rattle.sled_disk.specs.declared.log.DiskLog.{DiskLog};
 ghost use Rattle.sled_pagecache.specs.Cache.{Cache, Represents};

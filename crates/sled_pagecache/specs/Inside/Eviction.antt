@@ -67,9 +67,9 @@ answer_behind token (Ok done) = Ok (Ok token)
 answer_behind token (Err refusal) = Err (error_of refusal)
 
 -- and what an allocation does
-abbrev pub allocated_behind : Token → Result (Unit {0}) Refusal → Result (ℕ × Token) Error
-allocated_behind token (Ok done) = Ok (token.pid, token)
-allocated_behind token (Err refusal) = Err (error_of refusal)
+abbrev pub allocation_behind : Token → Result (Unit {0}) Refusal → Result (ℕ × Token) Error
+allocation_behind token (Ok done) = Ok (token.pid, token)
+allocation_behind token (Err refusal) = Err (error_of refusal)
 
 -- a cache over a log and a table
 abbrev pub cache_of : {L : Type 0} → ℕ → Config → Bool → Recency → StickyLog L → List Page → Cache L

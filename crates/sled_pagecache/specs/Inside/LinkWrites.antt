@@ -54,7 +54,7 @@ module _ {L : Type 0} (g : Ghosts L) (old : StickyLog L) (pid : ℕ) (page : Pag
 
   -- It was refused. The page stays but that its node may be lost; at most it was accessed, and only a refusal of the log's may have
   -- left it so.
-  pub record RefusesLinkHere (refusal : Refusal) : Type 0 where
+  pub record RefusesToApply (refusal : Refusal) : Type 0 where
     pub is : refusal ≡ Io Write → IsUpdate (message_of written_update) written_update
     pub went : let told : Result (Unit {0}) Refusal = Err refusal in Went g old new (begun_by told (Change pid (message_of written_update) ∷ []))
     pub cause : let told : Result (Unit {0}) Refusal = Err refusal in IsCaused g old new (g.is_full old.log (length (message_of written_update).payload)) told
@@ -72,7 +72,7 @@ module _ {L : Type 0} (g : Ghosts L) (old : StickyLog L) (pid : ℕ) (page : Pag
 
   abbrev pub LinksPage : Result (Unit {0}) Refusal → Type 0
   LinksPage (Ok done) = AppliesLink
-  LinksPage (Err refusal) = RefusesLinkHere refusal
+  LinksPage (Err refusal) = RefusesToApply refusal
 
 -- why a link was refused of which nothing was appended to the log
 abbrev pub RefusesUnappended : Chain → ℕ → NodeLink → Refusal → Type 0

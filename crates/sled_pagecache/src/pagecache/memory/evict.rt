@@ -1,7 +1,7 @@
 //! What leaves memory behind a call.
 
 ghost use Rattle.std.specs.Prelude.{◌≡◌, None};
-ghost use Rattle.sled_pagecache.specs.Inside.Eviction.{IsOutAt, AreOut, Evicts, lost_by, answer_behind, allocated_behind};
+ghost use Rattle.sled_pagecache.specs.Inside.Eviction.{IsOutAt, AreOut, Evicts, lost_by, answer_behind, allocation_behind};
 
 use crate::pagecache::handles::view::PageView;
 use crate::pagecache::memory::accesses::Accesses;
@@ -41,7 +41,7 @@ pub(crate) fn end_allocation(
     written: Result<(), Refusal>,
 ) -> Result<(PageId, PageView), Error>
     ensures evicts { Evicts accesses.old None pages.old.pages pages.new.pages accesses.new }
-    ensures answer { result ≡ allocated_behind token written }
+    ensures answer { result ≡ allocation_behind token written }
 {
     evict(pages, accesses, None);
     match written {

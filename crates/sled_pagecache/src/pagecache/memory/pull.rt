@@ -1,18 +1,14 @@
 //! The reading of a page that doesn't lie in memory.
 
-ghost use Rattle.std.specs.Prelude.{◌≡◌, ◌⊎◌, ℕ, ◌≤◌, ◌<◌, [], false, true, length, IfErr, IsOk, OnOk, OnErr};
+ghost use Rattle.std.specs.Prelude.{◌≡◌, ◌<◌, false, true, length, IfErr, IsOk, OnOk, OnErr};
 ghost use Rattle.sled_base.specs.declared.types.Refusal.TheVariants as refusal;
-ghost use Rattle.sled_log.specs.Messages.{effect_of_entry, messages_of};
+ghost use Rattle.sled_log.specs.Messages.{effect_of_entry};
 ghost use Rattle.sled_log.specs.LogState.{now};
-ghost use Rattle.sled_pagecache.specs.Inside.PageEntry.{WasAccessed, IsTouched};
 ghost use Rattle.sled_pagecache.specs.Cache.{chain_at};
-ghost use Rattle.sled_pagecache.specs.Memory.{count_after};
-ghost use Rattle.sled_pagecache.specs.Inside.StickyLog.{Went, IsCaused, IsOfLog};
 ghost use Rattle.sled_pagecache.specs.Inside.LinkWrites.{PutsLink};
-ghost use Rattle.sled_pagecache.specs.Inside.PageEntry.{IsKept, is_resident, access_size};
+ghost use Rattle.sled_pagecache.specs.Inside.PageEntry.{IsKept, is_resident};
 ghost use Rattle.sled_pagecache.specs.Table.{is_free};
 ghost use Rattle.sled_pagecache.specs.Inside.PageIn.{PullsPage};
-ghost use Rattle.sled_pagecache.specs.Inside.PageWrites.{RefusesLink};
 ghost use Rattle.sled_pagecache.specs.Inside.Invariant.{IsFreeOrNode};
 ghost use Rattle.sled_pagecache.specs.Inside.RecentUse.{IsListedAt, AccessesNode};
 ghost use Rattle.sled_pagecache.specs.declared.pagecache.table.page.Kept.TheVariants as kept;

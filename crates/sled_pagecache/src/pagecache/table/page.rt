@@ -3,7 +3,6 @@
 ghost use Rattle.std.specs.Prelude.{◌≡◌, ◌+◌, ◌<◌, ◌-◌, ◌^◌, ◌++◌, [], ◌∷◌, min, length, vec_len, vec_capacity, map, IfOk, true};
 ghost use Rattle.std.specs.List.{sum_by};
 ghost use Rattle.sled_pagecache.specs.Infos.{place_of};
-ghost use Rattle.sled_pagecache.specs.Limits.{most_messages};
 ghost use Rattle.sled_pagecache.specs.Infos.{stamps_to};
 ghost use Rattle.sled_pagecache.specs.Inside.Infos.{joined_infos};
 

@@ -1,21 +1,9 @@
 //! The making of a page.
 
-ghost use Rattle.std.specs.Prelude.{◌≡◌, ◌≢◌, ◌⊎◌, ◌++◌, [], ◌∷◌, false, true, length, slice_get, IfOk, IfErr, IfSome, OnOk, OnErr};
-ghost use Rattle.std.specs.List.{AllByRecursion};
-ghost use Rattle.sled_log.specs.Contents as contents;
-ghost use Rattle.sled_log.specs.Events.{Change};
+ghost use Rattle.std.specs.Prelude.{◌≡◌, false, true, length};
 ghost use Rattle.sled_log.specs.Messages.{effect_of_entry};
-ghost use Rattle.sled_log.specs.Pages.{IsSized};
-ghost use Rattle.sled_log.specs.Reading.{IsUpdate};
 ghost use Rattle.sled_log.specs.LogState.{now};
-ghost use Rattle.sled_log.specs.Reading.{message_of};
 ghost use Rattle.sled_pagecache.specs.Inside.Appends.{PutsOnNewPage};
-ghost use Rattle.sled_pagecache.specs.Inside.PageEntry.{WasAccessed, IsTouched};
-ghost use Rattle.sled_pagecache.specs.Inside.NewPages.{HasOneMore, RefusesPage};
-ghost use Rattle.sled_pagecache.specs.Cache.{chain_at};
-ghost use Rattle.sled_pagecache.specs.Limits.{most_pages};
-ghost use Rattle.sled_pagecache.specs.Inside.StickyLog.{Went, IsCaused, IsOfLog, begun_by};
-ghost use Rattle.sled_pagecache.specs.Inside.PageEntry.{access_size};
 
 use crate::pagecache::MAX_PAGES;
 use crate::pagecache::memory::accesses::{Accesses, size_with};

@@ -1,6 +1,6 @@
 //! The swap of a named root, on the page of the named roots.
 
-ghost use Rattle.std.specs.Prelude.{◌≡◌, ◌≢◌, ◌⊎◌, ◌<◌, false, true, length, None, Some, IfErr, OnOk, OnErr};
+ghost use Rattle.std.specs.Prelude.{◌≡◌, ◌⊎◌, ◌<◌, false, true, length, None, Some, IfErr, OnOk, OnErr};
 ghost use Rattle.sled_log.specs.LogState.{now};
 ghost use Rattle.sled_log.specs.Messages.{effect_of_entry};
 ghost use Rattle.sled_base.specs.declared.types.Refusal.TheVariants.{Unsupported};

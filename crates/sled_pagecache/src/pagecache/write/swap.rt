@@ -1,16 +1,12 @@
 //! The swaps of a page that stands and lies in memory.
 
-ghost use Rattle.std.specs.Prelude.{◌≡◌, ◌≢◌, ◌⊎◌, ◌+◌, ◌-◌, ◌<◌, ◌≤◌, ◌^◌, ◌↔◌, ◌++◌, [], ◌∷◌, false, true, length, map, slice_set, max, vec_len, vec_capacity, IfErr, OnOk, OnErr, IsErrOf, IsTrue, take};
+ghost use Rattle.std.specs.Prelude.{◌≡◌, ◌≢◌, ◌+◌, ◌-◌, ◌<◌, ◌≤◌, ◌↔◌, false, true, length, max, vec_len, vec_capacity, OnOk, OnErr, IsTrue, take};
 ghost use Rattle.std.specs.BTreeSet.{insert_key};
-ghost use Rattle.std.specs.List.{AllByRecursion, sum_by};
+ghost use Rattle.std.specs.List.{AllByRecursion};
 ghost use Rattle.std.specs.Ordering.{nat_cmp};
-ghost use Rattle.sled_base.specs.declared.types.Device.TheVariants.{Write};
-ghost use Rattle.sled_base.specs.declared.types.Refusal.TheVariants.{Io};
 ghost use Rattle.sled_log.specs.Chains.{is_empty};
 ghost use Rattle.sled_log.specs.Contents as contents;
-ghost use Rattle.sled_log.specs.Events.{Change};
 ghost use Rattle.sled_log.specs.Messages.{effect_of_entry};
-ghost use Rattle.sled_log.specs.Pages.{IsSized};
 ghost use Rattle.sled_log.specs.Reading.{IsUpdate};
 ghost use Rattle.sled_log.specs.LogState.{now};
 ghost use Rattle.sled_log.specs.Reading.{message_of};
@@ -18,16 +14,11 @@ ghost use Rattle.sled_node.specs.Links.{Accepts, applied};
 ghost use Rattle.sled_node.specs.Payloads.Links.{CanWriteLink};
 ghost use Rattle.sled_pagecache.specs.Inside.Appends.{Puts};
 ghost use Rattle.sled_pagecache.specs.Inside.LinkWrites.{LinksPage};
-ghost use Rattle.sled_pagecache.specs.Inside.PageEntry.{WasAccessed, IsTouched, capped_size};
+ghost use Rattle.sled_pagecache.specs.Inside.PageEntry.{WasAccessed, capped_size};
 ghost use Rattle.sled_pagecache.specs.Cache.{chain_at};
-ghost use Rattle.sled_pagecache.specs.Inside.StickyLog.{Went, IsCaused, IsOfLog, begun_by};
 ghost use Rattle.sled_pagecache.specs.Limits.{most_messages};
-ghost use Rattle.sled_pagecache.specs.Inside.PageEntry.{IsKept, access_size, joined_size};
-ghost use Rattle.sled_pagecache.specs.Table.{is_free};
-ghost use Rattle.sled_pagecache.specs.Inside.PageWrites.{CanPut, content_of, IsRaised, IsLinked, RefusesSwap, RefusesLink, Wrote, joined_update, update_of};
-ghost use Rattle.sled_pagecache.specs.Answers.{linked_length};
-ghost use Rattle.sled_pagecache.specs.Step.{link_update};
-ghost use Rattle.sled_pagecache.specs.Inside.Invariant.{IsFreeOrNode};
+ghost use Rattle.sled_pagecache.specs.Inside.PageEntry.{IsKept, joined_size};
+ghost use Rattle.sled_pagecache.specs.Inside.PageWrites.{CanPut, content_of, Wrote, joined_update};
 ghost use Rattle.sled_pagecache.specs.declared.pagecache.table.page.Kept.TheVariants as kept;
 
 use crate::pagecache::PAGE_CONSOLIDATION_THRESHOLD;
