@@ -4,6 +4,7 @@ pub mod Format
 pub mod Standing
 pub mod Pending
 pub mod Waiting
+pub mod Names
 pub mod Crash
 pub mod Ready
 pub mod Durable

@@ -1,25 +1,30 @@
 -- What follows of a log that may be called.
-use Rattle.std.proofs.Common.{◌≡◌, ℕ, ◌≤◌, Bool, List, [], ◌∷◌, ◌++◌, length, map, drop, get_or, refl, ap, sym, ◌∙◌, subst, append_assoc, arith}
+use Rattle.std.proofs.Common.{◌≡◌, ℕ, ◌+◌, ◌≤◌, ◌<◌, Bool, List, [], ◌∷◌, ◌++◌, length, map, drop, get_or, refl, ap, sym, ◌∙◌, subst, append_assoc, arith}
 use Rattle.std.specs.Prelude.{Some}
 use Rattle.std.proofs.lemmas.Bool.{eq-eqb}
-use Rattle.std.proofs.lemmas.List.{drop_all, get_or_at, length-append}
+use Rattle.std.proofs.lemmas.List.{drop_all, get_or_at, length-append, length-map}
+use Rattle.std.specs.Global.{Vec}
 use Rattle.sled_log.specs.Chains.{chains_after}
 use Rattle.sled_log.specs.Events.{Event}
-use Rattle.sled_log.specs.Inside.Laws.{IsFair-none}
-use Rattle.sled_log.specs.LogState.{IsLeft, unplaced_state}
+use Rattle.sled_log.specs.Inside.Laws.{IsFair-none, chains_after-append}
+use Rattle.sled_log.specs.Inside.MovesLaws.{due_within}
+use Rattle.sled_log.specs.Moves.{Moves, due_among}
+use Rattle.sled_log.specs.LogState.{now, IsLeft, unplaced_state}
 use Rattle.sled_log.specs.Messages.{Message, Messages, Entry, messages_of, effect_of, effect_of_entry}
 use Rattle.sled_disk.specs.declared.head.Head.{Head}
 use Rattle.sled_disk.specs.declared.mark.Mark.{Mark}
 use Rattle.sled_disk.specs.Crash.{IsClosed}
 use Rattle.sled_disk.specs.Disk.{Only}
 use Rattle.sled_disk.specs.DurableLaws.{one-meaning}
-use Rattle.sled_disk.specs.Format.{opening, Record, frames_bytes, Describes, DescribesTo, IsBytes}
+use Rattle.sled_disk.specs.EncodingLaws.{number_bytes-length}
+use Rattle.sled_disk.specs.Format.{opening, body, number_bytes, Record, frames_bytes, Describes, DescribesTo, IsBytes, events_at, entry_at}
 use Rattle.sled_disk.specs.Opened.{AreRead}
-use Rattle.sled_disk.specs.Pending.{state_in}
-use Rattle.sled_disk.specs.Reading.{records_in, records_of, steps}
+use Rattle.sled_disk.specs.Pending.{count, state_in}
+use Rattle.sled_disk.specs.PendingLaws.{pending-chains}
+use Rattle.sled_disk.specs.Reading.{chains_of, entry_in, records_in, records_of, steps}
 use Rattle.sled_disk.specs.Ready.{Means, LeavesPages}
 use Rattle.sled_disk.specs.Standing.{events_in, records_behind, Stands}
-use Rattle.sled_disk.specs.StandingLaws.{parsed, described, place-is}
+use Rattle.sled_disk.specs.StandingLaws.{parsed, described, place-is, heads-stand}
 
 -- a buffer of 8 bytes has no records
 pub none-parsed : (buffer : List ℕ) → length buffer ≤ 8 → records_of (drop 8 buffer) ≡ Some []
@@ -78,3 +83,17 @@ module _ (seen : List ℕ) (gate : ℕ) (rs : List Record) (heads : List (List H
   log-only marks buffer usable may_leave only pages left =
       let pending : List (Event Message) = (unplaced_state (state_in seen gate marks buffer usable)).pending in
       record { came = []; beginning = ([], refl); cut = 0; fair = IsFair-none (pending ++ []); is = ready-only seen gate rs heads fits s may_leave only pages left }
+
+-- what is due is of a page that the log holds
+pub log-due : (seen : List ℕ) (gate : ℕ) (ms : List Mark) (buffer : List ℕ) (usable : Bool) (pages : List (Vec Head)) → IsBytes seen → Stands seen gate (records_behind buffer) (chains_of pages) → count ms ≡ length (records_behind buffer)
+    → (every : ℕ) (moves : Moves) (pid place : ℕ) → due_among (length pages) every moves ≡ Some (pid, place) → pid < length (now effect_of_entry (state_in seen gate ms buffer usable))
+log-due seen gate ms buffer usable pages fits s counted every moves pid place is =
+    let heads : List (List Head) = chains_of pages in
+    let rs = records_behind buffer in
+    let p = parsed seen gate rs heads fits s in
+    let bytes = opening ++ (frames_bytes p.frames ++ 0 ∷ (number_bytes 0 ++ body rs)) in
+    let held = heads-stand seen gate rs heads p bytes (number_bytes 0) (number_bytes-length 0) refl in
+    let pending = pending-chains (chains_after effect_of_entry [] (events_in seen)) (gate + 9) ms rs counted ∙ sym (chains_after-append effect_of_entry [] (events_in seen) (events_at entry_at (gate + 9) rs)) in
+    let long = ap length (held ∙ sym pending) in
+    let within = due_within (length pages) every moves pid place is in
+    omega (arith, length-map heads (map (entry_in bytes)), length-map pages (λ (v : Vec Head). v.items), long, within)

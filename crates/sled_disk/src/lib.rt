@@ -8,6 +8,7 @@ mod law_of_crashes;
 pub mod laws;
 mod log;
 mod mark;
+mod names;
 mod next_frame;
 mod pages;
 mod parts;

@@ -2,6 +2,7 @@
 
 ghost use Rattle.std.specs.Prelude.{◌≡◌, ◌≢◌, ◌≤◌, ◌<◌, ◌+◌, ◌-◌, ◌^◌, ◌⊎◌, ◌++◌, ◌↔◌, List, [], ◌∷◌, true, false, length, is_ok, IfOk, IfErr, OnOk, OnErr, IsErrOf, vec_len, vec_capacity};
 ghost use Rattle.std.specs.List.{AllByRecursion};
+ghost use Rattle.std.specs.VecDeque.{deque_len, deque_capacity};
 ghost use Rattle.sled_log.specs.Calls.{HasGrown, HasCause, can_append};
 ghost use Rattle.sled_log.specs.Events.{Event, Change};
 ghost use Rattle.sled_log.specs.LogState.{now};
@@ -11,7 +12,9 @@ ghost use Rattle.sled_disk.specs.Crash.{BytesLeft, IsTornOf};
 ghost use Rattle.sled_disk.specs.Disk.{Only, overlaid, LeavesTheSame};
 ghost use Rattle.sled_disk.specs.Format.{Describes, opening};
 ghost use Rattle.sled_disk.specs.GoesOn.{GoesOn};
+ghost use Rattle.sled_disk.specs.Names.{moves_in};
 ghost use Rattle.sled_disk.specs.OnDisk.{Rests};
+ghost use Rattle.sled_log.specs.Moves.{moves_with};
 ghost use Rattle.sled_disk.specs.HeadLaws.{are_heads-prop, end_by-prop};
 ghost use Rattle.sled_disk.specs.Opened.{AllEndBy, AreHeads};
 ghost use Rattle.sled_disk.specs.Reading.{chains_of, effect_of_head};
@@ -21,6 +24,7 @@ ghost use Rattle.sled_disk.specs.Waiting.{pending_of, state_of, place_of, said_o
 
 use crate::disk::Disk;
 use crate::head::Head;
+use crate::names::Names;
 use crate::next_frame::NextFrame;
 use crate::pages::take_head;
 use crate::reader::Reader;
@@ -49,10 +53,12 @@ pub struct DiskLog<D: Disk> {
     disk: D,
     // at so many bytes of pending records an append outside a batch writes a frame
     segment_size: u64,
-    // a page is to be moved for every so many messages
+    // a message is due to be moved for every so many that are appended
     clean_every: u64,
     // the chains of the pages, by the heads of their records, the pending ones among them
     pages: Vec<Vec<Head>>,
+    // the messages that were not named yet
+    names: Names,
     next: NextFrame,
     usable: bool,
     reads: u64,
@@ -89,7 +95,8 @@ impl<D: Disk> DiskLog<D> {
     ///
     /// An `append` outside a batch that leaves `segment_size` bytes of records pending writes them, which takes two syncs. So between two
     /// flushes a log syncs twice for each `segment_size` bytes: some thousands keep little in memory, a million suits many writes in a
-    /// row. `clean_every` is how many messages a page is due to be moved for (0: never; nothing is moved yet).
+    /// row. For every `clean_every` messages that are appended one is due to be moved, the first of the
+    /// file before all others (0: none).
     ///
     /// Corruption: the file describes no events, as one with fewer than nine bytes; no crash of a log leaves such a file. ReadFault and
     /// WriteFault: the device failed to read, or to sync. Memory: an allocation failed. At an error the disk comes back, which was
@@ -109,6 +116,7 @@ impl<D: Disk> DiskLog<D> {
         ensures reads { IfOk result (λ log. (⟦<Self as Log>⟧.counts log).reads ≡ 0) }
         ensures settings { IfOk result (λ log. (log.segment_size ≡ segment_size)
             × (log.clean_every ≡ clean_every)) }
+        ensures appended { IfOk result (λ log. (moves_in log.names).appended ≡ 0) }
         ensures rests { IfOk result
             (λ log. Rests D.tells D.seen D.may_leave D.moment D.left_since disk log.disk) }
         ensures corrupt { D.tells → IfErr result (λ e. e.0 ≡ Corruption
@@ -159,6 +167,7 @@ impl<D: Disk> DiskLog<D> {
         ensures reads { IfOk result (λ log. (⟦<Self as Log>⟧.counts log).reads ≡ 0) }
         ensures settings { IfOk result (λ log. (log.segment_size ≡ segment_size)
             × (log.clean_every ≡ clean_every)) }
+        ensures appended { IfOk result (λ log. (moves_in log.names).appended ≡ 0) }
         ensures rests { IfOk result
             (λ log. Rests D.tells D.seen D.may_leave D.moment D.left_since disk log.disk) }
         ensures goes_on { D.tells → IfErr result (λ e. GoesOn (D.seen e.2) e.1) }
@@ -178,12 +187,15 @@ impl<D: Disk> DiskLog<D> {
         let Ok(next) = NextFrame::new(alloc, gate) else {
             return Err((LogError::Memory, reader, disk));
         };
+        let (pages, read) = reader.into_parts();
+        let names = read.kept_for(alloc, clean_every);
         Ok(DiskLog {
             alloc,
             disk,
             segment_size,
             clean_every,
-            pages: reader.into_pages(),
+            pages,
+            names,
             next,
             usable: true,
             reads: 0,
@@ -224,9 +236,13 @@ impl<D: Disk> DiskLog<D> {
             (vec_len self.new.next.buffer + 18 + len ≤ vec_capacity self.new.next.buffer) }
         ensures mark_room { OnOk result
             (vec_len self.new.next.marks + 2 ≤ vec_capacity self.new.next.marks) }
+        ensures name_room { OnOk result
+            (deque_len self.new.names.messages < deque_capacity self.new.names.messages) }
+        ensures moves { moves_in self.new.names ≡ moves_in self.old.names }
         ensures only { IfErr result (λ e. e ≡ Memory) }
     {
         self.next.make_room(len)?;
+        self.names.make_room()?;
         self.disk.make_room(self.next.to_write_with(len))
     }
 
@@ -260,6 +276,9 @@ impl<D: Disk> DiskLog<D> {
         ensures sound { can_append effect_of_head (chains_of self.old.pages.items) pid kind ≡ true
             → IsErrOf result Corruption → ⊥ }
         ensures only { IfErr result (λ e. (e ≡ Memory) ⊎ (e ≡ Full) ⊎ (e ≡ Corruption)) }
+        ensures named { OnOk result (0 < self.old.clean_every → moves_in self.new.names
+            ≡ moves_with (moves_in self.old.names) ((pid, place_of self.old.next) ∷ [])) }
+        ensures unnamed { OnErr result (moves_in self.new.names ≡ moves_in self.old.names) }
     {
         if self.next.is_full(payload.len()) {
             return Err(LogError::Full);
@@ -269,6 +288,7 @@ impl<D: Disk> DiskLog<D> {
         let len = payload.len() as u64;
         take_head(self.alloc, &mut self.pages, pid, Head { kind, place, len })?;
         self.next.push(u8::from(kind), pid, payload);
+        self.names.push(self.clean_every, pid, place);
         Ok(place)
     }
 
@@ -290,6 +310,7 @@ impl<D: Disk> DiskLog<D> {
             (IsBeforeOrAfter (events_in (D.seen self.old.disk)) (events_of self.old.next)) }
         ensures only { IfErr result (λ e. e ≡ WriteFault) }
         ensures cause { HasCause (D.counts self.old.disk) (D.counts self.new.disk) result }
+        ensures moves { moves_in self.new.names ≡ moves_in self.old.names }
     {
         let wrote = self.next.write(&mut self.disk);
         self.usable = wrote.is_ok();

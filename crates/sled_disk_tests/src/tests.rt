@@ -4,6 +4,7 @@ ghost use Rattle.sled_log.specs.Calls.{one_more};
 mod disks;
 mod files;
 mod marks;
+mod moves;
 mod opening;
 mod reading;
 mod room;

@@ -5,10 +5,13 @@ pub mod Filters
 pub mod Moments
 pub mod Places
 pub mod Stored
+pub mod Blobs
+pub mod Waiting
 pub mod MemCalls
 pub mod PageStates
 pub mod Recovering
 pub mod KeptEntries
+pub mod Rewriting
 pub mod Batches
 pub mod CallLists
 pub mod Sizes

@@ -3,6 +3,7 @@ use Rattle.std.specs.Prelude.{◌≡◌, ◌<◌, ◌≤◌, ℕ, false, List, [
 use Rattle.std.specs.List.{AllZip}
 use Rattle.sled_base.specs.Payloads.Numbers.{ReadsU64, written_u64}
 use Rattle.sled_base.specs.declared.kinds.MessageKind.{MessageKind}
+use Rattle.sled_base.specs.declared.kinds.LogKind.TheVariants.{Replace}
 use Rattle.sled_base.specs.declared.kinds.MessageKind.TheVariants as kinds
 use Rattle.sled_node.specs.Links.{Accepts, applied}
 use Rattle.sled_node.specs.Node.{WholeNode, IsWellFormed}
@@ -33,9 +34,18 @@ Decodes kind payload update = ⊥
 abbrev pub IsUpdate : Message → Update → Type 0
 IsUpdate message update = Decodes message.kind message.payload update
 
+-- A message counts as the update that it reads. One that puts a content and reads none leaves its page damaged.
+abbrev pub CountsAs : Message → Update → Type 0
+CountsAs message (Put Free) = IsUpdate message (Put Free)
+CountsAs message (Put (Counter n)) = IsUpdate message (Put (Counter n))
+CountsAs message (Put (Roots roots)) = IsUpdate message (Put (Roots roots))
+CountsAs message (Put (Node node)) = IsUpdate message (Put (Node node))
+CountsAs message (Put Damaged) = (effect_of message ≡ Replace) × ((content : Content) → ¬ IsUpdate message (Put content))
+CountsAs message (Link link) = IsUpdate message (Link link)
+
 -- the events that messages are
 abbrev pub IsEvent : Event Message → Event Update → Type 0
-IsEvent (Change id message) (Change other update) = (id ≡ other) × IsUpdate message update
+IsEvent (Change id message) (Change other update) = (id ≡ other) × CountsAs message update
 IsEvent Pin Pin = Unit {0}
 IsEvent Seal Seal = Unit {0}
 IsEvent Cancel Cancel = Unit {0}
@@ -66,13 +76,13 @@ abbrev pub Hold : List Messages → List Content → Type 0
 Hold = AllZip Holds
 
 -- The change may be made of pages that hold such contents: one puts a content on a page that is there, or on the next new
--- one, which isn't left free, and a link is accepted by the page's node.
+-- one, which isn't left free; what can't be read is put only where its page is damaged; and a link is accepted by the page's node.
 abbrev pub MayChange : List Content → ℕ → Update → Type 0
 MayChange contents id (Put Free) = id < length contents
 MayChange contents id (Put (Counter n)) = id ≤ length contents
 MayChange contents id (Put (Roots roots)) = id ≤ length contents
 MayChange contents id (Put (Node node)) = id ≤ length contents
-MayChange contents id (Put Damaged) = ⊥
+MayChange contents id (Put Damaged) = slice_get contents id ≡ Some Damaged
 MayChange contents id (Link link) = (node : WholeNode) × (slice_get contents id ≡ Some (Node node)) × Accepts node link
 
 abbrev pub MayCome : List Content → Event Update → Type 0

@@ -1,13 +1,14 @@
 //! The log as a contract: messages of pages, in order. A crash at any moment keeps a prefix of them that splits no batch.
 
-ghost use Rattle.std.specs.Prelude.{◌≡◌, ℕ, ℤ, ◌+◌, ◌≤◌, ◌<◌, List, [], ◌∷◌, true, false, length, slice_index_or, IfOk, IfErr, OnOk, IsErrOf};
+ghost use Rattle.std.specs.Prelude.{◌≡◌, ℕ, ℤ, ◌+◌, ◌≤◌, ◌<◌, List, [], ◌∷◌, true, false, length, slice_index_or, Option, Some, Ok, IfOk, IfErr, OnOk, IsErrOf};
 ghost use Rattle.std.specs.List.{All, AllByRecursion, Any, AllZip};
 ghost use Rattle.sled_log.specs.Events.{is_open};
 ghost use Rattle.sled_log.specs.Calls.{Counts, can_append, Appends, Pins, Seals, Cancels, AddsNothing, ReadsOnce};
 ghost use Rattle.sled_log.specs.Chains.{is_chain};
 ghost use Rattle.sled_log.specs.Events.{Change, Pin, Seal, Cancel};
 ghost use Rattle.sled_log.specs.Limits.{head_size, size_limit};
-ghost use Rattle.sled_log.specs.Messages.{Entry, Messages, message, placed_entry, effect_of, effect_of_entry};
+ghost use Rattle.sled_log.specs.Messages.{Entry, Messages, message, message_size, placed_entry, effect_of, effect_of_entry};
+ghost use Rattle.sled_log.specs.Moves.{HasBlob, NamesBlob, message_at};
 ghost use Rattle.sled_log.specs.Pages.{IsPageState, IsSized, IsAt, IsRead};
 ghost use Rattle.sled_log.specs.LogState.{LogState, now, IsLeft, unplaced_state};
 ghost use Rattle.sled_log.specs.Calls.{refusal_of};
@@ -15,7 +16,9 @@ ghost use Rattle.sled_base.specs.Errors.{error_of};
 ghost use Rattle.sled_log.specs.declared.log.LogError.TheVariants.{Memory, Full, ReadFault, WriteFault};
 
 use crate::PageState;
-use sled_base::{Device, DiskPtr, Error, Lsn, MessageKind, PageId, Refusal, Why};
+use sled_base::{
+    BlobPointer, Device, DiskPtr, Error, LogOffset, Lsn, MessageKind, PageId, Refusal, Why,
+};
 use std::alloc::{AllocError, AllocFailed};
 
 /// Why a call of a log failed.
@@ -110,6 +113,9 @@ pub trait Log: Drop {
 
     ghost is_full_for_batch: { Self → Type 0 };
 
+    /// The message that is due to be moved, by its page and its place, if one is.
+    ghost due: { Self → Option (ℕ × ℕ) };
+
     /// Adds a message of a page, and answers its place: its lsn, the pointer to it, and its log size.
     ///
     /// A content is put on a page that is there or is the next new one; a page is freed that is there; and a link is of a page
@@ -180,6 +186,43 @@ pub trait Log: Drop {
         ensures called { Cancels tells state moment left_since counts self.old self.new result }
         ensures only { IfErr result (λ e. e ≡ WriteFault) };
 
+    /// Names the message that is due to be moved, by its page and its place, if one is; from then on another one is due, or none.
+    /// It changes nothing else, and allocates nothing.
+    fn to_move(&mut self) -> Option<(PageId, LogOffset)>
+        requires usable { (state self.old).usable ≡ true }
+        ensures named { result ≡ due self.old }
+        ensures called { AddsNothing tells state moment left_since counts self.old self.new
+            (Ok result) }
+        ensures state { state self.new ≡ state self.old }
+        ensures counts { counts self.new ≡ counts self.old }
+        ensures size { bytes self.new ≡ bytes self.old }
+        ensures stable_size { stable_bytes self.new ≡ stable_bytes self.old }
+        ensures number { to_write self.new ≡ to_write self.old }
+        ensures room { (n : ℕ) → is_full self.new n → is_full self.old n }
+        ensures batch_room { is_full_for_batch self.new → is_full_for_batch self.old };
+
+    /// Adds the message of a page again, which is all its chain and is kept as that blob: the new one has the same payload and
+    /// names the same blob. Answers its place, as `append` does.
+    ///
+    /// Full: the log has no room for the message. An error other than WriteFault leaves the log's contents unchanged.
+    fn rewrite_blob_pointer(
+        &mut self,
+        pid: PageId,
+        blob: BlobPointer,
+    ) -> Result<(Lsn, DiskPtr, u64), LogError>
+        requires usable { (state self.old).usable ≡ true }
+        requires holds { tells → HasBlob (now effect_of_entry (state self.old)) pid blob }
+        ensures called { Appends tells state moment left_since counts self.old self.new
+            pid (message_at (now effect_of_entry (state self.old)) pid) result }
+        ensures size { tells → IfOk result (λ said. said.2
+            ≡ message_size (message_at (now effect_of_entry (state self.old)) pid)) }
+        ensures fits { IfOk result (λ said. said.2 < size_limit) }
+        ensures blob { tells → IfOk result (λ said. NamesBlob blob said.1) }
+        ensures full { tells → IsErrOf result Full → is_full self.old
+            (length (message_at (now effect_of_entry (state self.old)) pid).payload) }
+        ensures sized { tells
+            → OnOk result (AllByRecursion IsSized (now effect_of_entry (state self.new))) };
+
     /// The pages, by id, with the places of their chains. It adds nothing, and takes up no room.
     fn recover(&mut self) -> Result<Vec<PageState>, LogError>
         requires usable { (state self.old).usable ≡ true }
@@ -217,6 +260,10 @@ pub trait Log: Drop {
     /// How often the device failed to write, or to make durable what was written.
     fn write_faults(&self) -> u64
         ensures { result ≡ (counts self.now).write_faults };
+
+    /// The page of a message that is due is one that the log holds.
+    ghost due_is_held: { (log : Self) (pid place : ℕ) → tells → (state log).usable ≡ true
+        → due log ≡ Some (pid, place) → pid < length (now effect_of_entry (state log)) };
 
     /// A crash at this moment may leave what is durable and no more.
     ghost keeps_stable: { (log : Self) → tells → (state log).usable ≡ true

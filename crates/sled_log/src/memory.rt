@@ -1,18 +1,22 @@
 //! The log in memory.
 
-ghost use Rattle.std.specs.Prelude.{⊤, ◌≡◌, ◌+◌, ◌≤◌, ◌<◌, ◌↔◌, [], ◌∷◌, ◌++◌, length, take, drop, map, true, false, IsTrue, IsOk, IfErr, vec_len, vec_capacity};
-ghost use Rattle.sled_log.specs.Events.{is_open, open_after, IsFair};
+ghost use Rattle.std.specs.Prelude.{⊤, ◌≡◌, ◌+◌, ◌≤◌, ◌<◌, ◌↔◌, pos, Some, [], ◌∷◌, ◌++◌, length, take, drop, map, true, false, IsTrue, IsOk, IfOk, IfErr, OnOk, OnErr, IsErrOf, vec_len, vec_capacity};
+ghost use Rattle.std.specs.List.{AllByRecursion, list_any};
+ghost use Rattle.sled_log.specs.Events.{is_open, open_after, IsFair, Change};
 ghost use Rattle.sled_log.specs.Calls.{one_more};
 ghost use Rattle.sled_log.specs.Chains.{chains_after};
-ghost use Rattle.sled_log.specs.MemLog.Items.{event_of, event_of_mark, size_of_mark, log_size};
+ghost use Rattle.sled_log.specs.MemLog.Items.{event_of, event_of_mark, log_size, named_by};
+ghost use Rattle.sled_log.specs.Inside.Blobs.{marks_of, is_first, is_held, are_held};
 ghost use Rattle.sled_log.specs.Inside.Items.{IsInOrder, are_placed};
 ghost use Rattle.sled_log.specs.Limits.{size_limit};
-ghost use Rattle.sled_log.specs.Messages.{effect_of_entry};
-ghost use Rattle.sled_log.specs.LogState.{LogState, unplaced_state};
-ghost use Rattle.sled_log.specs.Inside.Stored.{are_within};
-ghost use Rattle.sled_log.specs.MemLog.Stored.{kept_items, kept_mark};
-ghost use Rattle.sled_log.specs.Messages.{unplaced_events};
-ghost use Rattle.sled_log.specs.declared.log.LogError.TheVariants.{Memory};
+ghost use Rattle.sled_log.specs.Messages.{effect_of_entry, message_size, placed_entry, unplaced_events};
+ghost use Rattle.sled_log.specs.Moves.{fresh_moves, moves_with};
+ghost use Rattle.sled_log.specs.Pages.{IsSized};
+ghost use Rattle.sled_log.specs.LogState.{LogState, now, unplaced_state};
+ghost use Rattle.sled_log.specs.Inside.Stored.{are_within, lies, blob_lies, size_of_stored, pages_after, bare_event};
+ghost use Rattle.sled_log.specs.MemLog.Stored.{kept_items, part, pointer_of};
+ghost use Rattle.sled_log.specs.declared.log.LogError.TheVariants.{Memory, Full};
+ghost use Rattle.sled_log.specs.declared.memory.item.Held.{Held};
 
 mod calls;
 mod cuts;
@@ -24,10 +28,14 @@ mod pages;
 use crate::LogError;
 use cuts::is_fair_cut;
 use finding::behind;
-use item::{LogItem, Mark, NEVER};
+use item::{HEAD, Held, LogItem, Mark, NEVER, payload_len};
 use keeping::{keep_first, push, room_for};
+use pages::{count_pages, said_at};
 use sled_base::growth::reserve;
+use sled_base::{DiskPtr, Lsn, MessageKind, PageId};
 use std::alloc::Global;
+
+const MAX_SIZE: u64 = i64::MAX as u64;
 
 /// A log in memory. Each item keeps when it came and when it became durable, so the crash states of each moment are known
 /// from what is stored.
@@ -37,6 +45,11 @@ pub struct MemLog {
     // payloads above so many bytes are blobs
     blob_limit: usize,
     clean_every: u64,
+    // the item from which on messages were not named yet, and how many were appended since one was named
+    cursor: usize,
+    appended: u64,
+    // how many pages the messages make
+    pages: u64,
     items: Vec<LogItem>,
     // their payloads, one behind the other
     bytes: Vec<u8>,
@@ -58,17 +71,23 @@ pub struct MemLog {
     ghost fits: { size < size_limit },
     ghost placed: { IsTrue (are_placed 0 (kept_items blob_limit bytes.items items.items)) },
     ghost batch_is: { batch ≡ is_open (map event_of (drop stable (kept_items blob_limit bytes.items items.items))) },
+    ghost holds_blobs: { IsTrue (are_held [] (marks_of (kept_items blob_limit bytes.items items.items))) },
+    ghost paged: { pages ≡ pages_after 0 (map bare_event items.items) },
+    ghost few_pages: { pages ≤ length items.items },
+    ghost cursor_within: { cursor ≤ length items.items },
+    ghost few_appended: { appended ≤ length items.items },
     // a batch that is open has room for its closing mark
     ghost room: { batch ≡ true → vec_len items < vec_capacity items },
 }
 
 impl MemLog {
-    ghost use Rattle.sled_log.specs.MemLog.State.{kept_in, state_of, clock_of, might_have_left, counts_of, settings_of, size_of, stable_size_of, kept_size_of, CalledHere};
-    ghost use Rattle.sled_log.specs.Inside.Memory.{MovesNothing, Remembers};
+    ghost use Rattle.sled_log.specs.MemLog.State.{kept_in, state_of, clock_of, might_have_left, counts_of, settings_of, size_of, stable_size_of, kept_size_of, kept_names_of, moves_of, CalledHere};
+    ghost use Rattle.sled_log.specs.Inside.Memory.{MovesNothing, Remembers, mark_in, put_message};
 
     /// An empty log. It allocates nothing.
     ///
-    /// Payloads above `blob_limit` bytes are kept as blobs, and a page is to be moved for every `clean_every` messages.
+    /// Payloads above `blob_limit` bytes are kept as blobs, and a message is due to be moved for every `clean_every` that are
+    /// appended: none where that is 0.
     pub fn new(alloc: Global, blob_limit: usize, clean_every: u64) -> MemLog
         ensures state { state_of result ≡ record { stable = []; pending = []; usable = true } }
         ensures settings { settings_of result ≡ (blob_limit, clean_every) }
@@ -76,11 +95,15 @@ impl MemLog {
         ensures moment { clock_of result ≡ 0 }
         ensures counts { counts_of result
             ≡ record { reads = 0; failed_reads = 0; write_faults = 0 } }
+        ensures moves { moves_of result ≡ fresh_moves [] }
     {
         MemLog {
             alloc,
             blob_limit,
             clean_every,
+            cursor: 0,
+            appended: 0,
+            pages: 0,
             items: Vec::new(alloc),
             bytes: Vec::new(alloc),
             stable: 0,
@@ -99,7 +122,8 @@ impl MemLog {
         is_fair_cut(&self.items[self.stable..], n)
     }
 
-    /// A crash now that keeps `n` of the pending events: the log that it leaves, which is new and has counted nothing.
+    /// A crash now that keeps `n` of the pending events: the log that it leaves, which is new, has counted nothing and named
+    /// nothing.
     pub fn stop(self, n: usize) -> MemLog
         requires { IsFair (state_of self).pending n }
         ensures left { might_have_left self (clock_of self)
@@ -113,11 +137,15 @@ impl MemLog {
             ≡ record { reads = 0; failed_reads = 0; write_faults = 0 } }
         ensures moment { clock_of result ≡ 0 }
         ensures settings { settings_of result ≡ settings_of self }
+        ensures moves { moves_of result ≡ fresh_moves (kept_names_of self n) }
     {
         let MemLog {
             alloc,
             blob_limit,
             clean_every,
+            cursor: _,
+            appended: _,
+            pages: _,
             mut items,
             mut bytes,
             stable,
@@ -130,11 +158,15 @@ impl MemLog {
         keep_first(&mut items, stable + n);
         let (size, end) = behind(&items);
         bytes.truncate(end);
+        let pages = count_pages(&items);
         let stable = items.len();
         MemLog {
             alloc,
             blob_limit,
             clean_every,
+            cursor: 0, // no message of the new log was named
+            appended: 0,
+            pages,
             items,
             bytes,
             stable,
@@ -149,27 +181,32 @@ impl MemLog {
     // Adds an item with its payload. `batch` says whether a batch is open then, for whose closing mark it keeps room. So a mark
     // that closes one is never refused.
     fn add(&mut self, mark: Mark, payload: &[u8], batch: bool) -> Result<(), LogError>
-        requires fits { self.old.size + size_of_mark
-            (kept_mark self.old.blob_limit self.old.size payload.now mark) < size_limit }
+        requires fits { self.old.size + size_of_stored mark (length payload.now) < size_limit }
+        requires lies { lies (vec_len self.old.bytes) mark ≡ true }
+        requires held { is_held (marks_of (kept_in self.old) ++ mark_in self.old mark payload.now ∷ [])
+            (mark_in self.old mark payload.now) ≡ true }
         requires batch { batch ≡ open_after self.old.batch
-            (event_of_mark (kept_mark self.old.blob_limit self.old.size payload.now mark) ∷ []) }
+            (event_of_mark (mark_in self.old mark payload.now) ∷ []) }
         ensures called { CalledHere self.old self.new
-            (λ _. event_of_mark
-            (kept_mark self.old.blob_limit self.old.size payload.now mark) ∷ [])
-            (unplaced_events (event_of_mark
-            (kept_mark self.old.blob_limit self.old.size payload.now mark) ∷ [])) result }
-        ensures moves { MovesNothing self.old self.new (λ _. event_of_mark
-            (kept_mark self.old.blob_limit self.old.size payload.now mark) ∷ []) result }
+            (λ _. event_of_mark (mark_in self.old mark payload.now) ∷ [])
+            (unplaced_events (event_of_mark (mark_in self.old mark payload.now) ∷ [])) result }
+        ensures moves { MovesNothing self.old self.new
+            (λ _. event_of_mark (mark_in self.old mark payload.now) ∷ []) result }
         ensures past { Remembers self.old self.new }
         ensures only { IfErr result (λ e. e ≡ Memory) }
         ensures always { is_open (state_of self.old).pending ≡ true → batch ≡ false
             → payload.now ≡ [] → IsOk result }
+        ensures named { OnOk result (moves_of self.new
+            ≡ moves_with (moves_of self.old) (named_by (mark_in self.old mark payload.now))) }
+        ensures unnamed { OnErr result (moves_of self.new ≡ moves_of self.old) }
     {
         reserve(&mut self.items, room_for(batch))?;
         reserve(&mut self.bytes, payload.len())?;
         self.clock += 1;
         self.size += mark.size(payload);
         self.batch = batch;
+        self.pages = mark.pages_behind(self.pages);
+        self.appended += mark.messages();
         let item = LogItem {
             mark,
             end: self.size,
@@ -181,12 +218,57 @@ impl MemLog {
         Ok(())
     }
 
+    // Adds a message with its payload, which names that blob and has its payload in place of one of its own, where it is given.
+    // Full comes before any memory is asked for.
+    fn put(
+        &mut self,
+        kind: MessageKind,
+        pid: PageId,
+        blob: Option<Held>,
+        payload: &[u8],
+    ) -> Result<(Lsn, DiskPtr, u64), LogError>
+        requires lies { blob_lies (vec_len self.old.bytes) blob ≡ true }
+        requires held { (named : Held) → blob ≡ Some named → list_any (is_first named.first kind
+            (part named.start (named.start + named.len) self.old.bytes.items))
+            (marks_of (kept_in self.old)) ≡ true }
+        ensures called { CalledHere self.old self.new
+            (λ said. Change pid (placed_entry (put_message self.old kind blob payload.now) said) ∷ [])
+            (Change pid (put_message self.old kind blob payload.now) ∷ []) result }
+        ensures size { IfOk result
+            (λ said. said.2 ≡ message_size (put_message self.old kind blob payload.now)) }
+        ensures fits { IfOk result (λ said. said.2 < size_limit) }
+        ensures sized { OnOk result
+            (AllByRecursion IsSized (now effect_of_entry (state_of self.new))) }
+        ensures lsn { IfOk result (λ said. said.0 ≡ pos (size_of self.old)) }
+        ensures pointer { IfOk result (λ said. said.1
+            ≡ pointer_of (settings_of self.old).0 (size_of self.old) payload.now blob) }
+        ensures moves { MovesNothing self.old self.new
+            (λ said. Change pid (placed_entry (put_message self.old kind blob payload.now) said) ∷ [])
+            result }
+        ensures full { IsErrOf result Full ↔ (size_limit ≤ size_of self.old
+            + message_size (put_message self.old kind blob payload.now)) }
+        ensures past { Remembers self.old self.new }
+        ensures named { OnOk result (moves_of self.new
+            ≡ moves_with (moves_of self.old) ((pid, size_of self.old) ∷ [])) }
+        ensures unnamed { OnErr result (moves_of self.new ≡ moves_of self.old) }
+    {
+        let len = payload_len(blob, payload);
+        let room = MAX_SIZE - self.size;
+        if room < HEAD || room - HEAD < len {
+            return Err(LogError::Full);
+        }
+        let said = said_at(self.blob_limit, self.size, HEAD + len, blob);
+        self.add(Mark::Change { kind, pid, blob }, payload, self.batch)?;
+        Ok(said)
+    }
+
     // Counts a read.
     fn count_read(&mut self)
         ensures reads { self.new.reads ≡ one_more self.old.reads }
         ensures clock { self.new.clock ≡ self.old.clock }
         ensures kept { kept_in self.new ≡ kept_in self.old }
         ensures settings { settings_of self.new ≡ settings_of self.old }
+        ensures moves { moves_of self.new ≡ moves_of self.old }
     {
         if self.reads < u64::MAX {
             self.reads += 1;

@@ -6,6 +6,7 @@ mod corners;
 mod eager;
 mod faulty;
 mod hostile;
+pub(crate) mod moves;
 mod rows;
 mod scripts;
 mod walks;

@@ -22,8 +22,8 @@ pub use pagecache::{
     PageTable, PageView, RecoveryGuard, Shape, open_tree, split_fanout,
 };
 pub use sled_base::{
-    self, BatchManifest, Bug, ConsumeSequence, Device, DiskPtr, Error, IVec, LogKind, MessageKind,
-    PageId, PageState, Refusal, Serialize, Why,
+    self, BatchManifest, BlobPointer, Bug, ConsumeSequence, Device, DiskPtr, Error, IVec, LogKind,
+    LogOffset, Lsn, MessageKind, PageId, PageState, Refusal, Serialize, Why,
 };
 pub use sled_disk::{self, Disk, DiskLog, FileDisk, MemDisk};
 pub use sled_log::{self, Log, LogError, MemLog};

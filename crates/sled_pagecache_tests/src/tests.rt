@@ -37,7 +37,8 @@ use self::steps::Sight::{Absent, Between, Empty, Pair, Reserved};
 use self::steps::Step::{Adds, AddsBetween, Gets, Links, Recovered, Replaces};
 use self::steps::{Change, PAIR, Step};
 use sled_base::{
-    Bug, Device, DiskPtr, Error, IVec, Lsn, MessageKind, PageId, PageState, Refusal, Serialize, Why,
+    BlobPointer, Bug, Device, DiskPtr, Error, IVec, LogOffset, Lsn, MessageKind, PageId, PageState,
+    Refusal, Serialize, Why,
 };
 use sled_log::{Log, LogError, MemLog};
 use sled_node::{Data, Index, Item, Leaf, Link, Node};

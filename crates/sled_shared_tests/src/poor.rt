@@ -1,6 +1,6 @@
 //! A shared cache over a log that has room for one message, and of which a page is damaged.
 
-ghost use Rattle.std.specs.Prelude.{⊤, ◌≡◌, ◌<◌, ℕ, [], pos, false, true, IfOk};
+ghost use Rattle.std.specs.Prelude.{⊤, ◌≡◌, ◌<◌, ℕ, [], pos, false, true, None, IfOk};
 ghost use Rattle.sled_log.specs.Inside.Marks.{marks};
 
 use crate::entered::texts_of;
@@ -68,6 +68,10 @@ impl Log for PoorLog {
 
     ghost is_full_for_batch = { λ _. ⊥ };
 
+    ghost due = { λ _. None };
+
+    ghost due_is_held = { λ log pid place told. absurd told };
+
     ghost keeps_stable = { λ log told. absurd told };
 
     ghost only_now = { λ log pages told. absurd told };
@@ -117,6 +121,18 @@ impl Log for PoorLog {
     fn cancel(&mut self) -> Result<(), LogError> {
         self.batch = false;
         Ok(())
+    }
+
+    fn to_move(&mut self) -> Option<(PageId, u64)> {
+        None
+    }
+
+    fn rewrite_blob_pointer(
+        &mut self,
+        _pid: PageId,
+        _blob: i64,
+    ) -> Result<(i64, DiskPtr, u64), LogError> {
+        Err(LogError::Full)
     }
 
     fn recover(&mut self) -> Result<Vec<PageState>, LogError> {

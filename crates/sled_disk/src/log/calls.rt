@@ -1,6 +1,6 @@
 // The log on a disk as a log.
 
-ghost use Rattle.std.specs.Prelude.{◌≡◌, ◌≤◌, ◌<◌, ◌+◌, ◌^◌, ◌⊎◌, ◌↔◌, ℕ, ℤ, pos, [], ◌∷◌, true, false, length, slice_index_or, IfOk, IfErr, OnOk, IsErrOf, IsOk, IfSome};
+ghost use Rattle.std.specs.Prelude.{◌≡◌, ◌≢◌, ◌≤◌, ◌<◌, ◌+◌, ◌^◌, ◌⊎◌, ◌↔◌, ℕ, ℤ, pos, [], ◌∷◌, true, false, length, slice_index_or, Ok, IfOk, IfErr, OnOk, IsErrOf, IsOk, IfSome, IfNone};
 ghost use Rattle.std.specs.List.{All, AllByRecursion, AllZip, Any};
 ghost use Rattle.sled_log.specs.Events.{is_open};
 ghost use Rattle.sled_log.specs.Calls.{can_append, Appends, Pins, Seals, Cancels, AddsNothing, ReadsOnce};
@@ -9,6 +9,7 @@ ghost use Rattle.sled_log.specs.Events.{Change, Pin, Seal, Cancel};
 ghost use Rattle.sled_log.specs.Limits.{head_size, size_limit};
 ghost use Rattle.sled_log.specs.LogState.{now};
 ghost use Rattle.sled_log.specs.Messages.{effect_of_entry, message, placed_entry};
+ghost use Rattle.sled_log.specs.Moves.{Named, due_among, moves_with};
 ghost use Rattle.sled_log.specs.Pages.{IsPageState, IsSized, IsAt, IsRead};
 ghost use Rattle.sled_log.specs.declared.log.LogError.TheVariants.{Memory, Full, WriteFault, Corruption};
 ghost use Rattle.sled_base.specs.declared.types.DiskPtr.TheVariants.{Inline};
@@ -17,14 +18,15 @@ ghost use Rattle.sled_disk.specs.Reading.{chains_of, effect_of_head};
 ghost use Rattle.sled_disk.specs.Standing.{events_in};
 ghost use Rattle.sled_disk.specs.OnDisk.{Rests};
 ghost use Rattle.sled_disk.specs.Ready.{LeavesPages, IsBeforeOrAfter};
-ghost use Rattle.sled_disk.specs.ReadyLaws.{log-keeps, log-only};
-ghost use Rattle.sled_disk.specs.Waiting.{state_of, said_of, size_of, events_of, events_with, IsDue, IsFullFor};
+ghost use Rattle.sled_disk.specs.ReadyLaws.{log-keeps, log-only, log-due};
+ghost use Rattle.sled_disk.specs.Names.{moves_in};
+ghost use Rattle.sled_disk.specs.Waiting.{state_of, place_of, said_of, size_of, events_of, events_with, IsDue, IsFullFor};
 
 use super::DiskLog;
 use super::finding::find;
 use crate::disk::{Disk, count};
 use crate::recovery::pages_of;
-use sled_base::{DiskPtr, Lsn, MessageKind, PageId};
+use sled_base::{BlobPointer, DiskPtr, LogOffset, Lsn, MessageKind, PageId};
 use sled_log::{Log, LogError, PageState};
 
 // What an append answers of a record at a place.
@@ -55,6 +57,10 @@ impl<D: Disk> Log for DiskLog<D> {
     ghost is_full = { λ log n. IsFullFor log.next n };
 
     ghost is_full_for_batch = { λ log. IsFullFor log.next 8 };
+
+    ghost due = { λ log. due_among (length log.pages.items) log.clean_every (moves_in log.names) };
+
+    ghost due_is_held = { λ log pid place told usable is. log-due (D.seen log.disk) log.next.gate log.next.marks.items log.next.buffer.items log.usable log.pages.items (λ i. D.are_bytes log.disk i told) (log.stands told usable) log.next.counted log.clean_every (moves_in log.names) pid place is };
 
     ghost keeps_stable = { λ log told usable. log-keeps (D.seen log.disk) _ _ _ (λ i. D.are_bytes log.disk i told) (log.stands told usable) (D.left_since log.disk (D.moment log.disk)) (D.left_now log.disk (D.seen log.disk) told (D.seen_now log.disk told)) };
 
@@ -91,6 +97,10 @@ impl<D: Disk> Log for DiskLog<D> {
         ensures settings { (self.new.segment_size ≡ self.old.segment_size)
             × (self.new.clean_every ≡ self.old.clean_every) }
         ensures said { IfOk result (λ said. said ≡ said_of self.old.next payload.now) }
+        ensures named { OnOk result (0 < self.old.clean_every → moves_in self.new.names
+            ≡ moves_with (moves_in self.old.names) ((pid, place_of self.old.next) ∷ [])) }
+        ensures unnamed { IfErr result
+            (λ e. e ≢ WriteFault → moves_in self.new.names ≡ moves_in self.old.names) }
     {
         let place = self.add(kind, pid, payload)?;
         let said = said_at(place, payload.len());
@@ -126,6 +136,7 @@ impl<D: Disk> Log for DiskLog<D> {
             → self.new.disk ≡ self.old.disk }
         ensures sound { Any (λ head. pointer ≡ Inline head.place) (slice_index_or
             (chains_of self.old.pages.items) pid []) → IsErrOf result Corruption → ⊥ }
+        ensures unnamed { moves_in self.new.names ≡ moves_in self.old.names }
     {
         count(&mut self.reads);
         let DiskPtr::Inline(at) = pointer else {
@@ -151,6 +162,7 @@ impl<D: Disk> Log for DiskLog<D> {
         ensures only { IfErr result (λ e. e ≡ WriteFault) }
         ensures any_moment { D.tells → BytesLeft D.moment D.left_since self.old.disk self.new.disk
             (IsBeforeOrAfter (events_in (D.seen self.old.disk)) (events_of self.old.next)) }
+        ensures unnamed { moves_in self.new.names ≡ moves_in self.old.names }
     {
         let bytes = self.next.to_write();
         if bytes == 0 {
@@ -172,6 +184,7 @@ impl<D: Disk> Log for DiskLog<D> {
             self.new.disk }
         ensures full { IsErrOf result Full ↔ IsFullFor self.old.next 8 }
         ensures refusals { IfErr result (λ e. (e ≡ Memory) ⊎ (e ≡ Full)) }
+        ensures unnamed { moves_in self.new.names ≡ moves_in self.old.names }
     {
         if self.next.is_full(8) {
             return Err(LogError::Full);
@@ -191,6 +204,7 @@ impl<D: Disk> Log for DiskLog<D> {
         ensures settings { (self.new.segment_size ≡ self.old.segment_size)
             × (self.new.clean_every ≡ self.old.clean_every) }
         ensures ok { IsOk result }
+        ensures unnamed { moves_in self.new.names ≡ moves_in self.old.names }
     {
         self.next.seal();
         Ok(())
@@ -206,9 +220,38 @@ impl<D: Disk> Log for DiskLog<D> {
         ensures settings { (self.new.segment_size ≡ self.old.segment_size)
             × (self.new.clean_every ≡ self.old.clean_every) }
         ensures ok { IsOk result }
+        ensures unnamed { moves_in self.new.names ≡ moves_in self.old.names }
     {
         self.next.cancel();
         Ok(())
+    }
+
+    // It calls no device.
+    fn to_move(&mut self) -> Option<(PageId, LogOffset)>
+        requires usable { (⟦<Self as Log>⟧.state self.old).usable ≡ true }
+        ensures named { result ≡ ⟦<Self as Log>⟧.due self.old }
+        ensures called { AddsNothing D.tells ⟦<Self as Log>⟧.state ⟦<Self as Log>⟧.moment
+            ⟦<Self as Log>⟧.left_since ⟦<Self as Log>⟧.counts self.old self.new (Ok result) }
+        ensures moves_on { IfSome result
+            (λ named. Named named (moves_in self.old.names) (moves_in self.new.names)) }
+        ensures unnamed { IfNone result (moves_in self.new.names ≡ moves_in self.old.names) }
+        ensures disk { self.new.disk ≡ self.old.disk }
+        ensures next { self.new.next ≡ self.old.next }
+        ensures counts { ⟦<Self as Log>⟧.counts self.new ≡ ⟦<Self as Log>⟧.counts self.old }
+        ensures state { ⟦<Self as Log>⟧.state self.new ≡ ⟦<Self as Log>⟧.state self.old }
+        ensures settings { (self.new.segment_size ≡ self.old.segment_size)
+            × (self.new.clean_every ≡ self.old.clean_every) }
+    {
+        self.names.next(self.pages.len() as u64, self.clean_every)
+    }
+
+    // A log on a disk keeps no blobs, so no page is kept as one.
+    fn rewrite_blob_pointer(
+        &mut self,
+        _pid: PageId,
+        _blob: BlobPointer,
+    ) -> Result<(Lsn, DiskPtr, u64), LogError> {
+        Err(LogError::Corruption)
     }
 
     // It fails for memory alone, whatever the disk gives.
@@ -227,6 +270,7 @@ impl<D: Disk> Log for DiskLog<D> {
             × (self.new.clean_every ≡ self.old.clean_every) }
         ensures room { (n : ℕ) → IsFullFor self.new.next n → IsFullFor self.old.next n }
         ensures only { IfErr result (λ e. e ≡ Memory) }
+        ensures unnamed { moves_in self.new.names ≡ moves_in self.old.names }
     {
         pages_of(self.alloc, &self.pages)
     }

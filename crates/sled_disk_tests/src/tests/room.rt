@@ -7,11 +7,22 @@ use super::*;
 use sled_base::MessageKind;
 
 #[derive(Drop)]
-struct KeepingDisk {
+pub(super) struct KeepingDisk {
     inner: MemDisk,
     // the most that it has memory for, and what it has made room for and was not written yet
     most: usize,
     room: usize,
+}
+
+impl KeepingDisk {
+    // An empty disk, with memory for all that it has room for.
+    pub(super) fn new(alloc: Global) -> Result<KeepingDisk, LogError> {
+        Ok(KeepingDisk {
+            inner: MemDisk::new(alloc, 4096)?,
+            most: 4096,
+            room: 0,
+        })
+    }
 }
 
 impl Disk for KeepingDisk {

@@ -5,6 +5,7 @@ use Rattle.std.proofs.lemmas.List.{take-append-drop}
 use Rattle.std.proofs.lemmas.Option.{slice_get_within, get_or_from_slice_get}
 use Rattle.std.proofs.lemmas.Slice.Zip.{AllZip-long}
 use Rattle.std.proofs.Math.Seq.{take-append_seam}
+use Rattle.sled_base.specs.declared.kinds.LogKind.TheVariants.{Replace}
 use Rattle.sled_base.specs.declared.kinds.MessageKind.{MessageKind}
 use Rattle.sled_base.specs.declared.kinds.MessageKind.TheVariants as kinds
 use Rattle.sled_node.specs.Links.{Accepts, applied}
@@ -15,7 +16,7 @@ use Rattle.sled_log.specs.Chains.{is_freeing, is_empty, chain_with_link, chains_
 use Rattle.sled_log.specs.Contents.{Content, Free, Counter, Roots, Node, Damaged, Update, Put, Link, after_link, contents_with, contents_from, contents_after, effect_of_update}
 use Rattle.sled_log.specs.Events.{Event, Change, Pin, Seal, Cancel}
 use Rattle.sled_log.specs.Messages.{Message, Messages, effect_of}
-use Rattle.sled_log.specs.Reading.{Decodes, IsUpdate, IsEvent, LeadTo, Makes, Holds, Hold, MayChange, MayCome, AreEvents, AreLeft, message_of}
+use Rattle.sled_log.specs.Reading.{Decodes, IsUpdate, CountsAs, CanWrite, IsEvent, LeadTo, Makes, Holds, Hold, MayChange, MayCome, AreEvents, AreLeft, message_of}
 use Rattle.sled_log.specs.Inside.ReadingLaws.{reads_effect, one_content, contents_after-append, events-append, events-take, events-drop, reads-fair}
 use Rattle.sled_log.specs.LogState.{LogState, Adds, IsLeft}
 use Rattle.sled_log.specs.Inside.ZipLaws.{zip-append, zip-set, zip-at}
@@ -64,11 +65,7 @@ makes-linked : (messages : Messages) (node : WholeNode) (m : Message) (link : No
 makes-linked messages node m link h r accepts =
     subst (λ b. Makes (cond b messages (messages ++ m ∷ [])) (Node (applied link node))) (sym (makes-full messages node h)) (makes-more messages node m link h r accepts)
 
--- messages never make what is damaged
-leads-sound : (first : Content) (messages : Messages) → is_damaged first ≡ false → LeadTo first messages Damaged → ⊥
-leads-sound first [] sound h = false≢true (sym sound ∙ ap is_damaged h)
-leads-sound first (m ∷ messages) sound (node, link, is, reads, accepts, leads) = leads-sound (Node (applied link node)) messages refl leads
-
+-- no payload reads what is damaged
 puts-sound : (kind : MessageKind) (payload : List ℕ) (first : Content) → Decodes kind payload (Put first) → is_damaged first ≡ false
 puts-sound kind payload Free reads = refl
 puts-sound kind payload (Counter n) reads = refl
@@ -82,18 +79,6 @@ puts-sound kinds.InlineNode payload Damaged reads = absurd reads
 puts-sound kinds.BlobNode payload Damaged reads = absurd reads
 puts-sound kind payload Damaged reads = absurd reads
 
-pub makes-sound : (messages : Messages) → ¬ Makes messages Damaged
-makes-sound [] h = h
-makes-sound (m ∷ messages) (first, reads, leads) = leads-sound first messages (puts-sound m.kind m.payload first reads) leads
-
--- what messages make, their page holds
-pub makes-holds : (messages : Messages) (content : Content) → Makes messages content → Holds messages content
-makes-holds messages Free h = h
-makes-holds messages (Counter n) h = h
-makes-holds messages (Roots roots) h = h
-makes-holds messages (Node node) h = h
-makes-holds messages Damaged h = absurd (makes-sound messages h)
-
 -- what a page holds that messages make
 pub holds-made : (messages : Messages) (content made : Content) → Holds messages content → Makes messages made → content ≡ made
 holds-made messages Free made h i = one_content messages Free made h i
@@ -102,17 +87,53 @@ holds-made messages (Roots roots) made h i = one_content messages (Roots roots) 
 holds-made messages (Node node) made h i = one_content messages (Node node) made h i
 holds-made messages Damaged made h i = absurd (h.1 made i)
 
+-- ---- what a message counts as
+
+-- as what it reads
+pub counts-read : (m : Message) (u : Update) → IsUpdate m u → CountsAs m u
+counts-read m (Put Free) r = r
+counts-read m (Put (Counter n)) r = r
+counts-read m (Put (Roots roots)) r = r
+counts-read m (Put (Node node)) r = r
+counts-read m (Put Damaged) r = absurd (false≢true (sym (puts-sound m.kind m.payload Damaged r)))
+counts-read m (Link link) r = r
+
+-- what it does to its page is what that does
+pub counts_effect : (m : Message) (u : Update) → CountsAs m u → effect_of m ≡ effect_of_update u
+counts_effect m (Put Free) r = reads_effect m.kind m.payload (Put Free) r
+counts_effect m (Put (Counter n)) r = reads_effect m.kind m.payload (Put (Counter n)) r
+counts_effect m (Put (Roots roots)) r = reads_effect m.kind m.payload (Put (Roots roots)) r
+counts_effect m (Put (Node node)) r = reads_effect m.kind m.payload (Put (Node node)) r
+counts_effect m (Put Damaged) r = r.0
+counts_effect m (Link link) r = reads_effect m.kind m.payload (Link link) r
+
+-- a page holds what its one message counts as
+pub counts-holds : (m : Message) (content : Content) → CountsAs m (Put content) → Holds (m ∷ []) content
+counts-holds m Free r = (Free, r, refl)
+counts-holds m (Counter n) r = (Counter n, r, refl)
+counts-holds m (Roots roots) r = (Roots roots, r, refl)
+counts-holds m (Node node) r = (Node node, r, refl)
+counts-holds m Damaged r = (ap is_freeing r.0, λ content made. r.1 made.0 made.1)
+
+-- The one message of a page, where it puts something, counts as putting what the page holds.
+pub holds-counts : (m : Message) (content : Content) → effect_of m ≡ Replace → Holds (m ∷ []) content → CountsAs m (Put content)
+holds-counts m Free puts (first, reads, is) = subst (λ c. IsUpdate m (Put c)) is reads
+holds-counts m (Counter n) puts (first, reads, is) = subst (λ c. IsUpdate m (Put c)) is reads
+holds-counts m (Roots roots) puts (first, reads, is) = subst (λ c. IsUpdate m (Put c)) is reads
+holds-counts m (Node node) puts (first, reads, is) = subst (λ c. IsUpdate m (Put c)) is reads
+holds-counts m Damaged puts h = (puts, λ content reads. h.1 content (content, reads, refl))
+
 -- ---- the pages after messages
 
 holds-begun : (pages : List Messages) (contents : List Content) (id : ℕ) (m : Message) (content : Content)
-    → Hold pages contents → IsUpdate m (Put content) → Hold (chains_with_new effect_of pages id m) (contents_with contents id (Put content))
+    → Hold pages contents → CountsAs m (Put content) → Hold (chains_with_new effect_of pages id m) (contents_with contents id (Put content))
 holds-begun pages contents id m content h r =
     subst (λ n. Hold (chains_with_new effect_of pages id m) (cond (id == n) (contents ++ content ∷ []) (slice_set contents id content))) (sym (AllZip-long Holds pages contents h))
     (by (id == length pages))
   where
     by : (b : Bool) → Hold (cond b (pages ++ (m ∷ []) ∷ []) (slice_set pages id (m ∷ []))) (cond b (contents ++ content ∷ []) (slice_set contents id content))
-    by true = zip-append Holds pages contents ((m ∷ []) ∷ []) (content ∷ []) h (makes-holds (m ∷ []) content (content, r, refl), tt)
-    by false = zip-set Holds id pages contents (m ∷ []) content h (makes-holds (m ∷ []) content (content, r, refl))
+    by true = zip-append Holds pages contents ((m ∷ []) ∷ []) (content ∷ []) h (counts-holds m content r, tt)
+    by false = zip-set Holds id pages contents (m ∷ []) content h (counts-holds m content r)
 
 -- the page of a node that is there
 held-node : (pages : List Messages) (contents : List Content) (id : ℕ) (node : WholeNode)
@@ -122,12 +143,12 @@ held-node pages contents id node h at =
     (zip-at Holds id pages contents [] Free h (slice_get_within contents id (Node node) at))
 
 holds-changed : (pages : List Messages) (contents : List Content) (id : ℕ) (m : Message) (u : Update)
-    → Hold pages contents → IsUpdate m u → MayChange contents id u → Hold (chains_with_change effect_of (effect_of_update u) pages id m) (contents_with contents id u)
+    → Hold pages contents → CountsAs m u → MayChange contents id u → Hold (chains_with_change effect_of (effect_of_update u) pages id m) (contents_with contents id u)
 holds-changed pages contents id m (Put Free) h r may = holds-begun pages contents id m Free h r
 holds-changed pages contents id m (Put (Counter n)) h r may = holds-begun pages contents id m (Counter n) h r
 holds-changed pages contents id m (Put (Roots roots)) h r may = holds-begun pages contents id m (Roots roots) h r
 holds-changed pages contents id m (Put (Node node)) h r may = holds-begun pages contents id m (Node node) h r
-holds-changed pages contents id m (Put Damaged) h r may = absurd may
+holds-changed pages contents id m (Put Damaged) h r may = holds-begun pages contents id m Damaged h r
 holds-changed pages contents id m (Link link) h r (node, at, accepts) =
     subst (λ content. Hold (chains_with_change effect_of (effect_of_update (Link link)) pages id m) (slice_set contents id (after_link link content)))
     (sym (get_or_from_slice_get contents id (Node node) Free at))
@@ -137,7 +158,7 @@ holds-from : (pages : List Messages) (contents : List Content) (m : Event Messag
     → Hold pages contents → IsEvent m u → MayCome contents u → Hold (chains_from effect_of pages m) (contents_from contents u)
 holds-from pages contents (Change id m) (Change other u) h r may =
     subst (λ i. Hold (chains_from effect_of pages (Change i m)) (contents_with contents other u)) (sym r.0)
-    (subst (λ k. Hold (chains_with_change effect_of k pages other m) (contents_with contents other u)) (sym (reads_effect m.kind m.payload u r.1))
+    (subst (λ k. Hold (chains_with_change effect_of k pages other m) (contents_with contents other u)) (sym (counts_effect m u r.1))
     (holds-changed pages contents other m u h r.1 may))
 holds-from pages contents Pin Pin h r may = h
 holds-from pages contents Seal Seal h r may = h
@@ -205,12 +226,12 @@ holds-added old new begun stable pending events held waits comes added =
 
 -- ---- what may be appended
 
--- a change may be appended that may be made of what the pages of a log hold
+-- a change may be appended that may be made of what the pages of a log hold, and written
 pub may-append : (pages : List Messages) (contents : List Content) (id : ℕ) (update : Update)
-    → Hold pages contents → MayChange contents id update → can_append effect_of pages id (message_of update).kind ≡ true
-may-append pages contents id (Put Free) h may = lt-ltb id (length pages) (let l = AllZip-long Holds pages contents h in omega (arith, may))
-may-append pages contents id (Put (Counter n)) h may = le-leb id (length pages) (let l = AllZip-long Holds pages contents h in omega (arith, may))
-may-append pages contents id (Put (Roots roots)) h may = le-leb id (length pages) (let l = AllZip-long Holds pages contents h in omega (arith, may))
-may-append pages contents id (Put (Node node)) h may = le-leb id (length pages) (let l = AllZip-long Holds pages contents h in omega (arith, may))
-may-append pages contents id (Put Damaged) h may = absurd may
-may-append pages contents id (Link link) h (node, at, accepts) = ap not (makes-full (slice_index_or pages id []) node (held-node pages contents id node h at))
+    → Hold pages contents → MayChange contents id update → CanWrite update → can_append effect_of pages id (message_of update).kind ≡ true
+may-append pages contents id (Put Free) h may can = lt-ltb id (length pages) (let l = AllZip-long Holds pages contents h in omega (arith, may))
+may-append pages contents id (Put (Counter n)) h may can = le-leb id (length pages) (let l = AllZip-long Holds pages contents h in omega (arith, may))
+may-append pages contents id (Put (Roots roots)) h may can = le-leb id (length pages) (let l = AllZip-long Holds pages contents h in omega (arith, may))
+may-append pages contents id (Put (Node node)) h may can = le-leb id (length pages) (let l = AllZip-long Holds pages contents h in omega (arith, may))
+may-append pages contents id (Put Damaged) h may can = absurd can
+may-append pages contents id (Link link) h (node, at, accepts) can = ap not (makes-full (slice_index_or pages id []) node (held-node pages contents id node h at))

@@ -1,12 +1,17 @@
 -- What a call of the log in memory leaves of it.
-use Rattle.std.specs.Prelude.{◌≡◌, ℕ, ◌+◌, ◌≤◌, List, ◌++◌, drop, Result, IfOk, OnErr}
+use Rattle.std.specs.Prelude.{◌≡◌, ℕ, ◌+◌, ◌≤◌, Option, List, ◌++◌, drop, Result, IfOk, OnErr}
 use Rattle.sled_log.specs.Events.{Event}
 use Rattle.sled_log.specs.MemLog.Items.{state_at, log_size}
-use Rattle.sled_log.specs.Messages.{Entry}
+use Rattle.sled_log.specs.Messages.{Entry, Message, message}
 use Rattle.sled_log.specs.LogState.{LogState}
 use Rattle.sled_log.specs.declared.log.LogError.{LogError}
 use Rattle.sled_log.specs.declared.memory.MemLog.{MemLog}
+use Rattle.sled_log.specs.MemLog.Kept.{Mark}
 use Rattle.sled_log.specs.MemLog.State.{clock_of, kept_in, settings_of, state_of}
+use Rattle.sled_log.specs.MemLog.Stored.{kept_mark, payload_of}
+use Rattle.sled_log.specs.declared.memory.item.Held.{Held}
+use Rattle.sled_log.specs.declared.memory.item.Mark.{Mark as StoredMark}
+use Rattle.sled_base.specs.declared.kinds.MessageKind.{MessageKind}
 
 -- what the log was at a moment
 abbrev pub was_at : ℕ → MemLog → LogState Entry
@@ -28,3 +33,10 @@ pub record MovesNothing {T : Type 0} (old new : MemLog) (events : T → List (Ev
   pub stable : (state_of new).stable ≡ (state_of old).stable
   pub ok : IfOk result (λ answer. (state_of new).pending ≡ (state_of old).pending ++ events answer)
   pub err : OnErr result ((state_of new).pending ≡ (state_of old).pending)
+
+-- what the log keeps of a mark that is added with that payload, and of a message
+abbrev pub mark_in : MemLog → StoredMark → List ℕ → Mark
+mark_in log mark payload = kept_mark log.blob_limit log.bytes.items log.size payload mark
+
+abbrev pub put_message : MemLog → MessageKind → Option Held → List ℕ → Message
+put_message log kind blob payload = message kind (payload_of log.bytes.items payload blob)

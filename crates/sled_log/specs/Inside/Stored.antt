@@ -1,15 +1,46 @@
 -- What always holds of the stored items, and what settling makes of them.
-use Rattle.std.specs.Prelude.{ℕ, Bool, ◌&&◌, nat_le, List, [], ◌∷◌, ◌++◌, take, drop, map, ◌==◌}
+use Rattle.std.specs.Prelude.{ℕ, suc, ◌+◌, Bool, true, ◌&&◌, nat_le, Option, Some, None, List, [], ◌∷◌, ◌++◌, take, drop, map, ◌==◌, if◌then◌else◌}
 use Rattle.sled_base.specs.declared.kinds.MessageKind.{MessageKind}
+use Rattle.sled_base.specs.Kinds.{log_kind_of}
+use Rattle.sled_base.specs.declared.kinds.LogKind.{LogKind}
+use Rattle.sled_base.specs.declared.kinds.LogKind.TheVariants as kinds
+use Rattle.sled_log.specs.Limits.{head_size}
+use Rattle.sled_log.specs.declared.memory.item.Held.{Held}
 use Rattle.sled_log.specs.declared.memory.item.LogItem.{LogItem as StoredItem}
 use Rattle.sled_log.specs.declared.memory.item.Mark.{Mark as StoredMark}
 use Rattle.sled_log.specs.declared.memory.item.Mark.TheVariants as stored
 use Rattle.sled_log.specs.Events.{Event, Change, Pin, Seal, Cancel}
 
--- whether no payload ends before it begins, and the last of them ends there
+-- whether the blob that a message names lies in a buffer of that length
+abbrev pub blob_lies : ℕ → Option Held → Bool
+blob_lies end None = true
+blob_lies end (Some held) = nat_le (held.start + held.len) end
+
+abbrev pub lies : ℕ → StoredMark → Bool
+lies end (stored.Change kind pid blob) = blob_lies end blob
+lies end stored.Pin = true
+lies end stored.Seal = true
+lies end stored.Cancel = true
+
+-- whether its payload ends not before it begins
+abbrev pub is_within : ℕ → StoredItem → Bool
+is_within start item = nat_le start item.payload_end && lies item.payload_end item.mark
+
+-- whether all are so, and the last of them ends there
 abbrev pub are_within : ℕ → ℕ → List StoredItem → Bool
 are_within start end [] = start == end
-are_within start end (item ∷ items) = nat_le start item.payload_end && are_within item.payload_end end items
+are_within start end (item ∷ items) = is_within start item && are_within item.payload_end end items
+
+-- the log size of a mark with a payload of its own of that length
+abbrev pub payload_size : ℕ → Option Held → ℕ
+payload_size len None = len
+payload_size len (Some held) = held.len
+
+abbrev pub size_of_stored : StoredMark → ℕ → ℕ
+size_of_stored (stored.Change kind pid blob) len = head_size + payload_size len blob
+size_of_stored stored.Pin len = 0
+size_of_stored stored.Seal len = 0
+size_of_stored stored.Cancel len = 0
 
 -- what the last item says, or else that number
 abbrev pub last_of : (StoredItem → ℕ) → ℕ → List StoredItem → ℕ
@@ -25,13 +56,28 @@ start_after start items = last_of (λ item. item.payload_end) start items
 
 -- the event that is kept, without its place and its payload
 abbrev pub bare_event_of : StoredMark → Event MessageKind
-bare_event_of (stored.Change kind pid) = Change pid kind
+bare_event_of (stored.Change kind pid blob) = Change pid kind
 bare_event_of stored.Pin = Pin
 bare_event_of stored.Seal = Seal
 bare_event_of stored.Cancel = Cancel
 
 abbrev pub bare_event : StoredItem → Event MessageKind
 bare_event item = bare_event_of item.mark
+
+-- how many pages there are with one message more of that kind, where there were so many
+abbrev pub pages_with : ℕ → ℕ → LogKind → ℕ
+pages_with pages pid kinds.Free = if pid == pages then pages + 1 else pages
+pages_with pages pid kinds.Replace = if pid == pages then pages + 1 else pages
+pages_with pages pid kinds.Link = pages
+pages_with pages pid kinds.Skip = pages
+pages_with pages pid kinds.Corrupted = pages
+
+abbrev pub pages_after : ℕ → List (Event MessageKind) → ℕ
+pages_after pages [] = pages
+pages_after pages (Change pid kind ∷ events) = pages_after (pages_with pages pid (log_kind_of kind)) events
+pages_after pages (Pin ∷ events) = pages_after pages events
+pages_after pages (Seal ∷ events) = pages_after pages events
+pages_after pages (Cancel ∷ events) = pages_after pages events
 
 -- an item that becomes stable, and one that a crash left
 abbrev pub settles_at : ℕ → StoredItem → StoredItem
@@ -43,3 +89,15 @@ restarts item = record { mark = item.mark; end = item.end; payload_end = item.pa
 -- the items after all from a place on became stable
 abbrev pub settle_all : ℕ → ℕ → List StoredItem → List StoredItem
 settle_all moment from items = take from items ++ map (settles_at moment) (drop from items)
+
+-- whether it is a message, or else how many come before the first one behind it
+abbrev pub before_mark : StoredMark → ℕ → ℕ
+before_mark (stored.Change kind pid blob) others = 0
+before_mark stored.Pin others = suc others
+before_mark stored.Seal others = suc others
+before_mark stored.Cancel others = suc others
+
+-- how many items come before the first message
+abbrev pub before_change : List StoredItem → ℕ
+before_change [] = 0
+before_change (item ∷ items) = before_mark item.mark (before_change items)

@@ -11,6 +11,7 @@ use Rattle.sled_node.specs.Payloads.RootLaws.{Roots-grammar}
 use Rattle.sled_node.specs.Payloads.Roots.{ReadsRoots, written_roots}
 use Rattle.sled_log.specs.Contents.{Content, Free, Counter, Roots, Node, Damaged, Update, Put, Link}
 use Rattle.sled_log.specs.Events.{Change}
+use Rattle.sled_log.specs.Inside.HoldingLaws.{counts-read}
 use Rattle.sled_log.specs.Reading.{IsUpdate, MayChange, AreEvents, message_of, CanWrite}
 
 pub written-update : (update : Update) → CanWrite update → IsUpdate (message_of update) update
@@ -24,4 +25,4 @@ written-update (Link link) can = subst (λ (bytes : List ℕ). ReadsLink bytes l
 -- a change that may be made is the event of the message that it is written as
 pub events-update : (contents : List Content) (id : ℕ) (update : Update)
     → MayChange contents id update → CanWrite update → AreEvents contents (Change id (message_of update) ∷ []) (Change id update ∷ [])
-events-update contents id update may can = ((refl, written-update update can), may, tt)
+events-update contents id update may can = ((refl, counts-read (message_of update) update (written-update update can)), may, tt)

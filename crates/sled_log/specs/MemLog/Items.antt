@@ -1,5 +1,6 @@
 -- The items of the log in memory: each keeps when it came, and when it became stable.
-use Rattle.std.specs.Prelude.{◌+◌, ◌≤◌, ℕ, pos, Bool, true, false, ◌&&◌, not, nat_le, Option, Some, None, List, [], length, map, filter, sum_by, if◌then◌else◌}
+use Rattle.std.specs.Prelude.{◌+◌, ◌≤◌, ℕ, pos, Bool, true, false, ◌&&◌, not, nat_le, Option, Some, None, List, [], ◌∷◌, ◌++◌, length, map, filter, sum_by, if◌then◌else◌}
+use Rattle.sled_base.specs.Pointers.{offset_of}
 use Rattle.sled_base.specs.declared.types.DiskPtr.{DiskPtr}
 use Rattle.sled_base.specs.declared.types.DiskPtr.TheVariants.{Inline, Blob}
 use Rattle.sled_log.specs.Chains.{chains_after}
@@ -35,6 +36,17 @@ size_of_mark kept.Cancel = 0
 
 abbrev pub log_size : List LogItem → ℕ
 log_size items = sum_by (λ item. size_of_mark item.mark) items
+
+-- a message by its page and its place, and those among items
+abbrev pub named_by : Mark → List (ℕ × ℕ)
+named_by (kept.Change change) = (change.pid, offset_of change.pointer) ∷ []
+named_by kept.Pin = []
+named_by kept.Seal = []
+named_by kept.Cancel = []
+
+abbrev pub named_in : List LogItem → List (ℕ × ℕ)
+named_in [] = []
+named_in (item ∷ items) = named_by item.mark ++ named_in items
 
 -- where a payload is kept: above the limit as a blob
 abbrev pub pointer_at : ℕ → ℕ → List ℕ → DiskPtr

@@ -1,11 +1,12 @@
 -- The log in memory as the definitions of a log see it.
-use Rattle.std.specs.Prelude.{ℕ, ◌+◌, List, take, Result, ⊤}
+use Rattle.std.specs.Prelude.{ℕ, ◌+◌, Option, List, length, take, drop, Result, ⊤}
 use Rattle.sled_log.specs.Calls.{Called, Counts}
 use Rattle.sled_log.specs.Events.{Event}
-use Rattle.sled_log.specs.MemLog.Items.{state_at, WasLeft, log_size}
+use Rattle.sled_log.specs.MemLog.Items.{state_at, WasLeft, log_size, named_in}
 use Rattle.sled_log.specs.MemLog.Kept.{LogItem}
-use Rattle.sled_log.specs.Messages.{Entry, Message, Messages}
-use Rattle.sled_log.specs.LogState.{LogState}
+use Rattle.sled_log.specs.Messages.{Entry, Message, Messages, effect_of_entry}
+use Rattle.sled_log.specs.LogState.{LogState, now}
+use Rattle.sled_log.specs.Moves.{Moves, due_among}
 use Rattle.sled_log.specs.MemLog.Stored.{kept_items}
 use Rattle.sled_log.specs.declared.log.LogError.{LogError}
 use Rattle.sled_log.specs.declared.memory.MemLog.{MemLog}
@@ -41,6 +42,17 @@ counts_of log = record { reads = log.reads; failed_reads = 0; write_faults = 0 }
 
 abbrev pub settings_of : MemLog → ℕ × ℕ
 settings_of log = (log.blob_limit, log.clean_every)
+
+-- the messages that a crash keeps: all that are durable, and those of so many of the pending events
+abbrev pub kept_names_of : MemLog → ℕ → List (ℕ × ℕ)
+kept_names_of log n = named_in (take (log.stable + n) (kept_in log))
+
+-- those behind the cursor, and which of them is due
+abbrev pub moves_of : MemLog → Moves
+moves_of log = record { waiting = named_in (drop log.cursor (kept_in log)); appended = log.appended }
+
+abbrev pub due_of : MemLog → Option (ℕ × ℕ)
+due_of log = due_among (length (now effect_of_entry (state_of log))) log.clean_every (moves_of log)
 
 -- what a call does that reads no message
 abbrev pub CalledHere : {T : Type 0} → MemLog → MemLog → (T → List (Event Entry)) → List (Event Message) → Result T LogError → Type 0

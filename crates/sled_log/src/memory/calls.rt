@@ -1,7 +1,8 @@
 // The log in memory as a log.
 
-ghost use Rattle.std.specs.Prelude.{⊤, ◌≡◌, ℕ, ◌+◌, ◌≤◌, ◌<◌, ◌↔◌, pos, [], ◌∷◌, length, true, false, slice_index_or, IfOk, IfErr, OnOk, IsOk, IsErrOf};
+ghost use Rattle.std.specs.Prelude.{⊤, ◌≡◌, ℕ, ◌+◌, ◌≤◌, ◌<◌, ◌↔◌, pos, [], ◌∷◌, length, true, false, slice_index_or, Ok, IfOk, IfErr, OnOk, OnErr, IsOk, IsErrOf, IfSome, IfNone};
 ghost use Rattle.std.specs.List.{All, AllByRecursion, AllZip, Any};
+ghost use Rattle.sled_base.specs.declared.types.DiskPtr.TheVariants.{Blob};
 ghost use Rattle.sled_log.specs.Events.{is_open};
 ghost use Rattle.sled_log.specs.Calls.{ReadsOnce};
 ghost use Rattle.sled_log.specs.Chains.{is_chain};
@@ -9,22 +10,23 @@ ghost use Rattle.sled_log.specs.Events.{Change, Pin, Seal, Cancel};
 ghost use Rattle.sled_log.specs.Inside.Items.{left_now, left_earlier, stable_left};
 ghost use Rattle.sled_log.specs.MemLog.Items.{pointer_at};
 ghost use Rattle.sled_log.specs.Limits.{head_size, size_limit};
-ghost use Rattle.sled_log.specs.Messages.{effect_of_entry, message, placed_entry};
+ghost use Rattle.sled_log.specs.Messages.{effect_of_entry, message, message_size, placed_entry};
+ghost use Rattle.sled_log.specs.Moves.{HasBlob, message_at, moves_with, Named};
+ghost use Rattle.sled_log.specs.Inside.MovesLaws.{due_within};
 ghost use Rattle.sled_log.specs.Pages.{IsPageState, IsSized, IsAt, IsRead};
 ghost use Rattle.sled_log.specs.LogState.{now};
 ghost use Rattle.sled_log.specs.declared.log.LogError.TheVariants.{Memory, Full};
 
 use super::MemLog;
-use super::item::{HEAD, Mark};
+use super::finding::{before_change, behind};
+use super::item::Mark;
 use super::keeping::settle_from;
 use super::pages::{apply, said_at};
 use crate::{Log, LogError, PageState};
-use sled_base::{DiskPtr, Lsn, MessageKind, PageId};
-
-const MAX_SIZE: u64 = i64::MAX as u64;
+use sled_base::{BlobPointer, DiskPtr, LogOffset, Lsn, MessageKind, PageId};
 
 impl Log for MemLog {
-    ghost use Rattle.sled_log.specs.MemLog.State.{kept_in, state_of, clock_of, might_have_left, counts_of, size_of, stable_size_of, settings_of, CalledHere};
+    ghost use Rattle.sled_log.specs.MemLog.State.{kept_in, state_of, clock_of, might_have_left, counts_of, size_of, stable_size_of, settings_of, moves_of, due_of, CalledHere};
     ghost use Rattle.sled_log.specs.Inside.Memory.{pending_size_of, MovesNothing, Remembers};
 
     ghost tells = { ⊤ };
@@ -46,6 +48,10 @@ impl Log for MemLog {
     ghost is_full = { λ log n. size_limit ≤ size_of log + head_size + n };
 
     ghost is_full_for_batch = { λ _. ⊥ };
+
+    ghost due = { due_of };
+
+    ghost due_is_held = { λ log pid place told usable is. due_within (length (now effect_of_entry (state_of log))) log.clean_every (moves_of log) pid place is };
 
     ghost keeps_stable = { λ log told usable. stable_left log.clock (kept_in log) };
 
@@ -75,15 +81,11 @@ impl Log for MemLog {
         ensures full { IsErrOf result Full
             ↔ (size_limit ≤ size_of self.old + head_size + length payload.now) }
         ensures past { Remembers self.old self.new }
+        ensures named { OnOk result (moves_of self.new
+            ≡ moves_with (moves_of self.old) ((pid, size_of self.old) ∷ [])) }
+        ensures unnamed { OnErr result (moves_of self.new ≡ moves_of self.old) }
     {
-        let len = payload.len() as u64;
-        let room = MAX_SIZE - self.size;
-        if room < HEAD || room - HEAD < len {
-            return Err(LogError::Full);
-        }
-        let said = said_at(self.blob_limit, self.size, HEAD + len);
-        self.add(Mark::Change { kind, pid }, payload, self.batch)?;
-        Ok(said)
+        self.put(kind, pid, None, payload)
     }
 
     fn read(
@@ -104,6 +106,7 @@ impl Log for MemLog {
         ensures moves { MovesNothing self.old self.new (λ _. []) result }
         ensures only { IfErr result (λ e. e ≡ Memory) }
         ensures past { Remembers self.old self.new }
+        ensures unnamed { moves_of self.new ≡ moves_of self.old }
     {
         self.count_read();
         self.kind_and_payload(pointer)?.ok_or(LogError::Corruption)
@@ -119,6 +122,7 @@ impl Log for MemLog {
         ensures settings { settings_of self.new ≡ settings_of self.old }
         ensures always { IsOk result }
         ensures past { Remembers self.old self.new }
+        ensures unnamed { moves_of self.new ≡ moves_of self.old }
     {
         let wrote = self.size - self.stable_size;
         if self.stable < self.items.len() {
@@ -137,6 +141,7 @@ impl Log for MemLog {
         ensures moves { MovesNothing self.old self.new (λ _. Pin ∷ []) result }
         ensures only { IfErr result (λ e. e ≡ Memory) }
         ensures past { Remembers self.old self.new }
+        ensures unnamed { moves_of self.new ≡ moves_of self.old }
     {
         self.add(Mark::Pin, &[], true)
     }
@@ -148,6 +153,7 @@ impl Log for MemLog {
         ensures moves { MovesNothing self.old self.new (λ _. Seal ∷ []) result }
         ensures always { IsOk result }
         ensures past { Remembers self.old self.new }
+        ensures unnamed { moves_of self.new ≡ moves_of self.old }
     {
         self.add(Mark::Seal, &[], false)
     }
@@ -159,8 +165,78 @@ impl Log for MemLog {
         ensures moves { MovesNothing self.old self.new (λ _. Cancel ∷ []) result }
         ensures always { IsOk result }
         ensures past { Remembers self.old self.new }
+        ensures unnamed { moves_of self.new ≡ moves_of self.old }
     {
         self.add(Mark::Cancel, &[], false)
+    }
+
+    // The message at the cursor, which moves on, where enough were appended; the count begins at 0 again then.
+    fn to_move(&mut self) -> Option<(PageId, LogOffset)>
+        ensures named { result ≡ due_of self.old }
+        ensures called { CalledHere self.old self.new (λ _. []) [] (Ok result) }
+        ensures moves_on { IfSome result
+            (λ named. Named named (moves_of self.old) (moves_of self.new)) }
+        ensures unnamed { IfNone result (moves_of self.new ≡ moves_of self.old) }
+        ensures kept { kept_in self.new ≡ kept_in self.old }
+        ensures state { state_of self.new ≡ state_of self.old }
+        ensures counts { counts_of self.new ≡ counts_of self.old }
+        ensures settings { settings_of self.new ≡ settings_of self.old }
+        ensures number { pending_size_of self.new ≡ pending_size_of self.old }
+        ensures stable_size { stable_size_of self.new ≡ stable_size_of self.old }
+        ensures past { Remembers self.old self.new }
+    {
+        if self.clean_every == 0 || self.appended < self.clean_every {
+            return None;
+        }
+        let at = self.cursor + before_change(&self.items[self.cursor..]);
+        let Some(item) = self.items.get(at) else {
+            return None;
+        };
+        let Mark::Change { pid, .. } = item.mark else {
+            return None;
+        };
+        if pid >= self.pages {
+            return None;
+        }
+        let (place, _) = behind(&self.items[..at]);
+        self.cursor = at + 1;
+        self.appended = 0;
+        Some((pid, place))
+    }
+
+    // The payload isn't copied. It is Full exactly where a message with a payload of that length would be.
+    fn rewrite_blob_pointer(
+        &mut self,
+        pid: PageId,
+        blob: BlobPointer,
+    ) -> Result<(Lsn, DiskPtr, u64), LogError>
+        requires holds { HasBlob (now effect_of_entry (state_of self.old)) pid blob }
+        ensures called { CalledHere self.old self.new
+            (λ said. Change pid
+            (placed_entry (message_at (now effect_of_entry (state_of self.old)) pid) said) ∷ [])
+            (Change pid (message_at (now effect_of_entry (state_of self.old)) pid) ∷ []) result }
+        ensures size { IfOk result (λ said. said.2
+            ≡ message_size (message_at (now effect_of_entry (state_of self.old)) pid)) }
+        ensures fits { IfOk result (λ said. said.2 < size_limit) }
+        ensures sized { OnOk result
+            (AllByRecursion IsSized (now effect_of_entry (state_of self.new))) }
+        ensures lsn { IfOk result (λ said. said.0 ≡ pos (size_of self.old)) }
+        ensures pointer { IfOk result (λ said. said.1 ≡ Blob (size_of self.old) blob) }
+        ensures moves { MovesNothing self.old self.new
+            (λ said. Change pid
+            (placed_entry (message_at (now effect_of_entry (state_of self.old)) pid) said) ∷ [])
+            result }
+        ensures full { IsErrOf result Full ↔ (size_limit ≤ size_of self.old
+            + message_size (message_at (now effect_of_entry (state_of self.old)) pid)) }
+        ensures past { Remembers self.old self.new }
+        ensures named { OnOk result (moves_of self.new
+            ≡ moves_with (moves_of self.old) ((pid, size_of self.old) ∷ [])) }
+        ensures unnamed { OnErr result (moves_of self.new ≡ moves_of self.old) }
+    {
+        let Some((kind, held)) = self.holder_of(blob) else {
+            return Err(LogError::Corruption);
+        };
+        self.put(kind, pid, Some(held), &[])
     }
 
     fn recover(&mut self) -> Result<Vec<PageState>, LogError>
@@ -177,12 +253,13 @@ impl Log for MemLog {
             → size_limit ≤ size_of self.old + head_size + n }
         ensures only { IfErr result (λ e. e ≡ Memory) }
         ensures past { Remembers self.old self.new }
+        ensures unnamed { moves_of self.new ≡ moves_of self.old }
     {
         let mut pages = Vec::new(self.alloc);
         let mut place = 0;
         for item in &self.items {
-            if let Mark::Change { kind, pid } = item.mark {
-                let said = said_at(self.blob_limit, place, item.end - place);
+            if let Mark::Change { kind, pid, blob } = item.mark {
+                let said = said_at(self.blob_limit, place, item.end - place, blob);
                 apply(self.alloc, &mut pages, pid, kind, said)?;
             }
             place = item.end;

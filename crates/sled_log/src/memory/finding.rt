@@ -1,17 +1,19 @@
 // How a message is found by its place.
 
-ghost use Rattle.std.specs.Prelude.{◌≡◌, ℕ, Some, IfOk, slice_get, IsSomeAnd};
+ghost use Rattle.std.specs.Prelude.{◌≡◌, ◌+◌, ◌≤◌, ◌<◌, ◌^◌, ℕ, pos, length, Some, IfOk, IfSome, slice_get, IsSomeAnd, vec_len};
 ghost use Rattle.sled_base.specs.Pointers.{offset_of};
+ghost use Rattle.sled_base.specs.declared.types.DiskPtr.TheVariants.{Blob};
 ghost use Rattle.sled_log.specs.MemLog.Items.{entry_of};
 ghost use Rattle.sled_log.specs.MemLog.Kept.{LogItem as KeptItem, KeptChange};
 ghost use Rattle.sled_log.specs.MemLog.Kept as kept;
+ghost use Rattle.sled_log.specs.MemLog.Stored.{part};
 ghost use Rattle.sled_log.specs.Messages.{kind_at};
 ghost use Rattle.sled_log.specs.Pages.{IsRead};
-ghost use Rattle.sled_log.specs.Inside.Stored.{place_after, start_after};
+ghost use Rattle.sled_log.specs.Inside.Stored.{place_after, start_after, before_change};
 
 use super::MemLog;
-use super::item::{LogItem, Mark};
-use sled_base::{DiskPtr, LogOffset, MessageKind};
+use super::item::{Held, LogItem, Mark};
+use sled_base::{BlobPointer, DiskPtr, LogOffset, MessageKind};
 use std::alloc::AllocError;
 
 // The kind that a reader is told of a message of a kind that is kept there.
@@ -37,6 +39,22 @@ pub(super) fn behind(items: &[LogItem]) -> (LogOffset, usize)
     }
 }
 
+// How many items come before the first message.
+pub(super) fn before_change(items: &[LogItem]) -> usize
+    requires few { length items.now < 2 ^ 63 }
+    ensures count { result ≡ before_change items.now }
+    ensures within { result ≤ length items.now }
+{
+    let mut n = 0;
+    for item in items {
+        match &item.mark {
+            Mark::Change { .. } => return n,
+            Mark::Pin | Mark::Seal | Mark::Cancel => n += 1,
+        }
+    }
+    n
+}
+
 impl MemLog {
     ghost use Rattle.sled_log.specs.MemLog.State.{kept_in};
 
@@ -51,6 +69,50 @@ impl MemLog {
         self.items.partition_point(|item| item.end <= place)
     }
 
+    // The kind of the message that stands there among the items, if one does, and where its payload begins in the buffer and how
+    // long it is.
+    fn message_at(&self, at: usize) -> Option<(MessageKind, usize, usize)>
+        ensures told { (item : KeptItem) (change : KeptChange)
+            → slice_get (kept_in self.now) at ≡ Some item → item.mark ≡ kept.Change change
+            → IsSomeAnd result (λ told. (told.0 ≡ change.kind)
+            × (part told.1 (told.1 + told.2) self.now.bytes.items ≡ change.payload)) }
+        ensures within { IfSome result (λ told. told.1 + told.2 ≤ vec_len self.now.bytes) }
+    {
+        let Some(item) = self.items.get(at) else {
+            return None;
+        };
+        let Mark::Change { kind, blob, .. } = item.mark else {
+            return None;
+        };
+        if let Some(held) = blob {
+            return Some((kind, held.start, held.len));
+        }
+        let (_, start) = behind(&self.items[..at]);
+        Some((kind, start, item.payload_end - start))
+    }
+
+    // The kind of the message that holds the blob of that name, if there is one, and where its payload lies.
+    pub(super) fn holder_of(&self, blob: BlobPointer) -> Option<(MessageKind, Held)>
+        ensures told { (i : ℕ) (item : KeptItem) (change : KeptChange) (place : ℕ)
+            → slice_get (kept_in self.now) i ≡ Some item → item.mark ≡ kept.Change change
+            → change.pointer ≡ Blob place blob → blob ≡ pos place
+            → IsSomeAnd result (λ told. (told.0 ≡ change.kind) × (told.1.first ≡ blob)
+            × (part told.1.start (told.1.start + told.1.len) self.now.bytes.items ≡ change.payload)) }
+        ensures named { IfSome result (λ told. told.1.first ≡ blob) }
+        ensures within { IfSome result (λ told. told.1.start + told.1.len ≤ vec_len self.now.bytes) }
+    {
+        let at = self.index_of(blob.unsigned_abs());
+        let Some((kind, start, len)) = self.message_at(at) else {
+            return None;
+        };
+        let held = Held {
+            first: blob,
+            start,
+            len,
+        };
+        Some((kind, held))
+    }
+
     // The message that the pointer leads to, as a reader is told, if there is one.
     pub(super) fn kind_and_payload(
         &self,
@@ -61,14 +123,10 @@ impl MemLog {
             → change.pointer ≡ pointer → IsSomeAnd found (IsRead (entry_of change))) }
     {
         let at = self.index_of(pointer.lid());
-        let Some(item) = self.items.get(at) else {
+        let Some((kind, start, len)) = self.message_at(at) else {
             return Ok(None);
         };
-        let Mark::Change { kind, .. } = item.mark else {
-            return Ok(None);
-        };
-        let (_, start) = behind(&self.items[..at]);
-        let payload = self.bytes[start..item.payload_end].to_vec(self.alloc)?;
+        let payload = self.bytes[start..start + len].to_vec(self.alloc)?;
         Ok(Some((kind_read(kind, pointer), payload)))
     }
 }

@@ -1,34 +1,53 @@
 // The pages that a log makes of its messages, in one pass.
 
-ghost use Rattle.std.specs.Prelude.{◌≡◌, ◌==◌, ◌≤◌, ◌<◌, ◌+◌, ℕ, pos, ◌∷◌, [], ◌++◌, List, length, slice_set, if◌then◌else◌, OnOk};
+ghost use Rattle.std.specs.Prelude.{◌≡◌, ◌==◌, ◌≤◌, ◌<◌, ◌+◌, ℕ, pos, ◌∷◌, [], ◌++◌, List, length, map, slice_set, if◌then◌else◌, OnOk};
 ghost use Rattle.std.specs.List.{AllZip};
 ghost use Rattle.sled_base.specs.declared.types.page_state.PageState.TheVariants.{Free};
 ghost use Rattle.sled_log.specs.Chains.{chain_with_link, chains_from};
 ghost use Rattle.sled_log.specs.Events as events;
-ghost use Rattle.sled_log.specs.MemLog.Items.{pointer_at};
 ghost use Rattle.sled_log.specs.Limits.{head_size, size_limit};
+ghost use Rattle.sled_log.specs.MemLog.Stored.{pointer_of};
+ghost use Rattle.sled_log.specs.Inside.Stored.{bare_event, pages_after};
 ghost use Rattle.sled_log.specs.Messages.{Chain, Entry, effect_of_entry};
 ghost use Rattle.sled_log.specs.Pages.{said_of, IsPageState};
 
-use super::item::HEAD;
+use super::item::{HEAD, Held, LogItem};
 use crate::PageState;
 use sled_base::{DiskPtr, LogKind, LogOffset, Lsn, MessageKind, PageId};
 use std::alloc::{AllocError, Global};
 
-// The place of a message that stands there and has this log size: its lsn, the pointer to it, and its log size. Above the limit
-// its payload is a blob.
-pub(super) fn said_at(limit: usize, place: LogOffset, log_size: u64) -> (Lsn, DiskPtr, u64)
+// The place of a message that stands there and has this log size: its lsn, the pointer to it, and its log size. It names a
+// blob, or has a payload, which is one above the limit.
+pub(super) fn said_at(
+    limit: usize,
+    place: LogOffset,
+    log_size: u64,
+    blob: Option<Held>,
+) -> (Lsn, DiskPtr, u64)
     requires place { place < size_limit }
     requires size { head_size ≤ log_size }
     ensures { (payload : List ℕ) → log_size ≡ head_size + length payload
-        → result ≡ (pos place, pointer_at limit place payload, log_size) }
+        → result ≡ (pos place, pointer_of limit place payload blob, log_size) }
 {
-    let pointer = if log_size - HEAD <= limit as u64 {
-        DiskPtr::Inline(place)
-    } else {
-        DiskPtr::Blob(place, place as Lsn)
+    let pointer = match blob {
+        Some(held) => DiskPtr::Blob(place, held.first),
+        None if log_size - HEAD <= limit as u64 => DiskPtr::Inline(place),
+        None => DiskPtr::Blob(place, place as Lsn),
     };
     (place as Lsn, pointer, log_size)
+}
+
+// How many pages the messages of these items make.
+pub(super) fn count_pages(items: &[LogItem]) -> u64
+    requires { length items.now < size_limit }
+    ensures pages { result ≡ pages_after 0 (map bare_event items.now) }
+    ensures few { result ≤ length items.now }
+{
+    let mut pages = 0;
+    for item in items {
+        pages = item.mark.pages_behind(pages);
+    }
+    pages
 }
 
 // A page that is freed there.

@@ -1,6 +1,7 @@
 // What the log in memory tells of its messages, and how much memory it keeps for them.
 
 use super::*;
+use crate::tests::moves::rewrite;
 use crate::{Log, LogError};
 use sled_base::{DiskPtr, MessageKind};
 use std::test::Fail;
@@ -110,5 +111,35 @@ fn appends_again(alloc: Global) -> Result<bool, LogError> {
 #[test]
 fn a_refused_append_changes_nothing(rt: HostRuntime) -> Result<(), Fail> {
     assert!(rt; appends_again(rt.alloc())?);
+    Ok(())
+}
+
+// Puts the blob of page 0 again, and once more where memory was refused. Whether the log was as before then, and then names the
+// message at this place.
+fn rewrite_again(log: &mut MemLog, named: u64) -> Result<bool, LogError> {
+    let before = (log.size, log.clock, log.items.len(), log.appended);
+    let mut same = true;
+    if rewrite(log, 0).is_err() {
+        same = (log.size, log.clock, log.items.len(), log.appended) == before;
+        let _ = rewrite(log, 0)?;
+    }
+    Ok(same && log.to_move() == Some((0, named)))
+}
+
+// The payload is kept once.
+fn rewrites_again(alloc: Global) -> Result<bool, LogError> {
+    let mut log = MemLog::new(alloc, LIMIT, 1);
+    let _ = log.append(MessageKind::InlineNode, 0, &BYTES)?;
+    for number in 0..40u64 {
+        if !rewrite_again(&mut log, number.saturating_mul(27))? {
+            return Ok(false);
+        }
+    }
+    Ok((log.items.len(), log.bytes.len(), log.size) == (41, 10, 1107))
+}
+
+#[test]
+fn a_refused_rewrite_changes_nothing(rt: HostRuntime) -> Result<(), Fail> {
+    assert!(rt; rewrites_again(rt.alloc())?);
     Ok(())
 }

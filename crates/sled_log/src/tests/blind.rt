@@ -5,11 +5,11 @@ ghost use Rattle.std.specs.Prelude.{◌≡◌, ℕ, ◌+◌, ◌-◌, ◌≤◌,
 ghost use Rattle.sled_log.specs.Calls.{one_more};
 ghost use Rattle.sled_log.specs.Limits.{head_size, size_limit};
 ghost use Rattle.sled_log.specs.Inside.Marks.{marks};
-ghost use Rattle.std.specs.Prelude.{⊤, IfErr, [], true, false};
+ghost use Rattle.std.specs.Prelude.{⊤, None, IfErr, [], true, false};
 ghost use Rattle.sled_log.specs.declared.log.LogError.TheVariants.{Memory};
 
 use super::*;
-use sled_base::{LogKind, PageId};
+use sled_base::{BlobPointer, LogKind, LogOffset, PageId};
 use std::alloc::AllocError;
 
 // A device of messages. Nothing is said of what it gives.
@@ -121,6 +121,10 @@ impl<D: Device> Log for BlindLog<D> {
 
     ghost is_full_for_batch = { λ _. ⊥ };
 
+    ghost due = { λ _. None };
+
+    ghost due_is_held = { λ log pid place told. absurd told };
+
     ghost keeps_stable = { λ log told. absurd told };
 
     ghost only_now = { λ log pages told. absurd told };
@@ -184,6 +188,19 @@ impl<D: Device> Log for BlindLog<D> {
     fn cancel(&mut self) -> Result<(), LogError> {
         self.batch = false;
         Ok(())
+    }
+
+    fn to_move(&mut self) -> Option<(PageId, LogOffset)> {
+        None
+    }
+
+    // It has no blobs.
+    fn rewrite_blob_pointer(
+        &mut self,
+        _pid: PageId,
+        _blob: BlobPointer,
+    ) -> Result<(Lsn, DiskPtr, u64), LogError> {
+        Err(LogError::Corruption)
     }
 
     fn recover(&mut self) -> Result<Vec<PageState>, LogError> {

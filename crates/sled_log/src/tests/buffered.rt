@@ -2,15 +2,17 @@
 
 ghost use Rattle.std.proofs.Common.{refl, ◌∙◌, ap, le_trans};
 ghost use Rattle.std.proofs.Math.Nat.{le_refl, le_antisymm};
-ghost use Rattle.std.specs.Prelude.{⊤, ◌≡◌, ℕ, ◌+◌, ◌≤◌, pos, [], true};
+ghost use Rattle.std.specs.Prelude.{⊤, ◌≡◌, ℕ, ◌+◌, ◌≤◌, pos, [], true, length};
 ghost use Rattle.sled_log.specs.Inside.Laws.{IsFair-none};
 ghost use Rattle.sled_log.specs.Limits.{head_size, size_limit};
-ghost use Rattle.sled_log.specs.MemLog.State.{state_of, clock_of, counts_of, size_of, stable_size_of};
+ghost use Rattle.sled_log.specs.MemLog.State.{state_of, clock_of, counts_of, size_of, stable_size_of, moves_of, due_of};
+ghost use Rattle.sled_log.specs.Inside.MovesLaws.{due_within};
+ghost use Rattle.sled_log.specs.Messages.{effect_of_entry};
 ghost use Rattle.sled_log.specs.Inside.Memory.{was_at, pending_size_of};
-ghost use Rattle.sled_log.specs.LogState.{unplaced_state};
+ghost use Rattle.sled_log.specs.LogState.{now, unplaced_state};
 
 use super::*;
-use sled_base::PageId;
+use sled_base::{BlobPointer, LogOffset, PageId};
 
 // A log that holds what is pending in a buffer alone.
 #[derive(Drop)]
@@ -50,6 +52,10 @@ impl Log for BufferedLog {
 
     ghost is_full_for_batch = { λ _. ⊥ };
 
+    ghost due = { λ log. due_of log.log };
+
+    ghost due_is_held = { λ log pid place told usable is. due_within (length (now effect_of_entry (state_of log.log))) log.log.clean_every (moves_of log.log) pid place is };
+
     ghost keeps_stable = { λ log told usable. (clock_of log.log, le_refl (clock_of log.log), le_refl (clock_of log.log), refl) };
 
     ghost only_now = { λ log pages told usable left. record { came = []; beginning = ([], refl); cut = 0; fair = IsFair-none _; is = left.3 ∙ ap (λ moment. (unplaced_state (was_at moment log.log)).stable) (le_antisymm left.2 left.1) } };
@@ -88,6 +94,18 @@ impl Log for BufferedLog {
 
     fn cancel(&mut self) -> Result<(), LogError> {
         self.log.cancel()
+    }
+
+    fn to_move(&mut self) -> Option<(PageId, LogOffset)> {
+        self.log.to_move()
+    }
+
+    fn rewrite_blob_pointer(
+        &mut self,
+        pid: PageId,
+        blob: BlobPointer,
+    ) -> Result<(Lsn, DiskPtr, u64), LogError> {
+        self.log.rewrite_blob_pointer(pid, blob)
     }
 
     fn recover(&mut self) -> Result<Vec<PageState>, LogError> {

@@ -41,7 +41,10 @@ fn last_of(page: &PageState) -> (Lsn, DiskPtr)
 }
 
 // What is read of the last message of the page, if there is one.
-fn read_last(log: &mut MemLog, pid: PageId) -> Result<Option<(MessageKind, Vec<u8>)>, LogError> {
+pub(super) fn read_last(
+    log: &mut MemLog,
+    pid: PageId,
+) -> Result<Option<(MessageKind, Vec<u8>)>, LogError> {
     let pages = log.recover()?;
     let Some(page) = pages.get(pid as usize) else {
         return Ok(None);
@@ -50,7 +53,11 @@ fn read_last(log: &mut MemLog, pid: PageId) -> Result<Option<(MessageKind, Vec<u
     Ok(Some(log.read(pid, lsn, pointer)?))
 }
 
-fn is_message(found: &Option<(MessageKind, Vec<u8>)>, kind: MessageKind, payload: &[u8]) -> bool {
+pub(super) fn is_message(
+    found: &Option<(MessageKind, Vec<u8>)>,
+    kind: MessageKind,
+    payload: &[u8],
+) -> bool {
     match found {
         Some((found, bytes)) => *found == kind && bytes.as_slice() == payload,
         None => false,

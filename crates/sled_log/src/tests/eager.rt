@@ -1,17 +1,18 @@
 // A log that makes stable what it may at every call, refused calls and readings included. It shows that the trait
 // promises no more than such a log can keep.
 
-ghost use Rattle.std.specs.Prelude.{⊤, ◌≡◌, ◌+◌, ◌≤◌, pos, [], true, false};
+ghost use Rattle.std.specs.Prelude.{⊤, ◌≡◌, ◌+◌, ◌≤◌, pos, [], true, false, length};
 ghost use Rattle.sled_log.specs.Events.{is_open};
 ghost use Rattle.sled_log.specs.Inside.Items.{left_now, left_earlier, stable_left};
 ghost use Rattle.sled_log.specs.Limits.{head_size, size_limit};
-ghost use Rattle.sled_log.specs.MemLog.State.{kept_in, state_of, clock_of, might_have_left, counts_of, size_of, stable_size_of};
+ghost use Rattle.sled_log.specs.MemLog.State.{kept_in, state_of, clock_of, might_have_left, counts_of, size_of, stable_size_of, moves_of, due_of};
+ghost use Rattle.sled_log.specs.Inside.MovesLaws.{due_within};
 ghost use Rattle.sled_log.specs.Inside.Memory.{pending_size_of};
 ghost use Rattle.sled_log.specs.Messages.{effect_of, effect_of_entry};
-ghost use Rattle.sled_log.specs.LogState.{LogState, Adds, IsLeft, CrashesSinceLeave, unplaced_state};
+ghost use Rattle.sled_log.specs.LogState.{LogState, now, Adds, IsLeft, CrashesSinceLeave, unplaced_state};
 
 use crate::{Log, LogError, MemLog, PageState};
-use sled_base::{DiskPtr, Lsn, MessageKind, PageId};
+use sled_base::{BlobPointer, DiskPtr, LogOffset, Lsn, MessageKind, PageId};
 use std::alloc::Global;
 
 // A log in memory in which nothing is pending but an open batch.
@@ -67,6 +68,10 @@ impl Log for EagerLog {
 
     ghost is_full_for_batch = { λ _. ⊥ };
 
+    ghost due = { λ log. due_of log.log };
+
+    ghost due_is_held = { λ log pid place told usable is. due_within (length (now effect_of_entry (state_of log.log))) log.log.clean_every (moves_of log.log) pid place is };
+
     ghost keeps_stable = { λ log told usable. stable_left log.log.clock (kept_in log.log) };
 
     ghost only_now = { λ log pages told usable left. left_now log.log.clock (kept_in log.log) pages left };
@@ -115,6 +120,20 @@ impl Log for EagerLog {
         let cancelled = self.log.cancel();
         settle(&mut self.log);
         cancelled
+    }
+
+    fn to_move(&mut self) -> Option<(PageId, LogOffset)> {
+        self.log.to_move()
+    }
+
+    fn rewrite_blob_pointer(
+        &mut self,
+        pid: PageId,
+        blob: BlobPointer,
+    ) -> Result<(Lsn, DiskPtr, u64), LogError> {
+        let said = self.log.rewrite_blob_pointer(pid, blob);
+        settle(&mut self.log);
+        said
     }
 
     fn recover(&mut self) -> Result<Vec<PageState>, LogError> {

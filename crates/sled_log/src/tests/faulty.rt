@@ -1,14 +1,17 @@
 // A log in memory of which one read and one other call fail.
 
-ghost use Rattle.std.specs.Prelude.{⊤, ◌≡◌, ◌==◌, ℕ, ◌+◌, ◌≤◌, pos, [], true};
+ghost use Rattle.std.specs.Prelude.{⊤, ◌≡◌, ◌==◌, ℕ, ◌+◌, ◌≤◌, pos, [], true, length};
 ghost use Rattle.sled_log.specs.Calls.{one_more};
 ghost use Rattle.sled_log.specs.Inside.Items.{left_now, left_earlier, stable_left};
 ghost use Rattle.sled_log.specs.Limits.{head_size, size_limit};
-ghost use Rattle.sled_log.specs.MemLog.State.{kept_in, state_of, clock_of, might_have_left, size_of, stable_size_of};
+ghost use Rattle.sled_log.specs.MemLog.State.{kept_in, state_of, clock_of, might_have_left, size_of, stable_size_of, moves_of, due_of};
+ghost use Rattle.sled_log.specs.Inside.MovesLaws.{due_within};
+ghost use Rattle.sled_log.specs.LogState.{now};
+ghost use Rattle.sled_log.specs.Messages.{effect_of_entry};
 ghost use Rattle.sled_log.specs.Inside.Memory.{pending_size_of};
 
 use super::*;
-use sled_base::PageId;
+use sled_base::{BlobPointer, LogOffset, PageId};
 
 // Which calls of a log fail, each counted from 1: a read, and one of the calls that write. That one may do its work before.
 #[derive(Clone, Copy)]
@@ -18,7 +21,8 @@ pub(super) struct Faults {
     pub(super) works: bool,
 }
 
-// A log in memory with such faults. The calls that write are append, make_stable, pin, seal and cancel.
+// A log in memory with such faults. The calls that write are append,
+// rewrite_blob_pointer, make_stable, pin, seal and cancel.
 #[derive(Drop)]
 pub(super) struct FaultyLog {
     log: MemLog,
@@ -86,6 +90,10 @@ impl Log for FaultyLog {
     ghost is_full = { λ log n. size_limit ≤ size_of log.log + head_size + n };
 
     ghost is_full_for_batch = { λ _. ⊥ };
+
+    ghost due = { λ log. due_of log.log };
+
+    ghost due_is_held = { λ log pid place told usable is. due_within (length (now effect_of_entry (state_of log.log))) log.log.clean_every (moves_of log.log) pid place is };
 
     ghost keeps_stable = { λ log told usable. stable_left log.log.clock (kept_in log.log) };
 
@@ -179,6 +187,28 @@ impl Log for FaultyLog {
             return Err(LogError::WriteFault);
         }
         cancelled
+    }
+
+    fn to_move(&mut self) -> Option<(PageId, LogOffset)> {
+        self.log.to_move()
+    }
+
+    fn rewrite_blob_pointer(
+        &mut self,
+        pid: PageId,
+        blob: BlobPointer,
+    ) -> Result<(Lsn, DiskPtr, u64), LogError> {
+        let fails = is_next(&mut self.writes, self.faults.write);
+        if fails && !self.faults.works {
+            self.write_faults = one_more(self.write_faults);
+            return Err(LogError::WriteFault);
+        }
+        let said = self.log.rewrite_blob_pointer(pid, blob);
+        if fails {
+            self.write_faults = one_more(self.write_faults);
+            return Err(LogError::WriteFault);
+        }
+        said
     }
 
     fn recover(&mut self) -> Result<Vec<PageState>, LogError> {

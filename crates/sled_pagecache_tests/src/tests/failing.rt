@@ -1,9 +1,12 @@
 // A log in memory of which one read and one write fail, or that is full, for ever or for one message.
 
-ghost use Rattle.std.specs.Prelude.{⊤, ◌≡◌, ◌==◌, ℕ, pos, [], true};
+ghost use Rattle.std.specs.Prelude.{⊤, ◌≡◌, ◌==◌, ℕ, pos, [], true, length};
 ghost use Rattle.sled_log.specs.Calls.{one_more};
 ghost use Rattle.sled_log.specs.Inside.Items.{left_now, left_earlier, stable_left};
-ghost use Rattle.sled_log.specs.MemLog.State.{kept_in, state_of, clock_of, might_have_left, size_of, stable_size_of};
+ghost use Rattle.sled_log.specs.MemLog.State.{kept_in, state_of, clock_of, might_have_left, size_of, stable_size_of, moves_of, due_of};
+ghost use Rattle.sled_log.specs.Inside.MovesLaws.{due_within};
+ghost use Rattle.sled_log.specs.LogState.{now};
+ghost use Rattle.sled_log.specs.Messages.{effect_of_entry};
 ghost use Rattle.sled_log.specs.Inside.Memory.{pending_size_of};
 
 use super::*;
@@ -101,6 +104,10 @@ impl Log for FailingLog {
 
     ghost is_full_for_batch = { λ _. ⊥ };
 
+    ghost due = { λ log. due_of log.log };
+
+    ghost due_is_held = { λ log pid place told usable is. due_within (length (now effect_of_entry (state_of log.log))) log.log.clean_every (moves_of log.log) pid place is };
+
     ghost keeps_stable = { λ log told usable. stable_left log.log.clock (kept_in log.log) };
 
     ghost only_now = { λ log pages told usable left. (let l = left_now log.log.clock (kept_in log.log) pages left in record { came = l.came; beginning = l.beginning; cut = l.cut; fair = l.fair; is = l.is }) };
@@ -168,6 +175,26 @@ impl Log for FailingLog {
             return Err(LogError::WriteFault);
         }
         self.log.cancel()
+    }
+
+    fn to_move(&mut self) -> Option<(PageId, LogOffset)> {
+        self.log.to_move()
+    }
+
+    fn rewrite_blob_pointer(
+        &mut self,
+        pid: PageId,
+        blob: BlobPointer,
+    ) -> Result<(Lsn, DiskPtr, u64), LogError> {
+        let is_refused = is_next(&mut self.appends, self.full_at);
+        if is_refused || self.log.size().saturating_add(17) > self.room {
+            return Err(LogError::Full);
+        }
+        if is_next(&mut self.writes, self.fails_to_write) {
+            self.faults = one_more(self.faults);
+            return Err(LogError::WriteFault);
+        }
+        self.log.rewrite_blob_pointer(pid, blob)
     }
 
     fn recover(&mut self) -> Result<Vec<PageState>, LogError> {

@@ -1,6 +1,6 @@
 // Caches over a log whose device tells nothing of its bytes: it gives the pages and the messages that it was told to give.
 
-ghost use Rattle.std.specs.Prelude.{⊤, ◌≡◌, ℕ, [], pos, false, true};
+ghost use Rattle.std.specs.Prelude.{⊤, ◌≡◌, ℕ, [], pos, false, true, None};
 ghost use Rattle.sled_log.specs.Inside.Marks.{marks};
 
 use super::failing::one_more;
@@ -105,6 +105,10 @@ impl Log for ToldLog {
 
     ghost is_full_for_batch = { λ _. ⊥ };
 
+    ghost due = { λ _. None };
+
+    ghost due_is_held = { λ log pid place told. absurd told };
+
     ghost keeps_stable = { λ log told. absurd told };
 
     ghost only_now = { λ log pages told. absurd told };
@@ -150,6 +154,18 @@ impl Log for ToldLog {
     fn cancel(&mut self) -> Result<(), LogError> {
         self.batch = false;
         Ok(())
+    }
+
+    fn to_move(&mut self) -> Option<(PageId, LogOffset)> {
+        None
+    }
+
+    fn rewrite_blob_pointer(
+        &mut self,
+        _pid: PageId,
+        _blob: BlobPointer,
+    ) -> Result<(Lsn, DiskPtr, u64), LogError> {
+        Err(LogError::Full)
     }
 
     fn recover(&mut self) -> Result<Vec<PageState>, LogError> {

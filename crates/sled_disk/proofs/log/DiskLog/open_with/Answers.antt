@@ -18,15 +18,15 @@ pub invariant_of-result-clause-stands : goal.invariant_of-result-clause-stands
 invariant_of-result-clause-stands g c = λ told usable.
     let next = c.in-Ok-new.next in
     let long : length next.buffer.items ≡ 8 = c.in-Ok-new.ensures.buffer in
-    let read : AreRead (g.D.Disk.seen c.read.new.disk) c.in-Ok.gate (chains_of c.into_pages.result.items) = rw (c.into_pages.ensures, c.in-Ok.ensures.rests.same told) (c.in-Ok.ensures.read told) in
-    subst (λ n. Stands (g.D.Disk.seen c.read.new.disk) n (records_behind next.buffer.items) (chains_of c.into_pages.result.items)) (sym c.in-Ok-new.ensures.gate)
-    (new-stands (g.D.Disk.seen c.read.new.disk) next.buffer.items c.in-Ok.gate (chains_of c.into_pages.result.items) (omega (arith, long)) read)
+    let read : AreRead (g.D.Disk.seen c.read.new.disk) c.in-Ok.gate (chains_of c.into_parts-pages.result.0.items) = rw (c.into_parts-pages.ensures.pages, c.in-Ok.ensures.rests.same told) (c.in-Ok.ensures.read told) in
+    subst (λ n. Stands (g.D.Disk.seen c.read.new.disk) n (records_behind next.buffer.items) (chains_of c.into_parts-pages.result.0.items)) (sym c.in-Ok-new.ensures.gate)
+    (new-stands (g.D.Disk.seen c.read.new.disk) next.buffer.items c.in-Ok.gate (chains_of c.into_parts-pages.result.0.items) (omega (arith, long)) read)
 
 pub invariant_of-result-clause-ends : goal.invariant_of-result-clause-ends
 invariant_of-result-clause-ends g c = λ usable.
     let next = c.in-Ok-new.next in
     let gate = c.in-Ok-new.ensures.gate in
-    rw c.into_pages.ensures (all-later c.in-Ok.gate (place_of next) (chains_of c.read.new.self.pages.items) (omega (arith, gate)) c.in-Ok.ensures.ends)
+    rw c.into_parts-pages.ensures.pages (all-later c.in-Ok.gate (place_of next) (chains_of c.read.new.self.pages.items) (omega (arith, gate)) c.in-Ok.ensures.ends)
 
 -- what a log is said to be by what its disk gives and what is pending
 abbrev said : List ℕ → List (Event Entry) → LogState Entry

@@ -1,10 +1,17 @@
-use Rattle.sled_log.proofs.Names.{◌≡◌, ◌+◌, ◌≤◌, ℕ, true, false, None, List, [], ◌∷◌, ◌++◌, length, take, drop, map, refl, sym, ◌∙◌, ap, subst, arith, le-leb, and_from, eq-eqb, false≢true, length-append, take-append-le, drop-append-le, map-append, sum_by-append, err_from_is_err_and, is_open, open_after, event_of, event_of_mark, size_of_mark, is_waiting, log_size, stands_at, is_placed, are_placed, state_at, IsInOrder, open_after-append, IsFair-none, effect_of_entry, Adds, Mark, LogItem, kept_in, state_of, no_moment, are_within, kept_mark, kept_items, StoredItem}
+use Rattle.sled_log.proofs.Names.{named_by, named_in, lies, mark_in, bare_event, pages_after, ◌≡◌, ◌+◌, ◌≤◌, ℕ, true, false, None, List, [], ◌∷◌, ◌++◌, length, take, drop, map, refl, sym, ◌∙◌, ap, subst, arith, le-leb, and_from, eq-eqb, false≢true, length-append, take-append-le, drop-append-le, map-append, sum_by-append, err_from_is_err_and, is_open, open_after, event_of, event_of_mark, size_of_mark, is_waiting, log_size, stands_at, is_placed, are_placed, state_at, IsInOrder, open_after-append, IsFair-none, effect_of_entry, Adds, Mark, LogItem, kept_in, state_of, no_moment, are_within, kept_items, StoredItem}
 use Rattle.sled_log.proofs.MemCalls.{batch-says, called_ok, called_memory}
-use Rattle.sled_log.proofs.Stored.{kept-add, within-push, stands-at}
+use Rattle.sled_log.specs.Inside.Blobs.{marks_of, are_held}
+use Rattle.sled_log.specs.Moves.{Moves}
+use Rattle.sled_log.proofs.Blobs.{held-push}
+use Rattle.sled_log.proofs.Waiting.{waiting-push, pages-push, one-page, lies-longer}
+use Rattle.sled_log.proofs.Stored.{kept-add, kept-length, within-push, stands-at, size-stored}
 use Rattle.sled_log.proofs.Moments.{order-push, stable-push, pending-push, state_at-push}
 use Rattle.sled_log.proofs.Places.{placed-push}
 use Rattle.sled_log.proofs.memory.MemLog.add.Goals.{After-push}
 use Rattle.sled_log.proofs.memory.MemLog.add.Goals as goal
+
+abbrev moves_of_list : List (ℕ × ℕ) → ℕ → Moves
+moves_of_list waiting appended = record { waiting = waiting; appended = appended }
 
 -- the item that is added
 abbrev item_at : ℕ → ℕ → Mark → LogItem
@@ -46,6 +53,11 @@ invariant_of-self c =
       fits = self.fits;
       placed = ap (λ (l : List StoredItem). are_placed 0 (kept l)) same ∙ self.placed;
       batch_is = self.batch_is ∙ ap (λ (l : List StoredItem). is_open (map event_of (drop self.stable (kept l)))) (sym same);
+      holds_blobs = ap (λ (l : List StoredItem). are_held [] (marks_of (kept l))) same ∙ self.holds_blobs;
+      paged = self.paged ∙ ap (λ (l : List StoredItem). pages_after 0 (map bare_event l)) (sym same);
+      few_pages = let w = self.few_pages in omega arith;
+      cursor_within = let w = self.cursor_within in omega arith;
+      few_appended = let w = self.few_appended in omega arith;
       room = λ b. let r = self.room b in omega arith;
     }
 
@@ -67,6 +79,14 @@ returns-in_err-reserve-2-clause-called c =
     let p = err_from_is_err_and c.from_residual-in_err-reserve-2.result c.from_residual-in_err-reserve-2.ensures.1 in
     rw (p.1, p.2) (called_memory self _ refl (ap (λ (l : List StoredItem). kept_items self.blob_limit c.reserve-2.new.items.items l) c.reserve.ensures.items ∙ ap (λ (b : List ℕ). kept_items self.blob_limit b self.items.items) c.reserve-2.ensures.items) _ _ _ refl)
 
+-- the blob that it names lies in the buffer
+within_buffer : (c : After-push) → lies (length c.args.self.now.bytes.items) c.args.mark ≡ true
+within_buffer c = let ok = c.args.self.now.bytes.ok in subst (λ n. lies n c.args.mark ≡ true) (omega arith) c.requires.lies
+
+-- its log size
+size_is : (c : After-push) → c.size.result ≡ size_of_mark (mark_in c.args.self.now c.args.mark c.args.payload.now)
+size_is c = let self = c.args.self.now in c.size.ensures ∙ sym (size-stored self.blob_limit self.bytes.items self.size c.args.payload.now c.args.mark (within_buffer c))
+
 -- what is stored then, and what is kept
 abbrev added_item : After-push → StoredItem
 added_item c = record { mark = c.args.mark; end = c.args.self.now.size + c.size.result; payload_end = c.len.result + length c.args.payload.now; came = c.args.self.now.clock + 1; settled = no_moment }
@@ -81,7 +101,7 @@ ends : (c : After-push) → (added_item c).payload_end ≡ length c.args.self.no
 ends c = let l = c.len.ensures in let e = ap length c.reserve-2.ensures.items in let ok = c.reserve-2.new.items.ok in omega arith
 
 abbrev new_mark : After-push → Mark
-new_mark c = kept_mark c.args.self.now.blob_limit c.args.self.now.size c.args.payload.now c.args.mark
+new_mark c = mark_in c.args.self.now c.args.mark c.args.payload.now
 
 abbrev new_kept : After-push → List LogItem
 new_kept c = kept_items c.args.self.now.blob_limit c.push.new.bytes.items c.push.new.items.items
@@ -97,7 +117,7 @@ kept c =
     let self = c.args.self.now in
     ap (λ (l : List StoredItem). kept_items self.blob_limit c.push.new.bytes.items l) (pushed c)
     ∙ ap (λ (b : List ℕ). kept_items self.blob_limit b (self.items.items ++ added_item c ∷ [])) (longer c)
-    ∙ kept-add self.blob_limit self.bytes.items c.args.payload.now self.size self.items.items (added_item c) self.within self.placed self.sized (ends c)
+    ∙ kept-add self.blob_limit self.bytes.items c.args.payload.now self.size self.items.items (added_item c) self.within self.placed self.sized (ends c) (within_buffer c)
 
 pub invariant_of-self-2 : goal.invariant_of-self-2
 invariant_of-self-2 c =
@@ -107,16 +127,21 @@ invariant_of-self-2 c =
     let is = kept c in
     let long = ap length (pushed c) in
     let more = length-append self.items.items (x ∷ []) in
-    let sized : self.size + c.size.result ≡ log_size old + size_of_mark (new_mark c) = ap (λ n. self.size + n) (c.size.ensures self.blob_limit self.size) ∙ ap (λ n. n + size_of_mark (new_mark c)) self.sized in
+    let sized : self.size + c.size.result ≡ log_size old + size_of_mark (new_mark c) = ap (λ n. self.size + n) (size_is c) ∙ ap (λ n. n + size_of_mark (new_mark c)) self.sized in
     record {
-      within = ap (λ (l : List StoredItem). are_within 0 (length c.push.new.bytes.items) l) (pushed c) ∙ ap (λ n. are_within 0 n (self.items.items ++ x ∷ [])) (ap length (longer c) ∙ length-append self.bytes.items c.args.payload.now) ∙ within-push 0 (length self.bytes.items) (length c.args.payload.now) self.items.items x self.within (ends c);
+      within = ap (λ (l : List StoredItem). are_within 0 (length c.push.new.bytes.items) l) (pushed c) ∙ ap (λ n. are_within 0 n (self.items.items ++ x ∷ [])) (ap length (longer c) ∙ length-append self.bytes.items c.args.payload.now) ∙ within-push 0 (length self.bytes.items) (length c.args.payload.now) self.items.items x self.within (ends c) (lies-longer (length self.bytes.items) (length c.args.payload.now) c.args.mark (within_buffer c));
       fewer = let n = self.fewer in omega arith;
       in_order = subst (λ (l : List LogItem). IsInOrder (self.clock + 1) self.stable l) (sym is) (order-push self.clock (self.clock + 1) self.stable old (omega arith) self.in_order (new_item c) (waits c));
       counted = let n = self.counted in omega arith;
       sized = sized ∙ sym (log_size-push old self.clock (self.size + c.size.result) (new_mark c)) ∙ ap log_size (sym is);
       stable_sized = self.stable_sized ∙ ap log_size (sym (take-append-le self.stable old (new_item c ∷ []) self.in_order.within) ∙ ap (take self.stable) (sym is));
-      fits = let f = c.requires.fits in let e = c.size.ensures self.blob_limit self.size in omega arith;
-      placed = ap (are_placed 0) is ∙ placed self.clock _ old (new_mark c) sized self.placed (stands-at self.blob_limit c.args.payload.now c.args.mark (sym self.sized));
+      fits = let f = c.requires.fits in let e = c.size.ensures in omega arith;
+      placed = ap (are_placed 0) is ∙ placed self.clock _ old (new_mark c) sized self.placed (stands-at self.blob_limit self.bytes.items c.args.payload.now c.args.mark (sym self.sized));
+      holds_blobs = ap (are_held []) (ap marks_of is ∙ map-append (λ (item : LogItem). item.mark) old (new_item c ∷ [])) ∙ held-push [] (marks_of old) (new_mark c) self.holds_blobs c.requires.held;
+      paged = c.pages_behind-self.ensures ∙ pages-push self.items.items x c.push.new.items.items self.pages (pushed c) self.paged;
+      few_pages = let w = self.few_pages in let e = c.pages_behind-self.ensures in let one = one-page self.pages c.args.mark in omega arith;
+      cursor_within = let w = self.cursor_within in omega arith;
+      few_appended = let w = self.few_appended in let one = c.messages.ensures.few in omega arith;
       batch_is = c.requires.batch ∙ ap (λ b. open_after b (event_of_mark (new_mark c) ∷ [])) self.batch_is ∙ sym (open-push self.stable _ _ old (new_mark c) self.in_order.within) ∙ ap (λ (l : List LogItem). is_open (map event_of (drop self.stable l))) (sym is);
       room = λ b. let two = c.room_for.ensures.open b in let there = c.in_ok-reserve.ensures.ok in let same = c.push.ensures.capacity in let then = c.push.new.items.ok in let ok = self.items.ok in let len = c.reserve.ensures.len in omega arith;
     }
@@ -147,3 +172,11 @@ pub returns-clause-moves : goal.returns-clause-moves
 unfolding adds
 returns-clause-moves c =
     let adds = adds (goal.at.returns-clause-moves c).After-push in record { settings = refl; stable = adds.stable; ok = adds.pending; err = tt }
+
+pub returns-clause-named : goal.returns-clause-named
+returns-clause-named c =
+    let self = c.args.self.now in
+    let at = (goal.at.returns-clause-named c).After-push in
+    let le : self.cursor ≤ length (kept_in self) = let w = self.cursor_within in omega (arith, kept-length self.blob_limit self.bytes.items 0 0 self.items.items) in
+    ap (λ (l : List (ℕ × ℕ)). moves_of_list l (self.appended + at.messages.result)) (waiting-push self.cursor (kept_in self) (new_item at) (new_kept at) (kept at) le)
+    ∙ ap (λ n. moves_of_list (named_in (drop self.cursor (kept_in self)) ++ named_by (new_mark at)) (self.appended + n)) (at.messages.ensures.count self.blob_limit self.size self.bytes.items c.args.payload.now)

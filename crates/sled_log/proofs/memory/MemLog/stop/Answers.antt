@@ -1,5 +1,9 @@
-use Rattle.sled_log.proofs.Names.{◌≡◌, ◌+◌, ℕ, List, length, take, drop, map, refl, sym, ◌∙◌, ap, subst, arith, true, false≢true, length-map, length-drop, take_all, drop_all, is_open, event_of, log_size, item_after_restart, state_at, IsInOrder, are_placed, LogItem, kept_in, place_after, start_after, are_within, restarts, kept_items}
+use Rattle.sled_log.proofs.Names.{named_in, bare_event, pages_after, [], ◌≡◌, ◌+◌, ℕ, List, length, take, drop, map, refl, sym, ◌∙◌, ap, subst, arith, true, false≢true, length-map, length-drop, take_all, drop_all, is_open, event_of, log_size, item_after_restart, state_at, IsInOrder, are_placed, LogItem, kept_in, place_after, start_after, are_within, restarts, kept_items}
 use Rattle.sled_log.proofs.Moments.{pending_events, size-restarted, log_size-restarted, left-stopped, order-restarted, pending-restarted, stable-restarted}
+use Rattle.sled_log.specs.Inside.Blobs.{marks_of, are_held}
+use Rattle.sled_log.specs.Moves.{Moves}
+use Rattle.sled_log.proofs.Blobs.{held-stopped, marks-restarted}
+use Rattle.sled_log.proofs.Waiting.{named-same}
 use Rattle.sled_log.proofs.Places.{placed-take, placed-map}
 use Rattle.sled_log.proofs.Stored.{kept-length, kept-stopped, placed-after}
 use Rattle.sled_log.proofs.memory.MemLog.stop.Goals.{After-len-stable}
@@ -58,6 +62,11 @@ invariant_of-result c =
       stable_sized = size ∙ ap log_size (sym (take_all c.len-stable.result (kept c) (omega arith)));
       fits = let fits = self.fits in let sized = self.sized in omega arith;
       placed = placed c;
+      paged = c.count_pages-pages.ensures.pages ∙ ap (λ (l : List _). pages_after 0 (map bare_event l)) c.deref-2.ensures.value;
+      few_pages = let few = c.count_pages-pages.ensures.few in let e = ap length c.deref-2.ensures.value in omega arith;
+      cursor_within = omega arith;
+      few_appended = omega arith;
+      holds_blobs = ap (λ (l : List LogItem). are_held [] (marks_of l)) is ∙ held-stopped (self.stable + c.args.n) (kept_in self) self.holds_blobs;
       batch_is = ap (λ l. is_open (map event_of l)) (sym (drop_all c.len-stable.result (kept c) (omega arith)));
       room = λ no. absurd (false≢true no);
     }
@@ -79,4 +88,5 @@ returns c =
       counts = refl;
       moment = refl;
       settings = refl;
+      moves = ap (λ (l : List (ℕ × ℕ)). (let m : Moves = record { waiting = l; appended = 0 } in m)) (ap named_in is ∙ named-same 0 _ (take (self.stable + c.args.n) (kept_in self)) (marks-restarted (take (self.stable + c.args.n) (kept_in self))));
     }

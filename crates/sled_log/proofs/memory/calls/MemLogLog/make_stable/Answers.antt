@@ -1,6 +1,10 @@
-use Rattle.sled_log.proofs.Names.{◌≡◌, ◌≤◌, ◌+◌, ◌<◌, false, List, length, take, drop, map, refl, sym, ◌∙◌, ap, subst, arith, true≢false, take_all, drop_all, sum_by-take-drop, is_open, event_of, size_of_mark, log_size, items_settled_at, state_at, IsInOrder, are_placed, LogItem, kept_in, no_moment, are_within, settle_all, kept_items, MemLog, StoredItem}
+use Rattle.sled_log.proofs.Names.{[], ℕ, named_in, bare_event, pages_after, ◌≡◌, ◌≤◌, ◌+◌, ◌<◌, false, List, length, take, drop, map, refl, sym, ◌∙◌, ap, subst, arith, true≢false, take_all, drop_all, sum_by-take-drop, is_open, event_of, size_of_mark, log_size, items_settled_at, state_at, IsInOrder, are_placed, LogItem, kept_in, no_moment, are_within, settle_all, kept_items, MemLog, StoredItem}
 use Rattle.sled_log.proofs.MemCalls.{batch-says, called_settled, remembers_settled}
 use Rattle.sled_log.proofs.Moments.{pending_events, order-settled, length-all_settled, log_size-all_settled, pending-settled}
+use Rattle.sled_log.specs.Inside.Blobs.{marks_of, are_held}
+use Rattle.sled_log.specs.Moves.{Moves}
+use Rattle.sled_log.proofs.Blobs.{marks-settled}
+use Rattle.sled_log.proofs.Waiting.{bare-settle_all, named-same}
 use Rattle.sled_log.proofs.Places.{placed-settled}
 use Rattle.sled_log.proofs.Stored.{kept-length, kept-settle_all, within-settle_all}
 use Rattle.sled_log.proofs.memory.calls.MemLogLog.make_stable.Goals as goal
@@ -53,6 +57,11 @@ invariant_of-self c =
       stable_sized = sized ∙ ap log_size (sym (take_all c.len-self.result kept past));
       fits = self.fits;
       placed = ap (are_placed 0) is ∙ placed-settled (self.clock + 1) self.stable 0 (kept_in self) self.placed;
+      holds_blobs = ap (are_held []) (ap marks_of is ∙ marks-settled (self.clock + 1) self.stable (kept_in self)) ∙ self.holds_blobs;
+      paged = self.paged ∙ ap (pages_after 0) (sym (bare-settle_all (self.clock + 1) self.stable self.items.items) ∙ ap (map bare_event) (sym c.settle_from.ensures));
+      few_pages = let w = self.few_pages in omega (arith, long, same, before, after);
+      cursor_within = let w = self.cursor_within in omega (arith, long, same, before, after);
+      few_appended = let w = self.few_appended in omega (arith, long, same, before, after);
       batch_is = closed ∙ ap (λ l. is_open (map event_of l)) (sym (drop_all c.len-self.result kept past));
       room = λ open'. absurd (true≢false (sym open' ∙ closed));
     }
@@ -69,6 +78,7 @@ returns-then-self-len c =
       settings = refl;
       always = refl;
       past = remembers_settled self _ refl is;
+      unnamed = ap (λ (l : List (ℕ × ℕ)). (let m : Moves = record { waiting = l; appended = self.appended } in m)) (ap (λ (l : List LogItem). named_in (drop self.cursor l)) is ∙ named-same self.cursor _ (kept_in self) (marks-settled (self.clock + 1) self.stable (kept_in self)));
     }
 
 pub returns-else-self-len-clause-number : goal.returns-else-self-len-clause-number

@@ -28,7 +28,7 @@ loop-item-preserved c =
     elim c.match-item.branch [
       | in-Change+in_ok-apply w ↦
           subst (λ (l : List PageState). IsRecovering limit bytes items x.end (drop (i + 1) from) l) (sym (ap (λ p. p.items) w.pages-is))
-          (recovers-change limit bytes items so_far w.in-Change.kind w.in-Change.pid w.in-Change.is w.said_at-said.result w.said_at-said.ensures w.in_ok-apply.ensures)
+          (recovers-change limit bytes items so_far w.in-Change.kind w.in-Change.pid w.in-Change.blob w.in-Change.is w.said_at-said.result w.said_at-said.ensures w.in_ok-apply.ensures)
       | in_default w ↦
           subst (λ (l : List PageState). IsRecovering limit bytes items x.end (drop (i + 1) from) l) (sym (ap (λ p. p.items) w.pages-is))
           (recovers-mark limit bytes items so_far w.in_default.not-Change)

@@ -1,0 +1,18 @@
+-- A recovered page that is one blob says the blob of the page's chain.
+use Rattle.sled_log.proofs.Names.{rules, ◌≡◌, SFits, w64, to_z, of_z, List, [], slice_index_or, sym, subst, AllZip, to_z-of_z, PageState, now-Adds, now, state_of, Chain, effect_of_entry, IsPageState, zip-at}
+use Rattle.sled_log.specs.Moves.{HasBlob}
+use Rattle.sled_log.proofs.tests.moves.rewrite.Goals as goal
+
+pub rewrite_blob_pointer-requires : goal.rewrite_blob_pointer-requires
+rewrite_blob_pointer-requires c =
+    let old = state_of c.args.log.now in
+    let new = state_of c.recover.new.self in
+    let ensures = c.in_ok-pages.ensures in
+    let same : now effect_of_entry new ≡ now effect_of_entry old = now-Adds effect_of_entry old new [] (ensures.called.added tt) in
+    let lookup = c.in-Some.ensures.lookup in
+    let page = c.in-Some.page.now in
+    let pages = c.deref.result.now in
+    let zipped = subst (λ (l : List PageState). AllZip IsPageState (now effect_of_entry old) l) (sym c.deref.ensures.value) ensures.pages in
+    let shape : IsPageState (slice_index_or (now effect_of_entry old) c.args.pid []) page = subst (IsPageState (slice_index_or (now effect_of_entry old) c.args.pid [])) (sym lookup.1) (zip-at IsPageState c.args.pid (now effect_of_entry old) pages [] page zipped lookup.3.0) in
+    let fits : SFits w64 c.in-Some-blob_of.blob = search rules in
+    record { holds = subst (λ (l : List Chain). HasBlob l c.args.pid (to_z w64 (of_z w64 c.in-Some-blob_of.blob))) (sym same) (rw (to_z-of_z w64 c.in-Some-blob_of.blob fits) (c.in-Some-blob_of.ensures _ shape)) }
