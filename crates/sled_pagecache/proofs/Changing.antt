@@ -1,5 +1,5 @@
 -- What a call leads to that changes one page at most.
-use Rattle.sled_pagecache.proofs.Names.{◌≡◌, ℕ, true, false, List, [], ◌∷◌, Result, Err, slice_set, refl, sym, ◌∙◌, ap, false≢true, map-set, Read, Write, Refusal, Io, chains_from, Content, Update, contents_from, Change, Messages, effect_of, IsUpdate, MayChange, message_of, Ghosts, Cache, Represents, StepOver, is_write_fault, Logged, IsProper, page, State, contents_of, stamps_of, with_page, outcome, no_change, Answer, Call, StampedPage, Recency, Bool, Config, StickyLog, KeptPage, Went, Went-none, Steps, stamps_in, IsLeft, view, Event, Message, AreEvents, StayProper, open_after, contents_after}
+use Rattle.sled_pagecache.proofs.Names.{counts-read, ◌≡◌, ℕ, true, false, List, [], ◌∷◌, Result, Err, slice_set, refl, sym, ◌∙◌, ap, false≢true, map-set, Read, Write, Refusal, Io, chains_from, Content, Update, contents_from, Change, Messages, effect_of, IsUpdate, MayChange, message_of, Ghosts, Cache, Represents, StepOver, is_write_fault, Logged, IsProper, page, State, contents_of, stamps_of, with_page, outcome, no_change, Answer, Call, StampedPage, Recency, Bool, Config, StickyLog, KeptPage, Went, Went-none, Steps, stamps_in, IsLeft, view, Event, Message, AreEvents, StayProper, open_after, contents_after}
 use Rattle.sled_log.specs.LogState as log
 use Rattle.sled_pagecache.proofs.CacheSteps.{LeadsTo, stays-none, steps-went}
 use Rattle.sled_pagecache.proofs.Carrying.{proper-now}
@@ -52,7 +52,7 @@ module _ {L : Type 0} (g : Ghosts L) where
           → (new.fault ≡ false → contents_of t ≡ contents_from (now held) (Change pid update))
           → LeadsTo g old new held s call answer (Change pid (message_of update) ∷ [])
       leads-to t step stamps same_next fault batch contents =
-          leads t (Change pid update ∷ []) (Change pid (message_of update) ∷ []) step ((refl, reads), may, tt)
+          leads t (Change pid update ∷ []) (Change pid (message_of update) ∷ []) step ((refl, counts-read (message_of update) update reads), may, tt)
           (stay-one pages_now (now held) (Change pid (message_of update)) (Change pid update) (proper-now (log.unplaced_state (g.state old.log)) held (is.known clear).logged) proper) refl stamps same_next fault batch contents
 
       -- and then a write fault came

@@ -1,5 +1,6 @@
 -- A link as a step of the machine.
 use Rattle.sled_pagecache.proofs.Names.{Recency, ◌≡◌, ◌≢◌, ◌≤◌, ◌+◌, ◌-◌, ◌^◌, inl, inr, ℕ, Bool, true, false, cond, ltb, List, [], ◌∷◌, ◌++◌, length, Option, Some, Result, Ok, Err, slice_get, slice_set, slice_index_or, refl, sym, ◌∙◌, ap, subst, arith, eq-eqb, get_or-map, ne_eqb, ltb-true, length-map, map-set, same_Some, slice_get_within, get_or_from_slice_get, error_of, LinkRefused, Write, Error, Refusal, ReportableBug, Io, Corruption, OutOfMemory, StampUsedUp, LogFull, chains_from, Content, Free, Node, Update, Put, Link, after_link, contents_from, Change, Entry, Chain, Messages, messages_of, effect_of, effect_of_entry, holds-made, one_content, Makes, Hold, MayChange, now-unplaced, message_of, Ghosts, Accepts, applied, WholeNode, Cache, chain_length, Represents, HasNoRoom, StepOver, Steps, link_update, chain_at, IsCaused, is_write_fault, RefusesUnappended, RefusesPull, update_by, TakesLink, RefusesAppended, Logged, is_free, IsProper, page, State, page_at, with_page, Outcome, outcome, no_change, is_reserved, Does, LinksNode, LinksContent, stamps_in, IsConsistent, Token, token, Linked, Config, StickyLog, NodeLink, StampedPage, KeptPage, map-at, behind-own, IsKept, Swapped}
+use Rattle.sled_pagecache.proofs.KeptPages.{kept-long}
 use Rattle.sled_base.specs.declared.types.Error.TheVariants as error
 use Rattle.sled_base.specs.declared.types.Refusal.TheVariants.{Unsupported}
 use Rattle.sled_log.specs.LogState as log
@@ -85,7 +86,7 @@ module _ {L : Type 0} (g : Ghosts L) where
               = ap (λ (l : List Content). slice_get l pid) (sym (is.known clear).contents) ∙ map-at (λ (p : StampedPage). p.content) s.pages pid (page stands.stamp stands.content) stands.there ∙ ap (λ c. Some c) holds in
               link-way (now held) _ (holds_unplaced g old held s is clear) (proper-now (log.unplaced_state (g.state before.log)) held (is.known clear).logged) pid (behind-own pid behind) link node there accepts (length q.infos.items)
               (ap (λ (l : List Messages). length (slice_index_or l pid [])) (sym (now-unplaced (g.state before.log)))
-              ∙ ap length (get_or-map messages_of (log.now effect_of_entry (g.state before.log)) pid []) ∙ length-map chain (λ (e : Entry). e.message) ∙ kept.long)
+              ∙ ap length (get_or-map messages_of (log.now effect_of_entry (g.state before.log)) pid []) ∙ length-map chain (λ (e : Entry). e.message) ∙ kept-long chain q kept)
 
           node-step : (answer : Swapped NodeLink) (out : Outcome) → LinksNode (chain_length g.state old) (HasNoRoom g before.log) s t link node answer out → StepOver g old s (call.Link t link) (Linked answer) out
           node-step answer out h = step answer out (subst (LinksContent (chain_length g.state old) (HasNoRoom g before.log) s t link answer out) (sym holds) h)
@@ -93,7 +94,7 @@ module _ {L : Type 0} (g : Ghosts L) where
           accepted-step : Accepts node link → q.stamp ≢ 2 ^ 64 - 1 → (answer : Swapped NodeLink) (out : Outcome)
               → Does (chain_length g.state old) (HasNoRoom g before.log) s (Change pid (update_by q link node)) answer out (λ swapped u. (swapped ≡ Ok (token pid (t.stamp + 1))) × (u ≡ with_page s pid (page (t.stamp + 1) (Node (applied link node)))))
               → StepOver g old s (call.Link t link) (Linked answer) out
-          accepted-step accepts below answer out h = node-step answer out (inr (inr (accepts, rw (ne_eqb t.stamp (2 ^ 64 - 1) (λ most. below (is_fresh ∙ most)), same, kept.long) h)))
+          accepted-step accepts below answer out h = node-step answer out (inr (inr (accepts, rw (ne_eqb t.stamp (2 ^ 64 - 1) (λ most. below (is_fresh ∙ most)), same, kept-long chain q kept) h)))
 
       -- ---- nothing was told
 

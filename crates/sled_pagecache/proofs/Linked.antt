@@ -1,5 +1,6 @@
 -- What a link makes of the chain of its page.
-use Rattle.sled_pagecache.proofs.Names.{◌≡◌, ◌<◌, ℕ, Bool, true, false, cond, ltb, List, [], ◌∷◌, ◌++◌, length, map, sym, ◌∙◌, ap, subst, slice_set, slice_index_or, length-map, map-append, Result, Err, Refusal, is_empty, chains_from, Node, Put, Link, Event, Change, Message, Entry, Chain, messages_of, placed_entry, effect_of_entry, said_of, IsUpdate, Makes, message_of, Accepts, applied, WholeNode, place_of, begun_by, HoldsChain, IsKept, is_free, link_update, joined_infos, update_of, CacheInfo, Kept, Page, NodeLink, arith}
+use Rattle.sled_pagecache.proofs.Names.{◌≡◌, ◌<◌, ℕ, Bool, true, false, cond, ltb, List, [], ◌∷◌, ◌++◌, length, map, sym, ◌∙◌, ap, subst, slice_set, slice_index_or, map-append, Result, Err, Refusal, is_empty, chains_from, Node, Put, Link, Event, Change, Message, Entry, Chain, messages_of, placed_entry, effect_of_entry, said_of, IsUpdate, Makes, message_of, Accepts, applied, WholeNode, place_of, begun_by, HoldsChain, IsKept, is_free, link_update, joined_infos, update_of, CacheInfo, Kept, Page, NodeLink, arith}
+use Rattle.sled_pagecache.proofs.KeptPages.{placed-at}
 use Rattle.sled_pagecache.specs.declared.pagecache.table.page.Kept.TheVariants as kept
 use Rattle.sled_pagecache.proofs.FoundMessages.{makes-more}
 use Rattle.sled_pagecache.proofs.Swaps.{at-page, other-pages, put-chains, kept-put}
@@ -48,7 +49,7 @@ module _ (chains : List Chain) (pid : ℕ) (there : pid < length chains) (page :
             other-pages chains pid there after (chain ++ last) set,
             record {
               places = λ _. ap (map said_of) same ∙ more;
-              long = ap length same ∙ sym (length-map (chain ++ last) said_of) ∙ ap length more ∙ length-map new.infos.items place_of;
+              at = placed-at (slice_index_or after pid []) new.infos.items (ap (map said_of) same ∙ more);
               holds = rw (held, same, map-append (λ (entry : Entry). entry.message) chain last) (makes-more (messages_of chain) before (message_of (Link link)) made makes (link, reads, accepts, applies));
             },
           )

@@ -27,7 +27,7 @@ pub use Rattle.sled_log.specs.Calls.{Called, Counts, HasGrown, begun_by as begun
 pub use Rattle.sled_log.specs.Chains.{chains_with_new as begin_page, chains_after, chains_from, chains_with_change, is_chain, is_empty, is_freeing, is_linking, chain_with_link, may_follow}
 pub use Rattle.sled_log.specs.Contents.{Content, Counter, Damaged, Free, Link, Node, Put, Roots, Update, after_link, contents_after, contents_from, effect_of_update}
 pub use Rattle.sled_log.specs.Events.{Cancel, Change, Event, Pin, Seal, seen_event}
-pub use Rattle.sled_log.specs.Inside.HoldingLaws.{holds-added, holds-after, holds-made, may-append}
+pub use Rattle.sled_log.specs.Inside.HoldingLaws.{counts-read, holds-added, holds-after, holds-made, may-append}
 pub use Rattle.sled_log.specs.Inside.Items.{left_now}
 pub use Rattle.sled_log.specs.Inside.Laws.{Adds-none, AddsEvents-then, CrashKeeps-added, CrashKeeps-more, CrashesSinceLeave-none, IsFair-none, IsLeft-more, IsPrefix-all, IsPrefix-none, is_open-drop, now-Adds, open_after-append}
 pub use Rattle.sled_log.specs.Limits.{head_size}

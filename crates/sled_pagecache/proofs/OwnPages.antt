@@ -1,5 +1,6 @@
 -- The cache's own pages, as they are read from a log, and as they are made.
 use Rattle.sled_pagecache.proofs.Names.{slice_get-map, ◌≡◌, ◌<◌, ℕ, true, false, List, [], ◌∷◌, length, map, get_or, Some, refl, sym, ◌∙◌, ap, subst, arith, nat_tests, AllZip, DiskPtr, Refusal, is_freeing, is_empty, Content, Counter, Roots, Node, Put, effect_of_update, Entry, Chain, Messages, messages_of, effect_of_entry, freed_of, IsUpdate, LeadTo, Makes, reads_effect, applied, WholeNode, IsFoundAs, IsLoaded, RefusesOwn, is_free, place_of_freeing, found_message, RefusesMessage, is_misfit, IsFit, CacheInfo, Page, Found, slice_get}
+use Rattle.sled_pagecache.proofs.KeptPages.{kept-long}
 use Rattle.sled_pagecache.proofs.Linked.{full-free}
 use Rattle.sled_pagecache.proofs.Pulls.{found-makes}
 
@@ -25,7 +26,7 @@ own-one (entry ∷ next ∷ chain) content own h = absurd (node-leads (applied h
 
 -- a page that no cache leaves so isn't fit
 pub misfit-unfit : (pid : ℕ) (chain : Chain) (page : Page) → IsLoaded chain page → is_misfit pid page ≡ true → ¬ IsFit pid chain
-misfit-unfit pid chain page is misfit fit = grind (arith, nat_tests, own-one chain, full-free chain page.kept, is.kept.long, is.kept.holds)
+misfit-unfit pid chain page is misfit fit = grind (arith, nat_tests, own-one chain, full-free chain page.kept, kept-long chain page is.kept, is.kept.holds)
 
 -- a system page that is fit has one message, and isn't free
 pub fits-one : (pid : ℕ) (page : Page) → pid < 2 → 0 < length page.infos.items → is_misfit pid page ≡ false → (length page.infos.items ≡ 1) × (is_free page.kept ≡ false)

@@ -1,11 +1,12 @@
 -- A page that is brought into memory: the table beside its log, and what one sees who knows the cache by its model.
 use Rattle.sled_pagecache.proofs.Names.{Recency, on_ok_weaker, ⊎_elim, cases_Bool, ◌≡◌, ◌≤◌, ℕ, Bool, true, false, List, [], length, Some, Result, Ok, Err, slice_get, slice_set, slice_index_or, refl, sym, ◌∙◌, ap, subst, arith, false≢true, map-set, set-get_or, same_Some, AllByRecursion, IfErr, OnOk, OnErr, IsOk, Refusal, is_open, open_after, is_chain, Event, Message, Chain, effect_of_entry, IsSized, Ghosts, Cache, chain_length, IsAway, chain_at, count_after, Went, IsCaused, IsKept, is_free, is_resident, BringsIn, RefusesPull, ReadsPage, is_reserved, stamps_in, resident_in, IsFreeOrNode, IsConsistent, Config, StickyLog, Page, now, view, map-at, set-at, put-back, all-at, behind-own, kept-at, own-at}
+use Rattle.sled_pagecache.proofs.KeptPages.{kept-long}
 use Rattle.sled_pagecache.proofs.LeftPages.{leaves-went}
 use Rattle.sled_pagecache.proofs.Tables.{consistent-set, free-same}
 
 -- how many messages make a page
 pub places-length : (chain : Chain) (page : Page) → IsKept chain page → length chain ≡ length page.infos.items
-places-length chain page is = is.long
+places-length = kept-long
 
 module _ {L : Type 0} (g : Ghosts L) (before after : StickyLog L) (pages : List Page) (free : List ℕ) (pid : ℕ) (q page : Page)
     (c : IsConsistent g.tells g.state before pages free) (ready : before.fault ≡ false) (behind : is_reserved pid ≡ false) (at : slice_get pages pid ≡ Some q) where

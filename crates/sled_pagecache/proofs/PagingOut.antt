@@ -1,5 +1,5 @@
 -- A page leaves memory, and its cache stays as it always is.
-use Rattle.sled_pagecache.proofs.Names.{set-get_or, slice_index_or, zip-set, Recency, eqb_tells, ◌≡◌, ◌≢◌, ◌⊎◌, ◌≤◌, inl, inr, ℕ, Bool, true, false, List, [], length, length-set, ◌^◌, map, Some, None, slice_get, slice_set, refl, sym, ◌∙◌, ap, subst, same_Some, map-set, AllZip, Chain, effect_of_entry, Ghosts, Cache, IsResident, IsAway, HoldsChain, IsKept, place_of, is_free, is_resident, AreOwn, IsOwnAt, IsConsistent, stamps_in, Config, CacheInfo, StickyLog, Kept, Page, HasNode, HasNoNode, StaysAt, access_size, size_if, kept_behind_eviction, IsPagedOut, now, view, each-set, arith, at-id, set-by-id, kept-at, map-at, set-at, put-back, all-at}
+use Rattle.sled_pagecache.proofs.Names.{place_of_freeing, set-get_or, slice_index_or, zip-set, Recency, eqb_tells, ◌≡◌, ◌≢◌, ◌⊎◌, ◌≤◌, inl, inr, ℕ, Bool, true, false, List, [], length, length-set, ◌^◌, map, Some, None, slice_get, slice_set, refl, sym, ◌∙◌, ap, subst, same_Some, map-set, AllZip, Chain, effect_of_entry, Ghosts, Cache, IsResident, IsAway, HoldsChain, IsKept, place_of, is_free, is_resident, AreOwn, IsOwnAt, IsConsistent, stamps_in, Config, CacheInfo, StickyLog, Kept, Page, HasNode, HasNoNode, StaysAt, access_size, size_if, kept_behind_eviction, IsPagedOut, now, view, each-set, arith, at-id, set-by-id, kept-at, map-at, set-at, put-back, all-at}
 use Rattle.sled_pagecache.proofs.InMemory.{stays-same, stays-then, set-others, set-none}
 use Rattle.sled_pagecache.proofs.Standing.{node-full}
 use Rattle.sled_pagecache.proofs.Tables.{free-same}
@@ -26,7 +26,7 @@ away-out k is = grind arith
 kept-out : (chain : Chain) (q page : Page) → IsKept chain q → IsPagedOut q page → IsKept chain page
 kept-out chain q page is out = record {
   places = λ full. is.places (sym (ap is_free out.kept ∙ free-out q.kept) ∙ full) ∙ ap (map place_of) (sym out.infos);
-  long = is.long ∙ ap length (sym out.infos);
+  at = is.at ∙ ap (map place_of_freeing) (sym out.infos);
   holds = subst (HoldsChain chain) (sym out.kept) (holds-out chain q.kept is.holds);
 }
 

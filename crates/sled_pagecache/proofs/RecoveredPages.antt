@@ -1,5 +1,5 @@
 -- Pages as they are recovered are kept as their chains say, and the first of them that no cache leaves so.
-use Rattle.sled_pagecache.proofs.Names.{◌≡◌, ◌+◌, ◌<◌, ℕ, true, false, List, [], ◌∷◌, ◌++◌, length, map, take, drop, get_or, Option, Some, None, refl, sym, ◌∙◌, ap, subst, arith, length-map, take_more, zip-append, AllZip, AllByRecursion, IfSome, PageState, Chain, IsPageState, said_of, freed_of, place_of, IsLoaded, IsUnread, is_free, place_of_freeing, info_at, kept_by, IsRecovered, Page, Bool, drop_more, free_ids, append_assoc, slice_get_within, get_or_from_slice_get, if◌then◌else◌, slice_get, insert_key, nat_cmp}
+use Rattle.sled_pagecache.proofs.Names.{◌≡◌, ◌+◌, ◌<◌, ℕ, true, false, List, [], ◌∷◌, ◌++◌, length, map, take, drop, get_or, Option, Some, None, refl, sym, ◌∙◌, ap, subst, arith, take_more, zip-append, AllZip, AllByRecursion, IfSome, PageState, Chain, IsPageState, said_of, freed_of, place_of, IsLoaded, IsUnread, is_free, place_of_freeing, info_at, kept_by, IsRecovered, Page, Bool, drop_more, free_ids, append_assoc, slice_get_within, get_or_from_slice_get, if◌then◌else◌, slice_get, insert_key, nat_cmp}
 use Rattle.std.proofs.lemmas.List.{map-id}
 use Rattle.sled_pagecache.specs.Inside.Recovery.{places_in}
 use Rattle.sled_pagecache.proofs.FreeIds.{behind, later}
@@ -19,8 +19,7 @@ is-loaded chain state page from is =
     let infos = from.infos in
     let kept = from.kept in
     record {
-      kept = record { places = λ full. grind arith; long = grind (arith, length-map chain said_of, length-map chain freed_of, length-map (places_in state) info_at); holds = grind arith };
-      at = grind arith;
+      kept = record { places = λ full. grind arith; at = grind arith; holds = grind arith };
       stamp = from.stamp;
     }
 

@@ -1,5 +1,6 @@
 -- The pages of the state that a cache is in, beside those of its table.
 use Rattle.sled_pagecache.proofs.Names.{◌≡◌, ◌≤◌, ◌<◌, ℕ, zero, suc, Bool, true, false, List, [], ◌∷◌, ◌++◌, length, map, Some, None, slice_get, slice_set, refl, sym, ◌∙◌, ap, subst, arith, length-map, same_Some, AllZip-long, AllZip, is_freeing, is_empty, Content, Node, Put, effect_of_update, Chain, Entry, Messages, messages_of, effect_of, effect_of_entry, LeadTo, Makes, Holds, Hold, reads_effect, Ghosts, applied, WholeNode, Cache, Represents, Logged, HoldsChain, IsKept, State, stamps_in, resident_in, IsBeside, CacheInfo, Kept, KeptPage, LogState, now, slice_get_past, get_set_there, last-at, map-at, past-end, holds_now}
+use Rattle.sled_pagecache.proofs.KeptPages.{kept-long}
 use Rattle.sled_pagecache.specs.Table as kept_table
 use Rattle.sled_pagecache.specs.Inside.PageEntry as kept
 use Rattle.sled_pagecache.specs.State.{StampedPage, is_free}
@@ -95,7 +96,7 @@ resident-add table page node holds = map-at (λ (q : KeptPage). kept.is_resident
 
 -- a page of one message has a chain of one
 pub one-long : (chain : Chain) (page : KeptPage) → IsKept chain page → map (λ (info : CacheInfo). info.ts) page.infos.items ≡ page.stamp ∷ [] → length chain ≡ 1
-one-long chain page is one = is.long ∙ sym (length-map page.infos.items (λ (info : CacheInfo). info.ts)) ∙ ap length one
+one-long chain page is one = kept-long chain page is ∙ sym (length-map page.infos.items (λ (info : CacheInfo). info.ts)) ∙ ap length one
 
 pub one-short : (page : KeptPage) → map (λ (info : CacheInfo). info.ts) page.infos.items ≡ page.stamp ∷ [] → length page.infos.items ≤ 10
 one-short page one = let same : length page.infos.items ≡ 1 = sym (length-map page.infos.items (λ (info : CacheInfo). info.ts)) ∙ ap length one in omega (arith, same)

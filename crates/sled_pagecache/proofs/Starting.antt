@@ -1,5 +1,6 @@
 -- The pages that a cache is opened with.
 use Rattle.sled_pagecache.proofs.Names.{slice_get-map, kept-at, Recency, IsBounded, IsSound, IsUnused, slice_get_cases, view, inl, inr, ◌≡◌, ◌≤◌, ◌<◌, ◌^◌, ℕ, zero, suc, Bool, true, false, cond, List, [], ◌∷◌, ◌++◌, length, map, take, drop, set, slice_get, slice_index_or, Option, None, Some, is_some, Result, Ok, refl, sym, ◌∙◌, ap, subst, arith, eq-eqb, drop-nil, take-append_seam, nat_tests, length-append, length-map, AllZip-long, slice_get-get_or, AllByRecursion, AllZip, IfSome, DiskPtr, Refusal, Corruption, is_open, open_after, is_empty, chains_with_change, Content, Put, Event, Change, Message, Entry, Chain, messages_of, placed_entry, effect_of, effect_of_entry, holds-made, Makes, Holds, Hold, now, message_of, zip-append, Ghosts, place_of, roots_event, IsLoaded, IsUnread, AreRecovered, AreRead, AreFound, IsOwnAt, IsTable, IsOpenedWith, RefusesOwn, RefusesPages, next_id, counter_event, events_of_roots, events_at_start, stamps_at_start, HoldsChain, IsKept, is_resident, place_of_freeing, Proceeds, refusal_in, Comes, IsCaused, IsCaused-since, Went-last, is_misfit, IsFit, Wrote, IsRoots, IsConsistent, stamps_in, resident_in, CacheInfo, Config, StickyLog, Page, zip-set, set-get_or, length-set, Counter, add-by-id, all-by-id, at-id, zip-first, zip-second}
+use Rattle.sled_pagecache.proofs.KeptPages.{kept-long}
 use Rattle.sled_base.specs.declared.kinds.LogKind.TheVariants as effects
 use Rattle.sled_pagecache.proofs.ProperPages.{all-append}
 use Rattle.sled_pagecache.proofs.InMemory.{past-view, none-at}
@@ -30,7 +31,7 @@ module _ {L : Type 0} (g : Ghosts L) (old new : StickyLog L) (pid stamp : ℕ) (
         let long : length pages ≡ length held = AllZip-long IsKept held pages (table.kept known) in
         let is : now effect_of_entry (g.state new.log) ≡ held ++ (entry ∷ []) ∷ [] =
         wrote.writes.chains known ∙ ap (λ kind. chains_with_change effect_of_entry kind held pid entry) effect ∙ ap (λ b. cond b (held ++ (entry ∷ []) ∷ []) (set held pid (entry ∷ []))) (eq-eqb pid (length held) (last ∙ long)) in
-        let kept : IsKept (entry ∷ []) page = record { places = λ _. sym (ap (map place_of) infos); long = sym (ap length infos); holds = holds (entry ∷ []) (content, wrote.is, refl) } in
+        let kept : IsKept (entry ∷ []) page = record { places = λ _. sym (ap (map place_of) infos); at = sym (ap (map place_of_freeing) infos); holds = holds (entry ∷ []) (content, wrote.is, refl) } in
         subst (λ (l : List Chain). AllZip IsKept l (pages ++ page ∷ [])) (sym is) (zip-append IsKept held pages ((entry ∷ []) ∷ []) (page ∷ []) (table.kept known) (kept, tt));
     hold = (add-by-id _ pages page table.hold.0 (subst (λ n. IsOwnAt n page.kept) last own), all-append _ pages (page ∷ []) table.hold.1 ((omega (arith, ap length infos)), tt));
     few = omega (arith, length-append pages (page ∷ []), last, few);
@@ -52,10 +53,9 @@ module _ {tells : Type 0} (held : List Chain) (pages : List Page) (pid : ℕ) (p
         let loaded : IsLoaded chain other = record {
           kept = record {
             places = λ _. is.kept.places (full-free chain page.kept (own-one chain content own (makes known)).1 is.kept.holds) ∙ sym (ap (map place_of) infos);
-            long = is.kept.long ∙ sym (ap length infos);
+            at = is.kept.at ∙ sym (ap (map place_of_freeing) infos);
             holds = holds chain (makes known);
           };
-          at = is.at ∙ sym (ap (map place_of_freeing) infos);
           stamp = stamp ∙ is.stamp;
         } in
         subst (λ (l : List Chain). AllZip IsLoaded l (set pages pid other)) (set-get_or held pid []) (zip-set IsLoaded pid held pages chain other (are.kept known) loaded);
@@ -102,7 +102,7 @@ fits-at held pages counter loaded found k fits = if-some (slice_get held k) (λ 
     let paired = zip-first IsLoaded held pages k chain loaded at in
     let page = paired.0 in
     let fit = subst (λ (o : Option Page). IfSome o (λ page. is_misfit k page ≡ false)) paired.1 fits in
-    grind (arith, nat_tests, at-id _ pages k page found.0 paired.1, fit, paired.2.kept.long, paired.2.kept.holds))
+    grind (arith, nat_tests, at-id _ pages k page found.0 paired.1, fit, kept-long chain page paired.2.kept, paired.2.kept.holds))
 
 -- ---- the table then
 

@@ -8,12 +8,11 @@ use Rattle.sled_log.specs.Contents as contents
 use Rattle.sled_log.specs.Contents.{Content, Put}
 use Rattle.sled_log.specs.Events.{Event, Change}
 use Rattle.sled_log.specs.Messages.{Message, Chain, effect_of_entry}
-use Rattle.sled_log.specs.Pages.{IsSized, freed_of}
+use Rattle.sled_log.specs.Pages.{IsSized}
 use Rattle.sled_log.specs.Reading.{message_of}
 use Rattle.sled_pagecache.specs.Logged.{AllById, FitsId}
 use Rattle.sled_pagecache.specs.Opening.{opened_state, first_id, IsFit, BeginsAmiss, has_own}
 use Rattle.sled_pagecache.specs.Inside.PageEntry.{IsKept}
-use Rattle.sled_pagecache.specs.Infos.{place_of_freeing}
 use Rattle.sled_pagecache.specs.State.{stamps_of}
 use Rattle.sled_pagecache.specs.Inside.Invariant.{IsRoots, AreOwn}
 use Rattle.sled_pagecache.specs.Limits.{most_messages, most_pages}
@@ -25,7 +24,6 @@ use Rattle.sled_pagecache.specs.declared.pagecache.table.page.Page.{Page}
 -- a page that was recovered, with the places of its messages
 pub record IsLoaded (chain : Chain) (page : Page) : Type 0 where
   pub kept : IsKept chain page
-  pub at : map freed_of chain ≡ map place_of_freeing page.infos.items
   pub stamp : page.stamp ≡ 0
 
 -- no content was read yet

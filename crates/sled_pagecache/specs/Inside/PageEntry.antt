@@ -1,15 +1,15 @@
 -- How the cache keeps a page, beside the chain that the log has of it.
-use Rattle.std.specs.Prelude.{◌≡◌, ◌⊎◌, ◌^◌, ℕ, min, IsSomeAnd, ◌+◌, Bool, true, false, List, [], ◌∷◌, length, map, Option, Some, None, if◌then◌else◌}
+use Rattle.std.specs.Prelude.{◌≡◌, ◌⊎◌, ◌^◌, ℕ, min, IsSomeAnd, ◌+◌, Bool, true, false, List, [], ◌∷◌, map, Option, Some, None, if◌then◌else◌}
 use Rattle.sled_base.specs.Lru.{IsAccessed, IsSound, rounded}
 use Rattle.sled_pagecache.specs.declared.pagecache.memory.accesses.Accesses.{Accesses}
 use Rattle.std.specs.List.{sum_by}
 use Rattle.sled_log.specs.Chains.{is_empty}
 use Rattle.sled_log.specs.Contents as content
 use Rattle.sled_log.specs.Messages.{Chain, messages_of, effect_of_entry}
-use Rattle.sled_log.specs.Pages.{said_of}
+use Rattle.sled_log.specs.Pages.{said_of, freed_of}
 use Rattle.sled_log.specs.Reading.{Makes}
 use Rattle.sled_log.specs.Limits.{head_size}
-use Rattle.sled_pagecache.specs.Infos.{place_of}
+use Rattle.sled_pagecache.specs.Infos.{place_of, place_of_freeing}
 use Rattle.sled_pagecache.specs.declared.pagecache.table.page.CacheInfo.{CacheInfo}
 use Rattle.sled_pagecache.specs.declared.pagecache.table.page.Kept.{Kept}
 use Rattle.sled_pagecache.specs.declared.pagecache.table.page.Kept.TheVariants.{Free, Away, Counter, Roots, Node}
@@ -71,7 +71,7 @@ joined_size joins infos payload = (if joins then size_in infos else 0) + head_si
 -- The page is kept as its chain says, with the places of its messages. How much the message of a free page takes up isn't known.
 pub record IsKept (chain : Chain) (page : Page) : Type 0 where
   pub places : is_free page.kept ≡ false → map said_of chain ≡ map place_of page.infos.items
-  pub long : length chain ≡ length page.infos.items
+  pub at : map freed_of chain ≡ map place_of_freeing page.infos.items
   pub holds : HoldsChain chain page.kept
 
 -- the ids of the free pages, the least first, of pages of which the first has this id

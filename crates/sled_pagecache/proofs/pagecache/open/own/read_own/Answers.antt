@@ -1,4 +1,5 @@
 use Rattle.sled_pagecache.proofs.Names.{refl, CacheInfo, map-at, slice_get_read, AllZip-long, IsFoundAs, ◌∷◌, ◌≡◌, [], length, Some, sym, ◌∙◌, ap, arith, rules, Corruption, chain_at}
+use Rattle.sled_pagecache.proofs.KeptPages.{kept-long}
 use Rattle.sled_pagecache.proofs.OwnPages.{misfit-unfit, first-pointer, fits-one, sole-found}
 use Rattle.sled_pagecache.proofs.Proceeding.{proceeds-not}
 use Rattle.sled_pagecache.proofs.Pulls.{begins-full}
@@ -15,7 +16,7 @@ returns-then-is_misfit-clause-refused g c = λ told.
     let chain = chain_at (g.L.Log.state c.args.sticky_log.now.log) c.args.pid in
     let page = c.args.page.now in (
       misfit-unfit c.args.pid chain page (c.requires.loaded told) (sym c.is_misfit.ensures ∙ c.if-is_misfit.true),
-      first-pointer chain page.infos.items c.index.result.now.pointer (c.requires.loaded told).at (map-at (λ (info : CacheInfo). info.pointer) page.infos.items 0 c.index.result.now (slice_get_read _ _ 0 _ refl (search rules) (search rules))),
+      first-pointer chain page.infos.items c.index.result.now.pointer (c.requires.loaded told).kept.at (map-at (λ (info : CacheInfo). info.pointer) page.infos.items 0 c.index.result.now (slice_get_read _ _ 0 _ refl (search rules) (search rules))),
     )
 
 pub index-requires-2 : goal.index-requires-2
@@ -31,7 +32,7 @@ returns-then-eq-clause-refused g c = λ told.
     let loaded = c.requires.loaded told in
     let zip = c.in_ok-found.ensures.found told in
     let sole = fits-one c.args.pid c.args.page.now c.requires.own (search rules) (sym c.is_misfit.ensures ∙ c.if-is_misfit.false) in
-    let one = sole-found chain c.in_ok-found.found.items c.index-2.result.now zip (AllZip-long IsFoundAs chain c.in_ok-found.found.items zip ∙ loaded.kept.long ∙ sole.0) (search rules) in
+    let one = sole-found chain c.in_ok-found.found.items c.index-2.result.now zip (AllZip-long IsFoundAs chain c.in_ok-found.found.items zip ∙ kept-long chain page loaded.kept ∙ sole.0) (search rules) in
     begins-full chain (c.index-2.result.now ∷ []) one (kept-free chain page.kept loaded.kept.holds ∙ sole.1) (search rules)
 
 pub returns-clause-one : goal.returns-clause-one

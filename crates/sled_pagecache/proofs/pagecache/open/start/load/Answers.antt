@@ -23,7 +23,7 @@ returns-in-Some-clause-refused g c = λ told.
     let at = zip-second IsLoaded _ _ begins.pid begins.page [] loaded begins.is in
     subst (λ (l : List Chain). RefusesPages l (Corruption (Some c.in-Some.pointer))) same
     (amiss-refuses begins.pid _ _ c.in-Some.pointer loaded read.few (slice_get_within _ begins.pid begins.page begins.is) (λ before le. fits-at _ _ _ loaded read.hold before (begins.first before le))
-    (misfit-unfit begins.pid _ begins.page at begins.misfit, first-pointer _ begins.page.infos.items c.in-Some.pointer at.at begins.begins))
+    (misfit-unfit begins.pid _ begins.page at begins.misfit, first-pointer _ begins.page.infos.items c.in-Some.pointer at.kept.at begins.begins))
 
 pub returns-in-None-clause-proceeds : goal.returns-in-None-clause-proceeds
 returns-in-None-clause-proceeds g c =
