@@ -32,5 +32,5 @@ pub use lru::Lru;
 pub use serialization::{ConsumeSequence, Serialize};
 pub use types::{
     BatchManifest, BlobPointer, Bug, Device, DiskPtr, Error, LogOffset, Lsn, PageId, PageState,
-    Refusal, Why,
+    Refusal, SegmentId, Why,
 };

@@ -18,6 +18,9 @@ pub type PageId = u64;
 /// A place in a log, in bytes from its front.
 pub type LogOffset = u64;
 
+/// The number of a segment of a log.
+pub type SegmentId = usize;
+
 /// The place of a message in a log, as a log sequence number: in bytes, like a [`LogOffset`].
 pub type Lsn = i64;
 

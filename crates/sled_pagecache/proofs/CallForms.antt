@@ -1,5 +1,5 @@
 -- What a call of the machine leaves, in a few forms: most change at most one page, which isn't the counter's, and use no id.
-use Rattle.sled_pagecache.proofs.Names.{slice_get_within, length-map, CasRoot, FoundRoot, MetaPidForName, RootSwapped, AllByRecursion, Allocate, Allocated, Allocates, Answer, Bool, Cache, Call, Change, Content, Counter, Does, Error, Event, Flush, Flushed, Free, Freed, GenerateId, Generated, Get, GetIdgen, GetMeta, Ghosts, Got, GotIdgen, GotMeta, HasNoRoom, IsRefused, Linked, Links, LinksContent, List, MatchBool, Node, Ok, Option, Outcome, Put, Replace, Replaced, Result, Roots, SizeOnDisk, Sized, Some, State, StepOver, Swapped, Swaps, SwapsContent, SwapsPage, Token, Update, WholeNode, [], ap, arith, chain_length, contents_of, false, false≢true, free_token, greatest_free, is_reserved, later_token, length, ltb-true, none-some, outcome, page_at, refl, same_Some, slice_get, subst, suc, sym, token, true, no_change, ℕ, ⊤, ◌+◌, ◌-◌, ◌==◌, ◌^◌, ◌∙◌, ◌∷◌, ◌≡◌, ◌≢◌, ◌≤◌, ◌⊎◌, nat_lt, Pin, Seal, Cancel, NodeLink, ClosesNone, SparesCounter, id_in, Pinned, Sealed, Cancelled, map-at}
+use Rattle.sled_pagecache.proofs.Names.{Amplified, SpaceAmplification, TakeFuzzySnapshot, TookSnapshot, slice_get_within, length-map, CasRoot, FoundRoot, MetaPidForName, RootSwapped, AllByRecursion, Allocate, Allocated, Allocates, Answer, Bool, Cache, Call, Change, Content, Counter, Does, Error, Event, Flush, Flushed, Free, Freed, GenerateId, Generated, Get, GetIdgen, GetMeta, Ghosts, Got, GotIdgen, GotMeta, HasNoRoom, IsRefused, Linked, Links, LinksContent, List, MatchBool, Node, Ok, None, Option, Outcome, Put, Replace, Replaced, Result, Roots, SizeOnDisk, Sized, Some, State, StepOver, Swapped, Swaps, SwapsContent, SwapsPage, Token, Update, WholeNode, [], ap, arith, chain_length, contents_of, false, false≢true, free_token, greatest_free, is_reserved, later_token, length, ltb-true, none-some, outcome, page_at, refl, same_Some, slice_get, subst, suc, sym, token, true, no_change, ℕ, ⊤, ◌+◌, ◌-◌, ◌==◌, ◌^◌, ◌∙◌, ◌∷◌, ◌≡◌, ◌≢◌, ◌≤◌, ◌⊎◌, nat_lt, Pin, Seal, Cancel, NodeLink, ClosesNone, SparesCounter, id_in, Pinned, Sealed, Cancelled, map-at}
 use Rattle.sled_node.specs.Meta as meta
 use Rattle.sled_pagecache.proofs.Counting.{CountsTo, start-above}
 use Rattle.sled_pagecache.specs.State.{StampedPage, is_free, page, with_page}
@@ -98,7 +98,9 @@ module _ (s : State) (out : Outcome) (call : Call) where
 
   swaps-page : {R : Type 0} (old : Token) (rejected : R) (answer : Swapped R) (goes_on : Content → Type 0) → ((content : Content) → goes_on content → IsPlain)
       → (found : Option StampedPage) → SwapsPage s old rejected found answer out goes_on → IsPlain
-  swaps-page old rejected answer goes_on plain found h = grind (arith, as-it-was, plain)
+  swaps-page old rejected answer goes_on plain None h = as-it-was h.1
+  swaps-page old rejected answer goes_on plain (Some found) h =
+      split (is_free found.content) h (λ _ h. as-it-was h.1) (λ _ h. split (found.stamp == old.stamp) h (λ _ h. plain found.content h) (λ _ h. as-it-was h.1))
 
   swaps : {R : Type 0} (old : Token) (rejected : R) (answer : Swapped R) (goes_on : Content → Type 0)
       → Swaps s old rejected answer out goes_on → (old.pid ≢ 1 → (content : Content) → goes_on content → IsPlain) → IsPlain
@@ -179,6 +181,8 @@ module _ {L : Type 0} (g : Ghosts L) (cache : Cache L) (s : State) where
   call-form GenerateId (Generated answer) out step = generates s out GenerateId lengths no_room cache.config.idgen_persist_interval answer step
   call-form Flush (Flushed answer) out step = grind (arith, as-it-was s out Flush, faulty s out Flush)
   call-form SizeOnDisk (Sized answer) out step = grind (arith, as-it-was s out SizeOnDisk)
+  call-form SpaceAmplification (Amplified answer) out step = grind (arith, as-it-was s out SpaceAmplification, faulty s out SpaceAmplification)
+  call-form TakeFuzzySnapshot (TookSnapshot answer) out step = grind (arith, as-it-was s out TakeFuzzySnapshot)
   call-form call.Pin (Pinned answer) out step = grind (arith, as-it-was s out call.Pin, faulty s out call.Pin, marks s out call.Pin)
   call-form call.Seal (Sealed answer) out step = grind (arith, marks s out call.Seal)
   call-form call.Cancel (Cancelled answer) out step = grind (arith, marks s out call.Cancel)

@@ -111,9 +111,9 @@ pub use Rattle.sled_pagecache.specs.State.{IsAnswered, Token, pid_of, stamp_of, 
 pub use Rattle.sled_pagecache.specs.Inside.RecentUse.{AccessesNode, IsListedAt}
 pub use Rattle.sled_pagecache.proofs.Touched.{AllStay, FindsNode, LosesAtMost, TakesNode, TakesPage}
 pub use Rattle.sled_pagecache.specs.declared.pagecache.memory.accesses.Accesses.{Accesses}
-pub use Rattle.sled_pagecache.specs.declared.pagecache.handles.call.Answer.TheVariants.{Allocated, Cancelled, Flushed, FoundRoot, Freed, Generated, Got, GotIdgen, GotMeta, Linked, Pinned, Replaced, RootSwapped, Sealed, Sized}
+pub use Rattle.sled_pagecache.specs.declared.pagecache.handles.call.Answer.TheVariants.{Allocated, Amplified, Cancelled, Flushed, FoundRoot, Freed, Generated, Got, GotIdgen, GotMeta, Linked, Pinned, Replaced, RootSwapped, Sealed, Sized, TookSnapshot}
 pub use Rattle.sled_pagecache.specs.declared.pagecache.handles.call.Answer.{Answer}
-pub use Rattle.sled_pagecache.specs.declared.pagecache.handles.call.Call.TheVariants.{Allocate, CasRoot, Flush, GenerateId, Get, GetIdgen, GetMeta, MetaPidForName, Replace, SizeOnDisk}
+pub use Rattle.sled_pagecache.specs.declared.pagecache.handles.call.Call.TheVariants.{Allocate, CasRoot, Flush, GenerateId, Get, GetIdgen, GetMeta, MetaPidForName, Replace, SizeOnDisk, SpaceAmplification, TakeFuzzySnapshot}
 pub use Rattle.sled_pagecache.specs.declared.pagecache.table.page.CacheInfo.{CacheInfo}
 pub use Rattle.sled_pagecache.specs.declared.pagecache.handles.call.Call.{Call}
 pub use Rattle.sled_pagecache.specs.declared.pagecache.handles.config.Config.{Config}

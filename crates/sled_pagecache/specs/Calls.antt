@@ -32,7 +32,7 @@ module _ {L : Type 0} (g : Ghosts L) where
 
   -- a step of the machine, over the log of the cache
   abbrev pub StepOver : Cache L → State → Call → Answer → Outcome → Type 0
-  StepOver cache s call answer out = Step (chain_length g.state cache) (HasNoRoom cache.log) cache.config.idgen_persist_interval s call answer out
+  StepOver cache s call answer out = Step (chain_length g.state cache) (HasNoRoom cache.log) cache.config.idgen_persist_interval cache.config.segment_size s call answer out
 
   -- A crash at any moment of what led from the one log to the other leaves what was held and a prefix of the changes that splits no batch.
   abbrev pub CrashLeaves : L → Logged → List (Event Update) → L → Type 0

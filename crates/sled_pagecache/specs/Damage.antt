@@ -63,6 +63,13 @@ ReportsWrong chain (Corruption (Some pointer)) = IsWrongAt chain pointer
 -- nothing else is answered; a page whose first message frees it is free
 ReportsWrong chain error = ⊥
 
+-- the same of one of several pages, of which those are judged that aren't the cache's own
+abbrev pub ReportsSomeWrong : (ℕ → Chain) → Error → Type 0
+ReportsSomeWrong chain OutOfMemory = ⊤
+ReportsSomeWrong chain (Io device) = ⊤
+ReportsSomeWrong chain (Corruption (Some pointer)) = (pid : ℕ) × (is_reserved pid ≡ false) × IsDamaged (chain pid) × IsWrongAt (chain pid) pointer
+ReportsSomeWrong chain error = ⊥
+
 module _ {L : Type 0} (g : Ghosts L) (old : Cache L) (pid : ℕ) where
   -- The page, which isn't the cache's own, has a content, and its messages make no node.
   pub record MeetsDamage : Type 0 where

@@ -8,6 +8,7 @@ pub mod CounterPage
 pub mod Eviction
 pub mod RecentUse
 pub mod PageIn
+pub mod Sizes
 pub mod TokenCheck
 pub mod Infos
 pub mod PageWrites

@@ -1,6 +1,7 @@
 -- What one has to believe, in reading order; last what only proofs need.
 pub mod Limits
 pub mod State
+pub mod Sizes
 pub mod Step
 pub mod Logged
 pub mod Cache
@@ -19,4 +20,5 @@ pub mod Prefixes
 pub mod Trees
 pub mod Shapes
 pub mod Table
+pub mod Snapshots
 pub mod Inside

@@ -1,9 +1,10 @@
 -- Which pages of a cache lie in memory, beside the list of their recent use, and how often a call reads the log.
-use Rattle.std.specs.Prelude.{◌≡◌, ◌≢◌, ◌⊎◌, ◌≤◌, ℕ, false, List, slice_get, Some, Result, ⊤, Contains, zero, suc, OnOk, OnErr}
+use Rattle.std.specs.Prelude.{◌≡◌, ◌≢◌, ◌⊎◌, ◌≤◌, ◌+◌, ℕ, Bool, true, false, List, ◌∷◌, length, slice_get, Some, Result, ⊤, Contains, zero, suc, OnOk, OnErr}
 use Rattle.sled_base.specs.declared.types.Error.{Error}
 use Rattle.sled_base.specs.declared.types.Error.TheVariants.{Unsupported, Io, OutOfMemory}
 use Rattle.sled_base.specs.declared.types.Why.TheVariants.{LogFull}
 use Rattle.sled_log.specs.Calls.{one_more, Counts}
+use Rattle.sled_log.specs.Messages.{Chain}
 use Rattle.sled_log.specs.declared.log.Log.{Ghosts}
 use Rattle.sled_pagecache.specs.Cache.{Cache, IsResident, chain_size, chain_length, IsAway}
 use Rattle.sled_pagecache.specs.Limits.{most_messages}
@@ -100,6 +101,12 @@ abbrev pub own_among : ℕ → ℕ
 own_among zero = 0
 own_among (suc zero) = 1
 own_among (suc (suc pages)) = 2
+
+-- how many messages make those pages that don't lie in memory
+abbrev pub messages_away : List Chain → List Bool → ℕ
+messages_away (chain ∷ chains) (false ∷ resident) = length chain + messages_away chains resident
+messages_away (chain ∷ chains) (true ∷ resident) = messages_away chains resident
+messages_away chains resident = 0
 
 -- the log was read so often, or, where the call is refused, at most so often
 pub record HasRead {L T E : Type 0} (counts : L → Counts) (old new : L) (n : ℕ) (result : Result T E) : Type 0 where

@@ -7,10 +7,11 @@ use Rattle.sled_pagecache.specs.Answers.{Keeps, KeepsStamps, stamps_after_root_s
 use Rattle.sled_pagecache.specs.Cache.{Cache, Represents}
 use Rattle.sled_pagecache.specs.Calls.{CrashLeaves, IsSameOpening, StepOver, Steps, IsBlamed}
 use Rattle.sled_pagecache.specs.Logged.{Logged, Adds}
+use Rattle.sled_pagecache.specs.Snapshots.{IsSnapshot}
 use Rattle.sled_pagecache.specs.State.{State}
 use Rattle.sled_pagecache.specs.Step.{Outcome}
 use Rattle.sled_pagecache.specs.declared.pagecache.handles.call.Answer.{Answer}
-use Rattle.sled_pagecache.specs.declared.pagecache.handles.call.Answer.TheVariants.{Allocated, Got, Linked, Replaced, Freed, GotMeta, GotIdgen, Generated, Flushed, Sized, FoundRoot, RootSwapped, Pinned, Sealed, Cancelled}
+use Rattle.sled_pagecache.specs.declared.pagecache.handles.call.Answer.TheVariants.{Allocated, Got, Linked, Replaced, Freed, GotMeta, GotIdgen, Generated, Flushed, Sized, Amplified, TookSnapshot, FoundRoot, RootSwapped, Pinned, Sealed, Cancelled}
 use Rattle.sled_pagecache.specs.declared.pagecache.handles.call.Call.{Call}
 
 -- what calls with these outcomes began to write, in order
@@ -48,14 +49,16 @@ module _ {L : Type 0} (g : Ghosts L) where
     pub from_each : (held : Logged) (s : State) → Represents g old held s → IsRow old calls new held s
 
   -- A flush that was made reports how many bytes were to be written, and nothing is pending behind it. Nothing is behind an id either,
-  -- unless that only took the next number. A size is that of the log.
+  -- unless that only took the next number. A size is that of the log, and a snapshot says how far that is durable and which chains it has.
   abbrev pub ReportsBytes : Cache L → Answer → Cache L → Type 0
   ReportsBytes old (Flushed (Ok written)) new = (written ≡ g.to_write old.log) × ((g.state new.log).pending ≡ [])
   ReportsBytes old (Generated (Ok id)) new = ((g.state new.log).pending ≡ []) ⊎ (new ≡ record old { next = old.next + 1 })
   ReportsBytes old (Sized (Ok bytes)) new = bytes ≡ g.bytes old.log
+  ReportsBytes old (Amplified (Ok sizes)) new = sizes.0 ≡ g.bytes old.log
+  ReportsBytes old (TookSnapshot (Ok snapshot)) new = IsSnapshot g old snapshot
   ReportsBytes old answer new = ⊤
 
-  -- A fault is reported only where one was met. The size of a log asks no device.
+  -- A fault is reported only where one was met. The size of a log and a snapshot ask no device.
   abbrev pub ReportsFaults : Cache L → Answer → Cache L → Type 0
   ReportsFaults old (Allocated result) new = IsBlamed g old new result
   ReportsFaults old (Got result) new = IsBlamed g old new result
@@ -69,6 +72,8 @@ module _ {L : Type 0} (g : Ghosts L) where
   ReportsFaults old (Generated result) new = IsBlamed g old new result
   ReportsFaults old (Flushed result) new = IsBlamed g old new result
   ReportsFaults old (Sized result) new = ⊤
+  ReportsFaults old (Amplified result) new = IsBlamed g old new result
+  ReportsFaults old (TookSnapshot result) new = ⊤
   ReportsFaults old (Pinned result) new = IsBlamed g old new result
   ReportsFaults old (Sealed result) new = IsBlamed g old new result
   ReportsFaults old (Cancelled result) new = IsBlamed g old new result
@@ -92,6 +97,8 @@ module _ {L : Type 0} (g : Ghosts L) where
   KeepsBehind old (Generated result) new = Keeps old new result (λ _. new.stamps) × IfOk result (λ id. (id ≡ old.next) × (new.next ≡ old.next + 1))
   KeepsBehind old (Flushed result) new = Keeps old new result (λ _. old.stamps)
   KeepsBehind old (Sized result) new = Keeps old new result (λ _. old.stamps)
+  KeepsBehind old (Amplified result) new = Keeps old new result (λ _. old.stamps)
+  KeepsBehind old (TookSnapshot result) new = Keeps old new result (λ _. old.stamps)
   KeepsBehind old (Pinned result) new = KeepsStamps old new result × OnOk result (new.batch ≡ true) × OnErr result (new.batch ≡ old.batch)
   KeepsBehind old (Sealed result) new = KeepsStamps old new result × (new.batch ≡ false)
   KeepsBehind old (Cancelled result) new = KeepsStamps old new result × (new.batch ≡ false)

@@ -10,16 +10,21 @@ use Rattle.sled_base.specs.declared.types.Error.{Error}
 use Rattle.sled_base.specs.declared.types.Error.TheVariants.{Unsupported, ReportableBug, Io, Corruption, OutOfMemory, CollectionNotFound}
 use Rattle.sled_base.specs.declared.types.Why.TheVariants.{ReservedId, PagesUsedUp, IdsUsedUp, StampUsedUp, BatchOpen, LogFull, TooManyNames, NameTooLong}
 use Rattle.sled_base.specs.Order.{Bytes}
+use Rattle.sled_base.specs.declared.types.page_state.PageState.{PageState}
+use Rattle.sled_base.specs.declared.types.page_state.PageState.TheVariants as said
+use Rattle.std.specs.List.{AllZip}
 use Rattle.sled_node.specs.Links.{Accepts, applied}
 use Rattle.sled_node.specs.Meta as meta
 use Rattle.sled_node.specs.Meta.{IsTooLong, LacksRoom, CanChange}
+use Rattle.sled_pagecache.specs.declared.pagecache.handles.snapshot.Snapshot.{Snapshot}
 use Rattle.sled_pagecache.specs.declared.pagecache.handles.call.Answer.{Answer}
-use Rattle.sled_pagecache.specs.declared.pagecache.handles.call.Answer.TheVariants.{Allocated, Got, Linked, Replaced, Freed, GotMeta, GotIdgen, Generated, Flushed, Sized, FoundRoot, RootSwapped, Pinned, Sealed, Cancelled}
+use Rattle.sled_pagecache.specs.declared.pagecache.handles.call.Answer.TheVariants.{Allocated, Got, Linked, Replaced, Freed, GotMeta, GotIdgen, Generated, Flushed, Sized, Amplified, TookSnapshot, FoundRoot, RootSwapped, Pinned, Sealed, Cancelled}
 use Rattle.sled_pagecache.specs.declared.pagecache.handles.call.Call.{Call}
-use Rattle.sled_pagecache.specs.declared.pagecache.handles.call.Call.TheVariants.{Allocate, Get, Link, Replace, GetMeta, GetIdgen, GenerateId, Flush, SizeOnDisk, MetaPidForName, CasRoot}
+use Rattle.sled_pagecache.specs.declared.pagecache.handles.call.Call.TheVariants.{Allocate, Get, Link, Replace, GetMeta, GetIdgen, GenerateId, Flush, SizeOnDisk, SpaceAmplification, TakeFuzzySnapshot, MetaPidForName, CasRoot}
 use Rattle.sled_pagecache.specs.declared.pagecache.handles.call.Call.TheVariants as call
 use Rattle.sled_log.specs.Events.{Event, Change, Pin, Seal, Cancel}
-use Rattle.sled_pagecache.specs.State.{StampedPage, page, State, page_at, with_page, is_free, greatest_free, Token, token}
+use Rattle.sled_pagecache.specs.Sizes.{HasDamaged, logical_size}
+use Rattle.sled_pagecache.specs.State.{StampedPage, page, State, contents_of, page_at, with_page, is_free, greatest_free, Token, token}
 
 -- What a call leaves: the state, and the changes that it has begun to write.
 pub record Outcome : Type 0 where
@@ -145,6 +150,29 @@ Flushes s answer out = UnlessFaulty s answer out (MatchBool s.batch (IsRefused s
 
 abbrev pub Sizes : State → Result ℕ Error → Outcome → Type 0
 Sizes s answer out = UnlessFaulty s answer out (IsOkAnd answer (λ size. out ≡ no_change s))
+
+-- ---- space_amplification: the size of the log, of which the machine knows nothing, and what the pages take. A damaged page isn't passed
+-- over.
+
+abbrev pub Measures : ℕ → State → Result (ℕ × ℕ) Error → Outcome → Type 0
+Measures segment_size s (Err (Corruption pointer)) out = HasDamaged (contents_of s) × (out ≡ no_change s)
+Measures segment_size s answer out = Reads s answer out (λ sizes. (¬ HasDamaged (contents_of s)) × (sizes.1 ≡ logical_size segment_size (contents_of s)))
+
+abbrev pub Amplifies : ℕ → State → Result (ℕ × ℕ) Error → Outcome → Type 0
+Amplifies segment_size s answer out = UnlessFaulty s answer out (Measures segment_size s answer out)
+
+-- ---- take_fuzzy_snapshot: which pages are free; of places the machine knows nothing
+
+abbrev pub SaysPage : StampedPage → PageState → Type 0
+SaysPage p (said.Present base frags) = is_free p.content ≡ false
+SaysPage p (said.Free lsn pointer) = is_free p.content ≡ true
+
+abbrev pub Snaps : State → Result Snapshot Error → Outcome → Type 0
+Snaps s answer out = UnlessFaulty s answer out (SaysPages answer × (out ≡ no_change s))
+  where
+    SaysPages : Result Snapshot Error → Type 0
+    SaysPages (Ok snapshot) = AllZip SaysPage s.pages snapshot.pt.items
+    SaysPages (Err e) = e ≡ OutOfMemory
 
 -- ---- seal and cancel: the batch that is open is closed, whatever comes
 
@@ -293,8 +321,9 @@ module _ (messages : ℕ → ℕ) (no_room : Event Update → Type 0) where
       (MatchBool s.batch (IsRefused s answer out (Unsupported BatchOpen))
       (Does s Pin answer out (λ done t. t ≡ record s { batch = true })))
 
-  -- ---- From s, the cache may give this answer to the call, and leave this. Ids are generated in intervals so long.
-  module _ (interval : ℕ) where
+  -- ---- From s, the cache may give this answer to the call, and leave this. Ids are generated in intervals so long, and a segment has that
+  -- size.
+  module _ (interval segment_size : ℕ) where
     abbrev pub Step : State → Call → Answer → Outcome → Type 0
     Step s (Allocate node) (Allocated answer) out = Allocates s node answer out
     Step s (Get pid) (Got answer) out = Gets s pid answer out
@@ -308,6 +337,8 @@ module _ (messages : ℕ → ℕ) (no_room : Event Update → Type 0) where
     Step s GenerateId (Generated answer) out = Generates interval s answer out
     Step s Flush (Flushed answer) out = Flushes s answer out
     Step s SizeOnDisk (Sized answer) out = Sizes s answer out
+    Step s SpaceAmplification (Amplified answer) out = Amplifies segment_size s answer out
+    Step s TakeFuzzySnapshot (TookSnapshot answer) out = Snaps s answer out
     Step s call.Pin (Pinned answer) out = Pins s answer out
     Step s call.Seal (Sealed answer) out = Closes Seal s answer out
     Step s call.Cancel (Cancelled answer) out = Closes Cancel s answer out

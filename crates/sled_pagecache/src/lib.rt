@@ -19,11 +19,11 @@ pub mod rows;
 
 pub use pagecache::{
     Answer, CacheInfo, Call, Config, Kind, MetaView, NodeView, Page, PageCache, PageShape,
-    PageTable, PageView, RecoveryGuard, Shape, open_tree, split_fanout,
+    PageTable, PageView, RecoveryGuard, Shape, Snapshot, open_tree, split_fanout,
 };
 pub use sled_base::{
     self, BatchManifest, BlobPointer, Bug, ConsumeSequence, Device, DiskPtr, Error, IVec, LogKind,
-    LogOffset, Lsn, MessageKind, PageId, PageState, Refusal, Serialize, Why,
+    LogOffset, Lsn, MessageKind, PageId, PageState, Refusal, SegmentId, Serialize, Why,
 };
 pub use sled_disk::{self, Disk, DiskLog, FileDisk, MemDisk};
 pub use sled_log::{self, Log, LogError, MemLog};

@@ -22,6 +22,7 @@ pub use cache::trees::open_tree;
 pub use handles::call::{Answer, Call};
 pub use handles::config::Config;
 pub use handles::shape::{Kind, PageShape, Shape};
+pub use handles::snapshot::Snapshot;
 pub use handles::view::{MetaView, NodeView, PageView};
 use sled_base::PageId;
 pub use table::page::{CacheInfo, Page};

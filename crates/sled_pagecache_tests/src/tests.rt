@@ -25,6 +25,8 @@ mod reads;
 mod recovery;
 mod roots;
 mod scripts;
+mod sizes;
+mod snapshots;
 mod steps;
 mod told;
 mod trees;

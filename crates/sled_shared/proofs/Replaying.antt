@@ -25,9 +25,9 @@ use Rattle.sled_pagecache.specs.Step.{AddsPage, Allocates, Does, Fails, Frees, G
 use Rattle.sled_pagecache.specs.State.{Token}
 use Rattle.sled_pagecache.specs.Trees.{IsKnown, MadeCalls}
 use Rattle.sled_pagecache.specs.declared.pagecache.handles.call.Answer.{Answer}
-use Rattle.sled_pagecache.specs.declared.pagecache.handles.call.Answer.TheVariants.{Allocated, Got, Linked, Replaced, Freed, GotMeta, GotIdgen, Generated, Flushed, Sized, FoundRoot, RootSwapped, Pinned, Sealed, Cancelled}
+use Rattle.sled_pagecache.specs.declared.pagecache.handles.call.Answer.TheVariants.{Allocated, Got, Linked, Replaced, Freed, GotMeta, GotIdgen, Generated, Flushed, Sized, Amplified, TookSnapshot, FoundRoot, RootSwapped, Pinned, Sealed, Cancelled}
 use Rattle.sled_pagecache.specs.declared.pagecache.handles.call.Call.{Call}
-use Rattle.sled_pagecache.specs.declared.pagecache.handles.call.Call.TheVariants.{Allocate, Get, Link, Replace, GetMeta, GetIdgen, GenerateId, Flush, SizeOnDisk, MetaPidForName, CasRoot}
+use Rattle.sled_pagecache.specs.declared.pagecache.handles.call.Call.TheVariants.{Allocate, Get, Link, Replace, GetMeta, GetIdgen, GenerateId, Flush, SizeOnDisk, SpaceAmplification, TakeFuzzySnapshot, MetaPidForName, CasRoot}
 use Rattle.sled_pagecache.specs.declared.pagecache.handles.call.Call.TheVariants as call
 use Rattle.sled_pagecache.specs.declared.pagecache.handles.config.Config.{Config}
 use Rattle.sled_pagecache.specs.declared.pagecache.handles.shape.Kind.{Kind}
@@ -141,23 +141,25 @@ module _ (messages : ℕ → ℕ) (no_room : Event Update → Type 0) where
   pins : (s : State) (answer : Result (Unit {0}) Error) (out : Outcome) → Pins messages no_room s answer out → Pins messages any_room s answer out
   pins s answer out = both s.fault (λ h. h) (both s.batch (λ h. h) (does s Pin answer out _))
 
-  pub whatever-room : (interval : ℕ) (s : State) (asked : Call) (answer : Answer) (out : Outcome) → Step messages no_room interval s asked answer out → Step messages any_room interval s asked answer out
-  whatever-room interval s (Allocate node) (Allocated answer) out h = allocates s node answer out h
-  whatever-room interval s (Get pid) (Got answer) out h = h
-  whatever-room interval s (Link old link) (Linked answer) out h = links s old link answer out h
-  whatever-room interval s (Replace old node) (Replaced answer) out h = replaces s old node answer out h
-  whatever-room interval s (call.Free old) (Freed answer) out h = frees s old answer out h
-  whatever-room interval s GetMeta (GotMeta answer) out h = h
-  whatever-room interval s (MetaPidForName name) (FoundRoot answer) out h = h
-  whatever-room interval s (CasRoot name old new) (RootSwapped answer) out h = swaps-root s name old new answer out h
-  whatever-room interval s GetIdgen (GotIdgen answer) out h = h
-  whatever-room interval s GenerateId (Generated answer) out h = generates interval s answer out h
-  whatever-room interval s Flush (Flushed answer) out h = h
-  whatever-room interval s SizeOnDisk (Sized answer) out h = h
-  whatever-room interval s call.Pin (Pinned answer) out h = pins s answer out h
-  whatever-room interval s call.Seal (Sealed answer) out h = h
-  whatever-room interval s call.Cancel (Cancelled answer) out h = h
-  whatever-room interval s asked answer out h = absurd h
+  pub whatever-room : (interval segment_size : ℕ) (s : State) (asked : Call) (answer : Answer) (out : Outcome) → Step messages no_room interval segment_size s asked answer out → Step messages any_room interval segment_size s asked answer out
+  whatever-room interval segment_size s (Allocate node) (Allocated answer) out h = allocates s node answer out h
+  whatever-room interval segment_size s (Get pid) (Got answer) out h = h
+  whatever-room interval segment_size s (Link old link) (Linked answer) out h = links s old link answer out h
+  whatever-room interval segment_size s (Replace old node) (Replaced answer) out h = replaces s old node answer out h
+  whatever-room interval segment_size s (call.Free old) (Freed answer) out h = frees s old answer out h
+  whatever-room interval segment_size s GetMeta (GotMeta answer) out h = h
+  whatever-room interval segment_size s (MetaPidForName name) (FoundRoot answer) out h = h
+  whatever-room interval segment_size s (CasRoot name old new) (RootSwapped answer) out h = swaps-root s name old new answer out h
+  whatever-room interval segment_size s GetIdgen (GotIdgen answer) out h = h
+  whatever-room interval segment_size s GenerateId (Generated answer) out h = generates interval s answer out h
+  whatever-room interval segment_size s Flush (Flushed answer) out h = h
+  whatever-room interval segment_size s SizeOnDisk (Sized answer) out h = h
+  whatever-room interval segment_size s SpaceAmplification (Amplified answer) out h = h
+  whatever-room interval segment_size s TakeFuzzySnapshot (TookSnapshot answer) out h = h
+  whatever-room interval segment_size s call.Pin (Pinned answer) out h = pins s answer out h
+  whatever-room interval segment_size s call.Seal (Sealed answer) out h = h
+  whatever-room interval segment_size s call.Cancel (Cancelled answer) out h = h
+  whatever-room interval segment_size s asked answer out h = absurd h
 
 -- ---- a state of a shape
 
@@ -223,7 +225,7 @@ module _ {L : Type 0} (g : Ghosts L) where
         is = rest.is;
         run = (
           one.out.state,
-          (chain_length g.state old, one.out, whatever-room (chain_length g.state old) (HasNoRoom g old.log) old.config.idgen_persist_interval s made.0 made.1 one.out one.step, refl),
+          (chain_length g.state old, old.config.segment_size, one.out, whatever-room (chain_length g.state old) (HasNoRoom g old.log) old.config.idgen_persist_interval old.config.segment_size s made.0 made.1 one.out one.step, refl),
           subst (λ (c : Config). RunsCalls c.idgen_persist_interval one.out.state calls rest.last) config rest.run,
         );
         config = rest.config ∙ config;

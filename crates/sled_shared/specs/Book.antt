@@ -29,9 +29,9 @@ AreEntries (e ∷ entries) calls = (first rest : MadeCalls) × IsEntry e.call e.
 abbrev pub any_room : Event Update → Type 0
 any_room change = ⊤
 
--- From s a cache over some log may give this answer to the call, and go on to t.
+-- From s a cache over some log, with segments of some size, may give this answer to the call, and go on to t.
 abbrev pub StepsTo : ℕ → State → Call → Answer → State → Type 0
-StepsTo interval s call answer t = (messages : ℕ → ℕ) × (out : Outcome) × Step messages any_room interval s call answer out × (t ≡ out.state)
+StepsTo interval s call answer t = (messages : ℕ → ℕ) × (segment_size : ℕ) × (out : Outcome) × Step messages any_room interval segment_size s call answer out × (t ≡ out.state)
 
 -- the same of calls in a row
 abbrev pub RunsCalls : ℕ → State → MadeCalls → State → Type 0

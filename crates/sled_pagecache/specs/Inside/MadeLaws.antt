@@ -8,8 +8,8 @@ use Rattle.sled_pagecache.specs.Batches.{CancelsBatch, OpensBatch, SealsBatch}
 use Rattle.sled_pagecache.specs.Cache.{Cache}
 use Rattle.sled_pagecache.specs.Calls.{IsBlamed, Steps}
 use Rattle.sled_pagecache.specs.Rows.{CoversId, IsMade, ReportsBytes}
-use Rattle.sled_pagecache.specs.declared.pagecache.handles.call.Answer.TheVariants.{Pinned, Sealed, Cancelled, Generated, Flushed, Sized}
-use Rattle.sled_pagecache.specs.declared.pagecache.handles.call.Call.TheVariants.{Pin, Seal, Cancel, GenerateId, Flush, SizeOnDisk}
+use Rattle.sled_pagecache.specs.declared.pagecache.handles.call.Answer.TheVariants.{Pinned, Sealed, Cancelled, Generated, Flushed, Sized, Amplified}
+use Rattle.sled_pagecache.specs.declared.pagecache.handles.call.Call.TheVariants.{Pin, Seal, Cancel, GenerateId, Flush, SizeOnDisk, SpaceAmplification}
 
 module _ {L : Type 0} (g : Ghosts L) (old new : Cache L) where
   opened : (answer : Result (Unit {0}) Error) → OnOk answer ((old.batch ≡ false) × (new.batch ≡ true)) → OnOk answer (new.batch ≡ true)
@@ -64,6 +64,14 @@ module _ {L : Type 0} (g : Ghosts L) (old new : Cache L) where
   pub flush-made : (answer : Result ℕ Error) → Steps g old Flush (Flushed answer) new → IsBlamed g old new answer → IfOk answer (λ n. n ≡ g.to_write old.log) → OnOk answer ((g.state new.log).pending ≡ [])
       → Keeps old new answer (λ _. old.stamps) → IsMade g old Flush (Flushed answer) new
   flush-made answer step blame number stable keeps = record { step = step; bytes = reports answer number stable; faults = blame; covered = tt; keeps = keeps }
+
+  tells-size : (answer : Result (ℕ × ℕ) Error) → IfOk answer (λ sizes. sizes.0 ≡ g.bytes old.log) → ReportsBytes g old (Amplified answer) new
+  tells-size (Ok sizes) size = size
+  tells-size (Err e) size = tt
+
+  pub amplification-made : (answer : Result (ℕ × ℕ) Error) → Steps g old SpaceAmplification (Amplified answer) new → IsBlamed g old new answer → IfOk answer (λ sizes. sizes.0 ≡ g.bytes old.log)
+      → Keeps old new answer (λ _. old.stamps) → IsMade g old SpaceAmplification (Amplified answer) new
+  amplification-made answer step blame size keeps = record { step = step; bytes = tells-size answer size; faults = blame; covered = tt; keeps = keeps }
 
 module _ {L : Type 0} (g : Ghosts L) (cache : Cache L) where
   sizes : (answer : Result ℕ Error) → IfOk answer (λ size. size ≡ g.bytes cache.log) → ReportsBytes g cache (Sized answer) cache

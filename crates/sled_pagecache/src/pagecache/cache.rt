@@ -23,6 +23,8 @@ mod ids;
 mod pages;
 mod roots;
 mod shapes;
+mod sizes;
+mod snapshots;
 pub(crate) mod trees;
 
 use super::handles::config::{Config, fault_of};

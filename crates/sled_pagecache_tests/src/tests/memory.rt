@@ -9,7 +9,7 @@ use super::steps::{Outcome, PAIR, Step, shows, shows_page};
 use super::*;
 
 // A cache over the log, which is opened a second time where an allocation failed.
-fn opens(alloc: Global, log: MemLog) -> Option<Cache> {
+pub(super) fn opens(alloc: Global, log: MemLog) -> Option<Cache> {
     match opening(alloc, CONFIG, log) {
         Ok(cache) => Some(cache),
         Err((Error::OutOfMemory, log)) => opened_over(alloc, CONFIG, log),
@@ -26,7 +26,7 @@ fn makes(alloc: Global, cache: &mut Cache, step: &Step) -> bool {
 }
 
 // How many steps show what they should, before the first that doesn't.
-fn made(alloc: Global, cache: &mut Cache, steps: &[Step]) -> usize {
+pub(super) fn made(alloc: Global, cache: &mut Cache, steps: &[Step]) -> usize {
     for (done, step) in steps.iter().enumerate() {
         if !makes(alloc, cache, step) {
             return done;
@@ -69,7 +69,7 @@ const FOUND: &[Step] = &[
     Takes(402),
 ];
 
-fn new_cache(alloc: Global) -> Option<Cache> {
+pub(super) fn new_cache(alloc: Global) -> Option<Cache> {
     opens(alloc, MemLog::new(alloc, 512, 16))
 }
 

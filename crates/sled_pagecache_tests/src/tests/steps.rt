@@ -5,6 +5,8 @@ use super::calls::{
     links_from, links_so, names_and_stamp, opens, replaces_by_empty, replaces_by_pair, root_of,
     size_of, swaps,
 };
+use super::sizes::{measured, measures};
+use super::snapshots::{Said, is_unsaid, says, says_leaves};
 use super::*;
 
 /// What a call answered.
@@ -116,7 +118,15 @@ pub(super) enum Step {
     Flushes,
     // a flush writes so many bytes
     Writes(usize),
-    // a write failed, and neither a flush nor the size of the log is answered
+    // the log takes so many bytes, and the pages would take so many
+    Measures(u64, u128),
+    // the pages aren't measured
+    Unmeasured(Outcome),
+    // a snapshot says how far the log is durable, and each page
+    Says(Lsn, &'static [Said]),
+    // the same of a log in memory, where behind the system pages only so many empty leaves were added
+    SaysLeaves(Lsn, u64),
+    // a write failed, and neither a flush nor the size of the log nor anything else of it is answered
     Faults,
     // the cache is shown so
     Prints(&'static str),
@@ -185,10 +195,24 @@ fn shows_rest<L: Log>(alloc: Global, cache: &mut PageCache<L>, step: &Step) -> S
         Step::Takes(bytes) => Some(size_of(cache) == Ok(*bytes)),
         Step::Flushes => Some(flushes(cache).is_ok()),
         Step::Writes(bytes) => Some(flushes(cache) == Ok(*bytes)),
-        Step::Faults => Some(
-            flushes(cache) == Err(Outcome::Faulty) && size_of(cache) == Err(Outcome::Faulty),
-        ),
         Step::Prints(text) => Some(is_printed(alloc, cache, text)),
+        _ => shows_log(cache, step),
+    }
+}
+
+// The same of what the cache takes, and of where its pages lie.
+fn shows_log<L: Log>(cache: &mut PageCache<L>, step: &Step) -> Shown {
+    match step {
+        Step::Measures(bytes, pages) => measures(cache, *bytes, *pages),
+        Step::Unmeasured(outcome) => Some(measured(cache) == Err(*outcome)),
+        Step::Says(stable, pages) => says(cache, *stable, pages),
+        Step::SaysLeaves(stable, leaves) => says_leaves(cache, *stable, *leaves),
+        Step::Faults => Some(
+            flushes(cache) == Err(Outcome::Faulty)
+                && size_of(cache) == Err(Outcome::Faulty)
+                && measured(cache) == Err(Outcome::Faulty)
+                && is_unsaid(cache, Outcome::Faulty),
+        ),
         _ => Some(false),
     }
 }

@@ -7,7 +7,7 @@ use super::failing::one_more;
 use super::*;
 
 // A message of a page: its kind and its payload.
-type Message = (MessageKind, &'static [u8]);
+pub(super) type Message = (MessageKind, &'static [u8]);
 
 // A page as the log says it: free, or of these messages.
 #[derive(Clone, Copy, Debug)]
@@ -18,7 +18,7 @@ enum Said {
 
 // A log of two system pages, and of page 2 with an empty leaf behind it or of no other. Nothing can be appended to it.
 #[derive(Drop)]
-struct ToldLog {
+pub(super) struct ToldLog {
     alloc: Global,
     roots: Said,
     counter: Said,
@@ -233,13 +233,13 @@ const BLOB_SET: Message = (MessageKind::BlobLink, &[0, 1, 98, 1, 118]);
 
 // What a get of page 2 answers: a leaf of the pair, the message that doesn't belong there, or that a free page was read.
 #[derive(Clone, Copy, Debug, PartialEq, Eq)]
-enum Answer {
+pub(super) enum Answer {
     Pair,
     Wrong(u64),
     Free,
 }
 
-const PAGES: &[(&[Message], Answer)] = &[
+pub(super) const PAGES: &[(&[Message], Answer)] = &[
     (&[LEAF, SET], Answer::Pair),
     (&[LEAF, BLOB_SET], Answer::Pair),
     (&[LONG_LEAF], Answer::Wrong(200)),
@@ -258,7 +258,7 @@ const PAGES: &[(&[Message], Answer)] = &[
     (&[LEAF, SET, SET, CONFIRM], Answer::Wrong(203)),
 ];
 
-type Told = PageCache<ToldLog>;
+pub(super) type Told = PageCache<ToldLog>;
 
 fn opened_over(
     alloc: Global,
@@ -271,11 +271,11 @@ fn opened_over(
 }
 
 // A cache over a log with page 2 of these messages.
-fn opened(alloc: Global, messages: &'static [Message]) -> Option<Told> {
+pub(super) fn opened(alloc: Global, messages: &'static [Message]) -> Option<Told> {
     opened_over(alloc, ROOTS, COUNTER, Some(Said::Of(messages))).ok()
 }
 
-fn got(cache: &mut Told) -> Option<Answer> {
+pub(super) fn got(cache: &mut Told) -> Option<Answer> {
     match cache.get(2) {
         Ok(Some(view)) => is_pair(view.node(), b"b", b"v").then_some(Answer::Pair),
         Err(Refusal::Corruption(Some(place))) => Some(Answer::Wrong(place.lid())),

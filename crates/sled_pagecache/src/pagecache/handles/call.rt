@@ -1,5 +1,6 @@
 //! The calls of the page cache, and their answers.
 
+use crate::pagecache::handles::snapshot::Snapshot;
 use crate::pagecache::handles::view::PageView;
 use sled_base::{Error, IVec, PageId};
 use sled_node::{Link, Meta, Node};
@@ -19,6 +20,8 @@ pub enum Call {
     GenerateId,
     Flush,
     SizeOnDisk,
+    SpaceAmplification,
+    TakeFuzzySnapshot,
     Pin,
     Seal,
     Cancel,
@@ -39,6 +42,8 @@ pub enum Answer {
     Generated(Result<u64, Error>),
     Flushed(Result<usize, Error>),
     Sized(Result<u64, Error>),
+    Amplified(Result<(u64, u128), Error>),
+    TookSnapshot(Result<Snapshot, Error>),
     Pinned(Result<(), Error>),
     Sealed(Result<(), Error>),
     Cancelled(Result<(), Error>),

@@ -1,0 +1,73 @@
+//! How much the pages of a table would take, were each kept by its content alone.
+
+ghost use Rattle.std.specs.Prelude.{◌≡◌, ◌≤◌, ◌*◌, ◌^◌, false, true, length, IfOk, IfErr};
+ghost use Rattle.std.specs.List.{AllZip, sum_by};
+ghost use Rattle.sled_log.specs.LogState.{now};
+ghost use Rattle.sled_log.specs.Messages.{effect_of_entry};
+ghost use Rattle.sled_pagecache.specs.Cache.{chain_at};
+ghost use Rattle.sled_pagecache.specs.Inside.PageEntry.{IsKept};
+ghost use Rattle.sled_pagecache.specs.Inside.Sizes.{IsSizeOf, Weighs, ReadsLog, RefusesAway, RefusesSome, messages_to_read};
+
+use crate::pagecache::memory::pull::read_node;
+use crate::pagecache::table::page::{Kept, Page};
+use crate::pagecache::table::pagetable::PageTable;
+use crate::pagecache::write::sticky_log::StickyLog;
+use sled_base::{PageId, Refusal};
+use sled_log::Log;
+use std::alloc::Global;
+
+// How much a counter takes.
+const COUNTER_BYTES: u64 = 8;
+
+// How much the pages take together. Those that don't lie in memory are read, and stay as they are.
+pub(crate) fn total_rss<L: Log>(
+    alloc: Global,
+    sticky_log: &mut StickyLog<L>,
+    pages: &PageTable,
+) -> Result<u128, Refusal>
+    requires ready { sticky_log.old.fault ≡ false }
+    requires usable { (L.state sticky_log.old.log).usable ≡ true }
+    requires kept { L.tells
+        → AllZip IsKept (now effect_of_entry (L.state sticky_log.old.log)) pages.now.pages }
+    ensures read { ReadsLog L.Log sticky_log.old sticky_log.new
+        (sum_by messages_to_read pages.now.pages) result }
+    ensures total { L.tells
+        → IfOk result (Weighs (now effect_of_entry (L.state sticky_log.old.log))) }
+    ensures few { IfOk result (λ total. total ≤ length pages.now.pages * 2 ^ 64) }
+    ensures refused { L.tells → IfErr result
+        (RefusesSome (chain_at (L.state sticky_log.old.log)) pages.now.pages) }
+{
+    let mut total: u128 = 0;
+    for pid in 0..pages.len() {
+        let Some(page) = pages.get(pid as PageId) else {
+            unreachable!()
+        };
+        total += page_rss(alloc, sticky_log, pid as PageId, page)? as u128;
+    }
+    Ok(total)
+}
+
+// How much a page takes. A node that doesn't lie in memory is read, and let go.
+fn page_rss<L: Log>(
+    alloc: Global,
+    sticky_log: &mut StickyLog<L>,
+    pid: PageId,
+    page: &Page,
+) -> Result<u64, Refusal>
+    requires ready { sticky_log.old.fault ≡ false }
+    requires usable { (L.state sticky_log.old.log).usable ≡ true }
+    requires kept { L.tells → IsKept (chain_at (L.state sticky_log.old.log) pid) page.now }
+    ensures read { ReadsLog L.Log sticky_log.old sticky_log.new (messages_to_read page.now) result }
+    ensures size { L.tells
+        → IfOk result (IsSizeOf (chain_at (L.state sticky_log.old.log) pid)) }
+    ensures refused { L.tells → IfErr result
+        (RefusesAway (chain_at (L.state sticky_log.old.log) pid) page.now) }
+{
+    match &page.kept {
+        Kept::Free => Ok(0),
+        Kept::Away => Ok(read_node(alloc, sticky_log, pid, &page.infos)?.rss()),
+        Kept::Counter(_) => Ok(COUNTER_BYTES),
+        Kept::Roots(roots) => Ok(roots.rss()),
+        Kept::Node(node) => Ok(node.rss()),
+    }
+}
