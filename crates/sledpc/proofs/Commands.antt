@@ -15,7 +15,7 @@ use Rattle.sled_node.specs.Node.{Value, WholeNode, leaf_of}
 use Rattle.sled_node.specs.Pairs.{IsWithinLimit, HasPairs}
 use Rattle.sled_pagecache.specs.State.{Token, token, pid_of, stamp_of}
 use Rattle.sled_pagecache.specs.declared.pagecache.handles.call.Call.{Call}
-use Rattle.sled_pagecache.specs.declared.pagecache.handles.call.Call.TheVariants.{Allocate, Get, Link, Replace, Free, GetMeta, MetaPidForName, CasRoot, GetIdgen, GenerateId, Flush, SizeOnDisk, Pin, Seal, Cancel}
+use Rattle.sled_pagecache.specs.declared.pagecache.handles.call.Call.TheVariants.{Allocate, Get, Link, Replace, Free, GetMeta, MetaPidForName, CasRoot, GetIdgen, GenerateId, Flush, SizeOnDisk, SpaceAmplification, TakeFuzzySnapshot, Pin, Seal, Cancel}
 use Rattle.sledpc.specs.Asked.{AsksBehind, AreTwo, BeginsWithToken, EncodeLeaf, EncodeRoots, at_the_end}
 use Rattle.sledpc.specs.Commands.{Asks, IsRootNumber, IsToken, Encodes, EncodesOpen, IsCommand, IsOfScript, mark_word, root_word}
 use Rattle.sledpc.specs.Cut.{HasNo}
@@ -74,6 +74,7 @@ key_of (CasRoot name old new) = 7561571
 key_of GenerateId = 25705
 key_of Flush = 7695462
 key_of SizeOnDisk = 8022387
+key_of SpaceAmplification = 7368033
 key_of call = 0
 
 pub asks_by_key : (words : List Bytes) (call : Call) → Asks words call → key_of_name (get_or words 0 []) ≡ key_of call
@@ -88,6 +89,7 @@ asks_by_key words (CasRoot name old new) asks = ap (λ (w : List Bytes). key_of_
 asks_by_key words GenerateId asks = ap (λ (w : List Bytes). key_of_name (get_or w 0 [])) asks
 asks_by_key words Flush asks = ap (λ (w : List Bytes). key_of_name (get_or w 0 [])) asks
 asks_by_key words SizeOnDisk asks = ap (λ (w : List Bytes). key_of_name (get_or w 0 [])) asks
+asks_by_key words SpaceAmplification asks = ap (λ (w : List Bytes). key_of_name (get_or w 0 [])) asks
 asks_by_key words call asks = absurd asks
 
 -- ---- the pairs of `alloc` and of `replace`
@@ -370,9 +372,16 @@ size_asked text SizeOnDisk asked =
 size_asked text (Link old ChildMergeCap) asked = absurd (asked.1)
 size_asked text call asked = let e : ◌≡◌ {A = ℕ} 8022387 (key_of call) = asks_by_key (codes "size" ∷ asked.0) call (asked.1) in absurd (omega (arith, e))
 
+pub amp_asked : (text : Option Bytes) (call : Call) → AsksBehind (codes "amp") text call → text ≡ None
+amp_asked text SpaceAmplification asked =
+    let e : asked.0 ≡ [] = cc (asked.1) in
+    asked.2 ∙ ap after_name e
+amp_asked text (Link old ChildMergeCap) asked = absurd (asked.1)
+amp_asked text call asked = let e : ◌≡◌ {A = ℕ} 7368033 (key_of call) = asks_by_key (codes "amp" ∷ asked.0) call (asked.1) in absurd (omega (arith, e))
+
 -- ---- a line by its name
 
--- words that ask for a call begin with one of eleven names
+-- words that ask for a call begin with one of twelve names
 record IsNamed (words : List Bytes) : Type 0 where
   name : Bytes
   rest : List Bytes
@@ -401,6 +410,8 @@ is_named words Cancel asks = absurd asks
 is_named words GenerateId asks = record { name = codes "id"; rest = []; plain = search rules; joined = asks }
 is_named words Flush asks = record { name = codes "flush"; rest = []; plain = search rules; joined = asks }
 is_named words SizeOnDisk asks = record { name = codes "size"; rest = []; plain = search rules; joined = asks }
+is_named words SpaceAmplification asks = record { name = codes "amp"; rest = []; plain = search rules; joined = asks }
+is_named words TakeFuzzySnapshot asks = absurd asks
 
 -- a line that encodes a call is its name and the text behind it
 pub encoded_behind : (line name : Bytes) (text : Option Bytes) (call : Call) → BeginsLine line name text → Encodes line call → AsksBehind name text call
@@ -459,20 +470,21 @@ seven_bytes (x0 ∷ x1 ∷ x2 ∷ x3 ∷ x4 ∷ x5 ∷ []) a b c d e f g n p q r
 seven_bytes (x0 ∷ x1 ∷ x2 ∷ x3 ∷ x4 ∷ x5 ∷ x6 ∷ []) a b c d e f g n p q r s t u v = cc
 seven_bytes (x0 ∷ x1 ∷ x2 ∷ x3 ∷ x4 ∷ x5 ∷ x6 ∷ y ∷ more) a b c d e f g n p q r s t u v = absurd (omega (arith, n))
 
--- there are eleven names
-pub no_name : (name : Bytes) (text : Option Bytes) (call : Call) → name ≢ codes "alloc" → name ≢ codes "get" → name ≢ codes "set" → name ≢ codes "del" → name ≢ codes "replace" → name ≢ codes "free" → name ≢ codes "root" → name ≢ codes "cas" → name ≢ codes "id" → name ≢ codes "flush" → name ≢ codes "size" → AsksBehind name text call → ⊥
-no_name name text (Allocate node) alloc get set del replace free root cas id flush size asked = alloc (cc (asked.1.2))
-no_name name text (Get pid) alloc get set del replace free root cas id flush size asked = get (cc (asked.1.1))
-no_name name text (Link old (Set key value)) alloc get set del replace free root cas id flush size asked = set (cc (asked.1.3))
-no_name name text (Link old (Del key)) alloc get set del replace free root cas id flush size asked = del (cc (asked.1.2))
-no_name name text (Replace old node) alloc get set del replace free root cas id flush size asked = replace (cc (asked.1.3))
-no_name name text (Free old) alloc get set del replace free root cas id flush size asked = free (cc (asked.1.1))
-no_name name text (MetaPidForName asked_name) alloc get set del replace free root cas id flush size asked = root (cc (asked.1.1))
-no_name name text (CasRoot asked_name old new) alloc get set del replace free root cas id flush size asked = cas (cc (asked.1.3))
-no_name name text GenerateId alloc get set del replace free root cas id flush size asked = id (cc (asked.1))
-no_name name text Flush alloc get set del replace free root cas id flush size asked = flush (cc (asked.1))
-no_name name text SizeOnDisk alloc get set del replace free root cas id flush size asked = size (cc (asked.1))
-no_name name text call alloc get set del replace free root cas id flush size asked = asked.1
+-- there are twelve names
+pub no_name : (name : Bytes) (text : Option Bytes) (call : Call) → name ≢ codes "alloc" → name ≢ codes "get" → name ≢ codes "set" → name ≢ codes "del" → name ≢ codes "replace" → name ≢ codes "free" → name ≢ codes "root" → name ≢ codes "cas" → name ≢ codes "id" → name ≢ codes "flush" → name ≢ codes "size" → name ≢ codes "amp" → AsksBehind name text call → ⊥
+no_name name text (Allocate node) alloc get set del replace free root cas id flush size amp asked = alloc (cc (asked.1.2))
+no_name name text (Get pid) alloc get set del replace free root cas id flush size amp asked = get (cc (asked.1.1))
+no_name name text (Link old (Set key value)) alloc get set del replace free root cas id flush size amp asked = set (cc (asked.1.3))
+no_name name text (Link old (Del key)) alloc get set del replace free root cas id flush size amp asked = del (cc (asked.1.2))
+no_name name text (Replace old node) alloc get set del replace free root cas id flush size amp asked = replace (cc (asked.1.3))
+no_name name text (Free old) alloc get set del replace free root cas id flush size amp asked = free (cc (asked.1.1))
+no_name name text (MetaPidForName asked_name) alloc get set del replace free root cas id flush size amp asked = root (cc (asked.1.1))
+no_name name text (CasRoot asked_name old new) alloc get set del replace free root cas id flush size amp asked = cas (cc (asked.1.3))
+no_name name text GenerateId alloc get set del replace free root cas id flush size amp asked = id (cc (asked.1))
+no_name name text Flush alloc get set del replace free root cas id flush size amp asked = flush (cc (asked.1))
+no_name name text SizeOnDisk alloc get set del replace free root cas id flush size amp asked = size (cc (asked.1))
+no_name name text SpaceAmplification alloc get set del replace free root cas id flush size amp asked = amp (cc (asked.1))
+no_name name text call alloc get set del replace free root cas id flush size amp asked = asked.1
 
 -- what no call is asked for behind the name, no call is encoded for by the line
 pub none_encoded : (line name : Bytes) (text : Option Bytes) (found : Option Call) → BeginsLine line name text → IfNone found ((call : Call) → AsksBehind name text call → ⊥) → IfNone found ((call : Call) → Encodes line call → ⊥)
@@ -487,6 +499,7 @@ none_encoded_if_ok line name text (Err error) begins none = tt
 pub of_script : (line : Bytes) (call : Call) → Encodes line call → IsOfScript call
 of_script line GetMeta encodes = absurd (encodes.1.1)
 of_script line GetIdgen encodes = absurd (encodes.1.1)
+of_script line TakeFuzzySnapshot encodes = absurd (encodes.1.1)
 of_script line Pin encodes = absurd (encodes.1.1)
 of_script line Seal encodes = absurd (encodes.1.1)
 of_script line Cancel encodes = absurd (encodes.1.1)

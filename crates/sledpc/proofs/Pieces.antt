@@ -1,7 +1,7 @@
 -- Texts that are gathered in a piece.
 use Rattle.std.proofs.Common.{◌≡◌, ℕ, ◌+◌, ◌*◌, ◌/◌, ◌%◌, ◌<◌, ◌≤◌, ◌^◌, [], ◌∷◌, ◌++◌, length, length-append, take, length-take-le, get_or, sym, ap, ◌∙◌, arith, append_assoc}
 use Rattle.std.specs.Fmt.{decimal}
-use Rattle.std.proofs.lemmas.Fmt.{decimal_digit, decimal_step, decimal_nonempty, length-decimal-le}
+use Rattle.std.proofs.lemmas.Fmt.{decimal_digit, decimal_step_wide, decimal_nonempty, length-decimal-le, length-decimal-le_wide}
 use Rattle.sled_base.specs.Order.{Bytes}
 use Rattle.sledpc.specs.Words.{hex_digit, hex, bytes_word}
 use Rattle.sledpc.proofs.Words.{length-hex}
@@ -12,22 +12,25 @@ use Rattle.sledpc.proofs.Written.{hex_append, hex_next, hex_word}
 pub length-number : (n : ℕ) → n < 2 ^ 64 → length (decimal n) ≤ 20
 length-number n small = length-decimal-le 20 n (omega arith) (omega arith) small
 
+pub length-wide : (n : ℕ) → n < 2 ^ 128 → length (decimal n) ≤ 39
+length-wide n small = length-decimal-le_wide 39 n (omega arith) (omega arith) (omega arith)
+
 -- there is room for the last digit, behind the others or alone
-pub tens_room : (items before : Bytes) (n room : ℕ) → 10 ≤ n → n < 2 ^ 64 → items ≡ before ++ decimal (n / 10) → length before + length (decimal n) ≤ room → length items < room
+pub tens_room : (items before : Bytes) (n room : ℕ) → 10 ≤ n → n < 10 ^ 64 → items ≡ before ++ decimal (n / 10) → length before + length (decimal n) ≤ room → length items < room
 tens_room items before n room large small e fits =
-    omega (arith, ap length e, length-append before (decimal (n / 10)), ap length (decimal_step n large small), length-append (decimal (n / 10)) ((48 + n % 10) ∷ []))
+    omega (arith, ap length e, length-append before (decimal (n / 10)), ap length (decimal_step_wide n large small), length-append (decimal (n / 10)) ((48 + n % 10) ∷ []))
 
 pub digit_room : (before : Bytes) (n room : ℕ) → n < 2 ^ 64 → length before + length (decimal n) ≤ room → length before < room
 digit_room before n room small fits = omega (arith, decimal_nonempty n small)
 
-pub tens_fit : (before : Bytes) (n room : ℕ) → 10 ≤ n → n < 2 ^ 64 → length before + length (decimal n) ≤ room → length before + length (decimal (n / 10)) ≤ room
-tens_fit before n room large small fits = omega (arith, ap length (decimal_step n large small), length-append (decimal (n / 10)) ((48 + n % 10) ∷ []))
+pub tens_fit : (before : Bytes) (n room : ℕ) → 10 ≤ n → n < 10 ^ 64 → length before + length (decimal n) ≤ room → length before + length (decimal (n / 10)) ≤ room
+tens_fit before n room large small fits = omega (arith, ap length (decimal_step_wide n large small), length-append (decimal (n / 10)) ((48 + n % 10) ∷ []))
 
 -- the last digit behind the others, or alone
-pub tens_next : (items new before : Bytes) (n : ℕ) → 10 ≤ n → n < 2 ^ 64 → items ≡ before ++ decimal (n / 10) → new ≡ items ++ (48 + n % 10) ∷ [] → new ≡ before ++ decimal n
+pub tens_next : (items new before : Bytes) (n : ℕ) → 10 ≤ n → n < 10 ^ 64 → items ≡ before ++ decimal (n / 10) → new ≡ items ++ (48 + n % 10) ∷ [] → new ≡ before ++ decimal n
 tens_next items new before n large small e last =
     let digit = (48 + n % 10) ∷ [] in
-    last ∙ ap (λ l. l ++ digit) e ∙ append_assoc before (decimal (n / 10)) digit ∙ ap (λ l. before ++ l) (sym (decimal_step n large small))
+    last ∙ ap (λ l. l ++ digit) e ∙ append_assoc before (decimal (n / 10)) digit ∙ ap (λ l. before ++ l) (sym (decimal_step_wide n large small))
 
 pub digit_next : (new before : Bytes) (n : ℕ) → n < 10 → new ≡ before ++ (48 + n % 10) ∷ [] → new ≡ before ++ decimal n
 digit_next new before n small last =

@@ -10,7 +10,7 @@ use Rattle.sled_node.specs.Node.{Item, Value, Child, WholeNode}
 use Rattle.sled_pagecache.specs.State.{stamp_of}
 use Rattle.sled_pagecache.specs.Step.{Swapped}
 use Rattle.sled_pagecache.specs.declared.pagecache.handles.call.Answer.{Answer}
-use Rattle.sled_pagecache.specs.declared.pagecache.handles.call.Answer.TheVariants.{Allocated, Got, Linked, Replaced, Freed, GotMeta, FoundRoot, RootSwapped, GotIdgen, Generated, Flushed, Sized, Pinned, Sealed, Cancelled}
+use Rattle.sled_pagecache.specs.declared.pagecache.handles.call.Answer.TheVariants.{Allocated, Got, Linked, Replaced, Freed, GotMeta, FoundRoot, RootSwapped, GotIdgen, Generated, Flushed, Sized, Amplified, TookSnapshot, Pinned, Sealed, Cancelled}
 use Rattle.sledpc.specs.Words.{bytes_word}
 
 abbrev pub error_text : Error → Bytes
@@ -55,9 +55,10 @@ reply_of (Got (Err e)) = error_text e
 reply_of (Linked answer) = reply_of_swap answer
 reply_of (Replaced answer) = reply_of_swap answer
 reply_of (Freed answer) = reply_of_swap answer
--- no line asks for the map of named roots, or for the counter of ids
+-- no line asks for the map of named roots, for the counter of ids, or for a snapshot
 reply_of (GotMeta answer) = []
 reply_of (GotIdgen answer) = []
+reply_of (TookSnapshot answer) = []
 reply_of (Pinned answer) = reply_of_mark answer
 reply_of (Sealed answer) = reply_of_mark answer
 reply_of (Cancelled answer) = reply_of_mark answer
@@ -74,6 +75,8 @@ reply_of (Flushed (Ok written)) = codes "flushed " ++ decimal written
 reply_of (Flushed (Err e)) = error_text e
 reply_of (Sized (Ok bytes)) = codes "size " ++ decimal bytes
 reply_of (Sized (Err e)) = error_text e
+reply_of (Amplified (Ok sizes)) = codes "amp " ++ decimal sizes.0 ++ codes " " ++ decimal sizes.1
+reply_of (Amplified (Err e)) = error_text e
 
 -- the reply to the opening of a tree
 abbrev pub reply_of_tree : Result ℕ Error → Bytes

@@ -124,6 +124,19 @@ impl Piece {
         }
         self.push(b'0' + (number % 10) as u8);
     }
+
+    /// The same of a number that may be too large for a `u64`.
+    pub fn put_wide_number(&mut self, number: u128)
+        requires { length self.old + length (decimal number) ≤ piece_room }
+        ensures { self.new ≡ self.old ++ decimal number }
+    {
+        if number <= u64::MAX as u128 {
+            self.put_number(number as u64);
+            return;
+        }
+        self.put_wide_number(number / 10);
+        self.push(b'0' + (number % 10) as u8);
+    }
 }
 
 /// The hexadecimal digit of a number below 16.

@@ -125,6 +125,7 @@ pub fn call_of(alloc: Global, line: &[u8]) -> Result<Option<Call>, AllocError>
         b"id" => Ok(id_of(arguments)),
         b"flush" => Ok(flush_of(arguments)),
         b"size" => Ok(size_of(arguments)),
+        b"amp" => Ok(amp_of(arguments)),
         _ => Ok(None),
     }
 }
@@ -365,6 +366,19 @@ fn size_of(arguments: Option<&[u8]>) -> Option<Call>
 {
     match arguments {
         None => Some(Call::SizeOnDisk),
+        Some(_) => None,
+    }
+}
+
+// `amp`
+fn amp_of(arguments: Option<&[u8]>) -> Option<Call>
+    ensures some { IfSome result
+        (AsksBehind (codes "amp") (option_map (λ rest. rest.now) arguments.entry)) }
+    ensures none { IfNone result ((call : Call)
+        → ¬ AsksBehind (codes "amp") (option_map (λ rest. rest.now) arguments.entry) call) }
+{
+    match arguments {
+        None => Some(Call::SpaceAmplification),
         Some(_) => None,
     }
 }

@@ -192,12 +192,14 @@ fn serve_call<L: Log, W: Write>(
         Call::Link(old, link) => serve_link(cache, old, link, writer, piece),
         Call::Replace(old, node) => serve_replace(cache, old, node, writer, piece),
         Call::Free(old) => serve_free(cache, old, writer, piece),
-        Call::GetMeta | Call::GetIdgen | Call::Pin | Call::Seal | Call::Cancel => unreachable!(),
+        Call::GetMeta | Call::GetIdgen | Call::TakeFuzzySnapshot => unreachable!(),
+        Call::Pin | Call::Seal | Call::Cancel => unreachable!(),
         Call::MetaPidForName(name) => serve_root(cache, name, writer, piece),
         Call::CasRoot(name, old, new) => serve_cas(cache, name, old, new, writer, piece),
         Call::GenerateId => serve_id(cache, writer, piece),
         Call::Flush => serve_flush(cache, writer, piece),
         Call::SizeOnDisk => serve_size(cache, writer, piece),
+        Call::SpaceAmplification => serve_amp(cache, writer, piece),
     }
 }
 
@@ -329,4 +331,16 @@ fn serve_size<L: Log, W: Write>(
 {
     let answer = cache.size_on_disk();
     gather_line(writer, piece, LentAnswer::Sized(&answer))
+}
+
+fn serve_amp<L: Log, W: Write>(
+    cache: &mut PageCache<L>,
+    writer: &mut W,
+    piece: &mut Piece,
+) -> Result<(), Unwritten>
+    ensures { RepliesTo L.Log cache.old calls.SpaceAmplification (W.contents writer.old)
+        (W.contents writer.new) piece.old piece.new result cache.new }
+{
+    let answer = cache.space_amplification();
+    gather_line(writer, piece, LentAnswer::Amplified(&answer))
 }

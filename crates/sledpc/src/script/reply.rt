@@ -30,6 +30,7 @@ pub enum LentAnswer<'a> {
     Generated(&'a Result<u64, Error>),
     Flushed(&'a Result<usize, Error>),
     Sized(&'a Result<u64, Error>),
+    Amplified(&'a Result<(u64, u128), Error>),
 }
 
 /// Puts the reply to an answer as a line behind what was gathered.
@@ -70,12 +71,14 @@ pub fn gather_line<W: Write>(
             *written as u64,
         ),
         LentAnswer::Sized(Ok(bytes)) => gather_labelled(writer, piece, b"size ", *bytes),
+        LentAnswer::Amplified(Ok((bytes, pages))) => gather_sizes(writer, piece, *bytes, *pages),
         LentAnswer::Allocated(Err(error))
         | LentAnswer::FoundRoot(Err(error))
         | LentAnswer::RootSwapped(Err(error))
         | LentAnswer::Generated(Err(error))
         | LentAnswer::Flushed(Err(error))
-        | LentAnswer::Sized(Err(error)) => gather_error(writer, piece, error),
+        | LentAnswer::Sized(Err(error))
+        | LentAnswer::Amplified(Err(error)) => gather_error(writer, piece, error),
         LentAnswer::Got(Err(refusal)) => gather_error(writer, piece, &Error::from(refusal)),
     }
 }
@@ -166,6 +169,23 @@ fn gather_page<W: Write>(
     put_labelled(piece, b"page ", pid);
     piece.push(b' ');
     piece.put_number(stamp);
+    piece.push(b'\n');
+    Ok(())
+}
+
+fn gather_sizes<W: Write>(
+    writer: &mut W,
+    piece: &mut Piece,
+    bytes: u64,
+    pages: u128,
+) -> Result<(), Unwritten>
+    ensures { Gathers (W.contents writer.old) (W.contents writer.new) piece.old piece.new result
+        (codes "amp " ++ decimal bytes ++ codes " " ++ decimal pages ++ 10 ∷ []) }
+{
+    make_room(writer, piece, 65)?;
+    put_labelled(piece, b"amp ", bytes);
+    piece.push(b' ');
+    piece.put_wide_number(pages);
     piece.push(b'\n');
     Ok(())
 }

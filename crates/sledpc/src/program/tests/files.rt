@@ -84,6 +84,14 @@ const RUNS: &[Runs] = &[
         ("get 2", "leaf 0 62=76 63=77\n"),
     ],
     &[("", ""), ("get 2\nsize\n", "none\nsize 53\n")],
+    // Pages that don't lie in memory are measured too.
+    &[
+        (
+            "amp\nalloc\namp\nflush\namp\n",
+            "amp 53 4104\npage 2 1\namp 53 4232\nflushed 35\namp 87 4232\n",
+        ),
+        ("amp\nget 2\namp\n", "amp 87 4232\nleaf 0\namp 87 4232\n"),
+    ],
     // A batch that is cancelled, and one that its script leaves open.
     &[
         (

@@ -43,7 +43,7 @@ const REPLIES: &[(&str, &str)] = &[
         "alloc\nset 2 1 6 62\nset 2 1 61 6G\nset 2 1 61 6A\nset 2 1 61\nset 2 1 61 62 63\nset  2 1 61 62\nget 2\n",
         "page 2 1\nerror line\nerror line\nerror line\nerror line\nerror line\nerror line\nleaf 1\n",
     ),
-    ("gc\namp\n", "error line\nerror line\n"),
+    ("gc\n", "error line\n"),
     (
         "pin\nalloc 61=62\nflush\npin\nseal\nseal\nget 0\n",
         "ok\npage 2 1\nerror unsupported 8\nerror unsupported 8\nok\nerror line\nerror unsupported 1\n",
@@ -131,6 +131,14 @@ const REPLIES: &[(&str, &str)] = &[
     (
         "size\nalloc\nset 2 1 62 76\nsize\nflush\nflush\nsize\n",
         "size 35\npage 2 1\nok 2\nsize 82\nflushed 47\nflushed 0\nsize 82\n",
+    ),
+    (
+        "amp\nalloc\namp\nset 2 1 62 76\namp\nfree 2 2\namp\ncas 61 - 2\namp\n",
+        "amp 35 4104\npage 2 1\namp 60 4232\nok 2\namp 82 4234\nok 3\namp 99 4104\nok\namp 119 4113\n",
+    ),
+    (
+        "pin\nalloc\namp\nseal\namp \namp 1\nAMP\namps\n",
+        "ok\npage 2 1\namp 60 4232\nok\nerror line\nerror line\nerror line\nerror line\n",
     ),
     (
         "flush \nflush 1\nFLUSH\nflushed\nsize \nsize 1\nsizes\n",

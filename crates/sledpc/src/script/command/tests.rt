@@ -21,6 +21,7 @@ enum Wanted<'a> {
     Id,
     Flush,
     Size,
+    Amp,
     Open(&'a str),
     Mark(Mark),
 }
@@ -56,7 +57,8 @@ fn is_wanted(call: &Call, want: Wanted<'_>) -> bool {
         (Call::Free(old), Wanted::Free) => *old == token,
         (Call::GenerateId, Wanted::Id)
         | (Call::Flush, Wanted::Flush)
-        | (Call::SizeOnDisk, Wanted::Size) => true,
+        | (Call::SizeOnDisk, Wanted::Size)
+        | (Call::SpaceAmplification, Wanted::Amp) => true,
         _ => false,
     }
 }
@@ -117,6 +119,7 @@ fn asks_for_calls(rt: HostRuntime) -> Result<(), Fail> {
         ("id", Wanted::Id),
         ("flush", Wanted::Flush),
         ("size", Wanted::Size),
+        ("amp", Wanted::Amp),
         ("open 74", Wanted::Open("t")),
         ("open -", Wanted::Open("")),
         ("pin", Wanted::Mark(Mark::Pin)),
@@ -169,6 +172,10 @@ fn asks_for_nothing(rt: HostRuntime) -> Result<(), Fail> {
         "flush 2",
         "size ",
         "size 2",
+        "amp ",
+        "amp 2",
+        "AMP",
+        "am",
         "open",
         "open ",
         "open 7",
