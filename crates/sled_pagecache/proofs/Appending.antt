@@ -2,7 +2,7 @@
 use Rattle.sled_pagecache.proofs.Names.{inl, lost_by, answer_behind, content_of, no_name, HasNoName, KeepsMemory, ReadsNothing, IfOk, IfErr, OnOk, IsFresh, ◌≡◌, ◌≤◌, ◌+◌, ℕ, Bool, true, false, List, [], ◌∷◌, Some, None, Result, Ok, Err, slice_get, slice_set, refl, sym, ◌∙◌, ap, subst, arith, slice_get_within, error_of, Error, Refusal, Change, message_of, begun_by, Put, Update, Ghosts, Cache, IsResident, HasNoNode, HasNoRoom, chain_length, IsBounded, AccessesPage, EvictsAtMost, MakesAppend, RefusesAppend, OnErr, Keeps, Steps, IsBlamed, stamps_after_swap, Swapped, SwapsContent, stamps_in, is_resident, free_ids, IsFreeOrNode, IsAnswered, Token, token, Answer, Call, Config, StickyLog, Accesses, Page, Kept, IsWhole, Evicts, IsSettled, behind-own, put-back, view}
 use Rattle.sled_pagecache.proofs.Answers.{keeps-err}
 use Rattle.sled_pagecache.proofs.CacheSteps.{steps-known}
-use Rattle.sled_pagecache.proofs.Counted.{behind-counter, other-at, spares-refused, whole-then}
+use Rattle.sled_pagecache.proofs.Counted.{spares-other, behind-counter, other-at, spares-refused, whole-then}
 use Rattle.sled_pagecache.proofs.Evicting.{keeps-same, settled, settles}
 use Rattle.sled_pagecache.proofs.Settling.{Settles, blamed-moved, keeps-moved, steps-moved, taken, untaken}
 use Rattle.sled_pagecache.proofs.InMemory.{loses-none, stay-view, takes-page}
@@ -78,7 +78,7 @@ module _ {L : Type 0} (g : Ghosts L) {next : ℕ} {config : Config} {recovered :
   after-made result made own there behind frees evicts =
       let other = behind-counter pid behind in
       after-whole result made there
-      (whole-then g is.whole clear (λ told clear. (Change pid (message_of update) ∷ [], made.went, (other, tt))) (other-at table pid page other)
+      (whole-then g is.whole clear (spares-other g other made.went) (other-at table pid page other)
       (consistent-put g before after table free free_then is.whole.consistent clear pid (message_of update) made.went page (subst IsFreeOrNode (sym made.holds) own)
       (one-short page made.stamps) made.kept made.sized behind made.others frees)) evicts
 
@@ -185,7 +185,7 @@ module _ {L : Type 0} (g : Ghosts L) {next : ℕ} {config : Config} {recovered :
         behind.is,
         record {
           step = behind.evicted.steps call (answered result)
-              (steps-known g _ _ _ _ (record { config = refl; recovered = refl }) (λ told. swaps-refused g next config recovered accesses.lru before table fresh.clear (is.whole.consistent.beside fresh.clear) old pid given (content_of held) put call answered swap same
+              (steps-known g _ _ (record { config = refl; recovered = refl }) (λ told. swaps-refused g next config recovered accesses.lru before table fresh.clear (is.whole.consistent.beside fresh.clear) old pid given (content_of held) put call answered swap same
               (slice_set table pid page) back after fresh.behind q fresh.at fresh.full fresh.stamp refused.is refusal (refused.refused told) refused.went refused.cause));
           blame = behind.evicted.blame (blamed g _ _ _ refusal refused.cause);
           keeps = behind.evicted.keeps (stamps_after_swap (stamps_in table)) (keeps-err _ _ _ (Unit {0}) refusal fresh.clear refused.cause.fault (ap stamps_in back) refused.went.batch) behind.stuck;

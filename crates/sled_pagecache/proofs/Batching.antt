@@ -1,5 +1,5 @@
 -- Opening and closing a batch, as steps of the machine.
-use Rattle.sled_pagecache.proofs.Names.{arith, no_name, Recency, ◌≡◌, ℕ, AllByRecursion, effect_of_entry, is_open, is_write_fault, Bool, true, false, List, [], ◌∷◌, Result, Ok, Err, refl, sym, ◌∙◌, subst, false≢true, Write, Error, Refusal, chains_from, Content, Update, contents_from, Event, Pin, Message, Messages, effect_of, open_after, Ghosts, Cache, Represents, Steps, StepOver, Went, Went-none, IsCaused, IsOfLog, begun_by, Logged, State, Outcome, outcome, no_change, Answer, Call, Config, StickyLog, Page, HasGrown, error_of, BatchOpen, IsEvent, MayCome, IsWhole, SparesCounter, Closes, with_batch_closed, Pinned, view}
+use Rattle.sled_pagecache.proofs.Names.{arith, no_name, Recency, ◌≡◌, ℕ, effect_of_entry, is_open, is_write_fault, Bool, true, false, List, [], ◌∷◌, Result, Ok, Err, refl, sym, ◌∙◌, subst, false≢true, Write, Error, Refusal, chains_from, Content, Update, contents_from, Event, Pin, Message, Messages, effect_of, open_after, Ghosts, Cache, Represents, Steps, StepOver, Went, Went-none, IsCaused, IsOfLog, begun_by, Logged, State, Outcome, outcome, no_change, Answer, Call, Config, StickyLog, Page, HasGrown, error_of, BatchOpen, IsEvent, MayCome, IsWhole, Closes, with_batch_closed, Pinned, view}
 use Rattle.sled_base.specs.declared.types.Error.TheVariants.{Unsupported, Io}
 use Rattle.sled_base.specs.declared.types.Refusal.TheVariants as refusals
 use Rattle.sled_log.specs.LogState as log
@@ -7,7 +7,7 @@ use Rattle.sled_pagecache.proofs.Answers.{fault-same}
 use Rattle.sled_pagecache.proofs.CacheSteps.{Leads, steps-known, steps-marked, steps-stuck, steps-went}
 use Rattle.sled_pagecache.proofs.Carrying.{proper-now}
 use Rattle.sled_pagecache.proofs.Changing.{leads-same}
-use Rattle.sled_pagecache.proofs.Counted.{spares-refused, whole-added, whole-then}
+use Rattle.sled_pagecache.proofs.Counted.{Leave, spares-refused, whole-added, whole-then}
 use Rattle.sled_pagecache.proofs.Putting.{blamed}
 use Rattle.sled_pagecache.proofs.Staying.{stay-one}
 use Rattle.sled_pagecache.proofs.Tables.{consistent-kept}
@@ -107,7 +107,7 @@ module _ {L : Type 0} (g : Ghosts L) (next : ℕ) (config : Config) (recovered :
           → (let told : Result (Unit {0}) Refusal = Err refusal in Went g before after (begun_by told (Pin ∷ [])) × IsCaused g before after (g.is_full_for_batch before.log) told)
           → OpensBatch g (cache before) (Err (error_of refusal)) (cache after)
       opens-refused refusal of refused =
-          let step = steps-known g (cache before) (cache after) call.Pin (Pinned (Err (error_of refusal))) (record { config = refl; recovered = refl }) (λ told. refused-step refusal told (of told) refused) in
+          let step = steps-known g (cache before) (cache after) (record { config = refl; recovered = refl }) (λ told. refused-step refusal told (of told) refused) in
           let blame = blamed g {U = Unit {0}} (cache before) (cache after) (g.is_full_for_batch before.log) refusal refused.1 in
           let fault = refused.1.fault ∙ fault-same (Unit {0}) (Unit {0}) refusal in
           let batch = refused.0.batch in
@@ -161,10 +161,10 @@ module _ {L : Type 0} (g : Ghosts L) (next : ℕ) (config : Config) (recovered :
 module _ {L : Type 0} (g : Ghosts L) {k next : ℕ} {before : StickyLog L} {table : List Page} {free : List ℕ} (whole : IsWhole g.tells g.state k next before table free) (ready : before.fault ≡ false) (after : StickyLog L)
     (same : g.tells → after.fault ≡ false → log.now effect_of_entry (g.state after.log) ≡ log.now effect_of_entry (g.state before.log)) where
   -- a mark came, which opened the batch or closed it
-  pub whole-marked : (batch : Bool) (mid : StickyLog L) → mid.log ≡ before.log → (message : Event Message) → ((was : Bool) → open_after was (message ∷ []) ≡ batch) → AllByRecursion SparesCounter (message ∷ [])
+  pub whole-marked : (batch : Bool) (mid : StickyLog L) → mid.log ≡ before.log → (message : Event Message) → ((was : Bool) → open_after was (message ∷ []) ≡ batch) → ((n : ℕ) → Leave (message ∷ []) n)
       → Went g mid after (message ∷ []) → IsWhole g.tells g.state k next (record after { batch = batch }) table free
   whole-marked batch mid of message marks spares went =
-      whole-added g whole ready (λ told clear. (message ∷ [], subst (λ l. log.Adds effect_of (log.unplaced_state (g.state l)) (message ∷ []) (log.unplaced_state (g.state after.log))) of (went.added told clear), spares)) refl
+      whole-added g whole ready (λ told clear. (message ∷ [], subst (λ l. log.Adds effect_of (log.unplaced_state (g.state l)) (message ∷ []) (log.unplaced_state (g.state after.log))) of (went.added told clear), λ page n _ _. spares n)) refl
       (consistent-kept g before (record after { batch = batch }) table free free whole.consistent ready went.usable (λ clear. went.opened clear ∙ marks (is_open (g.state mid.log).pending)) same)
 
   -- no batch was opened
@@ -177,7 +177,7 @@ module _ {L : Type 0} (g : Ghosts L) {k next : ℕ} {before : StickyLog L} {tabl
   -- the batch was closed
   pub whole-closed : (closing : Closing) → Went g (record before { batch = false }) after (mark_of closing ∷ []) → IsWhole g.tells g.state k next after table free
   whole-closed closing went =
-      let spares : (let events : List (Event Message) = mark_of closing ∷ [] in AllByRecursion SparesCounter events) = grind arith in
+      let spares : (n : ℕ) → (let events : List (Event Message) = mark_of closing ∷ [] in Leave events n) = grind arith in
       rw went.batch (whole-marked false (record before { batch = false }) refl (mark_of closing) (closing-ends Message closing) spares went)
 
 -- with a write fault kept it may be closed

@@ -1,5 +1,5 @@
 -- One call of the cache is one step of the machine.
-use Rattle.sled_pagecache.proofs.Names.{◌≡◌, Bool, true, false, List, [], ◌++◌, refl, sym, ◌∙◌, ap, subst, false≢true, is_open, open_after, Update, contents_after, Event, open_after-append, is_open-drop, Message, effect_of, AreEvents, Ghosts, Cache, Represents, IsSameOpening, StepOver, Steps, Went, Logged, Adds, StayProper, State, Outcome, no_change, contents_of, stamps_of, Answer, Call, StickyLog, KnowsLog}
+use Rattle.sled_pagecache.proofs.Names.{IsDoneInEach, ◌≡◌, Bool, true, false, List, [], ◌++◌, refl, sym, ◌∙◌, ap, subst, false≢true, is_open, open_after, Update, contents_after, Event, open_after-append, is_open-drop, Message, effect_of, AreEvents, Ghosts, Cache, Represents, IsSameOpening, StepOver, Steps, Went, Logged, Adds, StayProper, State, Outcome, no_change, contents_of, stamps_of, Answer, Call, StickyLog, KnowsLog}
 use Rattle.sled_log.specs.LogState as log
 use Rattle.sled_pagecache.proofs.Carrying.{carries, leaves, proper-now}
 use Rattle.sled_pagecache.proofs.Staying.{stay-none}
@@ -12,8 +12,8 @@ open-added held held_then changes added =
 
 module _ {L : Type 0} (g : Ghosts L) where
   -- a call is a step where the device tells its bytes, and of no other device is more said
-  pub steps-known : (old new : Cache L) (call : Call) (answer : Answer) → IsSameOpening old new → (g.tells → Steps g old call answer new) → Steps g old call answer new
-  steps-known old new call answer same steps = record { opening = same; from_each = λ held s is. (steps is.tells).from_each held s is }
+  pub steps-known : {Does : State → Outcome → Type 0} (old new : Cache L) → IsSameOpening old new → (g.tells → IsDoneInEach g Does old new) → IsDoneInEach g Does old new
+  steps-known old new same steps = record { opening = same; from_each = λ held s is. (steps is.tells).from_each held s is }
 
   -- with a write fault kept the log isn't called, and nothing changes
   pub steps-stuck : (cache : Cache L) (call : Call) (answer : Answer) → cache.fault ≡ true

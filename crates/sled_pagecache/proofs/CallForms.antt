@@ -1,7 +1,7 @@
 -- What a call of the machine leaves, in a few forms: most change at most one page, which isn't the counter's, and use no id.
-use Rattle.sled_pagecache.proofs.Names.{Amplified, SpaceAmplification, TakeFuzzySnapshot, TookSnapshot, slice_get_within, length-map, CasRoot, FoundRoot, MetaPidForName, RootSwapped, AllByRecursion, Allocate, Allocated, Allocates, Answer, Bool, Cache, Call, Change, Content, Counter, Does, Error, Event, Flush, Flushed, Free, Freed, GenerateId, Generated, Get, GetIdgen, GetMeta, Ghosts, Got, GotIdgen, GotMeta, HasNoRoom, IsRefused, Linked, Links, LinksContent, List, MatchBool, Node, Ok, None, Option, Outcome, Put, Replace, Replaced, Result, Roots, SizeOnDisk, Sized, Some, State, StepOver, Swapped, Swaps, SwapsContent, SwapsPage, Token, Update, WholeNode, [], ap, arith, chain_length, contents_of, false, false≢true, free_token, greatest_free, is_reserved, later_token, length, ltb-true, none-some, outcome, page_at, refl, same_Some, slice_get, subst, suc, sym, token, true, no_change, ℕ, ⊤, ◌+◌, ◌-◌, ◌==◌, ◌^◌, ◌∙◌, ◌∷◌, ◌≡◌, ◌≢◌, ◌≤◌, ◌⊎◌, nat_lt, Pin, Seal, Cancel, NodeLink, ClosesNone, SparesCounter, id_in, Pinned, Sealed, Cancelled, map-at}
+use Rattle.sled_pagecache.proofs.Names.{Amplified, SpaceAmplification, TakeFuzzySnapshot, TookSnapshot, slice_get_within, length-map, CasRoot, FoundRoot, MetaPidForName, RootSwapped, AllByRecursion, Allocate, Allocated, Allocates, Answer, Bool, Cache, Call, Change, Content, Counter, Does, Error, Event, Flush, Flushed, Free, Freed, GenerateId, Generated, Get, GetIdgen, GetMeta, Ghosts, Got, GotIdgen, GotMeta, HasNoRoom, IsRefused, Linked, Links, LinksContent, List, MatchBool, Node, Ok, None, Option, Outcome, Put, Replace, Replaced, Result, Roots, SizeOnDisk, Sized, Some, State, StepOver, Swapped, Swaps, SwapsContent, SwapsPage, Token, Update, WholeNode, [], ap, arith, chain_length, contents_of, false, false≢true, free_token, greatest_free, is_reserved, later_token, length, ltb-true, none-some, outcome, page_at, refl, same_Some, slice_get, subst, suc, sym, token, true, no_change, ℕ, ⊤, ◌+◌, ◌-◌, ◌==◌, ◌^◌, ◌∙◌, ◌∷◌, ◌≡◌, ◌≢◌, ◌≤◌, ◌⊎◌, nat_lt, Pin, Seal, Cancel, NodeLink, ClosesNone, SparesCounter, id_in, Pinned, Sealed, Cancelled, map-at, HasNoRoomAgain, due_in, more-at, inl, inr, eqb_tells, slice_get-map, option_map, ◌++◌, other-at, Due, Tidies, WritesAgain, AttemptedGc, AttemptGc}
 use Rattle.sled_node.specs.Meta as meta
-use Rattle.sled_pagecache.proofs.Counting.{CountsTo, start-above}
+use Rattle.sled_pagecache.proofs.Counting.{Again, Spare, CountsTo, start-above}
 use Rattle.sled_pagecache.specs.State.{StampedPage, is_free, page, with_page}
 use Rattle.sled_pagecache.specs.Step.{Generates, HoldsCounter, HoldsRoots, interval_start, with_next_id}
 use Rattle.sled_pagecache.specs.declared.pagecache.handles.call.Call.TheVariants as call
@@ -25,7 +25,8 @@ pub record IsInside (s : State) (out : Outcome) : Type 0 where
 -- no id is used, and no change is one of the counter, wherever it counts
 pub record IsQuiet (s : State) (out : Outcome) : Type 0 where
   pub next : out.state.next ≡ s.next
-  pub spares : (n : ℕ) → CountsTo (contents_of s) n → AllByRecursion SparesCounter out.changes
+  pub spares : (n : ℕ) → CountsTo (contents_of s) n → Spare n out.changes
+  pub own : (n : ℕ) → CountsTo (contents_of s) n → page_at out.state 1 ≡ page_at s 1
 
 -- the counter of page 1 is raised
 pub record IsRaised (s : State) (ids : List ℕ) (out : Outcome) : Type 0 where
@@ -84,6 +85,21 @@ not-free s free greatest n counts is = grind (arith, free-at 0 s.pages free grea
 not-past : (s : State) (n : ℕ) → CountsTo (contents_of s) n → length s.pages ≢ 1
 not-past s n counts is = omega (arith, slice_get_within (contents_of s) 1 (Counter n) counts, length-map s.pages (λ (p : StampedPage). p.content))
 
+-- pages behind it leave the page
+at-behind : (s : State) (more : List StampedPage) (n : ℕ) → CountsTo (contents_of s) n → slice_get (s.pages ++ more) 1 ≡ slice_get s.pages 1
+at-behind s more n counts = by (slice_get s.pages 1) refl
+  where
+    by : (o : Option StampedPage) → slice_get s.pages 1 ≡ o → slice_get (s.pages ++ more) 1 ≡ slice_get s.pages 1
+    by None none = absurd (none-some (Counter n) (sym (ap (option_map (λ (p : StampedPage). p.content)) none) ∙ sym (slice_get-map (λ (p : StampedPage). p.content) s.pages 1) ∙ counts))
+    by (Some p) at = more-at s.pages more 1 p at ∙ sym at
+
+-- what a page holds, it holds again
+spares-again : (s : State) (n pid : ℕ) (p : StampedPage) (content : Content) → page_at s pid ≡ Some p → p.content ≡ content → CountsTo (contents_of s) n → SparesCounter (Again n) (Change pid (Put content))
+spares-again s n pid p content there is counts = elim (eqb_tells pid 1) [
+  | inl same ↦ inr (ap (λ c. Put c) (sym is ∙ same_Some p.content (Counter n) (sym (map-at (λ (q : StampedPage). q.content) s.pages 1 p (sym (ap (page_at s) same.1) ∙ there)) ∙ counts)))
+  | inr apart ↦ inl apart.1
+]
+
 -- ---- the calls that leave the counter and the batch alone
 
 module _ (s : State) (out : Outcome) (call : Call) where
@@ -91,10 +107,10 @@ module _ (s : State) (out : Outcome) (call : Call) where
   IsPlain = Form s call [] out
 
   as-it-was : out ≡ no_change s → IsPlain
-  as-it-was is = subst (Form s call []) (sym is) (Plain refl (record { next = refl; spares = λ n counts. tt }) (record { batch = refl; changes = tt }))
+  as-it-was is = subst (Form s call []) (sym is) (Plain refl (record { next = refl; spares = λ n counts. tt; own = λ n counts. refl }) (record { batch = refl; changes = tt }))
 
   faulty : out ≡ outcome (record s { fault = true }) [] → IsPlain
-  faulty is = subst (Form s call []) (sym is) (Plain refl (record { next = refl; spares = λ n counts. tt }) (record { batch = refl; changes = tt }))
+  faulty is = subst (Form s call []) (sym is) (Plain refl (record { next = refl; spares = λ n counts. tt; own = λ n counts. refl }) (record { batch = refl; changes = tt }))
 
   swaps-page : {R : Type 0} (old : Token) (rejected : R) (answer : Swapped R) (goes_on : Content → Type 0) → ((content : Content) → goes_on content → IsPlain)
       → (found : Option StampedPage) → SwapsPage s old rejected found answer out goes_on → IsPlain
@@ -111,24 +127,41 @@ module _ (s : State) (out : Outcome) (call : Call) where
   module _ (messages : ℕ → ℕ) (no_room : Event Update → Type 0) where
     -- a page is changed, which isn't the counter's
     changes : {T : Type 0} (id : ℕ) (update : Update) (answer : Result T Error) (work : T → State → Type 0) → ((n : ℕ) → CountsTo (contents_of s) n → id ≢ 1)
-        → Does messages no_room s (Change id update) answer out work → ((value : T) → work value out.state → (pages : List StampedPage) × (out.state ≡ record s { pages = pages })) → IsPlain
+        → Does messages no_room s (Change id update) answer out work → ((value : T) → work value out.state → (pages : List StampedPage) × (out.state ≡ record s { pages = pages }) × ((n : ℕ) → CountsTo (contents_of s) n → slice_get pages 1 ≡ slice_get s.pages 1)) → IsPlain
     changes id update answer work other h leaves = grind (arith, as-it-was, faulty)
 
     allocates : (node : WholeNode) (answer : Result (ℕ × Token) Error) → Allocates messages no_room s node answer out → IsPlain
-    allocates node answer step = grind (arith, as-it-was, faulty, changes, not-past, not-free)
+    allocates node answer step = grind (arith, as-it-was, faulty, changes, not-past, not-free, at-behind, other-at {A = StampedPage})
 
     swaps-content : {R : Type 0} (old : Token) (update : Update) (content : Content) (answer : Swapped R) → SwapsContent messages no_room s old update content answer out → old.pid ≢ 1 → IsPlain
-    swaps-content old update content answer step other = grind (arith, as-it-was, changes)
+    swaps-content old update content answer step other = grind (arith, as-it-was, changes, other-at s.pages old.pid 1 (page (old.stamp + 1) content) (λ e. other (sym e)))
 
     links : (old : Token) (link : NodeLink) (answer : Swapped NodeLink) → Links messages no_room s old link answer out → IsPlain
     links old link answer step = swaps old link answer (LinksContent messages no_room s old link answer out) step (λ other content h. grind (arith, as-it-was, faulty, swaps-content))
+
+  -- ---- a move: the content that is written again is the page's
+
+  module _ {L : Type 0} (due : L → Due) (no_room_again : L → ℕ → Content → Type 0) (log : L) where
+    changed : (pid : ℕ) (content : Content) (p : StampedPage) → page_at s pid ≡ Some p → p.content ≡ content → out.changes ≡ Change pid (Put content) ∷ [] → (out.state ≡ s) ⊎ (out.state ≡ record s { fault = true }) → IsPlain
+    changed pid content p there is changes state =
+        let next : out.state.next ≡ s.next = grind arith in
+        let batch : out.state.batch ≡ s.batch = grind arith in
+        let pages : out.state.pages ≡ s.pages = grind arith in
+        Plain refl (record { next = next; spares = λ n counts. rw changes (spares-again s n pid p content there is counts, tt); own = λ n counts. ap (λ (l : List StampedPage). slice_get l 1) pages })
+        (record { batch = batch; changes = rw changes (tt, tt) })
+
+    again : (pid : ℕ) (content : Content) (p : StampedPage) (answer : Result Bool Error) → page_at s pid ≡ Some p → p.content ≡ content → WritesAgain due no_room_again log s pid content answer out → IsPlain
+    again pid content p answer there is h = grind (arith, as-it-was, faulty, changed)
+
+    tidies : (answer : Result Bool Error) → Tidies due no_room_again log s answer out → IsPlain
+    tidies answer step = grind (arith, as-it-was, faulty, again)
 
 -- ---- the marks of batches, and ids
 
 module _ (s : State) (out : Outcome) (call : Call) where
   module _ (leaves : s.batch ≡ true → ClosesNone call → ⊥) where
-    marks : (mark : Event Update) → SparesCounter mark → out.changes ≡ mark ∷ [] → out.state.next ≡ s.next → Form s call [] out
-    marks mark spares is next = Marks refl (record { next = next; spares = λ n counts. subst (AllByRecursion SparesCounter) (sym is) (spares, tt) }) leaves
+    marks : (mark : Event Update) → ((n : ℕ) → SparesCounter (Again n) mark) → out.changes ≡ mark ∷ [] → out.state.next ≡ s.next → page_at out.state 1 ≡ page_at s 1 → Form s call [] out
+    marks mark spares is next own = Marks refl (record { next = next; own = λ n counts. own; spares = λ n counts. subst (Spare n) (sym is) (spares n, tt) }) leaves
 
   module _ (messages : ℕ → ℕ) (no_room : Event Update → Type 0) where
     refused : (answer : Result ℕ Error) {e : Error} → IsRefused s answer out e → Form s call (id_in (Generated answer)) out
@@ -176,7 +209,7 @@ module _ {L : Type 0} (g : Ghosts L) (cache : Cache L) (s : State) where
   call-form GetMeta (GotMeta answer) out step = grind (arith, as-it-was s out GetMeta)
   call-form (MetaPidForName name) (FoundRoot answer) out step = grind (arith, as-it-was s out (MetaPidForName name))
   call-form (CasRoot name old new) (RootSwapped answer) out step =
-      grind (arith, as-it-was s out (CasRoot name old new), faulty s out (CasRoot name old new), changes s out (CasRoot name old new) lengths no_room)
+      grind (arith, as-it-was s out (CasRoot name old new), faulty s out (CasRoot name old new), changes s out (CasRoot name old new) lengths no_room, other-at)
   call-form GetIdgen (GotIdgen answer) out step = grind (arith, as-it-was s out GetIdgen)
   call-form GenerateId (Generated answer) out step = generates s out GenerateId lengths no_room cache.config.idgen_persist_interval answer step
   call-form Flush (Flushed answer) out step = grind (arith, as-it-was s out Flush, faulty s out Flush)
@@ -186,6 +219,7 @@ module _ {L : Type 0} (g : Ghosts L) (cache : Cache L) (s : State) where
   call-form call.Pin (Pinned answer) out step = grind (arith, as-it-was s out call.Pin, faulty s out call.Pin, marks s out call.Pin)
   call-form call.Seal (Sealed answer) out step = grind (arith, marks s out call.Seal)
   call-form call.Cancel (Cancelled answer) out step = grind (arith, marks s out call.Cancel)
+  call-form AttemptGc (AttemptedGc answer) out step = tidies s out AttemptGc (due_in g cache.config) (HasNoRoomAgain g) cache.log answer step
   call-form asked answer out step = absurd step
 
   -- a call inside a batch, which doesn't close it

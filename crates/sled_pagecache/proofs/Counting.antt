@@ -28,14 +28,21 @@ first-at interval contents n at = grind arith
 
 -- ---- changes of other pages
 
-spared-one : (contents : List Content) (change : Event Update) (n : ℕ) → SparesCounter change → CountsTo contents n → CountsTo (contents_from contents change) n
-spared-one contents change n other at = grind (arith, more-at {A = Content}, other-at {A = Content})
+-- or that put the counter again
+abbrev pub Again : ℕ → Update → Type 0
+Again n update = update ≡ Put (Counter n)
 
-pub spared-counts : (contents : List Content) (changes : List (Event Update)) (n : ℕ) → AllByRecursion SparesCounter changes → CountsTo contents n → CountsTo (contents_after contents changes) n
+abbrev pub Spare : ℕ → List (Event Update) → Type 0
+Spare n changes = AllByRecursion (SparesCounter (Again n)) changes
+
+spared-one : (contents : List Content) (change : Event Update) (n : ℕ) → SparesCounter (Again n) change → CountsTo contents n → CountsTo (contents_from contents change) n
+spared-one contents change n other at = grind (arith, more-at {A = Content}, other-at {A = Content}, set-at {A = Content})
+
+pub spared-counts : (contents : List Content) (changes : List (Event Update)) (n : ℕ) → Spare n changes → CountsTo contents n → CountsTo (contents_after contents changes) n
 spared-counts contents [] n others at = at
 spared-counts contents (change ∷ changes) n others at = spared-counts (contents_from contents change) changes n others.1 (spared-one contents change n others.0 at)
 
-pub spared-rises : (contents : List Content) (changes : List (Event Update)) (n : ℕ) → AllByRecursion SparesCounter changes → CountsTo contents n → Rises contents changes
+pub spared-rises : (contents : List Content) (changes : List (Event Update)) (n : ℕ) → Spare n changes → CountsTo contents n → Rises contents changes
 spared-rises contents [] n others at = tt
 spared-rises contents (change ∷ changes) n others at =
     let then = spared-one contents change n others.0 at in

@@ -76,7 +76,7 @@ module _ {L : Type 0} (g : Ghosts L) (old new : Cache L) (pid : ℕ) where
       let answer : Option (Token × WholeNode) = option_map (λ view. (view.token, view.node.now)) found in
       let is : answered (Ok found) ≡ Ok answer = grind arith in
       record {
-        step = steps-known g old new (Get pid) (Got (answered (Ok found))) brings.left.opening (λ known.
+        step = steps-known g old new brings.left.opening (λ known.
             steps-went g old new (sticky_log_of old) (sticky_log_of new) (Get pid) (Got (answered (Ok found))) [] brings.left.opening refl refl refl ready (went-left g old new brings.left)
             (λ held s is clear. found-leads g old new pid known held s is clear brings found at));
         blame = rw is (record { read = λ h. cc; write = λ h. cc });
@@ -113,7 +113,7 @@ module _ {L : Type 0} (g : Ghosts L) (old new : Cache L) (pid : ℕ) where
           )
       by false ready =
           let done = brings ready in (
-            steps-known g old new (Get pid) (Got (Err (error_of refusal))) done.left.opening (λ known.
+            steps-known g old new done.left.opening (λ known.
                 steps-went g old new (sticky_log_of old) (sticky_log_of new) (Get pid) (Got (Err (error_of refusal))) [] done.left.opening refl refl refl ready (went-left g old new done.left)
                 (λ held s is clear. refused-leads g old new pid known held s is clear refusal done (done.refused known))),
             blamed g old new ⊥ refusal done.cause,

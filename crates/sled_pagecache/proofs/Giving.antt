@@ -29,11 +29,11 @@ module _ {L : Type 0} (g : Ghosts L) {next : ℕ} {config : Config} {recovered :
       let consistent =
       consistent-put-own g before after table free free is.whole.consistent clear 1 _ made.went page (subst IsCounter (sym made.holds) tt) (one-short page made.stamps) made.kept made.sized made.others
       (is.whole.consistent.free ∙ sym (free-same 0 table 1 page q at (ap is_free made.holds ∙ sym (ap is_free (counter-kept at found))))) in
-      let whole : IsWhole g.tells g.state k (next + 1) after (slice_set table 1 page) free = record { consistent = consistent; positive = is.whole.positive; counted = counted-stable g k (next + 1) after (slice_set table 1 page) stable } in
+      let whole : IsWhole g.tells g.state k (next + 1) after (slice_set table 1 page) free = record { consistent = consistent; positive = is.whole.positive; counted = counted-stable g k (next + 1) after (slice_set table 1 page) (λ free. (consistent.beside free).kept) stable } in
       let result : Result ℕ Error = Ok next in
       let then_all = after-whole g is clear at result made refl whole evicts in (
         then_all,
-        covered-next g (record { consistent = consistent; positive = is.whole.positive; counted = counted-stable g k next after (slice_set table 1 page) stable }) made.fault
+        covered-next g (record { consistent = consistent; positive = is.whole.positive; counted = counted-stable g k next after (slice_set table 1 page) (λ free. (consistent.beside free).kept) stable }) made.fault
             (record { page = page; at = set-at table 1 q page at; counter = made.holds; token = refl }) (same-start k next start is.whole.positive starts),
         then_all.evicted.steps GenerateId (Generated result)
             (id-put g is clear at (counter-kept at found) few starts covers past closed after made),
@@ -53,7 +53,7 @@ module _ {L : Type 0} (g : Ghosts L) {next : ℕ} {config : Config} {recovered :
       let back = put-back table 1 page (at ∙ ap (λ page. Some page) (sym refused.left)) in (
         then_all,
         then_all.evicted.steps GenerateId (Generated result)
-            (steps-known g _ _ _ _ (record { config = refl; recovered = refl }) (λ told.
+            (steps-known g _ _ (record { config = refl; recovered = refl }) (λ told.
             id-refused g is clear at (counter-kept at found) few starts covers past closed after (slice_set table 1 page) back refused (refused.refused told))),
         then_all.evicted.blame (blamed g _ _ _ refusal refused.cause),
         then_all.evicted.keeps (λ _. stamps_in pages) (keeps-err _ _ _ (Unit {0}) refusal clear refused.cause.fault (ap stamps_in back) refused.went.batch) then_all.stuck,

@@ -4,7 +4,7 @@ use Rattle.std.proofs.lemmas.List.Sums.{sum_by_more, sum_by_more_le}
 use Rattle.sled_pagecache.proofs.CacheSteps.{steps-went}
 use Rattle.sled_pagecache.proofs.ChainReads.{more-add}
 use Rattle.sled_pagecache.proofs.Changing.{leads-unread, steps-untold}
-use Rattle.sled_pagecache.proofs.Counted.{whole-then as whole-behind}
+use Rattle.sled_pagecache.proofs.Counted.{spares-none, whole-then as whole-behind}
 use Rattle.sled_pagecache.proofs.FoundMessages.{wrong-none}
 use Rattle.sled_pagecache.proofs.Held.{full-stands, state-holds, unread, unread-content}
 use Rattle.sled_pagecache.proofs.KeptPages.{kept-long}
@@ -75,7 +75,7 @@ module _ {L T U : Type 0} (counts : L → Counts) (chains : List Chain) (table :
 pub whole-read : {L : Type 0} (g : Ghosts L) {k next : ℕ} {before after : StickyLog L} {table : List Page} {free : List ℕ} → IsWhole g.tells g.state k next before table free → before.fault ≡ false → Went g before after []
     → (g.tells → after.fault ≡ false → now effect_of_entry (g.state after.log) ≡ now effect_of_entry (g.state before.log)) → IsWhole g.tells g.state k next after table free
 whole-read g {before = before} {after = after} {table = table} {free = free} whole ready went same =
-    whole-behind g whole ready (λ told clear. ([], went, tt)) refl (consistent-same g before after table free free whole.consistent ready [] went (λ was. refl) same)
+    whole-behind g whole ready (spares-none g went) refl (consistent-same g before after table free free whole.consistent ready [] went (λ was. refl) same)
 
 -- ---- the contents that are weighed are those of the state
 

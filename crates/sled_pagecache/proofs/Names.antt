@@ -55,11 +55,14 @@ pub use Rattle.sled_node.specs.Payloads.Roots.{ReadsRoots}
 pub use Rattle.sled_pagecache.proofs.Refused.{no_name, refused-is}
 pub use Rattle.sled_pagecache.specs.Inside.PageEntry.{IsTouched, WasAccessed, capped_size}
 pub use Rattle.sled_pagecache.specs.Inside.NewPages.{HasOneMore, RefusesPage}
-pub use Rattle.sled_pagecache.specs.Inside.Appends.{MakesAppend, MakesNewPage, Puts, PutsOnNewPage, RefusesAppend}
+pub use Rattle.sled_pagecache.specs.Inside.Appends.{Appended, MakesAppend, MakesNewPage, Puts, PutsOnNewPage, RefusesAppend}
 pub use Rattle.sled_pagecache.specs.Answers.{HasNoName, Keeps, NamesOnly, stamps_after_root_swap, stamps_with, stamps_after_swap}
 pub use Rattle.sled_pagecache.specs.Logged.{AllById, FitsId}
 pub use Rattle.sled_pagecache.specs.Cache.{Cache, IsAway, Represents, IsResident, KnowsLog, chain_length, chain_size}
-pub use Rattle.sled_pagecache.specs.Calls.{HasNoRoom, IsBlamed, IsSameOpening, IsStep, StepOver, Steps}
+pub use Rattle.sled_pagecache.specs.Calls.{HasNoRoom, HasNoRoomAgain, IsBlamed, IsDone, IsDoneInEach, IsSameOpening, IsStep, StepOver, Steps}
+pub use Rattle.sled_pagecache.specs.Due.{due_in, due_page, is_one_blob, lies_in, pointers_of, segment_of}
+pub use Rattle.sled_pagecache.specs.Inside.Moves.{HoldsAgain, IsBlobOf, MovesOne, MovesOrNot, PutsAgain, RefusesOne, RefusesRewrite, pointers_in, reads_of}
+pub use Rattle.sled_pagecache.specs.Moves.{AccessesNamed, AttemptsMove, MovesDue, RefusesMove, is_blob_at, is_there, reads_to_move}
 pub use Rattle.sled_pagecache.specs.Inside.PageIn.{IsFoundAs}
 pub use Rattle.sled_pagecache.specs.Cache.{chain_at}
 pub use Rattle.sled_pagecache.specs.Memory.{count_after}
@@ -86,7 +89,7 @@ pub use Rattle.sled_pagecache.specs.Infos.{place_of_freeing}
 pub use Rattle.sled_pagecache.specs.Table.{is_free}
 pub use Rattle.sled_pagecache.specs.Inside.PageIn.{BringsIn, IsNodeAt, RefusesReading, sticky_log_of}
 pub use Rattle.sled_pagecache.specs.Damage.{LeavesPages}
-pub use Rattle.sled_pagecache.specs.Inside.Eviction.{IsPagedOut, kept_behind_eviction}
+pub use Rattle.sled_pagecache.specs.Inside.Eviction.{move_behind, IsPagedOut, kept_behind_eviction}
 pub use Rattle.sled_pagecache.specs.Inside.LogCalls.{Comes, IsCutShort, LacksRoom, Proceeds, Reaches, TakesNoRoom, is_fault, refusal_in}
 pub use Rattle.sled_pagecache.specs.Logged.{AreRoots, IsProper, IsUsers, StayProper}
 pub use Rattle.sled_pagecache.specs.Inside.PageIn.{RefusesPull}
@@ -102,7 +105,7 @@ pub use Rattle.sled_pagecache.specs.Opening.{HasAdded, IsBlamedOpening, IsFit, I
 pub use Rattle.sled_pagecache.specs.Calls.{CrashLeaves}
 pub use Rattle.sled_pagecache.specs.Memory.{IsHindrance}
 pub use Rattle.sled_pagecache.specs.State.{StampedPage, State, contents_of, free_token, greatest_free, is_free as is_free_content, later_token, page, page_at, stamps_of, with_page}
-pub use Rattle.sled_pagecache.specs.Step.{AddsPage, Allocates, Closes, Does, Fails, Finds, FindsContent, FindsRoot, Flushes, Frees, Generates, Gets, GetsIdgen, GetsMeta, HoldsCounter, HoldsRoots, IsCorruption, IsCounterAnd, IsGone, IsHindered, IsRefused, Links, LinksContent, LinksNode, Outcome, Pins, PutsCounter, PutsRoots, Reads, Replaces, ReusesPage, RootSwap, SetsRoot, Sizes, Swapped, Swaps, SwapsContent, SwapsPage, SwapsRoot, TellsRoot, UnlessFaulty, UnlessReserved, UnlessStale, with_batch_closed, interval_start, is_reserved, outcome, no_change, with_next_id}
+pub use Rattle.sled_pagecache.specs.Step.{AddsPage, Due, Moves, MovesContent, MovesPage, Tidies, WritesAgain, Allocates, Closes, Does, Fails, Finds, FindsContent, FindsRoot, Flushes, Frees, Generates, Gets, GetsIdgen, GetsMeta, HoldsCounter, HoldsRoots, IsCorruption, IsCounterAnd, IsGone, IsHindered, IsRefused, Links, LinksContent, LinksNode, Outcome, Pins, PutsCounter, PutsRoots, Reads, Replaces, ReusesPage, RootSwap, SetsRoot, Sizes, Swapped, Swaps, SwapsContent, SwapsPage, SwapsRoot, TellsRoot, UnlessFaulty, UnlessReserved, UnlessStale, with_batch_closed, interval_start, is_reserved, outcome, no_change, with_next_id}
 pub use Rattle.sled_pagecache.specs.Inside.PageWrites.{CanPut, IsLinked, IsRaised, RefusesLink, RefusesSwap, WritesMessage, Wrote, content_of, joined_update, roots_in, update_of}
 pub use Rattle.sled_pagecache.specs.Inside.Infos.{joined_infos}
 pub use Rattle.sled_pagecache.specs.Answers.{linked_length}
@@ -111,9 +114,9 @@ pub use Rattle.sled_pagecache.specs.State.{IsAnswered, Token, pid_of, stamp_of, 
 pub use Rattle.sled_pagecache.specs.Inside.RecentUse.{AccessesNode, IsListedAt}
 pub use Rattle.sled_pagecache.proofs.Touched.{AllStay, FindsNode, LosesAtMost, TakesNode, TakesPage}
 pub use Rattle.sled_pagecache.specs.declared.pagecache.memory.accesses.Accesses.{Accesses}
-pub use Rattle.sled_pagecache.specs.declared.pagecache.handles.call.Answer.TheVariants.{Allocated, Amplified, Cancelled, Flushed, FoundRoot, Freed, Generated, Got, GotIdgen, GotMeta, Linked, Pinned, Replaced, RootSwapped, Sealed, Sized, TookSnapshot}
+pub use Rattle.sled_pagecache.specs.declared.pagecache.handles.call.Answer.TheVariants.{Allocated, Amplified, Cancelled, Flushed, FoundRoot, Freed, Generated, Got, GotIdgen, GotMeta, Linked, Pinned, Replaced, RootSwapped, Sealed, Sized, TookSnapshot, AttemptedGc}
 pub use Rattle.sled_pagecache.specs.declared.pagecache.handles.call.Answer.{Answer}
-pub use Rattle.sled_pagecache.specs.declared.pagecache.handles.call.Call.TheVariants.{Allocate, CasRoot, Flush, GenerateId, Get, GetIdgen, GetMeta, MetaPidForName, Replace, SizeOnDisk, SpaceAmplification, TakeFuzzySnapshot}
+pub use Rattle.sled_pagecache.specs.declared.pagecache.handles.call.Call.TheVariants.{Allocate, CasRoot, Flush, GenerateId, Get, GetIdgen, GetMeta, MetaPidForName, Replace, SizeOnDisk, SpaceAmplification, TakeFuzzySnapshot, AttemptGc}
 pub use Rattle.sled_pagecache.specs.declared.pagecache.table.page.CacheInfo.{CacheInfo}
 pub use Rattle.sled_pagecache.specs.declared.pagecache.handles.call.Call.{Call}
 pub use Rattle.sled_pagecache.specs.declared.pagecache.handles.config.Config.{Config}
@@ -150,7 +153,7 @@ pub use Rattle.std.specs.Slice.{IsItemAt}
 pub use Rattle.std.specs.Vec.{with_item}
 pub use Rattle.sled_pagecache.specs.Batches.{AreThoseOf, AreWithout, ClosesNone, RunsBatch, StandsInPart, StandsWhole, with_pin}
 pub use Rattle.sled_pagecache.specs.Rows.{AreMade, AreSteps, CoversId, IsMade, IsRow, ReportsBytes, StepInRow, changes_of}
-pub use Rattle.sled_pagecache.specs.Inside.Invariant.{IsCounted, IsWhole, SparesCounter}
+pub use Rattle.sled_pagecache.specs.Inside.Invariant.{IsCounted, IsWhole, CountsAgain, SparesCounter, StaysCounted}
 pub use Rattle.sled_base.specs.Order.{Bytes}
 pub use Rattle.sled_node.specs.declared.node.link.Link.{Link as NodeLink}
 pub use Rattle.sled_pagecache.specs.Openings.{AreRising, Crashed, CrashedIn, Ending, HandedOn, IsEmpty, IsRun, KeepIntervals, Lasted, Leaves, LeavesUnopened, Opening, id_in, ids_in, ids_of}

@@ -1,12 +1,38 @@
 -- A page that is brought into memory: the table beside its log, and what one sees who knows the cache by its model.
-use Rattle.sled_pagecache.proofs.Names.{Recency, on_ok_weaker, ⊎_elim, cases_Bool, ◌≡◌, ◌≤◌, ℕ, Bool, true, false, List, [], length, Some, Result, Ok, Err, slice_get, slice_set, slice_index_or, refl, sym, ◌∙◌, ap, subst, arith, false≢true, map-set, set-get_or, same_Some, AllByRecursion, IfErr, OnOk, OnErr, IsOk, Refusal, is_open, open_after, is_chain, Event, Message, Chain, effect_of_entry, IsSized, Ghosts, Cache, chain_length, IsAway, chain_at, count_after, Went, IsCaused, IsKept, is_free, is_resident, BringsIn, RefusesPull, ReadsPage, is_reserved, stamps_in, resident_in, IsFreeOrNode, IsConsistent, Config, StickyLog, Page, now, view, map-at, set-at, put-back, all-at, behind-own, kept-at, own-at}
+use Rattle.sled_pagecache.proofs.Names.{past-two, IsCounter, IsOwnAt, IsRoots, Recency, on_ok_weaker, ⊎_elim, cases_Bool, ◌≡◌, ◌≤◌, ℕ, Bool, true, false, List, [], length, Some, Result, Ok, Err, slice_get, slice_set, slice_index_or, refl, sym, ◌∙◌, ap, subst, arith, false≢true, map-set, set-get_or, same_Some, AllByRecursion, IfErr, OnOk, OnErr, IsOk, Refusal, is_open, open_after, is_chain, Event, Message, Chain, effect_of_entry, IsSized, Ghosts, Cache, chain_length, IsAway, chain_at, count_after, Went, IsCaused, IsKept, is_free, is_resident, BringsIn, RefusesPull, ReadsPage, is_reserved, stamps_in, resident_in, IsFreeOrNode, IsConsistent, Config, StickyLog, Page, now, view, map-at, set-at, put-back, all-at, behind-own, kept-at, own-at}
 use Rattle.sled_pagecache.proofs.KeptPages.{kept-long}
 use Rattle.sled_pagecache.proofs.LeftPages.{leaves-went}
-use Rattle.sled_pagecache.proofs.Tables.{consistent-set, free-same}
+use Rattle.sled_pagecache.proofs.Tables.{consistent-set-own, free-same}
 
 -- how many messages make a page
 pub places-length : (chain : Chain) (page : Page) → IsKept chain page → length chain ≡ length page.infos.items
 places-length = kept-long
+
+-- a page that stands, whosever it is
+module _ {L : Type 0} (g : Ghosts L) (before after : StickyLog L) (pages : List Page) (free : List ℕ) (pid : ℕ) (q page : Page)
+    (c : IsConsistent g.tells g.state before pages free) (ready : before.fault ≡ false) (at : slice_get pages pid ≡ Some q) where
+  pub short-at : length q.infos.items ≤ 10
+  short-at = all-at (λ (p : Page). length p.infos.items ≤ 10) pages pid q c.short at
+
+  -- the table stays as it always is, where no message was told, or none was added
+  pub still-consistent : (events : List (Event Message)) → Went g before after events → open_after (is_open (g.state before.log).pending) events ≡ is_open (g.state before.log).pending
+      → (g.tells → after.fault ≡ false → now effect_of_entry (g.state after.log) ≡ now effect_of_entry (g.state before.log))
+      → (g.tells → after.fault ≡ false → IsKept (chain_at (g.state before.log) pid) page) → page.infos.items ≡ q.infos.items → is_free page.kept ≡ is_free q.kept → IsOwnAt pid page.kept
+      → IsConsistent g.tells g.state after (slice_set pages pid page) free
+  still-consistent events went marks same is infos freed own =
+      consistent-set-own g before after pages free free c ready pid page own
+      (subst (λ n. n ≤ 10) (sym (ap length infos)) short-at)
+      (λ clear. went.opened clear ∙ marks ∙ c.opened ready ∙ sym went.batch)
+      (λ clear.
+      let beside = c.beside ready in
+      record {
+        usable = went.usable clear;
+        kept = λ known. subst (λ (l : List Chain). IsKept (slice_index_or l pid []) page) (sym (same known clear)) (is known clear);
+        others = λ known. sym (set-get_or (now effect_of_entry (g.state after.log)) pid []) ∙ ap (λ (l : List Chain). slice_set l pid (chain_at (g.state after.log) pid)) (same known clear);
+        chains = λ known. subst (λ (l : List Chain). AllByRecursion (λ chain. is_chain effect_of_entry chain ≡ true) l) (sym (same known clear)) (beside.chains known);
+        sized = λ known. subst (λ (l : List Chain). AllByRecursion IsSized l) (sym (same known clear)) (beside.sized known);
+      })
+      (c.free ∙ sym (free-same 0 pages pid page q at freed))
 
 module _ {L : Type 0} (g : Ghosts L) (before after : StickyLog L) (pages : List Page) (free : List ℕ) (pid : ℕ) (q page : Page)
     (c : IsConsistent g.tells g.state before pages free) (ready : before.fault ≡ false) (behind : is_reserved pid ≡ false) (at : slice_get pages pid ≡ Some q) where
@@ -28,19 +54,7 @@ module _ {L : Type 0} (g : Ghosts L) (before after : StickyLog L) (pages : List 
       → (g.tells → after.fault ≡ false → IsKept chain page) → page.infos.items ≡ q.infos.items → is_free page.kept ≡ is_free q.kept → IsFreeOrNode page.kept
       → IsConsistent g.tells g.state after (slice_set pages pid page) free
   same-consistent events went marks same is infos freed own =
-      consistent-set g before after pages free free c ready pid page (behind-own pid behind) own
-      (subst (λ n. n ≤ 10) (sym (ap length infos)) page-short-at)
-      (λ clear. went.opened clear ∙ marks ∙ c.opened ready ∙ sym went.batch)
-      (λ clear.
-      let beside = c.beside ready in
-      record {
-        usable = went.usable clear;
-        kept = λ known. subst (λ (l : List Chain). IsKept (slice_index_or l pid []) page) (sym (same known clear)) (is known clear);
-        others = λ known. sym (set-get_or (now effect_of_entry (g.state after.log)) pid []) ∙ ap (λ (l : List Chain). slice_set l pid (chain_at (g.state after.log) pid)) (same known clear);
-        chains = λ known. subst (λ (l : List Chain). AllByRecursion (λ chain. is_chain effect_of_entry chain ≡ true) l) (sym (same known clear)) (beside.chains known);
-        sized = λ known. subst (λ (l : List Chain). AllByRecursion IsSized l) (sym (same known clear)) (beside.sized known);
-      })
-      (c.free ∙ sym (free-same 0 pages pid page q at freed))
+      still-consistent g before after pages free pid q page c ready at events went marks same is infos freed ((past-two IsRoots IsCounter IsFreeOrNode pid page.kept (behind-own pid behind)).0 own)
 
 -- ---- in the words of the model
 

@@ -5,7 +5,7 @@ use Rattle.sled_pagecache.proofs.Allocating.{IsLastFree, last-at, taken-last, fr
 use Rattle.sled_pagecache.proofs.Answers.{keeps-err, keeps-ok, stamps-added, stamps-reused}
 use Rattle.sled_pagecache.proofs.Appending.{after-made}
 use Rattle.sled_pagecache.proofs.CacheSteps.{steps-known}
-use Rattle.sled_pagecache.proofs.Counted.{added-at, behind-counter, spares-refused, whole-then}
+use Rattle.sled_pagecache.proofs.Counted.{spares-other, added-at, behind-counter, spares-refused, whole-then}
 use Rattle.sled_pagecache.proofs.Evicting.{settled, settles}
 use Rattle.sled_pagecache.proofs.Settling.{blamed-moved, keeps-moved, node-takes, steps-moved, taken, untaken}
 use Rattle.sled_pagecache.proofs.InMemory.{stays-has, loses-none, stay-view, past-view, free-at, adds-node}
@@ -30,7 +30,7 @@ PagePromises g was node now result = record {
 }
 
 module _ {L : Type 0} (g : Ghosts L) {next : ℕ} {config : Config} {recovered : Bool} {before after : StickyLog L} {table changed pages : List Page} {free : List ℕ} {accesses between then : Accesses}
-    (is : IsSettled g next config recovered before table free accesses) (clear : before.fault ≡ false) {node : WholeNode} where
+    (is : IsSettled g next config recovered before table free accesses) (clear : before.fault ≡ false) (node : WholeNode) where
   -- the pages and the one that was refused, which had no node
   unplaced : {pid : ℕ} {why : Refusal → Type 0} {stays : Type 0} {refusal : Refusal} → HasNoNode (view next config recovered accesses.lru before table) pid → RefusesAppend g pid (Put (Node node)) before after accesses between why stays refusal → changed ≡ table
       → Evicts between None changed pages then
@@ -76,7 +76,7 @@ module _ {L : Type 0} (g : Ghosts L) {next : ℕ} {config : Config} {recovered :
       let both = is.whole.consistent.both in
       let room : length table < 2 ^ 37 = let few = is.whole.consistent.few in let not_all = done.room in omega (arith, few, not_all) in
       let whole : IsWhole g.tells g.state config.idgen_persist_interval next after changed free =
-      whole-then g is.whole clear (λ told clear. (_, done.went, (behind-counter (length table) both, tt))) (ap (λ (l : List Page). slice_get l 1) new.is ∙ added-at table new.page both)
+      whole-then g is.whole clear (spares-other g (behind-counter (length table) both) done.went) (ap (λ (l : List Page). slice_get l 1) new.is ∙ added-at table new.page both)
       (subst (λ (l : List Page). IsConsistent g.tells g.state after l free) (sym new.is)
       (consistent-new g before after table free free is.whole.consistent clear
       (length table) (message_of (Put (Node node))) done.went new.page (subst IsFreeOrNode (sym new.holds) tt) (one-short new.page new.stamps) new.kept done.sized
@@ -87,7 +87,7 @@ module _ {L : Type 0} (g : Ghosts L) {next : ℕ} {config : Config} {recovered :
       let stamps = stamps-added table changed new.page made new.is (is_made ∙ ap (token (length table)) (sym new.stamp)) in (
         settled is whole evicts it.bounded,
         record {
-          step = steps-moved behind (steps-known g _ _ _ _ (record { config = refl; recovered = refl }) (λ told. adds-done g next config recovered accesses.lru before table free clear is.whole.consistent node after changed done.is
+          step = steps-moved behind (steps-known g _ _ (record { config = refl; recovered = refl }) (λ told. adds-done g next config recovered accesses.lru before table free clear is.whole.consistent node after changed done.is
               none done.room done.went done.fault new.page new.stamp new.is pid last made (is_made ∙ ap (λ n. token n 1) (sym last))));
           blame = record { read = λ is. absurd cc; write = λ is. absurd cc };
           unread = done.reads;
@@ -102,12 +102,12 @@ module _ {L : Type 0} (g : Ghosts L) {next : ℕ} {config : Config} {recovered :
       )
   added none (Err refusal) refused evicts made is_made =
       unplaced (past-view next next config recovered accesses.lru before before table (length table) (omega arith)) refused refused.left evicts
-      (steps-known g _ _ _ _ (record { config = refl; recovered = refl }) (λ told. adds-refused g next config recovered accesses.lru before table free clear is.whole.consistent node after changed refused.is none refused.left refusal (refused.refused told) refused.went refused.cause))
+      (steps-known g _ _ (record { config = refl; recovered = refl }) (λ told. adds-refused g next config recovered accesses.lru before table free clear is.whole.consistent node after changed refused.is none refused.left refusal (refused.refused told) refused.went refused.cause))
 
 -- ---- a free page, of which the id is the last
 
 module _ {L : Type 0} (g : Ghosts L) {next : ℕ} {config : Config} {recovered : Bool} {before after : StickyLog L} {table pages : List Page} {free front : List ℕ} {accesses between then : Accesses}
-    (is : IsSettled g next config recovered before table free accesses) (clear : before.fault ≡ false) {node : WholeNode} {pid : ℕ} {q : Page} (last : IsLastFree 0 table front pid) (at : slice_get table pid ≡ Some q) where
+    (is : IsSettled g next config recovered before table free accesses) (clear : before.fault ≡ false) (node : WholeNode) {pid : ℕ} {q : Page} (last : IsLastFree 0 table front pid) (at : slice_get table pid ≡ Some q) where
   pub reused : (page : Page) (written : Result (Unit {0}) Refusal) → Puts g pid (kept.Node node) before after accesses between q page written → {free_then : List ℕ} → OnOk written (free_then ≡ front) → OnErr written (free_then ≡ free)
       → Evicts between None (slice_set table pid page) pages then → (made : Token) → made ≡ token pid page.stamp
       → (let was = view next config recovered accesses.lru before table in let now = view next config recovered then.lru after pages in
@@ -122,7 +122,7 @@ module _ {L : Type 0} (g : Ghosts L) {next : ℕ} {config : Config} {recovered :
       let stamps = stamps-reused table pid page last.page (token pid page.stamp) there refl in (
         after_all.is,
         record {
-          step = after_all.evicted.steps (Allocate node) (Allocated result) (steps-known g _ _ _ _ (record { config = refl; recovered = refl }) (λ told. reuses-done g next config recovered accesses.lru before table free clear is.whole.consistent node after (slice_set table pid page) done.is
+          step = after_all.evicted.steps (Allocate node) (Allocated result) (steps-known g _ _ (record { config = refl; recovered = refl }) (λ told. reuses-done g next config recovered accesses.lru before table free clear is.whole.consistent node after (slice_set table pid page) done.is
               front pid last (λ greatest. let below = done.stamp.0 in omega (arith, below, greatest, stamp)) done.went done.fault page (done.stamp.1 ∙ ap (λ n. n + 1) stamp) refl (token pid page.stamp) refl));
           blame = record { read = λ is. absurd cc; write = λ is. absurd cc };
           unread = done.reads;
@@ -139,6 +139,6 @@ module _ {L : Type 0} (g : Ghosts L) {next : ℕ} {config : Config} {recovered :
       let there = last-at table front pid last in
       let same : last.page ≡ q = same_Some last.page q (sym there ∙ at) in
       let back = put-back table pid page (at ∙ ap (λ page. Some page) (sym refused.left)) in
-      rw untaken (unplaced g is clear (free-at next next config recovered accesses.lru before before table pid last.page there last.free) refused back evicts
-      (steps-known g _ _ _ _ (record { config = refl; recovered = refl }) (λ told. reuses-refused g next config recovered accesses.lru before table free clear is.whole.consistent node after (slice_set table pid page) refused.is front pid last back refusal
+      rw untaken (unplaced g is clear node (free-at next next config recovered accesses.lru before before table pid last.page there last.free) refused back evicts
+      (steps-known g _ _ (record { config = refl; recovered = refl }) (λ told. reuses-refused g next config recovered accesses.lru before table free clear is.whole.consistent node after (slice_set table pid page) refused.is front pid last back refusal
       (subst (λ (page : Page). RefusesSwap page.stamp refusal) (sym same) (refused.refused told)) refused.went refused.cause)))

@@ -2,7 +2,7 @@
 use Rattle.sled_pagecache.proofs.Names.{inl, answer_behind, lost_by, no_name, HasNoName, KeepsMemory, ReadsNothing, IfOk, IfErr, OnOk, OnErr, stamp_of, slice_get, subst, IsFresh, ◌≡◌, ◌+◌, ℕ, Bool, List, Some, Result, Ok, Err, slice_set, refl, sym, ◌∙◌, ap, error_of, Refusal, Ghosts, Cache, IsResident, IsAway, IsBounded, AccessesPage, EvictsAtMost, MeetsDamage, ReportsDamage, ReadsPage, Keeps, Steps, IsBlamed, TestsFirst, stamps_after_swap, Swapped, is_free, chain_length, linked_length, IsAnswered, Token, token, Linked, Config, StickyLog, Accesses, Page, NodeLink, IsWhole, Evicts, IsSettled, behind-own, view}
 use Rattle.sled_pagecache.proofs.Answers.{keeps-err}
 use Rattle.sled_pagecache.proofs.CacheSteps.{steps-known}
-use Rattle.sled_pagecache.proofs.Counted.{behind-counter, other-at, spares-link, whole-then}
+use Rattle.sled_pagecache.proofs.Counted.{spares-other, behind-counter, other-at, spares-link, whole-then}
 use Rattle.sled_pagecache.proofs.Evicting.{settled, settles}
 use Rattle.sled_pagecache.proofs.Settling.{blamed-moved, damaged-moved, keeps-moved, reads-moved, steps-moved, taken, untaken}
 use Rattle.sled_pagecache.proofs.InMemory.{loses-page, takes-page}
@@ -48,7 +48,7 @@ module _ {L : Type 0} (g : Ghosts L) {next : ℕ} {config : Config} {recovered :
       let kept = is.whole.consistent in
       let other = behind-counter pid (behind-own pid fresh.behind) in
       let whole : IsWhole g.tells g.state config.idgen_persist_interval next after changed free =
-      whole-then g is.whole fresh.clear (λ told clear. (_, done.taken.tells.went, (other, tt))) (other-at table pid page other)
+      whole-then g is.whole fresh.clear (spares-other g other done.taken.tells.went) (other-at table pid page other)
       (taken-consistent g before after table free pid q page kept fresh.clear fresh.behind fresh.at link done.taken (ap is_free done.taken.holds ∙ sym fresh.full)) in
       let result : Swapped NodeLink = Ok (Ok made) in
       let pulled : Result (Unit {0}) Refusal = Ok tt in
@@ -91,7 +91,7 @@ module _ {L : Type 0} (g : Ghosts L) {next : ℕ} {config : Config} {recovered :
         settled is whole evicts it.bounded,
         record {
           tested = refused-tests g next config recovered accesses.lru before table free pid kept old q fresh link same refusal refused.tested;
-          step = steps-moved behind (steps-known g _ _ _ _ (record { config = refl; recovered = refl }) (λ told. link-refused g next config recovered accesses.lru before table free pid kept fresh.clear old same link fresh.behind q fresh.at fresh.full
+          step = steps-moved behind (steps-known g _ _ (record { config = refl; recovered = refl }) (λ told. link-refused g next config recovered accesses.lru before table free pid kept fresh.clear old same link fresh.behind q fresh.at fresh.full
               after page fresh.stamp refusal (refused.refused told) refused.cause refused.stamp));
           blame = blamed-moved behind (blamed g _ _ _ refusal refused.cause);
           keeps = keeps-moved behind (keeps-err _ _ _ (Unit {0}) refusal fresh.clear refused.cause.fault stamps refused.begun.went.batch) it.stuck;

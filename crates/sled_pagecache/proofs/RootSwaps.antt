@@ -3,7 +3,7 @@ use Rattle.sled_pagecache.proofs.Names.{◌≡◌, ◌+◌, ℕ, Bool, false, Li
 use Rattle.sled_pagecache.proofs.Answers.{keeps-err, keeps-ok}
 use Rattle.sled_pagecache.proofs.Appending.{AfterMade, AfterRefused, after-whole, after-refused}
 use Rattle.sled_pagecache.proofs.CacheSteps.{steps-known}
-use Rattle.sled_pagecache.proofs.Counted.{other-at, whole-then}
+use Rattle.sled_pagecache.proofs.Counted.{spares-other, other-at, whole-then}
 use Rattle.sled_pagecache.proofs.Putting.{blamed}
 use Rattle.sled_pagecache.proofs.RootsPage.{IsSwappable, root-refused, root-swapped}
 use Rattle.sled_pagecache.proofs.Standing.{one-short}
@@ -19,7 +19,7 @@ module _ {L : Type 0} (g : Ghosts L) {next : ℕ} {config : Config} {recovered :
   root-made made evicts =
       let consistent = is.whole.consistent in
       let whole : IsWhole g.tells g.state config.idgen_persist_interval next after (slice_set table 0 page) free =
-      whole-then g is.whole clear (λ told clear. (_, made.went, ((λ is. cc), tt))) (other-at table 0 page (λ is. cc))
+      whole-then g is.whole clear (spares-other g (λ is. cc) made.went) (other-at table 0 page (λ is. cc))
       (consistent-put-own g before after table free free consistent clear 0 (message_of (Put (Roots (changed_roots name new (roots_in q.kept))))) made.went page (subst IsRoots (sym made.holds) tt) (one-short page made.stamps) made.kept made.sized made.others
       (consistent.free ∙ sym (free-same 0 table 0 page q swaps.at (ap is_free made.holds ∙ sym (ap is_free swaps.kept))))) in
       let result : Result (Result (Unit {0}) (Option ℕ)) Error = Ok (Ok tt) in
@@ -27,7 +27,7 @@ module _ {L : Type 0} (g : Ghosts L) {next : ℕ} {config : Config} {recovered :
       let stamp = get_or_from_slice_get (stamps_in table) 0 q.stamp 0 (map-at (λ (p : Page). p.stamp) table 0 q swaps.at) in (
         then_all,
         then_all.evicted.steps (CasRoot name old new) (RootSwapped result)
-            (root-swapped g next config recovered accesses.lru before table free consistent clear (roots_in q.kept) q.stamp (record { page = q; at = swaps.at; kept = swaps.kept; stamp = refl }) name old new swaps.same swaps.can after made refl),
+            (root-swapped g next config recovered accesses.lru before table free consistent clear (roots_in q.kept) q.stamp (record { page = q; at = swaps.at; kept = swaps.kept; stamp = refl }) name old new swaps.same swaps.can after made),
         then_all.evicted.keeps (stamps_after_root_swap (stamps_in table)) (keeps-ok _ _ (stamps_after_root_swap (stamps_in table)) (Ok tt) clear made.fault
             (map-set (λ (p : Page). p.stamp) table 0 page ∙ ap (λ n. slice_set (stamps_in table) 0 n) (made.stamp.1 ∙ ap (λ n. n + 1) (sym stamp))) made.went.batch) tt,
       )
@@ -43,7 +43,7 @@ module _ {L : Type 0} (g : Ghosts L) {next : ℕ} {config : Config} {recovered :
       let back = put-back table 0 page (swaps.at ∙ ap (λ page. Some page) (sym refused.left)) in (
         then_all,
         then_all.evicted.steps (CasRoot name old new) (RootSwapped result)
-            (steps-known g _ _ _ _ (record { config = refl; recovered = refl }) (λ told. root-refused g next config recovered accesses.lru before table free is.whole.consistent clear (roots_in q.kept) q.stamp (record { page = q; at = swaps.at; kept = swaps.kept; stamp = refl })
+            (steps-known g _ _ (record { config = refl; recovered = refl }) (λ told. root-refused g next config recovered accesses.lru before table free is.whole.consistent clear (roots_in q.kept) q.stamp (record { page = q; at = swaps.at; kept = swaps.kept; stamp = refl })
             name old new swaps.same swaps.can after (slice_set table 0 page) back refused (refused.refused told))),
         then_all.evicted.blame (blamed g _ _ _ refusal refused.cause),
         then_all.evicted.keeps (stamps_after_root_swap (stamps_in table)) (keeps-err _ _ _ (Unit {0}) refusal clear refused.cause.fault (ap stamps_in back) refused.went.batch) then_all.stuck,

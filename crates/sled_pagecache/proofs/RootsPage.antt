@@ -1,5 +1,5 @@
 -- The page of the named roots, in the table and in the state that the cache is in, and the calls of it as steps of the machine.
-use Rattle.sled_pagecache.proofs.Names.{Recency, Accesses, MakesAppend, RefusesAppend, ◌≡◌, ◌≢◌, ◌≤◌, ◌+◌, ◌-◌, ◌^◌, ◌⊎◌, inl, inr, ℕ, Bool, false, arith, List, [], ◌∷◌, length, Option, Some, None, Result, Ok, Err, refl, sym, ◌∙◌, ap, subst, slice_get, slice_set, eq-eqb, ne_eqb, same_Some, Error, Unsupported, Refusal, StampUsedUp, Content, Roots, Put, Change, Ghosts, Cache, Represents, Steps, StepOver, HasNoRoom, chain_length, Logged, IsConsistent, page, State, page_at, with_page, Outcome, outcome, no_change, Does, RefusesSwap, token, Token, Config, StickyLog, Kept, GotMeta, GetMeta, FoundRoot, MetaPidForName, RootSwapped, CasRoot, IsRoots, KeepsRoots, AreKeptRoots, Answer, Call, error_by, Bytes, NameTooLong, TooManyNames, roots_in, AreOwn, KeptPage, view}
+use Rattle.sled_pagecache.proofs.Names.{Appended, IsRaised, Recency, Accesses, RefusesAppend, ◌≡◌, ◌≢◌, ◌≤◌, ◌+◌, ◌-◌, ◌^◌, ◌⊎◌, inl, inr, ℕ, Bool, false, arith, List, [], ◌∷◌, length, Option, Some, None, Result, Ok, Err, refl, sym, ◌∙◌, ap, subst, slice_get, slice_set, eq-eqb, ne_eqb, same_Some, Error, Unsupported, Refusal, StampUsedUp, Content, Roots, Put, Change, Ghosts, Cache, Represents, Steps, StepOver, HasNoRoom, chain_length, Logged, IsConsistent, page, State, page_at, with_page, Outcome, outcome, no_change, Does, RefusesSwap, token, Token, Config, StickyLog, Kept, GotMeta, GetMeta, FoundRoot, MetaPidForName, RootSwapped, CasRoot, IsRoots, KeepsRoots, AreKeptRoots, Answer, Call, error_by, Bytes, NameTooLong, TooManyNames, roots_in, AreOwn, KeptPage, view}
 use Rattle.sled_base.specs.declared.types.Error.TheVariants.{CollectionNotFound, OutOfMemory}
 use Rattle.sled_base.specs.declared.types.Refusal.TheVariants as refusals
 use Rattle.sled_node.specs.Meta as meta
@@ -83,12 +83,12 @@ module _ {L : Type 0} (g : Ghosts L) (next : ℕ) (config : Config) (recovered :
         put-refused g next config recovered lru before table ready (c.beside ready) after (CasRoot name old new) 0 content refused.is may (Unit {0}) pages back (λ e. RootSwapped (Err e))
         (λ held s is clear are e out fails. risen s clear (roots-at held s is clear) below (Err e) out fails) refusal of refused.went refused.cause
 
-    pub root-swapped : {accesses between : Accesses} {q changed : KeptPage} {held : Kept} → MakesAppend g 0 (Put content) before after accesses between q changed held → q.stamp ≡ stamp
+    pub root-swapped : {accesses between : Accesses} {changed : KeptPage} {held : Kept} → Appended g 0 (Put content) before after accesses between changed held (IsRaised stamp changed.stamp)
         → Steps g (cache before table) (CasRoot name old new) (RootSwapped (Ok (Ok tt))) (cache after (slice_set table 0 changed))
-    root-swapped {changed = changed} made was =
-        put-set g next config recovered lru before table ready (c.beside ready) after (CasRoot name old new) 0 content made.is may made.went made.fault (RootSwapped (Ok (Ok tt))) (stamp + 1) changed (made.stamp.1 ∙ ap (λ n. n + 1) was) (let both = c.both in omega (arith, both))
+    root-swapped {changed = changed} made =
+        put-set g next config recovered lru before table ready (c.beside ready) after (CasRoot name old new) 0 content made.is may made.went made.fault (RootSwapped (Ok (Ok tt))) (stamp + 1) changed made.stamp.1 (let both = c.both in omega (arith, both))
         (λ held s is clear are.
-        risen s clear (roots-at held s is clear) (λ last. let below = made.stamp.0 in omega (arith, below, was, last)) (Ok (Ok tt)) (outcome (with_page s 0 (page (stamp + 1) content)) (Change 0 (Put content) ∷ [])) (refl, (refl, refl)))
+        risen s clear (roots-at held s is clear) (λ last. let below = made.stamp.0 in omega (arith, below, last)) (Ok (Ok tt)) (outcome (with_page s 0 (page (stamp + 1) content)) (Change 0 (Put content) ∷ [])) (refl, (refl, refl)))
 
 -- ---- a page of named roots that is about to be swapped
 

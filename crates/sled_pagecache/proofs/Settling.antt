@@ -1,5 +1,5 @@
 -- What holds of a cache holds of it once what the list of recent use dropped is paged out, and what a call makes of memory then.
-use Rattle.sled_pagecache.proofs.Names.{◌++◌, [], ◌∷◌, append-nil, left_pages, Contains-append_cases, Contains-append_left, Contains-append_right, eqb_tells, Vec, Contains, IfOk, IsSomeAnd, OnOk, OnErr, Recency, IsAccessed, IsListed, IsSound, rounded, itself_stays, itself_is_listed, others_stay_or_leave, ◌≡◌, ◌≢◌, ◌⊎◌, inl, inr, ℕ, Bool, true, false, List, Option, Some, None, Result, Ok, Err, refl, sym, ◌∙◌, ap, subst, same_Some, IsErrOf, Error, Write, Refusal, Ghosts, Keeps, Cache, Represents, IsAway, chain_length, IsBlamed, IsCaused, Steps, is_reserved, ReadsNothing, ReadsPage, ReportsDamage, BringsIn, sticky_log_of, Logged, State, Answer, Call, count_after, WasAccessed, HasNode, HasNoNode, AreSized, IsBounded, StaysAt, KeepsMemory, AccessesPage, FindsPage, EvictsAtMost, LeavesPages, AllStay, TakesNode, TakesPage, FindsNode, LosesAtMost, Accesses}
+use Rattle.sled_pagecache.proofs.Names.{IsDoneInEach, Outcome, ◌++◌, [], ◌∷◌, append-nil, left_pages, Contains-append_cases, Contains-append_left, Contains-append_right, eqb_tells, Vec, Contains, IfOk, IsSomeAnd, OnOk, OnErr, Recency, IsAccessed, IsListed, IsSound, rounded, itself_stays, itself_is_listed, others_stay_or_leave, ◌≡◌, ◌≢◌, ◌⊎◌, inl, inr, ℕ, Bool, true, false, List, Option, Some, None, Result, Ok, Err, refl, sym, ◌∙◌, ap, subst, same_Some, IsErrOf, Error, Write, Refusal, Ghosts, Keeps, Cache, Represents, IsAway, chain_length, IsBlamed, IsCaused, is_reserved, ReadsNothing, ReadsPage, ReportsDamage, BringsIn, sticky_log_of, Logged, State, count_after, WasAccessed, HasNode, HasNoNode, AreSized, IsBounded, StaysAt, KeepsMemory, AccessesPage, FindsPage, EvictsAtMost, LeavesPages, AllStay, TakesNode, TakesPage, FindsNode, LosesAtMost, Accesses}
 use Rattle.sled_base.specs.Containing.{contains_cases, contains_first, contains_none}
 use Rattle.sled_base.specs.declared.types.Error.TheVariants.{Io}
 use Rattle.sled_base.specs.declared.types.Refusal.TheVariants as refusal
@@ -31,7 +31,7 @@ module _ {L : Type 0} {g : Ghosts L} {mid : Cache L} (resident : List Bool) (nod
     known = λ clear. let known = is.known clear in record { usable = known.usable; logged = known.logged; contents = known.contents; opened = known.opened };
   }
 
-  steps-record : {old : Cache L} {call : Call} {answer : Answer} → Steps g old call answer mid → Steps g old call answer (record mid { resident = resident; nodes = nodes; lru = lru })
+  steps-record : {old : Cache L} {Does : State → Outcome → Type 0} → IsDoneInEach g Does old mid → IsDoneInEach g Does old (record mid { resident = resident; nodes = nodes; lru = lru })
   steps-record steps = record {
     opening = record { config = steps.opening.config; recovered = steps.opening.recovered };
     from_each = λ held s is.
@@ -58,8 +58,8 @@ module _ {L : Type 0} {g : Ghosts L} {old mid new : Cache L} {accesses between :
   carried : (P : Cache L → Type 0) → P (record mid { resident = new.resident; nodes = new.nodes; lru = new.lru }) → P new
   carried P = subst P (sym settles.out.rest)
 
-  pub steps-moved : {call : Call} {answer : Answer} → Steps g old call answer mid → Steps g old call answer new
-  steps-moved {call} {answer} steps = carried (Steps g old call answer) (steps-record new.resident new.nodes new.lru steps)
+  pub steps-moved : {Does : State → Outcome → Type 0} → IsDoneInEach g Does old mid → IsDoneInEach g Does old new
+  steps-moved {Does} steps = carried (IsDoneInEach g Does old) (steps-record new.resident new.nodes new.lru steps)
 
   pub blamed-moved : {T : Type 0} {result : Result T Error} → IsBlamed g old mid result → IsBlamed g old new result
   blamed-moved {result = result} blamed = carried (λ cache. IsBlamed g old cache result) (record { read = blamed.read; write = blamed.write })

@@ -1,5 +1,5 @@
 -- What is promised of a page where its message was written to the log, where the log refused it, and where none was told to it.
-use Rattle.sled_pagecache.proofs.Names.{◌≡◌, ◌≢◌, ◌<◌, ◌+◌, ℕ, true, false, List, [], ◌∷◌, length, refl, ◌∙◌, subst, inl, Ok, Err, Refusal, OutOfMemory, Why, LogFull, Change, Update, Put, Message, Messages, effect_of, effect_of_entry, now, IsLeft, unplaced_state, IsUpdate, message_of, head_size, Ghosts, StickyLog, Accesses, CacheInfo, Page, Kept, chain_at, Went, Went-none, IsCaused-handed_on, IsOfLog, WasAccessed, IsTouched, capped_size, CanPut, content_of, IsRaised, WritesMessage, Wrote, WritesMap, MakesAppend, RefusesAppend, arith}
+use Rattle.sled_pagecache.proofs.Names.{Appended, ◌≡◌, ◌≢◌, ◌<◌, ◌+◌, ℕ, true, false, List, [], ◌∷◌, length, refl, ◌∙◌, subst, inl, Ok, Err, Refusal, OutOfMemory, Why, LogFull, Change, Update, Put, Message, Messages, effect_of, effect_of_entry, now, IsLeft, unplaced_state, IsUpdate, message_of, head_size, Ghosts, StickyLog, Accesses, CacheInfo, Page, Kept, chain_at, Went, Went-none, IsCaused-handed_on, IsOfLog, WasAccessed, IsTouched, capped_size, CanPut, content_of, WritesMessage, Wrote, WritesMap, RefusesAppend, arith}
 use Rattle.sled_base.specs.declared.types.Refusal.TheVariants.{Unsupported}
 use Rattle.sled_pagecache.proofs.Linked.{begun-handed}
 use Rattle.sled_pagecache.proofs.Sizes.{size-alone}
@@ -38,11 +38,11 @@ module _ {L : Type 0} (g : Ghosts L) where
 
   -- ---- the page holds it
 
-  pub makes-written : {pid : ℕ} {old new : StickyLog L} {accesses then : Accesses} {q page : Page} {info : CacheInfo} {size : ℕ} (held : Kept) → CanPut held → Wrote g old new pid (Put (content_of held)) (q.stamp + 1) (Ok info)
-      → (g.tells → pid < length (now effect_of_entry (g.state old.log))) → IsRaised q.stamp page.stamp → page.infos.items ≡ info ∷ [] → page.kept ≡ held
+  pub makes-written : {pid stamp : ℕ} {old new : StickyLog L} {accesses then : Accesses} {page : Page} {info : CacheInfo} {size : ℕ} {stamped : Type 0} (held : Kept) → CanPut held → Wrote g old new pid (Put (content_of held)) stamp (Ok info)
+      → (g.tells → pid < length (now effect_of_entry (g.state old.log))) → stamped → page.stamp ≡ stamp → page.infos.items ≡ info ∷ [] → page.kept ≡ held
       → size ≡ capped_size (head_size + length (message_of (Put (content_of held))).payload) → WasAccessed accesses pid size then
-      → MakesAppend g pid (Put (content_of held)) old new accesses then q page held
-  makes-written {pid} {old} {new} {accesses} {then} {q} {page} {info} {size} held can wrote there raised infos holds takes accessed =
+      → Appended g pid (Put (content_of held)) old new accesses then page held stamped
+  makes-written {pid} {stamp} {old} {new} {accesses} {then} {page} {info} {size} held can wrote there raised at infos holds takes accessed =
       let writes = wrote.writes in
       let set = λ (told : g.tells). writes.chains told ∙ put-chains _ pid (there told) held can info in
       let others = λ (told : g.tells). other-pages _ pid (there told) _ _ (set told) in

@@ -1,16 +1,20 @@
 -- What a call of the page cache does: it is one step of the machine, and a crash at any moment of it leaves a prefix of
 -- what it writes.
-use Rattle.std.specs.Prelude.{List, ◌≡◌, true, false, length, Result, IsErrOf}
+use Rattle.std.specs.Prelude.{ℕ, ◌⊎◌, List, ◌≡◌, true, false, length, Result, IsErrOf}
 use Rattle.sled_base.specs.declared.types.Device.TheVariants.{Read, Write}
 use Rattle.sled_base.specs.declared.types.Error.{Error}
 use Rattle.sled_base.specs.declared.types.Error.TheVariants.{Io}
 use Rattle.sled_log.specs.Calls.{HasGrown}
-use Rattle.sled_log.specs.Contents.{Update}
+use Rattle.sled_log.specs.Contents.{Content, Update, Put}
 use Rattle.sled_log.specs.Events.{Event, Change, Pin, Seal, Cancel}
 use Rattle.sled_log.specs.LogState as log
+use Rattle.sled_log.specs.LogState.{now}
+use Rattle.sled_log.specs.Messages.{effect_of_entry}
+use Rattle.sled_log.specs.Moves.{message_at}
 use Rattle.sled_log.specs.Reading.{message_of}
 use Rattle.sled_log.specs.declared.log.Log.{Ghosts}
 use Rattle.sled_pagecache.specs.Cache.{Cache, chain_length, Represents}
+use Rattle.sled_pagecache.specs.Due.{due_in}
 use Rattle.sled_pagecache.specs.Logged.{Logged, Adds, IsLeft}
 use Rattle.sled_pagecache.specs.State.{State}
 use Rattle.sled_pagecache.specs.Step.{Outcome, Step}
@@ -30,29 +34,41 @@ module _ {L : Type 0} (g : Ghosts L) where
   HasNoRoom log Seal = ⊥
   HasNoRoom log Cancel = ⊥
 
+  -- The log had no room for what was to be written again of a page: for the content, or for the message that names its blob.
+  abbrev pub HasNoRoomAgain : L → ℕ → Content → Type 0
+  HasNoRoomAgain log pid content = HasNoRoom log (Change pid (Put content)) ⊎ g.is_full log (length (message_at (now effect_of_entry (g.state log)) pid).payload)
+
   -- a step of the machine, over the log of the cache
   abbrev pub StepOver : Cache L → State → Call → Answer → Outcome → Type 0
-  StepOver cache s call answer out = Step (chain_length g.state cache) (HasNoRoom cache.log) cache.config.idgen_persist_interval cache.config.segment_size s call answer out
+  StepOver cache s call answer out =
+      Step (due_in g cache.config) HasNoRoomAgain (chain_length g.state cache) (HasNoRoom cache.log) cache.config.idgen_persist_interval cache.config.segment_size cache.log s call answer out
 
   -- A crash at any moment of what led from the one log to the other leaves what was held and a prefix of the changes that splits no batch.
   abbrev pub CrashLeaves : L → Logged → List (Event Update) → L → Type 0
   CrashLeaves old held changes new = log.CrashesSinceLeave g.moment g.left_since old new (IsLeft held changes)
 
-  -- From this state, over a log that holds this, the call is one step. What it writes is added to the log, and a crash at any
+  -- From this state, over a log that holds this, what was done is so. What it writes is added to the log, and a crash at any
   -- moment of it leaves what the log held and a prefix of that which splits no batch. Behind a write error the log isn't called.
-  pub record IsStep (old : Cache L) (call : Call) (answer : Answer) (new : Cache L) (held : Logged) (s : State) : Type 0 where
+  pub record IsDone (Does : State → Outcome → Type 0) (old new : Cache L) (held : Logged) (s : State) : Type 0 where
     pub out : Outcome
-    pub step : StepOver old s call answer out
+    pub step : Does s out
     pub held_then : Logged
     pub is : Represents g new held_then out.state
     pub added : out.state.fault ≡ false → Adds held out.changes held_then
     pub crash : s.fault ≡ false → CrashLeaves old.log held out.changes new.log
     pub stuck : s.fault ≡ true → new.log ≡ old.log
 
-  -- The call is one step, in whatever state the cache is.
-  pub record Steps (old : Cache L) (call : Call) (answer : Answer) (new : Cache L) : Type 0 where
+  -- It is so in whatever state the cache is.
+  pub record IsDoneInEach (Does : State → Outcome → Type 0) (old new : Cache L) : Type 0 where
     pub opening : IsSameOpening old new
-    pub from_each : (held : Logged) (s : State) → Represents g old held s → IsStep old call answer new held s
+    pub from_each : (held : Logged) (s : State) → Represents g old held s → IsDone Does old new held s
+
+  -- the call is one step
+  abbrev pub IsStep : Cache L → Call → Answer → Cache L → Logged → State → Type 0
+  IsStep old call answer new held s = IsDone (λ s out. StepOver old s call answer out) old new held s
+
+  abbrev pub Steps : Cache L → Call → Answer → Cache L → Type 0
+  Steps old call answer new = IsDoneInEach (λ s out. StepOver old s call answer out) old new
 
 -- A fault is reported only where its count grew in the call, or a write fault was kept.
 pub record IsBlamed {L T : Type 0} (g : Ghosts L) (old new : Cache L) (result : Result T Error) : Type 0 where

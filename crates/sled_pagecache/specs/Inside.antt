@@ -22,5 +22,6 @@ pub mod Shapes
 pub mod Trees
 pub mod SequenceLaws
 pub mod MadeLaws
+pub mod Moves
 pub mod Appends
 pub mod Loading

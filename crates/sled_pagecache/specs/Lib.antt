@@ -6,10 +6,12 @@ pub mod Step
 pub mod Logged
 pub mod Cache
 pub mod Infos
+pub mod Due
 pub mod Calls
 pub mod Memory
 pub mod Answers
 pub mod Damage
+pub mod Moves
 pub mod Lending
 pub mod Rows
 pub mod Opening

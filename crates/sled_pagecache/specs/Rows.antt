@@ -11,7 +11,7 @@ use Rattle.sled_pagecache.specs.Snapshots.{IsSnapshot}
 use Rattle.sled_pagecache.specs.State.{State}
 use Rattle.sled_pagecache.specs.Step.{Outcome}
 use Rattle.sled_pagecache.specs.declared.pagecache.handles.call.Answer.{Answer}
-use Rattle.sled_pagecache.specs.declared.pagecache.handles.call.Answer.TheVariants.{Allocated, Got, Linked, Replaced, Freed, GotMeta, GotIdgen, Generated, Flushed, Sized, Amplified, TookSnapshot, FoundRoot, RootSwapped, Pinned, Sealed, Cancelled}
+use Rattle.sled_pagecache.specs.declared.pagecache.handles.call.Answer.TheVariants.{Allocated, Got, Linked, Replaced, Freed, GotMeta, GotIdgen, Generated, Flushed, Sized, Amplified, TookSnapshot, FoundRoot, RootSwapped, Pinned, Sealed, Cancelled, AttemptedGc}
 use Rattle.sled_pagecache.specs.declared.pagecache.handles.call.Call.{Call}
 
 -- what calls with these outcomes began to write, in order
@@ -77,6 +77,7 @@ module _ {L : Type 0} (g : Ghosts L) where
   ReportsFaults old (Pinned result) new = IsBlamed g old new result
   ReportsFaults old (Sealed result) new = IsBlamed g old new result
   ReportsFaults old (Cancelled result) new = IsBlamed g old new result
+  ReportsFaults old (AttemptedGc result) new = IsBlamed g old new result
 
   -- A generated id that was answered is covered by the counter that is durable.
   abbrev pub CoversId : Answer → Cache L → Type 0
@@ -102,6 +103,7 @@ module _ {L : Type 0} (g : Ghosts L) where
   KeepsBehind old (Pinned result) new = KeepsStamps old new result × OnOk result (new.batch ≡ true) × OnErr result (new.batch ≡ old.batch)
   KeepsBehind old (Sealed result) new = KeepsStamps old new result × (new.batch ≡ false)
   KeepsBehind old (Cancelled result) new = KeepsStamps old new result × (new.batch ≡ false)
+  KeepsBehind old (AttemptedGc result) new = Keeps old new result (λ _. old.stamps)
 
   -- the call was made of a cache: it is a step, and what its answer reports of the log is so
   pub record IsMade (old : Cache L) (call : Call) (answer : Answer) (new : Cache L) : Type 0 where

@@ -18,9 +18,9 @@ use Rattle.sled_node.specs.Meta as meta
 use Rattle.sled_node.specs.Meta.{IsTooLong, LacksRoom, CanChange}
 use Rattle.sled_pagecache.specs.declared.pagecache.handles.snapshot.Snapshot.{Snapshot}
 use Rattle.sled_pagecache.specs.declared.pagecache.handles.call.Answer.{Answer}
-use Rattle.sled_pagecache.specs.declared.pagecache.handles.call.Answer.TheVariants.{Allocated, Got, Linked, Replaced, Freed, GotMeta, GotIdgen, Generated, Flushed, Sized, Amplified, TookSnapshot, FoundRoot, RootSwapped, Pinned, Sealed, Cancelled}
+use Rattle.sled_pagecache.specs.declared.pagecache.handles.call.Answer.TheVariants.{Allocated, Got, Linked, Replaced, Freed, GotMeta, GotIdgen, Generated, Flushed, Sized, Amplified, TookSnapshot, FoundRoot, RootSwapped, Pinned, Sealed, Cancelled, AttemptedGc}
 use Rattle.sled_pagecache.specs.declared.pagecache.handles.call.Call.{Call}
-use Rattle.sled_pagecache.specs.declared.pagecache.handles.call.Call.TheVariants.{Allocate, Get, Link, Replace, GetMeta, GetIdgen, GenerateId, Flush, SizeOnDisk, SpaceAmplification, TakeFuzzySnapshot, MetaPidForName, CasRoot}
+use Rattle.sled_pagecache.specs.declared.pagecache.handles.call.Call.TheVariants.{Allocate, Get, Link, Replace, GetMeta, GetIdgen, GenerateId, Flush, SizeOnDisk, SpaceAmplification, TakeFuzzySnapshot, MetaPidForName, CasRoot, AttemptGc}
 use Rattle.sled_pagecache.specs.declared.pagecache.handles.call.Call.TheVariants as call
 use Rattle.sled_log.specs.Events.{Event, Change, Pin, Seal, Cancel}
 use Rattle.sled_pagecache.specs.Sizes.{HasDamaged, logical_size}
@@ -213,18 +213,27 @@ Swaps s old rejected answer out goes_on = UnlessFaulty s answer out (UnlessReser
 abbrev pub link_update : ℕ → NodeLink → WholeNode → Update
 link_update messages link after = if nat_lt messages most_messages then Link link else Put (Node after)
 
--- ---- What the machine knows of its log: how many messages make each page, and for which changes there is no room.
-module _ (messages : ℕ → ℕ) (no_room : Event Update → Type 0) where
+-- ---- a change that is written
+
+module _ (full : Type 0) where
   -- The log has no room for the change, or the call is hindered. Where a write failed, the change may have been written.
-  abbrev pub Fails : State → Event Update → Error → Outcome → Type 0
-  Fails s change (Unsupported LogFull) out = no_room change × (out ≡ no_change s)
-  Fails s change (Io Write) out = out ≡ outcome (record s { fault = true }) (change ∷ [])
-  Fails s change e out = IsHindered s e out
+  abbrev pub FailsWhereFull : State → Event Update → Error → Outcome → Type 0
+  FailsWhereFull s change (Unsupported LogFull) out = full × (out ≡ no_change s)
+  FailsWhereFull s change (Io Write) out = out ≡ outcome (record s { fault = true }) (change ∷ [])
+  FailsWhereFull s change e out = IsHindered s e out
 
   -- the change is written, and the work says the rest
+  abbrev pub DoesUnlessFull : {T : Type 0} → State → Event Update → Result T Error → Outcome → (T → State → Type 0) → Type 0
+  DoesUnlessFull s change (Ok value) out work = (out.changes ≡ change ∷ []) × work value out.state
+  DoesUnlessFull s change (Err e) out work = FailsWhereFull s change e out
+
+-- ---- What the machine knows of its log: how many messages make each page, and for which changes there is no room.
+module _ (messages : ℕ → ℕ) (no_room : Event Update → Type 0) where
+  abbrev pub Fails : State → Event Update → Error → Outcome → Type 0
+  Fails s change e out = FailsWhereFull (no_room change) s change e out
+
   abbrev pub Does : {T : Type 0} → State → Event Update → Result T Error → Outcome → (T → State → Type 0) → Type 0
-  Does s change (Ok value) out work = (out.changes ≡ change ∷ []) × work value out.state
-  Does s change (Err e) out work = Fails s change e out
+  Does s change answer out work = DoesUnlessFull (no_room change) s change answer out work
 
   -- ---- allocate: the free page with the greatest id at its next stamp, or else a new page at stamp 1
 
@@ -321,26 +330,61 @@ module _ (messages : ℕ → ℕ) (no_room : Event Update → Type 0) where
       (MatchBool s.batch (IsRefused s answer out (Unsupported BatchOpen))
       (Does s Pin answer out (λ done t. t ≡ record s { batch = true })))
 
-  -- ---- From s, the cache may give this answer to the call, and leave this. Ids are generated in intervals so long, and a segment has that
-  -- size.
-  module _ (interval segment_size : ℕ) where
+-- ---- attempt_gc: the page that is due is moved, which is to say that its content is written again, and its stamp stays
+
+-- What is due to be moved in a log: nothing; a message that is none of its page's any more; or this page.
+pub data Due : Type 0 where
+  Nothing : Due
+  Outdated : Due
+  Page : (pid : ℕ) → Due
+
+-- What the machine knows of a log that asks for moves: which one is due, and for which content of a page there is no room again.
+module _ {L : Type 0} (due : L → Due) (no_room_again : L → ℕ → Content → Type 0) where
+  module _ (log : L) (s : State) (pid : ℕ) where
+    -- The page may be read before.
+    abbrev pub WritesAgain : Content → Result Bool Error → Outcome → Type 0
+    WritesAgain content answer out =
+        Reads s answer out (λ _. ⊥)
+        ⊎ DoesUnlessFull (no_room_again log pid content) s (Change pid (Put content)) answer out (λ moved t. (moved ≡ true) × (t ≡ s))
+
+    -- One that is damaged is reported where it is read, and else written again as it is.
+    abbrev pub MovesContent : Content → Result Bool Error → Outcome → Type 0
+    MovesContent Damaged answer out = IsCorruption s answer out ⊎ WritesAgain Damaged answer out
+    MovesContent content answer out = WritesAgain content answer out
+
+    abbrev pub MovesPage : Option StampedPage → Result Bool Error → Outcome → Type 0
+    MovesPage None answer out = ⊥
+    MovesPage (Some found) answer out = MovesContent found.content answer out
+
+  abbrev pub Moves : L → State → Due → Result Bool Error → Outcome → Type 0
+  Moves log s Nothing answer out = (answer ≡ Ok false) × (out ≡ no_change s)
+  Moves log s Outdated answer out = (answer ≡ Ok true) × (out ≡ no_change s)
+  Moves log s (Page pid) answer out = MovesPage log s pid (page_at s pid) answer out
+
+  abbrev pub Tidies : L → State → Result Bool Error → Outcome → Type 0
+  Tidies log s answer out = UnlessFaulty s answer out (Moves log s (due log) answer out)
+
+  -- ---- From s, the cache may give this answer to the call, and leave this. Ids are generated in intervals so long, and a
+  -- segment has that size.
+  module _ (messages : ℕ → ℕ) (no_room : Event Update → Type 0) (interval segment_size : ℕ) (log : L) where
     abbrev pub Step : State → Call → Answer → Outcome → Type 0
-    Step s (Allocate node) (Allocated answer) out = Allocates s node answer out
+    Step s (Allocate node) (Allocated answer) out = Allocates messages no_room s node answer out
     Step s (Get pid) (Got answer) out = Gets s pid answer out
-    Step s (Link old link) (Linked answer) out = Links s old link answer out
-    Step s (Replace old node) (Replaced answer) out = Replaces s old node answer out
-    Step s (call.Free old) (Freed answer) out = Frees s old answer out
+    Step s (Link old link) (Linked answer) out = Links messages no_room s old link answer out
+    Step s (Replace old node) (Replaced answer) out = Replaces messages no_room s old node answer out
+    Step s (call.Free old) (Freed answer) out = Frees messages no_room s old answer out
     Step s GetMeta (GotMeta answer) out = GetsMeta s answer out
     Step s (MetaPidForName name) (FoundRoot answer) out = FindsRoot s name answer out
-    Step s (CasRoot name old new) (RootSwapped answer) out = SwapsRoot s name old new answer out
+    Step s (CasRoot name old new) (RootSwapped answer) out = SwapsRoot messages no_room s name old new answer out
     Step s GetIdgen (GotIdgen answer) out = GetsIdgen s answer out
-    Step s GenerateId (Generated answer) out = Generates interval s answer out
+    Step s GenerateId (Generated answer) out = Generates messages no_room interval s answer out
     Step s Flush (Flushed answer) out = Flushes s answer out
     Step s SizeOnDisk (Sized answer) out = Sizes s answer out
     Step s SpaceAmplification (Amplified answer) out = Amplifies segment_size s answer out
     Step s TakeFuzzySnapshot (TookSnapshot answer) out = Snaps s answer out
-    Step s call.Pin (Pinned answer) out = Pins s answer out
+    Step s call.Pin (Pinned answer) out = Pins messages no_room s answer out
     Step s call.Seal (Sealed answer) out = Closes Seal s answer out
     Step s call.Cancel (Cancelled answer) out = Closes Cancel s answer out
+    Step s AttemptGc (AttemptedGc answer) out = Tidies log s answer out
     -- a call gets no answer of another call
     Step s asked answer out = ⊥

@@ -15,15 +15,15 @@ use Rattle.sled_node.specs.declared.node.link.Link.{Link as NodeLink}
 use Rattle.sled_pagecache.specs.Step.{link_update}
 use Rattle.sled_pagecache.specs.Shapes.{Shape}
 use Rattle.sled_pagecache.specs.State.{StampedPage, State, page_at, is_free, greatest_free}
-use Rattle.sled_pagecache.specs.Step.{AddsPage, Allocates, Closes, Does, Fails, Finds, FindsContent, Flushes, Frees, Generates, Gets, HoldsCounter, HoldsRoots, IsCorruption, IsCounterAnd, AreRoots, IsHindered, IsRefused, Links, LinksContent, Outcome, Pins, Measures, PutsCounter, Reads, Replaces, ReusesPage, RootSwap, SetsRoot, Step, Swapped, Swaps, SwapsContent, SwapsPage, SwapsRoot, interval_start, is_reserved, no_change, with_next_id}
+use Rattle.sled_pagecache.specs.Step.{Due, Nothing, Outdated, Page as IsDue, Moves, MovesContent, MovesPage, WritesAgain, AddsPage, Allocates, Closes, Does, Fails, Finds, FindsContent, Flushes, Frees, Generates, Gets, HoldsCounter, HoldsRoots, IsCorruption, IsCounterAnd, AreRoots, IsHindered, IsRefused, Links, LinksContent, Outcome, Pins, Measures, PutsCounter, Reads, Replaces, ReusesPage, RootSwap, SetsRoot, Step, Swapped, Swaps, SwapsContent, SwapsPage, SwapsRoot, interval_start, is_reserved, no_change, with_next_id}
 use Rattle.sled_pagecache.specs.State.{Token}
 use Rattle.sled_pagecache.specs.Trees.{MadeCalls}
 use Rattle.sled_pagecache.specs.declared.pagecache.handles.call.Answer.{Answer}
-use Rattle.sled_pagecache.specs.declared.pagecache.handles.call.Answer.TheVariants.{Allocated, Got, Linked, Replaced, Freed, GotMeta, GotIdgen, Generated, Flushed, Sized, Amplified, TookSnapshot, FoundRoot, RootSwapped, Pinned, Sealed, Cancelled}
+use Rattle.sled_pagecache.specs.declared.pagecache.handles.call.Answer.TheVariants.{Allocated, Got, Linked, Replaced, Freed, GotMeta, GotIdgen, Generated, Flushed, Sized, Amplified, TookSnapshot, FoundRoot, RootSwapped, Pinned, Sealed, Cancelled, AttemptedGc}
 use Rattle.sled_pagecache.specs.declared.pagecache.handles.call.Call.{Call}
-use Rattle.sled_pagecache.specs.declared.pagecache.handles.call.Call.TheVariants.{Allocate, Get, Link, Replace, GetMeta, GetIdgen, GenerateId, Flush, SizeOnDisk, SpaceAmplification, TakeFuzzySnapshot, MetaPidForName, CasRoot}
+use Rattle.sled_pagecache.specs.declared.pagecache.handles.call.Call.TheVariants.{Allocate, Get, Link, Replace, GetMeta, GetIdgen, GenerateId, Flush, SizeOnDisk, SpaceAmplification, TakeFuzzySnapshot, MetaPidForName, CasRoot, AttemptGc}
 use Rattle.sled_pagecache.specs.declared.pagecache.handles.call.Call.TheVariants as call
-use Rattle.sled_shared.specs.Book.{Book, any_room, StepsTo, RunsCalls, Runs, ReplaysTo, AreRounds, ids_given, ids_of, RisesWithin}
+use Rattle.sled_shared.specs.Book.{Book, any_room, any_room_again, StepsTo, RunsCalls, Runs, ReplaysTo, AreRounds, ids_given, ids_of, RisesWithin}
 use Rattle.sled_shared.specs.Calls.{Answered, Asked, Batch, Batched, Entry, IsEntry, OpenTree, Opened, Reply, Request}
 
 -- ---- what a step does to the next id
@@ -207,6 +207,28 @@ module _ (messages : ℕ → ℕ) where
   closes mark s (Ok done) out h = either-way s.fault (λ k. stays s (record s { batch = false }) out [] refl k.1) (λ k. stays s (record s { batch = false }) out (mark ∷ []) refl k) h.1
   closes mark s (Err e) out h = either-way s.fault (λ k. stays s (record s { batch = false }) out [] refl k.1) (λ k. stays s (record s { batch = false; fault = true }) out (mark ∷ []) refl k.1) h.1
 
+  again : (s : State) (due : Due) (pid : ℕ) (content : Content) (answer : Result Bool Error) (out : Outcome) → WritesAgain (λ due. due) any_room_again due s pid content answer out → Stays s out
+  again s due pid content answer out (inl h) = reads s answer out _ h
+  again s due pid content (Ok moved) out (inr h) = of-state s s out.state refl h.1.1
+  again s due pid content (Err e) out (inr h) = fails s (Change pid (Put content)) e out h
+
+  moves : (s : State) (due of : Due) (answer : Result Bool Error) (out : Outcome) → Moves (λ due. due) any_room_again due s of answer out → Stays s out
+  moves s due Nothing answer out h = stays s s out [] refl h.1
+  moves s due Outdated answer out h = stays s s out [] refl h.1
+  moves s due (IsDue pid) answer out h = by (page_at s pid) h
+    where
+      of_content : (content : Content) → MovesContent (λ due. due) any_room_again due s pid content answer out → Stays s out
+      of_content Damaged (inl h) = corrupted s answer out h
+      of_content Damaged (inr h) = again s due pid Damaged answer out h
+      of_content Free h = again s due pid Free answer out h
+      of_content (Counter n) h = again s due pid (Counter n) answer out h
+      of_content (Roots roots) h = again s due pid (Roots roots) answer out h
+      of_content (Node node) h = again s due pid (Node node) answer out h
+
+      by : (found : Option StampedPage) → MovesPage (λ due. due) any_room_again due s pid found answer out → Stays s out
+      by None h = absurd h
+      by (Some found) h = of_content found.content h
+
   -- ---- so its ids rise
 
   none-given : (s : State) (out : Outcome) → Stays s out → s.next ≤ out.state.next
@@ -216,25 +238,26 @@ module _ (messages : ℕ → ℕ) where
   given s (Ok id) out h = (omega arith, omega arith)
   given s (Err e) out h = omega arith
 
-  step-rises : (interval segment_size : ℕ) (s : State) (asked : Call) (answer : Answer) (out : Outcome) → Step messages any_room interval segment_size s asked answer out → RisesWithin s.next (ids_given (Answered answer)) out.state.next
-  step-rises interval segment_size s (Allocate node) (Allocated answer) out h = none-given s out (allocates s node answer out h)
-  step-rises interval segment_size s (Get pid) (Got answer) out h = none-given s out (gets s pid answer out h)
-  step-rises interval segment_size s (Link old link) (Linked answer) out h = none-given s out (links s old link answer out h)
-  step-rises interval segment_size s (Replace old node) (Replaced answer) out h = none-given s out (replaces s old node answer out h)
-  step-rises interval segment_size s (call.Free old) (Freed answer) out h = none-given s out (frees s old answer out h)
-  step-rises interval segment_size s GetMeta (GotMeta answer) out h = none-given s out (either-way s.fault (refused s answer out _) (roots-held s out _ (λ stamp roots k. stays s s out [] refl k.1) (page_at s 0)) h)
-  step-rises interval segment_size s (MetaPidForName name) (FoundRoot answer) out h = none-given s out (either-way s.fault (refused s answer out _) (roots-held s out _ (λ stamp roots k. stays s s out [] refl k.1) (page_at s 0)) h)
-  step-rises interval segment_size s (CasRoot name old new) (RootSwapped answer) out h = none-given s out (swaps-root s name old new answer out h)
-  step-rises interval segment_size s GetIdgen (GotIdgen answer) out h = none-given s out (either-way s.fault (refused s answer out _) (counter-held s out _ (λ stamp n k. stays s s out [] refl k.1) (page_at s 1)) h)
-  step-rises interval segment_size s GenerateId (Generated answer) out h = given s answer out (generates interval s answer out h)
-  step-rises interval segment_size s Flush (Flushed answer) out h = none-given s out (flushes s answer out h)
-  step-rises interval segment_size s SizeOnDisk (Sized answer) out h = none-given s out (either-way s.fault (refused s answer out _) (sizes s answer out) h)
-  step-rises interval segment_size s SpaceAmplification (Amplified answer) out h = none-given s out (either-way s.fault (refused s answer out _) (measures segment_size s answer out) h)
-  step-rises interval segment_size s TakeFuzzySnapshot (TookSnapshot answer) out h = none-given s out (either-way s.fault (refused s answer out _) (λ k. stays s s out [] refl k.1) h)
-  step-rises interval segment_size s call.Pin (Pinned answer) out h = none-given s out (pins s answer out h)
-  step-rises interval segment_size s call.Seal (Sealed answer) out h = none-given s out (closes Seal s answer out h)
-  step-rises interval segment_size s call.Cancel (Cancelled answer) out h = none-given s out (closes Cancel s answer out h)
-  step-rises interval segment_size s asked answer out h = absurd h
+  step-rises : (interval segment_size : ℕ) (due : Due) (s : State) (asked : Call) (answer : Answer) (out : Outcome) → Step (λ due. due) any_room_again messages any_room interval segment_size due s asked answer out → RisesWithin s.next (ids_given (Answered answer)) out.state.next
+  step-rises interval segment_size due s (Allocate node) (Allocated answer) out h = none-given s out (allocates s node answer out h)
+  step-rises interval segment_size due s (Get pid) (Got answer) out h = none-given s out (gets s pid answer out h)
+  step-rises interval segment_size due s (Link old link) (Linked answer) out h = none-given s out (links s old link answer out h)
+  step-rises interval segment_size due s (Replace old node) (Replaced answer) out h = none-given s out (replaces s old node answer out h)
+  step-rises interval segment_size due s (call.Free old) (Freed answer) out h = none-given s out (frees s old answer out h)
+  step-rises interval segment_size due s GetMeta (GotMeta answer) out h = none-given s out (either-way s.fault (refused s answer out _) (roots-held s out _ (λ stamp roots k. stays s s out [] refl k.1) (page_at s 0)) h)
+  step-rises interval segment_size due s (MetaPidForName name) (FoundRoot answer) out h = none-given s out (either-way s.fault (refused s answer out _) (roots-held s out _ (λ stamp roots k. stays s s out [] refl k.1) (page_at s 0)) h)
+  step-rises interval segment_size due s (CasRoot name old new) (RootSwapped answer) out h = none-given s out (swaps-root s name old new answer out h)
+  step-rises interval segment_size due s GetIdgen (GotIdgen answer) out h = none-given s out (either-way s.fault (refused s answer out _) (counter-held s out _ (λ stamp n k. stays s s out [] refl k.1) (page_at s 1)) h)
+  step-rises interval segment_size due s GenerateId (Generated answer) out h = given s answer out (generates interval s answer out h)
+  step-rises interval segment_size due s Flush (Flushed answer) out h = none-given s out (flushes s answer out h)
+  step-rises interval segment_size due s SizeOnDisk (Sized answer) out h = none-given s out (either-way s.fault (refused s answer out _) (sizes s answer out) h)
+  step-rises interval segment_size due s SpaceAmplification (Amplified answer) out h = none-given s out (either-way s.fault (refused s answer out _) (measures segment_size s answer out) h)
+  step-rises interval segment_size due s TakeFuzzySnapshot (TookSnapshot answer) out h = none-given s out (either-way s.fault (refused s answer out _) (λ k. stays s s out [] refl k.1) h)
+  step-rises interval segment_size due s call.Pin (Pinned answer) out h = none-given s out (pins s answer out h)
+  step-rises interval segment_size due s call.Seal (Sealed answer) out h = none-given s out (closes Seal s answer out h)
+  step-rises interval segment_size due s call.Cancel (Cancelled answer) out h = none-given s out (closes Cancel s answer out h)
+  step-rises interval segment_size due s AttemptGc (AttemptedGc answer) out h = none-given s out (either-way s.fault (refused s answer out _) (moves s due due answer out) h)
+  step-rises interval segment_size due s asked answer out h = absurd h
 
 -- ---- lists of rising numbers
 
@@ -253,7 +276,7 @@ rises_le low (id ∷ ids) high h = omega (arith, h.0, rises_le (id + 1) ids high
 -- ---- the ids of a book
 
 steps-rise : (interval : ℕ) (s : State) (asked : Call) (answer : Answer) (t : State) → StepsTo interval s asked answer t → RisesWithin s.next (ids_given (Answered answer)) t.next
-steps-rise interval s asked answer t (messages, segment_size, out, step, is) = subst (λ (u : State). RisesWithin s.next (ids_given (Answered answer)) u.next) (sym is) (step-rises messages interval segment_size s asked answer out step)
+steps-rise interval s asked answer t (messages, segment_size, due, out, step, is) = subst (λ (u : State). RisesWithin s.next (ids_given (Answered answer)) u.next) (sym is) (step-rises messages interval segment_size due s asked answer out step)
 
 calls-rise : (interval : ℕ) (first : State) (calls : MadeCalls) (last : State) → RunsCalls interval first calls last → first.next ≤ last.next
 calls-rise interval first [] last same = omega (arith, ap (λ (s : State). s.next) same)

@@ -15,26 +15,27 @@ use Rattle.sled_node.specs.Meta as meta
 use Rattle.sled_node.specs.Node.{WholeNode}
 use Rattle.sled_node.specs.declared.node.link.Link.{Link as NodeLink}
 use Rattle.sled_pagecache.specs.Cache.{Cache, chain_length, Represents}
-use Rattle.sled_pagecache.specs.Calls.{HasNoRoom}
+use Rattle.sled_pagecache.specs.Calls.{HasNoRoom, HasNoRoomAgain}
+use Rattle.sled_pagecache.specs.Due.{due_in}
 use Rattle.sled_pagecache.specs.Step.{link_update}
 use Rattle.sled_pagecache.specs.Logged.{Logged}
 use Rattle.sled_pagecache.specs.Rows.{AreMade}
 use Rattle.sled_pagecache.specs.Shapes.{Shape, Shows, shape_of, shape_of_page, kind_of}
 use Rattle.sled_pagecache.specs.State.{StampedPage, State, page, page_at, is_free, greatest_free}
-use Rattle.sled_pagecache.specs.Step.{AddsPage, Allocates, Does, Fails, Frees, Generates, HoldsCounter, HoldsRoots, IsCounterAnd, AreRoots, Links, LinksContent, Outcome, Pins, PutsCounter, PutsRoots, Replaces, ReusesPage, RootSwap, SetsRoot, Step, Swapped, Swaps, SwapsContent, SwapsPage, SwapsRoot, interval_start, is_reserved, no_change, with_next_id}
+use Rattle.sled_pagecache.specs.Step.{Due, Nothing, Outdated, Page as IsDue, Moves, MovesContent, MovesPage, WritesAgain, AddsPage, Allocates, Does, Fails, Frees, Generates, HoldsCounter, HoldsRoots, IsCounterAnd, AreRoots, Links, LinksContent, Outcome, Pins, PutsCounter, PutsRoots, Replaces, ReusesPage, RootSwap, SetsRoot, Step, Swapped, Swaps, SwapsContent, SwapsPage, SwapsRoot, interval_start, is_reserved, no_change, with_next_id}
 use Rattle.sled_pagecache.specs.State.{Token}
 use Rattle.sled_pagecache.specs.Trees.{IsKnown, MadeCalls}
 use Rattle.sled_pagecache.specs.declared.pagecache.handles.call.Answer.{Answer}
-use Rattle.sled_pagecache.specs.declared.pagecache.handles.call.Answer.TheVariants.{Allocated, Got, Linked, Replaced, Freed, GotMeta, GotIdgen, Generated, Flushed, Sized, Amplified, TookSnapshot, FoundRoot, RootSwapped, Pinned, Sealed, Cancelled}
+use Rattle.sled_pagecache.specs.declared.pagecache.handles.call.Answer.TheVariants.{Allocated, Got, Linked, Replaced, Freed, GotMeta, GotIdgen, Generated, Flushed, Sized, Amplified, TookSnapshot, FoundRoot, RootSwapped, Pinned, Sealed, Cancelled, AttemptedGc}
 use Rattle.sled_pagecache.specs.declared.pagecache.handles.call.Call.{Call}
-use Rattle.sled_pagecache.specs.declared.pagecache.handles.call.Call.TheVariants.{Allocate, Get, Link, Replace, GetMeta, GetIdgen, GenerateId, Flush, SizeOnDisk, SpaceAmplification, TakeFuzzySnapshot, MetaPidForName, CasRoot}
+use Rattle.sled_pagecache.specs.declared.pagecache.handles.call.Call.TheVariants.{Allocate, Get, Link, Replace, GetMeta, GetIdgen, GenerateId, Flush, SizeOnDisk, SpaceAmplification, TakeFuzzySnapshot, MetaPidForName, CasRoot, AttemptGc}
 use Rattle.sled_pagecache.specs.declared.pagecache.handles.call.Call.TheVariants as call
 use Rattle.sled_pagecache.specs.declared.pagecache.handles.config.Config.{Config}
 use Rattle.sled_pagecache.specs.declared.pagecache.handles.shape.Kind.{Kind}
 use Rattle.sled_pagecache.specs.declared.pagecache.handles.shape.Kind.TheVariants as kinds
 use Rattle.sled_pagecache.specs.declared.pagecache.handles.shape.PageShape.{PageShape}
 use Rattle.sled_shared.proofs.Ids.{book_rises}
-use Rattle.sled_shared.specs.Book.{Book, AreEntries, AreRounds, RisesWithin, any_room, book, ids_of, RunsCalls, Runs}
+use Rattle.sled_shared.specs.Book.{Book, AreEntries, AreRounds, RisesWithin, any_room, any_room_again, book, ids_of, RunsCalls, Runs}
 use Rattle.sled_shared.specs.Calls.{Entry}
 use Rattle.sled_shared.specs.Held.{EndsBefore, Held, IsBookOf, IsSound, ReplaysIn, calls_of, held}
 
@@ -141,25 +142,52 @@ module _ (messages : ℕ → ℕ) (no_room : Event Update → Type 0) where
   pins : (s : State) (answer : Result (Unit {0}) Error) (out : Outcome) → Pins messages no_room s answer out → Pins messages any_room s answer out
   pins s answer out = both s.fault (λ h. h) (both s.batch (λ h. h) (does s Pin answer out _))
 
-  pub whatever-room : (interval segment_size : ℕ) (s : State) (asked : Call) (answer : Answer) (out : Outcome) → Step messages no_room interval segment_size s asked answer out → Step messages any_room interval segment_size s asked answer out
-  whatever-room interval segment_size s (Allocate node) (Allocated answer) out h = allocates s node answer out h
-  whatever-room interval segment_size s (Get pid) (Got answer) out h = h
-  whatever-room interval segment_size s (Link old link) (Linked answer) out h = links s old link answer out h
-  whatever-room interval segment_size s (Replace old node) (Replaced answer) out h = replaces s old node answer out h
-  whatever-room interval segment_size s (call.Free old) (Freed answer) out h = frees s old answer out h
-  whatever-room interval segment_size s GetMeta (GotMeta answer) out h = h
-  whatever-room interval segment_size s (MetaPidForName name) (FoundRoot answer) out h = h
-  whatever-room interval segment_size s (CasRoot name old new) (RootSwapped answer) out h = swaps-root s name old new answer out h
-  whatever-room interval segment_size s GetIdgen (GotIdgen answer) out h = h
-  whatever-room interval segment_size s GenerateId (Generated answer) out h = generates interval s answer out h
-  whatever-room interval segment_size s Flush (Flushed answer) out h = h
-  whatever-room interval segment_size s SizeOnDisk (Sized answer) out h = h
-  whatever-room interval segment_size s SpaceAmplification (Amplified answer) out h = h
-  whatever-room interval segment_size s TakeFuzzySnapshot (TookSnapshot answer) out h = h
-  whatever-room interval segment_size s call.Pin (Pinned answer) out h = pins s answer out h
-  whatever-room interval segment_size s call.Seal (Sealed answer) out h = h
-  whatever-room interval segment_size s call.Cancel (Cancelled answer) out h = h
-  whatever-room interval segment_size s asked answer out h = absurd h
+  module _ {L : Type 0} (due : L → Due) (no_room_again : L → ℕ → Content → Type 0) (l : L) where
+    again : (s : State) (pid : ℕ) (content : Content) (answer : Result Bool Error) (out : Outcome) → WritesAgain due no_room_again l s pid content answer out → WritesAgain (λ due. due) any_room_again (due l) s pid content answer out
+    again s pid content answer out (inl h) = inl h
+    again s pid content (Ok moved) out (inr h) = inr h
+    again s pid content (Err (error.Unsupported LogFull)) out (inr h) = inr (tt, h.1)
+    again s pid content (Err (error.Io device)) out (inr h) = inr h
+    again s pid content (Err e) out (inr h) = inr h
+
+    moves : (of : Due) (s : State) (answer : Result Bool Error) (out : Outcome) → Moves due no_room_again l s of answer out → Moves (λ due. due) any_room_again (due l) s of answer out
+    moves Nothing s answer out h = h
+    moves Outdated s answer out h = h
+    moves (IsDue pid) s answer out h = by (page_at s pid) h
+      where
+        of_content : (content : Content) → MovesContent due no_room_again l s pid content answer out → MovesContent (λ due. due) any_room_again (due l) s pid content answer out
+        of_content Damaged (inl h) = inl h
+        of_content Damaged (inr h) = inr (again s pid Damaged answer out h)
+        of_content Free h = again s pid Free answer out h
+        of_content (Counter n) h = again s pid (Counter n) answer out h
+        of_content (Roots roots) h = again s pid (Roots roots) answer out h
+        of_content (Node node) h = again s pid (Node node) answer out h
+
+        by : (found : Option StampedPage) → MovesPage due no_room_again l s pid found answer out → MovesPage (λ due. due) any_room_again (due l) s pid found answer out
+        by None h = h
+        by (Some found) h = of_content found.content h
+
+    pub whatever-room : (interval segment_size : ℕ) (s : State) (asked : Call) (answer : Answer) (out : Outcome) → Step due no_room_again messages no_room interval segment_size l s asked answer out
+        → Step (λ due. due) any_room_again messages any_room interval segment_size (due l) s asked answer out
+    whatever-room interval segment_size s (Allocate node) (Allocated answer) out h = allocates s node answer out h
+    whatever-room interval segment_size s (Get pid) (Got answer) out h = h
+    whatever-room interval segment_size s (Link old link) (Linked answer) out h = links s old link answer out h
+    whatever-room interval segment_size s (Replace old node) (Replaced answer) out h = replaces s old node answer out h
+    whatever-room interval segment_size s (call.Free old) (Freed answer) out h = frees s old answer out h
+    whatever-room interval segment_size s GetMeta (GotMeta answer) out h = h
+    whatever-room interval segment_size s (MetaPidForName name) (FoundRoot answer) out h = h
+    whatever-room interval segment_size s (CasRoot name old new) (RootSwapped answer) out h = swaps-root s name old new answer out h
+    whatever-room interval segment_size s GetIdgen (GotIdgen answer) out h = h
+    whatever-room interval segment_size s GenerateId (Generated answer) out h = generates interval s answer out h
+    whatever-room interval segment_size s Flush (Flushed answer) out h = h
+    whatever-room interval segment_size s SizeOnDisk (Sized answer) out h = h
+    whatever-room interval segment_size s SpaceAmplification (Amplified answer) out h = h
+    whatever-room interval segment_size s TakeFuzzySnapshot (TookSnapshot answer) out h = h
+    whatever-room interval segment_size s call.Pin (Pinned answer) out h = pins s answer out h
+    whatever-room interval segment_size s call.Seal (Sealed answer) out h = h
+    whatever-room interval segment_size s call.Cancel (Cancelled answer) out h = h
+    whatever-room interval segment_size s AttemptGc (AttemptedGc answer) out h = both s.fault (λ h. h) (moves (due l) s answer out) h
+    whatever-room interval segment_size s asked answer out h = absurd h
 
 -- ---- a state of a shape
 
@@ -225,7 +253,7 @@ module _ {L : Type 0} (g : Ghosts L) where
         is = rest.is;
         run = (
           one.out.state,
-          (chain_length g.state old, old.config.segment_size, one.out, whatever-room (chain_length g.state old) (HasNoRoom g old.log) old.config.idgen_persist_interval old.config.segment_size s made.0 made.1 one.out one.step, refl),
+          (chain_length g.state old, old.config.segment_size, due_in g old.config old.log, one.out, whatever-room (chain_length g.state old) (HasNoRoom g old.log) (due_in g old.config) (HasNoRoomAgain g) old.log old.config.idgen_persist_interval old.config.segment_size s made.0 made.1 one.out one.step, refl),
           subst (λ (c : Config). RunsCalls c.idgen_persist_interval one.out.state calls rest.last) config rest.run,
         );
         config = rest.config ∙ config;

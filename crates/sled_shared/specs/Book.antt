@@ -1,10 +1,10 @@
 -- The book of a round, and what makes it legal.
 use Rattle.std.specs.Prelude.{◌≡◌, ℕ, ◌+◌, ◌≤◌, false, ◌∷◌, [], List, ◌++◌, Ok, map, flat_map, ⊤}
-use Rattle.sled_log.specs.Contents.{Update}
+use Rattle.sled_log.specs.Contents.{Content, Update}
 use Rattle.sled_log.specs.Events.{Event}
 use Rattle.sled_pagecache.specs.Shapes.{Shape, shape_of}
 use Rattle.sled_pagecache.specs.State.{State}
-use Rattle.sled_pagecache.specs.Step.{Outcome, Step}
+use Rattle.sled_pagecache.specs.Step.{Due, Outcome, Step}
 use Rattle.sled_pagecache.specs.Trees.{MadeCalls}
 use Rattle.sled_pagecache.specs.declared.pagecache.handles.call.Answer.{Answer}
 use Rattle.sled_pagecache.specs.declared.pagecache.handles.call.Answer.TheVariants.{Generated}
@@ -29,9 +29,14 @@ AreEntries (e ∷ entries) calls = (first rest : MadeCalls) × IsEntry e.call e.
 abbrev pub any_room : Event Update → Type 0
 any_room change = ⊤
 
--- From s a cache over some log, with segments of some size, may give this answer to the call, and go on to t.
+abbrev pub any_room_again : Due → ℕ → Content → Type 0
+any_room_again due pid content = ⊤
+
+-- From s a cache over some log, in which something may be due, with segments of some size, may give this answer to the call, and go on to
+-- t.
 abbrev pub StepsTo : ℕ → State → Call → Answer → State → Type 0
-StepsTo interval s call answer t = (messages : ℕ → ℕ) × (segment_size : ℕ) × (out : Outcome) × Step messages any_room interval segment_size s call answer out × (t ≡ out.state)
+StepsTo interval s call answer t =
+    (messages : ℕ → ℕ) × (segment_size : ℕ) × (due : Due) × (out : Outcome) × Step (λ due. due) any_room_again messages any_room interval segment_size due s call answer out × (t ≡ out.state)
 
 -- the same of calls in a row
 abbrev pub RunsCalls : ℕ → State → MadeCalls → State → Type 0

@@ -22,8 +22,8 @@ use Rattle.sled_pagecache.specs.declared.pagecache.table.page.Page.{Page}
 use Rattle.sled_pagecache.specs.declared.pagecache.write.sticky_log.StickyLog.{StickyLog}
 
 module _ {L : Type 0} (g : Ghosts L) (pid : ℕ) (update : Update) (old new : StickyLog L) (accesses then : Accesses) where
-  -- The update was appended. The page was accessed, and is kept at its next stamp, by this message alone; the others stay.
-  pub record MakesAppend (page page_then : Page) (held : Kept) : Type 0 where
+  -- The update was appended. The page was accessed, and is kept at such a stamp, by this message alone; the others stay.
+  pub record Appended (page_then : Page) (held : Kept) (stamped : Type 0) : Type 0 where
     pub is : IsUpdate (message_of update) update
     pub went : Went g old new (Change pid (message_of update) ∷ [])
     pub fault : new.fault ≡ false
@@ -31,10 +31,14 @@ module _ {L : Type 0} (g : Ghosts L) (pid : ℕ) (update : Update) (old new : St
     pub sized : g.tells → AllByRecursion IsSized (now effect_of_entry (g.state new.log))
     pub others : g.tells → now effect_of_entry (g.state new.log) ≡ slice_set (now effect_of_entry (g.state old.log)) pid (chain_at (g.state new.log) pid)
     pub kept : g.tells → IsKept (chain_at (g.state new.log) pid) page_then
-    pub stamp : IsRaised page.stamp page_then.stamp
+    pub stamp : stamped
     pub holds : page_then.kept ≡ held
     pub stamps : map (λ info. info.ts) page_then.infos.items ≡ page_then.stamp ∷ []
     pub accessed : WasAccessed accesses pid (access_size page_then) then
+
+  -- at its next stamp
+  abbrev pub MakesAppend : Page → Page → Kept → Type 0
+  MakesAppend page page_then held = Appended page_then held (IsRaised page.stamp page_then.stamp)
 
   -- It was refused for such a reason, which leaves what the caller keeps. At most the page was accessed, and only a refusal of the
   -- log's may have left it so; only a write fault may have left the update in part.

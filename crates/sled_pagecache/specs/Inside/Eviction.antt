@@ -1,6 +1,6 @@
 -- What leaves memory behind a call, beside the table of pages.
 use Rattle.std.specs.Global.{Vec}
-use Rattle.std.specs.Prelude.{◌≡◌, ℕ, Bool, List, [], ◌∷◌, ◌++◌, Option, None, Some, Result, Ok, Err, MatchOption, slice_get, slice_set}
+use Rattle.std.specs.Prelude.{◌≡◌, ℕ, Bool, true, List, [], ◌∷◌, ◌++◌, Option, None, Some, Result, Ok, Err, MatchOption, slice_get, slice_set}
 use Rattle.sled_base.specs.Errors.{error_of}
 use Rattle.sled_base.specs.declared.types.Error.{Error}
 use Rattle.sled_base.specs.declared.types.Refusal.{Refusal}
@@ -70,6 +70,11 @@ answer_behind token (Err refusal) = Err (error_of refusal)
 abbrev pub allocation_behind : Token → Result (Unit {0}) Refusal → Result (ℕ × Token) Error
 allocation_behind token (Ok done) = Ok (token.pid, token)
 allocation_behind token (Err refusal) = Err (error_of refusal)
+
+-- and what a move does
+abbrev pub move_behind : Result (Unit {0}) Refusal → Result Bool Error
+move_behind (Ok done) = Ok true
+move_behind (Err refusal) = Err (error_of refusal)
 
 -- a cache over a log and a table
 abbrev pub cache_of : {L : Type 0} → ℕ → Config → Bool → Recency → StickyLog L → List Page → Cache L

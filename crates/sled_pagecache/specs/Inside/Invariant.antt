@@ -1,9 +1,12 @@
 -- What always holds of a page cache: its table of pages beside what its log holds.
-use Rattle.std.specs.Prelude.{◌≡◌, ◌≤◌, ℕ, Bool, false, true, List, length, map, Option, ◌≢◌, ◌<◌, Some, slice_get, ⊤}
+use Rattle.std.specs.Prelude.{◌≡◌, ◌≤◌, ◌⊎◌, ℕ, Bool, false, true, List, [], length, map, Option, ◌≢◌, ◌<◌, Some, slice_get, slice_index_or, ⊤}
 use Rattle.std.specs.List.{AllByRecursion, AllZip}
 use Rattle.sled_log.specs.Events.{is_open, Event, Change, Pin, Seal, Cancel}
 use Rattle.sled_log.specs.Chains.{is_chain}
-use Rattle.sled_log.specs.Messages.{Entry, effect_of_entry}
+use Rattle.sled_log.specs.Contents as content
+use Rattle.sled_log.specs.Contents.{Put}
+use Rattle.sled_log.specs.Messages.{Entry, Message, effect_of_entry}
+use Rattle.sled_log.specs.Reading.{IsUpdate, Makes}
 use Rattle.sled_log.specs.Pages.{IsSized}
 use Rattle.sled_log.specs.LogState as log
 use Rattle.sled_pagecache.specs.Logged.{AllById, FitsId}
@@ -63,15 +66,24 @@ module _ {L : Type 0} (tells : Type 0) (state : L → log.LogState Entry) where
     pub few : length pages ≤ most_pages
     pub free : free_pids ≡ free_ids 0 pages
 
--- a mark, or a change of another page than the counter's
-abbrev pub SparesCounter : {E : Type 0} → Event E → Type 0
-SparesCounter (Change id said) = id ≢ counter_pid
-SparesCounter Pin = ⊤
-SparesCounter Seal = ⊤
-SparesCounter Cancel = ⊤
+-- a mark, a change of another page than the counter's, or one that puts the counter again
+abbrev pub SparesCounter : {E : Type 0} → (E → Type 0) → Event E → Type 0
+SparesCounter Again (Change id said) = (id ≢ counter_pid) ⊎ Again said
+SparesCounter Again Pin = ⊤
+SparesCounter Again Seal = ⊤
+SparesCounter Again Cancel = ⊤
+
+-- the message puts this counter
+abbrev pub CountsAgain : ℕ → Message → Type 0
+CountsAgain n message = IsUpdate message (Put (content.Counter n))
+
+-- The log holds this counter durably, and what is pending leaves it.
+pub record StaysCounted (n : ℕ) (held : log.LogState Message) : Type 0 where
+  pub durable : Makes (slice_index_or held.stable counter_pid []) (content.Counter n)
+  pub pending : AllByRecursion (SparesCounter (CountsAgain n)) held.pending
 
 module _ {L : Type 0} (tells : Type 0) (state : L → log.LogState Entry) (interval next : ℕ) (sticky_log : StickyLog L) (pages : List Page) where
-  -- Where the next id needs no new counter, no change of the counter's page is pending.
+  -- Where the next id needs no new counter, the counter is durable.
   abbrev pub IsCounted : Type 0
   IsCounted =
       0 < interval
@@ -81,7 +93,7 @@ module _ {L : Type 0} (tells : Type 0) (state : L → log.LogState Entry) (inter
       → slice_get pages counter_pid ≡ Some page
       → page.kept ≡ Counter n
       → interval_start interval next ≤ interval_start interval n
-      → AllByRecursion SparesCounter (log.unplaced_state (state sticky_log.log)).pending
+      → StaysCounted n (log.unplaced_state (state sticky_log.log))
 
   -- what always holds of a cache
   pub record IsWhole (free_pids : List ℕ) : Type 0 where

@@ -23,10 +23,10 @@ use Rattle.sled_pagecache.specs.Rows.{changes_of, AreSteps, IsRow, StepInRow, Is
 use Rattle.sled_pagecache.specs.State.{State}
 use Rattle.sled_pagecache.specs.Step.{Outcome, Closes, no_change}
 use Rattle.sled_pagecache.specs.declared.pagecache.handles.call.Answer.{Answer}
-use Rattle.sled_pagecache.specs.declared.pagecache.handles.call.Answer.TheVariants.{Allocated, Got, Linked, Replaced, Freed, GotMeta, GotIdgen, Generated, Flushed, Sized, Amplified, TookSnapshot, FoundRoot, RootSwapped, Pinned, Sealed, Cancelled}
+use Rattle.sled_pagecache.specs.declared.pagecache.handles.call.Answer.TheVariants.{Allocated, Got, Linked, Replaced, Freed, GotMeta, GotIdgen, Generated, Flushed, Sized, Amplified, TookSnapshot, FoundRoot, RootSwapped, Pinned, Sealed, Cancelled, AttemptedGc}
 use Rattle.sled_pagecache.specs.declared.pagecache.handles.call.Call.{Call}
 use Rattle.sled_pagecache.specs.declared.pagecache.handles.call.Call.TheVariants as call
-use Rattle.sled_pagecache.specs.declared.pagecache.handles.call.Call.TheVariants.{Allocate, Get, Link, Replace, GetMeta, GetIdgen, GenerateId, Flush, SizeOnDisk, SpaceAmplification, TakeFuzzySnapshot, MetaPidForName, CasRoot}
+use Rattle.sled_pagecache.specs.declared.pagecache.handles.call.Call.TheVariants.{Allocate, Get, Link, Replace, GetMeta, GetIdgen, GenerateId, Flush, SizeOnDisk, SpaceAmplification, TakeFuzzySnapshot, MetaPidForName, CasRoot, AttemptGc}
 
 -- ---- changes that come behind others
 
@@ -120,6 +120,7 @@ module _ {L : Type 0} (g : Ghosts L) where
   step-stuck cache s call.Pin (Pinned answer) out step kept = same-stuck s out (taken _ _ s.fault kept step).1
   step-stuck cache s call.Seal (Sealed answer) out step kept = closes-stuck Seal s answer out step kept
   step-stuck cache s call.Cancel (Cancelled answer) out step kept = closes-stuck Cancel s answer out step kept
+  step-stuck cache s AttemptGc (AttemptedGc answer) out step kept = same-stuck s out (taken _ _ s.fault kept step).1
   step-stuck cache s asked answer out step kept = absurd step
 
   module _ (Makes : Cache L → Call → Answer → Cache L → Type 0) where

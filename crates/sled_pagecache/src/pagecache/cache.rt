@@ -20,6 +20,7 @@ ghost use Rattle.sled_pagecache.specs.declared.pagecache.handles.call.Call.TheVa
 mod batches;
 pub(crate) mod guard;
 mod ids;
+mod moves;
 mod pages;
 mod roots;
 mod shapes;

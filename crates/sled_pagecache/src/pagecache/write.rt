@@ -3,6 +3,7 @@
 //! - `judge`: what the token of a swap is worth
 //! - `swap`, `add`: the swaps of a page, and the making of one
 //! - `roots`, `ids`: the swap of a named root, and the counter of generated ids
+//! - `moves`: the writing of a page again, as it is
 //! - `message`: writing the messages of a page to the log
 //! - `sticky_log`: the log of a cache, and the write error that is kept of it
 
@@ -10,6 +11,7 @@ pub(crate) mod add;
 pub(crate) mod ids;
 pub(crate) mod judge;
 pub(crate) mod message;
+pub(crate) mod moves;
 pub(crate) mod roots;
 pub(crate) mod sticky_log;
 pub(crate) mod swap;

@@ -323,3 +323,43 @@ pub(super) fn is_printed<L: Log>(alloc: Global, cache: &PageCache<L>, text: &str
         Err(_) => false,
     }
 }
+
+// Whether a message was due, whose page wasn't refused.
+pub(super) fn attempts<L: Log>(cache: &mut PageCache<L>) -> Result<bool, Outcome>
+    ensures { cache.new.batch ≡ cache.old.batch }
+{
+    match cache.attempt_gc() {
+        Ok(moved) => Ok(moved),
+        Err(error) => Err(outcome_of(&error)),
+    }
+}
+
+// Whether that is so.
+pub(super) fn moves_one<L: Log>(cache: &mut PageCache<L>) -> bool
+    ensures { cache.new.batch ≡ cache.old.batch }
+{
+    match cache.attempt_gc() {
+        Ok(moved) => moved,
+        Err(_) => false,
+    }
+}
+
+// Whether no message was due.
+pub(super) fn idles<L: Log>(cache: &mut PageCache<L>) -> bool
+    ensures { cache.new.batch ≡ cache.old.batch }
+{
+    match cache.attempt_gc() {
+        Ok(moved) => !moved,
+        Err(_) => false,
+    }
+}
+
+// Whether so many messages were due, one after another, and none of their pages was refused.
+pub(super) fn moves<L: Log>(cache: &mut PageCache<L>, count: u32) -> bool {
+    for _ in 0..count {
+        if !moves_one(cache) {
+            return false;
+        }
+    }
+    true
+}

@@ -10,7 +10,7 @@ use super::steps::{PAIR, Step, shown};
 use super::*;
 
 // A script with segments of so many bytes, and what is there behind each of its frames, the first of which is none.
-type Crashing = (
+pub(super) type Crashing = (
     &'static str,
     u64,
     &'static [Part],
@@ -122,7 +122,7 @@ const SCRIPTS: &[Crashing] = &[
 
 // How many frames a crash leaves before the n-th write or sync. Two make the file, and one opens it. Then each frame is a write of its
 // bytes, a sync, a write of the gate before it, and a sync. Before the last one the gate is open if it isn't 0.
-fn frames_left(n: usize, fill: Option<u8>) -> usize {
+pub(super) fn frames_left(n: usize, fill: Option<u8>) -> usize {
     let made = n.saturating_sub(4);
     if made % 4 == 3 && fill != Some(0) {
         made / 4 + 1

@@ -2,7 +2,7 @@
 
 ghost use Rattle.std.specs.Prelude.{◌≡◌};
 
-use super::calls::{adds, links_so, replaces_by_pair};
+use super::calls::{adds, idles, links_so, moves_one, replaces_by_pair};
 use super::steps::{Outcome, Step, shown};
 use super::*;
 
@@ -35,7 +35,17 @@ pub(super) fn opened_on(
     disk: MemDisk,
     segment_size: u64,
 ) -> Result<Disked, (Error, MemDisk)> {
-    match DiskLog::open(alloc, disk, segment_size, 0) {
+    opened_every(alloc, disk, segment_size, 0)
+}
+
+// The same over a log that names a message for every so many.
+pub(super) fn opened_every(
+    alloc: Global,
+    disk: MemDisk,
+    segment_size: u64,
+    clean_every: u64,
+) -> Result<Disked, (Error, MemDisk)> {
+    match DiskLog::open(alloc, disk, segment_size, clean_every) {
         Ok(log) => match PageCache::start(alloc, CONFIG, log) {
             Ok(cache) => Ok(cache),
             Err((error, log)) => Err((error, log.into_disk())),
@@ -51,7 +61,7 @@ pub(super) fn disk_of(cache: Disked) -> Option<MemDisk> {
 
 // ---- batches
 
-// Whether a change of a batch shows what it should.
+// Whether a change of a batch shows what it should. Its moves come one by one.
 fn changes<L: Log>(alloc: Global, cache: &mut PageCache<L>, step: &Step) -> bool
     ensures { cache.new.batch ≡ cache.old.batch }
 {
@@ -63,6 +73,8 @@ fn changes<L: Log>(alloc: Global, cache: &mut PageCache<L>, step: &Step) -> bool
         Step::ReplacesByPair(pid, stamp, outcome) => {
             replaces_by_pair(alloc, cache, pid, stamp) == outcome
         }
+        Step::Moves(1) => moves_one(cache),
+        Step::Idles => idles(cache),
         _ => false,
     }
 }
@@ -103,7 +115,7 @@ fn marks<L: Log>(alloc: Global, cache: &mut PageCache<L>, count: u32) -> bool {
 
 // ---- scripts
 
-fn shows_part<L: Log>(alloc: Global, cache: &mut PageCache<L>, part: &Part) -> bool {
+pub(super) fn shows_part<L: Log>(alloc: Global, cache: &mut PageCache<L>, part: &Part) -> bool {
     match *part {
         Part::Plain(steps) => shown(alloc, cache, steps) == steps.len(),
         Part::Sealed(steps) => batch(alloc, cache, steps, true),
@@ -114,9 +126,15 @@ fn shows_part<L: Log>(alloc: Global, cache: &mut PageCache<L>, part: &Part) -> b
 }
 
 // The cache behind a part, if that shows what it should.
-fn next(alloc: Global, mut cache: Disked, segment_size: u64, part: &Part) -> Option<Disked> {
+fn next(
+    alloc: Global,
+    mut cache: Disked,
+    segment_size: u64,
+    clean_every: u64,
+    part: &Part,
+) -> Option<Disked> {
     if matches!(part, Part::Again) {
-        return opened_on(alloc, disk_of(cache)?, segment_size).ok();
+        return opened_every(alloc, disk_of(cache)?, segment_size, clean_every).ok();
     }
     if shows_part(alloc, &mut cache, part) {
         Some(cache)
@@ -132,9 +150,20 @@ pub(super) fn behind(
     segment_size: u64,
     parts: &[Part],
 ) -> Option<Disked> {
-    let mut cache = opened_on(alloc, disk, segment_size).ok()?;
+    behind_every(alloc, disk, segment_size, 0, parts)
+}
+
+// The same over a log that names a message for every so many.
+pub(super) fn behind_every(
+    alloc: Global,
+    disk: MemDisk,
+    segment_size: u64,
+    clean_every: u64,
+    parts: &[Part],
+) -> Option<Disked> {
+    let mut cache = opened_every(alloc, disk, segment_size, clean_every).ok()?;
     for part in parts {
-        cache = next(alloc, cache, segment_size, part)?;
+        cache = next(alloc, cache, segment_size, clean_every, part)?;
     }
     Some(cache)
 }

@@ -79,7 +79,12 @@ fn left_by(alloc: Global, log: MemLog, opening: &Opening<'_>) -> Option<MemLog> 
 
 // How many openings show what they should, before the first that doesn't.
 pub(super) fn lasts(alloc: Global, openings: &[Opening<'_>]) -> usize {
-    let mut log = MemLog::new(alloc, 512, 16);
+    lasts_over(alloc, MemLog::new(alloc, 512, 16), openings)
+}
+
+// The same, where the first is over this log.
+pub(super) fn lasts_over(alloc: Global, log: MemLog, openings: &[Opening<'_>]) -> usize {
+    let mut log = log;
     for (done, opening) in openings.iter().enumerate() {
         let Some(left) = left_by(alloc, log, opening) else {
             return done;

@@ -55,7 +55,12 @@ pub(super) fn walks_over(alloc: Global, cache: Cache, steps: &[Step]) -> usize {
 
 // The same over a new log, where payloads above so many bytes are blobs.
 pub(super) fn walks_at(alloc: Global, config: Config, blob_limit: usize, steps: &[Step]) -> usize {
-    match opened_over(alloc, config, MemLog::new(alloc, blob_limit, 16)) {
+    walks_in(alloc, config, MemLog::new(alloc, blob_limit, 16), steps)
+}
+
+// The same over a log that no cache was opened over before.
+pub(super) fn walks_in(alloc: Global, config: Config, log: MemLog, steps: &[Step]) -> usize {
+    match opened_over(alloc, config, log) {
         Some(cache) => walks_over(alloc, cache, steps),
         None => 0,
     }

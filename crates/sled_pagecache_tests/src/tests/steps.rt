@@ -1,9 +1,9 @@
 // What scripts do to a cache over any log, and what each step shows.
 
 use super::calls::{
-    adds, adds_between, adds_from, counted, draws, flushes, frees, gets, gives, is_printed,
-    links_from, links_so, names_and_stamp, opens, replaces_by_empty, replaces_by_pair, root_of,
-    size_of, swaps,
+    adds, adds_between, adds_from, attempts, counted, draws, flushes, frees, gets, gives, idles,
+    is_printed, links_from, links_so, moves, names_and_stamp, opens, replaces_by_empty,
+    replaces_by_pair, root_of, size_of, swaps,
 };
 use super::sizes::{measured, measures};
 use super::snapshots::{Said, is_unsaid, says, says_leaves};
@@ -122,6 +122,12 @@ pub(super) enum Step {
     Measures(u64, u128),
     // the pages aren't measured
     Unmeasured(Outcome),
+    // so many messages are due, one after another, and none of their pages is refused
+    Moves(u32),
+    // none is
+    Idles,
+    // one is, and its page isn't moved
+    Unmoved(Outcome),
     // a snapshot says how far the log is durable, and each page
     Says(Lsn, &'static [Said]),
     // the same of a log in memory, where behind the system pages only so many empty leaves were added
@@ -205,6 +211,9 @@ fn shows_log<L: Log>(cache: &mut PageCache<L>, step: &Step) -> Shown {
     match step {
         Step::Measures(bytes, pages) => measures(cache, *bytes, *pages),
         Step::Unmeasured(outcome) => Some(measured(cache) == Err(*outcome)),
+        Step::Moves(count) => Some(moves(cache, *count)),
+        Step::Idles => Some(idles(cache)),
+        Step::Unmoved(outcome) => Some(attempts(cache) == Err(*outcome)),
         Step::Says(stable, pages) => says(cache, *stable, pages),
         Step::SaysLeaves(stable, leaves) => says_leaves(cache, *stable, *leaves),
         Step::Faults => Some(

@@ -1,6 +1,6 @@
 // Caches over a log whose device tells nothing of its bytes: it gives the pages and the messages that it was told to give.
 
-ghost use Rattle.std.specs.Prelude.{⊤, ◌≡◌, ℕ, [], pos, false, true, None};
+ghost use Rattle.std.specs.Prelude.{⊤, ◌≡◌, ℕ, [], pos, false, true, Some};
 ghost use Rattle.sled_log.specs.Inside.Marks.{marks};
 
 use super::failing::one_more;
@@ -16,7 +16,8 @@ enum Said {
     Of(&'static [Message]),
 }
 
-// A log of two system pages, and of page 2 with an empty leaf behind it or of no other. Nothing can be appended to it.
+// A log of two system pages, and of page 2 with an empty leaf behind it or of no other. Nothing can be appended to it, and the
+// first message of page 2 is always due to be moved.
 #[derive(Drop)]
 pub(super) struct ToldLog {
     alloc: Global,
@@ -105,7 +106,7 @@ impl Log for ToldLog {
 
     ghost is_full_for_batch = { λ _. ⊥ };
 
-    ghost due = { λ _. None };
+    ghost due = { λ _. Some (2, 200) };
 
     ghost due_is_held = { λ log pid place told. absurd told };
 
@@ -157,7 +158,7 @@ impl Log for ToldLog {
     }
 
     fn to_move(&mut self) -> Option<(PageId, LogOffset)> {
-        None
+        Some((2, 200))
     }
 
     fn rewrite_blob_pointer(
@@ -211,19 +212,19 @@ const COUNTER: Said = Said::Of(&[(MessageKind::Counter, &[0])]);
 
 // A leaf without pairs, and links: one sets "b" to "v", one is cut off and one goes on, one is accepted only where a merge was
 // intended, and one has a byte too many.
-const LEAF: Message = (MessageKind::InlineNode, &[0; 8]);
+pub(super) const LEAF: Message = (MessageKind::InlineNode, &[0; 8]);
 
 const SET: Message = (MessageKind::InlineLink, &[0, 1, 98, 1, 118]);
 
-const SHORT_SET: Message = (MessageKind::InlineLink, &[0, 1, 98, 1]);
+pub(super) const SHORT_SET: Message = (MessageKind::InlineLink, &[0, 1, 98, 1]);
 
 const LONG_SET: Message = (MessageKind::InlineLink, &[0, 1, 98, 1, 118, 0]);
 
-const CONFIRM: Message = (MessageKind::InlineLink, &[3]);
+pub(super) const CONFIRM: Message = (MessageKind::InlineLink, &[3]);
 
-const LONG_CAP: Message = (MessageKind::InlineLink, &[4, 0]);
+pub(super) const LONG_CAP: Message = (MessageKind::InlineLink, &[4, 0]);
 
-const LONG_LEAF: Message = (MessageKind::InlineNode, &[0; 9]);
+pub(super) const LONG_LEAF: Message = (MessageKind::InlineNode, &[0; 9]);
 
 const SHORT_LEAF: Message = (MessageKind::BlobNode, &[0; 7]);
 
@@ -275,7 +276,7 @@ pub(super) fn opened(alloc: Global, messages: &'static [Message]) -> Option<Told
     opened_over(alloc, ROOTS, COUNTER, Some(Said::Of(messages))).ok()
 }
 
-pub(super) fn got(cache: &mut Told) -> Option<Answer> {
+pub(super) fn got<L: Log>(cache: &mut PageCache<L>) -> Option<Answer> {
     match cache.get(2) {
         Ok(Some(view)) => is_pair(view.node(), b"b", b"v").then_some(Answer::Pair),
         Err(Refusal::Corruption(Some(place))) => Some(Answer::Wrong(place.lid())),

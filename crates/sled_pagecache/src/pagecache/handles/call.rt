@@ -25,6 +25,7 @@ pub enum Call {
     Pin,
     Seal,
     Cancel,
+    AttemptGc,
 }
 
 /// What a call answered.
@@ -47,4 +48,5 @@ pub enum Answer {
     Pinned(Result<(), Error>),
     Sealed(Result<(), Error>),
     Cancelled(Result<(), Error>),
+    AttemptedGc(Result<bool, Error>),
 }

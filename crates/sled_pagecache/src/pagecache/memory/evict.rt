@@ -1,7 +1,7 @@
 //! What leaves memory behind a call.
 
 ghost use Rattle.std.specs.Prelude.{◌≡◌, None};
-ghost use Rattle.sled_pagecache.specs.Inside.Eviction.{IsOutAt, AreOut, Evicts, lost_by, answer_behind, allocation_behind};
+ghost use Rattle.sled_pagecache.specs.Inside.Eviction.{IsOutAt, AreOut, Evicts, lost_by, answer_behind, allocation_behind, move_behind};
 
 use crate::pagecache::handles::view::PageView;
 use crate::pagecache::memory::accesses::Accesses;
@@ -47,6 +47,29 @@ pub(crate) fn end_allocation(
     match written {
         Ok(()) => Ok((token.pid(), token)),
         Err(refusal) => Err(Error::from(refusal)),
+    }
+}
+
+// Ends a move whose page was written again or refused, as a swap is ended.
+pub(crate) fn end_move(
+    pages: &mut PageTable,
+    accesses: &mut Accesses,
+    pid: PageId,
+    moved: Result<(), Refusal>,
+) -> Result<bool, Error>
+    ensures evicts { Evicts accesses.old (lost_by pid moved) pages.old.pages pages.new.pages
+        accesses.new }
+    ensures answer { result ≡ move_behind moved }
+{
+    match moved {
+        Ok(()) => {
+            evict(pages, accesses, None);
+            Ok(true)
+        }
+        Err(refusal) => {
+            evict(pages, accesses, Some(pid));
+            Err(Error::from(refusal))
+        }
     }
 }
 

@@ -155,10 +155,28 @@ pub(crate) fn keep_alone(page: &mut Page, info: CacheInfo)
     ensures infos { page.new.infos.items ≡ info ∷ [] }
     ensures kept { page.new.kept ≡ page.old.kept }
 {
-    page.infos.clear();
-    page.infos.shrink_to(1);
-    page.infos.push_reserved(info);
+    keep_one(&mut page.infos, info);
     page.stamp += 1;
+}
+
+// The same of a page that was moved, whose stamp stays.
+pub(crate) fn keep_moved(page: &mut Page, info: CacheInfo)
+    requires stamped { info.ts ≡ page.old.stamp }
+    ensures stamp { page.new.stamp ≡ page.old.stamp }
+    ensures infos { page.new.infos.items ≡ info ∷ [] }
+    ensures kept { page.new.kept ≡ page.old.kept }
+{
+    keep_one(&mut page.infos, info);
+}
+
+// Keeps this place of a message in place of the others.
+fn keep_one(infos: &mut Vec<CacheInfo>, info: CacheInfo)
+    requires { 0 < vec_len infos.old }
+    ensures { infos.new.items ≡ info ∷ [] }
+{
+    infos.clear();
+    infos.shrink_to(1);
+    infos.push_reserved(info);
 }
 
 // Keeps how a message is kept behind the others of a page, at the next stamp.

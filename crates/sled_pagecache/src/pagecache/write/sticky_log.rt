@@ -10,12 +10,13 @@ ghost use Rattle.sled_log.specs.Calls.{is_write_fault as log_met_fault};
 ghost use Rattle.sled_log.specs.Chains.{chains_from, is_chain};
 ghost use Rattle.sled_log.specs.Events.{Change, Pin};
 ghost use Rattle.sled_log.specs.Limits.{head_size, size_limit};
-ghost use Rattle.sled_log.specs.Messages.{effect_of_entry, message, placed_entry};
+ghost use Rattle.sled_log.specs.Messages.{effect_of_entry, message, message_size, placed_entry};
+ghost use Rattle.sled_log.specs.Moves.{HasBlob, message_at};
 ghost use Rattle.sled_log.specs.Pages.{IsAt, IsPageState, IsRead, IsSized};
 ghost use Rattle.sled_log.specs.LogState.{now};
 ghost use Rattle.sled_pagecache.specs.Inside.StickyLog.{Went, IsCaused, IsOfLog, begun_by, cache_answer, mark_of};
 
-use sled_base::{DiskPtr, Lsn, MessageKind, PageId, PageState, Refusal};
+use sled_base::{BlobPointer, DiskPtr, LogOffset, Lsn, MessageKind, PageId, PageState, Refusal};
 use sled_log::{Log, LogError};
 
 /// The log of a cache, whether a batch is open, and whether a write fault was met: then the log is not called any more.
@@ -63,6 +64,50 @@ impl<L: Log> StickyLog<L> {
     {
         let outcome = self.log.append(kind, pid, payload);
         keep_fault(&mut self.fault, outcome)
+    }
+
+    // Adds the message of a page again, which is all its chain and is kept as that blob, and answers where it stands.
+    pub(crate) fn rewrite_blob_pointer(
+        &mut self,
+        pid: PageId,
+        blob: BlobPointer,
+    ) -> Result<(Lsn, DiskPtr, u64), Refusal>
+        requires ready { self.old.fault ≡ false }
+        requires usable { (L.state self.old.log).usable ≡ true }
+        requires holds { L.tells → HasBlob (now effect_of_entry (L.state self.old.log)) pid blob }
+        ensures went { Went L.Log self.old self.new (begun_by result
+            (Change pid (message_at (now effect_of_entry (L.state self.old.log)) pid) ∷ [])) }
+        ensures cause { IsCaused L.Log self.old self.new (L.tells → L.is_full self.old.log
+            (length (message_at (now effect_of_entry (L.state self.old.log)) pid).payload)) result }
+        ensures sound { L.tells → IfErr result IsOfLog }
+        ensures reads { (L.counts self.new.log).reads ≡ (L.counts self.old.log).reads }
+        ensures chains { L.tells → IfOk result (λ said. now effect_of_entry (L.state self.new.log)
+            ≡ chains_from effect_of_entry (now effect_of_entry (L.state self.old.log))
+            (Change pid (placed_entry
+            (message_at (now effect_of_entry (L.state self.old.log)) pid) said))) }
+        ensures same { L.tells → OnErr result (self.new.fault ≡ false → now effect_of_entry
+            (L.state self.new.log) ≡ now effect_of_entry (L.state self.old.log)) }
+        ensures size { L.tells → IfOk result (λ said. said.2
+            ≡ message_size (message_at (now effect_of_entry (L.state self.old.log)) pid)) }
+        ensures sized { L.tells
+            → OnOk result (AllByRecursion IsSized (now effect_of_entry (L.state self.new.log))) }
+    {
+        let outcome = self.log.rewrite_blob_pointer(pid, blob);
+        keep_fault(&mut self.fault, outcome)
+    }
+
+    // Names the message that is due to be moved, by its page and its place, if one is.
+    pub(crate) fn to_move(&mut self) -> Option<(PageId, LogOffset)>
+        requires ready { self.old.fault ≡ false }
+        requires usable { (L.state self.old.log).usable ≡ true }
+        ensures named { result ≡ L.due self.old.log }
+        ensures went { Went L.Log self.old self.new [] }
+        ensures fault { self.new.fault ≡ false }
+        ensures state { L.state self.new.log ≡ L.state self.old.log }
+        ensures counts { L.counts self.new.log ≡ L.counts self.old.log }
+        ensures room { (n : ℕ) → L.is_full self.new.log n → L.is_full self.old.log n }
+    {
+        self.log.to_move()
     }
 
     // Reads a message of a page by its place, which is one of the page's chain: its kind, or the kind of its blob, and its

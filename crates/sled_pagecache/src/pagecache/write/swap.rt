@@ -119,7 +119,7 @@ pub(crate) fn reuse_page<L: Log>(
 }
 
 // How many bytes the payload has by which a content is put on a page.
-fn payload_size(kept: &Kept) -> u64
+pub(crate) fn payload_size(kept: &Kept) -> u64
     requires { CanPut kept.now }
     ensures size { result ≡ length (message_of (contents.Put (content_of kept.now))).payload }
     ensures is { IsUpdate (message_of (contents.Put (content_of kept.now)))

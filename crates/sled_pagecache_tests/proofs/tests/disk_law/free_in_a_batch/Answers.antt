@@ -11,5 +11,5 @@ returns g c =
     let pinned = subst (λ (cache : Cache _). Steps g.L.Log c.args.cache.now Pin (Pinned (Ok tt)) cache) (sym c.cache.ensures.value) c.in_ok-guard.ensures.pinned.step in
     let freed = c.free-freed.ensures.step in
     let sealed = c.seal_batch-sealed.ensures.step in
-    let row = rows.then _ _ _ _ _ (rows.one _ _ _ _ pinned) (rows.then _ _ _ _ _ (rows.one _ _ _ _ freed) (rows.one _ _ _ _ sealed)) in
+    let row = rows.then _ _ _ _ _ (rows.one _ _ Pin (Pinned (Ok tt)) pinned) (rows.then _ _ _ _ _ (rows.one _ _ (Free c.args.token) (Freed c.free-freed.result) freed) (rows.one _ _ Seal (Sealed c.seal_batch-sealed.result) sealed)) in
     ((Pin, Pinned (Ok tt)) ∷ (Free c.args.token, Freed c.free-freed.result) ∷ (Seal, Sealed c.seal_batch-sealed.result) ∷ [], search (rules, row))

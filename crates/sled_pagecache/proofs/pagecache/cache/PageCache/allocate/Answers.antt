@@ -41,20 +41,20 @@ reuse_page-reused-requires-clause-there g c = λ told.
 
 pub invariant_of-self : goal.invariant_of-self
 invariant_of-self g c =
-    (added g.L.Log c.self.invariant c.if-stuck.false (ends-nowhere _ (sym c.greatest.ensures ∙ c.in_default.is)) c.add_page-added.result c.add_page-added.ensures c.end_allocation.ensures.evicts _ (c.new-token.ensures ∙ ap (λ n. token n 1) c.len.ensures.number)).0
+    (added g.L.Log c.self.invariant c.if-stuck.false c.args.node (ends-nowhere _ (sym c.greatest.ensures ∙ c.in_default.is)) c.add_page-added.result c.add_page-added.ensures c.end_allocation.ensures.evicts _ (c.new-token.ensures ∙ ap (λ n. token n 1) c.len.ensures.number)).0
 
 pub returns-in_default : goal.returns-in_default
 returns-in_default g c =
     rw (c.end_allocation.ensures.answer, ← c.self.view_is)
-    (added g.L.Log c.self.invariant c.if-stuck.false (ends-nowhere _ (sym c.greatest.ensures ∙ c.in_default.is)) c.add_page-added.result c.add_page-added.ensures c.end_allocation.ensures.evicts _ (c.new-token.ensures ∙ ap (λ n. token n 1) c.len.ensures.number)).1
+    (added g.L.Log c.self.invariant c.if-stuck.false c.args.node (ends-nowhere _ (sym c.greatest.ensures ∙ c.in_default.is)) c.add_page-added.result c.add_page-added.ensures c.end_allocation.ensures.evicts _ (c.new-token.ensures ∙ ap (λ n. token n 1) c.len.ensures.number)).1
 
 pub invariant_of-self-2 : goal.invariant_of-self-2
 invariant_of-self-2 g c =
-    (reused g.L.Log c.self.invariant c.if-stuck.false (last-read _ _ _ c.in-Some.pid c.self.invariant.whole.consistent.free c.greatest.ensures c.in-Some.is) c.get_mut-page.ensures.page c.reuse_page-reused.new.page c.reuse_page-reused.result c.reuse_page-reused.ensures.put
+    (reused g.L.Log c.self.invariant c.if-stuck.false c.args.node (last-read _ _ _ c.in-Some.pid c.self.invariant.whole.consistent.free c.greatest.ensures c.in-Some.is) c.get_mut-page.ensures.page c.reuse_page-reused.new.page c.reuse_page-reused.result c.reuse_page-reused.ensures.put
     c.reuse_page-reused.ensures.taken c.reuse_page-reused.ensures.untaken c.end_allocation-2.ensures.evicts _ c.new-token-2.ensures).0
 
 pub returns : goal.returns
 returns g c =
     rw (c.end_allocation-2.ensures.answer, ← c.self.view_is)
-    (reused g.L.Log c.self.invariant c.if-stuck.false (last-read _ _ _ c.in-Some.pid c.self.invariant.whole.consistent.free c.greatest.ensures c.in-Some.is) c.get_mut-page.ensures.page c.reuse_page-reused.new.page c.reuse_page-reused.result c.reuse_page-reused.ensures.put
+    (reused g.L.Log c.self.invariant c.if-stuck.false c.args.node (last-read _ _ _ c.in-Some.pid c.self.invariant.whole.consistent.free c.greatest.ensures c.in-Some.is) c.get_mut-page.ensures.page c.reuse_page-reused.new.page c.reuse_page-reused.result c.reuse_page-reused.ensures.put
     c.reuse_page-reused.ensures.taken c.reuse_page-reused.ensures.untaken c.end_allocation-2.ensures.evicts _ c.new-token-2.ensures).1

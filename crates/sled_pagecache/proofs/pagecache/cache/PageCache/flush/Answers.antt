@@ -1,9 +1,18 @@
 use Rattle.sled_base.specs.declared.types.Error.TheVariants.{Io}
-use Rattle.sled_pagecache.proofs.Names.{◌∙◌, Err, refl, ap, err_from_is_err_and, error_of, Write, Flushed, Flush}
+use Rattle.sled_pagecache.proofs.Names.{◌∙◌, [], Err, refl, ap, err_from_is_err_and, error_of, Write, Flushed, Flush}
 use Rattle.sled_pagecache.proofs.CacheSteps.{steps-stuck}
-use Rattle.sled_pagecache.proofs.Evicting.{keeps-same}
+use Rattle.sled_pagecache.proofs.Counted.{spares-none, whole-then}
+use Rattle.sled_pagecache.proofs.Evicting.{keeps-same, kept-settled}
 use Rattle.sled_pagecache.proofs.Flushing.{flushes, flush_is_refused, flush_is_too_early}
+use Rattle.sled_pagecache.proofs.Tables.{consistent-same}
 use Rattle.sled_pagecache.proofs.pagecache.cache.PageCache.flush.Goals as goal
+
+pub invariant_of-self-2 : goal.invariant_of-self-2
+invariant_of-self-2 g c =
+    let done = c.make_stable.ensures in
+    kept-settled g.L.Log _ _ _ _ _ _ _ _ _ c.self.invariant
+    (whole-then g.L.Log c.self.invariant.whole c.if-self.false (spares-none g.L.Log done.went) refl
+    (consistent-same g.L.Log c.self.inside.sticky_log c.make_stable.new.self c.self.inside.pages.pages c.self.inside.free.ids.keys c.self.inside.free.ids.keys c.self.invariant.whole.consistent c.if-self.false [] done.went (λ was. refl) done.same))
 
 pub returns-then-self-clause-step : goal.returns-then-self-clause-step
 returns-then-self-clause-step g c = rw (← c.self.view_is) (steps-stuck g.L.Log _ Flush (Flushed (Err (Io Write))) c.if-self.true (λ s kept. rw kept (refl, refl)))

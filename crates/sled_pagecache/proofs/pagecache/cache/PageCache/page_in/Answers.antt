@@ -1,5 +1,5 @@
 use Rattle.sled_pagecache.proofs.Names.{on_err_weaker, IsOk, ◌≡◌, inr, true, is_resident, false, [], refl, sym, ◌∙◌, ap, arith, is_reserved, behind-own, length, ◌≤◌, Went-none, false≢true, is_empty, effect_of_entry, get_or_past, now, AllZip-long, IsKept, none-some, slice_get_past, resident_in, length-map, Page, same_Some, map-at}
-use Rattle.sled_pagecache.proofs.Counted.{behind-counter, other-at, whole-then}
+use Rattle.sled_pagecache.proofs.Counted.{spares-none, behind-counter, other-at, whole-then}
 use Rattle.sled_pagecache.proofs.Evicting.{keeps-same, settled, settles}
 use Rattle.sled_pagecache.proofs.Settling.{brings-moved, makes-found, reads-moved}
 use Rattle.sled_pagecache.proofs.InMemory.{past-view, listed-at, finds-node, refused-stay}
@@ -21,7 +21,7 @@ invariant_of-self g c =
     let result = c.pull_and_access-read.result in
     let own = done.pulled.own (page-own-at g.L.Log _ c.self.inside.sticky_log _ _ c.args.pid q q c.self.invariant.whole.consistent c.if-self.false behind at) in
     let whole =
-    whole-then g.L.Log c.self.invariant.whole c.if-self.false (λ told clear. ([], done.pulled.went, tt)) (other-at c.self.inside.pages.pages c.args.pid after (behind-counter c.args.pid (behind-own c.args.pid behind)))
+    whole-then g.L.Log c.self.invariant.whole c.if-self.false (spares-none g.L.Log done.pulled.went) (other-at c.self.inside.pages.pages c.args.pid after (behind-counter c.args.pid (behind-own c.args.pid behind)))
     (same-consistent g.L.Log _ _ _ _ c.args.pid q after c.self.invariant.whole.consistent c.if-self.false behind at
     [] done.pulled.went refl done.pulled.same (λ known _. done.pulled.kept known) done.pulled.infos done.pulled.free own) in
     let paged_out = settles c.self.invariant whole c.evict.ensures in
@@ -79,7 +79,7 @@ returns g c =
     let result = c.pull_and_access-read.result in
     let own = done.pulled.own (page-own-at g.L.Log _ c.self.inside.sticky_log _ _ c.args.pid q q c.self.invariant.whole.consistent c.if-self.false behind at) in
     let whole =
-    whole-then g.L.Log c.self.invariant.whole c.if-self.false (λ told clear. ([], done.pulled.went, tt)) (other-at table c.args.pid after (behind-counter c.args.pid (behind-own c.args.pid behind)))
+    whole-then g.L.Log c.self.invariant.whole c.if-self.false (spares-none g.L.Log done.pulled.went) (other-at table c.args.pid after (behind-counter c.args.pid (behind-own c.args.pid behind)))
     (same-consistent g.L.Log _ _ _ _ c.args.pid q after c.self.invariant.whole.consistent c.if-self.false behind at
     [] done.pulled.went refl done.pulled.same (λ known _. done.pulled.kept known) done.pulled.infos done.pulled.free own) in
     let paged_out = settles c.self.invariant whole c.evict.ensures in

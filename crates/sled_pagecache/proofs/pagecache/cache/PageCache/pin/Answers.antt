@@ -34,12 +34,12 @@ returns-in_err-pin g c =
 pub invariant_of-self-2 : goal.invariant_of-self-2
 invariant_of-self-2 g c =
     let done = c.in_ok-pin.ensures in
-    kept-settled g.L.Log _ _ _ _ _ _ _ _ _ c.self.invariant (whole-marked g.L.Log c.self.invariant.whole c.if-self.false c.pin.new.self done.same true c.self.inside.sticky_log refl Pin (λ was. refl) (tt, tt) done.went)
+    kept-settled g.L.Log _ _ _ _ _ _ _ _ _ c.self.invariant (whole-marked g.L.Log c.self.invariant.whole c.if-self.false c.pin.new.self done.same true c.self.inside.sticky_log refl Pin (λ was. refl) (λ n. (tt, tt)) done.went)
 
 pub returns : goal.returns
 returns g c =
     let done = c.in_ok-pin.ensures in
-    let whole = whole-marked g.L.Log c.self.invariant.whole c.if-self.false c.pin.new.self done.same true c.self.inside.sticky_log refl Pin (λ was. refl) (tt, tt) done.went in
+    let whole = whole-marked g.L.Log c.self.invariant.whole c.if-self.false c.pin.new.self done.same true c.self.inside.sticky_log refl Pin (λ was. refl) (λ n. (tt, tt)) done.went in
     record {
       opens = rw (← c.self.view_is) (opens g.L.Log _ _ _ _ _ c.self.inside.sticky_log c.if-self.false c.if-self-2.false c.pin.new.self done.reads done.went done.cause.fault);
       bounded = (kept-settled g.L.Log _ _ _ _ _ _ _ _ _ c.self.invariant whole).bounded;

@@ -48,4 +48,4 @@ pub returns-clause-counted : goal.returns-clause-counted
 returns-clause-counted g c =
     let added = c.in_ok-add_missing.ensures in
     rw c.next_id.ensures
-    (opened-counted g.L.Log c.args.config.idgen_persist_interval c.add_missing.new.sticky_log c.args.pages.pages c.add_missing.new.pages.pages c.args.counter c.requires.read.hold (λ both. ap (λ (t : TableView). t.pages) (added.there both)) added.stable)
+    (opened-counted g.L.Log c.args.config.idgen_persist_interval c.add_missing.new.sticky_log c.args.pages.pages c.add_missing.new.pages.pages c.args.counter (λ free. added.table.kept) c.requires.read.hold (λ both. ap (λ (t : TableView). t.pages) (added.there both)) added.stable)

@@ -5,7 +5,7 @@ use Rattle.sled_pagecache.proofs.pagecache.write.ids.put_counter.Goals as goal
 
 pub returns-clause-put : goal.returns-clause-put
 returns-clause-put g c =
-    makes-written g.L.Log (kept.Counter c.args.n) (omega arith) c.in_ok-info.ensures.wrote c.requires.there (search rules) c.keep_alone.ensures.infos c.keep_alone.ensures.kept
+    makes-written g.L.Log (kept.Counter c.args.n) (omega arith) c.in_ok-info.ensures.wrote c.requires.there (search rules) c.keep_alone.ensures.stamp c.keep_alone.ensures.infos c.keep_alone.ensures.kept
     (omega (arith, c.size_with.ensures, c.serialized_size-payload.ensures)) c.in-Ok.ensures.accessed
 
 -- the stamp is the greatest

@@ -11,7 +11,7 @@ returns g c =
     let done = c.in_ok-info.ensures in
     rw c.in-Roots.is
     (makes-written g.L.Log (kept.Roots (changed_roots c.args.name.now c.args.root c.in-Roots.roots)) map (record { is = written-update (Put (Roots (changed_roots c.args.name.now c.args.root c.in-Roots.roots))) map; writes = done.put.writes }) c.requires.there
-    (search rules) c.keep_alone.ensures.infos (c.keep_alone.ensures.kept ∙ ap kept.Roots done.changed) refl done.put.accessed)
+    (search rules) c.keep_alone.ensures.stamp c.keep_alone.ensures.infos (c.keep_alone.ensures.kept ∙ ap kept.Roots done.changed) refl done.put.accessed)
 
 -- the stamp is the greatest
 pub returns-then-page : goal.returns-then-page

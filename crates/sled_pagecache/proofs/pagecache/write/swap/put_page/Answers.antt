@@ -4,7 +4,7 @@ use Rattle.sled_pagecache.proofs.pagecache.write.swap.put_page.Goals as goal
 
 pub returns : goal.returns
 returns g c =
-    makes-written g.L.Log c.args.kept c.requires.can_put c.in_ok-info.ensures c.requires.there (search rules) c.keep_alone.ensures.infos c.keep_alone.ensures.kept
+    makes-written g.L.Log c.args.kept c.requires.can_put c.in_ok-info.ensures c.requires.there (search rules) c.keep_alone.ensures.stamp c.keep_alone.ensures.infos c.keep_alone.ensures.kept
     (omega (arith, c.size_with.ensures, c.payload_size-payload.ensures.size)) c.in-Ok.ensures.accessed
 
 -- the stamp is the greatest
