@@ -4,8 +4,6 @@ use Rattle.std.proofs.lemmas.Grind.{flat_map-append}
 use Rattle.std.specs.Prelude.{ℕ, ⊤}
 use Rattle.sled_base.specs.Order.{Bytes}
 use Rattle.sled_base.specs.declared.types.Error.{Error}
-use Rattle.sled_log.specs.Messages.{Messages, effect_of}
-use Rattle.sled_log.specs.LogState.{IsLeft, unplaced_state}
 use Rattle.sled_log.specs.declared.log.Log.{Ghosts}
 use Rattle.sled_pagecache.specs.Cache.{Cache}
 use Rattle.sled_pagecache.specs.Inside.SequenceLaws.{OnlyNow, made-then, row-none, row-one, row-then}

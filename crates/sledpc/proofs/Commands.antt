@@ -15,7 +15,7 @@ use Rattle.sled_node.specs.Node.{Value, WholeNode, leaf_of}
 use Rattle.sled_node.specs.Pairs.{IsWithinLimit, HasPairs}
 use Rattle.sled_pagecache.specs.State.{Token, token, pid_of, stamp_of}
 use Rattle.sled_pagecache.specs.declared.pagecache.handles.call.Call.{Call}
-use Rattle.sled_pagecache.specs.declared.pagecache.handles.call.Call.TheVariants.{Allocate, Get, Link, Replace, Free, GetMeta, MetaPidForName, CasRoot, GetIdgen, GenerateId, Flush, SizeOnDisk, SpaceAmplification, TakeFuzzySnapshot, Pin, Seal, Cancel}
+use Rattle.sled_pagecache.specs.declared.pagecache.handles.call.Call.TheVariants.{Allocate, Get, Link, Replace, Free, GetMeta, MetaPidForName, CasRoot, GetIdgen, GenerateId, Flush, SizeOnDisk, SpaceAmplification, TakeFuzzySnapshot, AttemptGc, Pin, Seal, Cancel}
 use Rattle.sledpc.specs.Asked.{AsksBehind, AreTwo, BeginsWithToken, EncodeLeaf, EncodeRoots, at_the_end}
 use Rattle.sledpc.specs.Commands.{Asks, IsRootNumber, IsToken, Encodes, EncodesOpen, IsCommand, IsOfScript, mark_word, root_word}
 use Rattle.sledpc.specs.Cut.{HasNo}
@@ -75,6 +75,7 @@ key_of GenerateId = 25705
 key_of Flush = 7695462
 key_of SizeOnDisk = 8022387
 key_of SpaceAmplification = 7368033
+key_of AttemptGc = 25447
 key_of call = 0
 
 pub asks_by_key : (words : List Bytes) (call : Call) → Asks words call → key_of_name (get_or words 0 []) ≡ key_of call
@@ -90,6 +91,7 @@ asks_by_key words GenerateId asks = ap (λ (w : List Bytes). key_of_name (get_or
 asks_by_key words Flush asks = ap (λ (w : List Bytes). key_of_name (get_or w 0 [])) asks
 asks_by_key words SizeOnDisk asks = ap (λ (w : List Bytes). key_of_name (get_or w 0 [])) asks
 asks_by_key words SpaceAmplification asks = ap (λ (w : List Bytes). key_of_name (get_or w 0 [])) asks
+asks_by_key words AttemptGc asks = ap (λ (w : List Bytes). key_of_name (get_or w 0 [])) asks
 asks_by_key words call asks = absurd asks
 
 -- ---- the pairs of `alloc` and of `replace`
@@ -379,9 +381,16 @@ amp_asked text SpaceAmplification asked =
 amp_asked text (Link old ChildMergeCap) asked = absurd (asked.1)
 amp_asked text call asked = let e : ◌≡◌ {A = ℕ} 7368033 (key_of call) = asks_by_key (codes "amp" ∷ asked.0) call (asked.1) in absurd (omega (arith, e))
 
+pub gc_asked : (text : Option Bytes) (call : Call) → AsksBehind (codes "gc") text call → text ≡ None
+gc_asked text AttemptGc asked =
+    let e : asked.0 ≡ [] = cc (asked.1) in
+    asked.2 ∙ ap after_name e
+gc_asked text (Link old ChildMergeCap) asked = absurd (asked.1)
+gc_asked text call asked = let e : ◌≡◌ {A = ℕ} 25447 (key_of call) = asks_by_key (codes "gc" ∷ asked.0) call (asked.1) in absurd (omega (arith, e))
+
 -- ---- a line by its name
 
--- words that ask for a call begin with one of twelve names
+-- words that ask for a call begin with one of thirteen names
 record IsNamed (words : List Bytes) : Type 0 where
   name : Bytes
   rest : List Bytes
@@ -411,6 +420,7 @@ is_named words GenerateId asks = record { name = codes "id"; rest = []; plain = 
 is_named words Flush asks = record { name = codes "flush"; rest = []; plain = search rules; joined = asks }
 is_named words SizeOnDisk asks = record { name = codes "size"; rest = []; plain = search rules; joined = asks }
 is_named words SpaceAmplification asks = record { name = codes "amp"; rest = []; plain = search rules; joined = asks }
+is_named words AttemptGc asks = record { name = codes "gc"; rest = []; plain = search rules; joined = asks }
 is_named words TakeFuzzySnapshot asks = absurd asks
 
 -- a line that encodes a call is its name and the text behind it
@@ -470,21 +480,22 @@ seven_bytes (x0 ∷ x1 ∷ x2 ∷ x3 ∷ x4 ∷ x5 ∷ []) a b c d e f g n p q r
 seven_bytes (x0 ∷ x1 ∷ x2 ∷ x3 ∷ x4 ∷ x5 ∷ x6 ∷ []) a b c d e f g n p q r s t u v = cc
 seven_bytes (x0 ∷ x1 ∷ x2 ∷ x3 ∷ x4 ∷ x5 ∷ x6 ∷ y ∷ more) a b c d e f g n p q r s t u v = absurd (omega (arith, n))
 
--- there are twelve names
-pub no_name : (name : Bytes) (text : Option Bytes) (call : Call) → name ≢ codes "alloc" → name ≢ codes "get" → name ≢ codes "set" → name ≢ codes "del" → name ≢ codes "replace" → name ≢ codes "free" → name ≢ codes "root" → name ≢ codes "cas" → name ≢ codes "id" → name ≢ codes "flush" → name ≢ codes "size" → name ≢ codes "amp" → AsksBehind name text call → ⊥
-no_name name text (Allocate node) alloc get set del replace free root cas id flush size amp asked = alloc (cc (asked.1.2))
-no_name name text (Get pid) alloc get set del replace free root cas id flush size amp asked = get (cc (asked.1.1))
-no_name name text (Link old (Set key value)) alloc get set del replace free root cas id flush size amp asked = set (cc (asked.1.3))
-no_name name text (Link old (Del key)) alloc get set del replace free root cas id flush size amp asked = del (cc (asked.1.2))
-no_name name text (Replace old node) alloc get set del replace free root cas id flush size amp asked = replace (cc (asked.1.3))
-no_name name text (Free old) alloc get set del replace free root cas id flush size amp asked = free (cc (asked.1.1))
-no_name name text (MetaPidForName asked_name) alloc get set del replace free root cas id flush size amp asked = root (cc (asked.1.1))
-no_name name text (CasRoot asked_name old new) alloc get set del replace free root cas id flush size amp asked = cas (cc (asked.1.3))
-no_name name text GenerateId alloc get set del replace free root cas id flush size amp asked = id (cc (asked.1))
-no_name name text Flush alloc get set del replace free root cas id flush size amp asked = flush (cc (asked.1))
-no_name name text SizeOnDisk alloc get set del replace free root cas id flush size amp asked = size (cc (asked.1))
-no_name name text SpaceAmplification alloc get set del replace free root cas id flush size amp asked = amp (cc (asked.1))
-no_name name text call alloc get set del replace free root cas id flush size amp asked = asked.1
+-- there are thirteen names
+pub no_name : (name : Bytes) (text : Option Bytes) (call : Call) → name ≢ codes "alloc" → name ≢ codes "get" → name ≢ codes "set" → name ≢ codes "del" → name ≢ codes "replace" → name ≢ codes "free" → name ≢ codes "root" → name ≢ codes "cas" → name ≢ codes "id" → name ≢ codes "flush" → name ≢ codes "size" → name ≢ codes "amp" → name ≢ codes "gc" → AsksBehind name text call → ⊥
+no_name name text (Allocate node) alloc get set del replace free root cas id flush size amp gc asked = alloc (cc (asked.1.2))
+no_name name text (Get pid) alloc get set del replace free root cas id flush size amp gc asked = get (cc (asked.1.1))
+no_name name text (Link old (Set key value)) alloc get set del replace free root cas id flush size amp gc asked = set (cc (asked.1.3))
+no_name name text (Link old (Del key)) alloc get set del replace free root cas id flush size amp gc asked = del (cc (asked.1.2))
+no_name name text (Replace old node) alloc get set del replace free root cas id flush size amp gc asked = replace (cc (asked.1.3))
+no_name name text (Free old) alloc get set del replace free root cas id flush size amp gc asked = free (cc (asked.1.1))
+no_name name text (MetaPidForName asked_name) alloc get set del replace free root cas id flush size amp gc asked = root (cc (asked.1.1))
+no_name name text (CasRoot asked_name old new) alloc get set del replace free root cas id flush size amp gc asked = cas (cc (asked.1.3))
+no_name name text GenerateId alloc get set del replace free root cas id flush size amp gc asked = id (cc (asked.1))
+no_name name text Flush alloc get set del replace free root cas id flush size amp gc asked = flush (cc (asked.1))
+no_name name text SizeOnDisk alloc get set del replace free root cas id flush size amp gc asked = size (cc (asked.1))
+no_name name text SpaceAmplification alloc get set del replace free root cas id flush size amp gc asked = amp (cc (asked.1))
+no_name name text AttemptGc alloc get set del replace free root cas id flush size amp gc asked = gc (cc (asked.1))
+no_name name text call alloc get set del replace free root cas id flush size amp gc asked = asked.1
 
 -- what no call is asked for behind the name, no call is encoded for by the line
 pub none_encoded : (line name : Bytes) (text : Option Bytes) (found : Option Call) → BeginsLine line name text → IfNone found ((call : Call) → AsksBehind name text call → ⊥) → IfNone found ((call : Call) → Encodes line call → ⊥)

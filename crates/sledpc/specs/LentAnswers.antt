@@ -1,7 +1,7 @@
 -- The answers that are lent to a reply, as answers.
 use Rattle.sled_pagecache.specs.Lending.{lent_answer}
 use Rattle.sled_pagecache.specs.declared.pagecache.handles.call.Answer.{Answer}
-use Rattle.sled_pagecache.specs.declared.pagecache.handles.call.Answer.TheVariants.{Allocated, Got, Linked, Replaced, Freed, FoundRoot, RootSwapped, Generated, Flushed, Sized, Amplified}
+use Rattle.sled_pagecache.specs.declared.pagecache.handles.call.Answer.TheVariants.{Allocated, Got, Linked, Replaced, Freed, FoundRoot, RootSwapped, Generated, Flushed, Sized, Amplified, AttemptedGc}
 use Rattle.sledpc.specs.declared.script.reply.LentAnswer.{LentAnswer}
 use Rattle.sledpc.specs.declared.script.reply.LentAnswer.TheVariants as lent
 
@@ -17,3 +17,4 @@ answer_of (lent.Generated answer) = Generated answer.now
 answer_of (lent.Flushed answer) = Flushed answer.now
 answer_of (lent.Sized answer) = Sized answer.now
 answer_of (lent.Amplified answer) = Amplified answer.now
+answer_of (lent.AttemptedGc answer) = AttemptedGc answer.now

@@ -1,5 +1,5 @@
 -- The reply to an answer.
-use Rattle.std.specs.Prelude.{ℕ, [], ◌∷◌, ◌++◌, None, Some, Result, Ok, Err, codes, flat_map, if◌then◌else◌}
+use Rattle.std.specs.Prelude.{ℕ, [], ◌∷◌, ◌++◌, None, Some, Result, Ok, Err, codes, flat_map, if◌then◌else◌, true, false}
 use Rattle.std.specs.Fmt.{decimal}
 use Rattle.sled_base.specs.Errors.{number_of_why, number_of_bug}
 use Rattle.sled_base.specs.Order.{Bytes}
@@ -10,7 +10,7 @@ use Rattle.sled_node.specs.Node.{Item, Value, Child, WholeNode}
 use Rattle.sled_pagecache.specs.State.{stamp_of}
 use Rattle.sled_pagecache.specs.Step.{Swapped}
 use Rattle.sled_pagecache.specs.declared.pagecache.handles.call.Answer.{Answer}
-use Rattle.sled_pagecache.specs.declared.pagecache.handles.call.Answer.TheVariants.{Allocated, Got, Linked, Replaced, Freed, GotMeta, FoundRoot, RootSwapped, GotIdgen, Generated, Flushed, Sized, Amplified, TookSnapshot, Pinned, Sealed, Cancelled}
+use Rattle.sled_pagecache.specs.declared.pagecache.handles.call.Answer.TheVariants.{Allocated, Got, Linked, Replaced, Freed, GotMeta, FoundRoot, RootSwapped, GotIdgen, Generated, Flushed, Sized, Amplified, TookSnapshot, AttemptedGc, Pinned, Sealed, Cancelled}
 use Rattle.sledpc.specs.Words.{bytes_word}
 
 abbrev pub error_text : Error → Bytes
@@ -77,6 +77,10 @@ reply_of (Sized (Ok bytes)) = codes "size " ++ decimal bytes
 reply_of (Sized (Err e)) = error_text e
 reply_of (Amplified (Ok sizes)) = codes "amp " ++ decimal sizes.0 ++ codes " " ++ decimal sizes.1
 reply_of (Amplified (Err e)) = error_text e
+-- was a page due to be moved?
+reply_of (AttemptedGc (Ok true)) = codes "moved"
+reply_of (AttemptedGc (Ok false)) = codes "idle"
+reply_of (AttemptedGc (Err e)) = error_text e
 
 -- the reply to the opening of a tree
 abbrev pub reply_of_tree : Result ℕ Error → Bytes

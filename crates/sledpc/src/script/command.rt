@@ -126,6 +126,7 @@ pub fn call_of(alloc: Global, line: &[u8]) -> Result<Option<Call>, AllocError>
         b"flush" => Ok(flush_of(arguments)),
         b"size" => Ok(size_of(arguments)),
         b"amp" => Ok(amp_of(arguments)),
+        b"gc" => Ok(gc_of(arguments)),
         _ => Ok(None),
     }
 }
@@ -379,6 +380,19 @@ fn amp_of(arguments: Option<&[u8]>) -> Option<Call>
 {
     match arguments {
         None => Some(Call::SpaceAmplification),
+        Some(_) => None,
+    }
+}
+
+// `gc`
+fn gc_of(arguments: Option<&[u8]>) -> Option<Call>
+    ensures some { IfSome result
+        (AsksBehind (codes "gc") (option_map (λ rest. rest.now) arguments.entry)) }
+    ensures none { IfNone result ((call : Call)
+        → ¬ AsksBehind (codes "gc") (option_map (λ rest. rest.now) arguments.entry) call) }
+{
+    match arguments {
+        None => Some(Call::AttemptGc),
         Some(_) => None,
     }
 }

@@ -200,6 +200,7 @@ fn serve_call<L: Log, W: Write>(
         Call::Flush => serve_flush(cache, writer, piece),
         Call::SizeOnDisk => serve_size(cache, writer, piece),
         Call::SpaceAmplification => serve_amp(cache, writer, piece),
+        Call::AttemptGc => serve_gc(cache, writer, piece),
     }
 }
 
@@ -343,4 +344,16 @@ fn serve_amp<L: Log, W: Write>(
 {
     let answer = cache.space_amplification();
     gather_line(writer, piece, LentAnswer::Amplified(&answer))
+}
+
+fn serve_gc<L: Log, W: Write>(
+    cache: &mut PageCache<L>,
+    writer: &mut W,
+    piece: &mut Piece,
+) -> Result<(), Unwritten>
+    ensures { RepliesTo L.Log cache.old calls.AttemptGc (W.contents writer.old)
+        (W.contents writer.new) piece.old piece.new result cache.new }
+{
+    let answer = cache.attempt_gc();
+    gather_line(writer, piece, LentAnswer::AttemptedGc(&answer))
 }

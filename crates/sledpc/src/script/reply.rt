@@ -31,6 +31,7 @@ pub enum LentAnswer<'a> {
     Flushed(&'a Result<usize, Error>),
     Sized(&'a Result<u64, Error>),
     Amplified(&'a Result<(u64, u128), Error>),
+    AttemptedGc(&'a Result<bool, Error>),
 }
 
 /// Puts the reply to an answer as a line behind what was gathered.
@@ -72,13 +73,16 @@ pub fn gather_line<W: Write>(
         ),
         LentAnswer::Sized(Ok(bytes)) => gather_labelled(writer, piece, b"size ", *bytes),
         LentAnswer::Amplified(Ok((bytes, pages))) => gather_sizes(writer, piece, *bytes, *pages),
+        LentAnswer::AttemptedGc(Ok(true)) => gather_text(writer, piece, b"moved\n"),
+        LentAnswer::AttemptedGc(Ok(false)) => gather_text(writer, piece, b"idle\n"),
         LentAnswer::Allocated(Err(error))
         | LentAnswer::FoundRoot(Err(error))
         | LentAnswer::RootSwapped(Err(error))
         | LentAnswer::Generated(Err(error))
         | LentAnswer::Flushed(Err(error))
         | LentAnswer::Sized(Err(error))
-        | LentAnswer::Amplified(Err(error)) => gather_error(writer, piece, error),
+        | LentAnswer::Amplified(Err(error))
+        | LentAnswer::AttemptedGc(Err(error)) => gather_error(writer, piece, error),
         LentAnswer::Got(Err(refusal)) => gather_error(writer, piece, &Error::from(refusal)),
     }
 }

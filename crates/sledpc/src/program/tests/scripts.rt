@@ -43,7 +43,7 @@ const REPLIES: &[(&str, &str)] = &[
         "alloc\nset 2 1 6 62\nset 2 1 61 6G\nset 2 1 61 6A\nset 2 1 61\nset 2 1 61 62 63\nset  2 1 61 62\nget 2\n",
         "page 2 1\nerror line\nerror line\nerror line\nerror line\nerror line\nerror line\nleaf 1\n",
     ),
-    ("gc\n", "error line\n"),
+    ("gc \ngc 0\nGC\n", "error line\nerror line\nerror line\n"),
     (
         "pin\nalloc 61=62\nflush\npin\nseal\nseal\nget 0\n",
         "ok\npage 2 1\nerror unsupported 8\nerror unsupported 8\nok\nerror line\nerror unsupported 1\n",
@@ -131,6 +131,11 @@ const REPLIES: &[(&str, &str)] = &[
     (
         "size\nalloc\nset 2 1 62 76\nsize\nflush\nflush\nsize\n",
         "size 35\npage 2 1\nok 2\nsize 82\nflushed 47\nflushed 0\nsize 82\n",
+    ),
+    // One message is due for each sixteen that were appended, and first that of page 0.
+    (
+        "gc\nalloc\nalloc\nalloc\nalloc\nalloc\nalloc\nalloc\nalloc\nalloc\nalloc\nalloc\nalloc\nalloc\nalloc\ngc\nsize\ngc\n",
+        "idle\npage 2 1\npage 3 1\npage 4 1\npage 5 1\npage 6 1\npage 7 1\npage 8 1\npage 9 1\npage 10 1\npage 11 1\npage 12 1\npage 13 1\npage 14 1\npage 15 1\nmoved\nsize 402\nidle\n",
     ),
     (
         "amp\nalloc\namp\nset 2 1 62 76\namp\nfree 2 2\namp\ncas 61 - 2\namp\n",

@@ -22,6 +22,7 @@ enum Wanted<'a> {
     Flush,
     Size,
     Amp,
+    Gc,
     Open(&'a str),
     Mark(Mark),
 }
@@ -58,7 +59,8 @@ fn is_wanted(call: &Call, want: Wanted<'_>) -> bool {
         (Call::GenerateId, Wanted::Id)
         | (Call::Flush, Wanted::Flush)
         | (Call::SizeOnDisk, Wanted::Size)
-        | (Call::SpaceAmplification, Wanted::Amp) => true,
+        | (Call::SpaceAmplification, Wanted::Amp)
+        | (Call::AttemptGc, Wanted::Gc) => true,
         _ => false,
     }
 }
@@ -120,6 +122,7 @@ fn asks_for_calls(rt: HostRuntime) -> Result<(), Fail> {
         ("flush", Wanted::Flush),
         ("size", Wanted::Size),
         ("amp", Wanted::Amp),
+        ("gc", Wanted::Gc),
         ("open 74", Wanted::Open("t")),
         ("open -", Wanted::Open("")),
         ("pin", Wanted::Mark(Mark::Pin)),
@@ -176,6 +179,10 @@ fn asks_for_nothing(rt: HostRuntime) -> Result<(), Fail> {
         "amp 2",
         "AMP",
         "am",
+        "gc ",
+        "gc 2",
+        "GC",
+        "g",
         "open",
         "open ",
         "open 7",

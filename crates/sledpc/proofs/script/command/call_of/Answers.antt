@@ -37,7 +37,7 @@ returns-in-alloc-clause-none c =
     none_encoded_if_ok _ _ _ _ c.first_word.ensures (rw name c.allocate_of.ensures.none)
 
 pub returns-in_default-clause-none : goal.returns-in_default-clause-none
-returns-in_default-clause-none c = λ call encodes. no_name _ _ call (λ e. grind (arith, common_steps)) (λ e. grind (arith, common_steps)) (λ e. grind (arith, common_steps)) (λ e. grind (arith, common_steps)) (λ e. grind (arith, common_steps)) (λ e. grind (arith, common_steps)) (λ e. grind (arith, common_steps)) (λ e. grind (arith, common_steps)) (λ e. grind (arith, common_steps)) (λ e. grind (arith, common_steps)) (λ e. grind (arith, common_steps)) (λ e. grind (arith, common_steps)) (encoded_behind _ _ _ call c.first_word.ensures encodes)
+returns-in_default-clause-none c = λ call encodes. no_name _ _ call (λ e. grind (arith, common_steps)) (λ e. grind (arith, common_steps)) (λ e. grind (arith, common_steps)) (λ e. grind (arith, common_steps)) (λ e. grind (arith, common_steps)) (λ e. grind (arith, common_steps)) (λ e. grind (arith, common_steps)) (λ e. grind (arith, common_steps)) (λ e. grind (arith, common_steps)) (λ e. grind (arith, common_steps)) (λ e. grind (arith, common_steps)) (λ e. grind (arith, common_steps)) (λ e. grind (arith, common_steps)) (encoded_behind _ _ _ call c.first_word.ensures encodes)
 
 pub returns-in-free-clause-none : goal.returns-in-free-clause-none
 returns-in-free-clause-none c =
@@ -73,3 +73,8 @@ pub returns-in-amp-clause-none : goal.returns-in-amp-clause-none
 returns-in-amp-clause-none c =
     let name : c.first_word.result.0.now ≡ codes "amp" = grind (arith, common_steps) in
     none_encoded _ _ _ _ c.first_word.ensures (rw name c.amp_of.ensures.none)
+
+pub returns-in-gc-clause-none : goal.returns-in-gc-clause-none
+returns-in-gc-clause-none c =
+    let name : c.first_word.result.0.now ≡ codes "gc" = grind (arith, common_steps) in
+    none_encoded _ _ _ _ c.first_word.ensures (rw name c.gc_of.ensures.none)
