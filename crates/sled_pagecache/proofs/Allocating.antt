@@ -1,5 +1,5 @@
 -- Allocating a page, as a step of the machine.
-use Rattle.sled_pagecache.proofs.Names.{Recency, ◌≡◌, ◌≢◌, inl, inr, ◌≤◌, ◌+◌, ◌-◌, ◌^◌, ℕ, suc, Bool, true, false, cond, List, [], ◌∷◌, ◌++◌, length, take, Option, Some, None, Result, Ok, Err, slice_get, slice_set, refl, sym, ◌∙◌, ap, arith, eq-eqb, ne_eqb, slice_get_within, Error, Unsupported, Refusal, PagesUsedUp, StampUsedUp, Node, Put, Change, IsUpdate, message_of, Ghosts, WholeNode, RefusesPage, Cache, chain_length, HasNoRoom, StepOver, Represents, Steps, Went, IsCaused, begun_by, Logged, free_ids, page, State, with_page, free_token, later_token, greatest_free, Outcome, outcome, no_change, RefusesSwap, AreOwn, IsConsistent, Token, token, Allocated, Allocate, Config, StickyLog, error_by, StampedPage, KeptPage, at-id, view, length-append, nil_from_length, take_more, past-end, get_or_from_slice_get, take_all, AddsPage, ReusesPage}
+use Rattle.sled_pagecache.proofs.Names.{Recency, ◌≡◌, ◌≢◌, inl, inr, ◌≤◌, ◌+◌, ◌-◌, ◌^◌, ℕ, suc, Bool, true, false, cond, List, [], ◌∷◌, ◌++◌, length, take, Option, Some, None, Result, Ok, Err, slice_get, slice_set, refl, sym, ◌∙◌, ap, arith, eq-eqb, ne_eqb, slice_get_within, Error, Unsupported, Refusal, PagesUsedUp, StampUsedUp, Node, Put, Change, IsUpdate, message_of, Ghosts, WholeNode, RefusesPage, Cache, chain_length, HasNoRoom, ActOver, Represents, Acts, Went, IsCaused, begun_by, Logged, free_ids, page, State, with_page, free_token, later_token, greatest_free, Outcome, outcome, no_change, RefusesSwap, AreOwn, IsConsistent, Token, token, Allocated, Allocate, Config, StickyLog, error_by, StampedPage, KeptPage, at-id, view, length-append, nil_from_length, take_more, past-end, get_or_from_slice_get, take_all, AddsPage, ReusesPage}
 use Rattle.sled_pagecache.proofs.Putting.{unless-clear, MayPut, may-set, may-add, nothing-appended, put-refused, put-set, put-added}
 use Rattle.sled_pagecache.proofs.Standing.{AreKnown, known-length}
 use Rattle.sled_pagecache.specs.Table as shown
@@ -96,7 +96,7 @@ module _ {L : Type 0} (g : Ghosts L) (next : ℕ) (config : Config) (recovered :
 
   -- no page is free
   module _ (none : free ≡ []) where
-    adds : (s : State) → s.fault ≡ false → AreKnown s.pages table → (answer : Result (ℕ × Token) Error) (out : Outcome) → AddsPage (chain_length g.state (cache before table)) (HasNoRoom g before.log) s node answer out → StepOver g (cache before table) s (Allocate node) (Allocated answer) out
+    adds : (s : State) → s.fault ≡ false → AreKnown s.pages table → (answer : Result (ℕ × Token) Error) (out : Outcome) → AddsPage (chain_length g.state (cache before table)) (HasNoRoom g before.log) s node answer out → ActOver g (cache before table) s (Allocate node) (Allocated answer) out
     adds s clear are answer out h = unless-clear s answer out _ clear (rw (none-free 0 table (sym kept.free ∙ none) s.pages are) h)
 
     may-new : length table ≢ 2 ^ 37 → (held : Logged) (s : State) → Represents g (cache before table) held s → s.fault ≡ false → MayPut g before.log held (length table) (Node node)
@@ -105,7 +105,7 @@ module _ {L : Type 0} (g : Ghosts L) (next : ℕ) (config : Config) (recovered :
     pub adds-refused : pages ≡ table → (refusal : Refusal) → RefusesPage (length table) refusal
         → (let told : Result (Unit {0}) Refusal = Err refusal in Went g before after (begun_by told (Change (length table) (message_of (Put (Node node))) ∷ [])))
         → (let told : Result (Unit {0}) Refusal = Err refusal in IsCaused g before after (g.is_full before.log (length (message_of (Put (Node node))).payload)) told)
-        → Steps g (cache before table) (Allocate node) (Allocated (Err (error_by refusal))) (cache after pages)
+        → Acts g (cache before table) (Allocate node) (Allocated (Err (error_by refusal))) (cache after pages)
     adds-refused back refusal (inl (many, is)) =
         rw is (λ went cause. nothing-appended g next config recovered lru before table ready (kept.beside ready) after (Allocate node) pages back (Allocated (Err (Unsupported PagesUsedUp))) went cause.fault
         (λ held s _ clear are. adds s clear are (Err (Unsupported PagesUsedUp)) (no_change s) (rw (eq-eqb (length s.pages) (2 ^ 37) (known-length s.pages table are ∙ many)) (refl, refl))))
@@ -116,7 +116,7 @@ module _ {L : Type 0} (g : Ghosts L) (next : ℕ) (config : Config) (recovered :
 
     pub adds-done : length table ≢ 2 ^ 37 → Went g before after (Change (length table) (message_of (Put (Node node))) ∷ []) → after.fault ≡ false
         → (added : KeptPage) → added.stamp ≡ 1 → pages ≡ table ++ added ∷ [] → (pid : ℕ) → pid ≡ length table → (made : Token) → made ≡ token pid 1
-        → Steps g (cache before table) (Allocate node) (Allocated (Ok (pid, made))) (cache after pages)
+        → Acts g (cache before table) (Allocate node) (Allocated (Ok (pid, made))) (cache after pages)
     adds-done room went clear_after added first behind pid last made is =
         rw behind (put-added g next config recovered lru before table ready (kept.beside ready) after (Allocate node) (length table) (Node node) reads (may-new room) went clear_after (Allocated (Ok (pid, made))) 1 added first refl
         (λ held s _ clear are.
@@ -129,13 +129,13 @@ module _ {L : Type 0} (g : Ghosts L) (next : ℕ) (config : Config) (recovered :
     may-reuse held s is clear =
         may-set g next config recovered lru before table ready (kept.beside ready) held s is clear pid (Node node) tt (free-from table pid last.page kept.own (last-at table front pid last) last.free) (slice_get_within table pid last.page (last-at table front pid last))
 
-    reuses : (s : State) → s.fault ≡ false → AreKnown s.pages table → (answer : Result (ℕ × Token) Error) (out : Outcome) → ReusesPage (chain_length g.state (cache before table)) (HasNoRoom g before.log) s node (token pid last.page.stamp) answer out → StepOver g (cache before table) s (Allocate node) (Allocated answer) out
+    reuses : (s : State) → s.fault ≡ false → AreKnown s.pages table → (answer : Result (ℕ × Token) Error) (out : Outcome) → ReusesPage (chain_length g.state (cache before table)) (HasNoRoom g before.log) s node (token pid last.page.stamp) answer out → ActOver g (cache before table) s (Allocate node) (Allocated answer) out
     reuses s clear are answer out h = unless-clear s answer out _ clear (rw (last.greatest s.pages are) h)
 
     pub reuses-refused : pages ≡ table → (refusal : Refusal) → RefusesSwap last.page.stamp refusal
         → (let told : Result (Unit {0}) Refusal = Err refusal in Went g before after (begun_by told (Change pid (message_of (Put (Node node))) ∷ [])))
         → (let told : Result (Unit {0}) Refusal = Err refusal in IsCaused g before after (g.is_full before.log (length (message_of (Put (Node node))).payload)) told)
-        → Steps g (cache before table) (Allocate node) (Allocated (Err (error_by refusal))) (cache after pages)
+        → Acts g (cache before table) (Allocate node) (Allocated (Err (error_by refusal))) (cache after pages)
     reuses-refused back refusal (inl (greatest, is)) =
         rw is (λ went cause. nothing-appended g next config recovered lru before table ready (kept.beside ready) after (Allocate node) pages back (Allocated (Err (Unsupported StampUsedUp))) went cause.fault
         (λ held s _ clear are. reuses s clear are (Err (Unsupported StampUsedUp)) (no_change s) (rw (eq-eqb last.page.stamp (2 ^ 64 - 1) greatest) (refl, refl))))
@@ -146,7 +146,7 @@ module _ {L : Type 0} (g : Ghosts L) (next : ℕ) (config : Config) (recovered :
 
     pub reuses-done : last.page.stamp ≢ 2 ^ 64 - 1 → Went g before after (Change pid (message_of (Put (Node node))) ∷ []) → after.fault ≡ false
         → (changed : KeptPage) → changed.stamp ≡ last.page.stamp + 1 → pages ≡ slice_set table pid changed → (made : Token) → made ≡ token pid changed.stamp
-        → Steps g (cache before table) (Allocate node) (Allocated (Ok (pid, made))) (cache after pages)
+        → Acts g (cache before table) (Allocate node) (Allocated (Ok (pid, made))) (cache after pages)
     reuses-done below went clear_after changed risen back made is =
         rw back (put-set g next config recovered lru before table ready (kept.beside ready) after (Allocate node) pid (Node node) reads may-reuse went clear_after (Allocated (Ok (pid, made))) (last.page.stamp + 1) changed risen (slice_get_within table pid last.page (last-at table front pid last))
         (λ held s _ clear are.

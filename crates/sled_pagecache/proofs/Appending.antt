@@ -1,5 +1,5 @@
 -- What follows from an append to one page that was made, or refused, once what the list dropped for it is paged out.
-use Rattle.sled_pagecache.proofs.Names.{inl, lost_by, answer_behind, content_of, no_name, HasNoName, KeepsMemory, ReadsNothing, IfOk, IfErr, OnOk, IsFresh, ◌≡◌, ◌≤◌, ◌+◌, ℕ, Bool, true, false, List, [], ◌∷◌, Some, None, Result, Ok, Err, slice_get, slice_set, refl, sym, ◌∙◌, ap, subst, arith, slice_get_within, error_of, Error, Refusal, Change, message_of, begun_by, Put, Update, Ghosts, Cache, IsResident, HasNoNode, HasNoRoom, chain_length, IsBounded, AccessesPage, EvictsAtMost, MakesAppend, RefusesAppend, OnErr, Keeps, Steps, IsBlamed, stamps_after_swap, Swapped, SwapsContent, stamps_in, is_resident, free_ids, IsFreeOrNode, IsAnswered, Token, token, Answer, Call, Config, StickyLog, Accesses, Page, Kept, IsWhole, Evicts, IsSettled, behind-own, put-back, view}
+use Rattle.sled_pagecache.proofs.Names.{answered, inl, lost_by, answer_behind, content_of, no_name, HasNoName, KeepsMemory, ReadsNothing, IfOk, IfErr, OnOk, IsFresh, ◌≡◌, ◌≤◌, ◌+◌, ℕ, Bool, true, false, List, [], ◌∷◌, Some, None, Result, Ok, Err, slice_get, slice_set, refl, sym, ◌∙◌, ap, subst, arith, slice_get_within, error_of, Error, Refusal, Change, message_of, begun_by, Put, Update, Ghosts, Cache, IsResident, HasNoNode, HasNoRoom, chain_length, IsBounded, AccessesPage, EvictsAtMost, MakesAppend, RefusesAppend, OnErr, Keeps, Acts, IsBlamed, stamps_after_swap, Swapped, SwapsContent, stamps_in, is_resident, free_ids, IsFreeOrNode, IsAnswered, Token, token, Answer, Call, Config, StickyLog, Accesses, Page, Kept, IsWhole, Evicts, IsSettled, behind-own, put-back, view}
 use Rattle.sled_pagecache.proofs.Answers.{keeps-err}
 use Rattle.sled_pagecache.proofs.CacheSteps.{steps-known}
 use Rattle.sled_pagecache.proofs.Counted.{spares-other, behind-counter, other-at, spares-refused, whole-then}
@@ -18,7 +18,7 @@ use Rattle.sled_pagecache.proofs.Tables.{consistent-same, consistent-put, marks-
 
 -- What follows of the cache, beside the cache before the eviction: of the machine, and of memory.
 pub record Evicted {L T : Type 0} (g : Ghosts L) (was mid now : Cache L) (result : Result T Error) : Type 0 where
-  pub steps : (call : Call) (answer : Answer) → Steps g was call answer mid → Steps g was call answer now
+  pub steps : (call : Call) (answer : Answer) → Acts g was call answer mid → Acts g was call answer now
   pub blame : IsBlamed g was mid result → IsBlamed g was now result
   pub keeps : (stamps : T → List ℕ) → Keeps was mid result stamps → OnErr result (was.fault ≡ true → mid ≡ was → now ≡ was) → Keeps was now result stamps
   pub stamps : now.stamps ≡ mid.stamps
@@ -108,7 +108,7 @@ module _ {L : Type 0} (g : Ghosts L) {next : ℕ} {config : Config} {recovered :
 -- All that a swap promises that puts a content in place of another.
 abbrev pub SwapPromises : {L R : Type 0} → Ghosts L → Cache L → ℕ → Token → R → Call → (Swapped R → Answer) → (Cache L → Type 0) → Cache L → Swapped R → Type 0
 SwapPromises g was pid old given call answered LiesThere now result = record {
-  step : Steps g was call (answered result) now;
+  step : Acts g was call (answered result) now;
   blame : IsBlamed g was now result;
   keeps : Keeps was now result (stamps_after_swap was.stamps);
   token : IfOk result (IsAnswered was.stamps old given);

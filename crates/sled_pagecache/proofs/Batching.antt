@@ -1,5 +1,5 @@
 -- Opening and closing a batch, as steps of the machine.
-use Rattle.sled_pagecache.proofs.Names.{arith, no_name, Recency, ◌≡◌, ℕ, effect_of_entry, is_open, is_write_fault, Bool, true, false, List, [], ◌∷◌, Result, Ok, Err, refl, sym, ◌∙◌, subst, false≢true, Write, Error, Refusal, chains_from, Content, Update, contents_from, Event, Pin, Message, Messages, effect_of, open_after, Ghosts, Cache, Represents, Steps, StepOver, Went, Went-none, IsCaused, IsOfLog, begun_by, Logged, State, Outcome, outcome, no_change, Answer, Call, Config, StickyLog, Page, HasGrown, error_of, BatchOpen, IsEvent, MayCome, IsWhole, Closes, with_batch_closed, Pinned, view}
+use Rattle.sled_pagecache.proofs.Names.{Steps, arith, no_name, Recency, ◌≡◌, ℕ, effect_of_entry, is_open, is_write_fault, Bool, true, false, List, [], ◌∷◌, Result, Ok, Err, refl, sym, ◌∙◌, subst, false≢true, Write, Error, Refusal, chains_from, Content, Update, contents_from, Event, Pin, Message, Messages, effect_of, open_after, Ghosts, Cache, Represents, Acts, ActOver, Went, Went-none, IsCaused, IsOfLog, begun_by, Logged, State, Outcome, outcome, no_change, Answer, Call, Config, StickyLog, Page, HasGrown, error_of, BatchOpen, IsEvent, MayCome, IsWhole, Closes, with_batch_closed, Pinned, view}
 use Rattle.sled_base.specs.declared.types.Error.TheVariants.{Unsupported, Io}
 use Rattle.sled_base.specs.declared.types.Refusal.TheVariants as refusals
 use Rattle.sled_log.specs.LogState as log
@@ -13,6 +13,7 @@ use Rattle.sled_pagecache.proofs.Staying.{stay-one}
 use Rattle.sled_pagecache.proofs.Tables.{consistent-kept}
 use Rattle.sled_pagecache.specs.Batches.{OpensBatch, ClosesBatch}
 use Rattle.sled_pagecache.specs.Inside.StickyLog.{answer_of, call_of}
+use Rattle.sled_pagecache.specs.declared.pagecache.write.sticky_log.Closing.TheVariants as closings
 use Rattle.sled_pagecache.specs.Logged.{now}
 use Rattle.sled_pagecache.specs.Inside.StickyLog.{mark_of}
 use Rattle.sled_pagecache.specs.declared.pagecache.handles.call.Call.TheVariants as call
@@ -39,8 +40,8 @@ module _ {L : Type 0} (g : Ghosts L) (next : ℕ) (config : Config) (recovered :
   -- a mark was told, and the batch is open or closed as it says
   steps-mark : (before mid after : StickyLog L) → mid.log ≡ before.log → before.fault ≡ false → (called : Call) (answer : Answer) (message : Event Message) (event : Event Update) → IsMark message event → Went g mid after (message ∷ [])
       → (batch : Bool) → (after.fault ≡ false → (was : Bool) → open_after was (event ∷ []) ≡ batch)
-      → ((s : State) → s.fault ≡ false → s.batch ≡ before.batch → StepOver g (cache before) s called answer (outcome (record s { batch = batch; fault = after.fault }) (event ∷ [])))
-      → Steps g (cache before) called answer (cache (record after { batch = batch }))
+      → ((s : State) → s.fault ≡ false → s.batch ≡ before.batch → ActOver g (cache before) s called answer (outcome (record s { batch = batch; fault = after.fault }) (event ∷ [])))
+      → Acts g (cache before) called answer (cache (record after { batch = batch }))
   steps-mark before mid after same ready called answer message event mark went batch marks step =
       steps-marked g (cache before) (cache (record after { batch = batch })) mid after called answer (message ∷ []) (record { config = refl; recovered = refl }) (sym same) refl refl ready went leads
     where
@@ -91,11 +92,11 @@ module _ {L : Type 0} (g : Ghosts L) (next : ℕ) (config : Config) (recovered :
       -- the log refused it
       refused-step : (refusal : Refusal) → g.tells → IsOfLog refusal
           → (let told : Result (Unit {0}) Refusal = Err refusal in Went g before after (begun_by told (Pin ∷ [])) × IsCaused g before after (g.is_full_for_batch before.log) told)
-          → Steps g (cache before) call.Pin (Pinned (Err (error_of refusal))) (cache after)
+          → Acts g (cache before) call.Pin (Pinned (Err (error_of refusal))) (cache after)
       refused-step refusal told of refused = by refusal of refused.0 refused.1
         where
           by : (refusal : Refusal) → IsOfLog refusal → (let told : Result (Unit {0}) Refusal = Err refusal in Went g before after (begun_by told (Pin ∷ []))) → (let told : Result (Unit {0}) Refusal = Err refusal in IsCaused g before after (g.is_full_for_batch before.log) told)
-              → Steps g (cache before) call.Pin (Pinned (Err (error_of refusal))) (cache after)
+              → Acts g (cache before) call.Pin (Pinned (Err (error_of refusal))) (cache after)
           by (refusals.Io Write) of went cause =
               rw went.batch (steps-mark before before after refl ready call.Pin (Pinned (Err (Io Write))) Pin Pin pin-mark went before.batch (λ free. absurd (false≢true (sym free ∙ cause.fault)))
               (λ s clear same. rw (clear, same ∙ none, none, cause.fault) refl))
@@ -115,14 +116,19 @@ module _ {L : Type 0} (g : Ghosts L) (next : ℕ) (config : Config) (recovered :
 
   -- ---- seal and cancel
 
-  step-closes : (closing : Closing) (before : StickyLog L) (s : State) (answer : Result (Unit {0}) Error) (out : Outcome) → Closes (mark_of closing) s answer out → StepOver g (cache before) s (call_of closing) (answer_of closing answer) out
+  step-closes : (closing : Closing) (before : StickyLog L) (s : State) (answer : Result (Unit {0}) Error) (out : Outcome) → Closes (mark_of closing) s answer out → ActOver g (cache before) s (call_of closing) (answer_of closing answer) out
   step-closes closing before s answer out h = grind arith
+
+  -- no move is added to a mark
+  by-itself : (closing : Closing) (old new : Cache L) (result : Result (Unit {0}) Error) → Acts g old (call_of closing) (answer_of closing result) new → Steps g old (call_of closing) (answer_of closing result) new
+  by-itself closings.Seal old new result act = act
+  by-itself closings.Cancel old new result act = act
 
   module _ (closing : Closing) (before : StickyLog L) (opened : before.batch ≡ true) where
     -- with a write fault kept
     pub closes-stuck : before.fault ≡ true → ClosesBatch g (call_of closing) (answer_of closing) (cache before) (Err (Io Write)) (cache (record before { batch = false }))
     closes-stuck kept =
-        let step : Steps g (cache before) (call_of closing) (answer_of closing (Err (Io Write))) (cache (record before { batch = false })) = record {
+        let step : Steps g (cache before) (call_of closing) (answer_of closing (Err (Io Write))) (cache (record before { batch = false })) = by-itself closing _ _ _ (record {
           opening = record { config = refl; recovered = refl };
           from_each = λ held s is. record {
             out = no_change (with_batch_closed s);
@@ -133,12 +139,12 @@ module _ {L : Type 0} (g : Ghosts L) (next : ℕ) (config : Config) (recovered :
             crash = λ clear. absurd (false≢true (sym clear ∙ is.fault ∙ kept));
             stuck = λ _. refl;
           };
-        } in
+        }) in
         grind (arith, step)
 
     module _ (ready : before.fault ≡ false) (after : StickyLog L) (went : Went g (record before { batch = false }) after (mark_of closing ∷ [])) (unread : (g.counts after.log).reads ≡ (g.counts before.log).reads) where
       closed-so : (result : Result (Unit {0}) Error) → ((s : State) → s.fault ≡ false → s.batch ≡ true → Closes (mark_of closing) s result (outcome (record s { batch = false; fault = after.fault }) (mark_of closing ∷ [])))
-          → Steps g (cache before) (call_of closing) (answer_of closing result) (cache after)
+          → Acts g (cache before) (call_of closing) (answer_of closing result) (cache after)
       closed-so result step =
           let mark : IsMark (mark_of closing) (mark_of closing) = grind arith in
           rw went.batch (steps-mark before (record before { batch = false }) after refl ready (call_of closing) (answer_of closing result) (mark_of closing) (mark_of closing) mark went false (λ _. closing-ends Update closing)
@@ -146,13 +152,13 @@ module _ {L : Type 0} (g : Ghosts L) (next : ℕ) (config : Config) (recovered :
 
       pub closes : after.fault ≡ false → ClosesBatch g (call_of closing) (answer_of closing) (cache before) (Ok tt) (cache after)
       closes free =
-          let step = closed-so (Ok tt) (λ s clear batch. (batch, rw (clear, free) refl)) in
+          let step = by-itself closing _ _ _ (closed-so (Ok tt) (λ s clear batch. (batch, rw (clear, free) refl))) in
           let closed = went.batch in
           grind (arith, step)
 
       pub closes-refused : after.fault ≡ true → HasGrown (g.counts before.log).write_faults (g.counts after.log).write_faults → ClosesBatch g (call_of closing) (answer_of closing) (cache before) (Err (Io Write)) (cache after)
       closes-refused kept grew =
-          let step = closed-so (Err (Io Write)) (λ s clear batch. (batch, rw (clear, kept) (refl, refl))) in
+          let step = by-itself closing _ _ _ (closed-so (Err (Io Write)) (λ s clear batch. (batch, rw (clear, kept) (refl, refl)))) in
           let closed = went.batch in
           grind (arith, step)
 

@@ -1,5 +1,5 @@
 -- One call of the cache is one step of the machine.
-use Rattle.sled_pagecache.proofs.Names.{IsDoneInEach, ◌≡◌, Bool, true, false, List, [], ◌++◌, refl, sym, ◌∙◌, ap, subst, false≢true, is_open, open_after, Update, contents_after, Event, open_after-append, is_open-drop, Message, effect_of, AreEvents, Ghosts, Cache, Represents, IsSameOpening, StepOver, Steps, Went, Logged, Adds, StayProper, State, Outcome, no_change, contents_of, stamps_of, Answer, Call, StickyLog, KnowsLog}
+use Rattle.sled_pagecache.proofs.Names.{IsDoneInEach, ◌≡◌, Bool, true, false, List, [], ◌++◌, refl, sym, ◌∙◌, ap, subst, false≢true, is_open, open_after, Update, contents_after, Event, open_after-append, is_open-drop, Message, effect_of, AreEvents, Ghosts, Cache, Represents, IsSameOpening, ActOver, Acts, Went, Logged, Adds, StayProper, State, Outcome, no_change, contents_of, stamps_of, Answer, Call, StickyLog, KnowsLog}
 use Rattle.sled_log.specs.LogState as log
 use Rattle.sled_pagecache.proofs.Carrying.{carries, leaves, proper-now}
 use Rattle.sled_pagecache.proofs.Staying.{stay-none}
@@ -17,8 +17,8 @@ module _ {L : Type 0} (g : Ghosts L) where
 
   -- with a write fault kept the log isn't called, and nothing changes
   pub steps-stuck : (cache : Cache L) (call : Call) (answer : Answer) → cache.fault ≡ true
-      → ((s : State) → s.fault ≡ true → StepOver g cache s call answer (no_change s))
-      → Steps g cache call answer cache
+      → ((s : State) → s.fault ≡ true → ActOver g cache s call answer (no_change s))
+      → Acts g cache call answer cache
   steps-stuck cache call answer stuck steps = record {
     opening = record { config = refl; recovered = refl };
     from_each = λ held s is. record {
@@ -35,7 +35,7 @@ module _ {L : Type 0} (g : Ghosts L) where
   -- What a call leads to, where it told its log these messages: they are its changes.
   pub record Leads (old new : Cache L) (held : Logged) (s : State) (call : Call) (answer : Answer) (messages : List (Event Message)) : Type 0 where
     pub out : Outcome
-    pub step : StepOver g old s call answer out
+    pub step : ActOver g old s call answer out
     pub told : AreEvents (now held) messages out.changes
     pub stays : StayProper (log.now effect_of (log.unplaced_state (g.state old.log))) (now held) messages out.changes
     pub stamps : stamps_of out.state ≡ new.stamps
@@ -77,7 +77,7 @@ module _ {L : Type 0} (g : Ghosts L) where
       → IsSameOpening old new → old.log ≡ before.log → new.log ≡ after.log → new.fault ≡ after.fault → old.fault ≡ false
       → Went g before after messages
       → ((held : Logged) (s : State) → Represents g old held s → s.fault ≡ false → Leads old new held s call answer messages)
-      → Steps g old call answer new
+      → Acts g old call answer new
   steps-marked old new before after call answer messages same old_log new_log new_fault ready went leads = record {
     opening = same;
     from_each = λ held s is.
@@ -100,7 +100,7 @@ module _ {L : Type 0} (g : Ghosts L) where
       → IsSameOpening old new → ◌≡◌ {A = L × Bool} (old.log, old.batch) (before.log, before.batch) → new.log ≡ after.log → ◌≡◌ {A = Bool × Bool} (new.fault, new.batch) (after.fault, after.batch) → old.fault ≡ false
       → Went g before after messages
       → ((held : Logged) (s : State) → Represents g old held s → s.fault ≡ false → LeadsTo old new held s call answer messages)
-      → Steps g old call answer new
+      → Acts g old call answer new
   steps-went old new before after call answer messages same old_is new_log new_is ready went way =
       steps-marked old new before after call answer messages same (ap (λ p. p.0) old_is) new_log (ap (λ p. p.0) new_is) ready went
       (λ held s is clear. subst (λ b. Leads old (record new { batch = b }) held s call answer messages) (is.batch ∙ ap (λ p. p.1) old_is ∙ sym went.batch ∙ sym (ap (λ p. p.1) new_is)) (way held s is clear))

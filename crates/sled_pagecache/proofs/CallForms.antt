@@ -1,6 +1,8 @@
 -- What a call of the machine leaves, in a few forms: most change at most one page, which isn't the counter's, and use no id.
-use Rattle.sled_pagecache.proofs.Names.{Amplified, SpaceAmplification, TakeFuzzySnapshot, TookSnapshot, slice_get_within, length-map, CasRoot, FoundRoot, MetaPidForName, RootSwapped, AllByRecursion, Allocate, Allocated, Allocates, Answer, Bool, Cache, Call, Change, Content, Counter, Does, Error, Event, Flush, Flushed, Free, Freed, GenerateId, Generated, Get, GetIdgen, GetMeta, Ghosts, Got, GotIdgen, GotMeta, HasNoRoom, IsRefused, Linked, Links, LinksContent, List, MatchBool, Node, Ok, None, Option, Outcome, Put, Replace, Replaced, Result, Roots, SizeOnDisk, Sized, Some, State, StepOver, Swapped, Swaps, SwapsContent, SwapsPage, Token, Update, WholeNode, [], ap, arith, chain_length, contents_of, false, false≢true, free_token, greatest_free, is_reserved, later_token, length, ltb-true, none-some, outcome, page_at, refl, same_Some, slice_get, subst, suc, sym, token, true, no_change, ℕ, ⊤, ◌+◌, ◌-◌, ◌==◌, ◌^◌, ◌∙◌, ◌∷◌, ◌≡◌, ◌≢◌, ◌≤◌, ◌⊎◌, nat_lt, Pin, Seal, Cancel, NodeLink, ClosesNone, SparesCounter, id_in, Pinned, Sealed, Cancelled, map-at, HasNoRoomAgain, due_in, more-at, inl, inr, eqb_tells, slice_get-map, option_map, ◌++◌, other-at, Due, Tidies, WritesAgain, AttemptedGc, AttemptGc}
+use Rattle.sled_pagecache.proofs.Names.{IsBehind, TidiesBehind, TidiesIfSwapped, Err, Amplified, SpaceAmplification, TakeFuzzySnapshot, TookSnapshot, slice_get_within, length-map, CasRoot, FoundRoot, MetaPidForName, RootSwapped, AllByRecursion, Allocate, Allocated, Allocates, Answer, Bool, Cache, Call, Change, Content, Counter, Does, Error, Event, Flush, Flushed, Free, Freed, GenerateId, Generated, Get, GetIdgen, GetMeta, Ghosts, Got, GotIdgen, GotMeta, HasNoRoom, IsRefused, Linked, Links, LinksContent, List, MatchBool, Node, Ok, None, Option, Outcome, Put, Replace, Replaced, Result, Roots, SizeOnDisk, Sized, Some, State, StepOver, Swapped, Swaps, SwapsContent, SwapsPage, Token, Update, WholeNode, [], ap, arith, chain_length, contents_of, false, false≢true, free_token, greatest_free, is_reserved, later_token, length, ltb-true, none-some, outcome, page_at, refl, same_Some, slice_get, subst, suc, sym, token, true, no_change, ℕ, ⊤, ◌+◌, ◌-◌, ◌==◌, ◌^◌, ◌∙◌, ◌∷◌, ◌≡◌, ◌≢◌, ◌≤◌, ◌⊎◌, nat_lt, Pin, Seal, Cancel, NodeLink, ClosesNone, SparesCounter, id_in, Pinned, Sealed, Cancelled, map-at, HasNoRoomAgain, due_in, more-at, inl, inr, eqb_tells, slice_get-map, option_map, ◌++◌, other-at, Due, Tidies, WritesAgain, AttemptedGc, AttemptGc}
 use Rattle.sled_node.specs.Meta as meta
+use Rattle.sled_pagecache.proofs.ProperPages.{all-append}
+use Rattle.sled_pagecache.specs.Limits.{most_messages}
 use Rattle.sled_pagecache.proofs.Counting.{Again, Spare, CountsTo, start-above}
 use Rattle.sled_pagecache.specs.State.{StampedPage, is_free, page, with_page}
 use Rattle.sled_pagecache.specs.Step.{Generates, HoldsCounter, HoldsRoots, interval_start, with_next_id}
@@ -40,9 +42,16 @@ pub record IsRaised (s : State) (ids : List ℕ) (out : Outcome) : Type 0 where
   pub end : ((ids ≡ []) × (out.state ≡ record s { fault = true }))
       ⊎ ((ids ≡ s.next ∷ []) × (s.fault ≡ false) × (out.state ≡ with_next_id (with_page s 1 (page (stamp + 1) (Counter new)))))
 
+-- no id is used, and nothing is written but changes, none of which is one of the counter
+pub data IsPlain (s : State) (out : Outcome) : Type 0 where
+  Stays : IsQuiet s out → IsInside s out → IsPlain s out
+
+pub quiet_of : {s : State} {out : Outcome} → IsPlain s out → IsQuiet s out
+quiet_of (Stays quiet inside) = quiet
+
 -- The forms: a call that changes a page or nothing, one that writes a mark, and an id with a new counter or without.
 pub data Form (s : State) (call : Call) (ids : List ℕ) (out : Outcome) : Type 0 where
-  Plain : ids ≡ [] → IsQuiet s out → IsInside s out → Form s call ids out
+  Plain : ids ≡ [] → IsPlain s out → Form s call ids out
   Marks : ids ≡ [] → IsQuiet s out → (s.batch ≡ true → ClosesNone call → ⊥) → Form s call ids out
   Next : s.fault ≡ false → ids ≡ s.next ∷ [] → out ≡ no_change (with_next_id s) → Form s call ids out
   Raises : IsRaised s ids out → Form s call ids out
@@ -93,6 +102,10 @@ at-behind s more n counts = by (slice_get s.pages 1) refl
     by None none = absurd (none-some (Counter n) (sym (ap (option_map (λ (p : StampedPage). p.content)) none) ∙ sym (slice_get-map (λ (p : StampedPage). p.content) s.pages 1) ∙ counts))
     by (Some p) at = more-at s.pages more 1 p at ∙ sym at
 
+-- the counter stands where its page is as it was
+still-counts : (s t : State) (n : ℕ) → page_at t 1 ≡ page_at s 1 → CountsTo (contents_of s) n → CountsTo (contents_of t) n
+still-counts s t n own counts = slice_get-map (λ (p : StampedPage). p.content) t.pages 1 ∙ ap (option_map (λ (p : StampedPage). p.content)) own ∙ sym (slice_get-map (λ (p : StampedPage). p.content) s.pages 1) ∙ counts
+
 -- what a page holds, it holds again
 spares-again : (s : State) (n pid : ℕ) (p : StampedPage) (content : Content) → page_at s pid ≡ Some p → p.content ≡ content → CountsTo (contents_of s) n → SparesCounter (Again n) (Change pid (Put content))
 spares-again s n pid p content there is counts = elim (eqb_tells pid 1) [
@@ -102,59 +115,86 @@ spares-again s n pid p content there is counts = elim (eqb_tells pid 1) [
 
 -- ---- the calls that leave the counter and the batch alone
 
-module _ (s : State) (out : Outcome) (call : Call) where
-  abbrev IsPlain : Type 0
-  IsPlain = Form s call [] out
+module _ (s : State) (out : Outcome) where
+  stays : out ≡ no_change s → IsPlain s out
+  stays is = subst (IsPlain s) (sym is) (Stays (record { next = refl; spares = λ n counts. tt; own = λ n counts. refl }) (record { batch = refl; changes = tt }))
 
-  as-it-was : out ≡ no_change s → IsPlain
-  as-it-was is = subst (Form s call []) (sym is) (Plain refl (record { next = refl; spares = λ n counts. tt; own = λ n counts. refl }) (record { batch = refl; changes = tt }))
+  fails : out ≡ outcome (record s { fault = true }) [] → IsPlain s out
+  fails is = subst (IsPlain s) (sym is) (Stays (record { next = refl; spares = λ n counts. tt; own = λ n counts. refl }) (record { batch = refl; changes = tt }))
 
-  faulty : out ≡ outcome (record s { fault = true }) [] → IsPlain
-  faulty is = subst (Form s call []) (sym is) (Plain refl (record { next = refl; spares = λ n counts. tt; own = λ n counts. refl }) (record { batch = refl; changes = tt }))
-
-  swaps-page : {R : Type 0} (old : Token) (rejected : R) (answer : Swapped R) (goes_on : Content → Type 0) → ((content : Content) → goes_on content → IsPlain)
-      → (found : Option StampedPage) → SwapsPage s old rejected found answer out goes_on → IsPlain
-  swaps-page old rejected answer goes_on plain None h = as-it-was h.1
+  swaps-page : {R : Type 0} (old : Token) (rejected : R) (answer : Swapped R) (goes_on : Content → Type 0) → ((content : Content) → goes_on content → IsPlain s out)
+      → (found : Option StampedPage) → SwapsPage s old rejected found answer out goes_on → IsPlain s out
+  swaps-page old rejected answer goes_on plain None h = stays h.1
   swaps-page old rejected answer goes_on plain (Some found) h =
-      split (is_free found.content) h (λ _ h. as-it-was h.1) (λ _ h. split (found.stamp == old.stamp) h (λ _ h. plain found.content h) (λ _ h. as-it-was h.1))
+      split (is_free found.content) h (λ _ h. stays h.1) (λ _ h. split (found.stamp == old.stamp) h (λ _ h. plain found.content h) (λ _ h. stays h.1))
 
   swaps : {R : Type 0} (old : Token) (rejected : R) (answer : Swapped R) (goes_on : Content → Type 0)
-      → Swaps s old rejected answer out goes_on → (old.pid ≢ 1 → (content : Content) → goes_on content → IsPlain) → IsPlain
+      → Swaps s old rejected answer out goes_on → (old.pid ≢ 1 → (content : Content) → goes_on content → IsPlain s out) → IsPlain s out
   swaps old rejected answer goes_on step plain =
-      split s.fault step (λ _ h. as-it-was h.1) (λ _ h.
-      split (is_reserved old.pid) h (λ _ h. as-it-was h.1) (λ free h. swaps-page old rejected answer goes_on (plain (λ is. false≢true (sym free ∙ ap is_reserved is))) (page_at s old.pid) h))
+      split s.fault step (λ _ h. stays h.1) (λ _ h.
+      split (is_reserved old.pid) h (λ _ h. stays h.1) (λ free h. swaps-page old rejected answer goes_on (plain (λ is. false≢true (sym free ∙ ap is_reserved is))) (page_at s old.pid) h))
 
   module _ (messages : ℕ → ℕ) (no_room : Event Update → Type 0) where
     -- a page is changed, which isn't the counter's
     changes : {T : Type 0} (id : ℕ) (update : Update) (answer : Result T Error) (work : T → State → Type 0) → ((n : ℕ) → CountsTo (contents_of s) n → id ≢ 1)
-        → Does messages no_room s (Change id update) answer out work → ((value : T) → work value out.state → (pages : List StampedPage) × (out.state ≡ record s { pages = pages }) × ((n : ℕ) → CountsTo (contents_of s) n → slice_get pages 1 ≡ slice_get s.pages 1)) → IsPlain
-    changes id update answer work other h leaves = grind (arith, as-it-was, faulty)
+        → Does messages no_room s (Change id update) answer out work → ((value : T) → work value out.state → (pages : List StampedPage) × (out.state ≡ record s { pages = pages }) × ((n : ℕ) → CountsTo (contents_of s) n → slice_get pages 1 ≡ slice_get s.pages 1)) → IsPlain s out
+    changes id update answer work other h leaves = grind (arith, stays, fails)
 
-    allocates : (node : WholeNode) (answer : Result (ℕ × Token) Error) → Allocates messages no_room s node answer out → IsPlain
-    allocates node answer step = grind (arith, as-it-was, faulty, changes, not-past, not-free, at-behind, other-at {A = StampedPage})
+    allocates : (node : WholeNode) (answer : Result (ℕ × Token) Error) → Allocates messages no_room s node answer out → IsPlain s out
+    allocates node answer step = grind (arith, stays, fails, changes, not-past, not-free, at-behind, other-at {A = StampedPage})
 
-    swaps-content : {R : Type 0} (old : Token) (update : Update) (content : Content) (answer : Swapped R) → SwapsContent messages no_room s old update content answer out → old.pid ≢ 1 → IsPlain
-    swaps-content old update content answer step other = grind (arith, as-it-was, changes, other-at s.pages old.pid 1 (page (old.stamp + 1) content) (λ e. other (sym e)))
+    swaps-content : {R : Type 0} (old : Token) (update : Update) (content : Content) (answer : Swapped R) → SwapsContent messages no_room s old update content answer out → old.pid ≢ 1 → IsPlain s out
+    swaps-content old update content answer step other = grind (arith, stays, changes, other-at s.pages old.pid 1 (page (old.stamp + 1) content) (λ e. other (sym e)))
 
-    links : (old : Token) (link : NodeLink) (answer : Swapped NodeLink) → Links messages no_room s old link answer out → IsPlain
-    links old link answer step = swaps old link answer (LinksContent messages no_room s old link answer out) step (λ other content h. grind (arith, as-it-was, faulty, swaps-content))
+    links : (old : Token) (link : NodeLink) (answer : Swapped NodeLink) → Links messages no_room s old link answer out → IsPlain s out
+    links old link answer step = swaps old link answer (LinksContent messages no_room s old link answer out) step (λ other content h. grind (arith, stays, fails, swaps-content))
 
   -- ---- a move: the content that is written again is the page's
 
   module _ {L : Type 0} (due : L → Due) (no_room_again : L → ℕ → Content → Type 0) (log : L) where
-    changed : (pid : ℕ) (content : Content) (p : StampedPage) → page_at s pid ≡ Some p → p.content ≡ content → out.changes ≡ Change pid (Put content) ∷ [] → (out.state ≡ s) ⊎ (out.state ≡ record s { fault = true }) → IsPlain
+    changed : (pid : ℕ) (content : Content) (p : StampedPage) → page_at s pid ≡ Some p → p.content ≡ content → out.changes ≡ Change pid (Put content) ∷ [] → (out.state ≡ s) ⊎ (out.state ≡ record s { fault = true }) → IsPlain s out
     changed pid content p there is changes state =
         let next : out.state.next ≡ s.next = grind arith in
         let batch : out.state.batch ≡ s.batch = grind arith in
         let pages : out.state.pages ≡ s.pages = grind arith in
-        Plain refl (record { next = next; spares = λ n counts. rw changes (spares-again s n pid p content there is counts, tt); own = λ n counts. ap (λ (l : List StampedPage). slice_get l 1) pages })
+        Stays (record { next = next; spares = λ n counts. rw changes (spares-again s n pid p content there is counts, tt); own = λ n counts. ap (λ (l : List StampedPage). slice_get l 1) pages })
         (record { batch = batch; changes = rw changes (tt, tt) })
 
-    again : (pid : ℕ) (content : Content) (p : StampedPage) (answer : Result Bool Error) → page_at s pid ≡ Some p → p.content ≡ content → WritesAgain due no_room_again log s pid content answer out → IsPlain
-    again pid content p answer there is h = grind (arith, as-it-was, faulty, changed)
+    again : (pid : ℕ) (content : Content) (p : StampedPage) (answer : Result Bool Error) → page_at s pid ≡ Some p → p.content ≡ content → WritesAgain due no_room_again log s pid content answer out → IsPlain s out
+    again pid content p answer there is h = grind (arith, stays, fails, changed)
 
-    tidies : (answer : Result Bool Error) → Tidies due no_room_again log s answer out → IsPlain
-    tidies answer step = grind (arith, as-it-was, faulty, again)
+    tidies : (answer : Result Bool Error) → Tidies due no_room_again log s answer out → IsPlain s out
+    tidies answer step = grind (arith, stays, fails, again)
+
+-- ---- a swap with the move behind it
+
+module _ {L : Type 0} (due : L → Due) (no_room_again : L → ℕ → Content → Type 0) (Behind : List (Event Update) → L → Type 0) (s : State) (swap out : Outcome) where
+  -- both are plain, one after the other
+  both : (move : Outcome) → IsPlain s swap → IsPlain swap.state move → out ≡ outcome move.state (swap.changes ++ move.changes) → IsPlain s out
+  both move (Stays first inside) (Stays second inside_then) is =
+      let still : (n : ℕ) → CountsTo (contents_of s) n → CountsTo (contents_of swap.state) n = λ n counts. still-counts s swap.state n (first.own n counts) counts in
+      subst (IsPlain s) (sym is) (Stays
+      (record {
+        next = second.next ∙ first.next;
+        spares = λ n counts. all-append _ swap.changes move.changes (first.spares n counts) (second.spares n (still n counts));
+        own = λ n counts. second.own n (still n counts) ∙ first.own n counts;
+      })
+      (record { batch = inside_then.batch ∙ inside.batch; changes = all-append _ swap.changes move.changes inside.changes inside_then.changes }))
+
+  behind : IsPlain s swap → TidiesBehind due no_room_again Behind swap out → IsPlain s out
+  behind plain h = both h.move plain (tidies swap.state h.move due no_room_again h.mid h.answer h.tidies) h.is
+
+  pub if-swapped : {R : Type 0} (answer : Swapped R) → IsPlain s swap → TidiesIfSwapped due no_room_again Behind answer swap out → IsPlain s out
+  if-swapped (Ok (Ok made)) plain h = behind plain h
+  if-swapped (Ok (Err back)) plain h = subst (IsPlain s) (sym h) plain
+  if-swapped (Err e) plain h = subst (IsPlain s) (sym h) plain
+
+module _ (s : State) (out : Outcome) (call : Call) where
+  as-it-was : out ≡ no_change s → Form s call [] out
+  as-it-was is = Plain refl (stays s out is)
+
+  faulty : out ≡ outcome (record s { fault = true }) [] → Form s call [] out
+  faulty is = Plain refl (fails s out is)
 
 -- ---- the marks of batches, and ids
 
@@ -199,17 +239,25 @@ module _ {L : Type 0} (g : Ghosts L) (cache : Cache L) (s : State) where
   no_room = HasNoRoom g cache.log
 
   pub call-form : (call : Call) (answer : Answer) (out : Outcome) → StepOver g cache s call answer out → Form s call (id_in answer) out
-  call-form (Allocate node) (Allocated answer) out step = allocates s out (Allocate node) lengths no_room node answer step
+  call-form (Allocate node) (Allocated answer) out step = Plain refl (allocates s out lengths no_room node answer step)
   call-form (Get pid) (Got answer) out step = grind (arith, as-it-was s out (Get pid), faulty s out (Get pid))
-  call-form (call.Link old link) (Linked answer) out step = links s out (call.Link old link) lengths no_room old link answer step
-  call-form (Replace old node) (Replaced answer) out step =
-      swaps s out (Replace old node) old node answer _ step (λ other content h. swaps-content s out (Replace old node) lengths no_room old (Put (Node node)) (Node node) answer h other)
+  call-form (call.Link old link) (Linked answer) out (swap, act, behind) = Plain refl (by (nat_lt (lengths old.pid) most_messages) behind)
+    where
+      plain : IsPlain s swap
+      plain = links s swap lengths no_room old link answer act
+
+      by : (joins : Bool) → MatchBool joins (out ≡ swap) (TidiesIfSwapped (due_in g cache.config) (HasNoRoomAgain g) (IsBehind g cache.log) answer swap out) → IsPlain s out
+      by true is = subst (IsPlain s) (sym is) plain
+      by false is = if-swapped (due_in g cache.config) (HasNoRoomAgain g) (IsBehind g cache.log) s swap out answer plain is
+  call-form (Replace old node) (Replaced answer) out (swap, act, behind) =
+      Plain refl (if-swapped (due_in g cache.config) (HasNoRoomAgain g) (IsBehind g cache.log) s swap out answer
+      (swaps s swap old node answer _ act (λ other content h. swaps-content s swap lengths no_room old (Put (Node node)) (Node node) answer h other)) behind)
   call-form (call.Free old) (Freed answer) out step =
-      swaps s out (call.Free old) old tt answer _ step (λ other content h. swaps-content s out (call.Free old) lengths no_room old (Put Free) Free answer h other)
+      Plain refl (swaps s out old tt answer _ step (λ other content h. swaps-content s out lengths no_room old (Put Free) Free answer h other))
   call-form GetMeta (GotMeta answer) out step = grind (arith, as-it-was s out GetMeta)
   call-form (MetaPidForName name) (FoundRoot answer) out step = grind (arith, as-it-was s out (MetaPidForName name))
   call-form (CasRoot name old new) (RootSwapped answer) out step =
-      grind (arith, as-it-was s out (CasRoot name old new), faulty s out (CasRoot name old new), changes s out (CasRoot name old new) lengths no_room, other-at)
+      Plain refl (grind (arith, stays s out, fails s out, changes s out lengths no_room, other-at))
   call-form GetIdgen (GotIdgen answer) out step = grind (arith, as-it-was s out GetIdgen)
   call-form GenerateId (Generated answer) out step = generates s out GenerateId lengths no_room cache.config.idgen_persist_interval answer step
   call-form Flush (Flushed answer) out step = grind (arith, as-it-was s out Flush, faulty s out Flush)
@@ -219,7 +267,7 @@ module _ {L : Type 0} (g : Ghosts L) (cache : Cache L) (s : State) where
   call-form call.Pin (Pinned answer) out step = grind (arith, as-it-was s out call.Pin, faulty s out call.Pin, marks s out call.Pin)
   call-form call.Seal (Sealed answer) out step = grind (arith, marks s out call.Seal)
   call-form call.Cancel (Cancelled answer) out step = grind (arith, marks s out call.Cancel)
-  call-form AttemptGc (AttemptedGc answer) out step = tidies s out AttemptGc (due_in g cache.config) (HasNoRoomAgain g) cache.log answer step
+  call-form AttemptGc (AttemptedGc answer) out step = Plain refl (tidies s out (due_in g cache.config) (HasNoRoomAgain g) cache.log answer step)
   call-form asked answer out step = absurd step
 
   -- a call inside a batch, which doesn't close it

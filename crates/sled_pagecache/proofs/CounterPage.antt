@@ -1,5 +1,5 @@
 -- The page of the counter of generated ids, in the table and in the state that the cache is in, and what is put on a page of the cache's own.
-use Rattle.sled_pagecache.proofs.Names.{Recency, AreOwn, Bool, Cache, Chain, Config, Content, Counter, GetIdgen, Ghosts, GotIdgen, HoldsChain, IsConsistent, IsCounter, Represents, Kept, List, Logged, Makes, IsProper, Ok, Put, Some, State, Steps, StickyLog, Token, [], ◌∷◌, ◌++◌, ◌==◌, if◌then◌else◌, slice_set, arith, effect_of, effect_of_entry, false, holds-made, length, message_of, messages_of, page, page_at, refl, slice_get, slice_index_or, subst, token, unplaced_state, log_now, ℕ, ap, ◌∙◌, ◌<◌, ◌≡◌, ◌≤◌, KeptPage, now, view, kept-at}
+use Rattle.sled_pagecache.proofs.Names.{Recency, AreOwn, Bool, Cache, Chain, Config, Content, Counter, GetIdgen, Ghosts, GotIdgen, HoldsChain, IsConsistent, IsCounter, Represents, Kept, List, Logged, Makes, IsProper, Ok, Put, Some, State, Acts, StickyLog, Token, [], ◌∷◌, ◌++◌, ◌==◌, if◌then◌else◌, slice_set, arith, effect_of, effect_of_entry, false, holds-made, length, message_of, messages_of, page, page_at, refl, slice_get, slice_index_or, subst, token, unplaced_state, log_now, ℕ, ap, ◌∙◌, ◌<◌, ◌≡◌, ◌≤◌, KeptPage, now, view, kept-at}
 use Rattle.sled_pagecache.proofs.Carrying.{proper-now}
 use Rattle.sled_pagecache.proofs.Changing.{KnowsNow, steps-uncalled}
 use Rattle.sled_pagecache.proofs.Held.{state-page}
@@ -48,7 +48,7 @@ module _ {L : Type 0} (g : Ghosts L) (next : ℕ) (config : Config) (recovered :
       (put-own (log_now effect_of (unplaced_state (g.state sticky_log.log))) (held_now held) (holds_unplaced g cache held s is clear) (proper-now (unplaced_state (g.state sticky_log.log)) held (is.known clear).logged) pid (message_of (Put content)) content own within)
 
   -- the counter is told
-  pub gets-idgen : (q : KeptPage) (n : ℕ) → slice_get table 1 ≡ Some q → q.kept ≡ kept.Counter n → KnowsNow g sticky_log → (made : Token) → made ≡ token 1 q.stamp → Steps g cache GetIdgen (GotIdgen (Ok (made, n))) cache
+  pub gets-idgen : (q : KeptPage) (n : ℕ) → slice_get table 1 ≡ Some q → q.kept ≡ kept.Counter n → KnowsNow g sticky_log → (made : Token) → made ≡ token 1 q.stamp → Acts g cache GetIdgen (GotIdgen (Ok (made, n))) cache
   gets-idgen q n at holds only made is =
       rw is
       (steps-uncalled g next config recovered lru sticky_log table ready GetIdgen (GotIdgen (Ok (token 1 q.stamp, n))) (c.beside ready).usable only

@@ -1,5 +1,5 @@
 -- An id, as a step of the machine, told of the table that the cache keeps.
-use Rattle.sled_pagecache.proofs.Names.{slice_get, Bool, Cache, Change, Config, Content, Counter, Does, Err, Error, GenerateId, Generated, Ghosts, Represents, List, Logged, Ok, Outcome, Put, Refusal, RefusesSwap, Result, StampUsedUp, State, StepOver, Steps, StickyLog, Unsupported, Went-none, HasNoRoom, [], ap, arith, chain_length, effect_of, eq-eqb, false, inl, inr, le-ltb, length, lt-ltb, map-set, message_of, ne_eqb, outcome, page, page_at, refl, true, Some, slice_set, stamps_in, sym, with_page, ℕ, ◌+◌, ◌-◌, ◌<◌, ◌^◌, ◌∙◌, ◌∷◌, ◌≡◌, ◌≢◌, ◌≤◌, error_by, BatchOpen, IdsUsedUp, StampedPage, interval_start, with_next_id, KeptPage, view, Accesses, MakesAppend, RefusesAppend, Kept, IsSettled}
+use Rattle.sled_pagecache.proofs.Names.{slice_get, Bool, Cache, Change, Config, Content, Counter, Does, Err, Error, GenerateId, Generated, Ghosts, Represents, List, Logged, Ok, Outcome, Put, Refusal, RefusesSwap, Result, StampUsedUp, State, ActOver, Acts, StickyLog, Unsupported, Went-none, HasNoRoom, [], ap, arith, chain_length, effect_of, eq-eqb, false, inl, inr, le-ltb, length, lt-ltb, map-set, message_of, ne_eqb, outcome, page, page_at, refl, true, Some, slice_set, stamps_in, sym, with_page, ℕ, ◌+◌, ◌-◌, ◌<◌, ◌^◌, ◌∙◌, ◌∷◌, ◌≡◌, ◌≢◌, ◌≤◌, error_by, BatchOpen, IdsUsedUp, StampedPage, interval_start, with_next_id, KeptPage, view, Accesses, MakesAppend, RefusesAppend, Kept, IsSettled}
 use Rattle.sled_log.specs.LogState as log
 use Rattle.sled_pagecache.proofs.CacheSteps.{stays-none, steps-went}
 use Rattle.sled_pagecache.proofs.Carrying.{proper-now}
@@ -22,7 +22,7 @@ module _ {L : Type 0} (g : Ghosts L) {next : ℕ} {config : Config} {recovered :
   k = config.idgen_persist_interval
 
   -- no id is left
-  pub id-used-up : KnowsNow g before → 2 ^ 64 - 1 < next → Steps g was GenerateId (Generated (Err (Unsupported IdsUsedUp))) was
+  pub id-used-up : KnowsNow g before → 2 ^ 64 - 1 < next → Acts g was GenerateId (Generated (Err (Unsupported IdsUsedUp))) was
   id-used-up only used =
       steps-uncalled g next config recovered accesses.lru before table ready GenerateId (Generated (Err (Unsupported IdsUsedUp))) (settled.whole.consistent.beside ready).usable only
       (λ held s is clear. rw (clear, is.next, lt-ltb (2 ^ 64 - 1) next used) (refl, refl))
@@ -32,7 +32,7 @@ module _ {L : Type 0} (g : Ghosts L) {next : ℕ} {config : Config} {recovered :
     there = own-at g next config recovered accesses.lru before table free settled.whole.consistent ready 1 q (kept.Counter n) (Counter n) at holds (λ chain makes. makes)
 
     -- the counter covers it
-    pub id-covered : KnowsNow g before → start ≤ from → Steps g was GenerateId (Generated (Ok next)) (cache (next + 1) before table)
+    pub id-covered : KnowsNow g before → start ≤ from → Acts g was GenerateId (Generated (Ok next)) (cache (next + 1) before table)
     id-covered only few =
         steps-went g was (cache (next + 1) before table) before before GenerateId (Generated (Ok next)) [] (record { config = refl; recovered = refl }) refl refl refl ready
         (Went-none g before (settled.whole.consistent.beside ready).usable only)
@@ -51,7 +51,7 @@ module _ {L : Type 0} (g : Ghosts L) {next : ℕ} {config : Config} {recovered :
 
     module _ (past : from < start) where
       -- inside a batch no new counter is made
-      pub id-too-early : KnowsNow g before → before.batch ≡ true → Steps g was GenerateId (Generated (Err (Unsupported BatchOpen))) was
+      pub id-too-early : KnowsNow g before → before.batch ≡ true → Acts g was GenerateId (Generated (Err (Unsupported BatchOpen))) was
       id-too-early only opened =
           steps-uncalled g next config recovered accesses.lru before table ready GenerateId (Generated (Err (Unsupported BatchOpen))) (settled.whole.consistent.beside ready).usable only
           (λ held s is clear. rw (clear, is.next, le-ltb (2 ^ 64 - 1) next below, there held s is clear, lt-ltb (interval_start k n) (interval_start k next) (omega arith), is.batch ∙ opened) (refl, refl))
@@ -63,13 +63,13 @@ module _ {L : Type 0} (g : Ghosts L) {next : ℕ} {config : Config} {recovered :
 
         does : (held : Logged) (s : State) → Represents g was held s → s.fault ≡ false → q.stamp ≢ 2 ^ 64 - 1 → (answer : Result ℕ Error) (out : Outcome)
             → Does (chain_length g.state was) (HasNoRoom g before.log) s (Change 1 (Put (Counter start))) answer out (λ id t. (id ≡ s.next) × (t ≡ with_next_id (with_page s 1 (page (q.stamp + 1) (Counter start)))))
-            → StepOver g was s GenerateId (Generated answer) out
+            → ActOver g was s GenerateId (Generated answer) out
         does held s is clear risen answer out done =
             let starts_in : interval_start k s.next ≡ start = ap (interval_start k) is.next ∙ sym starts in
             rw (clear, starts_in, le-ltb (2 ^ 64 - 1) s.next (omega (arith, is.next)), there held s is clear, lt-ltb (interval_start k n) start (omega arith), is.batch ∙ closed, ne_eqb q.stamp (2 ^ 64 - 1) risen) (rw (clear, is.batch ∙ closed) at done)
 
         pub id-refused : (pages : List KeptPage) → pages ≡ table → {between : Accesses} {left : Type 0} {refusal : Refusal} → RefusesAppend g 1 (Put (Counter start)) before after accesses between (RefusesSwap q.stamp) left refusal → RefusesSwap q.stamp refusal
-            → Steps g was GenerateId (Generated (Err (error_by refusal))) (cache next after pages)
+            → Acts g was GenerateId (Generated (Err (error_by refusal))) (cache next after pages)
         id-refused pages back {refusal = refusal} refused (inl (last, is)) =
             let known = rw is at refused in
             rw is
@@ -80,7 +80,7 @@ module _ {L : Type 0} (g : Ghosts L) {next : ℕ} {config : Config} {recovered :
             put-refused g next config recovered accesses.lru before table ready (settled.whole.consistent.beside ready) after GenerateId 1 (Counter start) refused.is may (Unit {0}) pages back (λ e. Generated (Err e))
             (λ held s is clear are e out fails. does held s is clear risen (Err e) out fails) refusal of refused.went refused.cause
 
-        pub id-put : {between : Accesses} {changed : KeptPage} {held : Kept} → MakesAppend g 1 (Put (Counter start)) before after accesses between q changed held → Steps g was GenerateId (Generated (Ok next)) (cache (next + 1) after (slice_set table 1 changed))
+        pub id-put : {between : Accesses} {changed : KeptPage} {held : Kept} → MakesAppend g 1 (Put (Counter start)) before after accesses between q changed held → Acts g was GenerateId (Generated (Ok next)) (cache (next + 1) after (slice_set table 1 changed))
         id-put {changed = changed} made =
             steps-went g was (cache (next + 1) after (slice_set table 1 changed)) before after GenerateId (Generated (Ok next)) (Change 1 (message_of (Put (Counter start))) ∷ []) (record { config = refl; recovered = refl }) refl refl refl ready made.went
             (λ held s is clear.

@@ -1,5 +1,5 @@
 -- A get as a step of the machine: a page is brought in, and then its node is lent.
-use Rattle.sled_pagecache.proofs.Names.{option_map, MeetsDamage, ReportsDamage, MatchOption, HasNode, HasNoNode, IsBounded, KeepsMemory, FindsPage, ◌≡◌, inl, inr, ℕ, Bool, true, false, List, [], Option, Some, None, Result, Ok, Err, slice_get, slice_index_or, refl, sym, ◌∙◌, ap, subst, false≢true, false_from_ne_true, error_of, IsOk, IsErrOf, Write, Error, Refusal, Io, ReservedId, Content, Node, Chain, messages_of, holds-made, Ghosts, WholeNode, Keeps, Cache, Represents, IsResident, IsAway, Steps, IsBlamed, chain_at, Logged, sticky_log_of, RefusesReading, BringsIn, IsNodeAt, ReadsPage, page, State, page_at, is_reserved, Finds, FindsContent, Token, Got, Get, NodeView, IsGot, Outcome, no_change, Gets, StampedPage, answered, arith, behind-own}
+use Rattle.sled_pagecache.proofs.Names.{option_map, MeetsDamage, ReportsDamage, MatchOption, HasNode, HasNoNode, IsBounded, KeepsMemory, FindsPage, ◌≡◌, inl, inr, ℕ, Bool, true, false, List, [], Option, Some, None, Result, Ok, Err, slice_get, slice_index_or, refl, sym, ◌∙◌, ap, subst, false≢true, false_from_ne_true, error_of, IsOk, IsErrOf, Write, Error, Refusal, Io, ReservedId, Content, Node, Chain, messages_of, holds-made, Ghosts, WholeNode, Keeps, Cache, Represents, IsResident, IsAway, Acts, IsBlamed, chain_at, Logged, sticky_log_of, RefusesReading, BringsIn, IsNodeAt, ReadsPage, page, State, page_at, is_reserved, Finds, FindsContent, Token, Got, Get, NodeView, IsGot, Outcome, no_change, Gets, StampedPage, answered, arith, behind-own}
 use Rattle.sled_pagecache.proofs.LeftPages.{went-left}
 use Rattle.sled_base.specs.declared.types.Error.TheVariants as error
 use Rattle.sled_pagecache.proofs.Answers.{keeps-stuck, keeps-err, keeps-ok}
@@ -102,7 +102,7 @@ module _ {L : Type 0} (g : Ghosts L) (old new : Cache L) (pid : ℕ) where
       record { step = seen.0; blame = seen.1; keeps = seen.2; damaged = seen.3; reads = reads; once = tt; token = tt; kept_out = kept_out; always = always; accesses = tt; same = same; bounded = bounded }
     where
       by : (fault : Bool) → old.fault ≡ fault → let answer : Result (Option (Token × WholeNode)) Error = Err (error_of refusal) in
-          Steps g old (Get pid) (Got answer) new × IsBlamed g old new answer × Keeps old new answer (λ _. old.stamps) × (MeetsDamage g old pid → ReportsDamage g old pid answer new)
+          Acts g old (Get pid) (Got answer) new × IsBlamed g old new answer × Keeps old new answer (λ _. old.stamps) × (MeetsDamage g old pid → ReportsDamage g old pid answer new)
       by true kept =
           let is : refusal ≡ Io Write = (let h = (stuck kept).0 in cc) in
           rw (is, (stuck kept).1) (

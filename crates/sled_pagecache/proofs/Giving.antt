@@ -1,5 +1,5 @@
 -- What follows of giving an id where a new counter was put on its page, or was refused, once what the list dropped for it is paged out.
-use Rattle.sled_pagecache.proofs.Names.{◌≡◌, ◌+◌, ◌-◌, ◌^◌, ℕ, Bool, false, List, [], Some, None, Result, Ok, Err, slice_get, slice_set, refl, sym, ◌∙◌, ap, subst, arith, inl, error_of, Error, Refusal, Put, Counter, Ghosts, MakesAppend, RefusesAppend, RefusesSwap, IsBlamed, Keeps, Steps, GenerateId, Generated, is_free, stamps_in, Config, StickyLog, Accesses, Page, IsWhole, Evicts, IsSettled, GivesId, IsCovered, interval_start, view, ◌≤◌, ◌<◌, same_Some, Token, put-back, set-at, IsCounter}
+use Rattle.sled_pagecache.proofs.Names.{◌≡◌, ◌+◌, ◌-◌, ◌^◌, ℕ, Bool, false, List, [], Some, None, Result, Ok, Err, slice_get, slice_set, refl, sym, ◌∙◌, ap, subst, arith, inl, error_of, Error, Refusal, Put, Counter, Ghosts, MakesAppend, RefusesAppend, RefusesSwap, IsBlamed, Keeps, Acts, GenerateId, Generated, is_free, stamps_in, Config, StickyLog, Accesses, Page, IsWhole, Evicts, IsSettled, GivesId, IsCovered, interval_start, view, ◌≤◌, ◌<◌, same_Some, Token, put-back, set-at, IsCounter}
 use Rattle.sled_pagecache.proofs.Answers.{keeps-err, keeps-ok}
 use Rattle.sled_pagecache.proofs.Appending.{AfterMade, AfterRefused, after-whole, after-refused}
 use Rattle.sled_pagecache.proofs.CacheSteps.{steps-known}
@@ -22,7 +22,7 @@ module _ {L : Type 0} (g : Ghosts L) {next : ℕ} {config : Config} {recovered :
     (few : next ≤ 2 ^ 64 - 1) {start from : ℕ} (starts : start ≡ interval_start config.idgen_persist_interval next) (covers : from ≡ interval_start config.idgen_persist_interval counter.1) (past : from < start) where
   pub id-made : MakesAppend g 1 (Put (Counter start)) before after accesses between q page (kept.Counter start) → (g.state after.log).pending ≡ [] → Evicts between None (slice_set table 1 page) pages then
       → AfterMade {T = ℕ} g (view next config recovered accesses.lru before table) (view (next + 1) config recovered accesses.lru after (slice_set table 1 page)) (view (next + 1) config recovered then.lru after pages) (IsSettled g (next + 1) config recovered after pages free then) 1 (Ok next)
-      × IsCovered g (view (next + 1) config recovered then.lru after pages) next × Steps g (view next config recovered accesses.lru before table) GenerateId (Generated (Ok next)) (view (next + 1) config recovered then.lru after pages)
+      × IsCovered g (view (next + 1) config recovered then.lru after pages) next × Acts g (view next config recovered accesses.lru before table) GenerateId (Generated (Ok next)) (view (next + 1) config recovered then.lru after pages)
       × Keeps {T = ℕ} (view next config recovered accesses.lru before table) (view (next + 1) config recovered then.lru after pages) (Ok next) (λ _. stamps_in pages) × GivesId g (view next config recovered accesses.lru before table) (view (next + 1) config recovered then.lru after pages)
   id-made made stable evicts =
       let k = config.idgen_persist_interval in
@@ -44,7 +44,7 @@ module _ {L : Type 0} (g : Ghosts L) {next : ℕ} {config : Config} {recovered :
 
   pub id-unmade : {refusal : Refusal} → RefusesAppend g 1 (Put (Counter start)) before after accesses between (RefusesSwap q.stamp) (page ≡ q) refusal → Evicts between (Some 1) (slice_set table 1 page) pages then
       → AfterRefused {T = ℕ} g (view next config recovered accesses.lru before table) (view next config recovered accesses.lru after (slice_set table 1 page)) (view next config recovered then.lru after pages) (IsSettled g next config recovered after pages free then) 1 refusal (Err (error_of refusal))
-      × Steps g (view next config recovered accesses.lru before table) GenerateId (Generated (Err (error_of refusal))) (view next config recovered then.lru after pages)
+      × Acts g (view next config recovered accesses.lru before table) GenerateId (Generated (Err (error_of refusal))) (view next config recovered then.lru after pages)
       × IsBlamed {T = ℕ} g (view next config recovered accesses.lru before table) (view next config recovered then.lru after pages) (Err (error_of refusal))
       × Keeps {T = ℕ} (view next config recovered accesses.lru before table) (view next config recovered then.lru after pages) (Err (error_of refusal)) (λ _. stamps_in pages)
   id-unmade {refusal} refused evicts =

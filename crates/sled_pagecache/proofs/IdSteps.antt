@@ -1,6 +1,6 @@
 -- What a call does to the generated ids: no call but that for an id touches the counter or uses an id.
 use Rattle.sled_pagecache.proofs.Names.{map, Answer, Cache, Call, Event, Generated, Ghosts, List, Ok, Outcome, Some, State, StepOver, Update, [], ap, arith, contents_after, contents_of, false, inl, inr, refl, slice_get, slice_set, stamps_of, subst, sym, true, ℕ, ⊎_elim, ◌+◌, ◌∙◌, ◌∷◌, ◌≡◌, ◌≤◌, ◌⊎◌, id_in, StampedPage, map-at, set-at}
-use Rattle.sled_pagecache.proofs.CallForms.{Form, IsQuiet, Marks, Next, Plain, Raises, call-form}
+use Rattle.sled_pagecache.proofs.CallForms.{Form, IsQuiet, Marks, Next, Plain, Raises, call-form, quiet_of}
 use Rattle.sled_pagecache.proofs.Counting.{CountsTo, Rises, put-counts, put-rises, spared-counts, spared-rises}
 
 -- ---- What an id does, and no other call: the next one is given, and the counter doesn't fall.
@@ -25,7 +25,7 @@ pub call-passes : {L : Type 0} (g : Ghosts L) (cache : Cache L) (s : State) (n :
 call-passes g cache s n counts call answer out step = by (id_in answer) (call-form g cache s call answer out step)
   where
     by : (ids : List ℕ) → Form s call ids out → Passes s ids out
-    by ids (Plain none is inside) = quiet s ids n out none counts is
+    by ids (Plain none is) = quiet s ids n out none counts (quiet_of is)
     by ids (Marks none is leaves) = quiet s ids n out none counts is
     by ids (Next clear given is) = subst (Passes s ids) (sym is) (record { rises = tt; counter = n; counts = counts; next = omega arith; given = inr (given, clear, refl) })
     by ids (Raises to) = record {

@@ -1,5 +1,5 @@
 -- What the tests of a swap answer is a step of the machine, for each call that makes them.
-use Rattle.sled_pagecache.proofs.Names.{Recency, ◌≡◌, ◌+◌, ℕ, Bool, true, false, List, [], Option, Some, None, Ok, Err, slice_get, slice_set, refl, sym, ◌∙◌, ap, subst, ne_eqb, map-set, MatchBool, Write, Unsupported, ReservedId, Content, Free, Put, Node, Messages, effect_of, Ghosts, WholeNode, Keeps, stamps_after_swap, Cache, chain_length, HasNoRoom, StepOver, Steps, Went-none, Judges, IsRejected, IsFresh, State, page_at, Outcome, no_change, is_reserved, Swapped, SwapsPage, Swaps, SwapsContent, LinksContent, stamps_in, IsBeside, Token, token, IsAnswered, Answer, Freed, Linked, Replaced, Call, Config, StickyLog, Rejection, Refused, Stale, Gone, answer_to, IfOk, IfErr, OnOk, OnErr, IsBlamed, HasNoName, EvictsAtMost, same_Some, Page, error_by, NodeLink, map-at, view, IsLeft, unplaced_state, arith}
+use Rattle.sled_pagecache.proofs.Names.{Recency, ◌≡◌, ◌+◌, ℕ, Bool, true, false, List, [], Option, Some, None, Ok, Err, slice_get, slice_set, refl, sym, ◌∙◌, ap, subst, ne_eqb, map-set, MatchBool, Write, Unsupported, ReservedId, Content, Free, Put, Node, Messages, effect_of, Ghosts, WholeNode, Keeps, stamps_after_swap, Cache, chain_length, HasNoRoom, ActOver, Acts, Went-none, Judges, IsRejected, IsFresh, State, page_at, Outcome, no_change, is_reserved, Swapped, SwapsPage, Swaps, SwapsContent, LinksContent, stamps_in, IsBeside, Token, token, IsAnswered, Answer, Freed, Linked, Replaced, Call, Config, StickyLog, Rejection, Refused, Stale, Gone, answer_to, IfOk, IfErr, OnOk, OnErr, IsBlamed, HasNoName, EvictsAtMost, same_Some, Page, error_by, NodeLink, map-at, view, IsLeft, unplaced_state, arith}
 use Rattle.sled_base.specs.declared.types.Error.TheVariants.{Io}
 use Rattle.sled_base.specs.declared.types.Refusal.TheVariants as refusals
 use Rattle.sled_pagecache.proofs.Answers.{keeps-err, keeps-ok, keeps-stuck}
@@ -11,7 +11,7 @@ use Rattle.sled_pagecache.specs.declared.pagecache.handles.call.Call.TheVariants
 
 -- a call that tests its token, and goes on with the content of its page
 pub record IsSwap {L R : Type 0} (g : Ghosts L) (cache : Cache L) (old : Token) (rejected : R) (call : Call) (answered : Swapped R → Answer) (goes_on : State → Swapped R → Outcome → Content → Type 0) : Type 0 where
-  pub step : (s : State) (answer : Swapped R) (out : Outcome) → Swaps s old rejected answer out (goes_on s answer out) → StepOver g cache s call (answered answer) out
+  pub step : (s : State) (answer : Swapped R) (out : Outcome) → Swaps s old rejected answer out (goes_on s answer out) → ActOver g cache s call (answered answer) out
 
 module _ {L : Type 0} (g : Ghosts L) (cache : Cache L) (old : Token) where
   pub link-swap : (link : NodeLink) → IsSwap g cache old link (call.Link old link) Linked (λ s answer out. LinksContent (chain_length g.state cache) (HasNoRoom g cache.log) s old link answer out)
@@ -25,7 +25,7 @@ module _ {L : Type 0} (g : Ghosts L) (cache : Cache L) (old : Token) where
 
 -- What a swap answers whose token is rejected: nothing changes.
 pub record Unswapped {L R : Type 0} (g : Ghosts L) (cache : Cache L) (pid : ℕ) (old : Token) (given : R) (call : Call) (answered : Swapped R → Answer) (answer : Swapped R) : Type 0 where
-  pub step : Steps g cache call (answered answer) cache
+  pub step : Acts g cache call (answered answer) cache
   pub blame : IsBlamed g cache cache answer
   pub keeps : Keeps cache cache answer (stamps_after_swap cache.stamps)
   pub token : IfOk answer (IsAnswered cache.stamps old given)
@@ -48,7 +48,7 @@ module _ {L : Type 0} (g : Ghosts L) (next : ℕ) (config : Config) (recovered :
   abbrev cache : Cache L
   cache = view next config recovered lru sticky_log table
 
-  still : (answer : Swapped R) → sticky_log.fault ≡ false → ((s : State) → s.fault ≡ false → AreKnown s.pages table → StepOver g cache s call (answered answer) (no_change s)) → Steps g cache call (answered answer) cache
+  still : (answer : Swapped R) → sticky_log.fault ≡ false → ((s : State) → s.fault ≡ false → AreKnown s.pages table → ActOver g cache s call (answered answer) (no_change s)) → Acts g cache call (answered answer) cache
   still answer ready step =
       nothing-appended g next config recovered lru sticky_log table ready (beside ready) sticky_log call table refl (answered answer)
       (Went-none g sticky_log (beside ready).usable only) ready (λ held s is clear are. step s clear are)

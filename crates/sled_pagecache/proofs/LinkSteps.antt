@@ -1,5 +1,5 @@
 -- A link as a step of the machine.
-use Rattle.sled_pagecache.proofs.Names.{Recency, ◌≡◌, ◌≢◌, ◌≤◌, ◌+◌, ◌-◌, ◌^◌, inl, inr, ℕ, Bool, true, false, cond, ltb, List, [], ◌∷◌, ◌++◌, length, Option, Some, Result, Ok, Err, slice_get, slice_set, slice_index_or, refl, sym, ◌∙◌, ap, subst, arith, eq-eqb, get_or-map, ne_eqb, ltb-true, length-map, map-set, same_Some, slice_get_within, get_or_from_slice_get, error_of, LinkRefused, Write, Error, Refusal, ReportableBug, Io, Corruption, OutOfMemory, StampUsedUp, LogFull, chains_from, Content, Free, Node, Update, Put, Link, after_link, contents_from, Change, Entry, Chain, Messages, messages_of, effect_of, effect_of_entry, holds-made, one_content, Makes, Hold, MayChange, now-unplaced, message_of, Ghosts, Accepts, applied, WholeNode, Cache, chain_length, Represents, HasNoRoom, StepOver, Steps, link_update, chain_at, IsCaused, is_write_fault, RefusesUnappended, RefusesPull, update_by, TakesLink, RefusesAppended, Logged, is_free, IsProper, page, State, page_at, with_page, Outcome, outcome, no_change, is_reserved, Does, LinksNode, LinksContent, stamps_in, IsConsistent, Token, token, Linked, Config, StickyLog, NodeLink, StampedPage, KeptPage, map-at, behind-own, IsKept, Swapped}
+use Rattle.sled_pagecache.proofs.Names.{not, Recency, ◌≡◌, ◌≢◌, ◌≤◌, ◌+◌, ◌-◌, ◌^◌, inl, inr, ℕ, Bool, true, false, cond, ltb, List, [], ◌∷◌, ◌++◌, length, Option, Some, Result, Ok, Err, slice_get, slice_set, slice_index_or, refl, sym, ◌∙◌, ap, subst, arith, eq-eqb, get_or-map, ne_eqb, ltb-true, length-map, map-set, same_Some, slice_get_within, get_or_from_slice_get, error_of, LinkRefused, Write, Error, Refusal, ReportableBug, Io, Corruption, OutOfMemory, StampUsedUp, LogFull, chains_from, Content, Free, Node, Update, Put, Link, after_link, contents_from, Change, Entry, Chain, Messages, messages_of, effect_of, effect_of_entry, holds-made, one_content, Makes, Hold, MayChange, now-unplaced, message_of, Ghosts, Accepts, applied, WholeNode, Cache, chain_length, Represents, HasNoRoom, ActOver, Acts, link_update, chain_at, IsCaused, is_write_fault, RefusesUnappended, RefusesPull, update_by, TakesLink, RefusesAppended, Logged, is_free, IsProper, page, State, page_at, with_page, Outcome, outcome, no_change, is_reserved, Does, LinksNode, LinksContent, stamps_in, IsConsistent, Token, token, Linked, Config, StickyLog, NodeLink, StampedPage, KeptPage, map-at, behind-own, IsKept, Swapped}
 use Rattle.sled_pagecache.proofs.KeptPages.{kept-long}
 use Rattle.sled_base.specs.declared.types.Error.TheVariants as error
 use Rattle.sled_base.specs.declared.types.Refusal.TheVariants.{Unsupported}
@@ -72,7 +72,7 @@ module _ {L : Type 0} (g : Ghosts L) where
             (sym (map-at (λ (p : StampedPage). p.stamp) s.pages pid (page stands.stamp stands.content) stands.there) ∙ ap (λ (l : List ℕ). slice_get l pid) is.stamps
             ∙ map-at (λ (p : KeptPage). p.stamp) pages pid q at ∙ ap (λ n. Some n) is_fresh)
 
-        step : (answer : Swapped NodeLink) (out : Outcome) → LinksContent (chain_length g.state old) (HasNoRoom g before.log) s t link answer out stands.content → StepOver g old s (call.Link t link) (Linked answer) out
+        step : (answer : Swapped NodeLink) (out : Outcome) → LinksContent (chain_length g.state old) (HasNoRoom g before.log) s t link answer out stands.content → ActOver g old s (call.Link t link) (Linked answer) out
         step answer out h = unless-clear s answer out _ clear (rw (ap is_reserved same ∙ behind, ap (page_at s) same ∙ stands.there, stands.full, eq-eqb stands.stamp t.stamp at_stamp) h)
 
         -- it holds the node that its chain makes
@@ -88,12 +88,12 @@ module _ {L : Type 0} (g : Ghosts L) where
               (ap (λ (l : List Messages). length (slice_index_or l pid [])) (sym (now-unplaced (g.state before.log)))
               ∙ ap length (get_or-map messages_of (log.now effect_of_entry (g.state before.log)) pid []) ∙ length-map chain (λ (e : Entry). e.message) ∙ kept-long chain q kept)
 
-          node-step : (answer : Swapped NodeLink) (out : Outcome) → LinksNode (chain_length g.state old) (HasNoRoom g before.log) s t link node answer out → StepOver g old s (call.Link t link) (Linked answer) out
+          node-step : (answer : Swapped NodeLink) (out : Outcome) → LinksNode (chain_length g.state old) (HasNoRoom g before.log) s t link node answer out → ActOver g old s (call.Link t link) (Linked answer) out
           node-step answer out h = step answer out (subst (LinksContent (chain_length g.state old) (HasNoRoom g before.log) s t link answer out) (sym holds) h)
 
           accepted-step : Accepts node link → q.stamp ≢ 2 ^ 64 - 1 → (answer : Swapped NodeLink) (out : Outcome)
               → Does (chain_length g.state old) (HasNoRoom g before.log) s (Change pid (update_by q link node)) answer out (λ swapped u. (swapped ≡ Ok (token pid (t.stamp + 1))) × (u ≡ with_page s pid (page (t.stamp + 1) (Node (applied link node)))))
-              → StepOver g old s (call.Link t link) (Linked answer) out
+              → ActOver g old s (call.Link t link) (Linked answer) out
           accepted-step accepts below answer out h = node-step answer out (inr (inr (accepts, rw (ne_eqb t.stamp (2 ^ 64 - 1) (λ most. below (is_fresh ∙ most)), same, kept-long chain q kept) h)))
 
       -- ---- nothing was told
@@ -139,7 +139,7 @@ module _ {L : Type 0} (g : Ghosts L) where
       -- it was refused
       pub link-refused : (refusal : Refusal) → RefusesAppended g before pid q link after refusal
           → (let err : Result (Unit {0}) Refusal = Err refusal in IsCaused g before after (g.tells → linked.HadNoRoom g before pid q link) err)
-          → page_then.stamp ≡ q.stamp → Steps g old (call.Link t link) (Linked (Err (error_of refusal))) new
+          → page_then.stamp ≡ q.stamp → Acts g old (call.Link t link) (Linked (Err (error_of refusal))) new
       link-refused refusal (inl (went, why)) = λ cause stamp.
           steps-went g old new before after (call.Link t link) (Linked (Err (error_of refusal))) [] (record { config = refl; recovered = refl }) refl refl refl ready went
           (λ held s is clear. unappended stamp held s is clear refusal why cause.fault (λ e. cause.full (ap {B = Result (Unit {0}) Refusal} Err e) is.tells))
@@ -154,7 +154,7 @@ module _ {L : Type 0} (g : Ghosts L) where
           (stamps stamp held s is clear) cause.fault))
 
       -- it was done
-      pub link-taken : TakesLink g before pid q link after page_then → after.fault ≡ false → Steps g old (call.Link t link) (Linked (Ok (Ok (token pid (t.stamp + 1))))) new
+      pub link-taken : TakesLink g before pid q link after page_then → after.fault ≡ false → Acts g old (call.Link t link) (Linked (Ok (Ok (token pid (t.stamp + 1))))) new
       link-taken takes clear_after =
           let tells = takes.tells in
           let answer : Swapped NodeLink = Ok (Ok (token pid (t.stamp + 1))) in

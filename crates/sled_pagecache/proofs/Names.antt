@@ -59,7 +59,7 @@ pub use Rattle.sled_pagecache.specs.Inside.Appends.{Appended, MakesAppend, Makes
 pub use Rattle.sled_pagecache.specs.Answers.{HasNoName, Keeps, NamesOnly, stamps_after_root_swap, stamps_with, stamps_after_swap}
 pub use Rattle.sled_pagecache.specs.Logged.{AllById, FitsId}
 pub use Rattle.sled_pagecache.specs.Cache.{Cache, IsAway, Represents, IsResident, KnowsLog, chain_length, chain_size}
-pub use Rattle.sled_pagecache.specs.Calls.{HasNoRoom, HasNoRoomAgain, IsBlamed, IsDone, IsDoneInEach, IsSameOpening, IsStep, StepOver, Steps}
+pub use Rattle.sled_pagecache.specs.Calls.{ActOver, Acts, HasNoRoom, HasNoRoomAgain, IsBehind, IsBlamed, IsDone, IsDoneInEach, IsSameOpening, IsStep, StepOver, Steps}
 pub use Rattle.sled_pagecache.specs.Due.{due_in, due_page, is_one_blob, lies_in, pointers_of, segment_of}
 pub use Rattle.sled_pagecache.specs.Inside.Moves.{HoldsAgain, IsBlobOf, MovesOne, MovesOrNot, PutsAgain, RefusesOne, RefusesRewrite, pointers_in, reads_of}
 pub use Rattle.sled_pagecache.specs.Moves.{AccessesNamed, AttemptsMove, MovesDue, RefusesMove, is_blob_at, is_there, reads_to_move}
@@ -105,7 +105,7 @@ pub use Rattle.sled_pagecache.specs.Opening.{HasAdded, IsBlamedOpening, IsFit, I
 pub use Rattle.sled_pagecache.specs.Calls.{CrashLeaves}
 pub use Rattle.sled_pagecache.specs.Memory.{IsHindrance}
 pub use Rattle.sled_pagecache.specs.State.{StampedPage, State, contents_of, free_token, greatest_free, is_free as is_free_content, later_token, page, page_at, stamps_of, with_page}
-pub use Rattle.sled_pagecache.specs.Step.{AddsPage, Due, Moves, MovesContent, MovesPage, Tidies, WritesAgain, Allocates, Closes, Does, Fails, Finds, FindsContent, FindsRoot, Flushes, Frees, Generates, Gets, GetsIdgen, GetsMeta, HoldsCounter, HoldsRoots, IsCorruption, IsCounterAnd, IsGone, IsHindered, IsRefused, Links, LinksContent, LinksNode, Outcome, Pins, PutsCounter, PutsRoots, Reads, Replaces, ReusesPage, RootSwap, SetsRoot, Sizes, Swapped, Swaps, SwapsContent, SwapsPage, SwapsRoot, TellsRoot, UnlessFaulty, UnlessReserved, UnlessStale, with_batch_closed, interval_start, is_reserved, outcome, no_change, with_next_id}
+pub use Rattle.sled_pagecache.specs.Step.{AddsPage, TidiesBehind, TidiesIfSwapped, Due, Moves, MovesContent, MovesPage, Tidies, WritesAgain, Allocates, Closes, Does, Fails, Finds, FindsContent, FindsRoot, Flushes, Frees, Generates, Gets, GetsIdgen, GetsMeta, HoldsCounter, HoldsRoots, IsCorruption, IsCounterAnd, IsGone, IsHindered, IsRefused, Links, LinksContent, LinksNode, Outcome, Pins, PutsCounter, PutsRoots, Reads, Replaces, ReusesPage, RootSwap, SetsRoot, Sizes, Swapped, Swaps, SwapsContent, SwapsPage, SwapsRoot, TellsRoot, UnlessFaulty, UnlessReserved, UnlessStale, with_batch_closed, interval_start, is_reserved, outcome, no_change, with_next_id}
 pub use Rattle.sled_pagecache.specs.Inside.PageWrites.{CanPut, IsLinked, IsRaised, RefusesLink, RefusesSwap, WritesMessage, Wrote, content_of, joined_update, roots_in, update_of}
 pub use Rattle.sled_pagecache.specs.Inside.Infos.{joined_infos}
 pub use Rattle.sled_pagecache.specs.Answers.{linked_length}

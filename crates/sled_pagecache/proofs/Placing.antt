@@ -1,6 +1,6 @@
 -- A node that was put on a page that had none, or was refused, once what the list dropped for it is paged out: what an allocation answers.
 use Rattle.sled_pagecache.specs.Inside.Appends.{Puts, PutsOnNewPage}
-use Rattle.sled_pagecache.proofs.Names.{inr, allocation_behind, no_name, HasNoName, ReadsNothing, IfOk, IfErr, OnOk, OnErr, ◌≡◌, ◌<◌, ◌+◌, ◌^◌, ℕ, Bool, false, List, [], ◌∷◌, ◌++◌, length, Some, None, Result, Ok, Err, slice_get, slice_set, refl, sym, ◌∙◌, ap, subst, arith, same_Some, error_of, Error, Refusal, Change, message_of, begun_by, Put, Node, Ghosts, WholeNode, Cache, IsResident, HasNoNode, IsBounded, AccessesPage, LeavesNodes, RefusesSwap, RefusesAppend, Keeps, Steps, IsBlamed, stamps_with, stamps_in, resident_in, is_free, IsFreeOrNode, IsConsistent, Token, token, pid_of, stamp_of, Allocate, Allocated, Config, StickyLog, Accesses, Page, IsWhole, Evicts, IsSettled, put-back, view}
+use Rattle.sled_pagecache.proofs.Names.{inr, allocation_behind, no_name, HasNoName, ReadsNothing, IfOk, IfErr, OnOk, OnErr, ◌≡◌, ◌<◌, ◌+◌, ◌^◌, ℕ, Bool, false, List, [], ◌∷◌, ◌++◌, length, Some, None, Result, Ok, Err, slice_get, slice_set, refl, sym, ◌∙◌, ap, subst, arith, same_Some, error_of, Error, Refusal, Change, message_of, begun_by, Put, Node, Ghosts, WholeNode, Cache, IsResident, HasNoNode, IsBounded, AccessesPage, LeavesNodes, RefusesSwap, RefusesAppend, Keeps, Acts, IsBlamed, stamps_with, stamps_in, resident_in, is_free, IsFreeOrNode, IsConsistent, Token, token, pid_of, stamp_of, Allocate, Allocated, Config, StickyLog, Accesses, Page, IsWhole, Evicts, IsSettled, put-back, view}
 use Rattle.sled_pagecache.proofs.Allocating.{IsLastFree, last-at, taken-last, free-from, adds-refused, adds-done, reuses-refused, reuses-done}
 use Rattle.sled_pagecache.proofs.Answers.{keeps-err, keeps-ok, stamps-added, stamps-reused}
 use Rattle.sled_pagecache.proofs.Appending.{after-made}
@@ -17,7 +17,7 @@ use Rattle.sled_pagecache.specs.declared.pagecache.table.page.Kept.TheVariants a
 -- All that an allocation promises.
 abbrev pub PagePromises : {L : Type 0} → Ghosts L → Cache L → WholeNode → Cache L → Result (ℕ × Token) Error → Type 0
 PagePromises g was node now result = record {
-  step : Steps g was (Allocate node) (Allocated result) now;
+  step : Acts g was (Allocate node) (Allocated result) now;
   blame : IsBlamed g was now result;
   unread : ReadsNothing g was now;
   keeps : Keeps was now result (λ made. stamps_with was.stamps made.1);
@@ -34,7 +34,7 @@ module _ {L : Type 0} (g : Ghosts L) {next : ℕ} {config : Config} {recovered :
   -- the pages and the one that was refused, which had no node
   unplaced : {pid : ℕ} {why : Refusal → Type 0} {stays : Type 0} {refusal : Refusal} → HasNoNode (view next config recovered accesses.lru before table) pid → RefusesAppend g pid (Put (Node node)) before after accesses between why stays refusal → changed ≡ table
       → Evicts between None changed pages then
-      → Steps g (view next config recovered accesses.lru before table) (Allocate node) (Allocated (Err (error_of refusal))) (view next config recovered accesses.lru after changed)
+      → Acts g (view next config recovered accesses.lru before table) (Allocate node) (Allocated (Err (error_of refusal))) (view next config recovered accesses.lru after changed)
       → (let was = view next config recovered accesses.lru before table in let now = view next config recovered then.lru after pages in
       IsSettled g next config recovered after pages free then × PagePromises g was node now (Err (error_of refusal)))
   unplaced {pid} {why} {stays} {refusal} none refused back evicts step =

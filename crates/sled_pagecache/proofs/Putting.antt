@@ -1,5 +1,5 @@
 -- A call that puts a content on one page, as a step of the machine, told of the table that the cache keeps.
-use Rattle.sled_pagecache.proofs.Names.{Recency, ◌≡◌, ◌≤◌, ◌<◌, ◌^◌, ℕ, Bool, true, false, List, [], ◌∷◌, ◌++◌, length, Result, Err, slice_set, refl, sym, ◌∙◌, ap, subst, arith, eq-eqb, ne_eqb, length-map, map-append, map-set, MatchBool, Read, Write, Error, Unsupported, Refusal, LogFull, chains_from, Node, Put, contents_from, Content, Change, effect_of, IsUpdate, MayChange, Hold, message_of, Ghosts, WholeNode, Cache, chain_length, Represents, HasNoRoom, StepOver, Steps, IsBlamed, Went, IsCaused, IsOfLog, begun_by, Logged, sticky_log_of, IsProper, page, State, with_page, Outcome, outcome, no_change, IsRefused, UnlessFaulty, Fails, stamps_in, IsBeside, Answer, Call, Config, StickyLog, error_by, StampedPage, KeptPage, view, log_now, unplaced_state, Messages, holds_now, now-unplaced}
+use Rattle.sled_pagecache.proofs.Names.{Recency, ◌≡◌, ◌≤◌, ◌<◌, ◌^◌, ℕ, Bool, true, false, List, [], ◌∷◌, ◌++◌, length, Result, Err, slice_set, refl, sym, ◌∙◌, ap, subst, arith, eq-eqb, ne_eqb, length-map, map-append, map-set, MatchBool, Read, Write, Error, Unsupported, Refusal, LogFull, chains_from, Node, Put, contents_from, Content, Change, effect_of, IsUpdate, MayChange, Hold, message_of, Ghosts, WholeNode, Cache, chain_length, Represents, HasNoRoom, ActOver, Acts, IsBlamed, Went, IsCaused, IsOfLog, begun_by, Logged, sticky_log_of, IsProper, page, State, with_page, Outcome, outcome, no_change, IsRefused, UnlessFaulty, Fails, stamps_in, IsBeside, Answer, Call, Config, StickyLog, error_by, StampedPage, KeptPage, view, log_now, unplaced_state, Messages, holds_now, now-unplaced}
 use Rattle.sled_base.specs.declared.types.Error.TheVariants.{Io, OutOfMemory}
 use Rattle.sled_base.specs.declared.types.Refusal.TheVariants as refusals
 use Rattle.sled_pagecache.proofs.CacheSteps.{steps-went}
@@ -56,8 +56,8 @@ module _ {L : Type 0} (g : Ghosts L) where
       module _ (after : StickyLog L) (call : Call) where
         -- nothing was told to the log, and nothing changes
         pub nothing-appended : (pages : List KeptPage) → pages ≡ table → (answer : Answer) → Went g before after [] → after.fault ≡ false
-            → ((held : Logged) (s : State) → Represents g (cache before table) held s → s.fault ≡ false → AreKnown s.pages table → StepOver g (cache before table) s call answer (no_change s))
-            → Steps g (cache before table) call answer (cache after pages)
+            → ((held : Logged) (s : State) → Represents g (cache before table) held s → s.fault ≡ false → AreKnown s.pages table → ActOver g (cache before table) s call answer (no_change s))
+            → Acts g (cache before table) call answer (cache after pages)
         nothing-appended pages back answer went free step =
             steps-untold g next config recovered lru before table ready call after pages back answer went free (λ held s is clear. step held s is clear (known held s is clear))
 
@@ -65,11 +65,11 @@ module _ {L : Type 0} (g : Ghosts L) where
             (may : (held : Logged) (s : State) → Represents g (cache before table) held s → s.fault ≡ false → MayPut before.log held pid content) where
           -- the log refused it, or failed
           pub put-refused : (T : Type 0) (pages : List KeptPage) → pages ≡ table → (answer : Error → Answer)
-              → ((held : Logged) (s : State) → Represents g (cache before table) held s → s.fault ≡ false → AreKnown s.pages table → (e : Error) (out : Outcome) → Fails (chain_length g.state (cache before table)) (HasNoRoom g before.log) s (Change pid (Put content)) e out → StepOver g (cache before table) s call (answer e) out)
+              → ((held : Logged) (s : State) → Represents g (cache before table) held s → s.fault ≡ false → AreKnown s.pages table → (e : Error) (out : Outcome) → Fails (chain_length g.state (cache before table)) (HasNoRoom g before.log) s (Change pid (Put content)) e out → ActOver g (cache before table) s call (answer e) out)
               → (refusal : Refusal) → IsOfLog refusal
               → (let told : Result T Refusal = Err refusal in Went g before after (begun_by told (Change pid (message_of (Put content)) ∷ [])))
               → (let told : Result T Refusal = Err refusal in IsCaused g before after (g.is_full before.log (length (message_of (Put content)).payload)) told)
-              → Steps g (cache before table) call (answer (error_by refusal)) (cache after pages)
+              → Acts g (cache before table) call (answer (error_by refusal)) (cache after pages)
           put-refused T pages back answer step refusals.OutOfMemory of went cause =
               nothing-appended pages back (answer OutOfMemory) went cause.fault (λ held s is clear are. step held s is clear are OutOfMemory (no_change s) refl)
           put-refused T pages back answer step (refusals.Io Read) of went cause =
@@ -86,8 +86,8 @@ module _ {L : Type 0} (g : Ghosts L) where
 
           module _ (went : Went g before after (Change pid (message_of (Put content)) ∷ [])) (free : after.fault ≡ false) (answer : Answer) (stamp : ℕ) (q : KeptPage) (at : q.stamp ≡ stamp) where
             -- the page that was there holds it
-            pub put-set : pid < length table → ((held : Logged) (s : State) → Represents g (cache before table) held s → s.fault ≡ false → AreKnown s.pages table → StepOver g (cache before table) s call answer (outcome (with_page s pid (page stamp content)) (Change pid (Put content) ∷ [])))
-                → Steps g (cache before table) call answer (cache after (slice_set table pid q))
+            pub put-set : pid < length table → ((held : Logged) (s : State) → Represents g (cache before table) held s → s.fault ≡ false → AreKnown s.pages table → ActOver g (cache before table) s call answer (outcome (with_page s pid (page stamp content)) (Change pid (Put content) ∷ [])))
+                → Acts g (cache before table) call answer (cache after (slice_set table pid q))
             put-set there step =
                 steps-went g (cache before table) (cache after (slice_set table pid q)) before after call answer (Change pid (message_of (Put content)) ∷ []) (record { config = refl; recovered = refl }) refl refl refl ready went
                 (λ held s is clear.
@@ -99,8 +99,8 @@ module _ {L : Type 0} (g : Ghosts L) where
                 free)
 
             -- a new page holds it
-            pub put-added : pid ≡ length table → ((held : Logged) (s : State) → Represents g (cache before table) held s → s.fault ≡ false → AreKnown s.pages table → StepOver g (cache before table) s call answer (outcome (record s { pages = s.pages ++ page stamp content ∷ [] }) (Change pid (Put content) ∷ [])))
-                → Steps g (cache before table) call answer (cache after (table ++ q ∷ []))
+            pub put-added : pid ≡ length table → ((held : Logged) (s : State) → Represents g (cache before table) held s → s.fault ≡ false → AreKnown s.pages table → ActOver g (cache before table) s call answer (outcome (record s { pages = s.pages ++ page stamp content ∷ [] }) (Change pid (Put content) ∷ [])))
+                → Acts g (cache before table) call answer (cache after (table ++ q ∷ []))
             put-added last step =
                 steps-went g (cache before table) (cache after (table ++ q ∷ [])) before after call answer (Change pid (message_of (Put content)) ∷ []) (record { config = refl; recovered = refl }) refl refl refl ready went
                 (λ held s is clear.

@@ -1,5 +1,5 @@
 -- A link that was made, or refused, once what the list dropped for it is paged out: what it answers.
-use Rattle.sled_pagecache.proofs.Names.{inl, answer_behind, lost_by, no_name, HasNoName, KeepsMemory, ReadsNothing, IfOk, IfErr, OnOk, OnErr, stamp_of, slice_get, subst, IsFresh, ◌≡◌, ◌+◌, ℕ, Bool, List, Some, Result, Ok, Err, slice_set, refl, sym, ◌∙◌, ap, error_of, Refusal, Ghosts, Cache, IsResident, IsAway, IsBounded, AccessesPage, EvictsAtMost, MeetsDamage, ReportsDamage, ReadsPage, Keeps, Steps, IsBlamed, TestsFirst, stamps_after_swap, Swapped, is_free, chain_length, linked_length, IsAnswered, Token, token, Linked, Config, StickyLog, Accesses, Page, NodeLink, IsWhole, Evicts, IsSettled, behind-own, view}
+use Rattle.sled_pagecache.proofs.Names.{inl, answer_behind, lost_by, no_name, HasNoName, KeepsMemory, ReadsNothing, IfOk, IfErr, OnOk, OnErr, stamp_of, slice_get, subst, IsFresh, ◌≡◌, ◌+◌, ℕ, Bool, List, Some, Result, Ok, Err, slice_set, refl, sym, ◌∙◌, ap, error_of, Refusal, Ghosts, Cache, IsResident, IsAway, IsBounded, AccessesPage, EvictsAtMost, MeetsDamage, ReportsDamage, ReadsPage, Keeps, Acts, IsBlamed, TestsFirst, stamps_after_swap, Swapped, is_free, chain_length, linked_length, IsAnswered, Token, token, Linked, Config, StickyLog, Accesses, Page, NodeLink, IsWhole, Evicts, IsSettled, behind-own, view}
 use Rattle.sled_pagecache.proofs.Answers.{keeps-err}
 use Rattle.sled_pagecache.proofs.CacheSteps.{steps-known}
 use Rattle.sled_pagecache.proofs.Counted.{spares-other, behind-counter, other-at, spares-link, whole-then}
@@ -19,7 +19,7 @@ use Rattle.sled_pagecache.specs.declared.pagecache.handles.call.Call.TheVariants
 abbrev pub LinkPromises : {L : Type 0} → Ghosts L → Cache L → ℕ → Token → NodeLink → Cache L → Swapped NodeLink → Type 0
 LinkPromises g was pid old link now result = record {
   tested : TestsFirst g was old link result;
-  step : Steps g was (call.Link old link) (Linked result) now;
+  step : Acts g was (call.Link old link) (Linked result) now;
   blame : IsBlamed g was now result;
   keeps : Keeps was now result (stamps_after_swap was.stamps);
   token : IfOk result (IsAnswered was.stamps old link);

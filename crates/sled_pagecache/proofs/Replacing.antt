@@ -1,5 +1,5 @@
 -- Putting another content on a page, as a step of the machine.
-use Rattle.sled_pagecache.proofs.Names.{Recency, ◌≡◌, ◌≢◌, inl, inr, ◌+◌, ◌-◌, ◌^◌, ℕ, Bool, false, List, [], ◌∷◌, length, Some, Result, Ok, Err, slice_get, slice_set, refl, sym, ◌∙◌, ap, eq-eqb, ne_eqb, slice_get_within, Unsupported, Refusal, StampUsedUp, Content, Put, Change, IsUpdate, message_of, Ghosts, Cache, chain_length, HasNoRoom, StepOver, Represents, Steps, Went, IsCaused, begun_by, Logged, page, State, page_at, with_page, is_reserved, Does, Outcome, outcome, no_change, Swapped, SwapsContent, RefusesSwap, IsBeside, Token, token, Answer, Call, Config, StickyLog, error_by, KeptPage, behind-own, view}
+use Rattle.sled_pagecache.proofs.Names.{Recency, ◌≡◌, ◌≢◌, inl, inr, ◌+◌, ◌-◌, ◌^◌, ℕ, Bool, false, List, [], ◌∷◌, length, Some, Result, Ok, Err, slice_get, slice_set, refl, sym, ◌∙◌, ap, eq-eqb, ne_eqb, slice_get_within, Unsupported, Refusal, StampUsedUp, Content, Put, Change, IsUpdate, message_of, Ghosts, Cache, chain_length, HasNoRoom, ActOver, Represents, Acts, Went, IsCaused, begun_by, Logged, page, State, page_at, with_page, is_reserved, Does, Outcome, outcome, no_change, Swapped, SwapsContent, RefusesSwap, IsBeside, Token, token, Answer, Call, Config, StickyLog, error_by, KeptPage, behind-own, view}
 use Rattle.sled_pagecache.proofs.Judging.{IsSwap}
 use Rattle.sled_pagecache.proofs.ProperPages.{IsPut}
 use Rattle.sled_pagecache.proofs.Putting.{unless-clear, MayPut, may-set, nothing-appended, put-refused, put-set}
@@ -23,7 +23,7 @@ module _ {L : Type 0} (g : Ghosts L) (next : ℕ) (config : Config) (recovered :
     -- the machine finds the page at the stamp of the token
     step : (s : State) → s.fault ≡ false → AreKnown s.pages table → (answer : Swapped R) (out : Outcome)
         → UnlessLastStamp s old.stamp answer out (Does (chain_length g.state (cache before table)) (HasNoRoom g before.log) s (Change pid (Put content)) answer out (λ swapped t. (swapped ≡ Ok (token pid (old.stamp + 1))) × (t ≡ with_page s pid (page (old.stamp + 1) content))))
-        → StepOver g (cache before table) s call (answered answer) out
+        → ActOver g (cache before table) s call (answered answer) out
     step s clear are answer out h =
         let found = found-known s.pages table pid q are at in
         swap.step s answer out
@@ -32,7 +32,7 @@ module _ {L : Type 0} (g : Ghosts L) (next : ℕ) (config : Config) (recovered :
     pub swaps-refused : (refusal : Refusal) → RefusesSwap q.stamp refusal
         → (let told : Result (Unit {0}) Refusal = Err refusal in Went g before after (begun_by told (Change pid (message_of (Put content)) ∷ [])))
         → (let told : Result (Unit {0}) Refusal = Err refusal in IsCaused g before after (g.is_full before.log (length (message_of (Put content)).payload)) told)
-        → Steps g (cache before table) call (answered (Err (error_by refusal))) (cache after pages)
+        → Acts g (cache before table) call (answered (Err (error_by refusal))) (cache after pages)
     swaps-refused refusal (inl (last, is)) =
         rw is (λ went cause. nothing-appended g next config recovered lru before table ready beside after call pages back (answered (Err (Unsupported StampUsedUp))) went cause.fault
         (λ held s _ clear are. step s clear are (Err (Unsupported StampUsedUp)) (no_change s) (rw (eq-eqb old.stamp (2 ^ 64 - 1) (sym stamp ∙ last)) (refl, refl))))
@@ -43,7 +43,7 @@ module _ {L : Type 0} (g : Ghosts L) (next : ℕ) (config : Config) (recovered :
 
     pub swaps-done : q.stamp ≢ 2 ^ 64 - 1 → Went g before after (Change pid (message_of (Put content)) ∷ []) → after.fault ≡ false
         → (changed : KeptPage) → changed.stamp ≡ q.stamp + 1 → (made : Token) → made ≡ token pid (old.stamp + 1)
-        → Steps g (cache before table) call (answered (Ok (Ok made))) (cache after (slice_set table pid changed))
+        → Acts g (cache before table) call (answered (Ok (Ok made))) (cache after (slice_set table pid changed))
     swaps-done below went clear_after changed risen made is =
         put-set g next config recovered lru before table ready beside after call pid content reads may went clear_after (answered (Ok (Ok made))) (old.stamp + 1) changed (risen ∙ ap (λ n. n + 1) stamp) (slice_get_within table pid q at)
         (λ held s _ clear are. step s clear are (Ok (Ok made)) (outcome (with_page s pid (page (old.stamp + 1) content)) (Change pid (Put content) ∷ [])) (rw (ne_eqb old.stamp (2 ^ 64 - 1) (λ last. below (stamp ∙ last))) (refl, (ap (λ t. Ok t) is, refl))))

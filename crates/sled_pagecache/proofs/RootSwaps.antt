@@ -1,5 +1,5 @@
 -- A swap of a named root that was written, or refused, once what the list dropped for it is paged out: what it answers.
-use Rattle.sled_pagecache.proofs.Names.{◌≡◌, ◌+◌, ℕ, Bool, false, List, Option, Some, None, Result, Ok, Err, slice_set, refl, sym, ◌∙◌, ap, subst, get_or_from_slice_get, map-set, error_of, Error, Refusal, Roots, Put, message_of, Ghosts, MakesAppend, RefusesAppend, RefusesSwap, IsBlamed, Keeps, Steps, CasRoot, RootSwapped, stamps_after_root_swap, is_free, IsRoots, stamps_in, Config, StickyLog, Accesses, Page, Bytes, changed_roots, IsWhole, Evicts, IsSettled, roots_in, map-at, put-back, view}
+use Rattle.sled_pagecache.proofs.Names.{◌≡◌, ◌+◌, ℕ, Bool, false, List, Option, Some, None, Result, Ok, Err, slice_set, refl, sym, ◌∙◌, ap, subst, get_or_from_slice_get, map-set, error_of, Error, Refusal, Roots, Put, message_of, Ghosts, MakesAppend, RefusesAppend, RefusesSwap, IsBlamed, Keeps, Acts, CasRoot, RootSwapped, stamps_after_root_swap, is_free, IsRoots, stamps_in, Config, StickyLog, Accesses, Page, Bytes, changed_roots, IsWhole, Evicts, IsSettled, roots_in, map-at, put-back, view}
 use Rattle.sled_pagecache.proofs.Answers.{keeps-err, keeps-ok}
 use Rattle.sled_pagecache.proofs.Appending.{AfterMade, AfterRefused, after-whole, after-refused}
 use Rattle.sled_pagecache.proofs.CacheSteps.{steps-known}
@@ -14,7 +14,7 @@ module _ {L : Type 0} (g : Ghosts L) {next : ℕ} {config : Config} {recovered :
     (is : IsSettled g next config recovered before table free accesses) (clear : before.fault ≡ false) {name : Bytes} {old new : Option ℕ} {q page : Page} (swaps : IsSwappable table q name old new) where
   pub root-made : (let roots = changed_roots name new (roots_in q.kept) in MakesAppend g 0 (Put (Roots roots)) before after accesses between q page (kept.Roots roots)) → Evicts between None (slice_set table 0 page) pages then
       → AfterMade {T = Result (Unit {0}) (Option ℕ)} g (view next config recovered accesses.lru before table) (view next config recovered accesses.lru after (slice_set table 0 page)) (view next config recovered then.lru after pages) (IsSettled g next config recovered after pages free then) 0 (Ok (Ok tt))
-      × Steps g (view next config recovered accesses.lru before table) (CasRoot name old new) (RootSwapped (Ok (Ok tt))) (view next config recovered then.lru after pages)
+      × Acts g (view next config recovered accesses.lru before table) (CasRoot name old new) (RootSwapped (Ok (Ok tt))) (view next config recovered then.lru after pages)
       × Keeps (view next config recovered accesses.lru before table) (view next config recovered then.lru after pages) (Ok (Ok tt)) (stamps_after_root_swap (stamps_in table))
   root-made made evicts =
       let consistent = is.whole.consistent in
@@ -34,7 +34,7 @@ module _ {L : Type 0} (g : Ghosts L) {next : ℕ} {config : Config} {recovered :
 
   pub root-unmade : {refusal : Refusal} → RefusesAppend g 0 (Put (Roots (changed_roots name new (roots_in q.kept)))) before after accesses between (RefusesSwap q.stamp) (page ≡ q) refusal → Evicts between (Some 0) (slice_set table 0 page) pages then
       → AfterRefused {T = Result (Unit {0}) (Option ℕ)} g (view next config recovered accesses.lru before table) (view next config recovered accesses.lru after (slice_set table 0 page)) (view next config recovered then.lru after pages) (IsSettled g next config recovered after pages free then) 0 refusal (Err (error_of refusal))
-      × Steps g (view next config recovered accesses.lru before table) (CasRoot name old new) (RootSwapped (Err (error_of refusal))) (view next config recovered then.lru after pages)
+      × Acts g (view next config recovered accesses.lru before table) (CasRoot name old new) (RootSwapped (Err (error_of refusal))) (view next config recovered then.lru after pages)
       × IsBlamed {T = Result (Unit {0}) (Option ℕ)} g (view next config recovered accesses.lru before table) (view next config recovered then.lru after pages) (Err (error_of refusal))
       × Keeps (view next config recovered accesses.lru before table) (view next config recovered then.lru after pages) (Err (error_of refusal)) (stamps_after_root_swap (stamps_in table))
   root-unmade {refusal} refused evicts =

@@ -1,5 +1,5 @@
 -- The page of the named roots, in the table and in the state that the cache is in, and the calls of it as steps of the machine.
-use Rattle.sled_pagecache.proofs.Names.{Appended, IsRaised, Recency, Accesses, RefusesAppend, ◌≡◌, ◌≢◌, ◌≤◌, ◌+◌, ◌-◌, ◌^◌, ◌⊎◌, inl, inr, ℕ, Bool, false, arith, List, [], ◌∷◌, length, Option, Some, None, Result, Ok, Err, refl, sym, ◌∙◌, ap, subst, slice_get, slice_set, eq-eqb, ne_eqb, same_Some, Error, Unsupported, Refusal, StampUsedUp, Content, Roots, Put, Change, Ghosts, Cache, Represents, Steps, StepOver, HasNoRoom, chain_length, Logged, IsConsistent, page, State, page_at, with_page, Outcome, outcome, no_change, Does, RefusesSwap, token, Token, Config, StickyLog, Kept, GotMeta, GetMeta, FoundRoot, MetaPidForName, RootSwapped, CasRoot, IsRoots, KeepsRoots, AreKeptRoots, Answer, Call, error_by, Bytes, NameTooLong, TooManyNames, roots_in, AreOwn, KeptPage, view}
+use Rattle.sled_pagecache.proofs.Names.{Appended, IsRaised, Recency, Accesses, RefusesAppend, ◌≡◌, ◌≢◌, ◌≤◌, ◌+◌, ◌-◌, ◌^◌, ◌⊎◌, inl, inr, ℕ, Bool, false, arith, List, [], ◌∷◌, length, Option, Some, None, Result, Ok, Err, refl, sym, ◌∙◌, ap, subst, slice_get, slice_set, eq-eqb, ne_eqb, same_Some, Error, Unsupported, Refusal, StampUsedUp, Content, Roots, Put, Change, Ghosts, Cache, Represents, Acts, ActOver, HasNoRoom, chain_length, Logged, IsConsistent, page, State, page_at, with_page, Outcome, outcome, no_change, Does, RefusesSwap, token, Token, Config, StickyLog, Kept, GotMeta, GetMeta, FoundRoot, MetaPidForName, RootSwapped, CasRoot, IsRoots, KeepsRoots, AreKeptRoots, Answer, Call, error_by, Bytes, NameTooLong, TooManyNames, roots_in, AreOwn, KeptPage, view}
 use Rattle.sled_base.specs.declared.types.Error.TheVariants.{CollectionNotFound, OutOfMemory}
 use Rattle.sled_base.specs.declared.types.Refusal.TheVariants as refusals
 use Rattle.sled_node.specs.Meta as meta
@@ -34,25 +34,25 @@ module _ {L : Type 0} (g : Ghosts L) (next : ℕ) (config : Config) (recovered :
   -- ---- calls that change nothing
 
   module _ (only : KnowsNow g before) where
-    still : (call : Call) (answer : Answer) → ((s : State) → s.fault ≡ false → page_at s 0 ≡ Some (page stamp (Roots roots)) → StepOver g (cache before table) s call answer (no_change s)) → Steps g (cache before table) call answer (cache before table)
+    still : (call : Call) (answer : Answer) → ((s : State) → s.fault ≡ false → page_at s 0 ≡ Some (page stamp (Roots roots)) → ActOver g (cache before table) s call answer (no_change s)) → Acts g (cache before table) call answer (cache before table)
     still call answer step = steps-uncalled g next config recovered lru before table ready call answer (c.beside ready).usable only (λ held s is clear. step s clear (roots-at held s is clear))
 
-    pub gets-meta : (t : Token) → t ≡ token 0 stamp → Steps g (cache before table) GetMeta (GotMeta (Ok (t, roots))) (cache before table)
+    pub gets-meta : (t : Token) → t ≡ token 0 stamp → Acts g (cache before table) GetMeta (GotMeta (Ok (t, roots))) (cache before table)
     gets-meta t is = rw is (still GetMeta (GotMeta (Ok (token 0 stamp, roots))) (λ s clear there. rw (clear, there) (refl, refl)))
 
-    pub finds-root : (name : Bytes) (root : ℕ) → root_of name roots ≡ Some root → Steps g (cache before table) (MetaPidForName name) (FoundRoot (Ok root)) (cache before table)
+    pub finds-root : (name : Bytes) (root : ℕ) → root_of name roots ≡ Some root → Acts g (cache before table) (MetaPidForName name) (FoundRoot (Ok root)) (cache before table)
     finds-root name root is = still (MetaPidForName name) (FoundRoot (Ok root)) (λ s clear there. rw (clear, there, is) (refl, refl))
 
-    pub lacks-root : (name : Bytes) (e : Error) → root_of name roots ≡ None → (e ≡ CollectionNotFound name) ⊎ (e ≡ OutOfMemory) → Steps g (cache before table) (MetaPidForName name) (FoundRoot (Err e)) (cache before table)
+    pub lacks-root : (name : Bytes) (e : Error) → root_of name roots ≡ None → (e ≡ CollectionNotFound name) ⊎ (e ≡ OutOfMemory) → Acts g (cache before table) (MetaPidForName name) (FoundRoot (Err e)) (cache before table)
     lacks-root name e none (inl is) = rw is (still (MetaPidForName name) (FoundRoot (Err (CollectionNotFound name))) (λ s clear there. rw (clear, there, none) (inl refl, refl)))
     lacks-root name e none (inr is) = rw is (still (MetaPidForName name) (FoundRoot (Err OutOfMemory)) (λ s clear there. rw (clear, there, none) (inr refl, refl)))
 
     module _ (name : Bytes) (old new : Option ℕ) where
-      pub another-root : (root : Option ℕ) → root_of name roots ≢ old → root ≡ root_of name roots → Steps g (cache before table) (CasRoot name old new) (RootSwapped (Ok (Err root))) (cache before table)
+      pub another-root : (root : Option ℕ) → root_of name roots ≢ old → root ≡ root_of name roots → Acts g (cache before table) (CasRoot name old new) (RootSwapped (Ok (Err root))) (cache before table)
       another-root root apart is = rw is (still (CasRoot name old new) (RootSwapped (Ok (Err (root_of name roots)))) (λ s clear there. rw (clear, there) (inl (apart, refl, refl))))
 
       pub unfit-root : (refusal : Refusal) → root_of name roots ≡ old → (IsTooLong name new × (refusal ≡ refusals.Unsupported NameTooLong)) ⊎ (LacksRoom name new roots × (refusal ≡ refusals.Unsupported TooManyNames))
-          → Steps g (cache before table) (CasRoot name old new) (RootSwapped (Err (error_by refusal))) (cache before table)
+          → Acts g (cache before table) (CasRoot name old new) (RootSwapped (Err (error_by refusal))) (cache before table)
       unfit-root refusal same (inl (long, is)) =
           rw is (still (CasRoot name old new) (RootSwapped (Err (Unsupported NameTooLong))) (λ s clear there. rw (clear, there) (inr (same, inl (long, (refl, refl))))))
       unfit-root refusal same (inr (full, is)) =
@@ -69,11 +69,11 @@ module _ {L : Type 0} (g : Ghosts L) (next : ℕ) (config : Config) (recovered :
 
     risen : (s : State) → s.fault ≡ false → page_at s 0 ≡ Some (page stamp (Roots roots)) → stamp ≢ 2 ^ 64 - 1 → (answer : Result (Result (Unit {0}) (Option ℕ)) Error) (out : Outcome)
         → Does (chain_length g.state (cache before table)) (HasNoRoom g before.log) s (Change 0 (Put content)) answer out (λ swapped t. (swapped ≡ Ok tt) × (t ≡ with_page s 0 (page (stamp + 1) content)))
-        → StepOver g (cache before table) s (CasRoot name old new) (RootSwapped answer) out
+        → ActOver g (cache before table) s (CasRoot name old new) (RootSwapped answer) out
     risen s clear there below answer out done = unless-clear s answer out _ clear (rw there (inr (same, inr (inr (can, rw (ne_eqb stamp (2 ^ 64 - 1) below) done)))))
 
     pub root-refused : (pages : List KeptPage) → pages ≡ table → {accesses between : Accesses} {left : Type 0} {refusal : Refusal} → RefusesAppend g 0 (Put content) before after accesses between (RefusesSwap stamp) left refusal → RefusesSwap stamp refusal
-        → Steps g (cache before table) (CasRoot name old new) (RootSwapped (Err (error_by refusal))) (cache after pages)
+        → Acts g (cache before table) (CasRoot name old new) (RootSwapped (Err (error_by refusal))) (cache after pages)
     root-refused pages back {refusal = refusal} refused (inl (last, is)) =
         let known = rw is at refused in
         rw is
@@ -84,7 +84,7 @@ module _ {L : Type 0} (g : Ghosts L) (next : ℕ) (config : Config) (recovered :
         (λ held s is clear are e out fails. risen s clear (roots-at held s is clear) below (Err e) out fails) refusal of refused.went refused.cause
 
     pub root-swapped : {accesses between : Accesses} {changed : KeptPage} {held : Kept} → Appended g 0 (Put content) before after accesses between changed held (IsRaised stamp changed.stamp)
-        → Steps g (cache before table) (CasRoot name old new) (RootSwapped (Ok (Ok tt))) (cache after (slice_set table 0 changed))
+        → Acts g (cache before table) (CasRoot name old new) (RootSwapped (Ok (Ok tt))) (cache after (slice_set table 0 changed))
     root-swapped {changed = changed} made =
         put-set g next config recovered lru before table ready (c.beside ready) after (CasRoot name old new) 0 content made.is may made.went made.fault (RootSwapped (Ok (Ok tt))) (stamp + 1) changed made.stamp.1 (let both = c.both in omega (arith, both))
         (λ held s is clear are.

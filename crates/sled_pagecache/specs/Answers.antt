@@ -60,6 +60,19 @@ abbrev pub stamps_after_swap : {R : Type 0} → List ℕ → Result Token (Optio
 stamps_after_swap stamps (Ok made) = slice_set stamps made.pid made.stamp
 stamps_after_swap stamps (Err back) = stamps
 
+-- this holds unless the swap was made
+abbrev pub UnlessMade : {R : Type 0} → Swapped R → Type 0 → Type 0
+UnlessMade (Ok (Ok made)) holds = ⊤
+UnlessMade answer holds = holds
+
+-- So it is of a swap, but that behind one that was made a move may meet a write fault, which is kept and not answered.
+pub record KeepsSwap {L R : Type 0} (old new : Cache L) (result : Swapped R) : Type 0 where
+  pub batch : new.batch ≡ old.batch
+  pub fault : UnlessMade result (new.fault ≡ (old.fault || is_write_fault result))
+  pub stuck : old.fault ≡ true → IsErrOf result (Io Write) × (new ≡ old)
+  pub done : IfOk result (λ swapped. new.stamps ≡ stamps_after_swap old.stamps swapped)
+  pub refused : OnErr result (new.stamps ≡ old.stamps)
+
 -- A batch is opened or closed: no stamp changes. A write fault is sticky, and with one kept it is the answer.
 pub record KeepsStamps {L : Type 0} (old new : Cache L) (result : Result (Unit {0}) Error) : Type 0 where
   pub stamps : new.stamps ≡ old.stamps

@@ -8,16 +8,16 @@ use Rattle.sled_log.specs.Calls.{HasGrown}
 use Rattle.sled_log.specs.Contents.{Content, Update, Put}
 use Rattle.sled_log.specs.Events.{Event, Change, Pin, Seal, Cancel}
 use Rattle.sled_log.specs.LogState as log
-use Rattle.sled_log.specs.LogState.{now}
+use Rattle.sled_log.specs.LogState.{now, unplaced_state}
 use Rattle.sled_log.specs.Messages.{effect_of_entry}
 use Rattle.sled_log.specs.Moves.{message_at}
 use Rattle.sled_log.specs.Reading.{message_of}
 use Rattle.sled_log.specs.declared.log.Log.{Ghosts}
 use Rattle.sled_pagecache.specs.Cache.{Cache, chain_length, Represents}
 use Rattle.sled_pagecache.specs.Due.{due_in}
-use Rattle.sled_pagecache.specs.Logged.{Logged, Adds, IsLeft}
+use Rattle.sled_pagecache.specs.Logged.{Logged, Adds, IsLeft, IsLogged}
 use Rattle.sled_pagecache.specs.State.{State}
-use Rattle.sled_pagecache.specs.Step.{Outcome, Step}
+use Rattle.sled_pagecache.specs.Step.{Act, Outcome, Step}
 use Rattle.sled_pagecache.specs.declared.pagecache.handles.call.Answer.{Answer}
 use Rattle.sled_pagecache.specs.declared.pagecache.handles.call.Call.{Call}
 
@@ -38,10 +38,23 @@ module _ {L : Type 0} (g : Ghosts L) where
   abbrev pub HasNoRoomAgain : L → ℕ → Content → Type 0
   HasNoRoomAgain log pid content = HasNoRoom log (Change pid (Put content)) ⊎ g.is_full log (length (message_at (now effect_of_entry (g.state log)) pid).payload)
 
+  -- an act of the machine, over the log of the cache
+  abbrev pub ActOver : Cache L → State → Call → Answer → Outcome → Type 0
+  ActOver cache s call answer out =
+      Act (due_in g cache.config) HasNoRoomAgain (chain_length g.state cache) (HasNoRoom cache.log) cache.config.idgen_persist_interval cache.config.segment_size cache.log s call answer out
+
+  -- These changes were added to the one log, in whatever messages, and then it was the other.
+  pub record IsBehind (old : L) (changes : List (Event Update)) (new : L) : Type 0 where
+    pub held : Logged
+    pub held_then : Logged
+    pub from : IsLogged (unplaced_state (g.state old)) held
+    pub added : Adds held changes held_then
+    pub is : IsLogged (unplaced_state (g.state new)) held_then
+
   -- a step of the machine, over the log of the cache
   abbrev pub StepOver : Cache L → State → Call → Answer → Outcome → Type 0
   StepOver cache s call answer out =
-      Step (due_in g cache.config) HasNoRoomAgain (chain_length g.state cache) (HasNoRoom cache.log) cache.config.idgen_persist_interval cache.config.segment_size cache.log s call answer out
+      Step (due_in g cache.config) HasNoRoomAgain (chain_length g.state cache) (HasNoRoom cache.log) cache.config.idgen_persist_interval cache.config.segment_size cache.log (IsBehind cache.log) s call answer out
 
   -- A crash at any moment of what led from the one log to the other leaves what was held and a prefix of the changes that splits no batch.
   abbrev pub CrashLeaves : L → Logged → List (Event Update) → L → Type 0
@@ -69,6 +82,10 @@ module _ {L : Type 0} (g : Ghosts L) where
 
   abbrev pub Steps : Cache L → Call → Answer → Cache L → Type 0
   Steps old call answer new = IsDoneInEach (λ s out. StepOver old s call answer out) old new
+
+  -- the call is one act
+  abbrev pub Acts : Cache L → Call → Answer → Cache L → Type 0
+  Acts old call answer new = IsDoneInEach (λ s out. ActOver old s call answer out) old new
 
 -- A fault is reported only where its count grew in the call, or a write fault was kept.
 pub record IsBlamed {L T : Type 0} (g : Ghosts L) (old new : Cache L) (result : Result T Error) : Type 0 where

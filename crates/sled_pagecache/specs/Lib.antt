@@ -12,6 +12,7 @@ pub mod Memory
 pub mod Answers
 pub mod Damage
 pub mod Moves
+pub mod Swaps
 pub mod Lending
 pub mod Rows
 pub mod Opening

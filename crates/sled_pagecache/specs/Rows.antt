@@ -3,7 +3,7 @@ use Rattle.std.specs.Prelude.{◌≡◌, ◌⊎◌, ◌+◌, true, false, List, 
 use Rattle.sled_log.specs.Contents.{Update}
 use Rattle.sled_log.specs.Events.{Event}
 use Rattle.sled_log.specs.declared.log.Log.{Ghosts}
-use Rattle.sled_pagecache.specs.Answers.{Keeps, KeepsStamps, stamps_after_root_swap, stamps_with, stamps_after_swap, IsCovered}
+use Rattle.sled_pagecache.specs.Answers.{Keeps, KeepsStamps, KeepsSwap, stamps_after_root_swap, stamps_with, stamps_after_swap, IsCovered}
 use Rattle.sled_pagecache.specs.Cache.{Cache, Represents}
 use Rattle.sled_pagecache.specs.Calls.{CrashLeaves, IsSameOpening, StepOver, Steps, IsBlamed}
 use Rattle.sled_pagecache.specs.Logged.{Logged, Adds}
@@ -88,8 +88,8 @@ module _ {L : Type 0} (g : Ghosts L) where
   abbrev pub KeepsBehind : Cache L → Answer → Cache L → Type 0
   KeepsBehind old (Allocated result) new = Keeps old new result (λ made. stamps_with old.stamps made.1)
   KeepsBehind old (Got result) new = Keeps old new result (λ _. old.stamps)
-  KeepsBehind old (Linked result) new = Keeps old new result (stamps_after_swap old.stamps)
-  KeepsBehind old (Replaced result) new = Keeps old new result (stamps_after_swap old.stamps)
+  KeepsBehind old (Linked result) new = KeepsSwap old new result
+  KeepsBehind old (Replaced result) new = KeepsSwap old new result
   KeepsBehind old (Freed result) new = Keeps old new result (stamps_after_swap old.stamps)
   KeepsBehind old (GotMeta result) new = Keeps old new result (λ _. old.stamps)
   KeepsBehind old (FoundRoot result) new = Keeps old new result (λ _. old.stamps)

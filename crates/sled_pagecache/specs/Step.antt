@@ -364,27 +364,49 @@ module _ {L : Type 0} (due : L → Due) (no_room_again : L → ℕ → Content �
   abbrev pub Tidies : L → State → Result Bool Error → Outcome → Type 0
   Tidies log s answer out = UnlessFaulty s answer out (Moves log s (due log) answer out)
 
-  -- ---- From s, the cache may give this answer to the call, and leave this. Ids are generated in intervals so long, and a
-  -- segment has that size.
+  -- Behind a swap that wrote a whole node the page is moved that is due then. Whatever comes of that, the swap's answer stands.
+  module _ (Behind : List (Event Update) → L → Type 0) where
+    pub record TidiesBehind (swap out : Outcome) : Type 0 where
+      pub mid : L
+      pub behind : Behind swap.changes mid
+      pub answer : Result Bool Error
+      pub move : Outcome
+      pub tidies : Tidies mid swap.state answer move
+      pub is : out ≡ outcome move.state (swap.changes ++ move.changes)
+
+    abbrev pub TidiesIfSwapped : {R : Type 0} → Swapped R → Outcome → Outcome → Type 0
+    TidiesIfSwapped (Ok (Ok made)) swap out = TidiesBehind swap out
+    TidiesIfSwapped answer swap out = out ≡ swap
+
+  -- ---- From s, the cache may give this answer to the call, and leave this: an act for each call, and what is added to a swap.
+  -- Ids are generated in intervals so long, and a segment has that size.
   module _ (messages : ℕ → ℕ) (no_room : Event Update → Type 0) (interval segment_size : ℕ) (log : L) where
-    abbrev pub Step : State → Call → Answer → Outcome → Type 0
-    Step s (Allocate node) (Allocated answer) out = Allocates messages no_room s node answer out
-    Step s (Get pid) (Got answer) out = Gets s pid answer out
-    Step s (Link old link) (Linked answer) out = Links messages no_room s old link answer out
-    Step s (Replace old node) (Replaced answer) out = Replaces messages no_room s old node answer out
-    Step s (call.Free old) (Freed answer) out = Frees messages no_room s old answer out
-    Step s GetMeta (GotMeta answer) out = GetsMeta s answer out
-    Step s (MetaPidForName name) (FoundRoot answer) out = FindsRoot s name answer out
-    Step s (CasRoot name old new) (RootSwapped answer) out = SwapsRoot messages no_room s name old new answer out
-    Step s GetIdgen (GotIdgen answer) out = GetsIdgen s answer out
-    Step s GenerateId (Generated answer) out = Generates messages no_room interval s answer out
-    Step s Flush (Flushed answer) out = Flushes s answer out
-    Step s SizeOnDisk (Sized answer) out = Sizes s answer out
-    Step s SpaceAmplification (Amplified answer) out = Amplifies segment_size s answer out
-    Step s TakeFuzzySnapshot (TookSnapshot answer) out = Snaps s answer out
-    Step s call.Pin (Pinned answer) out = Pins messages no_room s answer out
-    Step s call.Seal (Sealed answer) out = Closes Seal s answer out
-    Step s call.Cancel (Cancelled answer) out = Closes Cancel s answer out
-    Step s AttemptGc (AttemptedGc answer) out = Tidies log s answer out
+    abbrev pub Act : State → Call → Answer → Outcome → Type 0
+    Act s (Allocate node) (Allocated answer) out = Allocates messages no_room s node answer out
+    Act s (Get pid) (Got answer) out = Gets s pid answer out
+    Act s (Link old link) (Linked answer) out = Links messages no_room s old link answer out
+    Act s (Replace old node) (Replaced answer) out = Replaces messages no_room s old node answer out
+    Act s (call.Free old) (Freed answer) out = Frees messages no_room s old answer out
+    Act s GetMeta (GotMeta answer) out = GetsMeta s answer out
+    Act s (MetaPidForName name) (FoundRoot answer) out = FindsRoot s name answer out
+    Act s (CasRoot name old new) (RootSwapped answer) out = SwapsRoot messages no_room s name old new answer out
+    Act s GetIdgen (GotIdgen answer) out = GetsIdgen s answer out
+    Act s GenerateId (Generated answer) out = Generates messages no_room interval s answer out
+    Act s Flush (Flushed answer) out = Flushes s answer out
+    Act s SizeOnDisk (Sized answer) out = Sizes s answer out
+    Act s SpaceAmplification (Amplified answer) out = Amplifies segment_size s answer out
+    Act s TakeFuzzySnapshot (TookSnapshot answer) out = Snaps s answer out
+    Act s call.Pin (Pinned answer) out = Pins messages no_room s answer out
+    Act s call.Seal (Sealed answer) out = Closes Seal s answer out
+    Act s call.Cancel (Cancelled answer) out = Closes Cancel s answer out
+    Act s AttemptGc (AttemptedGc answer) out = Tidies log s answer out
     -- a call gets no answer of another call
-    Step s asked answer out = ⊥
+    Act s asked answer out = ⊥
+
+    module _ (Behind : List (Event Update) → L → Type 0) where
+      abbrev pub Step : State → Call → Answer → Outcome → Type 0
+      Step s (Replace old node) (Replaced answer) out = (swap : Outcome) × Act s (Replace old node) (Replaced answer) swap × TidiesIfSwapped Behind answer swap out
+      -- a link joins the messages of its page, or it writes a whole node
+      Step s (Link old link) (Linked answer) out =
+          (swap : Outcome) × Act s (Link old link) (Linked answer) swap × MatchBool (nat_lt (messages old.pid) most_messages) (out ≡ swap) (TidiesIfSwapped Behind answer swap out)
+      Step s asked answer out = Act s asked answer out

@@ -12,10 +12,11 @@ use Rattle.sled_node.specs.Links.{applied}
 use Rattle.sled_node.specs.Meta as meta
 use Rattle.sled_node.specs.Node.{WholeNode}
 use Rattle.sled_node.specs.declared.node.link.Link.{Link as NodeLink}
+use Rattle.sled_pagecache.specs.Limits.{most_messages}
 use Rattle.sled_pagecache.specs.Step.{link_update}
 use Rattle.sled_pagecache.specs.Shapes.{Shape}
 use Rattle.sled_pagecache.specs.State.{StampedPage, State, page_at, is_free, greatest_free}
-use Rattle.sled_pagecache.specs.Step.{Due, Nothing, Outdated, Page as IsDue, Moves, MovesContent, MovesPage, WritesAgain, AddsPage, Allocates, Closes, Does, Fails, Finds, FindsContent, Flushes, Frees, Generates, Gets, HoldsCounter, HoldsRoots, IsCorruption, IsCounterAnd, AreRoots, IsHindered, IsRefused, Links, LinksContent, Outcome, Pins, Measures, PutsCounter, Reads, Replaces, ReusesPage, RootSwap, SetsRoot, Step, Swapped, Swaps, SwapsContent, SwapsPage, SwapsRoot, interval_start, is_reserved, no_change, with_next_id}
+use Rattle.sled_pagecache.specs.Step.{Due, Nothing, Outdated, Page as IsDue, Moves, MovesContent, MovesPage, WritesAgain, AddsPage, Allocates, Closes, Does, Fails, Finds, FindsContent, Flushes, Frees, Generates, Gets, HoldsCounter, HoldsRoots, IsCorruption, IsCounterAnd, AreRoots, IsHindered, IsRefused, Links, LinksContent, Outcome, Pins, Measures, PutsCounter, Reads, Replaces, ReusesPage, RootSwap, SetsRoot, Step, Swapped, Swaps, SwapsContent, SwapsPage, SwapsRoot, TidiesIfSwapped, interval_start, is_reserved, no_change, with_next_id}
 use Rattle.sled_pagecache.specs.State.{Token}
 use Rattle.sled_pagecache.specs.Trees.{MadeCalls}
 use Rattle.sled_pagecache.specs.declared.pagecache.handles.call.Answer.{Answer}
@@ -23,7 +24,7 @@ use Rattle.sled_pagecache.specs.declared.pagecache.handles.call.Answer.TheVarian
 use Rattle.sled_pagecache.specs.declared.pagecache.handles.call.Call.{Call}
 use Rattle.sled_pagecache.specs.declared.pagecache.handles.call.Call.TheVariants.{Allocate, Get, Link, Replace, GetMeta, GetIdgen, GenerateId, Flush, SizeOnDisk, SpaceAmplification, TakeFuzzySnapshot, MetaPidForName, CasRoot, AttemptGc}
 use Rattle.sled_pagecache.specs.declared.pagecache.handles.call.Call.TheVariants as call
-use Rattle.sled_shared.specs.Book.{Book, any_room, any_room_again, StepsTo, RunsCalls, Runs, ReplaysTo, AreRounds, ids_given, ids_of, RisesWithin}
+use Rattle.sled_shared.specs.Book.{Book, any_behind, any_room, any_room_again, StepsTo, RunsCalls, Runs, ReplaysTo, AreRounds, ids_given, ids_of, RisesWithin}
 use Rattle.sled_shared.specs.Calls.{Answered, Asked, Batch, Batched, Entry, IsEntry, OpenTree, Opened, Reply, Request}
 
 -- ---- what a step does to the next id
@@ -229,6 +230,13 @@ module _ (messages : ℕ → ℕ) where
       by None h = absurd h
       by (Some found) h = of_content found.content h
 
+  -- a move is added where a swap was made
+  tidies : {R : Type 0} (s : State) (answer : Swapped R) (swap out : Outcome) → Stays s swap → TidiesIfSwapped (λ due. due) any_room_again any_behind answer swap out → Stays s out
+  tidies s (Ok (Ok made)) swap out still h =
+      ap (λ (o : Outcome). o.state.next) h.is ∙ either-way swap.state.fault (refused swap.state h.answer h.move _) (moves swap.state h.mid h.mid h.answer h.move) h.tidies ∙ still
+  tidies s (Ok (Err back)) swap out still is = ap (λ (o : Outcome). o.state.next) is ∙ still
+  tidies s (Err e) swap out still is = ap (λ (o : Outcome). o.state.next) is ∙ still
+
   -- ---- so its ids rise
 
   none-given : (s : State) (out : Outcome) → Stays s out → s.next ≤ out.state.next
@@ -238,11 +246,13 @@ module _ (messages : ℕ → ℕ) where
   given s (Ok id) out h = (omega arith, omega arith)
   given s (Err e) out h = omega arith
 
-  step-rises : (interval segment_size : ℕ) (due : Due) (s : State) (asked : Call) (answer : Answer) (out : Outcome) → Step (λ due. due) any_room_again messages any_room interval segment_size due s asked answer out → RisesWithin s.next (ids_given (Answered answer)) out.state.next
+  step-rises : (interval segment_size : ℕ) (due : Due) (s : State) (asked : Call) (answer : Answer) (out : Outcome) → Step (λ due. due) any_room_again messages any_room interval segment_size due any_behind s asked answer out → RisesWithin s.next (ids_given (Answered answer)) out.state.next
   step-rises interval segment_size due s (Allocate node) (Allocated answer) out h = none-given s out (allocates s node answer out h)
   step-rises interval segment_size due s (Get pid) (Got answer) out h = none-given s out (gets s pid answer out h)
-  step-rises interval segment_size due s (Link old link) (Linked answer) out h = none-given s out (links s old link answer out h)
-  step-rises interval segment_size due s (Replace old node) (Replaced answer) out h = none-given s out (replaces s old node answer out h)
+  step-rises interval segment_size due s (Link old link) (Linked answer) out (swap, act, ends) =
+      let still = links s old link answer swap act in
+      none-given s out (either-way (nat_lt (messages old.pid) most_messages) (λ is. ap (λ (o : Outcome). o.state.next) is ∙ still) (tidies s answer swap out still) ends)
+  step-rises interval segment_size due s (Replace old node) (Replaced answer) out (swap, act, ends) = none-given s out (tidies s answer swap out (replaces s old node answer swap act) ends)
   step-rises interval segment_size due s (call.Free old) (Freed answer) out h = none-given s out (frees s old answer out h)
   step-rises interval segment_size due s GetMeta (GotMeta answer) out h = none-given s out (either-way s.fault (refused s answer out _) (roots-held s out _ (λ stamp roots k. stays s s out [] refl k.1) (page_at s 0)) h)
   step-rises interval segment_size due s (MetaPidForName name) (FoundRoot answer) out h = none-given s out (either-way s.fault (refused s answer out _) (roots-held s out _ (λ stamp roots k. stays s s out [] refl k.1) (page_at s 0)) h)

@@ -15,14 +15,15 @@ use Rattle.sled_node.specs.Meta as meta
 use Rattle.sled_node.specs.Node.{WholeNode}
 use Rattle.sled_node.specs.declared.node.link.Link.{Link as NodeLink}
 use Rattle.sled_pagecache.specs.Cache.{Cache, chain_length, Represents}
-use Rattle.sled_pagecache.specs.Calls.{HasNoRoom, HasNoRoomAgain}
+use Rattle.sled_pagecache.specs.Calls.{HasNoRoom, HasNoRoomAgain, IsBehind}
 use Rattle.sled_pagecache.specs.Due.{due_in}
+use Rattle.sled_pagecache.specs.Limits.{most_messages}
 use Rattle.sled_pagecache.specs.Step.{link_update}
 use Rattle.sled_pagecache.specs.Logged.{Logged}
 use Rattle.sled_pagecache.specs.Rows.{AreMade}
 use Rattle.sled_pagecache.specs.Shapes.{Shape, Shows, shape_of, shape_of_page, kind_of}
 use Rattle.sled_pagecache.specs.State.{StampedPage, State, page, page_at, is_free, greatest_free}
-use Rattle.sled_pagecache.specs.Step.{Due, Nothing, Outdated, Page as IsDue, Moves, MovesContent, MovesPage, WritesAgain, AddsPage, Allocates, Does, Fails, Frees, Generates, HoldsCounter, HoldsRoots, IsCounterAnd, AreRoots, Links, LinksContent, Outcome, Pins, PutsCounter, PutsRoots, Replaces, ReusesPage, RootSwap, SetsRoot, Step, Swapped, Swaps, SwapsContent, SwapsPage, SwapsRoot, interval_start, is_reserved, no_change, with_next_id}
+use Rattle.sled_pagecache.specs.Step.{Due, Nothing, Outdated, Page as IsDue, Moves, MovesContent, MovesPage, WritesAgain, AddsPage, Allocates, Does, Fails, Frees, Generates, HoldsCounter, HoldsRoots, IsCounterAnd, AreRoots, Links, LinksContent, Outcome, Pins, PutsCounter, PutsRoots, Replaces, ReusesPage, RootSwap, SetsRoot, Step, Swapped, Swaps, SwapsContent, SwapsPage, SwapsRoot, TidiesIfSwapped, interval_start, is_reserved, no_change, with_next_id}
 use Rattle.sled_pagecache.specs.State.{Token}
 use Rattle.sled_pagecache.specs.Trees.{IsKnown, MadeCalls}
 use Rattle.sled_pagecache.specs.declared.pagecache.handles.call.Answer.{Answer}
@@ -35,7 +36,7 @@ use Rattle.sled_pagecache.specs.declared.pagecache.handles.shape.Kind.{Kind}
 use Rattle.sled_pagecache.specs.declared.pagecache.handles.shape.Kind.TheVariants as kinds
 use Rattle.sled_pagecache.specs.declared.pagecache.handles.shape.PageShape.{PageShape}
 use Rattle.sled_shared.proofs.Ids.{book_rises}
-use Rattle.sled_shared.specs.Book.{Book, AreEntries, AreRounds, RisesWithin, any_room, any_room_again, book, ids_of, RunsCalls, Runs}
+use Rattle.sled_shared.specs.Book.{Book, AreEntries, AreRounds, RisesWithin, any_behind, any_room, any_room_again, book, ids_of, RunsCalls, Runs}
 use Rattle.sled_shared.specs.Calls.{Entry}
 use Rattle.sled_shared.specs.Held.{EndsBefore, Held, IsBookOf, IsSound, ReplaysIn, calls_of, held}
 
@@ -167,12 +168,27 @@ module _ (messages : ℕ → ℕ) (no_room : Event Update → Type 0) where
         by None h = h
         by (Some found) h = of_content found.content h
 
-    pub whatever-room : (interval segment_size : ℕ) (s : State) (asked : Call) (answer : Answer) (out : Outcome) → Step due no_room_again messages no_room interval segment_size l s asked answer out
-        → Step (λ due. due) any_room_again messages any_room interval segment_size (due l) s asked answer out
+  module _ {L : Type 0} (due : L → Due) (no_room_again : L → ℕ → Content → Type 0) (Behind : List (Event Update) → L → Type 0) where
+    tidies : {R : Type 0} (answer : Swapped R) (swap out : Outcome) → TidiesIfSwapped due no_room_again Behind answer swap out → TidiesIfSwapped (λ due. due) any_room_again any_behind answer swap out
+    tidies (Ok (Ok made)) swap out h = record {
+      mid = due h.mid;
+      behind = tt;
+      answer = h.answer;
+      move = h.move;
+      tidies = both swap.state.fault (λ h. h) (moves due no_room_again h.mid (due h.mid) swap.state h.answer h.move) h.tidies;
+      is = h.is;
+    }
+    tidies (Ok (Err back)) swap out is = is
+    tidies (Err e) swap out is = is
+
+  module _ {L : Type 0} (due : L → Due) (no_room_again : L → ℕ → Content → Type 0) (l : L) (Behind : List (Event Update) → L → Type 0) where
+    pub whatever-room : (interval segment_size : ℕ) (s : State) (asked : Call) (answer : Answer) (out : Outcome) → Step due no_room_again messages no_room interval segment_size l Behind s asked answer out
+        → Step (λ due. due) any_room_again messages any_room interval segment_size (due l) any_behind s asked answer out
     whatever-room interval segment_size s (Allocate node) (Allocated answer) out h = allocates s node answer out h
     whatever-room interval segment_size s (Get pid) (Got answer) out h = h
-    whatever-room interval segment_size s (Link old link) (Linked answer) out h = links s old link answer out h
-    whatever-room interval segment_size s (Replace old node) (Replaced answer) out h = replaces s old node answer out h
+    whatever-room interval segment_size s (Link old link) (Linked answer) out (swap, act, ends) =
+        (swap, links s old link answer swap act, both (nat_lt (messages old.pid) most_messages) (λ is. is) (tidies due no_room_again Behind answer swap out) ends)
+    whatever-room interval segment_size s (Replace old node) (Replaced answer) out (swap, act, ends) = (swap, replaces s old node answer swap act, tidies due no_room_again Behind answer swap out ends)
     whatever-room interval segment_size s (call.Free old) (Freed answer) out h = frees s old answer out h
     whatever-room interval segment_size s GetMeta (GotMeta answer) out h = h
     whatever-room interval segment_size s (MetaPidForName name) (FoundRoot answer) out h = h
@@ -186,7 +202,7 @@ module _ (messages : ℕ → ℕ) (no_room : Event Update → Type 0) where
     whatever-room interval segment_size s call.Pin (Pinned answer) out h = pins s answer out h
     whatever-room interval segment_size s call.Seal (Sealed answer) out h = h
     whatever-room interval segment_size s call.Cancel (Cancelled answer) out h = h
-    whatever-room interval segment_size s AttemptGc (AttemptedGc answer) out h = both s.fault (λ h. h) (moves (due l) s answer out) h
+    whatever-room interval segment_size s AttemptGc (AttemptedGc answer) out h = both s.fault (λ h. h) (moves due no_room_again l (due l) s answer out) h
     whatever-room interval segment_size s asked answer out h = absurd h
 
 -- ---- a state of a shape
@@ -253,7 +269,7 @@ module _ {L : Type 0} (g : Ghosts L) where
         is = rest.is;
         run = (
           one.out.state,
-          (chain_length g.state old, old.config.segment_size, due_in g old.config old.log, one.out, whatever-room (chain_length g.state old) (HasNoRoom g old.log) (due_in g old.config) (HasNoRoomAgain g) old.log old.config.idgen_persist_interval old.config.segment_size s made.0 made.1 one.out one.step, refl),
+          (chain_length g.state old, old.config.segment_size, due_in g old.config old.log, one.out, whatever-room (chain_length g.state old) (HasNoRoom g old.log) (due_in g old.config) (HasNoRoomAgain g) old.log (IsBehind g old.log) old.config.idgen_persist_interval old.config.segment_size s made.0 made.1 one.out one.step, refl),
           subst (λ (c : Config). RunsCalls c.idgen_persist_interval one.out.state calls rest.last) config rest.run,
         );
         config = rest.config ∙ config;

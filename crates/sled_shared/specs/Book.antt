@@ -32,11 +32,15 @@ any_room change = ⊤
 abbrev pub any_room_again : Due → ℕ → Content → Type 0
 any_room_again due pid content = ⊤
 
+-- whatever is due behind what was written
+abbrev pub any_behind : List (Event Update) → Due → Type 0
+any_behind changes due = ⊤
+
 -- From s a cache over some log, in which something may be due, with segments of some size, may give this answer to the call, and go on to
 -- t.
 abbrev pub StepsTo : ℕ → State → Call → Answer → State → Type 0
 StepsTo interval s call answer t =
-    (messages : ℕ → ℕ) × (segment_size : ℕ) × (due : Due) × (out : Outcome) × Step (λ due. due) any_room_again messages any_room interval segment_size due s call answer out × (t ≡ out.state)
+    (messages : ℕ → ℕ) × (segment_size : ℕ) × (due : Due) × (out : Outcome) × Step (λ due. due) any_room_again messages any_room interval segment_size due any_behind s call answer out × (t ≡ out.state)
 
 -- the same of calls in a row
 abbrev pub RunsCalls : ℕ → State → MadeCalls → State → Type 0

@@ -1,6 +1,6 @@
 -- What follows for calls of the page cache in a row: no call and one call are rows, and a row behind another makes a longer one.
 use Rattle.std.proofs.Common.{◌≡◌, inl, inr, ⊎_elim, ℕ, Bool, true, false, List, [], ◌∷◌, ◌++◌, take, refl, sym, ◌∙◌, ap, subst, arith}
-use Rattle.std.specs.Prelude.{MatchBool, Result}
+use Rattle.std.specs.Prelude.{MatchBool, nat_lt, Ok, Err, Result}
 use Rattle.std.proofs.lemmas.Bool.{false≢true}
 use Rattle.std.proofs.lemmas.List.{append-nil}
 use Rattle.std.proofs.lemmas.List.Concat.{flat_map-append}
@@ -16,12 +16,16 @@ use Rattle.sled_log.specs.LogState as log
 use Rattle.sled_log.specs.LogState.{IsPrefix, CrashesSinceLeave}
 use Rattle.sled_log.specs.declared.log.Log.{Ghosts}
 use Rattle.sled_base.specs.declared.types.Error.{Error}
-use Rattle.sled_pagecache.specs.Cache.{Cache}
-use Rattle.sled_pagecache.specs.Calls.{StepOver, Steps}
+use Rattle.sled_base.specs.declared.types.Device.TheVariants.{Write}
+use Rattle.sled_base.specs.declared.types.Error.TheVariants.{Io}
+use Rattle.sled_pagecache.specs.Cache.{Cache, chain_length}
+use Rattle.sled_pagecache.specs.Calls.{HasNoRoomAgain, IsBehind, IsDone, StepOver, Steps}
+use Rattle.sled_pagecache.specs.Due.{due_in}
+use Rattle.sled_pagecache.specs.Limits.{most_messages}
 use Rattle.sled_pagecache.specs.Logged.{Logged, IsLogged, AreKept, Adds, IsLeft}
 use Rattle.sled_pagecache.specs.Rows.{changes_of, AreSteps, IsRow, StepInRow, IsMade, AreMade}
 use Rattle.sled_pagecache.specs.State.{State}
-use Rattle.sled_pagecache.specs.Step.{Outcome, Closes, no_change}
+use Rattle.sled_pagecache.specs.Step.{Outcome, Closes, IsRefused, Swapped, TidiesIfSwapped, no_change, outcome}
 use Rattle.sled_pagecache.specs.declared.pagecache.handles.call.Answer.{Answer}
 use Rattle.sled_pagecache.specs.declared.pagecache.handles.call.Answer.TheVariants.{Allocated, Got, Linked, Replaced, Freed, GotMeta, GotIdgen, Generated, Flushed, Sized, Amplified, TookSnapshot, FoundRoot, RootSwapped, Pinned, Sealed, Cancelled, AttemptedGc}
 use Rattle.sled_pagecache.specs.declared.pagecache.handles.call.Call.{Call}
@@ -101,12 +105,25 @@ closes-stuck : (mark : Event Update) (s : State) (answer : Result (Unit {0}) Err
 closes-stuck mark s answer out step kept = subst (IsStuck s) (sym (taken _ _ s.fault kept step.1).1) refl
 
 module _ {L : Type 0} (g : Ghosts L) where
+  -- a swap that was refused is followed by no move
+  abbrev Behind : {R : Type 0} → Cache L → Swapped R → Outcome → Outcome → Type 0
+  Behind cache answer swap out = TidiesIfSwapped (due_in g cache.config) (HasNoRoomAgain g) (IsBehind g cache.log) answer swap out
+
+  none-behind : {R : Type 0} (cache : Cache L) (s : State) (swap out : Outcome) (answer : Swapped R) → IsRefused s answer swap (Io Write) → Behind cache answer swap out → IsStuck s out
+  none-behind cache s swap out (Ok (Ok made)) stuck behind = let e = stuck.0 in absurd cc
+  none-behind cache s swap out (Ok (Err back)) stuck behind = same-stuck s out (behind ∙ stuck.1)
+  none-behind cache s swap out (Err e) stuck behind = same-stuck s out (behind ∙ stuck.1)
+
+  none-joined : {R : Type 0} (cache : Cache L) (s : State) (swap out : Outcome) (answer : Swapped R) (joins : Bool) → IsRefused s answer swap (Io Write) → MatchBool joins (out ≡ swap) (Behind cache answer swap out) → IsStuck s out
+  none-joined cache s swap out answer true stuck is = same-stuck s out (is ∙ stuck.1)
+  none-joined cache s swap out answer false stuck behind = none-behind cache s swap out answer stuck behind
+
   -- with a write fault kept a call changes nothing, but that one may close the batch
   pub step-stuck : (cache : Cache L) (s : State) (call : Call) (answer : Answer) (out : Outcome) → StepOver g cache s call answer out → s.fault ≡ true → IsStuck s out
   step-stuck cache s (Allocate node) (Allocated answer) out step kept = same-stuck s out (taken _ _ s.fault kept step).1
   step-stuck cache s (Get pid) (Got answer) out step kept = same-stuck s out (taken _ _ s.fault kept step).1
-  step-stuck cache s (Link old link) (Linked answer) out step kept = same-stuck s out (taken _ _ s.fault kept step).1
-  step-stuck cache s (Replace old node) (Replaced answer) out step kept = same-stuck s out (taken _ _ s.fault kept step).1
+  step-stuck cache s (Link old link) (Linked answer) out (swap, act, behind) kept = none-joined cache s swap out answer (nat_lt (chain_length g.state cache old.pid) most_messages) (taken _ _ s.fault kept act) behind
+  step-stuck cache s (Replace old node) (Replaced answer) out (swap, act, behind) kept = none-behind cache s swap out answer (taken _ _ s.fault kept act) behind
   step-stuck cache s (call.Free old) (Freed answer) out step kept = same-stuck s out (taken _ _ s.fault kept step).1
   step-stuck cache s GetMeta (GotMeta answer) out step kept = same-stuck s out (taken _ _ s.fault kept step).1
   step-stuck cache s (MetaPidForName name) (FoundRoot answer) out step kept = same-stuck s out (taken _ _ s.fault kept step).1
@@ -183,6 +200,25 @@ module _ {L : Type 0} (g : Ghosts L) where
       added = λ free. subst (λ (l : List (Event Update)). Adds held l next.held_then) (sym (changes-then row.outs next.outs)) (adds-then held row.held_then next.held_then (changes_of row.outs) (changes_of next.outs) (row.added (clear_before free)) (next.added free));
       crash = λ free. subst (λ (l : List (Event Update)). CrashesSinceLeave g.moment g.left_since old.log new.log (IsLeft held l)) (sym (changes-then row.outs next.outs)) (crash free);
       stuck = λ kept. next.stuck (steps-stuck (Steps g) old mid s row.t calls row.outs row.steps kept) ∙ row.stuck kept;
+    }
+
+  -- what is done behind what was done, with no write fault between them, as one
+  module _ {First Second : State → Outcome → Type 0} (old mid new : Cache L) (held : Logged) (s : State) (first : IsDone g First old mid held s) (second : IsDone g Second mid new first.held_then first.out.state) where
+    abbrev pub out_of_both : Outcome
+    out_of_both = outcome second.out.state (first.out.changes ++ second.out.changes)
+
+    pub done-then : {Both : State → Outcome → Type 0} → s.fault ≡ false → first.out.state.fault ≡ false → Both s out_of_both → IsDone g Both old new held s
+    done-then clear still does = record {
+      out = out_of_both;
+      step = does;
+      held_then = second.held_then;
+      is = second.is;
+      added = λ free. adds-then held first.held_then second.held_then first.out.changes second.out.changes (first.added still) (second.added free);
+      crash = λ _. stops-then g.moment g.left_since old.log mid.log new.log (IsLeft held first.out.changes) (IsLeft first.held_then second.out.changes) (IsLeft held out_of_both.changes)
+          (λ pages left. left-more held first.out.changes out_of_both.changes pages (second.out.changes, refl) left)
+          (λ pages left. left-behind held first.held_then first.out.changes second.out.changes pages (first.added still) left)
+          (first.crash clear) (second.crash still);
+      stuck = λ kept. absurd (false≢true (sym clear ∙ kept));
     }
 
   -- what a crash leaves between two calls, as every log says

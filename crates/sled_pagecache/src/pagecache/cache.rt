@@ -26,6 +26,7 @@ mod roots;
 mod shapes;
 mod sizes;
 mod snapshots;
+mod swaps;
 pub(crate) mod trees;
 
 use super::handles::config::{Config, fault_of};

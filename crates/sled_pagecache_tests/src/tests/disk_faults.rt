@@ -2,7 +2,7 @@
 
 use super::calls::gets;
 use super::disks::Part::Plain;
-use super::disks::{Disked, Part, behind, disk_of, new_disk, opened_on, written};
+use super::disks::{Disked, Part, behind, disk_of, new_disk, opened_every, opened_on, written};
 use super::steps::Outcome::At;
 use super::steps::Sight::{Absent, Empty, Pair, Unwritten};
 use super::steps::Step::{Adds, Faults, Flushes, Gets, Links};
@@ -14,11 +14,16 @@ use super::*;
 const PAGES: Part = Plain(&[Adds(2, 1), Links(2, 1, PAIR, At(2)), Adds(3, 1), Flushes]);
 
 // A cache over a disk, which is opened a second time where a read failed, and whether it was.
-fn opens(alloc: Global, disk: MemDisk) -> Option<(Disked, bool)> {
-    match opened_on(alloc, disk, 4096) {
+pub(super) fn opens(
+    alloc: Global,
+    disk: MemDisk,
+    segment_size: u64,
+    clean_every: u64,
+) -> Option<(Disked, bool)> {
+    match opened_every(alloc, disk, segment_size, clean_every) {
         Ok(cache) => Some((cache, false)),
         Err((Error::Io(Device::Read), disk)) => {
-            let cache = opened_on(alloc, disk, 4096).ok()?;
+            let cache = opened_every(alloc, disk, segment_size, clean_every).ok()?;
             Some((cache, true))
         }
         Err(_) => None,
@@ -43,7 +48,7 @@ enum Failed {
 }
 
 // A disk with both pages, of which the n-th read from now fails.
-fn unread(alloc: Global, n: u64) -> Option<MemDisk> {
+pub(super) fn unread(alloc: Global, n: u64) -> Option<MemDisk> {
     let mut disk = written(alloc, 4096, 4096, &[PAGES])?;
     disk.fail_read(n);
     Some(disk)
@@ -63,7 +68,7 @@ fn fails_in(cache: &mut Disked, opening: bool) -> Option<Failed> {
 }
 
 fn fails_at(alloc: Global, n: u64) -> Option<Failed> {
-    let (mut cache, opening) = opens(alloc, unread(alloc, n)?)?;
+    let (mut cache, opening) = opens(alloc, unread(alloc, n)?, 4096, 0)?;
     fails_in(&mut cache, opening)
 }
 

@@ -69,8 +69,9 @@ const FOUND: &[Step] = &[
     Takes(402),
 ];
 
+// No message is due: a move that is added to a replacement is passed over where an allocation failed.
 pub(super) fn new_cache(alloc: Global) -> Option<Cache> {
-    opens(alloc, MemLog::new(alloc, 512, 16))
+    opens(alloc, MemLog::new(alloc, 512, 0))
 }
 
 // How many of these steps show what they should, in a new cache and in one that is opened again over its log.

@@ -261,7 +261,8 @@ const SEGMENTS: &[Moving] = &[
         &[
             LEAF,
             Replaces(2, 1, At(2)),
-            Moves(2),
+            Takes(102),
+            Moves(1),
             Takes(120),
             Moves(1),
             Takes(120),
@@ -286,17 +287,17 @@ const SEGMENTS: &[Moving] = &[
     (
         "a message that was replaced in the same segment",
         (1, 61, 512),
-        &[LEAF, Replaces(2, 1, At(2)), Moves(3), Takes(145)],
+        &[LEAF, Replaces(2, 1, At(2)), Moves(2), Takes(145)],
     ),
     (
         "one that was replaced in the next",
         (1, 60, 512),
-        &[LEAF, Replaces(2, 1, At(2)), Moves(3), Takes(120)],
+        &[LEAF, Replaces(2, 1, At(2)), Moves(2), Takes(120)],
     ),
     (
         "the greatest segment",
         (1, usize::MAX, 512),
-        &[LEAF, Replaces(2, 1, At(2)), Moves(4), Takes(170)],
+        &[LEAF, Replaces(2, 1, At(2)), Moves(3), Takes(170)],
     ),
     (
         "pages that lie in several segments",
@@ -305,7 +306,7 @@ const SEGMENTS: &[Moving] = &[
             LEAF,
             Adds(3, 1),
             Replaces(2, 1, At(2)),
-            Moves(2),
+            Moves(1),
             Takes(145),
             Moves(1),
             Takes(145),

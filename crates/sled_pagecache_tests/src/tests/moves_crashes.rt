@@ -110,6 +110,16 @@ const SHARED: &[Shared] = &[
         ],
     ),
     (
+        "a replacement moves what is due",
+        3,
+        &[
+            Plain(&[LEAF, ReplacesByPair(2, 1, At(2)), Idles]),
+            Sealed(&[Adds(3, 1), Idles, ReplacesByPair(3, 1, At(2)), Idles]),
+            Cancelled(&[Links(2, 2, PAIR, At(3)), ReplacesByPair(3, 2, At(3)), Idles]),
+            Plain(&[Gets(2, Holds(3, 2)), Gets(3, Pair(3, b"k", b"v")), Idles]),
+        ],
+    ),
+    (
         "a free page is moved and used again",
         1,
         &[
@@ -227,6 +237,12 @@ const DISKS: &[Crashing] = &[
             FLUSH,
         ],
         &[NOTHING, NO_PAGES, PAIRED, PAIRED, RELINKED, REPLACED],
+    ),
+    (
+        "a replacement is written, and then its move",
+        0,
+        &[Plain(&[LEAF, ReplacesByPair(2, 1, At(2))])],
+        &[NOTHING, NOTHING, NO_PAGES, EMPTY, REPLACED, REPLACED],
     ),
     (
         "each is written at once",

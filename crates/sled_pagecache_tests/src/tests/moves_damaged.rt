@@ -1,11 +1,11 @@
 // Moves of pages whose messages make no node, and moves whose allocations are refused.
 
-use super::calls::{adds, attempts, moves, size_of};
+use super::calls::{adds, attempts, gets, moves, replaces_by_empty, size_of};
 use super::memory::{made, opens};
 use super::scripts::opened_over;
 use super::steps::Outcome::{At, Made};
-use super::steps::Sight::{Absent, Pair};
-use super::steps::Step::{Adds, Counts, Frees, Gets, Has, Links};
+use super::steps::Sight::{Absent, Empty, Pair};
+use super::steps::Step::{Adds, Counts, Frees, Gets, Has, Links, ReplacesByPair};
 use super::steps::{Outcome, PAIR, Step};
 use super::told::{
     Answer, CONFIRM, LEAF, LONG_CAP, LONG_LEAF, Message, PAGES, SHORT_SET, Told, got, opened,
@@ -114,6 +114,33 @@ fn is_moved_so(alloc: Global, cache: &mut Cache, damaged: &Damaged) -> bool {
         && matches!(cache.get(3), Ok(Some(_)))
 }
 
+// Whether page 3 is replaced, and page 2 is moved behind it, or that is passed over.
+fn is_passed_over(alloc: Global, cache: &mut Cache, damaged: &Damaged) -> bool {
+    let (place, size) = match damaged.4 {
+        Some((place, size)) => (place.saturating_add(25), size.saturating_add(25)),
+        None => (damaged.2, damaged.3.saturating_add(25)),
+    };
+    moves(cache, 2)
+        && replaces_by_empty(alloc, cache, 3, 0) == At(1)
+        && size_of(cache) == Ok(size)
+        && got(cache) == Some(Answer::Wrong(place))
+        && gets(cache, 3, &Empty(1)) == Some(true)
+        && replaces_by_empty(alloc, cache, 2, 0) == At(1)
+        && gets(cache, 2, &Empty(1)) == Some(true)
+}
+
+#[test]
+fn a_replacement_passes_over_a_damaged_page(rt: HostRuntime) {
+    for damaged in DAMAGED {
+        let log = log_of_damaged(rt.alloc(), damaged.0, damaged.1);
+        let is_so = match log.and_then(|log| opened_over(rt.alloc(), CONFIG, log)) {
+            Some(mut cache) => is_passed_over(rt.alloc(), &mut cache, damaged),
+            None => false,
+        };
+        assert!(rt; is_so, "{damaged:?}");
+    }
+}
+
 // How often the log was read, if all that is so.
 fn reads_of(alloc: Global, damaged: &Damaged) -> Option<u64> {
     let log = log_of_damaged(alloc, damaged.0, damaged.1)?;
@@ -149,19 +176,20 @@ const FILLED: &[Step] = &[
     Adds(3, 1),
     Links(2, 1, PAIR, At(2)),
     Links(2, 2, PAIR, At(3)),
+    ReplacesByPair(2, 3, At(4)),
     Frees(3, 1, At(2)),
 ];
 
 // The stamp of page 2 and of the cache's own pages.
 const FOUND: &[Step] = &[
-    Gets(2, Pair(3, b"b", b"v")),
+    Gets(2, Pair(4, b"k", b"v")),
     Gets(3, Absent),
     Has(0, 1),
     Counts(0, 1),
 ];
 
 const FOUND_AGAIN: &[Step] = &[
-    Gets(2, Pair(0, b"b", b"v")),
+    Gets(2, Pair(0, b"k", b"v")),
     Gets(3, Absent),
     Has(0, 0),
     Counts(0, 0),

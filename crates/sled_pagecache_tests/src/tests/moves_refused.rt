@@ -19,7 +19,7 @@ use super::*;
 // ---- pages that left memory
 
 // The empty leaves 2 to 258. Each shard has room for one page: 2 has left memory since 258 came, and 0 shares one with 256.
-const CROWD: Step = AddsFrom(2, 259);
+pub(super) const CROWD: Step = AddsFrom(2, 259);
 
 const FIRST: Step = Gets(2, Empty(1));
 
@@ -57,7 +57,7 @@ const AWAY: &[Moving] = &[
     (
         "one that lies elsewhere is neither read nor accessed",
         APART,
-        &[CROWD, Replaces(2, 1, At(2)), LAST, Moves(3), LAST, Reads(1)],
+        &[CROWD, Replaces(2, 1, At(2)), LAST, Moves(2), LAST, Reads(1)],
     ),
     ("a blob isn't read", SMALL, &[CROWD, Moves(3), Reads(0)]),
     (
@@ -110,9 +110,9 @@ const LINKED: Opening<'static> = (
     HandedOn,
 );
 
-const FOUND: Step = Gets(2, Holds(0, 1));
+pub(super) const FOUND: Step = Gets(2, Holds(0, 1));
 
-const HIDDEN: Step = Gets(2, Unwritten);
+pub(super) const HIDDEN: Step = Gets(2, Unwritten);
 
 const FULL: Outcome = Refused(Why::LogFull);
 

@@ -7,7 +7,7 @@ ghost use Rattle.sled_base.specs.declared.types.Error.TheVariants.{Unsupported, 
 ghost use Rattle.sled_base.specs.declared.types.Refusal.TheVariants as refusal;
 ghost use Rattle.sled_base.specs.declared.types.Why.{Why};
 ghost use Rattle.sled_log.specs.LogState.{now};
-ghost use Rattle.sled_pagecache.specs.Answers.{HasNoName, Keeps, stamps_with, stamps_after_swap};
+ghost use Rattle.sled_pagecache.specs.Answers.{HasNoName, Keeps, KeepsSwap, stamps_with, stamps_after_swap};
 ghost use Rattle.sled_pagecache.specs.Cache.{IsResident, IsAway, chain_length};
 ghost use Rattle.sled_pagecache.specs.Calls.{Steps, IsBlamed};
 ghost use Rattle.sled_pagecache.specs.Damage.{MeetsDamage, ReportsDamage};
@@ -18,6 +18,7 @@ ghost use Rattle.sled_pagecache.specs.Inside.RecentUse.{FindsPage};
 ghost use Rattle.sled_pagecache.specs.Inside.PageIn.{BringsIn, IsNodeAt};
 ghost use Rattle.sled_pagecache.specs.Memory.{ReadsNothing, ReadsPage};
 ghost use Rattle.sled_pagecache.specs.Step.{is_reserved};
+ghost use Rattle.sled_pagecache.specs.Swaps.{JoinsOrMoves, PutsAndMoves};
 ghost use Rattle.sled_pagecache.specs.Answers.{linked_length};
 ghost use Rattle.sled_pagecache.specs.State.{pid_of, stamp_of, IsAnswered};
 ghost use Rattle.sled_pagecache.specs.declared.pagecache.handles.call.Answer.TheVariants.{Allocated, Linked, Replaced, Freed};
@@ -87,14 +88,17 @@ impl<L: Log> PageCache<L> {
         Ok(found)
     }
 
-    /// Applies a link to the node of a page that is still at the stamp of the token, and raises the stamp by one.
+    /// Applies a link to the node of a page that is still at the stamp of the token, and raises the stamp by one. Where ten messages make
+    /// the page, the node that the link makes is written whole, and then the page that is due is moved, if the log names one
+    /// (`attempt_gc`): whatever comes of that, the answer stands.
     ///
     /// At another stamp the page's present token comes back with the link; where the page is absent or free, nothing
     /// does. In this order: `ReservedId` comes for the cache's own pages; a page that doesn't lie in memory is read, and
     /// `Corruption` comes where its messages make no node, with the pointer of the first wrong one; `LinkRefused` comes where
     /// the node does not accept the link, `StampUsedUp` where the stamp is the greatest; only then memory is asked for, and
     /// `LogFull` comes where the log has no room. These, `OutOfMemory` and a read that failed leave every page and message
-    /// unchanged. A write error is sticky: every later call answers it, until the log is opened again.
+    /// unchanged. A write error is sticky: every later call answers it, until the log is opened again. One that the move met is kept, and
+    /// the next call answers it.
     #[tactic(auto, using(crate::proofs::Refused::no_name))]
     pub fn link(
         &mut self,
@@ -106,42 +110,33 @@ impl<L: Log> PageCache<L> {
         ensures tested { TestsFirst L.Log self.old old link result }
         ensures step { Steps L.Log self.old (call.Link old link) (Linked result) self.new }
         ensures blame { IsBlamed L.Log self.old self.new result }
-        ensures keeps { Keeps self.old self.new result (stamps_after_swap self.old.stamps) }
+        ensures keeps { KeepsSwap self.old self.new result }
         ensures token { IfOk result (IsAnswered self.old.stamps old link) }
-        ensures damaged { MeetsDamage L.Log self.old pid → slice_get self.old.stamps pid
-            ≡ Some (stamp_of old) → ReportsDamage L.Log self.old pid result self.new }
-        ensures reads { ReadsPage L.Log self.old pid self.new }
-        ensures unread { IfOk result
-            (λ swapped. OnErr swapped (ReadsNothing L.Log self.old self.new)) }
-        ensures length { L.tells → IfOk result (λ swapped. OnOk swapped (chain_length L.state
-            self.new pid ≡ linked_length (chain_length L.state self.old pid))) }
-        ensures resident { IfOk result (λ swapped. OnOk swapped (IsResident self.new pid)) }
-        ensures kept_out { OnErr result (IsAway self.old pid → IsAway self.new pid) }
-        ensures bounded { IsBounded L.Log self.new }
-        ensures accesses { IfOk result
-            (λ swapped. OnOk swapped (AccessesPage self.old pid self.new)) }
-        ensures same { IfOk result (λ swapped. OnErr swapped (KeepsMemory self.old self.new)) }
-        ensures leaves { IfErr result (EvictsAtMost self.old pid self.new L.tells) }
+        ensures swap { JoinsOrMoves L.Log self.old pid old link result self.new }
         ensures unnamed { IfErr result HasNoName }
     {
-        match judge(self.sticky_log.fault, &self.pages, pid, old) {
-            Ok(()) => {}
-            Err(rejection) => return rejection.answer(link),
+        let joins = self.joins(pid);
+        let linked = self.link_alone(pid, old, link);
+        if joins {
+            return linked;
         }
-        let (log, accesses) = (&mut self.sticky_log, &mut self.accesses);
-        let page = self.pages.get_mut(pid);
-        let linked = pull_and_link(self.alloc, log, accesses, pid, page, &link);
-        let token = PageView::new(pid, page.stamp);
-        end_swap(&mut self.pages, &mut self.accesses, token, linked)
+        match linked {
+            Ok(Ok(token)) => {
+                let _ = self.attempt_gc(); // the link stands, whatever it meets
+                Ok(Ok(token))
+            }
+            Ok(Err(rejection)) => Ok(Err(rejection)),
+            Err(error) => Err(error),
+        }
     }
 
     /// Puts a node on a page that is still at the stamp of the token, in place of what it held, and raises the stamp by
-    /// one.
+    /// one. Then it moves the page that is due, if the log names one (`attempt_gc`): whatever comes of that, the answer stands.
     ///
     /// At another stamp the page's present token comes back with the node; where the page is absent or free, nothing
     /// does. `ReservedId` comes for the cache's own pages, `StampUsedUp` where the stamp is the greatest, `LogFull` where the
     /// log has no room. These and `OutOfMemory` leave every page and message unchanged. A write error is sticky: every later call
-    /// answers it, until the log is opened again.
+    /// answers it, until the log is opened again. One that the move met is kept, and the next call answers it.
     #[tactic(auto, using(crate::proofs::Refused::no_name))]
     pub fn replace(
         &mut self,
@@ -152,28 +147,19 @@ impl<L: Log> PageCache<L> {
         requires { pid_of old ≡ pid }
         ensures step { Steps L.Log self.old (call.Replace old node) (Replaced result) self.new }
         ensures blame { IsBlamed L.Log self.old self.new result }
-        ensures keeps { Keeps self.old self.new result (stamps_after_swap self.old.stamps) }
+        ensures keeps { KeepsSwap self.old self.new result }
         ensures token { IfOk result (IsAnswered self.old.stamps old node) }
-        ensures unread { ReadsNothing L.Log self.old self.new }
-        ensures length { L.tells
-            → IfOk result (λ swapped. OnOk swapped (chain_length L.state self.new pid ≡ 1)) }
-        ensures resident { IfOk result (λ swapped. OnOk swapped (IsResident self.new pid)) }
-        ensures bounded { IsBounded L.Log self.new }
-        ensures accesses { IfOk result
-            (λ swapped. OnOk swapped (AccessesPage self.old pid self.new)) }
-        ensures same { IfOk result (λ swapped. OnErr swapped (KeepsMemory self.old self.new)) }
-        ensures leaves { IfErr result (EvictsAtMost self.old pid self.new L.tells) }
+        ensures swap { PutsAndMoves L.Log self.old pid old node result self.new }
         ensures unnamed { IfErr result HasNoName }
     {
-        match judge(self.sticky_log.fault, &self.pages, pid, old) {
-            Ok(()) => {}
-            Err(rejection) => return rejection.answer(node),
+        match self.replace_alone(pid, old, node) {
+            Ok(Ok(made)) => {
+                let _ = self.attempt_gc(); // the replacement stands, whatever it meets
+                Ok(Ok(made))
+            }
+            Ok(Err(rejection)) => Ok(Err(rejection)),
+            Err(error) => Err(error),
         }
-        let (log, accesses) = (&mut self.sticky_log, &mut self.accesses);
-        let page = self.pages.get_mut(pid);
-        let put = put_page(self.alloc, log, accesses, pid, page, Kept::Node(node));
-        let token = PageView::new(pid, page.stamp);
-        end_swap(&mut self.pages, &mut self.accesses, token, put)
     }
 
     /// Frees a page that is still at the stamp of the token, and raises its stamp by one. The page is absent for every other call, until

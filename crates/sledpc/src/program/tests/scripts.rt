@@ -137,6 +137,15 @@ const REPLIES: &[(&str, &str)] = &[
         "gc\nalloc\nalloc\nalloc\nalloc\nalloc\nalloc\nalloc\nalloc\nalloc\nalloc\nalloc\nalloc\nalloc\nalloc\ngc\nsize\ngc\n",
         "idle\npage 2 1\npage 3 1\npage 4 1\npage 5 1\npage 6 1\npage 7 1\npage 8 1\npage 9 1\npage 10 1\npage 11 1\npage 12 1\npage 13 1\npage 14 1\npage 15 1\nmoved\nsize 402\nidle\n",
     ),
+    // A replacement moves the page that is due, and so does the link that writes its node whole.
+    (
+        "alloc\nalloc\nalloc\nalloc\nalloc\nalloc\nalloc\nalloc\nalloc\nalloc\nalloc\nalloc\nalloc\nalloc\nreplace 2 1\nsize\ngc\nsize\n",
+        "page 2 1\npage 3 1\npage 4 1\npage 5 1\npage 6 1\npage 7 1\npage 8 1\npage 9 1\npage 10 1\npage 11 1\npage 12 1\npage 13 1\npage 14 1\npage 15 1\nok 2\nsize 427\nidle\nsize 427\n",
+    ),
+    (
+        "alloc\nalloc\nalloc\nalloc\nalloc\nset 2 1 61 62\nset 2 2 61 62\nset 2 3 61 62\nset 2 4 61 62\nset 2 5 61 62\nset 2 6 61 62\nset 2 7 61 62\nset 2 8 61 62\nset 2 9 61 62\nsize\nset 2 10 61 62\nsize\ngc\nget 2\n",
+        "page 2 1\npage 3 1\npage 4 1\npage 5 1\npage 6 1\nok 2\nok 3\nok 4\nok 5\nok 6\nok 7\nok 8\nok 9\nok 10\nsize 358\nok 11\nsize 404\nidle\nleaf 11 61=62\n",
+    ),
     (
         "amp\nalloc\namp\nset 2 1 62 76\namp\nfree 2 2\namp\ncas 61 - 2\namp\n",
         "amp 35 4104\npage 2 1\namp 60 4232\nok 2\namp 82 4234\nok 3\namp 99 4104\nok\namp 119 4113\n",

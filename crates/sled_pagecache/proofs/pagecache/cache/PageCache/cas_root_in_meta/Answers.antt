@@ -1,5 +1,5 @@
 use Rattle.sled_base.specs.declared.types.Error.TheVariants.{Io}
-use Rattle.sled_pagecache.proofs.Names.{error_of, rules, Err, refl, Write, CasRoot, RootSwapped, Steps, no_name, refused-is}
+use Rattle.sled_pagecache.proofs.Names.{error_of, rules, Err, refl, Write, CasRoot, RootSwapped, Acts, no_name, refused-is}
 use Rattle.sled_pagecache.proofs.CacheSteps.{steps-stuck}
 use Rattle.sled_pagecache.proofs.Evicting.{keeps-same, leaves-same}
 use Rattle.sled_pagecache.proofs.RootSwaps.{root-made, root-unmade}
@@ -11,7 +11,7 @@ own_roots-requires g c = keeps-roots c.self.inside.pages.pages c.self.invariant.
 
 pub returns-in_err-view : goal.returns-in_err-view
 returns-in_err-view g c =
-    let step : Steps g.L.Log c.args.self.now (CasRoot c.args.name.now c.args.old c.args.new) (RootSwapped (Err (Io Write))) c.args.self.now =
+    let step : Acts g.L.Log c.args.self.now (CasRoot c.args.name.now c.args.old c.args.new) (RootSwapped (Err (Io Write))) c.args.self.now =
     steps-stuck g.L.Log _ (CasRoot c.args.name.now c.args.old c.args.new) (RootSwapped (Err (Io Write))) (search (rules, c.in_err-view.ensures)) (λ s kept. rw kept (refl, refl)) in
     rw (refused-is c.from_residual.result _ c.from_residual.ensures.1, c.in_err-view.ensures.1) (search (rules, leaves-same, no_name, rw c.self.view_is at c.self.invariant.bounded))
 
@@ -20,7 +20,7 @@ returns-in_err-root g c =
     let inside = c.self.inside in
     let found = c.in_ok-view.ensures in
     let judged = rw c.meta.ensures at c.in_err-root.ensures in
-    let step : Steps g.L.Log c.args.self.now (CasRoot c.args.name.now c.args.old c.args.new) (RootSwapped (Err (error_of c.in_err-root.field-0.0))) c.args.self.now = rw (← c.self.view_is) (unfit-root g.L.Log inside.next inside.config inside.recovered inside.accesses.lru inside.sticky_log inside.pages.pages inside.free.ids.keys c.self.invariant.whole.consistent found.0 c.in_ok-view.view.meta.now c.in_ok-view.view.token.stamp found.2 (g.met.L.Log.only_now inside.sticky_log.log) c.args.name.now c.args.old c.args.new c.in_err-root.field-0.0 judged.0 judged.1) in
+    let step : Acts g.L.Log c.args.self.now (CasRoot c.args.name.now c.args.old c.args.new) (RootSwapped (Err (error_of c.in_err-root.field-0.0))) c.args.self.now = rw (← c.self.view_is) (unfit-root g.L.Log inside.next inside.config inside.recovered inside.accesses.lru inside.sticky_log inside.pages.pages inside.free.ids.keys c.self.invariant.whole.consistent found.0 c.in_ok-view.view.meta.now c.in_ok-view.view.token.stamp found.2 (g.met.L.Log.only_now inside.sticky_log.log) c.args.name.now c.args.old c.args.new c.in_err-root.field-0.0 judged.0 judged.1) in
     rw (refused-is c.from_residual-in_err-root.result _ c.from_residual-in_err-root.ensures.1) (search (rules, leaves-same, no_name, rw c.self.view_is at c.self.invariant.bounded))
 
 pub returns-in-Err : goal.returns-in-Err

@@ -1,5 +1,5 @@
 use Rattle.sled_base.specs.declared.types.Error.TheVariants.{Io}
-use Rattle.sled_pagecache.proofs.Names.{Err, GenerateId, Generated, Steps, Write, arith, refl, rules, ◌+◌, ◌∙◌, no_name}
+use Rattle.sled_pagecache.proofs.Names.{Err, GenerateId, Generated, Acts, Write, arith, refl, rules, ◌+◌, ◌∙◌, no_name}
 use Rattle.sled_pagecache.proofs.CacheSteps.{steps-stuck}
 use Rattle.sled_pagecache.proofs.Counted.{covered-next, whole-next}
 use Rattle.sled_pagecache.proofs.CounterPage.{keeps-counter}
@@ -11,7 +11,7 @@ use Rattle.sled_pagecache.proofs.pagecache.cache.PageCache.generate_id_inner.Goa
 
 pub returns-then-self : goal.returns-then-self
 returns-then-self g c =
-    let step : Steps g.L.Log c.args.self.now GenerateId (Generated (Err (Io Write))) c.args.self.now = steps-stuck g.L.Log _ GenerateId (Generated (Err (Io Write))) (search rules) (λ s kept. rw kept (refl, refl)) in
+    let step : Acts g.L.Log c.args.self.now GenerateId (Generated (Err (Io Write))) c.args.self.now = steps-stuck g.L.Log _ GenerateId (Generated (Err (Io Write))) (search rules) (λ s kept. rw kept (refl, refl)) in
     search (rules, leaves-same, no_name, rw c.self.view_is at c.self.invariant.bounded)
 
 pub own_counter-counter-requires : goal.own_counter-counter-requires

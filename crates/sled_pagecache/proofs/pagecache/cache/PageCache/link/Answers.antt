@@ -1,61 +1,71 @@
-use Rattle.sled_pagecache.proofs.Names.{rules, refl, arith, slice_get_within, Linked}
-use Rattle.sled_pagecache.proofs.Evicting.{keeps-same}
-use Rattle.sled_pagecache.proofs.Judging.{link-swap, unswapped, unless-made, handed-back, fresh-at}
-use Rattle.sled_pagecache.proofs.LinkTests.{judged-tests, judged-undamaged}
-use Rattle.sled_pagecache.proofs.PagingIn.{page-kept-at, page-own-at}
-use Rattle.sled_pagecache.proofs.Relinking.{link-ended}
-use Rattle.sled_pagecache.proofs.RootWrites.{on-err}
-use Rattle.sled_pagecache.proofs.Standing.{beside-long}
-use Rattle.sled_pagecache.specs.declared.pagecache.handles.call.Call.TheVariants as call
+use Rattle.sled_pagecache.proofs.Names.{Ok, Err, ◌∙◌, ap, refl}
+use Rattle.sled_pagecache.proofs.Tidied.{joined-at, joins-blame, joins-keeps, joins-moves, joins-step}
 use Rattle.sled_pagecache.proofs.pagecache.cache.PageCache.link.Goals as goal
 
-pub returns-in-Err : goal.returns-in-Err
-returns-in-Err g c =
-    let kept = unswapped g.L.Log _ _ _ _ _ _ c.self.invariant.whole.consistent.beside (g.met.L.Log.only_now _) c.args.old c.args.pid c.requires c.args.link (call.Link c.args.old c.args.link) Linked _ (link-swap g.L.Log _ c.args.old c.args.link) c.in-Err.rejection c.in-Err.ensures c.answer.result c.answer.ensures in
-    rw (← c.self.view_is) (record {
-      tested = judged-tests g.L.Log _ _ _ _ _ _ _ _ c.self.invariant.whole.consistent c.args.old c.requires c.in-Err.rejection c.in-Err.ensures c.args.link _;
-      step = kept.step;
-      blame = kept.blame;
-      keeps = kept.keeps;
-      token = kept.token;
-      damaged = λ meets stamp. absurd (judged-undamaged g.L.Log _ _ _ _ _ _ _ _ c.self.invariant.whole.consistent c.args.old c.in-Err.rejection c.in-Err.ensures meets stamp);
-      reads = search rules;
-      unread = handed-back _ c.answer.result refl;
-      length = λ told. unless-made _ c.answer.result kept.unmade;
-      kept_out = on-err _ c.answer.result (λ away. away);
-      resident = unless-made _ c.answer.result kept.unmade;
-      bounded = c.self.invariant.bounded;
-      accesses = unless-made _ c.answer.result kept.unmade;
-      same = handed-back _ c.answer.result (keeps-same _);
-      leaves = kept.leaves;
-      unnamed = kept.unnamed;
-    })
+pub returns-then-joins-clause-swap : goal.returns-then-joins-clause-swap
+returns-then-joins-clause-swap g c =
+    let so = c.link_alone-linked.ensures in
+    joins-moves g.L.Log c.args.self.now c.link_alone-linked.new.self _ c.args.pid c.args.old c.args.link c.link_alone-linked.result c.link_alone-linked.result refl
+    so.step (record { blame = so.blame; keeps = so.keeps }) (record { resident = so.resident; accesses = so.accesses; same = so.same; leaves = so.leaves }) so.kept_out so.damaged so.length so.reads so.unread
+    c.joins-joins.result (λ told. joined-at g.L.Log c.args.self.now c.link_alone-linked.new.self c.args.pid c.args.old c.args.link c.link_alone-linked.result _ _ c.requires (record { blame = so.blame; keeps = so.keeps }) so.token (c.joins-joins.ensures told))
+    (rw c.if-joins.true refl) so.bounded
 
-pub get_mut-page-requires : goal.get_mut-page-requires
-get_mut-page-requires g c = slice_get_within _ c.args.pid _ c.in-Ok.ensures.1.at
+pub returns-then-joins-clause-step : goal.returns-then-joins-clause-step
+returns-then-joins-clause-step g c = joins-step g.L.Log c.args.self.now _ c.args.pid c.args.old c.args.link c.link_alone-linked.result c.requires (returns-then-joins-clause-swap g c)
 
-pub pull_and_link-linked-requires : goal.pull_and_link-linked-requires
-pull_and_link-linked-requires g c =
-    let inside = c.self.inside in
-    let q = c.get_mut-page.result.now in
-    let fresh = fresh-at c.in-Ok.ensures c.get_mut-page.ensures.page in
-    let beside = c.self.invariant.whole.consistent.beside fresh.clear in
-    record {
-      ready = fresh.clear;
-      usable = beside.usable;
-      there = λ told.
-          let long = beside-long g.L.Log.tells g.L.Log.state inside.sticky_log.log inside.pages.pages beside told in
-          let within = slice_get_within inside.pages.pages c.args.pid q fresh.at in
-          omega (arith, within, long);
-      kept = page-kept-at g.L.Log inside.sticky_log inside.sticky_log inside.pages.pages inside.free.ids.keys c.args.pid q q c.self.invariant.whole.consistent fresh.clear fresh.behind fresh.at;
-      full = fresh.full;
-      own = page-own-at g.L.Log inside.sticky_log inside.sticky_log inside.pages.pages inside.free.ids.keys c.args.pid q q c.self.invariant.whole.consistent fresh.clear fresh.behind fresh.at;
-    }
+pub returns-then-joins-clause-blame : goal.returns-then-joins-clause-blame
+returns-then-joins-clause-blame g c = joins-blame g.L.Log c.args.self.now _ c.args.pid c.args.old c.args.link c.link_alone-linked.result (returns-then-joins-clause-swap g c)
 
-pub invariant_of-self : goal.invariant_of-self
-invariant_of-self g c = (link-ended g.L.Log c.self.invariant (fresh-at c.in-Ok.ensures c.get_mut-page.ensures.page) c.requires c.pull_and_link-linked.new.page _ c.new-token.ensures c.pull_and_link-linked.result c.pull_and_link-linked.ensures c.end_swap.ensures.evicts).0
+pub returns-then-joins-clause-keeps : goal.returns-then-joins-clause-keeps
+returns-then-joins-clause-keeps g c = joins-keeps g.L.Log c.args.self.now _ c.args.pid c.args.old c.args.link c.link_alone-linked.result (returns-then-joins-clause-swap g c)
 
-pub returns : goal.returns
-returns g c =
-    rw (c.end_swap.ensures.answer, ← c.self.view_is)
-    (link-ended g.L.Log c.self.invariant (fresh-at c.in-Ok.ensures c.get_mut-page.ensures.page) c.requires c.pull_and_link-linked.new.page _ c.new-token.ensures c.pull_and_link-linked.result c.pull_and_link-linked.ensures c.end_swap.ensures.evicts).1
+pub returns-in-Ok-Ok-clause-swap : goal.returns-in-Ok-Ok-clause-swap
+returns-in-Ok-Ok-clause-swap g c =
+    let so = c.link_alone-linked.ensures in
+    joins-moves g.L.Log c.args.self.now c.link_alone-linked.new.self _ c.args.pid c.args.old c.args.link c.link_alone-linked.result (Ok (Ok c.in-Ok-Ok.token)) (c.in-Ok-Ok.is ∙ ap (λ a. Ok a) c.in-Ok-Ok.field-0-is)
+    so.step (record { blame = so.blame; keeps = so.keeps }) (record { resident = so.resident; accesses = so.accesses; same = so.same; leaves = so.leaves }) so.kept_out so.damaged so.length so.reads so.unread
+    c.joins-joins.result (λ told. joined-at g.L.Log c.args.self.now c.link_alone-linked.new.self c.args.pid c.args.old c.args.link c.link_alone-linked.result _ _ c.requires (record { blame = so.blame; keeps = so.keeps }) so.token (c.joins-joins.ensures told))
+    (rw c.if-joins.false (c.attempt_gc.result, c.attempt_gc.ensures)) c.attempt_gc.ensures.bounded
+
+pub returns-in-Ok-Ok-clause-step : goal.returns-in-Ok-Ok-clause-step
+returns-in-Ok-Ok-clause-step g c = joins-step g.L.Log c.args.self.now _ c.args.pid c.args.old c.args.link (Ok (Ok c.in-Ok-Ok.token)) c.requires (returns-in-Ok-Ok-clause-swap g c)
+
+pub returns-in-Ok-Ok-clause-blame : goal.returns-in-Ok-Ok-clause-blame
+returns-in-Ok-Ok-clause-blame g c = joins-blame g.L.Log c.args.self.now _ c.args.pid c.args.old c.args.link (Ok (Ok c.in-Ok-Ok.token)) (returns-in-Ok-Ok-clause-swap g c)
+
+pub returns-in-Ok-Ok-clause-keeps : goal.returns-in-Ok-Ok-clause-keeps
+returns-in-Ok-Ok-clause-keeps g c = joins-keeps g.L.Log c.args.self.now _ c.args.pid c.args.old c.args.link (Ok (Ok c.in-Ok-Ok.token)) (returns-in-Ok-Ok-clause-swap g c)
+
+pub returns-in-Ok-Err-clause-swap : goal.returns-in-Ok-Err-clause-swap
+returns-in-Ok-Err-clause-swap g c =
+    let so = c.link_alone-linked.ensures in
+    joins-moves g.L.Log c.args.self.now c.link_alone-linked.new.self _ c.args.pid c.args.old c.args.link c.link_alone-linked.result (Ok (Err c.in-Ok-Err.rejection)) (c.in-Ok-Err.is ∙ ap (λ a. Ok a) c.in-Ok-Err.field-0-is)
+    so.step (record { blame = so.blame; keeps = so.keeps }) (record { resident = so.resident; accesses = so.accesses; same = so.same; leaves = so.leaves }) so.kept_out so.damaged so.length so.reads so.unread
+    c.joins-joins.result (λ told. joined-at g.L.Log c.args.self.now c.link_alone-linked.new.self c.args.pid c.args.old c.args.link c.link_alone-linked.result _ _ c.requires (record { blame = so.blame; keeps = so.keeps }) so.token (c.joins-joins.ensures told))
+    (rw c.if-joins.false refl) so.bounded
+
+pub returns-in-Ok-Err-clause-step : goal.returns-in-Ok-Err-clause-step
+returns-in-Ok-Err-clause-step g c = joins-step g.L.Log c.args.self.now _ c.args.pid c.args.old c.args.link (Ok (Err c.in-Ok-Err.rejection)) c.requires (returns-in-Ok-Err-clause-swap g c)
+
+pub returns-in-Ok-Err-clause-blame : goal.returns-in-Ok-Err-clause-blame
+returns-in-Ok-Err-clause-blame g c = joins-blame g.L.Log c.args.self.now _ c.args.pid c.args.old c.args.link (Ok (Err c.in-Ok-Err.rejection)) (returns-in-Ok-Err-clause-swap g c)
+
+pub returns-in-Ok-Err-clause-keeps : goal.returns-in-Ok-Err-clause-keeps
+returns-in-Ok-Err-clause-keeps g c = joins-keeps g.L.Log c.args.self.now _ c.args.pid c.args.old c.args.link (Ok (Err c.in-Ok-Err.rejection)) (returns-in-Ok-Err-clause-swap g c)
+
+pub returns-in-Err-clause-swap : goal.returns-in-Err-clause-swap
+returns-in-Err-clause-swap g c =
+    let so = c.link_alone-linked.ensures in
+    joins-moves g.L.Log c.args.self.now c.link_alone-linked.new.self _ c.args.pid c.args.old c.args.link c.link_alone-linked.result (Err c.in-Err.error) c.in-Err.is
+    so.step (record { blame = so.blame; keeps = so.keeps }) (record { resident = so.resident; accesses = so.accesses; same = so.same; leaves = so.leaves }) so.kept_out so.damaged so.length so.reads so.unread
+    c.joins-joins.result (λ told. joined-at g.L.Log c.args.self.now c.link_alone-linked.new.self c.args.pid c.args.old c.args.link c.link_alone-linked.result _ _ c.requires (record { blame = so.blame; keeps = so.keeps }) so.token (c.joins-joins.ensures told))
+    (rw c.if-joins.false refl) so.bounded
+
+pub returns-in-Err-clause-step : goal.returns-in-Err-clause-step
+returns-in-Err-clause-step g c = joins-step g.L.Log c.args.self.now _ c.args.pid c.args.old c.args.link (Err c.in-Err.error) c.requires (returns-in-Err-clause-swap g c)
+
+pub returns-in-Err-clause-blame : goal.returns-in-Err-clause-blame
+returns-in-Err-clause-blame g c = joins-blame g.L.Log c.args.self.now _ c.args.pid c.args.old c.args.link (Err c.in-Err.error) (returns-in-Err-clause-swap g c)
+
+pub returns-in-Err-clause-keeps : goal.returns-in-Err-clause-keeps
+returns-in-Err-clause-keeps g c = joins-keeps g.L.Log c.args.self.now _ c.args.pid c.args.old c.args.link (Err c.in-Err.error) (returns-in-Err-clause-swap g c)

@@ -1,39 +1,48 @@
-use Rattle.sled_pagecache.proofs.Names.{IsResident, ap, ◌∙◌, sym, refl, arith, slice_get_within, is_free, Replaced}
-use Rattle.sled_pagecache.proofs.Appending.{either-way, swap-ended, swap-rejected}
-use Rattle.sled_pagecache.proofs.Judging.{replace-swap, unswapped, fresh-at}
-use Rattle.sled_pagecache.proofs.Standing.{beside-long}
-use Rattle.sled_pagecache.proofs.Tables.{free-same}
-use Rattle.sled_pagecache.specs.declared.pagecache.handles.call.Call.TheVariants as call
-use Rattle.sled_pagecache.specs.declared.pagecache.table.page.Kept.TheVariants as kept
+use Rattle.sled_pagecache.proofs.Names.{Ok, Err, ◌∙◌, ap, refl}
+use Rattle.sled_pagecache.proofs.Tidied.{puts-blame, puts-keeps, puts-moves, puts-step}
 use Rattle.sled_pagecache.proofs.pagecache.cache.PageCache.replace.Goals as goal
 
-pub returns-in-Err : goal.returns-in-Err
-returns-in-Err g c =
-    rw (← c.self.view_is) (swap-rejected g.L.Log _ (λ cache. IsResident cache c.args.pid) c.answer.result c.self.invariant.bounded
-    (unswapped g.L.Log _ _ _ _ _ _ c.self.invariant.whole.consistent.beside (g.met.L.Log.only_now _) c.args.old c.args.pid c.requires c.args.node (call.Replace c.args.old c.args.node) Replaced _
-    (replace-swap g.L.Log _ c.args.old c.args.node) c.in-Err.rejection c.in-Err.ensures c.answer.result c.answer.ensures))
+pub returns-in-Ok-Ok-clause-swap : goal.returns-in-Ok-Ok-clause-swap
+returns-in-Ok-Ok-clause-swap g c =
+    let so = c.replace_alone.ensures in
+    puts-moves g.L.Log c.args.self.now c.replace_alone.new.self _ c.args.pid c.args.old c.args.node c.replace_alone.result (Ok (Ok c.in-Ok-Ok.made)) (c.in-Ok-Ok.is ∙ ap (λ a. Ok a) c.in-Ok-Ok.field-0-is)
+    so.step (record { blame = so.blame; keeps = so.keeps }) (record { resident = so.resident; accesses = so.accesses; same = so.same; leaves = so.leaves }) so.length so.unread (c.attempt_gc.result, c.attempt_gc.ensures) c.attempt_gc.ensures.bounded
 
-pub get_mut-page-requires : goal.get_mut-page-requires
-get_mut-page-requires g c = slice_get_within _ c.args.pid _ c.in-Ok.ensures.1.at
+pub returns-in-Ok-Ok-clause-step : goal.returns-in-Ok-Ok-clause-step
+returns-in-Ok-Ok-clause-step g c = puts-step g.L.Log c.args.self.now _ c.args.pid c.args.old c.args.node (Ok (Ok c.in-Ok-Ok.made)) (returns-in-Ok-Ok-clause-swap g c)
 
-pub put_page-put-requires-clause-there : goal.put_page-put-requires-clause-there
-put_page-put-requires-clause-there g c = λ told.
-    let fresh = c.in-Ok.ensures.1 in
-    let within = slice_get_within _ c.args.pid _ fresh.at in
-    let long = beside-long g.L.Log.tells g.L.Log.state c.self.inside.sticky_log.log c.self.inside.pages.pages (c.self.invariant.whole.consistent.beside fresh.clear) told in
-    omega (arith, within, long)
+pub returns-in-Ok-Ok-clause-blame : goal.returns-in-Ok-Ok-clause-blame
+returns-in-Ok-Ok-clause-blame g c = puts-blame g.L.Log c.args.self.now _ c.args.pid c.args.old c.args.node (Ok (Ok c.in-Ok-Ok.made)) (returns-in-Ok-Ok-clause-swap g c)
 
-pub invariant_of-self : goal.invariant_of-self
-invariant_of-self g c =
-    let fresh = fresh-at c.in-Ok.ensures c.get_mut-page.ensures.page in
-    (swap-ended g.L.Log c.self.invariant fresh c.requires c.args.node (kept.Node c.args.node) tt (call.Replace c.args.old c.args.node) Replaced (replace-swap g.L.Log _ c.args.old c.args.node) (λ cache. IsResident cache c.args.pid)
-    c.put_page-put.new.page _ c.new-token.ensures c.put_page-put.result c.put_page-put.ensures tt refl
-    (either-way c.put_page-put.result (λ holds. c.self.invariant.whole.consistent.free ∙ sym (free-same 0 _ c.args.pid _ _ fresh.at (ap is_free holds ∙ sym fresh.full))) refl) c.end_swap.ensures.evicts (λ holds there none. there)).0
+pub returns-in-Ok-Ok-clause-keeps : goal.returns-in-Ok-Ok-clause-keeps
+returns-in-Ok-Ok-clause-keeps g c = puts-keeps g.L.Log c.args.self.now _ c.args.pid c.args.old c.args.node (Ok (Ok c.in-Ok-Ok.made)) (returns-in-Ok-Ok-clause-swap g c)
 
-pub returns : goal.returns
-returns g c =
-    let fresh = fresh-at c.in-Ok.ensures c.get_mut-page.ensures.page in
-    rw (c.end_swap.ensures.answer, ← c.self.view_is)
-    (swap-ended g.L.Log c.self.invariant fresh c.requires c.args.node (kept.Node c.args.node) tt (call.Replace c.args.old c.args.node) Replaced (replace-swap g.L.Log _ c.args.old c.args.node) (λ cache. IsResident cache c.args.pid)
-    c.put_page-put.new.page _ c.new-token.ensures c.put_page-put.result c.put_page-put.ensures tt refl
-    (either-way c.put_page-put.result (λ holds. c.self.invariant.whole.consistent.free ∙ sym (free-same 0 _ c.args.pid _ _ fresh.at (ap is_free holds ∙ sym fresh.full))) refl) c.end_swap.ensures.evicts (λ holds there none. there)).1
+pub returns-in-Ok-Err-clause-swap : goal.returns-in-Ok-Err-clause-swap
+returns-in-Ok-Err-clause-swap g c =
+    let so = c.replace_alone.ensures in
+    puts-moves g.L.Log c.args.self.now c.replace_alone.new.self _ c.args.pid c.args.old c.args.node c.replace_alone.result (Ok (Err c.in-Ok-Err.rejection)) (c.in-Ok-Err.is ∙ ap (λ a. Ok a) c.in-Ok-Err.field-0-is)
+    so.step (record { blame = so.blame; keeps = so.keeps }) (record { resident = so.resident; accesses = so.accesses; same = so.same; leaves = so.leaves }) so.length so.unread refl so.bounded
+
+pub returns-in-Ok-Err-clause-step : goal.returns-in-Ok-Err-clause-step
+returns-in-Ok-Err-clause-step g c = puts-step g.L.Log c.args.self.now _ c.args.pid c.args.old c.args.node (Ok (Err c.in-Ok-Err.rejection)) (returns-in-Ok-Err-clause-swap g c)
+
+pub returns-in-Ok-Err-clause-blame : goal.returns-in-Ok-Err-clause-blame
+returns-in-Ok-Err-clause-blame g c = puts-blame g.L.Log c.args.self.now _ c.args.pid c.args.old c.args.node (Ok (Err c.in-Ok-Err.rejection)) (returns-in-Ok-Err-clause-swap g c)
+
+pub returns-in-Ok-Err-clause-keeps : goal.returns-in-Ok-Err-clause-keeps
+returns-in-Ok-Err-clause-keeps g c = puts-keeps g.L.Log c.args.self.now _ c.args.pid c.args.old c.args.node (Ok (Err c.in-Ok-Err.rejection)) (returns-in-Ok-Err-clause-swap g c)
+
+pub returns-in-Err-clause-swap : goal.returns-in-Err-clause-swap
+returns-in-Err-clause-swap g c =
+    let so = c.replace_alone.ensures in
+    puts-moves g.L.Log c.args.self.now c.replace_alone.new.self _ c.args.pid c.args.old c.args.node c.replace_alone.result (Err c.in-Err.error) c.in-Err.is
+    so.step (record { blame = so.blame; keeps = so.keeps }) (record { resident = so.resident; accesses = so.accesses; same = so.same; leaves = so.leaves }) so.length so.unread refl so.bounded
+
+pub returns-in-Err-clause-step : goal.returns-in-Err-clause-step
+returns-in-Err-clause-step g c = puts-step g.L.Log c.args.self.now _ c.args.pid c.args.old c.args.node (Err c.in-Err.error) (returns-in-Err-clause-swap g c)
+
+pub returns-in-Err-clause-blame : goal.returns-in-Err-clause-blame
+returns-in-Err-clause-blame g c = puts-blame g.L.Log c.args.self.now _ c.args.pid c.args.old c.args.node (Err c.in-Err.error) (returns-in-Err-clause-swap g c)
+
+pub returns-in-Err-clause-keeps : goal.returns-in-Err-clause-keeps
+returns-in-Err-clause-keeps g c = puts-keeps g.L.Log c.args.self.now _ c.args.pid c.args.old c.args.node (Err c.in-Err.error) (returns-in-Err-clause-swap g c)

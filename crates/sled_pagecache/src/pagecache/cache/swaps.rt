@@ -1,0 +1,113 @@
+//! The swaps of a page's node by themselves, with no move behind them.
+
+ghost use Rattle.std.specs.Prelude.{◌≡◌, ◌<◌, false, length, nat_lt, Some, slice_get, IfOk, IfErr, OnOk, OnErr};
+ghost use Rattle.sled_pagecache.specs.Answers.{HasNoName, Keeps, TestsFirst, linked_length, stamps_after_swap};
+ghost use Rattle.sled_pagecache.specs.Cache.{IsAway, IsResident, chain_length};
+ghost use Rattle.sled_pagecache.specs.Calls.{Acts, IsBlamed};
+ghost use Rattle.sled_pagecache.specs.Damage.{MeetsDamage, ReportsDamage};
+ghost use Rattle.sled_pagecache.specs.Limits.{most_messages};
+ghost use Rattle.sled_pagecache.specs.Memory.{IsBounded, KeepsMemory, AccessesPage, EvictsAtMost, ReadsNothing, ReadsPage};
+ghost use Rattle.sled_pagecache.specs.State.{pid_of, stamp_of, IsAnswered};
+ghost use Rattle.sled_pagecache.specs.declared.pagecache.handles.call.Answer.TheVariants.{Linked, Replaced};
+ghost use Rattle.sled_pagecache.specs.declared.pagecache.handles.call.Call.TheVariants as call;
+
+use super::PageCache;
+use crate::pagecache::PAGE_CONSOLIDATION_THRESHOLD;
+use crate::pagecache::handles::view::PageView;
+use crate::pagecache::memory::evict::end_swap;
+use crate::pagecache::memory::pull::pull_and_link;
+use crate::pagecache::table::page::Kept;
+use crate::pagecache::write::judge::judge;
+use crate::pagecache::write::swap::put_page;
+use sled_base::{Error, PageId};
+use sled_log::Log;
+use sled_node::{Link, Node};
+
+impl<L: Log> PageCache<L> {
+    // Applies a link to the node of a page, as `link` says.
+    #[tactic(auto, using(crate::proofs::Refused::no_name))]
+    pub(crate) fn link_alone(
+        &mut self,
+        pid: PageId,
+        old: PageView,
+        link: Link,
+    ) -> Result<Result<PageView, Option<(PageView, Link)>>, Error>
+        requires { pid_of old ≡ pid }
+        ensures tested { TestsFirst L.Log self.old old link result }
+        ensures step { Acts L.Log self.old (call.Link old link) (Linked result) self.new }
+        ensures blame { IsBlamed L.Log self.old self.new result }
+        ensures keeps { Keeps self.old self.new result (stamps_after_swap self.old.stamps) }
+        ensures token { IfOk result (IsAnswered self.old.stamps old link) }
+        ensures damaged { MeetsDamage L.Log self.old pid → slice_get self.old.stamps pid
+            ≡ Some (stamp_of old) → ReportsDamage L.Log self.old pid result self.new }
+        ensures reads { ReadsPage L.Log self.old pid self.new }
+        ensures unread { IfOk result
+            (λ swapped. OnErr swapped (ReadsNothing L.Log self.old self.new)) }
+        ensures length { L.tells → IfOk result (λ swapped. OnOk swapped (chain_length L.state
+            self.new pid ≡ linked_length (chain_length L.state self.old pid))) }
+        ensures resident { IfOk result (λ swapped. OnOk swapped (IsResident self.new pid)) }
+        ensures kept_out { OnErr result (IsAway self.old pid → IsAway self.new pid) }
+        ensures bounded { IsBounded L.Log self.new }
+        ensures accesses { IfOk result
+            (λ swapped. OnOk swapped (AccessesPage self.old pid self.new)) }
+        ensures same { IfOk result (λ swapped. OnErr swapped (KeepsMemory self.old self.new)) }
+        ensures leaves { IfErr result (EvictsAtMost self.old pid self.new L.tells) }
+        ensures unnamed { IfErr result HasNoName }
+    {
+        match judge(self.sticky_log.fault, &self.pages, pid, old) {
+            Ok(()) => {}
+            Err(rejection) => return rejection.answer(link),
+        }
+        let (log, accesses) = (&mut self.sticky_log, &mut self.accesses);
+        let page = self.pages.get_mut(pid);
+        let linked = pull_and_link(self.alloc, log, accesses, pid, page, &link);
+        let token = PageView::new(pid, page.stamp);
+        end_swap(&mut self.pages, &mut self.accesses, token, linked)
+    }
+
+    // Puts a node on a page, as `replace` says.
+    #[tactic(auto, using(crate::proofs::Refused::no_name))]
+    pub(crate) fn replace_alone(
+        &mut self,
+        pid: PageId,
+        old: PageView,
+        node: Node,
+    ) -> Result<Result<PageView, Option<(PageView, Node)>>, Error>
+        requires { pid_of old ≡ pid }
+        ensures step { Acts L.Log self.old (call.Replace old node) (Replaced result) self.new }
+        ensures blame { IsBlamed L.Log self.old self.new result }
+        ensures keeps { Keeps self.old self.new result (stamps_after_swap self.old.stamps) }
+        ensures token { IfOk result (IsAnswered self.old.stamps old node) }
+        ensures unread { ReadsNothing L.Log self.old self.new }
+        ensures length { L.tells
+            → IfOk result (λ swapped. OnOk swapped (chain_length L.state self.new pid ≡ 1)) }
+        ensures resident { IfOk result (λ swapped. OnOk swapped (IsResident self.new pid)) }
+        ensures bounded { IsBounded L.Log self.new }
+        ensures accesses { IfOk result
+            (λ swapped. OnOk swapped (AccessesPage self.old pid self.new)) }
+        ensures same { IfOk result (λ swapped. OnErr swapped (KeepsMemory self.old self.new)) }
+        ensures leaves { IfErr result (EvictsAtMost self.old pid self.new L.tells) }
+        ensures unnamed { IfErr result HasNoName }
+    {
+        match judge(self.sticky_log.fault, &self.pages, pid, old) {
+            Ok(()) => {}
+            Err(rejection) => return rejection.answer(node),
+        }
+        let (log, accesses) = (&mut self.sticky_log, &mut self.accesses);
+        let page = self.pages.get_mut(pid);
+        let put = put_page(self.alloc, log, accesses, pid, page, Kept::Node(node));
+        let token = PageView::new(pid, page.stamp);
+        end_swap(&mut self.pages, &mut self.accesses, token, put)
+    }
+
+    // Whether a link of the page joins its messages, of which there are fewer than ten.
+    pub(crate) fn joins(&self, pid: PageId) -> bool
+        ensures { L.tells → self.now.fault ≡ false → pid < length self.now.stamps
+            → result ≡ nat_lt (chain_length L.state self.now pid) most_messages }
+    {
+        match self.pages.get(pid) {
+            None => true,
+            Some(page) => page.cache_infos().len() < PAGE_CONSOLIDATION_THRESHOLD,
+        }
+    }
+}
