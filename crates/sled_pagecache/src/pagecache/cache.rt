@@ -193,8 +193,8 @@ impl<L: Log> PageCache<L> {
         self.sticky_log.log
     }
 
-    // Its log, to be looked at.
-    pub(crate) fn log(&self) -> &L
+    /// Its log, to be looked at: how often it was read, or what a log on a disk offers beside the calls of `Log`.
+    pub fn log(&self) -> &L
         ensures { result.now ≡ self.now.log }
     {
         &self.sticky_log.log
