@@ -8,6 +8,7 @@ pub mod Placed
 pub mod FrameWrite
 mod Overlays
 mod Journal
+mod Staged
 mod DiskMoments
 mod Waiting
 mod Written

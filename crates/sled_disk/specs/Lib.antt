@@ -16,6 +16,7 @@ pub mod Left
 pub mod GoesOn
 pub mod Journal
 pub mod DiskMemory
+pub mod Staged
 pub mod JournalLaws
 pub mod RecordLaws
 pub mod EncodingLaws

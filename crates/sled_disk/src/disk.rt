@@ -8,11 +8,13 @@ ghost use Rattle.sled_log.specs.declared.log.LogError.TheVariants.{Memory, ReadF
 mod file;
 mod journal;
 mod memory;
+mod staged;
 
 pub use file::FileDisk;
 pub(crate) use journal::count;
 pub use memory::MemDisk;
 use sled_log::LogError;
+pub use staged::{StagedDisk, Task};
 
 /// A disk: bytes in order, which are read and written at a place.
 ///

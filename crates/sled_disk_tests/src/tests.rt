@@ -8,6 +8,7 @@ mod moves;
 mod opening;
 mod reading;
 mod room;
+mod staged;
 
 use sled_base::PageState;
 use sled_disk::{Disk, DiskLog, FileDisk, MemDisk, Reader};

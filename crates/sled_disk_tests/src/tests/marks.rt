@@ -71,7 +71,7 @@ fn a_file_of_marks_is_read_in_one_go(rt: HostRuntime) {
 }
 
 // One frame of a batch's mark and so many pages, each with a payload of so many bytes. The mark names the last of them.
-fn pages(alloc: Global, count: u16, len: u32) -> Option<Vec<u8>> {
+pub(super) fn pages(alloc: Global, count: u16, len: u32) -> Option<Vec<u8>> {
     let len = u64::from(len);
     let before_last = u64::from(count.saturating_sub(1)) * (17 + len);
     let mut file = front(alloc, 25 + before_last + 17 + len)?;

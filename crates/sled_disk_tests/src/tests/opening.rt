@@ -4,7 +4,7 @@ use super::marks::{put, put_body, put_head};
 use super::*;
 
 #[derive(Clone, Copy, PartialEq, Eq, Debug)]
-enum Outcome {
+pub(super) enum Outcome {
     // It holds so many pages, and has so many bytes up to its closed gate, this one counted.
     Opens(usize, u64),
     Corrupt,
@@ -13,7 +13,7 @@ enum Outcome {
 
 use Outcome::{Corrupt, Fails, Opens};
 
-fn outcome_of(alloc: Global, bytes: &[u8]) -> Outcome {
+pub(super) fn outcome_of(alloc: Global, bytes: &[u8]) -> Outcome {
     let Ok(disk) = disk_of(alloc, bytes) else {
         return Fails;
     };

@@ -23,6 +23,11 @@ impl KeepingDisk {
             room: 0,
         })
     }
+
+    // The bytes that it holds.
+    pub(super) fn bytes(&self) -> &[u8] {
+        self.inner.bytes()
+    }
 }
 
 impl Disk for KeepingDisk {

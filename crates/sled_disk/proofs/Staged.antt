@@ -1,0 +1,68 @@
+-- What waits in a disk whose caller reads and writes, before and after a call.
+use Rattle.std.proofs.Common.{◌≡◌, ℕ, ◌+◌, ◌-◌, ◌≤◌, ◌<◌, Bool, false, List, [], ◌∷◌, ◌++◌, length, take, drop, sym, ◌∙◌, ap, ap₂, arith}
+use Rattle.std.specs.List.{sum_by}
+use Rattle.std.proofs.lemmas.List.{length-drop, length-take, take-append-le, drop-append-le, take_all, append_assoc, append-nil, drop-drop}
+use Rattle.std.proofs.lemmas.List.Sums.{sum_by-cons}
+use Rattle.std.proofs.Math.Seq.{take-add}
+use Rattle.sled_disk.specs.Journal.{DiskCall, Write}
+use Rattle.sled_disk.specs.Staged.{sync_if, writes_in, IsPart}
+use Rattle.sled_disk.specs.declared.disk.staged.tasks.WaitingWrite.{WaitingWrite}
+
+-- how many bytes writes have
+abbrev pub len_of : List WaitingWrite → ℕ
+len_of writes = sum_by (λ write. write.len) writes
+
+-- A write that is added behind others stands behind them, if its bytes stand behind theirs.
+pub writes_in-push : (writes : List WaitingWrite) (last : WaitingWrite) (bytes more : List ℕ) → len_of writes ≡ length bytes → last.len ≡ length more
+    → writes_in (writes ++ last ∷ []) (bytes ++ more) ≡ writes_in writes bytes ++ sync_if last.sync_before ++ Write last.at more ∷ []
+writes_in-push [] last [] more all len = ap (λ (l : List ℕ). sync_if last.sync_before ++ Write last.at l ∷ []) (take_all last.len more (omega (arith, len)))
+writes_in-push [] last (byte ∷ bytes) more all len = absurd (omega (arith, all))
+writes_in-push (write ∷ later) last bytes more all len =
+    let sum : write.len + len_of later ≡ length bytes = sym (sum_by-cons (λ (w : WaitingWrite). w.len) write later) ∙ all in
+    let le : write.len ≤ length bytes = omega (arith, sum) in
+    let before = sync_if write.sync_before in
+    let first = Write write.at (take write.len bytes) in
+    let rest = writes_in later (drop write.len bytes) in
+    let added = Write last.at more ∷ [] in
+    ap₂ (λ (l : List ℕ) (calls : List DiskCall). before ++ Write write.at l ∷ calls) (take-append-le write.len bytes more le)
+    (ap (writes_in (later ++ last ∷ [])) (drop-append-le write.len bytes more le) ∙ writes_in-push later last (drop write.len bytes) more (omega (arith, sum, length-drop write.len bytes)) len)
+    ∙ sym (ap (λ (calls : List DiskCall). calls ++ added) (append_assoc before (first ∷ rest) (sync_if last.sync_before)) ∙ append_assoc before (first ∷ (rest ++ sync_if last.sync_before)) added)
+
+-- The tasks after a write was added.
+pub tasks-write : (writes reserved now : List WaitingWrite) (last : WaitingWrite) (bytes all more : List ℕ) (out : ℕ) → reserved ≡ writes → now ≡ reserved ++ last ∷ [] → all ≡ bytes ++ more
+    → out + len_of writes ≡ length bytes → last.len ≡ length more
+    → writes_in now (drop out all) ++ [] ≡ writes_in writes (drop out bytes) ++ sync_if last.sync_before ++ Write last.at more ∷ []
+tasks-write writes reserved now last bytes all more out same pushed longer whole len =
+    append-nil (writes_in now (drop out all))
+    ∙ ap₂ (λ (w : List WaitingWrite) (l : List ℕ). writes_in w (drop out l)) (pushed ∙ ap (λ (w : List WaitingWrite). w ++ last ∷ []) same) longer
+    ∙ ap (writes_in (writes ++ last ∷ [])) (drop-append-le out bytes more (omega (arith, whole)))
+    ∙ writes_in-push writes last (drop out bytes) more (omega (arith, whole, length-drop out bytes)) len
+
+-- The tasks after a part of the first write was handed out.
+pub part-handed_out : (old now : List WaitingWrite) (first rest : WaitingWrite) (later : List WaitingWrite) (bytes buffer : List ℕ) (out len : ℕ) (last : Bool)
+    → old ≡ first ∷ later → now ≡ rest ∷ later → first.sync_before ≡ false → rest.sync_before ≡ false → rest.at ≡ first.at + len → rest.len ≡ first.len - len
+    → out + len_of old ≡ length bytes → len < first.len → take len buffer ≡ take len (drop out bytes) → len ≡ length buffer
+    → IsPart first.at len buffer (writes_in old (drop out bytes) ++ sync_if last) (writes_in now (drop (out + len) bytes) ++ sync_if last)
+part-handed_out old now first rest later bytes buffer out len last was is none none_left at size whole less same full =
+    let waiting = drop out bytes in
+    let behind = drop len waiting in
+    let left = first.len - len in
+    let more = writes_in later (drop first.len waiting) ++ sync_if last in
+    let sum : out + (first.len + len_of later) ≡ length bytes = ap (λ n. out + n) (sym (sum_by-cons (λ (w : WaitingWrite). w.len) first later) ∙ ap len_of (sym was)) ∙ whole in
+    let has : first.len ≤ length waiting = omega (arith, sum, length-drop out bytes) in
+    let adds : len + left ≡ first.len = omega (arith, less) in
+    record {
+      rest = take left behind;
+      later = more;
+      whole =
+          ap (λ (w : List WaitingWrite). writes_in w waiting ++ sync_if last) was
+          ∙ ap (λ (b : Bool). sync_if b ++ Write first.at (take first.len waiting) ∷ writes_in later (drop first.len waiting) ++ sync_if last) none
+          ∙ ap (λ (l : List ℕ). Write first.at l ∷ more) (ap (λ n. take n waiting) (sym adds) ∙ take-add len left waiting ∙ ap (λ (l : List ℕ). l ++ take left behind) (sym same));
+      left =
+          ap₂ (λ (w : List WaitingWrite) (l : List ℕ). writes_in w l ++ sync_if last) is (sym (drop-drop len out bytes))
+          ∙ ap (λ (b : Bool). sync_if b ++ Write rest.at (take rest.len behind) ∷ writes_in later (drop rest.len behind) ++ sync_if last) none_left
+          ∙ ap₂ (λ (n m : ℕ). Write n (take m behind) ∷ (writes_in later (drop m behind) ++ sync_if last)) at size
+          ∙ ap (λ (l : List ℕ). Write (first.at + len) (take left behind) ∷ (writes_in later l ++ sync_if last)) (drop-drop left len waiting ∙ ap (λ n. drop n waiting) adds);
+      some = omega (arith, less, has, length-take left behind, length-drop len waiting);
+      full = full;
+    }

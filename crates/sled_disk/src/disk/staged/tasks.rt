@@ -1,0 +1,174 @@
+// What the caller of a staged disk has still to do: writes and syncs, in order.
+
+ghost use Rattle.std.specs.Prelude.{◌≡◌, ◌≤◌, ◌<◌, ◌+◌, ◌^◌, ◌++◌, ℕ, [], ◌∷◌, true, false, length, vec_len, IsOk, OnOk, OnErr, IfSome, IfNone};
+ghost use Rattle.std.specs.List.{sum_by};
+
+use std::alloc::{AllocError, Global};
+use std::collections::VecDeque;
+
+/// What the caller of a `StagedDisk` does next to its file.
+#[derive(Clone, Copy, PartialEq, Eq, Debug)]
+pub enum Task {
+    /// Write at a place so many bytes, which stand at the front of the buffer that was given.
+    Write { at: u64, len: usize },
+    /// Make durable all that was written before.
+    Sync,
+}
+
+// A write that waits, and whether a sync comes before it.
+#[derive(Clone, Copy)]
+struct WaitingWrite {
+    at: u64,
+    len: usize,
+    sync_before: bool,
+    ghost small: { at + len < 2 ^ 64 },
+}
+
+// The tasks that wait.
+#[derive(Drop)]
+pub(super) struct Tasks {
+    // of the first write only what was not handed out
+    writes: VecDeque<WaitingWrite>,
+    // the bytes of these writes from end to end, behind so many that were handed out
+    bytes: Vec<u8>,
+    handed_out: usize,
+    // whether a sync comes behind the last write
+    sync_last: bool,
+    // whether nothing was written since the last sync
+    is_synced: bool,
+    // all these writes lie from one place up to another
+    from: u64,
+    to: u64,
+    ghost last: { sync_last ≡ true → is_synced ≡ true },
+    ghost whole: { handed_out + sum_by (λ write. write.len) writes.items ≡ vec_len bytes },
+}
+
+impl Tasks {
+    ghost use Rattle.sled_disk.specs.Journal.{Write, Sync};
+    ghost use Rattle.sled_disk.specs.Staged.{tasks_in, HasRoom, IsHandedOut};
+
+    // No tasks. What the file held before is not known to be durable, so a sync is one.
+    pub(super) fn new(alloc: Global) -> Tasks
+        ensures none { tasks_in result ≡ [] }
+        ensures unsynced { result.is_synced ≡ false }
+    {
+        Tasks {
+            writes: VecDeque::new(alloc),
+            bytes: Vec::new(alloc),
+            handed_out: 0,
+            sync_last: false,
+            is_synced: false,
+            from: 0,
+            to: 0,
+        }
+    }
+
+    // Makes room for so many bytes, in two writes at most.
+    pub(super) fn make_room(&mut self, len: usize) -> Result<(), AllocError>
+        ensures same { tasks_in self.new ≡ tasks_in self.old }
+        ensures is_synced { self.new.is_synced ≡ self.old.is_synced }
+        ensures room { OnOk result (HasRoom self.new len 2) }
+    {
+        self.writes.reserve(2)?;
+        self.bytes.reserve(len)
+    }
+
+    // Adds a write. It takes memory only where no room was made.
+    pub(super) fn write(&mut self, at: u64, bytes: &[u8]) -> Result<(), AllocError>
+        requires { at + length bytes.now < 2 ^ 64 }
+        ensures added { OnOk result
+            (0 < length bytes.now → tasks_in self.new ≡ tasks_in self.old ++ Write at bytes.now ∷ []) }
+        ensures unsynced { OnOk result (0 < length bytes.now → self.new.is_synced ≡ false) }
+        ensures empty { length bytes.now ≡ 0 → self.new ≡ self.old }
+        ensures kept { OnErr result (tasks_in self.new ≡ tasks_in self.old) }
+        ensures still { OnErr result (self.new.is_synced ≡ self.old.is_synced) }
+        ensures room { (len count : ℕ) → HasRoom self.old (length bytes.now + len) (1 + count)
+            → IsOk result × HasRoom self.new len count }
+    {
+        if bytes.is_empty() {
+            return Ok(());
+        }
+        self.writes.reserve(1)?;
+        self.bytes.extend_from_slice(bytes)?;
+        let end = at + bytes.len() as u64;
+        if self.writes.is_empty() {
+            self.from = at;
+            self.to = end;
+        } else {
+            self.from = self.from.min(at);
+            self.to = self.to.max(end);
+        }
+        self.writes.push_back_reserved(WaitingWrite {
+            at,
+            len: bytes.len(),
+            sync_before: self.sync_last,
+        });
+        self.sync_last = false;
+        self.is_synced = false;
+        Ok(())
+    }
+
+    // Adds a sync, if something was written since the last one. It takes no memory.
+    pub(super) fn sync(&mut self)
+        ensures added { self.old.is_synced ≡ false
+            → tasks_in self.new ≡ tasks_in self.old ++ Sync ∷ [] }
+        ensures same { self.old.is_synced ≡ true → tasks_in self.new ≡ tasks_in self.old }
+        ensures is_synced { self.new.is_synced ≡ true }
+        ensures room { (len count : ℕ) → HasRoom self.old len count → HasRoom self.new len count }
+    {
+        if !self.is_synced {
+            self.is_synced = true;
+            self.sync_last = true;
+        }
+    }
+
+    // Hands out the first task, of a write as many bytes as the buffer has room for.
+    pub(super) fn next(&mut self, into: &mut [u8]) -> Option<Task>
+        ensures next { IfSome result
+            (λ task. IsHandedOut task into.new (tasks_in self.old) (tasks_in self.new)) }
+        ensures none { IfNone result (tasks_in self.old ≡ []) }
+        ensures same { IfNone result (tasks_in self.new ≡ []) }
+        ensures is_synced { self.new.is_synced ≡ self.old.is_synced }
+        ensures room { (len count : ℕ) → HasRoom self.old len count → HasRoom self.new len count }
+    {
+        let Some(mut first) = self.writes.pop_front() else {
+            if self.sync_last {
+                self.sync_last = false;
+                return Some(Task::Sync);
+            }
+            return None;
+        };
+        if first.sync_before {
+            first.sync_before = false;
+            self.writes.push_front_reserved(first);
+            return Some(Task::Sync);
+        }
+        let (at, len) = (first.at, first.len.min(into.len()));
+        into[..len].copy_from_slice(&self.bytes[self.handed_out..self.handed_out + len]);
+        self.handed_out += len;
+        if len < first.len {
+            first.at += len as u64;
+            first.len -= len;
+            self.writes.push_front_reserved(first);
+        } else if self.writes.is_empty() {
+            self.bytes.clear();
+            self.handed_out = 0;
+        }
+        Some(Task::Write { at, len })
+    }
+
+    // Whether a write that waits may change bytes between two places.
+    pub(super) fn may_change(&self, from: u64, to: u64) -> bool {
+        !self.writes.is_empty() && from < self.to && self.from < to
+    }
+
+    // Lets nothing wait.
+    pub(super) fn clear(&mut self)
+        ensures { tasks_in self.new ≡ [] }
+    {
+        self.writes.clear();
+        self.bytes.clear();
+        self.handed_out = 0;
+        self.sync_last = false;
+    }
+}

@@ -1,0 +1,99 @@
+// A caller that works off the tasks of a staged disk on a list of bytes.
+
+use super::*;
+
+// The file of a test, and the room of the buffer that takes the bytes of a task. After so many tasks the power is off.
+#[derive(Drop)]
+pub(super) struct Device {
+    pub(super) file: Vec<u8>,
+    room: usize,
+    tasks_left: usize,
+    pub(super) tasks: usize,
+    pub(super) syncs: usize,
+    pub(super) handed_in: usize,
+}
+
+pub(super) fn device_of(file: Vec<u8>, room: usize, tasks_left: usize) -> Device {
+    Device {
+        file,
+        room,
+        tasks_left,
+        tasks: 0,
+        syncs: 0,
+        handed_in: 0,
+    }
+}
+
+// Writes bytes over those of a file, and past its end.
+fn overwrite(file: &mut Vec<u8>, at: u64, bytes: &[u8]) -> bool {
+    let at = at as usize;
+    if file.len() < at {
+        return false;
+    }
+    for (behind, byte) in bytes.iter().enumerate() {
+        match file.get_mut(at.saturating_add(behind)) {
+            Some(place) => *place = *byte,
+            None => {
+                if file.push(*byte).is_err() {
+                    return false;
+                }
+            }
+        }
+    }
+    true
+}
+
+impl Device {
+    // Does a task whose bytes stand in front of these.
+    fn take(&mut self, task: Task, bytes: &[u8]) -> bool {
+        self.tasks = self.tasks.saturating_add(1);
+        match task {
+            Task::Write { at, len } => match bytes.get(..len) {
+                Some(bytes) => overwrite(&mut self.file, at, bytes),
+                None => false,
+            },
+            Task::Sync => {
+                self.syncs = self.syncs.saturating_add(1);
+                true
+            }
+        }
+    }
+
+    // Does all that waits, until the power is off.
+    pub(super) fn work_off(&mut self, disk: &StagedDisk) -> bool {
+        let mut buffer = [0; 64];
+        let Some(into) = buffer.get_mut(..self.room) else {
+            return false;
+        };
+        for _ in 0..1000u32 {
+            if self.tasks_left == 0 {
+                return true;
+            }
+            let Some(task) = disk.next_task(into) else {
+                return true;
+            };
+            self.tasks_left = self.tasks_left.saturating_sub(1);
+            if !self.take(task, into) {
+                return false;
+            }
+        }
+        false
+    }
+
+    // Hands in what is needed and nothing else, once nothing waits.
+    pub(super) fn serve(&mut self, disk: &StagedDisk) -> bool {
+        if !self.work_off(disk) {
+            return false;
+        }
+        let Some((at, len)) = disk.needs() else {
+            return false;
+        };
+        disk.forget();
+        let from = at as usize;
+        let Some(bytes) = self.file.get(from..from.saturating_add(len)) else {
+            return false;
+        };
+        self.handed_in = self.handed_in.saturating_add(len);
+        disk.hand_in(at, bytes).is_ok()
+    }
+}
