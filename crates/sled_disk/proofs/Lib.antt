@@ -9,6 +9,7 @@ pub mod FrameWrite
 mod Overlays
 mod Journal
 mod Staged
+mod HandedIn
 mod DiskMoments
 mod Waiting
 mod Written

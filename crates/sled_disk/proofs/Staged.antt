@@ -1,9 +1,11 @@
 -- What waits in a disk whose caller reads and writes, before and after a call.
-use Rattle.std.proofs.Common.{◌≡◌, ℕ, ◌+◌, ◌-◌, ◌≤◌, ◌<◌, Bool, false, List, [], ◌∷◌, ◌++◌, length, take, drop, sym, ◌∙◌, ap, ap₂, arith}
-use Rattle.std.specs.List.{sum_by}
+use Rattle.std.proofs.Common.{◌≡◌, ◌⊎◌, ℕ, zero, suc, ◌+◌, ◌-◌, ◌≤◌, ◌<◌, Bool, true, false, List, [], ◌∷◌, ◌++◌, length, take, drop, refl, sym, ◌∙◌, ap, ap₂, subst, ⊎_elim, inl, inr, arith}
+use Rattle.std.specs.List.{All, AllByRecursion, sum_by}
 use Rattle.std.proofs.lemmas.List.{length-drop, length-take, take-append-le, drop-append-le, take_all, append_assoc, append-nil, drop-drop}
 use Rattle.std.proofs.lemmas.List.Sums.{sum_by-cons}
 use Rattle.std.proofs.Math.Seq.{take-add}
+use Rattle.sled_log.proofs.ChainLaws.{all-append}
+use Rattle.sled_disk.specs.HandedIn.{LeavesBetween}
 use Rattle.sled_disk.specs.Journal.{DiskCall, Write}
 use Rattle.sled_disk.specs.Staged.{sync_if, writes_in, IsPart}
 use Rattle.sled_disk.specs.declared.disk.staged.tasks.WaitingWrite.{WaitingWrite}
@@ -66,3 +68,49 @@ part-handed_out old now first rest later bytes buffer out len last was is none n
       some = omega (arith, less, has, length-take left behind, length-drop len waiting);
       full = full;
     }
+
+pub whole-part : (old now : List WaitingWrite) (first rest : WaitingWrite) (later : List WaitingWrite) (out len all : ℕ) → old ≡ first ∷ later → now ≡ rest ∷ later
+    → rest.len ≡ first.len - len → len < first.len → out + len_of old ≡ all → out + len + len_of now ≡ all
+whole-part old now first rest later out len all was is size less whole =
+    let before = ap len_of was ∙ sum_by-cons (λ (w : WaitingWrite). w.len) first later in
+    let after = ap len_of is ∙ sum_by-cons (λ (w : WaitingWrite). w.len) rest later in
+    omega (arith, before, after, size, less, whole)
+
+-- ---- where writes lie
+
+-- all of these lie from one place up to another
+abbrev pub LieBetween : ℕ → ℕ → List WaitingWrite → Type 0
+LieBetween from to writes = All (λ write. (from ≤ write.at) × (write.at + write.len ≤ to)) writes
+
+pub between-later : (from to : ℕ) (writes : List WaitingWrite) (first : WaitingWrite) (later : List WaitingWrite) → writes ≡ first ∷ later → LieBetween from to writes → LieBetween from to later
+between-later from to writes first later is lie k d less = subst (LieBetween from to) is lie (suc k) d (omega (arith, less))
+
+between-cons : (from to : ℕ) (first : WaitingWrite) (later : List WaitingWrite) → from ≤ first.at → first.at + first.len ≤ to → LieBetween from to later → LieBetween from to (first ∷ later)
+between-cons from to first later begins ends lie zero d less = (begins, ends)
+between-cons from to first later begins ends lie (suc k) d less = lie k d (omega (arith, less))
+
+-- of the first one a part was taken away in front
+pub between-part : (from to : ℕ) (writes now : List WaitingWrite) (first rest : WaitingWrite) (later : List WaitingWrite) → writes ≡ first ∷ later → now ≡ rest ∷ later
+    → first.at ≤ rest.at → rest.at + rest.len ≤ first.at + first.len → LieBetween from to writes → LieBetween from to now
+between-part from to writes now first rest later was is begins ends lie =
+    let here = subst (LieBetween from to) was lie zero first (omega arith) in
+    subst (LieBetween from to) (sym is) (between-cons from to rest later (omega (arith, begins, here.0)) (omega (arith, ends, here.1)) (between-later from to writes first later was lie))
+
+leaves-sync : (from to : ℕ) (waits : Bool) → AllByRecursion (LeavesBetween from to) (sync_if waits)
+leaves-sync from to true = (tt, tt)
+leaves-sync from to false = tt
+
+leaves-writes : (low high from to : ℕ) (writes : List WaitingWrite) (bytes : List ℕ) → LieBetween low high writes → (high ≤ from) ⊎ (to ≤ low) → AllByRecursion (LeavesBetween from to) (writes_in writes bytes)
+leaves-writes low high from to [] bytes lie apart = tt
+leaves-writes low high from to (write ∷ later) bytes lie apart =
+    let here = lie zero write (omega arith) in
+    let leaves : LeavesBetween from to (Write write.at (take write.len bytes)) =
+    ⊎_elim (λ before. inl (omega (arith, before, here.1, length-take write.len bytes))) (λ after. inr (omega (arith, after, here.0))) apart in
+    all-append (LeavesBetween from to) (sync_if write.sync_before) (Write write.at (take write.len bytes) ∷ writes_in later (drop write.len bytes)) (leaves-sync from to write.sync_before)
+    (leaves, leaves-writes low high from to later (drop write.len bytes) (between-later low high (write ∷ later) write later refl lie) apart)
+
+-- What lies apart from all writes that wait is changed by none of the tasks.
+pub leaves-tasks : (low high from to : ℕ) (writes : List WaitingWrite) (bytes : List ℕ) (last : Bool) → LieBetween low high writes → (high ≤ from) ⊎ (to ≤ low)
+    → AllByRecursion (LeavesBetween from to) (writes_in writes bytes ++ sync_if last)
+leaves-tasks low high from to writes bytes last lie apart =
+    all-append (LeavesBetween from to) (writes_in writes bytes) (sync_if last) (leaves-writes low high from to writes bytes lie apart) (leaves-sync from to last)

@@ -17,6 +17,7 @@ pub mod GoesOn
 pub mod Journal
 pub mod DiskMemory
 pub mod Staged
+pub mod HandedIn
 pub mod JournalLaws
 pub mod RecordLaws
 pub mod EncodingLaws

@@ -67,8 +67,9 @@ pub trait Disk: Drop {
         ensures cause { HasCause (counts self.old) (counts self.new) result }
         ensures reads { (counts self.new).reads ≡ one_more (counts self.old).reads };
 
-    /// Makes room for writes of so many bytes together. A disk that keeps what is written until it is handed on takes its memory here,
-    /// so a write needs none; others have nothing to do. Nothing is written: no byte, crash state or count changes.
+    /// Makes room for writes of so many bytes together, two at most, and the syncs behind them. A disk that keeps what is written until
+    /// it is handed on takes its memory here, so they need none; others have nothing to do. Nothing is written: no byte, crash state or
+    /// count changes.
     fn make_room(&mut self, len: usize) -> Result<(), LogError>
         ensures seen { tells → seen self.new ≡ seen self.old }
         ensures stop { tells → LeavesNoMore (may_leave self.old) (may_leave self.new) }

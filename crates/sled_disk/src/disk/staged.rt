@@ -1,6 +1,6 @@
 //! A disk whose caller does the reading and writing.
 
-ghost use Rattle.std.specs.Prelude.{◌≡◌, ◌≤◌, ◌<◌, ◌+◌, ◌^◌, ◌⊎◌, ℕ, [], length, max, IfOk, IfErr, OnOk, OnErr, IsOk};
+ghost use Rattle.std.specs.Prelude.{◌≡◌, ◌≤◌, ◌<◌, ◌+◌, ◌^◌, ◌⊎◌, ℕ, List, [], false, length, max, IfOk, IfErr, IfSome, IfNone, OnOk, OnErr, IsOk, IsTrue};
 ghost use Rattle.sled_log.specs.Calls.{Counts, HasCause, one_more};
 ghost use Rattle.sled_log.specs.declared.log.LogError.TheVariants.{Memory, ReadFault, WriteFault};
 
@@ -25,16 +25,18 @@ struct Stage {
     failed: bool,
 }
 
-/// A disk that does no reading and no writing of its own: its caller does, between two calls of what stands on it.
+/// A disk that does no reading and writing of its own: its caller does both, between the calls of what stands on it.
 ///
-/// A write and a sync wait, in order, and the caller works them off by `next_task` before it takes the call's answer as given.
-/// A read gives bytes that were handed in; any other is a ReadFault, after which `needs` says what it wanted. Then the caller works off
-/// what waits, reads those bytes, hands them in (`hand_in`) and makes the call again, until it has another answer; then it lets them
-/// go (`forget`). Which bytes a read gives is so the caller's word: as of a file, all that is known is why a call fails, and the
-/// counts.
+/// Writes and syncs wait, in order, and the caller works them off by `next_task` before it takes a call's answer as given; a sync with
+/// nothing written since the last one waits for nobody. A read gives bytes that were handed in. Any other is a ReadFault, and `needs`
+/// says what it wanted: then the caller works off what waits, reads those bytes, hands them in by `hand_in` and makes the call again.
+/// Once it has an answer it lets them go by `forget`. Where a task fails it says so by `fail`.
 ///
-/// The length is the one that was told when the disk was made, and what is written past it. `make_room` takes all memory that the next
-/// writes need, two of them at most, as a frame takes. Syncs need none.
+/// Which bytes a read gives is so the caller's word: as of a file, all that is known is why a call fails, and the counts. The length is
+/// what the disk was told when it was made, and what is written past it.
+///
+/// `make_room` takes the memory for the next two writes, which is kept for later ones. A write for which no room was made takes its own,
+/// and is a WriteFault where there is none; nothing of it waits then, and the disk goes on. A sync takes no memory.
 #[derive(Drop)]
 pub struct StagedDisk {
     stage: RefCell<Stage>,
@@ -45,8 +47,8 @@ pub struct StagedDisk {
 }
 
 impl StagedDisk {
-    /// The disk of a file that has so many bytes. What was written to it before is not known to be durable, so the first sync waits
-    /// for the caller too. It takes no memory.
+    /// The disk of a file that has so many bytes. It takes no memory. What the file holds is not known to be durable, so the first sync
+    /// is a task too.
     pub fn new(alloc: Global, len: u64) -> StagedDisk
         ensures counts { ⟦<Self as Disk>⟧.counts result
             ≡ record { reads = 0; failed_reads = 0; write_faults = 0 } }
@@ -66,19 +68,19 @@ impl StagedDisk {
         }
     }
 
-    /// The next task for the caller, which counts as done from then on: a write, or a sync, or `None` once nothing waits.
+    /// The next task of the caller, or `None` once nothing waits. It counts as done: the caller does it before it hands in bytes.
     ///
-    /// The bytes of a write come to the front of the buffer as far as it has room, and the rest as a further write. With a buffer of no
-    /// bytes a write comes as one of none, and waits as before.
+    /// The bytes of a write are put to the front of the buffer, as far as it has room, and the rest comes as a further write. Into a
+    /// buffer of no bytes a write comes as one of none, and waits as before.
     pub fn next_task(&self, into: &mut [u8]) -> Option<Task> {
         match self.stage.try_borrow_mut() {
-            Ok(mut stage) => stage.tasks.next(into),
+            Ok(mut stage) => stage.next(into),
             Err(_) => None,
         }
     }
 
-    /// The place and the length of what the last read wanted that was refused because its bytes weren't handed in. It is there until
-    /// bytes are handed in, or `forget`.
+    /// What the last read wanted whose bytes weren't handed in: their place, and how many. It is `None` again once bytes are handed in
+    /// and kept, and behind `forget`. A read outside of the file is not noted.
     pub fn needs(&self) -> Option<(u64, usize)> {
         match self.stage.try_borrow() {
             Ok(stage) => stage.needs,
@@ -86,13 +88,13 @@ impl StagedDisk {
         }
     }
 
-    /// Hands in bytes of the file, from a place on, as they are once all tasks are done that were handed out. They are kept until
-    /// `forget`, or until one of them is written over. A read may go over several pieces that adjoin or overlap.
+    /// Hands in bytes of the file from a place on, as they are once all tasks are done that were handed out. A copy of them is kept until
+    /// `forget`, or until one of them is written over. A read may go over several pieces, where they adjoin or overlap.
     ///
-    /// Bytes past the file's length are left out. Bytes that lie between those of writes that wait aren't kept, since they may be
-    /// older than these: the caller works off what waits first.
+    /// Bytes past the file's length are left out. Nothing is kept where one of the bytes lies in a write that waits, or between two of
+    /// these, since the write may change it: the caller works off what waits first.
     ///
-    /// AllocError: there is no memory for a copy, and nothing changed.
+    /// AllocError: there was no memory for the copy, and nothing changed.
     pub fn hand_in(&self, at: u64, bytes: &[u8]) -> Result<(), AllocError> {
         let behind = self.len.saturating_sub(at);
         let len = behind.min(bytes.len() as u64) as usize;
@@ -102,7 +104,7 @@ impl StagedDisk {
         stage.take_in(at, &bytes[..len])
     }
 
-    /// Lets go what was handed in, and what was needed.
+    /// Lets go of what was handed in, and of what was needed.
     pub fn forget(&self) {
         if let Ok(mut stage) = self.stage.try_borrow_mut() {
             stage.pieces.clear();
@@ -110,8 +112,8 @@ impl StagedDisk {
         }
     }
 
-    /// A write or a sync of the caller failed. Nothing waits any more, and every later write and sync is a WriteFault: what the file
-    /// holds is known once it is opened again, by another disk.
+    /// A write or a sync of the caller failed. Nothing waits any more, and each later write and sync is a WriteFault. What is durable is
+    /// found by opening the file again over a new disk; reads go on, and the length counts what was written and then lost.
     pub fn fail(&self) {
         if let Ok(mut stage) = self.stage.try_borrow_mut() {
             stage.tasks.clear();
@@ -128,10 +130,33 @@ impl StagedDisk {
     }
 }
 
+// In these contracts `file` is what the file holds once all is done that was handed out, and `seen` what a read is to give: the file
+// once all that waits is done too.
 impl Stage {
+    ghost use Rattle.sled_disk.specs.Disk.{overlaid};
+    ghost use Rattle.sled_disk.specs.HandedIn.{StandsAt, ArePieces, AreWithin, after_task, seen_in};
+    ghost use Rattle.sled_disk.specs.Staged.{tasks_in};
+
+    // Hands out the next task.
+    fn next(&mut self, into: &mut [u8]) -> Option<Task>
+        ensures within { (file : List ℕ) → AreWithin file (tasks_in self.old.tasks) → IfSome result
+            (λ task. AreWithin (after_task file task into.new) (tasks_in self.new.tasks)) }
+        ensures seen { (file : List ℕ) → AreWithin file (tasks_in self.old.tasks) → IfSome result
+            (λ task. seen_in (after_task file task into.new) self.new.tasks
+            ≡ seen_in file self.old.tasks) }
+        ensures none { IfNone result (tasks_in self.old.tasks ≡ []) }
+        ensures pieces { self.new.pieces ≡ self.old.pieces }
+    {
+        self.tasks.next(into)
+    }
+
     // Keeps bytes that were handed in, unless a write that waits may change them.
     fn take_in(&mut self, at: u64, bytes: &[u8]) -> Result<(), AllocError>
         requires { at + length bytes.now < 2 ^ 64 }
+        ensures pieces { (file : List ℕ) → AreWithin file (tasks_in self.old.tasks)
+            → StandsAt at bytes.now file → ArePieces self.old.pieces (seen_in file self.old.tasks)
+            → ArePieces self.new.pieces (seen_in file self.old.tasks) }
+        ensures tasks { self.new.tasks ≡ self.old.tasks }
     {
         let end = at + bytes.len() as u64;
         if bytes.is_empty() || self.tasks.may_change(at, end) {
@@ -145,7 +170,10 @@ impl Stage {
     // Gives bytes that were handed in, or notes that they are needed.
     fn read(&mut self, at: u64, into: &mut [u8]) -> bool
         requires { at + length into.old < 2 ^ 64 }
-        ensures { length into.new ≡ length into.old }
+        ensures length { length into.new ≡ length into.old }
+        ensures bytes { (seen : List ℕ) → ArePieces self.old.pieces seen → IsTrue result
+            → StandsAt at into.new seen }
+        ensures kept { (self.new.pieces ≡ self.old.pieces) × (self.new.tasks ≡ self.old.tasks) }
     {
         if self.pieces.read(at, into) {
             return true;
@@ -157,6 +185,14 @@ impl Stage {
     // Lets a write wait, and drops the pieces that it writes over.
     fn write(&mut self, at: u64, bytes: &[u8]) -> bool
         requires { at + length bytes.now < 2 ^ 64 }
+        ensures written { (file : List ℕ) → IsTrue result → seen_in file self.new.tasks
+            ≡ overlaid (seen_in file self.old.tasks) at bytes.now }
+        ensures within { (file : List ℕ) → IsTrue result → AreWithin file (tasks_in self.old.tasks)
+            → at ≤ length (seen_in file self.old.tasks) → AreWithin file (tasks_in self.new.tasks) }
+        ensures pieces { (seen : List ℕ) → at ≤ length seen → ArePieces self.old.pieces seen
+            → IsTrue result → ArePieces self.new.pieces (overlaid seen at bytes.now) }
+        ensures refused { result ≡ false → tasks_in self.new.tasks ≡ tasks_in self.old.tasks }
+        ensures kept { result ≡ false → self.new.pieces ≡ self.old.pieces }
     {
         if self.failed || self.tasks.write(at, bytes).is_err() {
             return false;
@@ -166,7 +202,12 @@ impl Stage {
     }
 
     // Lets a sync wait, where one is due.
-    fn sync(&mut self) -> bool {
+    fn sync(&mut self) -> bool
+        ensures seen { (file : List ℕ) → seen_in file self.new.tasks ≡ seen_in file self.old.tasks }
+        ensures within { (file : List ℕ) → AreWithin file (tasks_in self.old.tasks)
+            → AreWithin file (tasks_in self.new.tasks) }
+        ensures pieces { self.new.pieces ≡ self.old.pieces }
+    {
         if self.failed {
             return false;
         }

@@ -1,6 +1,7 @@
 // Bytes of a file that the caller of a staged disk read and handed in.
 
-ghost use Rattle.std.specs.Prelude.{◌≡◌, ◌≤◌, ◌<◌, ◌+◌, ◌^◌, length, vec_len};
+ghost use Rattle.std.specs.Prelude.{◌≡◌, ◌≤◌, ◌<◌, ◌+◌, ◌-◌, ◌^◌, ℕ, List, length, drop, vec_len, IsTrue, IfSome};
+ghost use Rattle.std.specs.List.{filter};
 
 use std::alloc::{AllocError, Global};
 
@@ -21,7 +22,11 @@ impl Piece {
     }
 
     // Its bytes from a place on, if that place is in it.
-    fn from(&self, at: u64) -> Option<&[u8]> {
+    fn from(&self, at: u64) -> Option<&[u8]>
+        ensures begins { IfSome result (λ bytes. self.now.at ≤ at) }
+        ensures bytes { IfSome result
+            (λ bytes. bytes.now ≡ drop (at - self.now.at) self.now.bytes.items) }
+    {
         let skipped = at.checked_sub(self.at)?;
         if at >= self.end() {
             return None;
@@ -38,7 +43,12 @@ pub(super) struct Pieces {
 }
 
 impl Pieces {
-    pub(super) fn new(alloc: Global) -> Pieces {
+    ghost use Rattle.sled_disk.specs.HandedIn.{StandsAt, ArePieces, is_outside, SameOutside};
+
+    // No pieces.
+    pub(super) fn new(alloc: Global) -> Pieces
+        ensures { (file : List ℕ) → ArePieces result file }
+    {
         Pieces {
             alloc,
             pieces: Vec::new(alloc),
@@ -48,6 +58,8 @@ impl Pieces {
     // Adds a copy of bytes. Where there is no memory for it, nothing is added.
     pub(super) fn add(&mut self, at: u64, bytes: &[u8]) -> Result<(), AllocError>
         requires { at + length bytes.now < 2 ^ 64 }
+        ensures { (file : List ℕ) → ArePieces self.old file → StandsAt at bytes.now file
+            → ArePieces self.new file }
     {
         let bytes = bytes.to_vec(self.alloc)?;
         let place = self.pieces.partition_point(|piece| piece.at < at);
@@ -58,7 +70,9 @@ impl Pieces {
     // Copies the bytes at a place, and says whether all of them were handed in.
     pub(super) fn read(&self, at: u64, into: &mut [u8]) -> bool
         requires { at + length into.old < 2 ^ 64 }
-        ensures { length into.new ≡ length into.old }
+        ensures length { length into.new ≡ length into.old }
+        ensures bytes { (file : List ℕ) → ArePieces self.now file → IsTrue result
+            → StandsAt at into.new file }
     {
         let mut copied = 0;
         // each piece in turn goes on where those before it end
@@ -76,14 +90,23 @@ impl Pieces {
     }
 
     // Drops the pieces that have bytes from one place up to another.
-    pub(super) fn drop_between(&mut self, from: u64, to: u64) {
+    pub(super) fn drop_between(&mut self, from: u64, to: u64)
+        ensures dropped { from < to
+            → self.new.pieces.items ≡ filter (is_outside from to) self.old.pieces.items }
+        ensures kept { to ≤ from → self.new ≡ self.old }
+        ensures stand { (old new : List ℕ) → ArePieces self.old old → SameOutside from to old new
+            → ArePieces self.new new }
+    {
         if from < to {
             self.pieces
                 .retain(|piece| to <= piece.at || piece.end() <= from);
         }
     }
 
-    pub(super) fn clear(&mut self) {
+    // Drops all of them.
+    pub(super) fn clear(&mut self)
+        ensures { (file : List ℕ) → ArePieces self.new file }
+    {
         self.pieces.clear();
     }
 }

@@ -1,7 +1,7 @@
 // What the caller of a staged disk has still to do: writes and syncs, in order.
 
 ghost use Rattle.std.specs.Prelude.{◌≡◌, ◌≤◌, ◌<◌, ◌+◌, ◌^◌, ◌++◌, ℕ, [], ◌∷◌, true, false, length, vec_len, IsOk, OnOk, OnErr, IfSome, IfNone};
-ghost use Rattle.std.specs.List.{sum_by};
+ghost use Rattle.std.specs.List.{All, AllByRecursion, sum_by};
 
 use std::alloc::{AllocError, Global};
 use std::collections::VecDeque;
@@ -40,10 +40,12 @@ pub(super) struct Tasks {
     from: u64,
     to: u64,
     ghost last: { sync_last ≡ true → is_synced ≡ true },
+    ghost around: { All (λ write. (from ≤ write.at) × (write.at + write.len ≤ to)) writes.items },
     ghost whole: { handed_out + sum_by (λ write. write.len) writes.items ≡ vec_len bytes },
 }
 
 impl Tasks {
+    ghost use Rattle.sled_disk.specs.HandedIn.{LeavesBetween};
     ghost use Rattle.sled_disk.specs.Journal.{Write, Sync};
     ghost use Rattle.sled_disk.specs.Staged.{tasks_in, HasRoom, IsHandedOut};
 
@@ -158,8 +160,13 @@ impl Tasks {
     }
 
     // Whether a write that waits may change bytes between two places.
-    pub(super) fn may_change(&self, from: u64, to: u64) -> bool {
-        !self.writes.is_empty() && from < self.to && self.from < to
+    pub(super) fn may_change(&self, from: u64, to: u64) -> bool
+        ensures { result ≡ false → AllByRecursion (LeavesBetween from to) (tasks_in self.now) }
+    {
+        if self.writes.is_empty() {
+            return false;
+        }
+        from < self.to && self.from < to
     }
 
     // Lets nothing wait.
