@@ -19,16 +19,16 @@ pub writes_in-push : (writes : List WaitingWrite) (last : WaitingWrite) (bytes m
     → writes_in (writes ++ last ∷ []) (bytes ++ more) ≡ writes_in writes bytes ++ sync_if last.sync_before ++ Write last.at more ∷ []
 writes_in-push [] last [] more all len = ap (λ (l : List ℕ). sync_if last.sync_before ++ Write last.at l ∷ []) (take_all last.len more (omega (arith, len)))
 writes_in-push [] last (byte ∷ bytes) more all len = absurd (omega (arith, all))
-writes_in-push (write ∷ later) last bytes more all len =
-    let sum : write.len + len_of later ≡ length bytes = sym (sum_by-cons (λ (w : WaitingWrite). w.len) write later) ∙ all in
-    let le : write.len ≤ length bytes = omega (arith, sum) in
-    let before = sync_if write.sync_before in
-    let first = Write write.at (take write.len bytes) in
-    let rest = writes_in later (drop write.len bytes) in
+writes_in-push (first ∷ later) last bytes more all len =
+    let sum : first.len + len_of later ≡ length bytes = sym (sum_by-cons (λ (w : WaitingWrite). w.len) first later) ∙ all in
+    let le : first.len ≤ length bytes = omega (arith, sum) in
+    let before = sync_if first.sync_before in
+    let call = Write first.at (take first.len bytes) in
+    let rest = writes_in later (drop first.len bytes) in
     let added = Write last.at more ∷ [] in
-    ap₂ (λ (l : List ℕ) (calls : List DiskCall). before ++ Write write.at l ∷ calls) (take-append-le write.len bytes more le)
-    (ap (writes_in (later ++ last ∷ [])) (drop-append-le write.len bytes more le) ∙ writes_in-push later last (drop write.len bytes) more (omega (arith, sum, length-drop write.len bytes)) len)
-    ∙ sym (ap (λ (calls : List DiskCall). calls ++ added) (append_assoc before (first ∷ rest) (sync_if last.sync_before)) ∙ append_assoc before (first ∷ (rest ++ sync_if last.sync_before)) added)
+    ap₂ (λ (l : List ℕ) (calls : List DiskCall). before ++ Write first.at l ∷ calls) (take-append-le first.len bytes more le)
+    (ap (writes_in (later ++ last ∷ [])) (drop-append-le first.len bytes more le) ∙ writes_in-push later last (drop first.len bytes) more (omega (arith, sum, length-drop first.len bytes)) len)
+    ∙ sym (ap (λ (calls : List DiskCall). calls ++ added) (append_assoc before (call ∷ rest) (sync_if last.sync_before)) ∙ append_assoc before (call ∷ (rest ++ sync_if last.sync_before)) added)
 
 -- The tasks after a write was added.
 pub tasks-write : (writes reserved now : List WaitingWrite) (last : WaitingWrite) (bytes all more : List ℕ) (out : ℕ) → reserved ≡ writes → now ≡ reserved ++ last ∷ [] → all ≡ bytes ++ more
@@ -102,12 +102,12 @@ leaves-sync from to false = tt
 
 leaves-writes : (low high from to : ℕ) (writes : List WaitingWrite) (bytes : List ℕ) → LieBetween low high writes → (high ≤ from) ⊎ (to ≤ low) → AllByRecursion (LeavesBetween from to) (writes_in writes bytes)
 leaves-writes low high from to [] bytes lie apart = tt
-leaves-writes low high from to (write ∷ later) bytes lie apart =
-    let here = lie zero write (omega arith) in
-    let leaves : LeavesBetween from to (Write write.at (take write.len bytes)) =
-    ⊎_elim (λ before. inl (omega (arith, before, here.1, length-take write.len bytes))) (λ after. inr (omega (arith, after, here.0))) apart in
-    all-append (LeavesBetween from to) (sync_if write.sync_before) (Write write.at (take write.len bytes) ∷ writes_in later (drop write.len bytes)) (leaves-sync from to write.sync_before)
-    (leaves, leaves-writes low high from to later (drop write.len bytes) (between-later low high (write ∷ later) write later refl lie) apart)
+leaves-writes low high from to (first ∷ later) bytes lie apart =
+    let here = lie zero first (omega arith) in
+    let leaves : LeavesBetween from to (Write first.at (take first.len bytes)) =
+    ⊎_elim (λ before. inl (omega (arith, before, here.1, length-take first.len bytes))) (λ after. inr (omega (arith, after, here.0))) apart in
+    all-append (LeavesBetween from to) (sync_if first.sync_before) (Write first.at (take first.len bytes) ∷ writes_in later (drop first.len bytes)) (leaves-sync from to first.sync_before)
+    (leaves, leaves-writes low high from to later (drop first.len bytes) (between-later low high (first ∷ later) first later refl lie) apart)
 
 -- What lies apart from all writes that wait is changed by none of the tasks.
 pub leaves-tasks : (low high from to : ℕ) (writes : List WaitingWrite) (bytes : List ℕ) (last : Bool) → LieBetween low high writes → (high ≤ from) ⊎ (to ≤ low)

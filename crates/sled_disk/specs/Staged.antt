@@ -17,7 +17,7 @@ sync_if false = []
 -- writes whose bytes stand from end to end
 abbrev pub writes_in : List WaitingWrite → List ℕ → List DiskCall
 writes_in [] bytes = []
-writes_in (write ∷ later) bytes = sync_if write.sync_before ++ Write write.at (take write.len bytes) ∷ writes_in later (drop write.len bytes)
+writes_in (first ∷ later) bytes = sync_if first.sync_before ++ Write first.at (take first.len bytes) ∷ writes_in later (drop first.len bytes)
 
 abbrev pub tasks_in : Tasks → List DiskCall
 tasks_in tasks = writes_in tasks.writes.items (drop tasks.handed_out tasks.bytes.items) ++ sync_if tasks.sync_last

@@ -1,4 +1,4 @@
-// A caller that works off the tasks of a staged disk on a list of bytes.
+// A caller that works off the tasks of a staged disk on a list of bytes. Where memory is refused it tries once more.
 
 use super::*;
 
@@ -34,7 +34,7 @@ fn overwrite(file: &mut Vec<u8>, at: u64, bytes: &[u8]) -> bool {
         match file.get_mut(at.saturating_add(behind)) {
             Some(place) => *place = *byte,
             None => {
-                if file.push(*byte).is_err() {
+                if file.push(*byte).is_err() && file.push(*byte).is_err() {
                     return false;
                 }
             }
@@ -94,6 +94,6 @@ impl Device {
             return false;
         };
         self.handed_in = self.handed_in.saturating_add(len);
-        disk.hand_in(at, bytes).is_ok()
+        disk.hand_in(at, bytes).is_ok() || disk.hand_in(at, bytes).is_ok()
     }
 }

@@ -1,6 +1,7 @@
 // A log over a staged disk, whose caller works its tasks off on a list of bytes.
 
-ghost use Rattle.std.specs.Prelude.{◌≡◌, true, IsTrue, IfSome};
+ghost use Rattle.std.specs.Prelude.{◌≡◌, true, false, IsTrue, IfSome};
+ghost use Rattle.sled_log.specs.Calls.{is_write_fault};
 
 use super::super::opening::{Outcome, outcome_of};
 use super::super::room::KeepingDisk;
@@ -42,21 +43,43 @@ const ACTS: &[Act] = &[
     Append(MessageKind::Free, 1, 0),
 ];
 
-// Calls a log, and says whether that succeeds.
+// Whether a call succeeded, or memory was refused.
+fn is_made<T: Drop>(answer: Result<T, LogError>) -> Option<bool>
+    ensures { IfSome result (λ _. is_write_fault answer ≡ false) }
+{
+    match answer {
+        Ok(_) => Some(true),
+        Err(LogError::Memory) => Some(false),
+        Err(_) => None,
+    }
+}
+
+// Calls a log, and says whether that succeeds, or memory is refused.
+fn attempts<D: Disk>(log: &mut DiskLog<D>, act: Act) -> Option<bool>
+    requires silent { D.tells → ⊥ }
+    requires usable { log.old.usable ≡ true }
+    ensures { IfSome result (λ _. log.new.usable ≡ true) }
+{
+    match act {
+        Append(kind, pid, len) => is_made(log.append(kind, pid, PAYLOAD.get(..len)?)),
+        Flush if !log.batch_open() => is_made(log.make_stable()),
+        Pin if !log.batch_open() => is_made(log.pin()),
+        Seal if log.batch_open() => is_made(log.seal()),
+        Cancel if log.batch_open() => is_made(log.cancel()),
+        _ => None,
+    }
+}
+
+// Calls a log, again where memory is refused, and says whether that succeeds.
 fn acts<D: Disk>(log: &mut DiskLog<D>, act: Act) -> bool
     requires silent { D.tells → ⊥ }
     requires usable { log.old.usable ≡ true }
     ensures { IsTrue result → log.new.usable ≡ true }
 {
-    match act {
-        Append(kind, pid, len) => match PAYLOAD.get(..len) {
-            Some(payload) => log.append(kind, pid, payload).is_ok(),
-            None => false,
-        },
-        Flush => !log.batch_open() && log.make_stable().is_ok(),
-        Pin => !log.batch_open() && log.pin().is_ok(),
-        Seal => log.batch_open() && log.seal().is_ok(),
-        Cancel => log.batch_open() && log.cancel().is_ok(),
+    match attempts(log, act) {
+        Some(true) => true,
+        Some(false) => attempts(log, act) == Some(true),
+        None => false,
     }
 }
 
@@ -67,11 +90,14 @@ fn opened(alloc: Global, mut disk: StagedDisk, device: &mut Device) -> Option<Di
     for _ in 0..8u32 {
         match DiskLog::open(alloc, disk, SEGMENT_SIZE, 0) {
             Ok(log) => return Some(log),
-            Err((LogError::ReadFault, back)) => disk = back,
+            Err((LogError::ReadFault, back)) => {
+                if !device.serve(&back) {
+                    return None;
+                }
+                disk = back;
+            }
+            Err((LogError::Memory, back)) => disk = back,
             Err(_) => return None,
-        }
-        if !device.serve(&disk) {
-            return None;
         }
     }
     None
@@ -82,7 +108,10 @@ fn log_on(alloc: Global, device: &mut Device) -> Option<DiskLog<StagedDisk>>
     ensures { IfSome result (λ log. log.usable ≡ true) }
 {
     let mut disk = StagedDisk::new(alloc, 0);
-    if DiskLog::create(&mut disk).is_err() || !device.work_off(&disk) {
+    if DiskLog::create(&mut disk).is_err() && DiskLog::create(&mut disk).is_err() {
+        return None;
+    }
+    if !device.work_off(&disk) {
         return None;
     }
     let mut log = opened(alloc, disk, device)?;
@@ -125,13 +154,14 @@ const OUTCOMES: [Outcome; 6] = [
     Outcome::Opens(3, 247),
 ];
 
-// Whether with such a buffer the file is that of a disk in memory, by so many tasks, of which nine are syncs. One read was refused.
+// Whether with such a buffer the file is that of a disk in memory, by so many tasks, of which nine are syncs, and one read was refused.
+// Where an allocation is refused, as by `rt try --test --fail-alloc N`, that is so too, by a second call.
 fn is_the_same(alloc: Global, room: usize, tasks: usize) -> bool {
     let mut device = device_of(Vec::new(alloc), room, usize::MAX);
     let Some(log) = log_on(alloc, &mut device) else {
         return false;
     };
-    let Some(expected) = in_memory(alloc) else {
+    let Some(expected) = in_memory(alloc).or_else(|| in_memory(alloc)) else {
         return false;
     };
     device.file == expected
@@ -150,7 +180,10 @@ fn a_staged_log_writes_what_a_log_in_memory_does(rt: HostRuntime) {
 fn left_behind(alloc: Global, room: usize, tasks: usize) -> Outcome {
     let mut device = device_of(Vec::new(alloc), room, tasks);
     let _where_it_stopped = log_on(alloc, &mut device);
-    outcome_of(alloc, &device.file)
+    match outcome_of(alloc, &device.file) {
+        Outcome::Fails => outcome_of(alloc, &device.file),
+        outcome => outcome,
+    }
 }
 
 fn outcome_behind(tasks: usize, steps: &[usize; 5]) -> Option<&'static Outcome> {
