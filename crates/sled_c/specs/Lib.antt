@@ -1,0 +1,5 @@
+pub mod Handles
+pub mod Numbers
+pub mod Statuses
+pub mod Steps
+pub mod Values

@@ -1,0 +1,64 @@
+-- The numbers of the statuses, which are the constants of `status`.
+use Rattle.std.specs.Prelude.{ℕ, ◌+◌}
+use Rattle.sled_base.specs.Errors.{number_of_why, number_of_bug}
+use Rattle.sled_base.specs.declared.types.Device.TheVariants.{Read, Write}
+use Rattle.sled_base.specs.declared.types.Error.{Error}
+use Rattle.sled_base.specs.declared.types.Error.TheVariants.{CollectionNotFound, Unsupported, ReportableBug, Io, Corruption, OutOfMemory}
+
+abbrev pub ok : ℕ
+ok = 0
+
+abbrev pub stale : ℕ
+stale = 1
+
+abbrev pub gone : ℕ
+gone = 2
+
+abbrev pub none : ℕ
+none = 3
+
+abbrev pub short : ℕ
+short = 4
+
+abbrev pub closed : ℕ
+closed = 5
+
+abbrev pub already_open : ℕ
+already_open = 6
+
+abbrev pub arguments : ℕ
+arguments = 7
+
+abbrev pub no_batch : ℕ
+no_batch = 8
+
+abbrev pub index : ℕ
+index = 9
+
+abbrev pub memory : ℕ
+memory = 16
+
+abbrev pub read : ℕ
+read = 17
+
+abbrev pub write : ℕ
+write = 18
+
+abbrev pub corruption : ℕ
+corruption = 19
+
+-- behind this stands the number of the reason, and behind that the number of the bug
+abbrev pub unsupported : ℕ
+unsupported = 100
+
+abbrev pub bug : ℕ
+bug = 200
+
+abbrev pub number_of_error : Error → ℕ
+number_of_error (CollectionNotFound name) = none
+number_of_error (Unsupported why) = unsupported + number_of_why why
+number_of_error (ReportableBug which) = bug + number_of_bug which
+number_of_error (Io Read) = read
+number_of_error (Io Write) = write
+number_of_error (Corruption pointer) = corruption
+number_of_error OutOfMemory = memory

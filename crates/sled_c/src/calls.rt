@@ -1,0 +1,11 @@
+//! What each call does with a cache, over any log: plain arguments in, a status out.
+//!
+//! - `pages`: making, reading, changing and freeing a page
+//! - `roots`: named roots
+//! - `batches`: opening and closing a batch
+//! - `log`: ids, and what is asked of the whole log
+
+pub mod batches;
+pub mod log;
+pub mod pages;
+pub mod roots;

@@ -1,0 +1,57 @@
+//! Opening and closing a batch.
+
+ghost use Rattle.sled_c.specs.Handles.{Through};
+ghost use Rattle.std.specs.Prelude.{⊤};
+ghost use Rattle.sled_pagecache.specs.Batches.{SealsBatch, CancelsBatch};
+ghost use Rattle.sled_c.specs.Steps.{Opens, Closes};
+
+use crate::calls::batches as calls;
+use crate::handle::Handle;
+use crate::status::CLOSED;
+use crate::store::Store;
+use std::alloc::Global;
+
+/// Opens a batch, of which a crash leaves all or nothing once it is sealed.
+#[unsafe(no_mangle)]
+pub extern "C" fn dilluvas_pin(alloc: Global, handle: &mut Handle) -> u32
+    ensures { Through handle.old.store handle.new.store result ⊤ (λ _ g old new. Opens g old new result) }
+{
+    let Some(mut store) = handle.take(alloc) else {
+        return CLOSED;
+    };
+    let status = match &mut *store {
+        Store::Memory(cache) => calls::pin(cache),
+    };
+    handle.put(alloc, store);
+    status
+}
+
+/// Closes the open batch: a crash leaves all of it or nothing.
+#[unsafe(no_mangle)]
+pub extern "C" fn dilluvas_seal(alloc: Global, handle: &mut Handle) -> u32
+    ensures { Through handle.old.store handle.new.store result ⊤ (λ _ g old new. Closes g old new (SealsBatch g) result) }
+{
+    let Some(mut store) = handle.take(alloc) else {
+        return CLOSED;
+    };
+    let status = match &mut *store {
+        Store::Memory(cache) => calls::seal(cache),
+    };
+    handle.put(alloc, store);
+    status
+}
+
+/// Closes the open batch, of which a crash may leave a part. Nothing is undone.
+#[unsafe(no_mangle)]
+pub extern "C" fn dilluvas_cancel(alloc: Global, handle: &mut Handle) -> u32
+    ensures { Through handle.old.store handle.new.store result ⊤ (λ _ g old new. Closes g old new (CancelsBatch g) result) }
+{
+    let Some(mut store) = handle.take(alloc) else {
+        return CLOSED;
+    };
+    let status = match &mut *store {
+        Store::Memory(cache) => calls::cancel(cache),
+    };
+    handle.put(alloc, store);
+    status
+}

@@ -1,0 +1,81 @@
+//! Opening and closing a handle, and the texts of statuses.
+
+ghost use Rattle.sled_c.specs.Handles.{CloseHandle};
+
+use crate::calls::batches;
+use crate::handle::Handle;
+use crate::output::put_bytes;
+use crate::status::{ALREADY_OPEN, CLOSED, MEMORY, OK, status_of, text_of};
+use crate::store::Store;
+use sled_pagecache::{Config, MemLog, PageCache};
+use std::alloc::Global;
+
+/// The settings of a cache over a log in memory.
+#[repr(C)]
+#[derive(Clone, Copy)]
+pub struct Settings {
+    /// The capacity of the cache, in bytes of messages.
+    pub cache_capacity: u64,
+    /// How many ids one counter covers.
+    pub idgen_persist_interval: u64,
+    /// The size of a segment, in bytes.
+    pub segment_size: usize,
+    /// Payloads above so many bytes are kept as blobs.
+    pub blob_limit: usize,
+    /// A page is due to be moved for so many messages, and none where this is 0.
+    pub clean_every: u64,
+}
+
+/// Opens a cache over a new log in memory behind a closed handle.
+#[unsafe(no_mangle)]
+pub extern "C" fn dilluvas_open_memory(
+    alloc: Global,
+    handle: &mut Handle,
+    settings: &Settings,
+) -> u32 {
+    if let Some(store) = handle.take(alloc) {
+        handle.put(alloc, store);
+        return ALREADY_OPEN;
+    }
+    match new_store(alloc, *settings) {
+        Ok(store) => {
+            handle.put(alloc, store);
+            OK
+        }
+        Err(status) => status,
+    }
+}
+
+// A cache over a new log in memory.
+fn new_store(alloc: Global, settings: Settings) -> Result<Box<Store>, u32> {
+    let config = Config {
+        cache_capacity: settings.cache_capacity,
+        idgen_persist_interval: settings.idgen_persist_interval,
+        segment_size: settings.segment_size,
+    };
+    let log = MemLog::new(alloc, settings.blob_limit, settings.clean_every);
+    match PageCache::start(alloc, config, log) {
+        Ok(cache) => Box::new(alloc, Store::Memory(cache)).map_err(|_| MEMORY),
+        Err((error, _)) => Err(status_of(&error)),
+    }
+}
+
+/// Closes the cache behind a handle. Nothing is flushed, and an open batch is cancelled.
+#[unsafe(no_mangle)]
+pub extern "C" fn dilluvas_close(alloc: Global, handle: &mut Handle) -> u32
+    ensures { CloseHandle handle.old.store handle.new.store result }
+{
+    let Some(mut store) = handle.take(alloc) else {
+        return CLOSED;
+    };
+    match &mut *store {
+        Store::Memory(cache) => batches::cancel(cache),
+    };
+    OK
+}
+
+/// Writes the text of a status, without a zero behind it, and how many bytes it has.
+#[unsafe(no_mangle)]
+pub extern "C" fn dilluvas_text(status: u32, buffer: &mut [u8], needed: &mut usize) -> u32 {
+    put_bytes(text_of(status).as_bytes(), buffer, needed)
+}

@@ -1,0 +1,24 @@
+//! The page cache for programs in C, and in all that calls C.
+//!
+//! Each call is total: it tests what it is given, and answers a number of `status`. None aborts. A program owes what the types of the
+//! parameters say, and no more; `bindings/c/dilluvas.h` says it in words.
+//!
+//! In reading order:
+//!
+//! - `status`: the numbers that calls answer, and their texts
+//! - `store`: what lies behind a handle
+//! - `handle`, `loose`: what a program keeps of a store, and a box as its pointer
+//! - `calls`: what each call does with a cache, over any log
+//! - `output`: bytes that are written for the program
+//! - `pairs`: the pairs of a node as bytes
+//! - `exports`: the functions that C calls, each of which takes the store out of a handle and puts it back
+#![tactic(auto)]
+
+mod calls;
+mod exports;
+mod handle;
+mod loose;
+mod output;
+mod pairs;
+mod status;
+mod store;
