@@ -13,7 +13,7 @@ use std::alloc::Global;
 
 /// Opens a batch, of which a crash leaves all or nothing once it is sealed.
 #[unsafe(no_mangle)]
-pub extern "C" fn dilluvas_pin(alloc: Global, handle: &mut Handle) -> u32
+pub extern "C" fn dilluvas_raw_pin(alloc: Global, handle: &mut Handle) -> u32
     ensures { Through handle.old.store handle.new.store result ⊤ (λ _ g old new. Opens g old new result) }
 {
     let Some(mut store) = handle.take(alloc) else {
@@ -28,7 +28,7 @@ pub extern "C" fn dilluvas_pin(alloc: Global, handle: &mut Handle) -> u32
 
 /// Closes the open batch: a crash leaves all of it or nothing.
 #[unsafe(no_mangle)]
-pub extern "C" fn dilluvas_seal(alloc: Global, handle: &mut Handle) -> u32
+pub extern "C" fn dilluvas_raw_seal(alloc: Global, handle: &mut Handle) -> u32
     ensures { Through handle.old.store handle.new.store result ⊤ (λ _ g old new. Closes g old new (SealsBatch g) result) }
 {
     let Some(mut store) = handle.take(alloc) else {
@@ -43,7 +43,7 @@ pub extern "C" fn dilluvas_seal(alloc: Global, handle: &mut Handle) -> u32
 
 /// Closes the open batch, of which a crash may leave a part. Nothing is undone.
 #[unsafe(no_mangle)]
-pub extern "C" fn dilluvas_cancel(alloc: Global, handle: &mut Handle) -> u32
+pub extern "C" fn dilluvas_raw_cancel(alloc: Global, handle: &mut Handle) -> u32
     ensures { Through handle.old.store handle.new.store result ⊤ (λ _ g old new. Closes g old new (CancelsBatch g) result) }
 {
     let Some(mut store) = handle.take(alloc) else {

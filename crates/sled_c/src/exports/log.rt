@@ -12,7 +12,7 @@ use std::alloc::Global;
 
 /// Writes an id that was never given.
 #[unsafe(no_mangle)]
-pub extern "C" fn dilluvas_generate_id(alloc: Global, handle: &mut Handle, id: &mut u64) -> u32
+pub extern "C" fn dilluvas_raw_generate_id(alloc: Global, handle: &mut Handle, id: &mut u64) -> u32
     ensures { Through handle.old.store handle.new.store result (id.new ≡ id.old) (λ _ g old new. GivesId g old new result id.old id.new) }
 {
     let Some(mut store) = handle.take(alloc) else {
@@ -27,7 +27,7 @@ pub extern "C" fn dilluvas_generate_id(alloc: Global, handle: &mut Handle, id: &
 
 /// Makes all that is pending durable, and writes how many bytes that wrote.
 #[unsafe(no_mangle)]
-pub extern "C" fn dilluvas_flush(alloc: Global, handle: &mut Handle, written: &mut usize) -> u32
+pub extern "C" fn dilluvas_raw_flush(alloc: Global, handle: &mut Handle, written: &mut usize) -> u32
     ensures { Through handle.old.store handle.new.store result (written.new ≡ written.old) (λ _ g old new. MakesStable g old new result written.old written.new) }
 {
     let Some(mut store) = handle.take(alloc) else {
@@ -42,7 +42,7 @@ pub extern "C" fn dilluvas_flush(alloc: Global, handle: &mut Handle, written: &m
 
 /// Writes how many bytes the log has.
 #[unsafe(no_mangle)]
-pub extern "C" fn dilluvas_size(alloc: Global, handle: &mut Handle, bytes: &mut u64) -> u32
+pub extern "C" fn dilluvas_raw_size(alloc: Global, handle: &mut Handle, bytes: &mut u64) -> u32
     ensures { Through handle.old.store handle.new.store result (bytes.new ≡ bytes.old) (λ _ g old new. TellsSize g old new result bytes.old bytes.new) }
 {
     let Some(store) = handle.take(alloc) else {
@@ -57,7 +57,7 @@ pub extern "C" fn dilluvas_size(alloc: Global, handle: &mut Handle, bytes: &mut 
 
 /// Writes how many bytes the log has, and how many the pages would take, at most `u64::MAX`.
 #[unsafe(no_mangle)]
-pub extern "C" fn dilluvas_amp(
+pub extern "C" fn dilluvas_raw_amp(
     alloc: Global,
     handle: &mut Handle,
     log: &mut u64,
@@ -77,7 +77,7 @@ pub extern "C" fn dilluvas_amp(
 
 /// Moves the page that is due, and writes whether there was one.
 #[unsafe(no_mangle)]
-pub extern "C" fn dilluvas_gc(alloc: Global, handle: &mut Handle, moved: &mut bool) -> u32
+pub extern "C" fn dilluvas_raw_gc(alloc: Global, handle: &mut Handle, moved: &mut bool) -> u32
     ensures { Through handle.old.store handle.new.store result (moved.new ≡ moved.old) (λ _ g old new. MovesDue g old new result moved.old moved.new) }
 {
     let Some(mut store) = handle.take(alloc) else {
@@ -92,7 +92,7 @@ pub extern "C" fn dilluvas_gc(alloc: Global, handle: &mut Handle, moved: &mut bo
 
 /// Writes whether the log had the cache's own pages as it was opened.
 #[unsafe(no_mangle)]
-pub extern "C" fn dilluvas_was_recovered(
+pub extern "C" fn dilluvas_raw_was_recovered(
     alloc: Global,
     handle: &mut Handle,
     recovered: &mut bool,

@@ -28,7 +28,7 @@ pub struct Settings {
 
 /// Opens a cache over a new log in memory behind a closed handle.
 #[unsafe(no_mangle)]
-pub extern "C" fn dilluvas_open_memory(
+pub extern "C" fn dilluvas_raw_open_memory(
     alloc: Global,
     handle: &mut Handle,
     settings: &Settings,
@@ -62,7 +62,7 @@ fn new_store(alloc: Global, settings: Settings) -> Result<Box<Store>, u32> {
 
 /// Closes the cache behind a handle. Nothing is flushed, and an open batch is cancelled.
 #[unsafe(no_mangle)]
-pub extern "C" fn dilluvas_close(alloc: Global, handle: &mut Handle) -> u32
+pub extern "C" fn dilluvas_raw_close(alloc: Global, handle: &mut Handle) -> u32
     ensures { CloseHandle handle.old.store handle.new.store result }
 {
     let Some(mut store) = handle.take(alloc) else {
@@ -76,6 +76,6 @@ pub extern "C" fn dilluvas_close(alloc: Global, handle: &mut Handle) -> u32
 
 /// Writes the text of a status, without a zero behind it, and how many bytes it has.
 #[unsafe(no_mangle)]
-pub extern "C" fn dilluvas_text(status: u32, buffer: &mut [u8], needed: &mut usize) -> u32 {
+pub extern "C" fn dilluvas_raw_text(status: u32, buffer: &mut [u8], needed: &mut usize) -> u32 {
     put_bytes(text_of(status).as_bytes(), buffer, needed)
 }

@@ -15,7 +15,7 @@ use std::alloc::Global;
 
 /// Puts a leaf of the pairs on a page, and writes which page and its stamp.
 #[unsafe(no_mangle)]
-pub extern "C" fn dilluvas_allocate(
+pub extern "C" fn dilluvas_raw_allocate(
     alloc: Global,
     handle: &mut Handle,
     pairs: &[u8],
@@ -34,7 +34,7 @@ pub extern "C" fn dilluvas_allocate(
 
 /// Writes what a page is, and its pairs.
 #[unsafe(no_mangle)]
-pub extern "C" fn dilluvas_get(
+pub extern "C" fn dilluvas_raw_get(
     alloc: Global,
     handle: &mut Handle,
     page: u64,
@@ -53,7 +53,7 @@ pub extern "C" fn dilluvas_get(
 
 /// Writes the value of one key of a leaf, and the stamp of the page.
 #[unsafe(no_mangle)]
-pub extern "C" fn dilluvas_value(
+pub extern "C" fn dilluvas_raw_value(
     alloc: Global,
     handle: &mut Handle,
     page: u64,
@@ -76,7 +76,7 @@ pub extern "C" fn dilluvas_value(
 
 /// Maps a key of a leaf to a value, where the page is still at the stamp, and writes the stamp that it has now.
 #[unsafe(no_mangle)]
-pub extern "C" fn dilluvas_set(
+pub extern "C" fn dilluvas_raw_set(
     alloc: Global,
     handle: &mut Handle,
     page: u64,
@@ -98,7 +98,7 @@ pub extern "C" fn dilluvas_set(
 
 /// Takes a key out of a leaf, likewise.
 #[unsafe(no_mangle)]
-pub extern "C" fn dilluvas_del(
+pub extern "C" fn dilluvas_raw_del(
     alloc: Global,
     handle: &mut Handle,
     page: u64,
@@ -119,7 +119,7 @@ pub extern "C" fn dilluvas_del(
 
 /// Puts a leaf of the pairs on a page in place of what it held, likewise.
 #[unsafe(no_mangle)]
-pub extern "C" fn dilluvas_replace(
+pub extern "C" fn dilluvas_raw_replace(
     alloc: Global,
     handle: &mut Handle,
     page: u64,
@@ -138,7 +138,7 @@ pub extern "C" fn dilluvas_replace(
 
 /// Frees a page, likewise.
 #[unsafe(no_mangle)]
-pub extern "C" fn dilluvas_free(
+pub extern "C" fn dilluvas_raw_free(
     alloc: Global,
     handle: &mut Handle,
     page: u64,

@@ -12,7 +12,7 @@ use std::alloc::Global;
 
 /// Writes the root page of a name.
 #[unsafe(no_mangle)]
-pub extern "C" fn dilluvas_root(
+pub extern "C" fn dilluvas_raw_root(
     alloc: Global,
     handle: &mut Handle,
     name: &[u8],
@@ -32,7 +32,7 @@ pub extern "C" fn dilluvas_root(
 
 /// Gives a name another root, where page 0 stands for none.
 #[unsafe(no_mangle)]
-pub extern "C" fn dilluvas_cas_root(
+pub extern "C" fn dilluvas_raw_cas_root(
     alloc: Global,
     handle: &mut Handle,
     name: &[u8],
@@ -53,7 +53,7 @@ pub extern "C" fn dilluvas_cas_root(
 
 /// Writes the root page of a name. A name that has none is given an index over an empty leaf.
 #[unsafe(no_mangle)]
-pub extern "C" fn dilluvas_open_tree(
+pub extern "C" fn dilluvas_raw_open_tree(
     alloc: Global,
     handle: &mut Handle,
     name: &[u8],

@@ -1,0 +1,27 @@
+#!/bin/sh
+# Makes one folder of what a program that calls the cache needs: libdilluvas.a, libdilluvas.so and dilluvas.h. It takes the proved library
+# as `rt lib` left it in crates/sled_c, and makes that first where it isn't there.
+#
+#     bindings/build.sh [FOLDER]
+#
+# FOLDER is bindings/out if none is given. The library wants malloc, realloc and free, memcpy, memmove and memset of the C library.
+set -eu
+
+top=$(CDPATH='' cd -- "$(dirname -- "$0")/.." && pwd)
+mkdir -p "${1:-$top/bindings/out}"
+folder=$(CDPATH='' cd -- "${1:-$top/bindings/out}" && pwd)
+archive=$top/crates/sled_c/out/libsled_c.a
+[ -f "$archive" ] || (cd "$top/crates/sled_c" && rt lib)
+
+# What calls the heap is the kit's, one object.
+kit=$(dirname "$(dirname "$(readlink -f "$(command -v rt)")")")
+rm -f "$folder/libdilluvas.a"
+ar -M <<SCRIPT
+create $folder/libdilluvas.a
+addlib $archive
+addlib $kit/c/liblibc_c.a
+save
+end
+SCRIPT
+"${CC:-cc}" -shared -o "$folder/libdilluvas.so" -Wl,--whole-archive "$folder/libdilluvas.a" -Wl,--no-whole-archive
+cp "$top/bindings/c/dilluvas.h" "$folder/"

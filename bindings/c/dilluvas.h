@@ -1,0 +1,385 @@
+/* Dilluvas: a page cache for embedded stores, whose calls are proved to do what its contracts say.
+ *
+ * A cache keeps pages, which are named by numbers. A page holds pairs of a key and a value, which are byte strings, and has a stamp that
+ * each change raises by one: a change names the stamp that it expects, and is refused where the page has another one.
+ *
+ * Every call answers a status and returns, whatever numbers, lengths, bytes and null pointers it is given. None of them aborts, and none
+ * prints. A call whose answer isn't DILLUVAS_OK leaves every page, stamp and name as it was, and what it would have written into the
+ * program's memory too, unless it says otherwise.
+ *
+ * What a program owes, since no call can test it:
+ *
+ * - A handle is DILLUVAS_CLOSED (all zeros) before its first call, and written by these calls alone. It may be moved, but not copied while
+ *   it is open: two copies would own one cache.
+ * - One call at a time uses a handle. A handle may go to another thread, if a lock or the start or the end of a thread orders the calls.
+ *   Handles share nothing with one another.
+ * - A pointer that isn't null points to a value of its type, or to as many bytes as the length beside it says, which the program has
+ *   initialised. It stays the program's: no call keeps a pointer, or frees what one points to. What a call writes to overlaps nothing else
+ *   that the call is given. A `bool` is 0 or 1.
+ * - `malloc`, `realloc` and `free` are one allocator, with blocks aligned as C demands. No call is made from a signal handler, or in a
+ *   forked child of a process with threads.
+ *
+ * Of null pointers only those that a call names may be given with no harm: every other one is answered by DILLUVAS_ARGUMENTS.
+ */
+#ifndef DILLUVAS_H
+#define DILLUVAS_H
+
+#include <stdbool.h>
+#include <stddef.h>
+#include <stdint.h>
+#include <string.h>
+
+#ifdef __cplusplus
+extern "C" {
+#endif
+
+/* ---- Statuses. `dilluvas_text` has a text for each. */
+
+typedef uint32_t dilluvas_status;
+
+enum {
+    DILLUVAS_OK = 0,           /* The call did what it says. */
+    DILLUVAS_STALE = 1,        /* The page has another stamp, or the name another root, which was written in place of the one given. */
+    DILLUVAS_GONE = 2,         /* There is no such page: it was never allocated, or is free. */
+    DILLUVAS_NONE = 3,         /* The name has no root, or the page no such key. */
+    DILLUVAS_SHORT = 4,        /* The buffer is too short, and nothing was written to it: how many bytes are needed was. */
+    DILLUVAS_NOT_OPEN = 5,     /* No cache is open behind the handle. */
+    DILLUVAS_ALREADY_OPEN = 6, /* A cache is open behind the handle, and stays. */
+    DILLUVAS_ARGUMENTS = 7,    /* A pointer is null, or the bytes encode no pairs that a leaf can hold. */
+    DILLUVAS_NO_BATCH = 8,     /* No batch is open. */
+    DILLUVAS_INDEX = 9,        /* The page is an index, whose pairs have no values. */
+
+    DILLUVAS_MEMORY = 16,     /* An allocation failed. The call may be made again. */
+    DILLUVAS_READ = 17,       /* A read failed. The call may be made again. No cache in memory answers so. */
+    DILLUVAS_WRITE = 18,      /* A write failed, now or earlier: every later call answers so, until the store is opened again. */
+    DILLUVAS_CORRUPTION = 19, /* The messages of the page make no node. No cache in memory answers so. */
+
+    /* What isn't supported, behind 100, */
+    DILLUVAS_RESERVED_ID = 101,        /* The page is the cache's own: 0, 1 or 2^64 - 667. */
+    DILLUVAS_CAPACITY_TOO_SMALL = 102, /* The capacity of the cache is below 256. */
+    DILLUVAS_INTERVAL_ZERO = 103,      /* The interval of ids is 0. */
+    DILLUVAS_SEGMENT_ZERO = 104,       /* The size of a segment is 0. */
+    DILLUVAS_PAGES_USED_UP = 105,      /* No page is free, and there are 2^37 of them. */
+    DILLUVAS_IDS_USED_UP = 106,        /* No id is left below 2^64. */
+    DILLUVAS_STAMP_USED_UP = 107,      /* The stamp of the page is 2^64 - 1. */
+    DILLUVAS_BATCH_OPEN = 108,         /* A batch is open: it takes no flush, no second pin, and no id that needs a new counter. */
+    DILLUVAS_TOO_MANY_NAMES = 109,     /* There are 2^24 other names. */
+    DILLUVAS_NAME_TOO_LONG = 110,      /* The name has 2^31 bytes or more. */
+    DILLUVAS_LOG_FULL = 111,           /* The log has no room for the message. */
+    DILLUVAS_BOOK_FULL = 112,          /* No call of this library answers so, */
+
+    /* and what should never be seen, behind 200. */
+    DILLUVAS_MISSING_META = 201,    /* nor so, */
+    DILLUVAS_MISSING_COUNTER = 202, /* nor so, */
+    DILLUVAS_LINK_REFUSED = 203,    /* The node doesn't accept the link: it is an index, the key is out of its range, or the leaf full. */
+    DILLUVAS_FREE_IN_PULL = 204     /* nor so. */
+};
+
+/* ---- Handles. */
+
+/* What a program keeps of a cache. Its fields are the library's. */
+typedef struct dilluvas {
+    void *at;
+    bool is_open;
+} dilluvas;
+
+/* A handle before its first call, and behind dilluvas_close. */
+#define DILLUVAS_CLOSED {NULL, false}
+
+/* The settings of a cache over a log in memory. */
+typedef struct dilluvas_settings {
+    uint64_t cache_capacity;         /* bytes of messages whose pages stay in memory as nodes, at least 256 */
+    uint64_t idgen_persist_interval; /* how many ids one counter covers, at least 1: so many may be skipped by a crash */
+    size_t segment_size;             /* bytes, at least 1 */
+    size_t blob_limit;               /* payloads of more bytes are kept beside the log */
+    uint64_t clean_every;            /* a page is due to be moved for so many messages, and none where this is 0 */
+} dilluvas_settings;
+
+#define DILLUVAS_SETTINGS {1048576, 10, 4096, 512, 16}
+
+/* What dilluvas_get tells of a page. */
+typedef struct dilluvas_found {
+    uint64_t stamp; /* the page's stamp */
+    size_t count;   /* how many pairs there are */
+    size_t needed;  /* how many bytes they take */
+    bool is_index;  /* the page is an index: the value of each pair is a page, in 8 bytes, the lowest first */
+} dilluvas_found;
+
+/* ---- The library's functions, whose pointers aren't null unless the length beside them is 0. Call those below them. */
+
+dilluvas_status dilluvas_raw_open_memory(dilluvas *d, const dilluvas_settings *settings);
+dilluvas_status dilluvas_raw_close(dilluvas *d);
+dilluvas_status dilluvas_raw_text(dilluvas_status status, uint8_t *buffer, size_t room, size_t *needed);
+dilluvas_status dilluvas_raw_allocate(dilluvas *d, const uint8_t *pairs, size_t pairs_len, uint64_t *page, uint64_t *stamp);
+dilluvas_status dilluvas_raw_get(dilluvas *d, uint64_t page, dilluvas_found *found, uint8_t *buffer, size_t room);
+dilluvas_status dilluvas_raw_value(dilluvas *d, uint64_t page, const uint8_t *key, size_t key_len, uint64_t *stamp, uint8_t *buffer,
+                                   size_t room, size_t *needed);
+dilluvas_status dilluvas_raw_set(dilluvas *d, uint64_t page, uint64_t *stamp, const uint8_t *key, size_t key_len, const uint8_t *value,
+                                 size_t value_len);
+dilluvas_status dilluvas_raw_del(dilluvas *d, uint64_t page, uint64_t *stamp, const uint8_t *key, size_t key_len);
+dilluvas_status dilluvas_raw_replace(dilluvas *d, uint64_t page, uint64_t *stamp, const uint8_t *pairs, size_t pairs_len);
+dilluvas_status dilluvas_raw_free(dilluvas *d, uint64_t page, uint64_t *stamp);
+dilluvas_status dilluvas_raw_root(dilluvas *d, const uint8_t *name, size_t name_len, uint64_t *page);
+dilluvas_status dilluvas_raw_cas_root(dilluvas *d, const uint8_t *name, size_t name_len, uint64_t *root, uint64_t next);
+dilluvas_status dilluvas_raw_open_tree(dilluvas *d, const uint8_t *name, size_t name_len, uint64_t *page);
+dilluvas_status dilluvas_raw_generate_id(dilluvas *d, uint64_t *id);
+dilluvas_status dilluvas_raw_pin(dilluvas *d);
+dilluvas_status dilluvas_raw_seal(dilluvas *d);
+dilluvas_status dilluvas_raw_cancel(dilluvas *d);
+dilluvas_status dilluvas_raw_flush(dilluvas *d, size_t *written);
+dilluvas_status dilluvas_raw_size(dilluvas *d, uint64_t *bytes);
+dilluvas_status dilluvas_raw_amp(dilluvas *d, uint64_t *log, uint64_t *pages);
+dilluvas_status dilluvas_raw_gc(dilluvas *d, bool *moved);
+dilluvas_status dilluvas_raw_was_recovered(dilluvas *d, bool *recovered);
+
+/* So many bytes are there. */
+static inline bool dilluvas_are_bytes(const void *bytes, size_t len) {
+    return bytes || !len;
+}
+
+/* ---- Opening and closing. */
+
+/* Opens a cache over a new log in memory. The handle is closed before, and owns the cache then: dilluvas_close frees it.
+ *
+ * Answers ALREADY_OPEN; CAPACITY_TOO_SMALL, INTERVAL_ZERO or SEGMENT_ZERO for the settings; MEMORY. The handle stays as it was then. */
+static inline dilluvas_status dilluvas_open_memory(dilluvas *d, const dilluvas_settings *settings) {
+    if (!d || !settings) return DILLUVAS_ARGUMENTS;
+    return dilluvas_raw_open_memory(d, settings);
+}
+
+/* Closes the cache and frees all that it owns. Nothing is flushed: of a cache in memory nothing is left. An open batch is cancelled.
+ *
+ * Answers NOT_OPEN. The handle is closed then, whatever comes. */
+static inline dilluvas_status dilluvas_close(dilluvas *d) {
+    if (!d) return DILLUVAS_ARGUMENTS;
+    return dilluvas_raw_close(d);
+}
+
+/* Writes a text in English for a status, without a zero behind it, into a buffer of `room` bytes, and its bytes to `needed`. Any number
+ * has one. It wants no cache.
+ *
+ * Answers SHORT. */
+static inline dilluvas_status dilluvas_text(dilluvas_status status, uint8_t *buffer, size_t room, size_t *needed) {
+    if (!dilluvas_are_bytes(buffer, room) || !needed) return DILLUVAS_ARGUMENTS;
+    return dilluvas_raw_text(status, buffer, room, needed);
+}
+
+/* ---- Pages. Each call from here on answers NOT_OPEN where the handle is closed, and WRITE where a write failed, now or earlier. */
+
+/* Puts a leaf of the pairs on a page, and writes the page's number and its stamp. `pairs` are `pairs_len` bytes: of each pair the length
+ * of the key and that of the value, in 4 bytes each, the lowest first, then the key and the value; the keys ascend by their bytes.
+ * dilluvas_put writes a pair. No bytes are no pairs.
+ *
+ * Answers ARGUMENTS where the bytes are no such pairs; PAGES_USED_UP, STAMP_USED_UP, LOG_FULL, MEMORY. */
+static inline dilluvas_status dilluvas_allocate(dilluvas *d, const uint8_t *pairs, size_t pairs_len, uint64_t *page, uint64_t *stamp) {
+    if (!d || !dilluvas_are_bytes(pairs, pairs_len) || !page || !stamp) return DILLUVAS_ARGUMENTS;
+    return dilluvas_raw_allocate(d, pairs, pairs_len, page, stamp);
+}
+
+/* Writes what a page is, and its pairs in the same form into a buffer of `room` bytes. dilluvas_next reads a pair. Where all have room,
+ * `found->needed` bytes are written.
+ *
+ * Answers SHORT, where `found` is written; GONE, RESERVED_ID, MEMORY, READ, CORRUPTION. */
+static inline dilluvas_status dilluvas_get(dilluvas *d, uint64_t page, dilluvas_found *found, uint8_t *buffer, size_t room) {
+    if (!d || !found || !dilluvas_are_bytes(buffer, room)) return DILLUVAS_ARGUMENTS;
+    return dilluvas_raw_get(d, page, found, buffer, room);
+}
+
+/* Writes the value of one key of a leaf into a buffer of `room` bytes, its bytes to `needed`, and the page's stamp.
+ *
+ * Answers SHORT, where `needed` and the stamp are written; NONE and INDEX, where the stamp is; GONE, RESERVED_ID, MEMORY, READ,
+ * CORRUPTION. */
+static inline dilluvas_status dilluvas_value(dilluvas *d, uint64_t page, const uint8_t *key, size_t key_len, uint64_t *stamp,
+                                             uint8_t *buffer, size_t room, size_t *needed) {
+    if (!d || !dilluvas_are_bytes(key, key_len) || !stamp || !dilluvas_are_bytes(buffer, room) || !needed) return DILLUVAS_ARGUMENTS;
+    return dilluvas_raw_value(d, page, key, key_len, stamp, buffer, room, needed);
+}
+
+/* In these four `stamp` has the stamp that the page is expected to have, and then the one that it has now. */
+
+/* Maps a key of a leaf to a value.
+ *
+ * Answers STALE, where the present stamp is written; GONE, RESERVED_ID, LINK_REFUSED, STAMP_USED_UP, LOG_FULL, MEMORY, READ,
+ * CORRUPTION. */
+static inline dilluvas_status dilluvas_set(dilluvas *d, uint64_t page, uint64_t *stamp, const uint8_t *key, size_t key_len,
+                                           const uint8_t *value, size_t value_len) {
+    if (!d || !stamp || !dilluvas_are_bytes(key, key_len) || !dilluvas_are_bytes(value, value_len)) return DILLUVAS_ARGUMENTS;
+    return dilluvas_raw_set(d, page, stamp, key, key_len, value, value_len);
+}
+
+/* Takes a key out of a leaf, whether or not it is there.
+ *
+ * Answers as dilluvas_set does. */
+static inline dilluvas_status dilluvas_del(dilluvas *d, uint64_t page, uint64_t *stamp, const uint8_t *key, size_t key_len) {
+    if (!d || !stamp || !dilluvas_are_bytes(key, key_len)) return DILLUVAS_ARGUMENTS;
+    return dilluvas_raw_del(d, page, stamp, key, key_len);
+}
+
+/* Puts a leaf of the pairs on a page in place of what it held. Then the page that is due is moved, as by dilluvas_gc, whatever comes of it.
+ *
+ * Answers STALE, where the present stamp is written; ARGUMENTS where the bytes are no pairs; GONE, RESERVED_ID, STAMP_USED_UP, LOG_FULL,
+ * MEMORY. */
+static inline dilluvas_status dilluvas_replace(dilluvas *d, uint64_t page, uint64_t *stamp, const uint8_t *pairs, size_t pairs_len) {
+    if (!d || !stamp || !dilluvas_are_bytes(pairs, pairs_len)) return DILLUVAS_ARGUMENTS;
+    return dilluvas_raw_replace(d, page, stamp, pairs, pairs_len);
+}
+
+/* Frees a page: it is GONE for every other call, until dilluvas_allocate uses its number again, at the next stamp.
+ *
+ * Answers STALE, where the present stamp is written; GONE, RESERVED_ID, STAMP_USED_UP, LOG_FULL, MEMORY. */
+static inline dilluvas_status dilluvas_free(dilluvas *d, uint64_t page, uint64_t *stamp) {
+    if (!d || !stamp) return DILLUVAS_ARGUMENTS;
+    return dilluvas_raw_free(d, page, stamp);
+}
+
+/* ---- Named roots. A name is any bytes, and page 0 stands for no root. */
+
+/* Writes the root page of a name.
+ *
+ * Answers NONE, MEMORY. */
+static inline dilluvas_status dilluvas_root(dilluvas *d, const uint8_t *name, size_t name_len, uint64_t *page) {
+    if (!d || !dilluvas_are_bytes(name, name_len) || !page) return DILLUVAS_ARGUMENTS;
+    return dilluvas_raw_root(d, name, name_len, page);
+}
+
+/* Gives a name the root `next`, or takes the name out where `next` is 0, if it has the root `root`, or none where that is 0.
+ *
+ * Answers STALE, where the present root is written to `root`, and 0 for none; TOO_MANY_NAMES, NAME_TOO_LONG, STAMP_USED_UP, LOG_FULL,
+ * MEMORY. */
+static inline dilluvas_status dilluvas_cas_root(dilluvas *d, const uint8_t *name, size_t name_len, uint64_t *root, uint64_t next) {
+    if (!d || !dilluvas_are_bytes(name, name_len) || !root) return DILLUVAS_ARGUMENTS;
+    return dilluvas_raw_cas_root(d, name, name_len, root, next);
+}
+
+/* Writes the root page of a name. A name that has none is given an index over an empty leaf.
+ *
+ * Answers TOO_MANY_NAMES, NAME_TOO_LONG, and behind these PAGES_USED_UP, STAMP_USED_UP, LOG_FULL and MEMORY, where the leaf that was made,
+ * or the leaf and the index, stay: nothing leads to them. */
+static inline dilluvas_status dilluvas_open_tree(dilluvas *d, const uint8_t *name, size_t name_len, uint64_t *page) {
+    if (!d || !dilluvas_are_bytes(name, name_len) || !page) return DILLUVAS_ARGUMENTS;
+    return dilluvas_raw_open_tree(d, name, name_len, page);
+}
+
+/* ---- Batches: a crash leaves all of one or nothing. */
+
+/* Opens a batch.
+ *
+ * Answers BATCH_OPEN, LOG_FULL, MEMORY. */
+static inline dilluvas_status dilluvas_pin(dilluvas *d) {
+    if (!d) return DILLUVAS_ARGUMENTS;
+    return dilluvas_raw_pin(d);
+}
+
+/* Closes the open batch: a crash leaves all of it or nothing, and all once a flush has answered OK.
+ *
+ * Answers NO_BATCH. The batch is closed then, whatever comes. */
+static inline dilluvas_status dilluvas_seal(dilluvas *d) {
+    if (!d) return DILLUVAS_ARGUMENTS;
+    return dilluvas_raw_seal(d);
+}
+
+/* Closes the open batch, of which a crash may leave a part. Its changes stand: nothing is undone.
+ *
+ * Answers NO_BATCH. The batch is closed then, whatever comes. */
+static inline dilluvas_status dilluvas_cancel(dilluvas *d) {
+    if (!d) return DILLUVAS_ARGUMENTS;
+    return dilluvas_raw_cancel(d);
+}
+
+/* ---- Ids, and the whole log. */
+
+/* Writes an id that was never given.
+ *
+ * Answers IDS_USED_UP, BATCH_OPEN, STAMP_USED_UP, LOG_FULL, MEMORY: none is used up then. */
+static inline dilluvas_status dilluvas_generate_id(dilluvas *d, uint64_t *id) {
+    if (!d || !id) return DILLUVAS_ARGUMENTS;
+    return dilluvas_raw_generate_id(d, id);
+}
+
+/* Makes all that is pending durable, and writes how many bytes that wrote.
+ *
+ * Answers BATCH_OPEN. */
+static inline dilluvas_status dilluvas_flush(dilluvas *d, size_t *written) {
+    if (!d || !written) return DILLUVAS_ARGUMENTS;
+    return dilluvas_raw_flush(d, written);
+}
+
+/* Writes how many bytes the log has. */
+static inline dilluvas_status dilluvas_size(dilluvas *d, uint64_t *bytes) {
+    if (!d || !bytes) return DILLUVAS_ARGUMENTS;
+    return dilluvas_raw_size(d, bytes);
+}
+
+/* Writes how many bytes the log has, and how many the pages would take by their contents, a segment among them; 2^64 - 1 stands for that
+ * and for more. It reads the pages that don't lie in memory.
+ *
+ * Answers MEMORY, READ, CORRUPTION. */
+static inline dilluvas_status dilluvas_amp(dilluvas *d, uint64_t *log, uint64_t *pages) {
+    if (!d || !log || !pages) return DILLUVAS_ARGUMENTS;
+    return dilluvas_raw_amp(d, log, pages);
+}
+
+/* Moves the page that is due, if one is, and writes whether one was. No page, stamp or id changes.
+ *
+ * Answers LOG_FULL, MEMORY, READ, CORRUPTION: the page isn't due again then. */
+static inline dilluvas_status dilluvas_gc(dilluvas *d, bool *moved) {
+    if (!d || !moved) return DILLUVAS_ARGUMENTS;
+    return dilluvas_raw_gc(d, moved);
+}
+
+/* Writes whether the log had the cache's own pages as it was opened: a new one has not. It doesn't answer WRITE. */
+static inline dilluvas_status dilluvas_was_recovered(dilluvas *d, bool *recovered) {
+    if (!d || !recovered) return DILLUVAS_ARGUMENTS;
+    return dilluvas_raw_was_recovered(d, recovered);
+}
+
+/* ---- Pairs as bytes. */
+
+/* A pair, which points into the buffer that it was read from. */
+typedef struct dilluvas_pair {
+    const uint8_t *key, *value;
+    size_t key_len, value_len;
+} dilluvas_pair;
+
+static inline size_t dilluvas_length_at(const uint8_t *p) {
+    return (size_t)p[0] | (size_t)p[1] << 8 | (size_t)p[2] << 16 | (size_t)p[3] << 24;
+}
+
+/* Reads the pair that begins at `*at` of `len` bytes, and moves `*at` behind it. `*at` begins at 0. False at the end, and where the bytes
+ * are no pair: nothing is written then. */
+static inline bool dilluvas_next(const uint8_t *pairs, size_t len, size_t *at, dilluvas_pair *pair) {
+    if (!pairs || !at || !pair || len < *at || len - *at < 8) return false;
+    size_t key_len = dilluvas_length_at(pairs + *at), value_len = dilluvas_length_at(pairs + *at + 4), rest = len - *at - 8;
+    if (rest < key_len || rest - key_len < value_len) return false;
+    pair->key = pairs + *at + 8;
+    pair->key_len = key_len;
+    pair->value = pair->key + key_len;
+    pair->value_len = value_len;
+    *at += 8 + key_len + value_len;
+    return true;
+}
+
+/* The page that a pair of an index leads to. */
+static inline uint64_t dilluvas_child(const dilluvas_pair *pair) {
+    uint64_t page = 0;
+    for (size_t i = 0; i < 8 && i < pair->value_len; i++) page |= (uint64_t)pair->value[i] << 8 * i;
+    return page;
+}
+
+/* Writes a pair at `at` of `room` bytes, and answers the place behind it; or 0 where there is no room, and then nothing is written. */
+static inline size_t dilluvas_put(uint8_t *pairs, size_t room, size_t at, const void *key, uint32_t key_len, const void *value,
+                                  uint32_t value_len) {
+    if (!pairs || room < at || room - at < 8 || room - at - 8 < key_len || room - at - 8 - key_len < value_len) return 0;
+    for (int i = 0; i < 4; i++) {
+        pairs[at + i] = (uint8_t)(key_len >> 8 * i);
+        pairs[at + 4 + i] = (uint8_t)(value_len >> 8 * i);
+    }
+    if (key_len) memcpy(pairs + at + 8, key, key_len);
+    if (value_len) memcpy(pairs + at + 8 + key_len, value, value_len);
+    return at + 8 + key_len + value_len;
+}
+
+#ifdef __cplusplus
+}
+#endif
+#endif

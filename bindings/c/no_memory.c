@@ -1,0 +1,105 @@
+/* Makes calls with the first allocation failing, then with the second, and so on. Each call has to answer a status, the one that is refused
+ * has to succeed when it is made again, and all has to be freed. Linked with --wrap=malloc, --wrap=realloc and --wrap=free. */
+#include "dilluvas.h"
+#include <stdio.h>
+
+void *__real_malloc(size_t size);
+void *__real_realloc(void *block, size_t size);
+void __real_free(void *block);
+
+/* How many allocations succeed before one fails, how many blocks there are, and whether one failed. */
+static long left, blocks;
+static bool failed;
+
+static bool fails(void) {
+    if (left-- != 0) return false;
+    failed = true;
+    return true;
+}
+
+void *__wrap_malloc(size_t size) {
+    void *block = fails() ? NULL : __real_malloc(size);
+    if (block) blocks++;
+    return block;
+}
+
+void *__wrap_realloc(void *block, size_t size) {
+    void *moved = fails() ? NULL : __real_realloc(block, size);
+    if (moved && !block) blocks++;
+    return moved;
+}
+
+void __wrap_free(void *block) {
+    if (block) blocks--;
+    __real_free(block);
+}
+
+/* What a run saw: how many calls were refused, and whether one was refused again, or answered what it shouldn't. */
+static int refused;
+static bool wrong;
+
+/* Whether the call is to be made again. */
+static bool again(int line, dilluvas_status status, bool first) {
+    if (status == DILLUVAS_MEMORY && first) {
+        refused++;
+        return true;
+    }
+    if (status != DILLUVAS_OK) {
+        printf("line %d: status %u\n", line, status);
+        wrong = true;
+    }
+    return false;
+}
+
+#define CALL(call) if (again(__LINE__, (call), true)) again(__LINE__, (call), false)
+
+static void run(void) {
+    dilluvas d = DILLUVAS_CLOSED;
+    dilluvas_settings settings = {256, 10, 4096, 64, 4};
+    uint64_t page = 0, stamp = 0, root = 0, n, log;
+    uint8_t buffer[4096], pairs[512], bytes[100] = {1};
+    size_t end = 0, size;
+    bool moved;
+    dilluvas_found found;
+    for (uint8_t key = 0; key < 4; key++) end = dilluvas_put(pairs, sizeof pairs, end, &key, 1, bytes, 100);
+    CALL(dilluvas_open_memory(&d, &settings));
+    CALL(dilluvas_allocate(&d, pairs, end, &page, &stamp));
+    for (int i = 0; i < 12; i++) {
+        CALL(dilluvas_set(&d, page, &stamp, bytes, 50, bytes, 100));
+    }
+    CALL(dilluvas_del(&d, page, &stamp, bytes, 50));
+    CALL(dilluvas_replace(&d, page, &stamp, pairs, end));
+    CALL(dilluvas_open_tree(&d, (const uint8_t *)"a name that is longer than 22 bytes", 35, &n));
+    CALL(dilluvas_cas_root(&d, (const uint8_t *)"other", 5, &root, page));
+    CALL(dilluvas_root(&d, (const uint8_t *)"other", 5, &n));
+    CALL(dilluvas_generate_id(&d, &n));
+    CALL(dilluvas_get(&d, page, &found, buffer, sizeof buffer));
+    CALL(dilluvas_value(&d, page, pairs + 8, 1, &stamp, buffer, sizeof buffer, &size));
+    CALL(dilluvas_amp(&d, &log, &n));
+    CALL(dilluvas_gc(&d, &moved));
+    CALL(dilluvas_pin(&d));
+    CALL(dilluvas_free(&d, page, &stamp));
+    CALL(dilluvas_seal(&d));
+    CALL(dilluvas_flush(&d, &size));
+    CALL(dilluvas_size(&d, &n));
+    CALL(dilluvas_close(&d));
+}
+
+int main(void) {
+    long tried = 0, passed_over = 0, calls = 0;
+    for (;; tried++) {
+        left = tried;
+        failed = wrong = false;
+        refused = 0;
+        run();
+        if (wrong || blocks != 0 || refused > 1) {
+            printf("allocation %ld: %ld blocks are left, %d calls were refused\n", tried, blocks, refused);
+            return 1;
+        }
+        if (!failed) break;
+        calls += refused;
+        passed_over += !refused;
+    }
+    printf("%ld allocations failed in turn: %ld calls were refused, and %ld went on without\n", tried, calls, passed_over);
+    return 0;
+}
