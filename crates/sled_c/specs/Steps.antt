@@ -11,6 +11,7 @@ use Rattle.sled_pagecache.specs.Calls.{Steps, IsBlamed}
 use Rattle.sled_pagecache.specs.Moves.{AttemptsMove}
 use Rattle.sled_pagecache.specs.State.{token}
 use Rattle.sled_pagecache.specs.Step.{Swapped, RootSwap}
+use Rattle.sled_pagecache.specs.Trees.{IsTreeOpened, KeepsFault}
 use Rattle.sled_pagecache.specs.declared.pagecache.handles.call.Answer.{Answer}
 use Rattle.sled_pagecache.specs.declared.pagecache.handles.call.Answer.TheVariants as answers
 use Rattle.sled_pagecache.specs.declared.pagecache.handles.call.Call.{Call}
@@ -60,6 +61,12 @@ module _ {L : Type 0} (g : Ghosts L) (old new : Cache L) where
   abbrev pub SwapsRoot : Bytes → ℕ → ℕ → ℕ → ℕ → Type 0
   SwapsRoot name page status before after =
       (answer : RootSwap) × Makes (calls.CasRoot name (root_of before) (root_of page)) answers.RootSwapped answer × TellsRoot answer status before after
+
+  -- The tree of a name is opened, as `open_tree` does it: by a look at the roots, and the steps that make one.
+  abbrev pub OpensTree : Bytes → ℕ → ℕ → ℕ → Type 0
+  OpensTree name status before after =
+      LacksMemory status before after
+      ⊎ ((answer : Result ℕ Error) × IsTreeOpened g old name answer new × KeepsFault old new answer × IfErr answer HasNoName × Tells answer status before after)
 
   -- the size of the log is told
   abbrev pub TellsSize : ℕ → ℕ → ℕ → Type 0

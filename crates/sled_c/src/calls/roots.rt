@@ -2,7 +2,7 @@
 
 ghost use Rattle.std.specs.Prelude.{◌≡◌};
 ghost use Rattle.sled_c.specs.Statuses.{root_of};
-ghost use Rattle.sled_c.specs.Steps.{FindsRoot, SwapsRoot};
+ghost use Rattle.sled_c.specs.Steps.{FindsRoot, OpensTree, SwapsRoot};
 
 use crate::output::put_answer;
 use crate::status::{MEMORY, OK, STALE, status_of};
@@ -40,7 +40,9 @@ pub fn open_tree<L: Log>(
     cache: &mut PageCache<L>,
     name: &[u8],
     page: &mut u64,
-) -> u32 {
+) -> u32
+    ensures { OpensTree L.Log cache.old cache.new name.now result page.old page.new }
+{
     let Ok(name) = IVec::from_slice(alloc, name) else {
         return MEMORY;
     };

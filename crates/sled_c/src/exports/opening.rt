@@ -1,6 +1,10 @@
 //! Opening and closing a handle, and the texts of statuses.
 
+ghost use Rattle.std.specs.Prelude.{⊤, ◌≡◌, [], true, IfOk, IfErr};
+ghost use Rattle.std.specs.String.{string_bytes};
+ghost use Rattle.sled_log.specs.MemLog.State.{state_of};
 ghost use Rattle.sled_c.specs.Handles.{CloseHandle};
+ghost use Rattle.sled_c.specs.Openings.{IsNew, IsNewStore, OpenHandle, TellsWhy, config_of};
 
 use crate::calls::batches;
 use crate::handle::Handle;
@@ -32,7 +36,9 @@ pub extern "C" fn dilluvas_raw_open_memory(
     alloc: Global,
     handle: &mut Handle,
     settings: &Settings,
-) -> u32 {
+) -> u32
+    ensures { OpenHandle settings.now handle.old.store handle.new.store result }
+{
     if let Some(store) = handle.take(alloc) {
         handle.put(alloc, store);
         return ALREADY_OPEN;
@@ -46,18 +52,36 @@ pub extern "C" fn dilluvas_raw_open_memory(
     }
 }
 
+// A store over a new log in memory.
+fn new_store(alloc: Global, settings: Settings) -> Result<Box<Store>, u32>
+    ensures new { IfOk result (λ store. IsNewStore settings store.value) }
+    ensures told { IfErr result (TellsWhy settings) }
+{
+    let cache = new_cache(alloc, settings)?;
+    Box::new(alloc, Store::Memory(cache)).map_err(|_| MEMORY)
+}
+
 // A cache over a new log in memory.
-fn new_store(alloc: Global, settings: Settings) -> Result<Box<Store>, u32> {
+fn new_cache(alloc: Global, settings: Settings) -> Result<PageCache<MemLog>, u32>
+    ensures new { IfOk result (IsNew (config_of settings)) }
+    ensures told { IfErr result (TellsWhy settings) }
+{
     let config = Config {
         cache_capacity: settings.cache_capacity,
         idgen_persist_interval: settings.idgen_persist_interval,
         segment_size: settings.segment_size,
     };
-    let log = MemLog::new(alloc, settings.blob_limit, settings.clean_every);
-    match PageCache::start(alloc, config, log) {
-        Ok(cache) => Box::new(alloc, Store::Memory(cache)).map_err(|_| MEMORY),
+    match PageCache::start(alloc, config, new_log(alloc, settings)) {
+        Ok(cache) => Ok(cache),
         Err((error, _)) => Err(status_of(&error)),
     }
+}
+
+// An empty log in memory.
+fn new_log(alloc: Global, settings: Settings) -> MemLog
+    ensures { state_of result ≡ record { stable = []; pending = []; usable = true } }
+{
+    MemLog::new(alloc, settings.blob_limit, settings.clean_every)
 }
 
 /// Closes the cache behind a handle. Nothing is flushed, and an open batch is cancelled.

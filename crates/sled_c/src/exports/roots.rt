@@ -2,7 +2,7 @@
 
 ghost use Rattle.std.specs.Prelude.{◌≡◌};
 ghost use Rattle.sled_c.specs.Handles.{Through};
-ghost use Rattle.sled_c.specs.Steps.{FindsRoot, SwapsRoot};
+ghost use Rattle.sled_c.specs.Steps.{FindsRoot, OpensTree, SwapsRoot};
 
 use crate::calls::roots as calls;
 use crate::handle::Handle;
@@ -58,7 +58,9 @@ pub extern "C" fn dilluvas_raw_open_tree(
     handle: &mut Handle,
     name: &[u8],
     page: &mut u64,
-) -> u32 {
+) -> u32
+    ensures { Through handle.old.store handle.new.store result (page.new ≡ page.old) (λ _ g old new. OpensTree g old new name.now result page.old page.new) }
+{
     let Some(mut store) = handle.take(alloc) else {
         return CLOSED;
     };

@@ -1,0 +1,12 @@
+-- The log is empty, so the cache has no page but its own, which were missing.
+use Rattle.std.proofs.Common.{refl, sym, ◌∙◌}
+use Rattle.sled_pagecache.specs.Opening.{fault_of}
+use Rattle.sled_c.specs.Openings.{config_of}
+use Rattle.sled_c.proofs.Opened.{nothing, holds_nothing, own_are_missing, faultless}
+use Rattle.sled_c.proofs.exports.opening.new_cache.Goals as goal
+
+pub returns-in-Ok-clause-new : goal.returns-in-Ok-clause-new
+returns-in-Ok-clause-new c =
+    let none = faultless (fault_of (config_of c.args.settings)) (λ why fault. cc (c.in-Ok.ensures.settings why fault)) in
+    let opened = c.in-Ok.ensures.opens none tt nothing (holds_nothing _ c.new_log.ensures) in
+    record { faultless = none; settings = opened.config_is; held = opened.held_then; is = opened.is; stable = opened.stable own_are_missing; closed = c.in-Ok.ensures.closed }
