@@ -21,6 +21,11 @@ abbrev pub TellsDone : Result (Unit {0}) Error → ℕ → Type 0
 TellsDone (Ok done) status = status ≡ number.ok
 TellsDone (Err e) status = status ≡ number_of_error e
 
+-- The page is told, and its stamp; or the error.
+abbrev pub TellsAllocated : Result (ℕ × Token) Error → ℕ → ℕ × ℕ → ℕ × ℕ → Type 0
+TellsAllocated (Ok made) status before after = (status ≡ number.ok) × (after ≡ (made.0, stamp_of made.1))
+TellsAllocated (Err e) status before after = TellsError e status before after
+
 -- The page's new stamp is told; or the one that it has instead; or that there is no such page; or the error.
 abbrev pub TellsSwapped : {R : Type 0} → Swapped R → ℕ → ℕ → ℕ → Type 0
 TellsSwapped (Ok (Ok token)) status before after = (status ≡ number.ok) × (after ≡ stamp_of token)

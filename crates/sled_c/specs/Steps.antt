@@ -3,13 +3,14 @@ use Rattle.std.specs.Prelude.{◌≡◌, ℕ, Bool, false, [], Result, IfErr, On
 use Rattle.sled_base.specs.Order.{Bytes}
 use Rattle.sled_base.specs.declared.types.Error.{Error}
 use Rattle.sled_log.specs.declared.log.Log.{Ghosts}
+use Rattle.sled_node.specs.Node.{WholeNode}
 use Rattle.sled_node.specs.declared.node.link.Link.{Link}
 use Rattle.sled_pagecache.specs.Answers.{HasNoName}
 use Rattle.sled_pagecache.specs.Batches.{OpensBatch}
 use Rattle.sled_pagecache.specs.Cache.{Cache}
 use Rattle.sled_pagecache.specs.Calls.{Steps, IsBlamed}
 use Rattle.sled_pagecache.specs.Moves.{AttemptsMove}
-use Rattle.sled_pagecache.specs.State.{token}
+use Rattle.sled_pagecache.specs.State.{Token, token}
 use Rattle.sled_pagecache.specs.Step.{Swapped, RootSwap}
 use Rattle.sled_pagecache.specs.Trees.{IsTreeOpened, KeepsFault}
 use Rattle.sled_pagecache.specs.declared.pagecache.handles.call.Answer.{Answer}
@@ -17,7 +18,8 @@ use Rattle.sled_pagecache.specs.declared.pagecache.handles.call.Answer.TheVarian
 use Rattle.sled_pagecache.specs.declared.pagecache.handles.call.Call.{Call}
 use Rattle.sled_pagecache.specs.declared.pagecache.handles.call.Call.TheVariants as calls
 use Rattle.sled_c.specs.Numbers as number
-use Rattle.sled_c.specs.Statuses.{Tells, TellsDone, TellsSwapped, TellsRoot, TellsSizes, root_of}
+use Rattle.sled_c.specs.Pairs.{EncodeLeaf}
+use Rattle.sled_c.specs.Statuses.{Tells, TellsAllocated, TellsDone, TellsSwapped, TellsRoot, TellsSizes, root_of}
 
 module _ {L : Type 0} (g : Ghosts L) (old new : Cache L) where
   -- The call is one step with this answer, faults are reported only where they were, and no error owns a name.
@@ -42,6 +44,24 @@ module _ {L : Type 0} (g : Ghosts L) (old new : Cache L) where
 
   abbrev pub MakesLink : ℕ → Link → ℕ → ℕ → ℕ → Type 0
   MakesLink page link status before after = LacksMemory status before after ⊎ AppliesLink page link status before after
+
+  -- the bytes encode no leaf, and nothing changes
+  abbrev pub EncodesNoLeaf : {X : Type 0} → Bytes → ℕ → X → X → Type 0
+  EncodesNoLeaf bytes status before after = (status ≡ number.arguments) × ((node : WholeNode) → ¬ EncodeLeaf bytes node) × (after ≡ before) × (new ≡ old)
+
+  -- the leaf that the bytes encode is put on a page
+  abbrev pub AllocatesLeaf : Bytes → ℕ → ℕ × ℕ → ℕ × ℕ → Type 0
+  AllocatesLeaf bytes status before after =
+      EncodesNoLeaf bytes status before after
+      ⊎ LacksMemory status before after
+      ⊎ ((node : WholeNode) × EncodeLeaf bytes node × ((answer : Result (ℕ × Token) Error) × Makes (calls.Allocate node) answers.Allocated answer × TellsAllocated answer status before after))
+
+  -- it is put on this one, in place of what it held
+  abbrev pub ReplacesByLeaf : ℕ → Bytes → ℕ → ℕ → ℕ → Type 0
+  ReplacesByLeaf page bytes status before after =
+      EncodesNoLeaf bytes status before after
+      ⊎ LacksMemory status before after
+      ⊎ ((node : WholeNode) × EncodeLeaf bytes node × ((answer : Swapped WholeNode) × Makes (calls.Replace (token page before) node) answers.Replaced answer × TellsSwapped answer status before after))
 
   -- an id is asked for
   abbrev pub GivesId : ℕ → ℕ → ℕ → Type 0

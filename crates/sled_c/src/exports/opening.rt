@@ -1,10 +1,11 @@
 //! Opening and closing a handle, and the texts of statuses.
 
-ghost use Rattle.std.specs.Prelude.{⊤, ◌≡◌, [], true, IfOk, IfErr};
-ghost use Rattle.std.specs.String.{string_bytes};
+ghost use Rattle.std.specs.Prelude.{◌≡◌, [], true, IfOk, IfErr};
+ghost use Rattle.sled_base.specs.Order.{Bytes};
 ghost use Rattle.sled_log.specs.MemLog.State.{state_of};
 ghost use Rattle.sled_c.specs.Handles.{CloseHandle};
 ghost use Rattle.sled_c.specs.Openings.{IsNew, IsNewStore, OpenHandle, TellsWhy, config_of};
+ghost use Rattle.sled_c.specs.Statuses.{TellsBytes};
 
 use crate::calls::batches;
 use crate::handle::Handle;
@@ -100,6 +101,8 @@ pub extern "C" fn dilluvas_raw_close(alloc: Global, handle: &mut Handle) -> u32
 
 /// Writes the text of a status, without a zero behind it, and how many bytes it has.
 #[unsafe(no_mangle)]
-pub extern "C" fn dilluvas_raw_text(status: u32, buffer: &mut [u8], needed: &mut usize) -> u32 {
+pub extern "C" fn dilluvas_raw_text(status: u32, buffer: &mut [u8], needed: &mut usize) -> u32
+    ensures { (text : Bytes) × TellsBytes text result needed.new buffer.old buffer.new }
+{
     put_bytes(text_of(status).as_bytes(), buffer, needed)
 }

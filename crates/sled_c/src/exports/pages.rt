@@ -3,7 +3,7 @@
 ghost use Rattle.std.specs.Prelude.{◌≡◌};
 ghost use Rattle.sled_c.specs.Handles.{Through};
 ghost use Rattle.sled_node.specs.declared.node.link.Link.TheVariants.{Set, Del};
-ghost use Rattle.sled_c.specs.Steps.{FreesPage, MakesLink};
+ghost use Rattle.sled_c.specs.Steps.{AllocatesLeaf, FreesPage, MakesLink, ReplacesByLeaf};
 ghost use Rattle.sled_c.specs.Values.{GetsValue, written};
 
 use crate::calls::pages as calls;
@@ -21,7 +21,12 @@ pub extern "C" fn dilluvas_raw_allocate(
     pairs: &[u8],
     page: &mut u64,
     stamp: &mut u64,
-) -> u32 {
+) -> u32
+    ensures { Through handle.old.store handle.new.store result
+        ((page.new ≡ page.old) × (stamp.new ≡ stamp.old))
+        (λ _ g old new. AllocatesLeaf g old new pairs.now result (page.old, stamp.old)
+        (page.new, stamp.new)) }
+{
     let Some(mut store) = handle.take(alloc) else {
         return CLOSED;
     };
@@ -125,7 +130,10 @@ pub extern "C" fn dilluvas_raw_replace(
     page: u64,
     stamp: &mut u64,
     pairs: &[u8],
-) -> u32 {
+) -> u32
+    ensures { Through handle.old.store handle.new.store result (stamp.new ≡ stamp.old)
+        (λ _ g old new. ReplacesByLeaf g old new page pairs.now result stamp.old stamp.new) }
+{
     let Some(mut store) = handle.take(alloc) else {
         return CLOSED;
     };

@@ -1,0 +1,41 @@
+-- How pairs cross: of each the lengths of the key and of the value, in four bytes each, the lowest first, and then the key and the value.
+use Rattle.std.specs.Prelude.{◌≡◌, ◌<◌, ◌+◌, ◌^◌, ◌++◌, ℕ, List, length, map, take, drop}
+use Rattle.std.specs.Int.{w32, w64, to_le_bytes}
+use Rattle.std.specs.List.{AllByRecursion, flat_map}
+use Rattle.sled_base.specs.Order.{Bytes}
+use Rattle.sled_node.specs.Node.{Item, Value, Child, WholeNode, leaf_of}
+use Rattle.sled_node.specs.Pairs.{HasPairs, IsWithinLimit}
+
+abbrev pub pair_bytes : Bytes × Bytes → Bytes
+pair_bytes pair = to_le_bytes w32 (length pair.0) ++ (to_le_bytes w32 (length pair.1) ++ (pair.0 ++ pair.1))
+
+-- the lengths fit into four bytes
+abbrev pub IsShort : Bytes × Bytes → Type 0
+IsShort pair = (length pair.0 < 2 ^ 32) × (length pair.1 < 2 ^ 32)
+
+-- the bytes are these pairs, one behind the other
+abbrev pub EncodePairs : Bytes → List (Bytes × Bytes) → Type 0
+EncodePairs bytes pairs = AllByRecursion IsShort pairs × (bytes ≡ flat_map pair_bytes pairs)
+
+-- The bytes are pairs of which a leaf can be made, and this is the leaf, over all keys.
+pub record EncodeLeaf (bytes : Bytes) (node : WholeNode) : Type 0 where
+  pub pairs : List (Bytes × Bytes)
+  pub encode : EncodePairs bytes pairs
+  pub fits : HasPairs IsWithinLimit pairs
+  pub leaf : node ≡ leaf_of (map (λ pair. (pair.0, Value pair.1)) pairs)
+
+-- the value of a pair of a leaf; of an index it is the page, in eight bytes, the lowest first
+abbrev pub value_of : Item → Bytes
+value_of (Value value) = value
+value_of (Child page) = to_le_bytes w64 page
+
+abbrev pub item_bytes : Bytes × Item → Bytes
+item_bytes pair = pair_bytes (pair.0, value_of pair.1)
+
+-- the pairs of a node
+abbrev pub node_bytes : WholeNode → Bytes
+node_bytes node = flat_map item_bytes node.pairs
+
+-- the bytes stand at that place, and all else is as it was
+abbrev pub IsPut : Bytes → ℕ → Bytes → Bytes → Type 0
+IsPut before start bytes after = after ≡ (take start before ++ bytes) ++ drop (start + length bytes) before
