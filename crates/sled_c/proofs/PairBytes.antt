@@ -21,9 +21,10 @@ same_number a b x y first second e =
 
 -- two byte strings of one length, likewise
 same_front : (s t x y : Bytes) → length s ≡ length t → s ++ x ≡ t ++ y → (s ≡ t) × (x ≡ y)
-same_front s t x y len e =
-    (sym (take-append_seam s x) ∙ ap (take (length s)) e ∙ ap (λ n. take n (t ++ y)) len ∙ take-append_seam t y,
-     sym (drop-append_seam s x) ∙ ap (drop (length s)) e ∙ ap (λ n. drop n (t ++ y)) len ∙ drop-append_seam t y)
+same_front s t x y len e = (
+  sym (take-append_seam s x) ∙ ap (take (length s)) e ∙ ap (λ n. take n (t ++ y)) len ∙ take-append_seam t y,
+  sym (drop-append_seam s x) ∙ ap (drop (length s)) e ∙ ap (λ n. drop n (t ++ y)) len ∙ drop-append_seam t y,
+)
 
 -- two pairs, likewise
 same_pair : (p q : Bytes × Bytes) (x y : Bytes) → IsShort p → IsShort q → pair_bytes p ++ x ≡ pair_bytes q ++ y → (p ≡ q) × (x ≡ y)

@@ -1,3 +1,4 @@
+pub mod Found
 pub mod Handles
 pub mod Numbers
 pub mod Openings

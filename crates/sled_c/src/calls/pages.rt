@@ -5,10 +5,11 @@ ghost use Rattle.sled_node.specs.declared.node.link.Link.TheVariants.{Set, Del};
 ghost use Rattle.sled_pagecache.specs.State.{stamp_of};
 ghost use Rattle.sled_c.specs.Statuses.{TellsAllocated};
 ghost use Rattle.sled_c.specs.Steps.{AllocatesLeaf, FreesPage, AppliesLink, MakesLink, ReplacesByLeaf};
+ghost use Rattle.sled_c.specs.Found.{GetsPage, TellsNode};
 ghost use Rattle.sled_c.specs.Values.{TellsValue, GetsValue, written};
 
 use crate::output::{put_bytes, put_swapped};
-use crate::pairs::leaf_in;
+use crate::pairs::{leaf_in, size_of_pairs, write_pairs};
 use crate::status::{
     ARGUMENTS, GONE, INDEX, MEMORY, NONE, OK, SHORT, status_of, status_of_refusal,
 };
@@ -61,12 +62,10 @@ fn put_allocated(made: Result<(PageId, PageView), Error>, page: &mut u64, stamp:
     }
 }
 
-pub fn get<L: Log>(
-    cache: &mut PageCache<L>,
-    page: u64,
-    found: &mut Found,
-    buffer: &mut [u8],
-) -> u32 {
+pub fn get<L: Log>(cache: &mut PageCache<L>, page: u64, found: &mut Found, buffer: &mut [u8]) -> u32
+    ensures { GetsPage L.Log cache.old cache.new page result (found.old, buffer.old)
+        (found.new, buffer.new) }
+{
     match cache.get(page) {
         Ok(Some(view)) => put_node(view, found, buffer),
         Ok(None) => GONE,
@@ -74,15 +73,23 @@ pub fn get<L: Log>(
     }
 }
 
-// Writes the pairs of a node, where there is room for them.
-fn put_node(view: NodeView<'_>, found: &mut Found, buffer: &mut [u8]) -> u32 {
+// Writes what the node is, and its pairs where there is room for them.
+fn put_node(view: NodeView<'_>, found: &mut Found, buffer: &mut [u8]) -> u32
+    ensures { TellsNode view.entry.token view.entry.node.now result found.new buffer.old
+        buffer.new }
+{
     let node = view.node();
+    let needed = size_of_pairs(node);
     *found = Found {
         stamp: view.token().ts(),
         count: node.len(),
-        needed: 0,
+        needed,
         is_index: node.is_index(),
     };
+    if buffer.len() < needed {
+        return SHORT;
+    }
+    write_pairs(node, buffer);
     OK
 }
 

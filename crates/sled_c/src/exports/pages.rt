@@ -3,6 +3,7 @@
 ghost use Rattle.std.specs.Prelude.{◌≡◌};
 ghost use Rattle.sled_c.specs.Handles.{Through};
 ghost use Rattle.sled_node.specs.declared.node.link.Link.TheVariants.{Set, Del};
+ghost use Rattle.sled_c.specs.Found.{GetsPage};
 ghost use Rattle.sled_c.specs.Steps.{AllocatesLeaf, FreesPage, MakesLink, ReplacesByLeaf};
 ghost use Rattle.sled_c.specs.Values.{GetsValue, written};
 
@@ -45,7 +46,12 @@ pub extern "C" fn dilluvas_raw_get(
     page: u64,
     found: &mut Found,
     buffer: &mut [u8],
-) -> u32 {
+) -> u32
+    ensures { Through handle.old.store handle.new.store result
+        ((found.new ≡ found.old) × (buffer.new ≡ buffer.old))
+        (λ _ g old new. GetsPage g old new page result (found.old, buffer.old)
+        (found.new, buffer.new)) }
+{
     let Some(mut store) = handle.take(alloc) else {
         return CLOSED;
     };
