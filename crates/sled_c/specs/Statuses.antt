@@ -1,5 +1,5 @@
 -- What a status tells of a call's answer, with what was written beside it.
-use Rattle.std.specs.Prelude.{◌≡◌, ◌==◌, ◌<◌, ◌-◌, ◌^◌, if◌then◌else◌, nat_lt, ℕ, Bool, length, take, drop, Result, Ok, Err, Option, None, Some, ◌⊎◌}
+use Rattle.std.specs.Prelude.{◌≡◌, ◌==◌, ◌<◌, ◌-◌, ◌^◌, if◌then◌else◌, nat_lt, ℕ, length, take, drop, Result, Ok, Err, Option, None, Some, ◌⊎◌}
 use Rattle.sled_base.specs.Order.{Bytes}
 use Rattle.sled_base.specs.declared.types.Error.{Error}
 use Rattle.sled_pagecache.specs.State.{Token, stamp_of}

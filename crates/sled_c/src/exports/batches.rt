@@ -14,7 +14,8 @@ use std::alloc::Global;
 /// Opens a batch, of which a crash leaves all or nothing once it is sealed.
 #[unsafe(no_mangle)]
 pub extern "C" fn dilluvas_raw_pin(alloc: Global, handle: &mut Handle) -> u32
-    ensures { Through handle.old.store handle.new.store result ⊤ (λ _ g old new. Opens g old new result) }
+    ensures { Through handle.old.store handle.new.store result ⊤
+        (λ _ g old new. Opens g old new result) }
 {
     let Some(mut store) = handle.take(alloc) else {
         return CLOSED;
@@ -29,7 +30,8 @@ pub extern "C" fn dilluvas_raw_pin(alloc: Global, handle: &mut Handle) -> u32
 /// Closes the open batch: a crash leaves all of it or nothing.
 #[unsafe(no_mangle)]
 pub extern "C" fn dilluvas_raw_seal(alloc: Global, handle: &mut Handle) -> u32
-    ensures { Through handle.old.store handle.new.store result ⊤ (λ _ g old new. Closes g old new (SealsBatch g) result) }
+    ensures { Through handle.old.store handle.new.store result ⊤
+        (λ _ g old new. Closes g old new (SealsBatch g) result) }
 {
     let Some(mut store) = handle.take(alloc) else {
         return CLOSED;
@@ -44,7 +46,8 @@ pub extern "C" fn dilluvas_raw_seal(alloc: Global, handle: &mut Handle) -> u32
 /// Closes the open batch, of which a crash may leave a part. Nothing is undone.
 #[unsafe(no_mangle)]
 pub extern "C" fn dilluvas_raw_cancel(alloc: Global, handle: &mut Handle) -> u32
-    ensures { Through handle.old.store handle.new.store result ⊤ (λ _ g old new. Closes g old new (CancelsBatch g) result) }
+    ensures { Through handle.old.store handle.new.store result ⊤
+        (λ _ g old new. Closes g old new (CancelsBatch g) result) }
 {
     let Some(mut store) = handle.take(alloc) else {
         return CLOSED;

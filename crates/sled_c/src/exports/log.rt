@@ -13,7 +13,8 @@ use std::alloc::Global;
 /// Writes an id that was never given.
 #[unsafe(no_mangle)]
 pub extern "C" fn dilluvas_raw_generate_id(alloc: Global, handle: &mut Handle, id: &mut u64) -> u32
-    ensures { Through handle.old.store handle.new.store result (id.new ≡ id.old) (λ _ g old new. GivesId g old new result id.old id.new) }
+    ensures { Through handle.old.store handle.new.store result (id.new ≡ id.old)
+        (λ _ g old new. GivesId g old new result id.old id.new) }
 {
     let Some(mut store) = handle.take(alloc) else {
         return CLOSED;
@@ -28,7 +29,8 @@ pub extern "C" fn dilluvas_raw_generate_id(alloc: Global, handle: &mut Handle, i
 /// Makes all that is pending durable, and writes how many bytes that wrote.
 #[unsafe(no_mangle)]
 pub extern "C" fn dilluvas_raw_flush(alloc: Global, handle: &mut Handle, written: &mut usize) -> u32
-    ensures { Through handle.old.store handle.new.store result (written.new ≡ written.old) (λ _ g old new. MakesStable g old new result written.old written.new) }
+    ensures { Through handle.old.store handle.new.store result (written.new ≡ written.old)
+        (λ _ g old new. MakesStable g old new result written.old written.new) }
 {
     let Some(mut store) = handle.take(alloc) else {
         return CLOSED;
@@ -43,7 +45,8 @@ pub extern "C" fn dilluvas_raw_flush(alloc: Global, handle: &mut Handle, written
 /// Writes how many bytes the log has.
 #[unsafe(no_mangle)]
 pub extern "C" fn dilluvas_raw_size(alloc: Global, handle: &mut Handle, bytes: &mut u64) -> u32
-    ensures { Through handle.old.store handle.new.store result (bytes.new ≡ bytes.old) (λ _ g old new. TellsSize g old new result bytes.old bytes.new) }
+    ensures { Through handle.old.store handle.new.store result (bytes.new ≡ bytes.old)
+        (λ _ g old new. TellsSize g old new result bytes.old bytes.new) }
 {
     let Some(store) = handle.take(alloc) else {
         return CLOSED;
@@ -63,7 +66,12 @@ pub extern "C" fn dilluvas_raw_amp(
     log: &mut u64,
     pages: &mut u64,
 ) -> u32
-    ensures { Through handle.old.store handle.new.store result ((log.new ≡ log.old) × (pages.new ≡ pages.old)) (λ _ g old new. TellsAmplification g old new result (log.old, pages.old) (log.new, pages.new)) }
+    ensures { Through handle.old.store handle.new.store result
+        ((log.new ≡ log.old) × (pages.new ≡ pages.old))
+        (λ _ g old new. TellsAmplification g old new result (log.old, pages.old) (
+          log.new,
+          pages.new,
+        )) }
 {
     let Some(mut store) = handle.take(alloc) else {
         return CLOSED;
@@ -78,7 +86,8 @@ pub extern "C" fn dilluvas_raw_amp(
 /// Moves the page that is due, and writes whether there was one.
 #[unsafe(no_mangle)]
 pub extern "C" fn dilluvas_raw_gc(alloc: Global, handle: &mut Handle, moved: &mut bool) -> u32
-    ensures { Through handle.old.store handle.new.store result (moved.new ≡ moved.old) (λ _ g old new. MovesDue g old new result moved.old moved.new) }
+    ensures { Through handle.old.store handle.new.store result (moved.new ≡ moved.old)
+        (λ _ g old new. MovesDue g old new result moved.old moved.new) }
 {
     let Some(mut store) = handle.take(alloc) else {
         return CLOSED;
@@ -97,7 +106,8 @@ pub extern "C" fn dilluvas_raw_was_recovered(
     handle: &mut Handle,
     recovered: &mut bool,
 ) -> u32
-    ensures { Through handle.old.store handle.new.store result (recovered.new ≡ recovered.old) (λ _ g old new. TellsRecovered g old new result recovered.new) }
+    ensures { Through handle.old.store handle.new.store result (recovered.new ≡ recovered.old)
+        (λ _ g old new. TellsRecovered g old new result recovered.new) }
 {
     let Some(store) = handle.take(alloc) else {
         return CLOSED;

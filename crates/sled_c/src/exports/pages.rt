@@ -73,7 +73,10 @@ pub extern "C" fn dilluvas_raw_value(
     buffer: &mut [u8],
     needed: &mut usize,
 ) -> u32
-    ensures { Through handle.old.store handle.new.store result (written stamp.new needed.new buffer.new ≡ written stamp.old needed.old buffer.old) (λ _ g old new. GetsValue g old new page key.now result (written stamp.old needed.old buffer.old) (written stamp.new needed.new buffer.new)) }
+    ensures { Through handle.old.store handle.new.store result
+        (written stamp.new needed.new buffer.new ≡ written stamp.old needed.old buffer.old)
+        (λ _ g old new. GetsValue g old new page key.now result (written stamp.old needed.old
+        buffer.old) (written stamp.new needed.new buffer.new)) }
 {
     let Some(mut store) = handle.take(alloc) else {
         return CLOSED;
@@ -95,7 +98,9 @@ pub extern "C" fn dilluvas_raw_set(
     key: &[u8],
     value: &[u8],
 ) -> u32
-    ensures { Through handle.old.store handle.new.store result (stamp.new ≡ stamp.old) (λ _ g old new. MakesLink g old new page (Set key.now value.now) result stamp.old stamp.new) }
+    ensures { Through handle.old.store handle.new.store result (stamp.new ≡ stamp.old)
+        (λ _ g old new. MakesLink g old new page (Set key.now value.now) result stamp.old
+        stamp.new) }
 {
     let Some(mut store) = handle.take(alloc) else {
         return CLOSED;
@@ -116,7 +121,8 @@ pub extern "C" fn dilluvas_raw_del(
     stamp: &mut u64,
     key: &[u8],
 ) -> u32
-    ensures { Through handle.old.store handle.new.store result (stamp.new ≡ stamp.old) (λ _ g old new. MakesLink g old new page (Del key.now) result stamp.old stamp.new) }
+    ensures { Through handle.old.store handle.new.store result (stamp.new ≡ stamp.old)
+        (λ _ g old new. MakesLink g old new page (Del key.now) result stamp.old stamp.new) }
 {
     let Some(mut store) = handle.take(alloc) else {
         return CLOSED;
@@ -158,7 +164,8 @@ pub extern "C" fn dilluvas_raw_free(
     page: u64,
     stamp: &mut u64,
 ) -> u32
-    ensures { Through handle.old.store handle.new.store result (stamp.new ≡ stamp.old) (λ _ g old new. FreesPage g old new page result stamp.old stamp.new) }
+    ensures { Through handle.old.store handle.new.store result (stamp.new ≡ stamp.old)
+        (λ _ g old new. FreesPage g old new page result stamp.old stamp.new) }
 {
     let Some(mut store) = handle.take(alloc) else {
         return CLOSED;

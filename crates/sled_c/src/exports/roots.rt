@@ -18,7 +18,8 @@ pub extern "C" fn dilluvas_raw_root(
     name: &[u8],
     page: &mut u64,
 ) -> u32
-    ensures { Through handle.old.store handle.new.store result (page.new ≡ page.old) (λ _ g old new. FindsRoot g old new name.now result page.old page.new) }
+    ensures { Through handle.old.store handle.new.store result (page.new ≡ page.old)
+        (λ _ g old new. FindsRoot g old new name.now result page.old page.new) }
 {
     let Some(store) = handle.take(alloc) else {
         return CLOSED;
@@ -39,7 +40,8 @@ pub extern "C" fn dilluvas_raw_cas_root(
     root: &mut u64,
     next: u64,
 ) -> u32
-    ensures { Through handle.old.store handle.new.store result (root.new ≡ root.old) (λ _ g old new. SwapsRoot g old new name.now next result root.old root.new) }
+    ensures { Through handle.old.store handle.new.store result (root.new ≡ root.old)
+        (λ _ g old new. SwapsRoot g old new name.now next result root.old root.new) }
 {
     let Some(mut store) = handle.take(alloc) else {
         return CLOSED;
@@ -59,7 +61,8 @@ pub extern "C" fn dilluvas_raw_open_tree(
     name: &[u8],
     page: &mut u64,
 ) -> u32
-    ensures { Through handle.old.store handle.new.store result (page.new ≡ page.old) (λ _ g old new. OpensTree g old new name.now result page.old page.new) }
+    ensures { Through handle.old.store handle.new.store result (page.new ≡ page.old)
+        (λ _ g old new. OpensTree g old new name.now result page.old page.new) }
 {
     let Some(mut store) = handle.take(alloc) else {
         return CLOSED;

@@ -1,5 +1,4 @@
 -- The log is empty, so the cache has no page but its own, which were missing.
-use Rattle.std.proofs.Common.{refl, sym, ◌∙◌}
 use Rattle.sled_pagecache.specs.Opening.{fault_of}
 use Rattle.sled_c.specs.Openings.{config_of}
 use Rattle.sled_c.proofs.Opened.{nothing, holds_nothing, own_are_missing, faultless}

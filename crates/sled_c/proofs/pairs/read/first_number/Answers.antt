@@ -1,5 +1,5 @@
 -- The four bytes in front are those of the number.
-use Rattle.std.proofs.Common.{rules, ℕ, ◌<◌, ◌++◌, get_or, take, drop, take-append-drop, sym, ap, subst, ◌∙◌}
+use Rattle.std.proofs.Common.{rules, ℕ, ◌<◌, ◌++◌, get_or, drop, take-append-drop, sym, ap, subst, ◌∙◌}
 use Rattle.std.specs.Int.{w32, to_le_bytes}
 use Rattle.std.proofs.lemmas.Nat.{le_bytes_4}
 use Rattle.sled_c.proofs.PairBytes.{front_fits}

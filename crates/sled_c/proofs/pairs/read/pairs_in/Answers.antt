@@ -1,5 +1,5 @@
 -- Each turn reads the first pair of what is left.
-use Rattle.std.proofs.Common.{◌++◌, [], ◌∷◌, append_assoc, append-nil, refl, length, ap, subst, arith}
+use Rattle.std.proofs.Common.{[], ◌∷◌, append_assoc, append-nil, length, ap, subst, arith}
 use Rattle.std.proofs.lemmas.List.{length-append}
 use Rattle.sled_c.specs.Pairs.{EncodePairs, pair_bytes}
 use Rattle.sled_c.proofs.PairBytes.{is_empty, is_some, no_pairs, one_more, one_less}

@@ -1,5 +1,5 @@
 -- The parts stand one behind the other.
-use Rattle.std.proofs.Common.{rules, arith}
+use Rattle.std.proofs.Common.{rules}
 use Rattle.sled_c.proofs.NodeBytes.{pair_put}
 use Rattle.sled_c.proofs.pairs.write.put_pair.Goals as goal
 
