@@ -1,6 +1,6 @@
 #!/bin/sh
-# Builds the library (build.sh) and runs the programs that call it, those in C under valgrind too where it is there. The status is 0 where
-# all pass.
+# Builds the library (build.sh) and runs the programs that call it: those in C, under valgrind too where it is there, and the tests of the
+# crate and of the module, where there is a cargo and a python3. The status is 0 where all pass.
 set -eu
 
 here=$(CDPATH='' cd -- "$(dirname -- "$0")" && pwd)
@@ -19,7 +19,18 @@ compile calls
 compile no_memory -Wl,--wrap=malloc,--wrap=realloc,--wrap=free
 "$out/no_memory"
 if command -v valgrind >/dev/null; then
-    valgrind -q --error-exitcode=1 --leak-check=full --show-leak-kinds=all "$out/calls"
-    valgrind -q --error-exitcode=1 --leak-check=full --show-leak-kinds=all "$out/no_memory"
+    for program in calls no_memory; do
+        valgrind -q --error-exitcode=1 --leak-check=full --show-leak-kinds=all "$out/$program" >/dev/null
+    done
+    echo 'valgrind: passed'
 fi
 echo 'C: passed'
+
+if command -v cargo >/dev/null; then
+    (cd "$here/rust" && DILLUVAS_LIB_DIR=$out CARGO_TARGET_DIR=$out/target cargo test --offline -q)
+    echo 'Rust: passed'
+fi
+if command -v python3 >/dev/null; then
+    DILLUVAS_SO=$out/libdilluvas.so PYTHONDONTWRITEBYTECODE=1 python3 "$here/python/calls.py"
+    echo 'Python: passed'
+fi

@@ -1,0 +1,107 @@
+//! Why a call was refused.
+
+use crate::sys;
+use std::fmt;
+
+/// Why a call was refused. It has changed nothing, but for the pages that [`Cache::open_tree`](crate::Cache::open_tree) had made.
+#[derive(Clone, Copy, Debug, PartialEq, Eq)]
+#[non_exhaustive]
+pub enum Error {
+    /// The pairs don't ascend, or a leaf can't hold them.
+    Arguments,
+    /// No batch is open.
+    NoBatch,
+    /// The page is an index, which has no values.
+    Index,
+    /// An allocation failed.
+    OutOfMemory,
+    /// A read failed.
+    Read,
+    /// A write failed, in this call or in an earlier one.
+    Write,
+    /// The messages of the page make no node.
+    Corruption,
+    /// The page is the cache's own.
+    ReservedId,
+    /// The capacity of the cache is below 256.
+    CapacityTooSmall,
+    /// The interval of ids is 0.
+    IntervalZero,
+    /// The size of a segment is 0.
+    SegmentZero,
+    /// No page is free, and there are 2^37 of them.
+    PagesUsedUp,
+    /// No id is left below 2^64.
+    IdsUsedUp,
+    /// The stamp of the page is the greatest.
+    StampUsedUp,
+    /// A batch is open: it takes no flush, no second pin, and no id that needs a new counter.
+    BatchOpen,
+    /// There are 2^24 other names.
+    TooManyNames,
+    /// The name has 2^31 bytes or more.
+    NameTooLong,
+    /// The log has no room for the message.
+    LogFull,
+    /// The node doesn't accept the link: it is an index, the key is out of its range, or the leaf is full.
+    LinkRefused,
+    /// A status that an open cache doesn't answer, by its number.
+    Unknown(u32),
+}
+
+// The numbers of the statuses that tell them.
+const STATUSES: [(u32, Error); 19] = [
+    (7, Error::Arguments),
+    (8, Error::NoBatch),
+    (9, Error::Index),
+    (16, Error::OutOfMemory),
+    (17, Error::Read),
+    (18, Error::Write),
+    (19, Error::Corruption),
+    (101, Error::ReservedId),
+    (102, Error::CapacityTooSmall),
+    (103, Error::IntervalZero),
+    (104, Error::SegmentZero),
+    (105, Error::PagesUsedUp),
+    (106, Error::IdsUsedUp),
+    (107, Error::StampUsedUp),
+    (108, Error::BatchOpen),
+    (109, Error::TooManyNames),
+    (110, Error::NameTooLong),
+    (111, Error::LogFull),
+    (203, Error::LinkRefused),
+];
+
+impl Error {
+    pub(crate) fn of(status: u32) -> Error {
+        let row = STATUSES.iter().find(|(number, _)| *number == status);
+        row.map_or(Error::Unknown(status), |(_, error)| *error)
+    }
+
+    /// The number of the status that tells it, as `dilluvas.h` has it.
+    pub fn status(self) -> u32 {
+        if let Error::Unknown(status) = self {
+            return status;
+        }
+        let row = STATUSES.iter().find(|(_, error)| *error == self);
+        row.map_or(0, |(number, _)| *number)
+    }
+}
+
+impl fmt::Display for Error {
+    fn fmt(&self, f: &mut fmt::Formatter<'_>) -> fmt::Result {
+        let mut text = [0; 128];
+        let mut needed = 0;
+        let status = unsafe {
+            sys::dilluvas_raw_text(self.status(), text.as_mut_ptr(), text.len(), &mut needed)
+        };
+        let text = if status == sys::OK {
+            &text[..needed]
+        } else {
+            &[]
+        };
+        f.write_str(&String::from_utf8_lossy(text))
+    }
+}
+
+impl std::error::Error for Error {}
