@@ -1,5 +1,5 @@
 -- How pairs cross: of each the lengths of the key and of the value, in four bytes each, the lowest first, and then the key and the value.
-use Rattle.std.specs.Prelude.{◌≡◌, ◌<◌, ◌+◌, ◌^◌, ◌++◌, ℕ, List, length, map, take, drop}
+use Rattle.std.specs.Prelude.{◌≡◌, ◌<◌, ◌+◌, ◌^◌, ◌++◌, ℕ, false, List, length, map, take, drop}
 use Rattle.std.specs.Int.{w32, w64, to_le_bytes}
 use Rattle.std.specs.List.{AllByRecursion, flat_map}
 use Rattle.sled_base.specs.Order.{Bytes}
@@ -35,6 +35,10 @@ item_bytes pair = pair_bytes (pair.0, value_of pair.1)
 -- the pairs of a node
 abbrev pub node_bytes : WholeNode → Bytes
 node_bytes node = flat_map item_bytes node.pairs
+
+-- What is written of a leaf is read as a leaf over all keys of the same pairs.
+abbrev pub IsReadAgain : WholeNode → Type 0
+IsReadAgain node = node.is_index ≡ false → EncodeLeaf (node_bytes node) (leaf_of node.pairs)
 
 -- the bytes stand at that place, and all else is as it was
 abbrev pub IsPut : Bytes → ℕ → Bytes → Bytes → Type 0

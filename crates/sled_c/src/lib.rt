@@ -11,12 +11,14 @@
 //! - `calls`: what each call does with a cache, over any log
 //! - `output`: bytes that are written for the program
 //! - `pairs`: the pairs of a node as bytes
+//! - `laws`: that what is written of a leaf is read again
 //! - `exports`: the functions that C calls, each of which takes the store out of a handle and puts it back
 #![tactic(auto)]
 
 mod calls;
 mod exports;
 mod handle;
+mod laws;
 mod loose;
 mod output;
 mod pairs;
