@@ -1,5 +1,5 @@
 -- Which step of the cache a call makes, over any log, and what its status tells of it.
-use Rattle.std.specs.Prelude.{◌≡◌, ℕ, Bool, false, [], Result, IfErr, OnOk, ◌⊎◌}
+use Rattle.std.specs.Prelude.{◌≡◌, ℕ, Bool, false, [], Result, IfOk, IfErr, OnOk, ◌⊎◌}
 use Rattle.sled_base.specs.Order.{Bytes}
 use Rattle.sled_base.specs.declared.types.Error.{Error}
 use Rattle.sled_log.specs.declared.log.Log.{Ghosts}
@@ -70,7 +70,8 @@ module _ {L : Type 0} (g : Ghosts L) (old new : Cache L) where
   -- all is made stable, and it is told how many bytes that wrote
   abbrev pub MakesStable : ℕ → ℕ → ℕ → Type 0
   MakesStable status before after =
-      (answer : Result ℕ Error) × Makes calls.Flush answers.Flushed answer × OnOk answer ((g.state new.log).pending ≡ []) × Tells answer status before after
+      (answer : Result ℕ Error) × Makes calls.Flush answers.Flushed answer × OnOk answer ((g.state new.log).pending ≡ []) × IfOk answer (λ bytes. bytes ≡ g.to_write old.log)
+      × Tells answer status before after
 
   -- the root of a name is looked up
   abbrev pub FindsRoot : Bytes → ℕ → ℕ → ℕ → Type 0
@@ -91,12 +92,12 @@ module _ {L : Type 0} (g : Ghosts L) (old new : Cache L) where
   -- the size of the log is told
   abbrev pub TellsSize : ℕ → ℕ → ℕ → Type 0
   TellsSize status before after =
-      (new ≡ old) × ((answer : Result ℕ Error) × Steps g old calls.SizeOnDisk (answers.Sized answer) new × Tells answer status before after)
+      (new ≡ old) × ((answer : Result ℕ Error) × Steps g old calls.SizeOnDisk (answers.Sized answer) new × IfOk answer (λ size. size ≡ g.bytes old.log) × Tells answer status before after)
 
   -- the size of the log is told, and that of the pages
   abbrev pub TellsAmplification : ℕ → ℕ × ℕ → ℕ × ℕ → Type 0
   TellsAmplification status before after =
-      (answer : Result (ℕ × ℕ) Error) × Makes calls.SpaceAmplification answers.Amplified answer × TellsSizes answer status before after
+      (answer : Result (ℕ × ℕ) Error) × Makes calls.SpaceAmplification answers.Amplified answer × IfOk answer (λ sizes. sizes.0 ≡ g.bytes old.log) × TellsSizes answer status before after
 
   -- the page that is due is moved, and it is told whether there was one
   abbrev pub MovesDue : ℕ → Bool → Bool → Type 0
