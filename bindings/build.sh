@@ -1,6 +1,6 @@
 #!/bin/sh
 # Makes one folder of what a program that calls the cache needs: libdilluvas.a, libdilluvas.so and dilluvas.h. It takes the proved library
-# as `rt lib` left it in crates/sled_c, and makes that first where it isn't there.
+# as `rt lib` left it in crates/sled_c, and makes that first where it isn't there, or is older than a source.
 #
 #     bindings/build.sh [FOLDER]
 #
@@ -11,7 +11,9 @@ top=$(CDPATH='' cd -- "$(dirname -- "$0")/.." && pwd)
 mkdir -p "${1:-$top/bindings/out}"
 folder=$(CDPATH='' cd -- "${1:-$top/bindings/out}" && pwd)
 archive=$top/crates/sled_c/out/libsled_c.a
-[ -f "$archive" ] || (cd "$top/crates/sled_c" && rt lib)
+if [ ! -f "$archive" ] || [ -n "$(find "$top"/crates/*/src -name '*.rt' -newer "$archive" | head -n 1)" ]; then
+    (cd "$top/crates/sled_c" && rt lib)
+fi
 
 # What calls the heap is the kit's, one object.
 kit=$(dirname "$(dirname "$(readlink -f "$(command -v rt)")")")

@@ -1,8 +1,9 @@
-pub mod Found
-pub mod Handles
+-- In reading order.
 pub mod Numbers
-pub mod Openings
-pub mod Pairs
 pub mod Statuses
-pub mod Steps
+pub mod Pairs
+pub mod Found
 pub mod Values
+pub mod Steps
+pub mod Handles
+pub mod Openings
