@@ -7,3 +7,4 @@ pub mod Values
 pub mod Steps
 pub mod Handles
 pub mod Openings
+pub mod Files

@@ -35,6 +35,9 @@ no_batch = 8
 abbrev pub index : ℕ
 index = 9
 
+abbrev pub not_over_file : ℕ
+not_over_file = 10
+
 abbrev pub memory : ℕ
 memory = 16
 
@@ -46,6 +49,9 @@ write = 18
 
 abbrev pub corruption : ℕ
 corruption = 19
+
+abbrev pub needs : ℕ
+needs = 20
 
 -- behind this stands the number of the reason, and behind that the number of the bug
 abbrev pub unsupported : ℕ

@@ -30,6 +30,7 @@ pub record IsNew (config : Config) (cache : Cache MemLog) : Type 0 where
 
 abbrev pub IsNewStore : Settings → Store → Type 0
 IsNewStore settings (Memory cache) = IsNew (config_of settings) cache
+IsNewStore settings store = ⊥
 
 -- What is wrong with the settings is told, and else what kept the cache from being opened over an empty log.
 pub record TellsWhy (settings : Settings) (status : ℕ) : Type 0 where

@@ -1,7 +1,9 @@
 //! What a program keeps of a store: a pointer to it, while it is open.
 
 ghost use Rattle.std.specs.Prelude.{◌≡◌, Option, None, Some};
+ghost use Rattle.std.specs.Coded.{coded_option};
 ghost use Rattle.std.specs.Option.{option_map};
+ghost use Rattle.sled_c.specs.contracts.store.Store.{the_row};
 ghost use Rattle.sled_c.specs.declared.store.Store.{Store};
 
 use crate::loose::Loose;
@@ -18,7 +20,7 @@ use std::{mem, ptr};
 pub struct Handle {
     at: *mut u8,
     is_open: bool,
-    pub ghost store: { Option Store },
+    pub ghost store: { Option Store } by { coded_option the_row.coded },
 }
 
 impl Model for Handle {

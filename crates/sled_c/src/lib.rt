@@ -7,8 +7,10 @@
 //!
 //! - `status`: the numbers that calls answer, and their texts
 //! - `store`: what lies behind a handle
+//! - `opening`: opening a cache over a file, of which the program hands in the bytes
 //! - `handle`, `loose`: what a program keeps of a store, and a box as its pointer
 //! - `calls`: what each call does with a cache, over any log
+//! - `file`: what a call over a file is answered
 //! - `output`: bytes that are written for the program
 //! - `pairs`: the pairs of a node as bytes
 //! - `laws`: that what is written of a leaf is read again
@@ -17,9 +19,11 @@
 
 mod calls;
 mod exports;
+mod file;
 mod handle;
 mod laws;
 mod loose;
+mod opening;
 mod output;
 mod pairs;
 mod status;

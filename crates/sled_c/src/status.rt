@@ -38,6 +38,9 @@ pub const NO_BATCH: u32 = 8;
 /// The page is an index, whose pairs have no values. Nothing changed.
 pub const INDEX: u32 = 9;
 
+/// The call isn't made over a file, which is read and written by the program: it would move pages, or measure them all. Nothing changed.
+pub const NOT_OVER_FILE: u32 = 10;
+
 /// An allocation failed. Nothing changed, but for the pages that `dilluvas_open_tree` had made; the call may be made again.
 pub const MEMORY: u32 = 16;
 
@@ -49,6 +52,18 @@ pub const WRITE: u32 = 18;
 
 /// The log holds what no cache wrote: the messages of the page make no node. Nothing changed.
 pub const CORRUPTION: u32 = 19;
+
+/// Bytes of the file are needed. Nothing changed: the program hands them in, and makes the call again.
+pub const NEEDS: u32 = 20;
+
+/// It is no file that has bytes to be read and written, as a folder. The library doesn't answer so, but what reads and writes a file for it.
+pub const NO_FILE: u32 = 32;
+
+/// The file may not be read and written, or can't be made. As above.
+pub const NO_ACCESS: u32 = 33;
+
+/// Another process has the file open. As above.
+pub const HELD: u32 = 34;
 
 /// The page is the cache's own.
 pub const RESERVED_ID: u32 = 101;
@@ -138,10 +153,15 @@ pub fn text_of(status: u32) -> &'static str {
         ARGUMENTS => "the bytes encode no ascending pairs that a leaf can hold",
         NO_BATCH => "no batch is open",
         INDEX => "the page is an index",
+        NOT_OVER_FILE => "the call is not made over a file",
         MEMORY => "an allocation failed",
         READ => "a read failed",
         WRITE => "a write failed",
         CORRUPTION => "the messages of the page make no node",
+        NEEDS => "bytes of the file are needed",
+        NO_FILE => "it is a folder, or another thing that is no file",
+        NO_ACCESS => "the file may not be read and written",
+        HELD => "another process has the file open",
         RESERVED_ID => "the page is the cache's own",
         CAPACITY_TOO_SMALL => "the capacity of the cache is below 256",
         INTERVAL_ZERO => "the interval of ids is 0",

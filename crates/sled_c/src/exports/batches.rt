@@ -6,22 +6,31 @@ ghost use Rattle.sled_pagecache.specs.Batches.{SealsBatch, CancelsBatch};
 ghost use Rattle.sled_c.specs.Steps.{Opens, Closes};
 
 use crate::calls::batches as calls;
+use crate::file::{has_failed, told};
 use crate::handle::Handle;
-use crate::status::CLOSED;
+use crate::opening::FileLog;
+use crate::status::{CLOSED, WRITE};
 use crate::store::Store;
+use sled_pagecache::Log;
 use std::alloc::Global;
 
 /// Opens a batch, of which a crash leaves all or nothing once it is sealed.
 #[unsafe(no_mangle)]
 pub extern "C" fn dilluvas_raw_pin(alloc: Global, handle: &mut Handle) -> u32
-    ensures { Through handle.old.store handle.new.store result ⊤
-        (λ _ g old new. Opens g old new result) }
+    ensures { Through ⟦<FileLog as Log>⟧ handle.old.store handle.new.store result ⊤
+        (λ _ g old new status. Opens g old new status) }
 {
     let Some(mut store) = handle.take(alloc) else {
         return CLOSED;
     };
     let status = match &mut *store {
         Store::Memory(cache) => calls::pin(cache),
+        Store::File(cache) if has_failed(cache) => WRITE,
+        Store::File(cache) => {
+            let status = calls::pin(cache);
+            told(cache, status)
+        }
+        Store::Begun(_) => CLOSED,
     };
     handle.put(alloc, store);
     status
@@ -30,14 +39,20 @@ pub extern "C" fn dilluvas_raw_pin(alloc: Global, handle: &mut Handle) -> u32
 /// Closes the open batch: a crash leaves all of it or nothing.
 #[unsafe(no_mangle)]
 pub extern "C" fn dilluvas_raw_seal(alloc: Global, handle: &mut Handle) -> u32
-    ensures { Through handle.old.store handle.new.store result ⊤
-        (λ _ g old new. Closes g old new (SealsBatch g) result) }
+    ensures { Through ⟦<FileLog as Log>⟧ handle.old.store handle.new.store result ⊤
+        (λ _ g old new status. Closes g old new (SealsBatch g) status) }
 {
     let Some(mut store) = handle.take(alloc) else {
         return CLOSED;
     };
     let status = match &mut *store {
         Store::Memory(cache) => calls::seal(cache),
+        Store::File(cache) if has_failed(cache) => WRITE,
+        Store::File(cache) => {
+            let status = calls::seal(cache);
+            told(cache, status)
+        }
+        Store::Begun(_) => CLOSED,
     };
     handle.put(alloc, store);
     status
@@ -46,14 +61,20 @@ pub extern "C" fn dilluvas_raw_seal(alloc: Global, handle: &mut Handle) -> u32
 /// Closes the open batch, of which a crash may leave a part. Nothing is undone.
 #[unsafe(no_mangle)]
 pub extern "C" fn dilluvas_raw_cancel(alloc: Global, handle: &mut Handle) -> u32
-    ensures { Through handle.old.store handle.new.store result ⊤
-        (λ _ g old new. Closes g old new (CancelsBatch g) result) }
+    ensures { Through ⟦<FileLog as Log>⟧ handle.old.store handle.new.store result ⊤
+        (λ _ g old new status. Closes g old new (CancelsBatch g) status) }
 {
     let Some(mut store) = handle.take(alloc) else {
         return CLOSED;
     };
     let status = match &mut *store {
         Store::Memory(cache) => calls::cancel(cache),
+        Store::File(cache) if has_failed(cache) => WRITE,
+        Store::File(cache) => {
+            let status = calls::cancel(cache);
+            told(cache, status)
+        }
+        Store::Begun(_) => CLOSED,
     };
     handle.put(alloc, store);
     status

@@ -1,26 +1,35 @@
 //! Generated ids, and what is asked of the whole log.
 
 ghost use Rattle.std.specs.Prelude.{◌≡◌};
-ghost use Rattle.sled_c.specs.Handles.{Through};
+ghost use Rattle.sled_c.specs.Handles.{Through, ThroughMemory};
 ghost use Rattle.sled_c.specs.Steps.{GivesId, MakesStable, MovesDue, TellsAmplification, TellsRecovered, TellsSize};
 
 use crate::calls::log as calls;
+use crate::file::{has_failed, told};
 use crate::handle::Handle;
-use crate::status::CLOSED;
+use crate::opening::FileLog;
+use crate::status::{CLOSED, NOT_OVER_FILE, WRITE};
 use crate::store::Store;
+use sled_pagecache::{Log, MemLog};
 use std::alloc::Global;
 
 /// Writes an id that was never given.
 #[unsafe(no_mangle)]
 pub extern "C" fn dilluvas_raw_generate_id(alloc: Global, handle: &mut Handle, id: &mut u64) -> u32
-    ensures { Through handle.old.store handle.new.store result (id.new ≡ id.old)
-        (λ _ g old new. GivesId g old new result id.old id.new) }
+    ensures { Through ⟦<FileLog as Log>⟧ handle.old.store handle.new.store result (id.new ≡ id.old)
+        (λ _ g old new status. GivesId g old new status id.old id.new) }
 {
     let Some(mut store) = handle.take(alloc) else {
         return CLOSED;
     };
     let status = match &mut *store {
         Store::Memory(cache) => calls::generate_id(cache, id),
+        Store::File(cache) if has_failed(cache) => WRITE,
+        Store::File(cache) => {
+            let status = calls::generate_id(cache, id);
+            told(cache, status)
+        }
+        Store::Begun(_) => CLOSED,
     };
     handle.put(alloc, store);
     status
@@ -29,14 +38,20 @@ pub extern "C" fn dilluvas_raw_generate_id(alloc: Global, handle: &mut Handle, i
 /// Makes all that is pending durable, and writes how many bytes that wrote.
 #[unsafe(no_mangle)]
 pub extern "C" fn dilluvas_raw_flush(alloc: Global, handle: &mut Handle, written: &mut usize) -> u32
-    ensures { Through handle.old.store handle.new.store result (written.new ≡ written.old)
-        (λ _ g old new. MakesStable g old new result written.old written.new) }
+    ensures { Through ⟦<FileLog as Log>⟧ handle.old.store handle.new.store result (written.new ≡ written.old)
+        (λ _ g old new status. MakesStable g old new status written.old written.new) }
 {
     let Some(mut store) = handle.take(alloc) else {
         return CLOSED;
     };
     let status = match &mut *store {
         Store::Memory(cache) => calls::flush(cache, written),
+        Store::File(cache) if has_failed(cache) => WRITE,
+        Store::File(cache) => {
+            let status = calls::flush(cache, written);
+            told(cache, status)
+        }
+        Store::Begun(_) => CLOSED,
     };
     handle.put(alloc, store);
     status
@@ -45,14 +60,20 @@ pub extern "C" fn dilluvas_raw_flush(alloc: Global, handle: &mut Handle, written
 /// Writes how many bytes the log has.
 #[unsafe(no_mangle)]
 pub extern "C" fn dilluvas_raw_size(alloc: Global, handle: &mut Handle, bytes: &mut u64) -> u32
-    ensures { Through handle.old.store handle.new.store result (bytes.new ≡ bytes.old)
-        (λ _ g old new. TellsSize g old new result bytes.old bytes.new) }
+    ensures { Through ⟦<FileLog as Log>⟧ handle.old.store handle.new.store result (bytes.new ≡ bytes.old)
+        (λ _ g old new status. TellsSize g old new status bytes.old bytes.new) }
 {
     let Some(store) = handle.take(alloc) else {
         return CLOSED;
     };
     let status = match &*store {
         Store::Memory(cache) => calls::size(cache, bytes),
+        Store::File(cache) if has_failed(cache) => WRITE,
+        Store::File(cache) => {
+            let status = calls::size(cache, bytes);
+            told(cache, status)
+        }
+        Store::Begun(_) => CLOSED,
     };
     handle.put(alloc, store);
     status
@@ -66,9 +87,9 @@ pub extern "C" fn dilluvas_raw_amp(
     log: &mut u64,
     pages: &mut u64,
 ) -> u32
-    ensures { Through handle.old.store handle.new.store result
+    ensures { ThroughMemory handle.old.store handle.new.store result
         ((log.new ≡ log.old) × (pages.new ≡ pages.old))
-        (λ _ g old new. TellsAmplification g old new result (log.old, pages.old) (
+        (λ old new status. TellsAmplification ⟦<MemLog as Log>⟧ old new status (log.old, pages.old) (
           log.new,
           pages.new,
         )) }
@@ -78,6 +99,9 @@ pub extern "C" fn dilluvas_raw_amp(
     };
     let status = match &mut *store {
         Store::Memory(cache) => calls::amplification(cache, log, pages),
+        Store::File(cache) if has_failed(cache) => WRITE,
+        Store::File(_) => NOT_OVER_FILE,
+        Store::Begun(_) => CLOSED,
     };
     handle.put(alloc, store);
     status
@@ -86,14 +110,17 @@ pub extern "C" fn dilluvas_raw_amp(
 /// Moves the page that is due, and writes whether there was one.
 #[unsafe(no_mangle)]
 pub extern "C" fn dilluvas_raw_gc(alloc: Global, handle: &mut Handle, moved: &mut bool) -> u32
-    ensures { Through handle.old.store handle.new.store result (moved.new ≡ moved.old)
-        (λ _ g old new. MovesDue g old new result moved.old moved.new) }
+    ensures { ThroughMemory handle.old.store handle.new.store result (moved.new ≡ moved.old)
+        (λ old new status. MovesDue ⟦<MemLog as Log>⟧ old new status moved.old moved.new) }
 {
     let Some(mut store) = handle.take(alloc) else {
         return CLOSED;
     };
     let status = match &mut *store {
         Store::Memory(cache) => calls::attempt_gc(cache, moved),
+        Store::File(cache) if has_failed(cache) => WRITE,
+        Store::File(_) => NOT_OVER_FILE,
+        Store::Begun(_) => CLOSED,
     };
     handle.put(alloc, store);
     status
@@ -106,14 +133,20 @@ pub extern "C" fn dilluvas_raw_was_recovered(
     handle: &mut Handle,
     recovered: &mut bool,
 ) -> u32
-    ensures { Through handle.old.store handle.new.store result (recovered.new ≡ recovered.old)
-        (λ _ g old new. TellsRecovered g old new result recovered.new) }
+    ensures { Through ⟦<FileLog as Log>⟧ handle.old.store handle.new.store result (recovered.new ≡ recovered.old)
+        (λ _ g old new status. TellsRecovered g old new status recovered.new) }
 {
     let Some(store) = handle.take(alloc) else {
         return CLOSED;
     };
     let status = match &*store {
         Store::Memory(cache) => calls::was_recovered(cache, recovered),
+        Store::File(cache) if has_failed(cache) => WRITE,
+        Store::File(cache) => {
+            let status = calls::was_recovered(cache, recovered);
+            told(cache, status)
+        }
+        Store::Begun(_) => CLOSED,
     };
     handle.put(alloc, store);
     status

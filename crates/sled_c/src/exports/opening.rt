@@ -93,9 +93,9 @@ pub extern "C" fn dilluvas_raw_close(alloc: Global, handle: &mut Handle) -> u32
     let Some(mut store) = handle.take(alloc) else {
         return CLOSED;
     };
-    match &mut *store {
-        Store::Memory(cache) => batches::cancel(cache),
-    };
+    if let Store::Memory(cache) = &mut *store {
+        batches::cancel(cache);
+    }
     OK
 }
 

@@ -9,9 +9,12 @@ ghost use Rattle.sled_c.specs.Values.{GetsValue, written};
 
 use crate::calls::pages as calls;
 use crate::calls::pages::Found;
+use crate::file::{has_failed, told};
 use crate::handle::Handle;
-use crate::status::CLOSED;
+use crate::opening::FileLog;
+use crate::status::{CLOSED, WRITE};
 use crate::store::Store;
+use sled_pagecache::Log;
 use std::alloc::Global;
 
 /// Puts a leaf of the pairs on a page, and writes which page and its stamp.
@@ -23,9 +26,9 @@ pub extern "C" fn dilluvas_raw_allocate(
     page: &mut u64,
     stamp: &mut u64,
 ) -> u32
-    ensures { Through handle.old.store handle.new.store result
+    ensures { Through ⟦<FileLog as Log>⟧ handle.old.store handle.new.store result
         ((page.new ≡ page.old) × (stamp.new ≡ stamp.old))
-        (λ _ g old new. AllocatesLeaf g old new pairs.now result (page.old, stamp.old)
+        (λ _ g old new status. AllocatesLeaf g old new pairs.now status (page.old, stamp.old)
         (page.new, stamp.new)) }
 {
     let Some(mut store) = handle.take(alloc) else {
@@ -33,6 +36,12 @@ pub extern "C" fn dilluvas_raw_allocate(
     };
     let status = match &mut *store {
         Store::Memory(cache) => calls::allocate(alloc, cache, pairs, page, stamp),
+        Store::File(cache) if has_failed(cache) => WRITE,
+        Store::File(cache) => {
+            let status = calls::allocate(alloc, cache, pairs, page, stamp);
+            told(cache, status)
+        }
+        Store::Begun(_) => CLOSED,
     };
     handle.put(alloc, store);
     status
@@ -47,9 +56,9 @@ pub extern "C" fn dilluvas_raw_get(
     found: &mut Found,
     buffer: &mut [u8],
 ) -> u32
-    ensures { Through handle.old.store handle.new.store result
+    ensures { Through ⟦<FileLog as Log>⟧ handle.old.store handle.new.store result
         ((found.new ≡ found.old) × (buffer.new ≡ buffer.old))
-        (λ _ g old new. GetsPage g old new page result (found.old, buffer.old)
+        (λ _ g old new status. GetsPage g old new page status (found.old, buffer.old)
         (found.new, buffer.new)) }
 {
     let Some(mut store) = handle.take(alloc) else {
@@ -57,6 +66,12 @@ pub extern "C" fn dilluvas_raw_get(
     };
     let status = match &mut *store {
         Store::Memory(cache) => calls::get(cache, page, found, buffer),
+        Store::File(cache) if has_failed(cache) => WRITE,
+        Store::File(cache) => {
+            let status = calls::get(cache, page, found, buffer);
+            told(cache, status)
+        }
+        Store::Begun(_) => CLOSED,
     };
     handle.put(alloc, store);
     status
@@ -73,9 +88,9 @@ pub extern "C" fn dilluvas_raw_value(
     buffer: &mut [u8],
     needed: &mut usize,
 ) -> u32
-    ensures { Through handle.old.store handle.new.store result
+    ensures { Through ⟦<FileLog as Log>⟧ handle.old.store handle.new.store result
         (written stamp.new needed.new buffer.new ≡ written stamp.old needed.old buffer.old)
-        (λ _ g old new. GetsValue g old new page key.now result (written stamp.old needed.old
+        (λ _ g old new status. GetsValue g old new page key.now status (written stamp.old needed.old
         buffer.old) (written stamp.new needed.new buffer.new)) }
 {
     let Some(mut store) = handle.take(alloc) else {
@@ -83,6 +98,12 @@ pub extern "C" fn dilluvas_raw_value(
     };
     let status = match &mut *store {
         Store::Memory(cache) => calls::value(cache, page, key, stamp, buffer, needed),
+        Store::File(cache) if has_failed(cache) => WRITE,
+        Store::File(cache) => {
+            let status = calls::value(cache, page, key, stamp, buffer, needed);
+            told(cache, status)
+        }
+        Store::Begun(_) => CLOSED,
     };
     handle.put(alloc, store);
     status
@@ -98,8 +119,8 @@ pub extern "C" fn dilluvas_raw_set(
     key: &[u8],
     value: &[u8],
 ) -> u32
-    ensures { Through handle.old.store handle.new.store result (stamp.new ≡ stamp.old)
-        (λ _ g old new. MakesLink g old new page (Set key.now value.now) result stamp.old
+    ensures { Through ⟦<FileLog as Log>⟧ handle.old.store handle.new.store result (stamp.new ≡ stamp.old)
+        (λ _ g old new status. MakesLink g old new page (Set key.now value.now) status stamp.old
         stamp.new) }
 {
     let Some(mut store) = handle.take(alloc) else {
@@ -107,6 +128,12 @@ pub extern "C" fn dilluvas_raw_set(
     };
     let status = match &mut *store {
         Store::Memory(cache) => calls::set(alloc, cache, page, stamp, key, value),
+        Store::File(cache) if has_failed(cache) => WRITE,
+        Store::File(cache) => {
+            let status = calls::set(alloc, cache, page, stamp, key, value);
+            told(cache, status)
+        }
+        Store::Begun(_) => CLOSED,
     };
     handle.put(alloc, store);
     status
@@ -121,14 +148,20 @@ pub extern "C" fn dilluvas_raw_del(
     stamp: &mut u64,
     key: &[u8],
 ) -> u32
-    ensures { Through handle.old.store handle.new.store result (stamp.new ≡ stamp.old)
-        (λ _ g old new. MakesLink g old new page (Del key.now) result stamp.old stamp.new) }
+    ensures { Through ⟦<FileLog as Log>⟧ handle.old.store handle.new.store result (stamp.new ≡ stamp.old)
+        (λ _ g old new status. MakesLink g old new page (Del key.now) status stamp.old stamp.new) }
 {
     let Some(mut store) = handle.take(alloc) else {
         return CLOSED;
     };
     let status = match &mut *store {
         Store::Memory(cache) => calls::del(alloc, cache, page, stamp, key),
+        Store::File(cache) if has_failed(cache) => WRITE,
+        Store::File(cache) => {
+            let status = calls::del(alloc, cache, page, stamp, key);
+            told(cache, status)
+        }
+        Store::Begun(_) => CLOSED,
     };
     handle.put(alloc, store);
     status
@@ -143,14 +176,20 @@ pub extern "C" fn dilluvas_raw_replace(
     stamp: &mut u64,
     pairs: &[u8],
 ) -> u32
-    ensures { Through handle.old.store handle.new.store result (stamp.new ≡ stamp.old)
-        (λ _ g old new. ReplacesByLeaf g old new page pairs.now result stamp.old stamp.new) }
+    ensures { Through ⟦<FileLog as Log>⟧ handle.old.store handle.new.store result (stamp.new ≡ stamp.old)
+        (λ _ g old new status. ReplacesByLeaf g old new page pairs.now status stamp.old stamp.new) }
 {
     let Some(mut store) = handle.take(alloc) else {
         return CLOSED;
     };
     let status = match &mut *store {
         Store::Memory(cache) => calls::replace(alloc, cache, page, stamp, pairs),
+        Store::File(cache) if has_failed(cache) => WRITE,
+        Store::File(cache) => {
+            let status = calls::replace(alloc, cache, page, stamp, pairs);
+            told(cache, status)
+        }
+        Store::Begun(_) => CLOSED,
     };
     handle.put(alloc, store);
     status
@@ -164,14 +203,20 @@ pub extern "C" fn dilluvas_raw_free(
     page: u64,
     stamp: &mut u64,
 ) -> u32
-    ensures { Through handle.old.store handle.new.store result (stamp.new ≡ stamp.old)
-        (λ _ g old new. FreesPage g old new page result stamp.old stamp.new) }
+    ensures { Through ⟦<FileLog as Log>⟧ handle.old.store handle.new.store result (stamp.new ≡ stamp.old)
+        (λ _ g old new status. FreesPage g old new page status stamp.old stamp.new) }
 {
     let Some(mut store) = handle.take(alloc) else {
         return CLOSED;
     };
     let status = match &mut *store {
         Store::Memory(cache) => calls::free(cache, page, stamp),
+        Store::File(cache) if has_failed(cache) => WRITE,
+        Store::File(cache) => {
+            let status = calls::free(cache, page, stamp);
+            told(cache, status)
+        }
+        Store::Begun(_) => CLOSED,
     };
     handle.put(alloc, store);
     status

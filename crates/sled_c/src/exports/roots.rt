@@ -5,9 +5,12 @@ ghost use Rattle.sled_c.specs.Handles.{Through};
 ghost use Rattle.sled_c.specs.Steps.{FindsRoot, OpensTree, SwapsRoot};
 
 use crate::calls::roots as calls;
+use crate::file::{has_failed, told};
 use crate::handle::Handle;
-use crate::status::CLOSED;
+use crate::opening::FileLog;
+use crate::status::{CLOSED, WRITE};
 use crate::store::Store;
+use sled_pagecache::Log;
 use std::alloc::Global;
 
 /// Writes the root page of a name.
@@ -18,14 +21,20 @@ pub extern "C" fn dilluvas_raw_root(
     name: &[u8],
     page: &mut u64,
 ) -> u32
-    ensures { Through handle.old.store handle.new.store result (page.new ≡ page.old)
-        (λ _ g old new. FindsRoot g old new name.now result page.old page.new) }
+    ensures { Through ⟦<FileLog as Log>⟧ handle.old.store handle.new.store result (page.new ≡ page.old)
+        (λ _ g old new status. FindsRoot g old new name.now status page.old page.new) }
 {
     let Some(store) = handle.take(alloc) else {
         return CLOSED;
     };
     let status = match &*store {
         Store::Memory(cache) => calls::root(cache, name, page),
+        Store::File(cache) if has_failed(cache) => WRITE,
+        Store::File(cache) => {
+            let status = calls::root(cache, name, page);
+            told(cache, status)
+        }
+        Store::Begun(_) => CLOSED,
     };
     handle.put(alloc, store);
     status
@@ -40,14 +49,20 @@ pub extern "C" fn dilluvas_raw_cas_root(
     root: &mut u64,
     next: u64,
 ) -> u32
-    ensures { Through handle.old.store handle.new.store result (root.new ≡ root.old)
-        (λ _ g old new. SwapsRoot g old new name.now next result root.old root.new) }
+    ensures { Through ⟦<FileLog as Log>⟧ handle.old.store handle.new.store result (root.new ≡ root.old)
+        (λ _ g old new status. SwapsRoot g old new name.now next status root.old root.new) }
 {
     let Some(mut store) = handle.take(alloc) else {
         return CLOSED;
     };
     let status = match &mut *store {
         Store::Memory(cache) => calls::cas_root(cache, name, root, next),
+        Store::File(cache) if has_failed(cache) => WRITE,
+        Store::File(cache) => {
+            let status = calls::cas_root(cache, name, root, next);
+            told(cache, status)
+        }
+        Store::Begun(_) => CLOSED,
     };
     handle.put(alloc, store);
     status
@@ -61,14 +76,20 @@ pub extern "C" fn dilluvas_raw_open_tree(
     name: &[u8],
     page: &mut u64,
 ) -> u32
-    ensures { Through handle.old.store handle.new.store result (page.new ≡ page.old)
-        (λ _ g old new. OpensTree g old new name.now result page.old page.new) }
+    ensures { Through ⟦<FileLog as Log>⟧ handle.old.store handle.new.store result (page.new ≡ page.old)
+        (λ _ g old new status. OpensTree g old new name.now status page.old page.new) }
 {
     let Some(mut store) = handle.take(alloc) else {
         return CLOSED;
     };
     let status = match &mut *store {
         Store::Memory(cache) => calls::open_tree(alloc, cache, name, page),
+        Store::File(cache) if has_failed(cache) => WRITE,
+        Store::File(cache) => {
+            let status = calls::open_tree(alloc, cache, name, page);
+            told(cache, status)
+        }
+        Store::Begun(_) => CLOSED,
     };
     handle.put(alloc, store);
     status

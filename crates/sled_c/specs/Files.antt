@@ -1,0 +1,80 @@
+-- Opening a cache over a file, and what the program asks of the file's disk.
+use Rattle.std.specs.Prelude.{◌≡◌, ◌⊎◌, ℕ, ⊤, false, Option, None, Some}
+use Rattle.sled_base.specs.declared.types.Error.{Error}
+use Rattle.sled_disk.specs.declared.disk.staged.tasks.Task.{Task}
+use Rattle.sled_disk.specs.declared.disk.staged.tasks.Task.TheVariants.{Write, Sync}
+use Rattle.sled_pagecache.specs.Cache.{Cache}
+use Rattle.sled_pagecache.specs.Opening.{fault_of}
+use Rattle.sled_pagecache.specs.declared.pagecache.handles.config.Config.{Config}
+use Rattle.sled_c.specs.Numbers as number
+use Rattle.sled_c.specs.Numbers.{number_of_error}
+use Rattle.sled_c.specs.declared.exports.file.FileSettings.{FileSettings}
+use Rattle.sled_c.specs.declared.exports.device.FileTask.{FileTask}
+use Rattle.sled_c.specs.declared.store.Store.{Store}
+use Rattle.sled_c.specs.declared.store.Store.TheVariants.{Memory, File, Begun}
+
+-- the status is that of an error
+abbrev pub IsFailure : ℕ → Type 0
+IsFailure status = (error : Error) × (status ≡ number_of_error error)
+
+-- A cache was opened with such settings, in which nothing is wrong, and no batch is open.
+pub record IsOpened {L : Type 0} (config : Config) (cache : Cache L) : Type 0 where
+  pub faultless : fault_of config ≡ None
+  pub closed : cache.batch ≡ false
+
+abbrev pub config_of : FileSettings → Config
+config_of settings = record { cache_capacity = settings.cache_capacity; idgen_persist_interval = settings.idgen_persist_interval; segment_size = settings.segment_size }
+
+-- An opening with these settings goes on: bytes are needed, or the cache is open, or the handle is closed and it is told why.
+abbrev pub GoesOn : Config → Option Store → ℕ → Type 0
+GoesOn config (Some (Begun opening)) status = (status ≡ number.needs) × (opening.config ≡ config)
+GoesOn config (Some (File cache)) status = (status ≡ number.ok) × IsOpened config cache
+GoesOn config (Some (Memory cache)) status = ⊥
+GoesOn config None status = IsFailure status
+
+-- a store of which nothing was opened yet, with these settings
+abbrev pub IsBegun : Config → Store → Type 0
+IsBegun config (Begun opening) = opening.config ≡ config
+IsBegun config store = ⊥
+
+abbrev pub IsBeingOpened : Store → Type 0
+IsBeingOpened (Begun opening) = ⊤
+IsBeingOpened store = ⊥
+
+-- the same of a store that stays behind its handle
+abbrev pub GoesOnIn : Store → Store → ℕ → Type 0
+GoesOnIn (Begun opening) new status = GoesOn opening.config (Some new) status
+GoesOnIn old new status = (status ≡ number.already_open) × (new ≡ old)
+
+-- An opening is begun, or one that was begun goes on. An open handle stays.
+abbrev pub OpenFile : FileSettings → Option Store → Option Store → ℕ → Type 0
+OpenFile settings None new status = GoesOn (config_of settings) new status
+OpenFile settings (Some (Begun opening)) new status = GoesOn opening.config new status
+OpenFile settings (Some (Memory old)) new status = (status ≡ number.already_open) × (new ≡ Some (Memory old))
+OpenFile settings (Some (File old)) new status = (status ≡ number.already_open) × (new ≡ Some (File old))
+
+abbrev pub nothing_to_do : FileTask
+nothing_to_do = record { kind = 0; at = 0; len = 0 }
+
+-- a task as the program reads it
+abbrev pub told_task : Option Task → FileTask
+told_task None = nothing_to_do
+told_task (Some (Write at len)) = record { kind = 1; at = at; len = len }
+told_task (Some Sync) = record { kind = 2; at = 0; len = 0 }
+
+-- What is asked of a file leaves its handle as it is. A cache in memory has none, and nothing to tell of it.
+abbrev pub Asks : Option Store → Option Store → ℕ → Type 0 → Type 0 → Type 0
+Asks None new status stays nothing = (new ≡ None) × (status ≡ number.closed) × stays
+Asks (Some (Memory old)) new status stays nothing = (new ≡ Some (Memory old)) × (status ≡ number.ok) × nothing
+Asks (Some old) new status stays nothing = (new ≡ Some old) × ((status ≡ number.ok) ⊎ ((status ≡ number.write) × stays))
+
+-- The disk of the file is told something, and the handle stays as it is.
+abbrev pub Tells : Option Store → Option Store → ℕ → Type 0
+Tells None new status = (new ≡ None) × (status ≡ number.closed)
+Tells (Some old) new status = (new ≡ Some old) × (status ≡ number.ok)
+
+-- Bytes of the file are handed in, likewise: there may be no memory for them, or a write may have failed.
+abbrev pub HandsIn : Option Store → Option Store → ℕ → Type 0
+HandsIn None new status = (new ≡ None) × (status ≡ number.closed)
+HandsIn (Some (Memory old)) new status = (new ≡ Some (Memory old)) × (status ≡ number.ok)
+HandsIn (Some old) new status = (new ≡ Some old) × ((status ≡ number.ok) ⊎ (status ≡ number.memory) ⊎ (status ≡ number.write))

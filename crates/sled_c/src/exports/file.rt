@@ -1,0 +1,82 @@
+//! Opening a cache over a file.
+
+ghost use Rattle.std.specs.Prelude.{IfOk, IfErr};
+ghost use Rattle.sled_c.specs.Files.{GoesOnIn, IsBegun, IsBeingOpened, IsFailure, OpenFile, config_of};
+
+use crate::handle::Handle;
+use crate::opening::Opening;
+use crate::status::{ALREADY_OPEN, MEMORY, NEEDS, OK};
+use crate::store::Store;
+use sled_pagecache::Config;
+use std::alloc::Global;
+
+/// The settings of a cache over a file.
+#[repr(C)]
+#[derive(Clone, Copy)]
+pub struct FileSettings {
+    /// The capacity of the cache, in bytes of messages.
+    pub cache_capacity: u64,
+    /// How many ids one counter covers.
+    pub idgen_persist_interval: u64,
+    /// At so many bytes that are pending they are written.
+    pub segment_size: usize,
+}
+
+/// Opens a cache over a file of so many bytes behind a closed handle. Where bytes were needed it goes on, with what was begun.
+#[unsafe(no_mangle)]
+pub extern "C" fn dilluvas_raw_open_file(
+    alloc: Global,
+    handle: &mut Handle,
+    settings: &FileSettings,
+    len: u64,
+) -> u32
+    ensures { OpenFile settings.now handle.old.store handle.new.store result }
+{
+    let begun = match handle.take(alloc) {
+        Some(store) => Ok(store),
+        None => new_store(alloc, *settings, len),
+    };
+    let mut store = match begun {
+        Ok(store) => store,
+        Err(status) => return status,
+    };
+    match go_on(alloc, &mut store) {
+        Ok(status) => {
+            handle.put(alloc, store);
+            status
+        }
+        Err(status) => status,
+    }
+}
+
+// A store of which nothing was read.
+fn new_store(alloc: Global, settings: FileSettings, len: u64) -> Result<Box<Store>, u32>
+    ensures begun { IfOk result (λ store. IsBegun (config_of settings) store.value) }
+    ensures fails { IfErr result IsFailure }
+{
+    let config = Config {
+        cache_capacity: settings.cache_capacity,
+        idgen_persist_interval: settings.idgen_persist_interval,
+        segment_size: settings.segment_size,
+    };
+    let opening = Opening::new(alloc, config, len)?;
+    Box::new(alloc, Store::Begun(opening)).map_err(|_| MEMORY)
+}
+
+// Goes on with an opening. The handle is to be closed where it failed.
+fn go_on(alloc: Global, store: &mut Store) -> Result<u32, u32>
+    ensures goes_on { IfOk result (GoesOnIn store.old store.new) }
+    ensures fails { IfErr result IsFailure }
+    ensures begun { IfErr result (λ status. IsBeingOpened store.old) }
+{
+    let Store::Begun(opening) = store else {
+        return Ok(ALREADY_OPEN);
+    };
+    match opening.go_on(alloc)? {
+        Some(cache) => {
+            *store = Store::File(cache);
+            Ok(OK)
+        }
+        None => Ok(NEEDS),
+    }
+}

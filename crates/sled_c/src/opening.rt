@@ -1,0 +1,191 @@
+//! Opening a cache over a file, of which the program hands in the bytes.
+
+ghost use Rattle.std.specs.Prelude.{◌≡◌, None, IfOk, IfErr, IfSome};
+ghost use Rattle.sled_c.specs.Files.{IsFailure, IsOpened};
+
+use crate::status::{READ, status_of};
+use read_log::ReadLog;
+use sled_disk::{DiskLog, Reader, StagedDisk};
+use sled_log::LogError;
+use sled_pagecache::{Config, Disk, Error, PageCache};
+use std::alloc::Global;
+
+mod read_log;
+
+/// A log in a file that the program reads and writes.
+pub type FileLog = DiskLog<StagedDisk>;
+
+/// A cache over one.
+pub type FileCache = PageCache<FileLog>;
+
+/// A cache that is being opened over a file: the file is synced, then its log is read, and then the cache's own pages are.
+///
+/// Where bytes are needed the call is made again with these, and goes on. While the log is read one piece at a time is needed, and let
+/// go before the next.
+#[derive(Drop)]
+pub struct Opening {
+    config: Config,
+    // none while a call goes on, and behind one that failed
+    step: Option<Step>,
+    needs: Option<(u64, usize)>,
+}
+
+// How far an opening has come.
+#[derive(Drop)]
+enum Step {
+    // nothing was read
+    Unread(StagedDisk),
+    // a part of the log was
+    Reading(Reader, StagedDisk),
+    // all of it was
+    Read(ReadLog),
+}
+
+impl Opening {
+    /// Begins with a file of so many bytes. One of none is given an empty log.
+    pub fn new(alloc: Global, config: Config, len: u64) -> Result<Opening, u32>
+        ensures config { IfOk result (λ opening. opening.config ≡ config) }
+        ensures fails { IfErr result IsFailure }
+    {
+        let mut disk = StagedDisk::new(alloc, len);
+        if len == 0
+            && let Err(error) = DiskLog::create(&mut disk)
+        {
+            return Err(status_of_log(error));
+        }
+        Ok(Opening {
+            config,
+            step: Some(Step::Unread(disk)),
+            needs: None,
+        })
+    }
+
+    /// The disk of the file.
+    pub fn disk(&self) -> Option<&StagedDisk> {
+        match &self.step {
+            Some(Step::Unread(disk)) => Some(disk),
+            Some(Step::Reading(_, disk)) => Some(disk),
+            Some(Step::Read(read)) => Some(read.log.disk()),
+            None => None,
+        }
+    }
+
+    // Whether a write or a sync failed.
+    fn has_failed(&self) -> bool {
+        match self.disk() {
+            Some(disk) => disk.has_failed(),
+            None => true,
+        }
+    }
+
+    /// The bytes that are needed to go on: their place, and how many.
+    pub fn needs(&self) -> Option<(u64, usize)> {
+        self.needs
+    }
+
+    /// Goes on: the cache, or none where bytes are needed, or a status that tells why there will be none.
+    pub fn go_on(&mut self, alloc: Global) -> Result<Option<FileCache>, u32>
+        ensures opened { IfOk result (λ found. IfSome found (IsOpened self.old.config)) }
+        ensures fails { IfErr result IsFailure }
+        ensures config { self.new.config ≡ self.old.config }
+    {
+        if self.has_failed() {
+            return Err(status_of_log(LogError::WriteFault));
+        }
+        match self.step.take() {
+            Some(Step::Unread(disk)) => self.begin(alloc, disk),
+            Some(Step::Reading(reader, disk)) => self.read(alloc, reader, disk),
+            Some(Step::Read(read)) => self.start(alloc, read),
+            None => Err(status_of_log(LogError::WriteFault)),
+        }
+    }
+
+    // Syncs the file, and begins to read its log.
+    fn begin(&mut self, alloc: Global, mut disk: StagedDisk) -> Result<Option<FileCache>, u32>
+        ensures opened { IfOk result (λ found. IfSome found (IsOpened self.old.config)) }
+        ensures fails { IfErr result IsFailure }
+        ensures config { self.new.config ≡ self.old.config }
+    {
+        if let Err(error) = disk.sync() {
+            return Err(status_of_log(error));
+        }
+        match Reader::begin(alloc, &mut disk) {
+            Ok(reader) => self.read(alloc, reader, disk),
+            Err(error) => {
+                let needs = disk.needs();
+                self.wait(status_of_log(error), needs, Step::Unread(disk))
+            }
+        }
+    }
+
+    // Reads the log on, and then starts the cache. The piece that was handed in has been taken by the reader, and is let go.
+    fn read(
+        &mut self,
+        alloc: Global,
+        reader: Reader,
+        disk: StagedDisk,
+    ) -> Result<Option<FileCache>, u32>
+        ensures opened { IfOk result (λ found. IfSome found (IsOpened self.old.config)) }
+        ensures fails { IfErr result IsFailure }
+        ensures config { self.new.config ≡ self.old.config }
+    {
+        let segment_size = self.config.segment_size as u64;
+        match DiskLog::open_with(alloc, reader, disk, segment_size, 0) {
+            Ok(log) => self.start(alloc, ReadLog { log }),
+            Err((error, reader, disk)) => {
+                let needs = disk.needs();
+                disk.forget();
+                self.wait(status_of_log(error), needs, Step::Reading(reader, disk))
+            }
+        }
+    }
+
+    // Starts the cache over its log.
+    fn start(&mut self, alloc: Global, read: ReadLog) -> Result<Option<FileCache>, u32>
+        ensures opened { IfOk result (λ found. IfSome found (IsOpened self.old.config)) }
+        ensures fails { IfErr result IsFailure }
+        ensures config { self.new.config ≡ self.old.config }
+    {
+        match PageCache::start(alloc, self.config, read.log) {
+            Ok(cache) => {
+                cache.log().disk().forget();
+                Ok(Some(cache))
+            }
+            Err((error, log)) => {
+                let status = status_of(&error);
+                if status != READ {
+                    return Err(status);
+                }
+                let needs = log.disk().needs();
+                self.wait(status, needs, Step::Read(ReadLog { log }))
+            }
+        }
+    }
+
+    // Waits for bytes, where some are needed and a read failed.
+    fn wait(
+        &mut self,
+        status: u32,
+        needs: Option<(u64, usize)>,
+        step: Step,
+    ) -> Result<Option<FileCache>, u32>
+        requires { IsFailure status }
+        ensures waits { IfOk result (λ found. found ≡ None) }
+        ensures fails { IfErr result IsFailure }
+        ensures config { self.new.config ≡ self.old.config }
+    {
+        if status != READ || needs.is_none() {
+            return Err(status);
+        }
+        self.step = Some(step);
+        self.needs = needs;
+        Ok(None)
+    }
+}
+
+// The status of a log's failure.
+fn status_of_log(error: LogError) -> u32
+    ensures { IsFailure result }
+{
+    status_of(&Error::from(error))
+}
