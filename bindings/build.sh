@@ -1,6 +1,7 @@
 #!/bin/sh
-# Makes one folder of what a program that calls the cache needs: libdilluvas.a, libdilluvas.so and dilluvas.h. It takes the proved library
-# as `rt lib` left it in crates/sled_c, and makes that first where it isn't there, or is older than a source.
+# Makes one folder of what a program that calls the cache needs: libdilluvas.a, libdilluvas.so and dilluvas.h, and of what reads and writes
+# a file for it, dilluvas_file.h and dilluvas_file.c. It takes the proved library as `rt lib` left it in crates/sled_c, and makes that first
+# where it isn't there, or is older than a source.
 #
 #     bindings/build.sh [FOLDER]
 #
@@ -26,4 +27,4 @@ save
 end
 SCRIPT
 "${CC:-cc}" -shared -o "$folder/libdilluvas.so" -Wl,--whole-archive "$folder/libdilluvas.a" -Wl,--no-whole-archive
-cp "$top/bindings/c/dilluvas.h" "$folder/"
+cp "$top/bindings/c/dilluvas.h" "$top/bindings/c/dilluvas_file.h" "$top/bindings/c/dilluvas_file.c" "$folder/"

@@ -48,13 +48,20 @@ enum {
     DILLUVAS_ARGUMENTS = 7,    /* A pointer is null, or the bytes encode no pairs that a leaf can hold. */
     DILLUVAS_NO_BATCH = 8,     /* No batch is open. */
     DILLUVAS_INDEX = 9,        /* The page is an index, whose pairs have no values. */
+    DILLUVAS_NOT_OVER_FILE = 10, /* The call isn't made over a file. */
 
     DILLUVAS_MEMORY = 16,     /* An allocation failed. The call may be made again. */
     DILLUVAS_READ = 17,       /* A read failed. The call may be made again. No cache in memory answers so. */
     DILLUVAS_WRITE = 18,      /* A write failed, now or earlier: every later call answers so, until the store is opened again. */
-    DILLUVAS_CORRUPTION = 19, /* The messages of the page make no node. No cache in memory answers so. */
+    DILLUVAS_CORRUPTION = 19, /* The messages of the page, or the bytes of the file, aren't what a cache wrote. None in memory answers so. */
+    DILLUVAS_NEEDS = 20,      /* Bytes of the file are needed: the call is made again with them. No cache in memory answers so. */
 
-    /* What isn't supported, behind 100, */
+    /* What dilluvas_file_open of dilluvas_file.h says of a file, and no call of this header, */
+    DILLUVAS_NO_FILE = 32,   /* It is a folder, or another thing that is no file. */
+    DILLUVAS_NO_ACCESS = 33, /* The file may not be read and written, or can't be made. */
+    DILLUVAS_HELD = 34,      /* Another process has the file open, or this one has. */
+
+    /* what isn't supported, behind 100, */
     DILLUVAS_RESERVED_ID = 101,        /* The page is the cache's own: 0, 1 or 2^64 - 667. */
     DILLUVAS_CAPACITY_TOO_SMALL = 102, /* The capacity of the cache is below 256. */
     DILLUVAS_INTERVAL_ZERO = 103,      /* The interval of ids is 0. */
@@ -97,6 +104,28 @@ typedef struct dilluvas_settings {
 
 #define DILLUVAS_SETTINGS {1048576, 10, 4096, 512, 16}
 
+/* The settings of a cache over a file. */
+typedef struct dilluvas_file_settings {
+    uint64_t cache_capacity;         /* as above */
+    uint64_t idgen_persist_interval; /* as above */
+    size_t segment_size;             /* at so many bytes that are pending they are written, at least 1: this takes two syncs */
+} dilluvas_file_settings;
+
+#define DILLUVAS_FILE_SETTINGS {1048576, 10, 1048576}
+
+/* What a program does next to the file of a cache. */
+typedef struct dilluvas_task {
+    uint32_t kind; /* DILLUVAS_NOTHING, DILLUVAS_WRITE_BYTES or DILLUVAS_SYNC */
+    uint64_t at;   /* the place of the first byte of a write */
+    size_t len;    /* how many bytes a write has */
+} dilluvas_task;
+
+enum {
+    DILLUVAS_NOTHING = 0,
+    DILLUVAS_WRITE_BYTES = 1,
+    DILLUVAS_SYNC = 2
+};
+
 /* What dilluvas_get tells of a page. */
 typedef struct dilluvas_found {
     uint64_t stamp; /* the page's stamp */
@@ -108,6 +137,12 @@ typedef struct dilluvas_found {
 /* ---- The library's functions, whose pointers aren't null unless the length beside them is 0. Call those below them. */
 
 dilluvas_status dilluvas_raw_open_memory(dilluvas *d, const dilluvas_settings *settings);
+dilluvas_status dilluvas_raw_open_file(dilluvas *d, const dilluvas_file_settings *settings, uint64_t len);
+dilluvas_status dilluvas_raw_next_task(dilluvas *d, dilluvas_task *task, uint8_t *buffer, size_t room);
+dilluvas_status dilluvas_raw_needs(dilluvas *d, uint64_t *at, size_t *len);
+dilluvas_status dilluvas_raw_hand_in(dilluvas *d, uint64_t at, const uint8_t *bytes, size_t len);
+dilluvas_status dilluvas_raw_forget(dilluvas *d);
+dilluvas_status dilluvas_raw_failed(dilluvas *d);
 dilluvas_status dilluvas_raw_close(dilluvas *d);
 dilluvas_status dilluvas_raw_text(dilluvas_status status, uint8_t *buffer, size_t room, size_t *needed);
 dilluvas_status dilluvas_raw_allocate(dilluvas *d, const uint8_t *pairs, size_t pairs_len, uint64_t *page, uint64_t *stamp);
@@ -147,7 +182,8 @@ static inline dilluvas_status dilluvas_open_memory(dilluvas *d, const dilluvas_s
     return dilluvas_raw_open_memory(d, settings);
 }
 
-/* Closes the cache and frees all that it owns. Nothing is flushed: of a cache in memory nothing is left. An open batch is cancelled.
+/* Closes the cache and frees all that it owns. Nothing is flushed: of a cache in memory nothing is left, and of one over a file what was
+ * flushed. An open batch is cancelled.
  *
  * Answers NOT_OPEN. The handle is closed then, whatever comes. */
 static inline dilluvas_status dilluvas_close(dilluvas *d) {
@@ -164,7 +200,69 @@ static inline dilluvas_status dilluvas_text(dilluvas_status status, uint8_t *buf
     return dilluvas_raw_text(status, buffer, room, needed);
 }
 
-/* ---- Pages. Each call from here on answers NOT_OPEN where the handle is closed, and WRITE where a write failed, now or earlier. */
+/* ---- A file. The library reads and writes none: between its calls the program does, and dilluvas_file.h has the loop for a file of the
+ * system. Behind each call over a file, whatever it answered, and before its answer is taken as given, the program
+ *
+ * 1. does what dilluvas_next_task says until there is nothing: what one task failed at is told by dilluvas_failed, and the answer is WRITE;
+ * 2. at NEEDS reads the bytes that dilluvas_needs says, hands them in by dilluvas_hand_in, and makes the same call again; where they can't
+ *    be read it says so by dilluvas_forget, and the answer is READ.
+ *
+ * What is durable once all tasks are done stays so as the file does: a sync has to reach the device, and nobody else writes to the file. */
+
+/* Opens a cache over a file of `len` bytes, of which one of none is given an empty log. The handle is closed before. At NEEDS it is being
+ * opened: the call made again goes on, with the settings and the length that it began with, and every other call answers NOT_OPEN.
+ *
+ * Answers NEEDS; ALREADY_OPEN; CAPACITY_TOO_SMALL, INTERVAL_ZERO or SEGMENT_ZERO for the settings; MEMORY, READ, WRITE; CORRUPTION where no
+ * cache wrote the file; LOG_FULL. Behind any but OK, NEEDS and ALREADY_OPEN the handle is closed. */
+static inline dilluvas_status dilluvas_open_file(dilluvas *d, const dilluvas_file_settings *settings, uint64_t len) {
+    if (!d || !settings) return DILLUVAS_ARGUMENTS;
+    return dilluvas_raw_open_file(d, settings, len);
+}
+
+/* Writes what the program does next to the file, and the bytes of a write into a buffer of `room` bytes: where there are more, the rest
+ * comes next. It counts as done. For a cache in memory there is nothing.
+ *
+ * Answers NOT_OPEN; WRITE once dilluvas_failed was called. */
+static inline dilluvas_status dilluvas_next_task(dilluvas *d, dilluvas_task *task, uint8_t *buffer, size_t room) {
+    if (!d || !task || !buffer || !room) return DILLUVAS_ARGUMENTS;
+    return dilluvas_raw_next_task(d, task, buffer, room);
+}
+
+/* Writes the place of the bytes that are needed and how many they are, or 0 where none are.
+ *
+ * Answers NOT_OPEN; WRITE once dilluvas_failed was called. */
+static inline dilluvas_status dilluvas_needs(dilluvas *d, uint64_t *at, size_t *len) {
+    if (!d || !at || !len) return DILLUVAS_ARGUMENTS;
+    return dilluvas_raw_needs(d, at, len);
+}
+
+/* Hands in bytes of the file from a place on, once nothing is left to do. There may be more than are needed, and those that are needed may
+ * come in pieces.
+ *
+ * Answers NOT_OPEN, MEMORY; WRITE once dilluvas_failed was called. */
+static inline dilluvas_status dilluvas_hand_in(dilluvas *d, uint64_t at, const uint8_t *bytes, size_t len) {
+    if (!d || !dilluvas_are_bytes(bytes, len)) return DILLUVAS_ARGUMENTS;
+    return dilluvas_raw_hand_in(d, at, bytes, len);
+}
+
+/* The call isn't made again: what was needed and what was handed in is let go.
+ *
+ * Answers NOT_OPEN. */
+static inline dilluvas_status dilluvas_forget(dilluvas *d) {
+    if (!d) return DILLUVAS_ARGUMENTS;
+    return dilluvas_raw_forget(d);
+}
+
+/* A write or a sync failed: there is nothing left to do, and every later call over the file answers WRITE, until it is opened again.
+ *
+ * Answers NOT_OPEN. */
+static inline dilluvas_status dilluvas_failed(dilluvas *d) {
+    if (!d) return DILLUVAS_ARGUMENTS;
+    return dilluvas_raw_failed(d);
+}
+
+/* ---- Pages. Each call from here on answers NOT_OPEN where the handle is closed, and WRITE where a write failed, now or earlier.
+ * Over a file get, value, set and del answer NEEDS. */
 
 /* Puts a leaf of the pairs on a page, and writes the page's number and its stamp. `pairs` are `pairs_len` bytes: of each pair the length
  * of the key and that of the value, in 4 bytes each, the lowest first, then the key and the value; the keys ascend by their bytes.
@@ -313,7 +411,7 @@ static inline dilluvas_status dilluvas_size(dilluvas *d, uint64_t *bytes) {
 /* Writes how many bytes the log has, and how many the pages would take by their contents, a segment among them; 2^64 - 1 stands for that
  * and for more. It reads the pages that don't lie in memory.
  *
- * Answers MEMORY, READ, CORRUPTION. */
+ * Answers NOT_OVER_FILE; MEMORY, READ, CORRUPTION. */
 static inline dilluvas_status dilluvas_amp(dilluvas *d, uint64_t *log, uint64_t *pages) {
     if (!d || !log || !pages) return DILLUVAS_ARGUMENTS;
     return dilluvas_raw_amp(d, log, pages);
@@ -321,13 +419,13 @@ static inline dilluvas_status dilluvas_amp(dilluvas *d, uint64_t *log, uint64_t 
 
 /* Moves the page that is due, if one is, and writes whether one was. No page, stamp or id changes.
  *
- * Answers LOG_FULL, MEMORY, READ, CORRUPTION: the page isn't due again then. */
+ * Answers NOT_OVER_FILE: no page is due there; LOG_FULL, MEMORY, READ, CORRUPTION: the page isn't due again then. */
 static inline dilluvas_status dilluvas_gc(dilluvas *d, bool *moved) {
     if (!d || !moved) return DILLUVAS_ARGUMENTS;
     return dilluvas_raw_gc(d, moved);
 }
 
-/* Writes whether the log had the cache's own pages as it was opened: a new one has not. It doesn't answer WRITE. */
+/* Writes whether the log had the cache's own pages as it was opened: a new one has not. In memory it doesn't answer WRITE. */
 static inline dilluvas_status dilluvas_was_recovered(dilluvas *d, bool *recovered) {
     if (!d || !recovered) return DILLUVAS_ARGUMENTS;
     return dilluvas_raw_was_recovered(d, recovered);

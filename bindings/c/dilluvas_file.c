@@ -1,0 +1,210 @@
+#define _DEFAULT_SOURCE
+#include "dilluvas_file.h"
+#include <errno.h>
+#include <fcntl.h>
+#include <stdio.h>
+#include <stdlib.h>
+#include <sys/file.h>
+#include <sys/stat.h>
+#include <unistd.h>
+
+enum {
+    ROOM = 65536,     /* bytes of the buffer */
+    LEAST_READ = 4096 /* so many are read at least: what a page's later messages need often stands near */
+};
+
+/* ---- Reading and writing. */
+
+static bool write_all(int descriptor, const uint8_t *bytes, size_t len, uint64_t at) {
+    while (len > 0) {
+        ssize_t written = pwrite(descriptor, bytes, len, (off_t)at);
+        if (written < 0 && errno == EINTR) continue;
+        if (written <= 0) return false;
+        bytes += written;
+        len -= (size_t)written;
+        at += (uint64_t)written;
+    }
+    return true;
+}
+
+/* Reads so many bytes, or as many as there are up to the file's end, and writes how many. */
+static bool read_up_to(int descriptor, uint8_t *bytes, size_t len, uint64_t at, size_t *got) {
+    *got = 0;
+    while (*got < len) {
+        ssize_t read = pread(descriptor, bytes + *got, len - *got, (off_t)(at + *got));
+        if (read < 0 && errno == EINTR) continue;
+        if (read < 0) return false;
+        if (read == 0) break;
+        *got += (size_t)read;
+    }
+    return true;
+}
+
+static bool sync_data(int descriptor) {
+    int done;
+    do {
+        done = fdatasync(descriptor);
+    } while (done != 0 && errno == EINTR);
+    return done == 0;
+}
+
+/* Does all tasks, and answers whether none failed. */
+static bool do_tasks(dilluvas_file *file) {
+    dilluvas_task task;
+    while (dilluvas_next_task(&file->cache, &task, file->buffer, ROOM) == DILLUVAS_OK && task.kind != DILLUVAS_NOTHING) {
+        bool done = task.kind == DILLUVAS_SYNC ? sync_data(file->descriptor) : write_all(file->descriptor, file->buffer, task.len, task.at);
+        if (!done) return false;
+    }
+    return true;
+}
+
+/* Reads what is needed and hands it in, piece by piece. */
+static dilluvas_status read_needed(dilluvas_file *file) {
+    uint64_t at = 0;
+    size_t len = 0, got;
+    dilluvas_status status = dilluvas_needs(&file->cache, &at, &len);
+    while (status == DILLUVAS_OK && len > 0) {
+        size_t piece = len < LEAST_READ ? LEAST_READ : len < ROOM ? len : ROOM;
+        if (!read_up_to(file->descriptor, file->buffer, piece, at, &got)) return DILLUVAS_READ;
+        if (got < piece && got < len) return DILLUVAS_READ;
+        status = dilluvas_hand_in(&file->cache, at, file->buffer, got);
+        at += got;
+        len -= got < len ? got : len;
+    }
+    return status;
+}
+
+bool dilluvas_file_again(dilluvas_file *file, dilluvas_status *status) {
+    if (!do_tasks(file)) {
+        dilluvas_failed(&file->cache);
+        *status = DILLUVAS_WRITE;
+    }
+    if (*status != DILLUVAS_NEEDS) return false;
+    *status = read_needed(file);
+    if (*status == DILLUVAS_OK) return true;
+    dilluvas_forget(&file->cache);
+    return false;
+}
+
+/* ---- Opening and closing. */
+
+static bool are_one_file(const struct stat *one, const struct stat *other) {
+    return one->st_dev == other->st_dev && one->st_ino == other->st_ino;
+}
+
+/* Locks a file, and writes how many bytes it has. */
+static dilluvas_status lock_file(int descriptor, struct stat *found) {
+    if (fstat(descriptor, found) != 0) return DILLUVAS_READ;
+    if (!S_ISREG(found->st_mode)) return DILLUVAS_NO_FILE;
+    if (flock(descriptor, LOCK_EX | LOCK_NB) != 0) return errno == EWOULDBLOCK ? DILLUVAS_HELD : DILLUVAS_NO_ACCESS;
+    return fstat(descriptor, found) == 0 ? DILLUVAS_OK : DILLUVAS_READ;
+}
+
+/* Opens the file of a path and locks it. NONE: there is none. */
+static dilluvas_status open_locked(const char *path, int flags, int *descriptor, struct stat *found) {
+    for (;;) {
+        struct stat present;
+        int opened = open(path, flags | O_RDWR | O_CLOEXEC, 0666);
+        if (opened < 0) return errno == EISDIR ? DILLUVAS_NO_FILE : errno == ENOENT ? DILLUVAS_NONE : DILLUVAS_NO_ACCESS;
+        dilluvas_status status = lock_file(opened, found);
+        if (status == DILLUVAS_OK && stat(path, &present) == 0 && are_one_file(found, &present)) {
+            *descriptor = opened;
+            return DILLUVAS_OK;
+        }
+        close(opened);
+        if (status != DILLUVAS_OK) return status;
+        /* another file took its place before it was locked */
+    }
+}
+
+/* Makes durable which files the folder of a path has. */
+static bool sync_folder(const char *path) {
+    const char *slash = strrchr(path, '/');
+    size_t len = !slash ? 0 : slash == path ? 1 : (size_t)(slash - path);
+    char *folder = malloc(len + 2);
+    if (!folder) return false;
+    memcpy(folder, slash ? path : ".", slash ? len : 1);
+    folder[slash ? len : 1] = 0;
+    int descriptor = open(folder, O_RDONLY | O_DIRECTORY | O_CLOEXEC);
+    free(folder);
+    if (descriptor < 0) return false;
+    /* there are systems that sync no folder */
+    bool done = fsync(descriptor) == 0 || errno == EINVAL;
+    close(descriptor);
+    return done;
+}
+
+/* Opens the cache over a file that is open and has so many bytes. */
+static dilluvas_status open_cache(dilluvas_file *file, const dilluvas_file_settings *settings, uint64_t len) {
+    const dilluvas_file_settings usual = DILLUVAS_FILE_SETTINGS;
+    dilluvas_status status;
+    file->buffer = calloc(1, ROOM);
+    if (!file->buffer) return DILLUVAS_MEMORY;
+    DILLUVAS_FILE_CALL(file, status, dilluvas_open_file(&file->cache, settings ? settings : &usual, len));
+    return status;
+}
+
+/* Closes what is open of a file that isn't to be used. */
+static void close_all(dilluvas_file *file) {
+    dilluvas_close(&file->cache);
+    free(file->buffer);
+    if (file->descriptor >= 0) close(file->descriptor);
+    file->buffer = NULL;
+    file->descriptor = -1;
+}
+
+/* Makes a file by another name, and gives it its own once it is durable. The other name is kept by one process at a time. */
+static dilluvas_status make(dilluvas_file *file, const char *path, const char *other, const dilluvas_file_settings *settings) {
+    struct stat found;
+    dilluvas_status status = open_locked(other, O_CREAT, &file->descriptor, &found);
+    if (status != DILLUVAS_OK) return status == DILLUVAS_NONE ? DILLUVAS_NO_ACCESS : status;
+    /* another process may have made the file meanwhile, and one that was killed may have left bytes */
+    if (stat(path, &found) == 0 && found.st_size > 0) status = DILLUVAS_HELD;
+    else if (ftruncate(file->descriptor, 0) != 0) status = DILLUVAS_WRITE;
+    else status = open_cache(file, settings, 0);
+    if (status == DILLUVAS_OK && rename(other, path) != 0) status = DILLUVAS_NO_ACCESS;
+    if (status != DILLUVAS_OK) {
+        unlink(other);
+        return status;
+    }
+    return sync_folder(path) ? DILLUVAS_OK : DILLUVAS_WRITE;
+}
+
+static dilluvas_status make_new(dilluvas_file *file, const char *path, const dilluvas_file_settings *settings) {
+    static const char behind[] = ".dilluvas-new";
+    size_t len = strlen(path);
+    char *other = malloc(len + sizeof behind);
+    if (!other) return DILLUVAS_MEMORY;
+    memcpy(other, path, len);
+    memcpy(other + len, behind, sizeof behind);
+    dilluvas_status status = make(file, path, other, settings);
+    free(other);
+    return status;
+}
+
+dilluvas_status dilluvas_file_open(dilluvas_file *file, const char *path, const dilluvas_file_settings *settings) {
+    struct stat found;
+    if (!file || !path) return DILLUVAS_ARGUMENTS;
+    if (file->buffer) return DILLUVAS_ALREADY_OPEN;
+    dilluvas_status status = open_locked(path, 0, &file->descriptor, &found);
+    if (status == DILLUVAS_OK && found.st_size > 0) {
+        status = open_cache(file, settings, (uint64_t)found.st_size);
+    } else if (status == DILLUVAS_OK) {
+        /* while it is made, the empty file stays locked */
+        int empty = file->descriptor;
+        file->descriptor = -1;
+        status = make_new(file, path, settings);
+        close(empty);
+    } else if (status == DILLUVAS_NONE) {
+        status = make_new(file, path, settings);
+    }
+    if (status != DILLUVAS_OK) close_all(file);
+    return status;
+}
+
+dilluvas_status dilluvas_file_close(dilluvas_file *file) {
+    if (!file) return DILLUVAS_ARGUMENTS;
+    if (!file->buffer) return DILLUVAS_NOT_OPEN;
+    close_all(file);
+    return DILLUVAS_OK;
+}

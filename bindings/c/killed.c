@@ -1,0 +1,144 @@
+/* Kills a process that writes a file, at a random moment, and opens the file again: what was said to be flushed is there, of a batch all or
+ * nothing, and no id comes twice. Usage: killed FOLDER TIMES, in which it makes its file. */
+#define _DEFAULT_SOURCE
+#include "dilluvas_file.h"
+#include <signal.h>
+#include <stdio.h>
+#include <stdlib.h>
+#include <sys/stat.h>
+#include <sys/wait.h>
+#include <time.h>
+#include <unistd.h>
+
+#define CHECK(holds) \
+    do { \
+        if (!(holds)) { \
+            fprintf(stderr, "line %d: %s\n", __LINE__, #holds); \
+            exit(1); \
+        } \
+    } while (0)
+
+enum { PAGES = 60 };
+
+static const dilluvas_file_settings settings = {1024, 10, 2048};
+
+static char path[4096];
+
+/* What a process says once a round is flushed. */
+typedef struct told {
+    uint64_t round, id;
+} told;
+
+static dilluvas_status get_round(dilluvas_file *file, uint64_t page, uint64_t *stamp, uint64_t *round) {
+    dilluvas_status status;
+    size_t len;
+    *round = 0;
+    DILLUVAS_FILE_CALL(file, status, dilluvas_value(&file->cache, page, (const uint8_t *)"r", 1, stamp, (uint8_t *)round, sizeof *round, &len));
+    return status;
+}
+
+/* Puts the round on all pages, every second one in a batch, and flushes. */
+static void make_round(dilluvas_file *file, uint64_t round) {
+    dilluvas_status status;
+    size_t written;
+    uint64_t stamp, before;
+    bool in_batch = round % 2;
+    if (in_batch) {
+        DILLUVAS_FILE_CALL(file, status, dilluvas_pin(&file->cache));
+        CHECK(status == DILLUVAS_OK);
+    }
+    for (uint64_t page = 2; page < PAGES + 2; page++) {
+        status = get_round(file, page, &stamp, &before);
+        CHECK(status == DILLUVAS_OK || status == DILLUVAS_NONE);
+        DILLUVAS_FILE_CALL(file, status,
+                           dilluvas_set(&file->cache, page, &stamp, (const uint8_t *)"r", 1, (const uint8_t *)&round, sizeof round));
+        CHECK(status == DILLUVAS_OK);
+    }
+    if (in_batch) {
+        DILLUVAS_FILE_CALL(file, status, dilluvas_seal(&file->cache));
+        CHECK(status == DILLUVAS_OK);
+    }
+    DILLUVAS_FILE_CALL(file, status, dilluvas_flush(&file->cache, &written));
+    CHECK(status == DILLUVAS_OK);
+}
+
+/* Makes rounds, and says each once it is flushed, until it is killed. */
+static void write_rounds(int to) {
+    dilluvas_file file = DILLUVAS_FILE_CLOSED;
+    dilluvas_status status;
+    uint64_t round = 0, found, stamp, page;
+    CHECK(dilluvas_file_open(&file, path, &settings) == DILLUVAS_OK);
+    for (uint64_t wanted = 2; wanted < PAGES + 2; wanted++) {
+        if (get_round(&file, wanted, &stamp, &found) == DILLUVAS_GONE) {
+            DILLUVAS_FILE_CALL(&file, status, dilluvas_allocate(&file.cache, NULL, 0, &page, &stamp));
+            CHECK(status == DILLUVAS_OK && page == wanted);
+        }
+        if (round < found) round = found;
+    }
+    for (;;) {
+        told told = {++round, 0};
+        DILLUVAS_FILE_CALL(&file, status, dilluvas_generate_id(&file.cache, &told.id));
+        CHECK(status == DILLUVAS_OK);
+        make_round(&file, round);
+        if (write(to, &told, sizeof told) != sizeof told) exit(0);
+    }
+}
+
+/* Lets a process write for a while, kills it, and takes what it told last. */
+static void kill_one(told *last, unsigned long *rounds) {
+    int ends[2], status;
+    uint64_t id_before = last->id;
+    told told;
+    CHECK(pipe(ends) == 0);
+    pid_t child = fork();
+    CHECK(child >= 0);
+    if (child == 0) {
+        close(ends[0]);
+        write_rounds(ends[1]);
+    }
+    close(ends[1]);
+    struct timespec while_ = {0, (rand() % 30000) * 1000L};
+    nanosleep(&while_, NULL);
+    kill(child, SIGKILL);
+    CHECK(waitpid(child, &status, 0) == child && WIFSIGNALED(status) && WTERMSIG(status) == SIGKILL);
+    while (read(ends[0], &told, sizeof told) == sizeof told) {
+        CHECK(*rounds == 0 || told.id > id_before);
+        *last = told;
+        ++*rounds;
+    }
+    close(ends[0]);
+}
+
+/* Opens the file: how many of the pages are at which round. */
+static void compare(const told *last) {
+    dilluvas_file file = DILLUVAS_FILE_CLOSED;
+    uint64_t least = UINT64_MAX, most = 0, found, stamp;
+    CHECK(dilluvas_file_open(&file, path, &settings) == DILLUVAS_OK);
+    for (uint64_t page = 2; page < PAGES + 2; page++) {
+        dilluvas_status status = get_round(&file, page, &stamp, &found);
+        CHECK(status == DILLUVAS_OK || status == DILLUVAS_NONE || (status == DILLUVAS_GONE && last->round == 0));
+        if (found < least) least = found;
+        if (found > most) most = found;
+    }
+    CHECK(least >= last->round);
+    CHECK(most <= least + 1);
+    CHECK(most == least || most % 2 == 0);
+    dilluvas_file_close(&file);
+}
+
+int main(int count, char **arguments) {
+    CHECK(count == 3);
+    int times = atoi(arguments[2]);
+    told last = {0, 0};
+    unsigned long rounds = 0;
+    snprintf(path, sizeof path, "%s/killed", arguments[1]);
+    unlink(path);
+    srand(1);
+    for (int i = 0; i < times; i++) {
+        kill_one(&last, &rounds);
+        compare(&last);
+    }
+    unlink(path);
+    printf("%d kills: none of %lu flushed rounds was lost\n", times, rounds);
+    return 0;
+}
