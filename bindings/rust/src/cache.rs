@@ -1,10 +1,13 @@
 //! An open cache, and a batch of its changes.
 
+use crate::device::{Attached, Device};
 use crate::error::Error;
+use crate::file;
 use crate::page::{Page, encoded};
 use crate::sys;
 use std::fmt;
 use std::ops::{Deref, DerefMut};
+use std::path::Path;
 
 /// The settings of a cache over a log in memory.
 #[derive(Clone, Copy, Debug, PartialEq, Eq)]
@@ -29,6 +32,27 @@ impl Default for Settings {
             segment_size: 4096,
             blob_limit: 512,
             clean_every: 16,
+        }
+    }
+}
+
+/// The settings of a cache over a file or another device.
+#[derive(Clone, Copy, Debug, PartialEq, Eq)]
+pub struct FileSettings {
+    /// Bytes of messages whose pages stay in memory as nodes, at least 256.
+    pub cache_capacity: u64,
+    /// How many ids one counter covers, at least 1.
+    pub idgen_persist_interval: u64,
+    /// At so many bytes that are pending they are written, at least 1: this takes two syncs.
+    pub segment_size: usize,
+}
+
+impl Default for FileSettings {
+    fn default() -> FileSettings {
+        FileSettings {
+            cache_capacity: 1 << 20,
+            idgen_persist_interval: 10,
+            segment_size: 1 << 20,
         }
     }
 }
@@ -66,6 +90,7 @@ pub struct Amplification {
 /// An open cache. It is closed where it is dropped, and nothing is flushed then.
 pub struct Cache {
     handle: sys::Handle,
+    attached: Option<Attached>,
 }
 
 // SAFETY: that a handle may go to another thread is proved where the library declares it.
@@ -83,7 +108,52 @@ impl Cache {
         };
         let mut handle = sys::Handle::CLOSED;
         done(unsafe { sys::dilluvas_raw_open_memory(&mut handle, &settings) })?;
-        Ok(Cache { handle })
+        Ok(Cache {
+            handle,
+            attached: None,
+        })
+    }
+
+    /// Opens a cache over a file, which is locked until the cache is dropped. One that is absent or empty is made: with `.dilluvas-new`
+    /// behind its name until it is whole and durable, so a crash leaves it whole or as it was.
+    pub fn open(path: impl AsRef<Path>, settings: &FileSettings) -> Result<Cache, Error> {
+        let path = path.as_ref();
+        match file::open_locked(path, false)? {
+            Some((file, len)) if len > 0 => Cache::on_device(Box::new(file), settings),
+            // while the file is made, an empty one stays locked
+            _empty => file::make(path, |file| Cache::on_device(Box::new(file), settings)),
+        }
+    }
+
+    /// Opens a cache over a device, of which one of no bytes is given an empty log. Nobody else writes to it.
+    pub fn on_device(device: Box<dyn Device>, settings: &FileSettings) -> Result<Cache, Error> {
+        let settings = sys::FileSettings {
+            cache_capacity: settings.cache_capacity,
+            idgen_persist_interval: settings.idgen_persist_interval,
+            segment_size: settings.segment_size,
+        };
+        let attached = Attached::new(device)?;
+        let len = attached.end();
+        let mut cache = Cache {
+            handle: sys::Handle::CLOSED,
+            attached: Some(attached),
+        };
+        done(cache.on(|handle| unsafe { sys::dilluvas_raw_open_file(handle, &settings, len) }))?;
+        Ok(cache)
+    }
+
+    // Makes a call until it is answered: over a device what it wants of that is done between.
+    fn on(&mut self, mut call: impl FnMut(&mut sys::Handle) -> u32) -> u32 {
+        loop {
+            let status = call(&mut self.handle);
+            let answer = match &mut self.attached {
+                Some(attached) => attached.settle(&mut self.handle, status),
+                None => Some(status),
+            };
+            if let Some(answer) = answer {
+                return answer;
+            }
+        }
     }
 
     /// Puts a leaf of these pairs, whose keys ascend, on a page.
@@ -93,15 +163,9 @@ impl Cache {
     ) -> Result<Token, Error> {
         let pairs = encoded(pairs)?;
         let (mut page, mut stamp) = (0, 0);
-        done(unsafe {
-            sys::dilluvas_raw_allocate(
-                &mut self.handle,
-                pairs.as_ptr(),
-                pairs.len(),
-                &mut page,
-                &mut stamp,
-            )
-        })?;
+        done(self.on(|handle| unsafe {
+            sys::dilluvas_raw_allocate(handle, pairs.as_ptr(), pairs.len(), &mut page, &mut stamp)
+        }))?;
         Ok(Token { page, stamp })
     }
 
@@ -118,8 +182,9 @@ impl Cache {
         to.used = 0;
         loop {
             let (buffer, room) = (to.buffer.as_mut_ptr(), to.buffer.len());
-            match unsafe { sys::dilluvas_raw_get(&mut self.handle, page, &mut found, buffer, room) }
-            {
+            match self.on(|handle| unsafe {
+                sys::dilluvas_raw_get(handle, page, &mut found, buffer, room)
+            }) {
                 sys::OK => break,
                 sys::SHORT => to.buffer.resize(found.needed, 0),
                 sys::GONE => return Ok(false),
@@ -150,9 +215,9 @@ impl Cache {
         let status = loop {
             let room = &mut value[start..];
             let (buffer, room) = (room.as_mut_ptr(), room.len());
-            match unsafe {
+            match self.on(|handle| unsafe {
                 sys::dilluvas_raw_value(
-                    &mut self.handle,
+                    handle,
                     page,
                     key.as_ptr(),
                     key.len(),
@@ -161,7 +226,7 @@ impl Cache {
                     room,
                     &mut needed,
                 )
-            } {
+            }) {
                 sys::SHORT => value.resize(start + needed, 0),
                 status => break status,
             }
@@ -178,9 +243,9 @@ impl Cache {
     /// Maps a key of a leaf to a value.
     pub fn set(&mut self, token: Token, key: &[u8], value: &[u8]) -> Result<Swap, Error> {
         let Token { page, mut stamp } = token;
-        let status = unsafe {
+        let status = self.on(|handle| unsafe {
             sys::dilluvas_raw_set(
-                &mut self.handle,
+                handle,
                 page,
                 &mut stamp,
                 key.as_ptr(),
@@ -188,7 +253,7 @@ impl Cache {
                 value.as_ptr(),
                 value.len(),
             )
-        };
+        });
         swapped(status, page, stamp)
     }
 
@@ -196,8 +261,8 @@ impl Cache {
     pub fn del(&mut self, token: Token, key: &[u8]) -> Result<Swap, Error> {
         let Token { page, mut stamp } = token;
         let (bytes, length) = (key.as_ptr(), key.len());
-        let status =
-            unsafe { sys::dilluvas_raw_del(&mut self.handle, page, &mut stamp, bytes, length) };
+        let status = self
+            .on(|handle| unsafe { sys::dilluvas_raw_del(handle, page, &mut stamp, bytes, length) });
         swapped(status, page, stamp)
     }
 
@@ -210,15 +275,16 @@ impl Cache {
         let pairs = encoded(pairs)?;
         let Token { page, mut stamp } = token;
         let (bytes, length) = (pairs.as_ptr(), pairs.len());
-        let status =
-            unsafe { sys::dilluvas_raw_replace(&mut self.handle, page, &mut stamp, bytes, length) };
+        let status = self.on(|handle| unsafe {
+            sys::dilluvas_raw_replace(handle, page, &mut stamp, bytes, length)
+        });
         swapped(status, page, stamp)
     }
 
     /// Frees a page, whose number an [`allocate`](Cache::allocate) uses again.
     pub fn free(&mut self, token: Token) -> Result<Swap, Error> {
         let Token { page, mut stamp } = token;
-        let status = unsafe { sys::dilluvas_raw_free(&mut self.handle, page, &mut stamp) };
+        let status = self.on(|handle| unsafe { sys::dilluvas_raw_free(handle, page, &mut stamp) });
         swapped(status, page, stamp)
     }
 
@@ -226,7 +292,8 @@ impl Cache {
     pub fn root(&mut self, name: &[u8]) -> Result<Option<u64>, Error> {
         let mut page = 0;
         let (bytes, length) = (name.as_ptr(), name.len());
-        match unsafe { sys::dilluvas_raw_root(&mut self.handle, bytes, length, &mut page) } {
+        match self.on(|handle| unsafe { sys::dilluvas_raw_root(handle, bytes, length, &mut page) })
+        {
             sys::OK => Ok(Some(page)),
             sys::NONE => Ok(None),
             status => Err(Error::of(status)),
@@ -242,9 +309,9 @@ impl Cache {
     ) -> Result<Result<(), Option<u64>>, Error> {
         let mut root = old.unwrap_or(0);
         let (bytes, length) = (name.as_ptr(), name.len());
-        match unsafe {
-            sys::dilluvas_raw_cas_root(&mut self.handle, bytes, length, &mut root, new.unwrap_or(0))
-        } {
+        match self.on(|handle| unsafe {
+            sys::dilluvas_raw_cas_root(handle, bytes, length, &mut root, new.unwrap_or(0))
+        }) {
             sys::OK => Ok(Ok(())),
             sys::STALE => Ok(Err((root != 0).then_some(root))),
             status => Err(Error::of(status)),
@@ -255,55 +322,58 @@ impl Cache {
     pub fn open_tree(&mut self, name: &[u8]) -> Result<u64, Error> {
         let mut page = 0;
         let (bytes, length) = (name.as_ptr(), name.len());
-        done(unsafe { sys::dilluvas_raw_open_tree(&mut self.handle, bytes, length, &mut page) })?;
+        done(self.on(|handle| unsafe {
+            sys::dilluvas_raw_open_tree(handle, bytes, length, &mut page)
+        }))?;
         Ok(page)
     }
 
     /// A number that was never given before.
     pub fn generate_id(&mut self) -> Result<u64, Error> {
         let mut id = 0;
-        done(unsafe { sys::dilluvas_raw_generate_id(&mut self.handle, &mut id) })?;
+        done(self.on(|handle| unsafe { sys::dilluvas_raw_generate_id(handle, &mut id) }))?;
         Ok(id)
     }
 
     /// Opens a batch: once it is sealed, a crash leaves all of it or nothing.
     pub fn pin(&mut self) -> Result<Batch<'_>, Error> {
-        done(unsafe { sys::dilluvas_raw_pin(&mut self.handle) })?;
+        done(self.on(|handle| unsafe { sys::dilluvas_raw_pin(handle) }))?;
         Ok(Batch { cache: self })
     }
 
     /// Makes all that is pending durable, and answers how many bytes that wrote.
     pub fn flush(&mut self) -> Result<usize, Error> {
         let mut written = 0;
-        done(unsafe { sys::dilluvas_raw_flush(&mut self.handle, &mut written) })?;
+        done(self.on(|handle| unsafe { sys::dilluvas_raw_flush(handle, &mut written) }))?;
         Ok(written)
     }
 
     /// How many bytes the log has.
     pub fn size(&mut self) -> Result<u64, Error> {
         let mut bytes = 0;
-        done(unsafe { sys::dilluvas_raw_size(&mut self.handle, &mut bytes) })?;
+        done(self.on(|handle| unsafe { sys::dilluvas_raw_size(handle, &mut bytes) }))?;
         Ok(bytes)
     }
 
-    /// How much the log takes, and how much the pages would.
+    /// How much the log takes, and how much the pages would. Over a file it is [`Error::NotOverFile`].
     pub fn amplification(&mut self) -> Result<Amplification, Error> {
         let (mut log, mut pages) = (0, 0);
-        done(unsafe { sys::dilluvas_raw_amp(&mut self.handle, &mut log, &mut pages) })?;
+        done(self.on(|handle| unsafe { sys::dilluvas_raw_amp(handle, &mut log, &mut pages) }))?;
         Ok(Amplification { log, pages })
     }
 
-    /// Moves the page that is due, and answers whether there was one. No page, stamp or id changes.
+    /// Moves the page that is due, and answers whether there was one. No page, stamp or id changes. Over a file none is due, and it is
+    /// [`Error::NotOverFile`].
     pub fn attempt_gc(&mut self) -> Result<bool, Error> {
         let mut moved = false;
-        done(unsafe { sys::dilluvas_raw_gc(&mut self.handle, &mut moved) })?;
+        done(self.on(|handle| unsafe { sys::dilluvas_raw_gc(handle, &mut moved) }))?;
         Ok(moved)
     }
 
     /// Whether the log had the cache's own pages as it was opened: a new one has not.
     pub fn was_recovered(&mut self) -> bool {
         let mut recovered = false;
-        unsafe { sys::dilluvas_raw_was_recovered(&mut self.handle, &mut recovered) };
+        self.on(|handle| unsafe { sys::dilluvas_raw_was_recovered(handle, &mut recovered) });
         recovered
     }
 }
@@ -346,7 +416,10 @@ pub struct Batch<'a> {
 impl Batch<'_> {
     /// Closes the batch: a crash leaves all of it or nothing.
     pub fn seal(self) -> Result<(), Error> {
-        let sealed = done(unsafe { sys::dilluvas_raw_seal(&mut self.cache.handle) });
+        let sealed = done(
+            self.cache
+                .on(|handle| unsafe { sys::dilluvas_raw_seal(handle) }),
+        );
         std::mem::forget(self);
         sealed
     }
@@ -368,6 +441,7 @@ impl DerefMut for Batch<'_> {
 
 impl Drop for Batch<'_> {
     fn drop(&mut self) {
-        unsafe { sys::dilluvas_raw_cancel(&mut self.cache.handle) };
+        self.cache
+            .on(|handle| unsafe { sys::dilluvas_raw_cancel(handle) });
     }
 }

@@ -13,14 +13,22 @@ pub enum Error {
     NoBatch,
     /// The page is an index, which has no values.
     Index,
+    /// The call isn't made over a file.
+    NotOverFile,
     /// An allocation failed.
     OutOfMemory,
     /// A read failed.
     Read,
     /// A write failed, in this call or in an earlier one.
     Write,
-    /// The messages of the page make no node.
+    /// The messages of the page, or the bytes of the file, aren't what a cache wrote.
     Corruption,
+    /// It is a folder, or another thing that is no file.
+    NoFile,
+    /// The file may not be read and written, or can't be made.
+    NoAccess,
+    /// Another process has the file open, or this one has.
+    Held,
     /// The page is the cache's own.
     ReservedId,
     /// The capacity of the cache is below 256.
@@ -50,14 +58,18 @@ pub enum Error {
 }
 
 // The numbers of the statuses that tell them.
-const STATUSES: [(u32, Error); 19] = [
+const STATUSES: [(u32, Error); 23] = [
     (7, Error::Arguments),
     (8, Error::NoBatch),
     (9, Error::Index),
+    (10, Error::NotOverFile),
     (16, Error::OutOfMemory),
     (17, Error::Read),
     (18, Error::Write),
     (19, Error::Corruption),
+    (32, Error::NoFile),
+    (33, Error::NoAccess),
+    (34, Error::Held),
     (101, Error::ReservedId),
     (102, Error::CapacityTooSmall),
     (103, Error::IntervalZero),

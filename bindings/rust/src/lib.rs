@@ -16,13 +16,18 @@
 //! # }
 //! ```
 //!
+//! [`Cache::open`] opens one over a file, and [`Cache::on_device`] over anything that reads, writes and syncs bytes.
+//!
 //! Every method takes `&mut self`: a [`Cache`] may go to another thread, and is used by one at a time. It is `Send`, and not `Sync`.
 
 mod cache;
+mod device;
 mod error;
+mod file;
 mod page;
 mod sys;
 
-pub use cache::{Amplification, Batch, Cache, Settings, Swap, Token};
+pub use cache::{Amplification, Batch, Cache, FileSettings, Settings, Swap, Token};
+pub use device::Device;
 pub use error::Error;
 pub use page::{Page, Pairs};

@@ -27,6 +27,23 @@ pub struct Settings {
     pub clean_every: u64,
 }
 
+/// The settings of a cache over a file.
+#[repr(C)]
+pub struct FileSettings {
+    pub cache_capacity: u64,
+    pub idgen_persist_interval: u64,
+    pub segment_size: usize,
+}
+
+/// What is done next to a file.
+#[repr(C)]
+#[derive(Default)]
+pub struct FileTask {
+    pub kind: u32,
+    pub at: u64,
+    pub len: usize,
+}
+
 /// What is told of a page beside its pairs.
 #[repr(C)]
 #[derive(Default)]
@@ -42,11 +59,29 @@ pub const STALE: u32 = 1;
 pub const GONE: u32 = 2;
 pub const NONE: u32 = 3;
 pub const SHORT: u32 = 4;
+pub const READ: u32 = 17;
+pub const WRITE: u32 = 18;
+pub const NEEDS: u32 = 20;
+
+// The kinds of a task.
+pub const NOTHING: u32 = 0;
+pub const SYNC: u32 = 2;
 
 // SAFETY of each call: the handle was closed at first and was written by these functions alone, in one call at a time; each pointer is that
 // of a live slice of initialised bytes, of the length beside it; and what is written to overlaps nothing else, since it is borrowed alone.
 unsafe extern "C" {
     pub fn dilluvas_raw_open_memory(handle: &mut Handle, settings: &Settings) -> u32;
+    pub fn dilluvas_raw_open_file(handle: &mut Handle, settings: &FileSettings, len: u64) -> u32;
+    pub fn dilluvas_raw_next_task(
+        handle: &mut Handle,
+        task: &mut FileTask,
+        buffer: *mut u8,
+        room: usize,
+    ) -> u32;
+    pub fn dilluvas_raw_needs(handle: &mut Handle, at: &mut u64, len: &mut usize) -> u32;
+    pub fn dilluvas_raw_hand_in(handle: &mut Handle, at: u64, bytes: *const u8, len: usize) -> u32;
+    pub fn dilluvas_raw_forget(handle: &mut Handle) -> u32;
+    pub fn dilluvas_raw_failed(handle: &mut Handle) -> u32;
     pub fn dilluvas_raw_close(handle: &mut Handle) -> u32;
     pub fn dilluvas_raw_text(status: u32, buffer: *mut u8, room: usize, needed: &mut usize) -> u32;
     pub fn dilluvas_raw_allocate(
