@@ -1,6 +1,10 @@
-"""Each method of dilluvas.py once, and answers that aren't OK."""
+"""Each method of dilluvas.py once, a cache over a file, and answers that aren't OK."""
 
-from dilluvas import Cache, Gone, Refused, Stale, text_of
+import os
+import tempfile
+
+from dilluvas import HELD, NO_ACCESS, NO_FILE, Cache, Gone, Refused, Stale, text_of
+from dilluvas_file import FileCache
 
 
 def refused(call):
@@ -58,3 +62,31 @@ with Cache() as opened:
     log(opened)
 assert refused(opened.flush).status == 5
 assert str(refused(lambda: Cache(capacity=255))) == text_of(102)
+
+
+def file(folder):
+    path = os.path.join(folder, "pages")
+    small = {"capacity": 4096, "segment_size": 4096}
+    with FileCache(path, **small) as cache:
+        stamps = dict(cache.allocate() for _ in range(100))
+        for value in (b"first" * 20, b"then" * 20):
+            for page in stamps:
+                stamps[page] = cache.set(page, stamps[page], b"key", value)
+        long, _ = cache.allocate([(b"key", b"long" * 50000)])
+        cache.flush()
+        assert refused(cache.attempt_gc).status == refused(cache.amplification).status == 10
+        assert refused(lambda: FileCache(path)).status == HELD
+    with FileCache(path, **small) as cache:
+        assert cache.was_recovered()
+        assert all(cache.get(page).pairs == [(b"key", b"then" * 20)] for page in stamps)
+        assert cache.value(long, b"key") == b"long" * 50000
+    with open(path, "r+b") as damaged:
+        damaged.write(b"X")
+    assert refused(lambda: FileCache(path)).status == 19
+    assert refused(lambda: FileCache(folder)).status == NO_FILE
+    assert refused(lambda: FileCache(os.path.join(path, "file"))).status == NO_ACCESS
+    assert os.listdir(folder) == ["pages"]
+
+
+with tempfile.TemporaryDirectory() as made:
+    file(made)

@@ -5,8 +5,8 @@
         stamp = cache.set(page, stamp, b"key", b"other")
         assert cache.get(page).pairs == [(b"key", b"other")]
 
-A cache is used by one thread at a time. The library is libdilluvas.so of the folder that bindings/build.sh fills, or the file that the
-variable DILLUVAS_SO names.
+dilluvas_file has one over a file. A cache is used by one thread at a time. The library is libdilluvas.so of the folder that
+bindings/build.sh fills, or the file that the variable DILLUVAS_SO names.
 """
 
 import ctypes
@@ -16,6 +16,8 @@ from ctypes import POINTER, byref, c_bool, c_char_p, c_size_t, c_uint32, c_uint6
 from typing import NamedTuple
 
 OK, STALE, GONE, NONE, SHORT = range(5)
+READ, WRITE, NEEDS = 17, 18, 20
+NO_FILE, NO_ACCESS, HELD = 32, 33, 34
 
 
 class _Handle(ctypes.Structure):
@@ -32,6 +34,14 @@ class _Settings(ctypes.Structure):
     ]
 
 
+class _FileSettings(ctypes.Structure):
+    _fields_ = [("cache_capacity", c_uint64), ("idgen_persist_interval", c_uint64), ("segment_size", c_size_t)]
+
+
+class _Task(ctypes.Structure):
+    _fields_ = [("kind", c_uint32), ("at", c_uint64), ("len", c_size_t)]
+
+
 class _Found(ctypes.Structure):
     _fields_ = [("stamp", c_uint64), ("count", c_size_t), ("needed", c_size_t), ("is_index", c_bool)]
 
@@ -43,6 +53,12 @@ _BUFFER = (c_void_p, c_size_t)
 # The functions of the library, as dilluvas.h declares them.
 _CALLS = {
     "open_memory": (_HANDLE, POINTER(_Settings)),
+    "open_file": (_HANDLE, POINTER(_FileSettings), c_uint64),
+    "next_task": (_HANDLE, POINTER(_Task), *_BUFFER),
+    "needs": (_HANDLE, _NUMBER, _SIZE),
+    "hand_in": (_HANDLE, c_uint64, *_BYTES),
+    "forget": (_HANDLE,),
+    "failed": (_HANDLE,),
     "close": (_HANDLE,),
     "text": (c_uint32, *_BUFFER, _SIZE),
     "allocate": (_HANDLE, *_BYTES, _NUMBER, _NUMBER),
