@@ -16,17 +16,17 @@ compile() {
 
 compile calls
 "$out/calls"
-compile no_memory -Wl,--wrap=malloc,--wrap=realloc,--wrap=free
-"$out/no_memory"
 files=$(mktemp -d)
 trap 'rm -rf "$files"' EXIT
 chmod 755 "$files"
+compile no_memory "$out/dilluvas_file.c" -Wl,--wrap=malloc,--wrap=calloc,--wrap=realloc,--wrap=free
+"$out/no_memory" "$files"
 compile file "$out/dilluvas_file.c" -Wl,--wrap=pread,--wrap=pwrite,--wrap=fdatasync,--wrap=fsync
 "$out/file" "$files"
 compile killed "$out/dilluvas_file.c"
 "$out/killed" "$files" 200
 if command -v valgrind >/dev/null; then
-    for program in calls no_memory "file $files"; do
+    for program in calls "no_memory $files" "file $files"; do
         # shellcheck disable=SC2086 # a program and its argument
         valgrind -q --child-silent-after-fork=yes --error-exitcode=1 --leak-check=full --show-leak-kinds=all "$out/"$program >/dev/null
     done

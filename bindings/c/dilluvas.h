@@ -53,7 +53,7 @@ enum {
     DILLUVAS_MEMORY = 16,     /* An allocation failed. The call may be made again. */
     DILLUVAS_READ = 17,       /* A read failed. The call may be made again. No cache in memory answers so. */
     DILLUVAS_WRITE = 18,      /* A write failed, now or earlier: every later call answers so, until the store is opened again. */
-    DILLUVAS_CORRUPTION = 19, /* The messages of the page, or the bytes of the file, aren't what a cache wrote. None in memory answers so. */
+    DILLUVAS_CORRUPTION = 19, /* No cache wrote the messages of the page, or the bytes of the file. None in memory answers so. */
     DILLUVAS_NEEDS = 20,      /* Bytes of the file are needed: the call is made again with them. No cache in memory answers so. */
 
     /* What dilluvas_file_open of dilluvas_file.h says of a file, and no call of this header, */

@@ -117,16 +117,12 @@ static dilluvas_status open_locked(const char *path, int flags, int *descriptor,
     }
 }
 
-/* Makes durable which files the folder of a path has. */
-static bool sync_folder(const char *path) {
-    const char *slash = strrchr(path, '/');
-    size_t len = !slash ? 0 : slash == path ? 1 : (size_t)(slash - path);
-    char *folder = malloc(len + 2);
-    if (!folder) return false;
-    memcpy(folder, slash ? path : ".", slash ? len : 1);
-    folder[slash ? len : 1] = 0;
-    int descriptor = open(folder, O_RDONLY | O_DIRECTORY | O_CLOEXEC);
-    free(folder);
+/* Makes durable which files the folder of a path has. It cuts the path. */
+static bool sync_folder(char *path) {
+    char *slash = strrchr(path, '/');
+    if (slash == path) slash[1] = 0;
+    else if (slash) slash[0] = 0;
+    int descriptor = open(slash ? path : ".", O_RDONLY | O_DIRECTORY | O_CLOEXEC);
     if (descriptor < 0) return false;
     /* there are systems that sync no folder */
     bool done = fsync(descriptor) == 0 || errno == EINVAL;
@@ -154,7 +150,7 @@ static void close_all(dilluvas_file *file) {
 }
 
 /* Makes a file by another name, and gives it its own once it is durable. The other name is kept by one process at a time. */
-static dilluvas_status make(dilluvas_file *file, const char *path, const char *other, const dilluvas_file_settings *settings) {
+static dilluvas_status make(dilluvas_file *file, const char *path, char *other, const dilluvas_file_settings *settings) {
     struct stat found;
     dilluvas_status status = open_locked(other, O_CREAT, &file->descriptor, &found);
     if (status != DILLUVAS_OK) return status == DILLUVAS_NONE ? DILLUVAS_NO_ACCESS : status;
@@ -167,7 +163,7 @@ static dilluvas_status make(dilluvas_file *file, const char *path, const char *o
         unlink(other);
         return status;
     }
-    return sync_folder(path) ? DILLUVAS_OK : DILLUVAS_WRITE;
+    return sync_folder(other) ? DILLUVAS_OK : DILLUVAS_WRITE;
 }
 
 static dilluvas_status make_new(dilluvas_file *file, const char *path, const dilluvas_file_settings *settings) {

@@ -33,7 +33,8 @@ static dilluvas_status get_round(dilluvas_file *file, uint64_t page, uint64_t *s
     dilluvas_status status;
     size_t len;
     *round = 0;
-    DILLUVAS_FILE_CALL(file, status, dilluvas_value(&file->cache, page, (const uint8_t *)"r", 1, stamp, (uint8_t *)round, sizeof *round, &len));
+    DILLUVAS_FILE_CALL(file, status,
+                       dilluvas_value(&file->cache, page, (const uint8_t *)"r", 1, stamp, (uint8_t *)round, sizeof *round, &len));
     return status;
 }
 

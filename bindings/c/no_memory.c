@@ -1,9 +1,13 @@
-/* Makes calls with the first allocation failing, then with the second, and so on. Each call has to answer a status, the one that is refused
- * has to succeed when it is made again, and all has to be freed. Linked with --wrap=malloc, --wrap=realloc and --wrap=free. */
-#include "dilluvas.h"
+/* Makes calls with the first allocation failing, then with the second, and so on: of a cache in memory, and of one over a file. Each call
+ * has to answer a status, the one that is refused has to succeed when it is made again, and all has to be freed. Linked with --wrap=malloc,
+ * --wrap=calloc, --wrap=realloc and --wrap=free. Usage: no_memory FOLDER, in which it makes its file. */
+#define _DEFAULT_SOURCE
+#include "dilluvas_file.h"
 #include <stdio.h>
+#include <unistd.h>
 
 void *__real_malloc(size_t size);
+void *__real_calloc(size_t count, size_t size);
 void *__real_realloc(void *block, size_t size);
 void __real_free(void *block);
 
@@ -19,6 +23,12 @@ static bool fails(void) {
 
 void *__wrap_malloc(size_t size) {
     void *block = fails() ? NULL : __real_malloc(size);
+    if (block) blocks++;
+    return block;
+}
+
+void *__wrap_calloc(size_t count, size_t size) {
+    void *block = fails() ? NULL : __real_calloc(count, size);
     if (block) blocks++;
     return block;
 }
@@ -85,7 +95,50 @@ static void run(void) {
     CALL(dilluvas_close(&d));
 }
 
-int main(void) {
+/* Likewise over a file, which is opened twice. */
+#define FILE_CALL(call) \
+    do { \
+        DILLUVAS_FILE_CALL(&file, status, call); \
+        if (again(__LINE__, status, true)) { \
+            DILLUVAS_FILE_CALL(&file, status, call); \
+            again(__LINE__, status, false); \
+        } \
+    } while (0)
+
+static char path[4096];
+
+static void run_over_file(void) {
+    dilluvas_file file = DILLUVAS_FILE_CLOSED;
+    dilluvas_file_settings settings = {256, 10, 600};
+    dilluvas_status status;
+    uint64_t page = 0, other = 0, stamp = 0, n;
+    uint8_t buffer[4096], bytes[100] = {1};
+    size_t size;
+    dilluvas_found found;
+    unlink(path);
+    CALL(dilluvas_file_open(&file, path, &settings));
+    FILE_CALL(dilluvas_allocate(&file.cache, NULL, 0, &page, &stamp));
+    for (uint8_t i = 0; i < 12; i++) {
+        FILE_CALL(dilluvas_set(&file.cache, page, &stamp, &i, 1, bytes, 100));
+    }
+    FILE_CALL(dilluvas_allocate(&file.cache, NULL, 0, &other, &n));
+    FILE_CALL(dilluvas_generate_id(&file.cache, &n));
+    FILE_CALL(dilluvas_pin(&file.cache));
+    FILE_CALL(dilluvas_set(&file.cache, page, &stamp, bytes, 50, bytes, 100));
+    FILE_CALL(dilluvas_seal(&file.cache));
+    FILE_CALL(dilluvas_flush(&file.cache, &size));
+    CALL(dilluvas_file_close(&file));
+    CALL(dilluvas_file_open(&file, path, &settings));
+    FILE_CALL(dilluvas_get(&file.cache, page, &found, buffer, sizeof buffer));
+    FILE_CALL(dilluvas_open_tree(&file.cache, bytes, 50, &n));
+    FILE_CALL(dilluvas_del(&file.cache, page, &found.stamp, bytes, 1));
+    FILE_CALL(dilluvas_free(&file.cache, page, &found.stamp));
+    FILE_CALL(dilluvas_flush(&file.cache, &size));
+    CALL(dilluvas_file_close(&file));
+}
+
+/* Lets each allocation of a run fail in turn, and answers whether all went well. */
+static bool each_fails(const char *name, void (*run)(void)) {
     long tried = 0, passed_over = 0, calls = 0;
     for (;; tried++) {
         left = tried;
@@ -94,12 +147,20 @@ int main(void) {
         run();
         if (wrong || blocks != 0 || refused > 1) {
             printf("allocation %ld: %ld blocks are left, %d calls were refused\n", tried, blocks, refused);
-            return 1;
+            return false;
         }
         if (!failed) break;
         calls += refused;
         passed_over += !refused;
     }
-    printf("%ld allocations failed in turn: %ld calls were refused, and %ld went on without\n", tried, calls, passed_over);
-    return 0;
+    printf("%s: %ld allocations failed in turn: %ld calls were refused, and %ld went on without\n", name, tried, calls, passed_over);
+    return true;
+}
+
+int main(int count, char **arguments) {
+    if (count != 2) return 2;
+    snprintf(path, sizeof path, "%s/no_memory", arguments[1]);
+    bool passed = each_fails("in memory", run) && each_fails("over a file", run_over_file);
+    unlink(path);
+    return !passed;
 }

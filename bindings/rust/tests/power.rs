@@ -113,7 +113,7 @@ impl Device for Shared {
         let mut disk = self.0.lock().unwrap();
         disk.call()?;
         disk.syncs += 1;
-        if disk.syncs % disk.syncs_one_of == 0 {
+        if disk.syncs.is_multiple_of(disk.syncs_one_of) {
             disk.durable = disk.bytes.clone();
             disk.unsynced.clear();
         }
