@@ -62,11 +62,16 @@ told_task None = nothing_to_do
 told_task (Some (Write at len)) = record { kind = 1; at = at; len = len }
 told_task (Some Sync) = record { kind = 2; at = 0; len = 0 }
 
--- What is asked of a file leaves its handle as it is. A cache in memory has none, and nothing to tell of it.
-abbrev pub Asks : Option Store → Option Store → ℕ → Type 0 → Type 0 → Type 0
-Asks None new status stays nothing = (new ≡ None) × (status ≡ number.closed) × stays
-Asks (Some (Memory old)) new status stays nothing = (new ≡ Some (Memory old)) × (status ≡ number.ok) × nothing
-Asks (Some old) new status stays nothing = (new ≡ Some old) × ((status ≡ number.ok) ⊎ ((status ≡ number.write) × stays))
+-- it is a task, or none
+abbrev pub IsTask : FileTask → Type 0
+IsTask told = (task : Option Task) × (told ≡ told_task task)
+
+-- What is asked of a file is told, or that a write failed, and its handle stays as it is. A cache in memory has none, and nothing to tell
+-- of it.
+abbrev pub Asks : Option Store → Option Store → ℕ → Type 0 → Type 0 → Type 0 → Type 0
+Asks None new status stays nothing told = (new ≡ None) × (status ≡ number.closed) × stays
+Asks (Some (Memory old)) new status stays nothing told = (new ≡ Some (Memory old)) × (status ≡ number.ok) × nothing
+Asks (Some old) new status stays nothing told = (new ≡ Some old) × (((status ≡ number.ok) × told) ⊎ ((status ≡ number.write) × stays))
 
 -- The disk of the file is told something, and the handle stays as it is.
 abbrev pub Tells : Option Store → Option Store → ℕ → Type 0

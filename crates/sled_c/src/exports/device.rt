@@ -1,7 +1,7 @@
 //! What the program reads and writes for a cache over a file.
 
-ghost use Rattle.std.specs.Prelude.{◌≡◌, ◌⊎◌, Some};
-ghost use Rattle.sled_c.specs.Files.{Asks, HandsIn, Tells, nothing_to_do, told_task};
+ghost use Rattle.std.specs.Prelude.{◌≡◌, ◌⊎◌, ⊤, Some};
+ghost use Rattle.sled_c.specs.Files.{Asks, HandsIn, IsTask, Tells, nothing_to_do, told_task};
 ghost use Rattle.sled_c.specs.Numbers as number;
 
 use crate::handle::Handle;
@@ -32,7 +32,7 @@ pub extern "C" fn dilluvas_raw_next_task(
 ) -> u32
     ensures { Asks handle.old.store handle.new.store result
         ((task.new ≡ task.old) × (buffer.new ≡ buffer.old))
-        ((task.new ≡ nothing_to_do) × (buffer.new ≡ buffer.old)) }
+        ((task.new ≡ nothing_to_do) × (buffer.new ≡ buffer.old)) (IsTask task.new) }
 {
     let Some(store) = handle.take(alloc) else {
         return CLOSED;
@@ -50,8 +50,8 @@ pub extern "C" fn dilluvas_raw_next_task(
 
 // Writes the next task of a disk, unless a write or a sync failed.
 fn put_task(disk: &StagedDisk, task: &mut FileTask, buffer: &mut [u8]) -> u32
-    ensures { (result ≡ number.ok) ⊎ ((result ≡ number.write) × (task.new ≡ task.old)
-        × (buffer.new ≡ buffer.old)) }
+    ensures { ((result ≡ number.ok) × IsTask task.new) ⊎ ((result ≡ number.write)
+        × (task.new ≡ task.old) × (buffer.new ≡ buffer.old)) }
 {
     if disk.has_failed() {
         return WRITE;
@@ -88,7 +88,7 @@ pub extern "C" fn dilluvas_raw_needs(
     len: &mut usize,
 ) -> u32
     ensures { Asks handle.old.store handle.new.store result
-        ((at.new ≡ at.old) × (len.new ≡ len.old)) ((at.new ≡ 0) × (len.new ≡ 0)) }
+        ((at.new ≡ at.old) × (len.new ≡ len.old)) ((at.new ≡ 0) × (len.new ≡ 0)) ⊤ }
 {
     let Some(store) = handle.take(alloc) else {
         return CLOSED;
@@ -101,7 +101,7 @@ pub extern "C" fn dilluvas_raw_needs(
 // Writes which bytes are needed, unless a write or a sync failed.
 fn put_needs(store: &Store, at: &mut u64, len: &mut usize) -> u32
     ensures { Asks (Some store.now) (Some store.now) result
-        ((at.new ≡ at.old) × (len.new ≡ len.old)) ((at.new ≡ 0) × (len.new ≡ 0)) }
+        ((at.new ≡ at.old) × (len.new ≡ len.old)) ((at.new ≡ 0) × (len.new ≡ 0)) ⊤ }
 {
     if let Some(disk) = store.disk()
         && disk.has_failed()
