@@ -182,8 +182,8 @@ static inline dilluvas_status dilluvas_open_memory(dilluvas *d, const dilluvas_s
     return dilluvas_raw_open_memory(d, settings);
 }
 
-/* Closes the cache and frees all that it owns. Nothing is flushed: of a cache in memory nothing is left, and of one over a file what was
- * flushed. An open batch is cancelled.
+/* Closes the cache and frees all that it owns. Nothing is flushed: of a cache in memory nothing is left, and of one over a file what is
+ * durable. An open batch is lost.
  *
  * Answers NOT_OPEN. The handle is closed then, whatever comes. */
 static inline dilluvas_status dilluvas_close(dilluvas *d) {

@@ -7,7 +7,6 @@ ghost use Rattle.sled_c.specs.Handles.{CloseHandle};
 ghost use Rattle.sled_c.specs.Openings.{IsNew, IsNewStore, OpenHandle, TellsWhy, config_of};
 ghost use Rattle.sled_c.specs.Statuses.{TellsBytes};
 
-use crate::calls::batches;
 use crate::handle::Handle;
 use crate::output::put_bytes;
 use crate::status::{ALREADY_OPEN, CLOSED, MEMORY, OK, status_of, text_of};
@@ -85,17 +84,15 @@ fn new_log(alloc: Global, settings: Settings) -> MemLog
     MemLog::new(alloc, settings.blob_limit, settings.clean_every)
 }
 
-/// Closes the cache behind a handle. Nothing is flushed, and an open batch is cancelled.
+/// Closes the cache behind a handle, or the file that is being opened. Nothing is flushed, so an open batch is lost.
 #[unsafe(no_mangle)]
 pub extern "C" fn dilluvas_raw_close(alloc: Global, handle: &mut Handle) -> u32
     ensures { CloseHandle handle.old.store handle.new.store result }
 {
-    let Some(mut store) = handle.take(alloc) else {
+    let Some(store) = handle.take(alloc) else {
         return CLOSED;
     };
-    if let Store::Memory(cache) = &mut *store {
-        batches::cancel(cache);
-    }
+    drop(store);
     OK
 }
 
