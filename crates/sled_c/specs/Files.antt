@@ -1,6 +1,8 @@
 -- Opening a cache over a file, and what the program asks of the file's disk.
 use Rattle.std.specs.Prelude.{◌≡◌, ◌⊎◌, ℕ, ⊤, false, Option, None, Some}
 use Rattle.sled_base.specs.declared.types.Error.{Error}
+use Rattle.sled_base.specs.declared.types.Error.TheVariants.{Unsupported}
+use Rattle.sled_base.specs.declared.types.Why.{Why}
 use Rattle.sled_disk.specs.declared.disk.staged.tasks.Task.{Task}
 use Rattle.sled_disk.specs.declared.disk.staged.tasks.Task.TheVariants.{Write, Sync}
 use Rattle.sled_pagecache.specs.Cache.{Cache}
@@ -46,9 +48,15 @@ abbrev pub GoesOnIn : Store → Store → ℕ → Type 0
 GoesOnIn (Begun opening) new status = GoesOn opening.config (Some new) status
 GoesOnIn old new status = (status ≡ number.already_open) × (new ≡ old)
 
--- An opening is begun, or one that was begun goes on. An open handle stays.
+-- the status tells what is wrong with the settings, where something is
+abbrev pub TellsFault : Config → ℕ → Type 0
+TellsFault config status = (why : Why) → fault_of config ≡ Some why → status ≡ number_of_error (Unsupported why)
+
+-- An opening is begun, or one that was begun goes on. What is wrong with the settings is told first, and the handle stays closed. An open
+-- handle stays.
 abbrev pub OpenFile : FileSettings → Option Store → Option Store → ℕ → Type 0
-OpenFile settings None new status = GoesOn (config_of settings) new status
+OpenFile settings None None status = IsFailure status × TellsFault (config_of settings) status
+OpenFile settings None (Some new) status = (fault_of (config_of settings) ≡ None) × GoesOn (config_of settings) (Some new) status
 OpenFile settings (Some (Begun opening)) new status = GoesOn opening.config new status
 OpenFile settings (Some (Memory old)) new status = (status ≡ number.already_open) × (new ≡ Some (Memory old))
 OpenFile settings (Some (File old)) new status = (status ≡ number.already_open) × (new ≡ Some (File old))

@@ -1,7 +1,8 @@
 //! Opening a cache over a file, of which the program hands in the bytes.
 
 ghost use Rattle.std.specs.Prelude.{◌≡◌, None, IfOk, IfErr, IfSome};
-ghost use Rattle.sled_c.specs.Files.{IsFailure, IsOpened};
+ghost use Rattle.sled_pagecache.specs.Opening.{fault_of};
+ghost use Rattle.sled_c.specs.Files.{IsFailure, IsOpened, TellsFault};
 
 use crate::status::{READ, status_of};
 use read_log::ReadLog;
@@ -42,11 +43,16 @@ enum Step {
 }
 
 impl Opening {
-    /// Begins with a file of so many bytes. One of none is given an empty log.
+    /// Begins with a file of so many bytes, unless something is wrong with the settings. One of none is given an empty log.
     pub fn new(alloc: Global, config: Config, len: u64) -> Result<Opening, u32>
         ensures config { IfOk result (λ opening. opening.config ≡ config) }
+        ensures faultless { IfOk result (λ opening. fault_of config ≡ None) }
+        ensures settings { IfErr result (TellsFault config) }
         ensures fails { IfErr result IsFailure }
     {
+        if let Some(why) = config.fault() {
+            return Err(status_of(&Error::Unsupported(why)));
+        }
         let mut disk = StagedDisk::new(alloc, len);
         if len == 0
             && let Err(error) = DiskLog::create(&mut disk)

@@ -20,20 +20,7 @@ pub extern "C" fn dilluvas_raw_pin(alloc: Global, handle: &mut Handle) -> u32
     ensures { Through ⟦<FileLog as Log>⟧ handle.old.store handle.new.store result ⊤
         (λ _ g old new status. Opens g old new status) }
 {
-    let Some(mut store) = handle.take(alloc) else {
-        return CLOSED;
-    };
-    let status = match &mut *store {
-        Store::Memory(cache) => calls::pin(cache),
-        Store::File(cache) if has_failed(cache) => WRITE,
-        Store::File(cache) => {
-            let status = calls::pin(cache);
-            told(cache, status)
-        }
-        Store::Begun(_) => CLOSED,
-    };
-    handle.put(alloc, store);
-    status
+    through!(alloc, handle, cache => calls::pin(cache))
 }
 
 /// Closes the open batch: a crash leaves all of it or nothing.
@@ -42,20 +29,7 @@ pub extern "C" fn dilluvas_raw_seal(alloc: Global, handle: &mut Handle) -> u32
     ensures { Through ⟦<FileLog as Log>⟧ handle.old.store handle.new.store result ⊤
         (λ _ g old new status. Closes g old new (SealsBatch g) status) }
 {
-    let Some(mut store) = handle.take(alloc) else {
-        return CLOSED;
-    };
-    let status = match &mut *store {
-        Store::Memory(cache) => calls::seal(cache),
-        Store::File(cache) if has_failed(cache) => WRITE,
-        Store::File(cache) => {
-            let status = calls::seal(cache);
-            told(cache, status)
-        }
-        Store::Begun(_) => CLOSED,
-    };
-    handle.put(alloc, store);
-    status
+    through!(alloc, handle, cache => calls::seal(cache))
 }
 
 /// Closes the open batch, of which a crash may leave a part. Nothing is undone.
@@ -64,18 +38,5 @@ pub extern "C" fn dilluvas_raw_cancel(alloc: Global, handle: &mut Handle) -> u32
     ensures { Through ⟦<FileLog as Log>⟧ handle.old.store handle.new.store result ⊤
         (λ _ g old new status. Closes g old new (CancelsBatch g) status) }
 {
-    let Some(mut store) = handle.take(alloc) else {
-        return CLOSED;
-    };
-    let status = match &mut *store {
-        Store::Memory(cache) => calls::cancel(cache),
-        Store::File(cache) if has_failed(cache) => WRITE,
-        Store::File(cache) => {
-            let status = calls::cancel(cache);
-            told(cache, status)
-        }
-        Store::Begun(_) => CLOSED,
-    };
-    handle.put(alloc, store);
-    status
+    through!(alloc, handle, cache => calls::cancel(cache))
 }

@@ -1,7 +1,8 @@
 //! Opening a cache over a file.
 
-ghost use Rattle.std.specs.Prelude.{IfOk, IfErr};
-ghost use Rattle.sled_c.specs.Files.{GoesOnIn, IsBegun, IsBeingOpened, IsFailure, OpenFile, config_of};
+ghost use Rattle.std.specs.Prelude.{◌≡◌, None, IfOk, IfErr};
+ghost use Rattle.sled_pagecache.specs.Opening.{fault_of};
+ghost use Rattle.sled_c.specs.Files.{GoesOnIn, IsBegun, IsBeingOpened, IsFailure, OpenFile, TellsFault, config_of};
 
 use crate::handle::Handle;
 use crate::opening::Opening;
@@ -22,7 +23,8 @@ pub struct FileSettings {
     pub segment_size: usize,
 }
 
-/// Opens a cache over a file of so many bytes behind a closed handle. Where bytes were needed it goes on, with what was begun.
+/// Opens a cache over a file of so many bytes behind a closed handle, once the settings are found to be right. Where bytes were needed it
+/// goes on, with what was begun.
 #[unsafe(no_mangle)]
 pub extern "C" fn dilluvas_raw_open_file(
     alloc: Global,
@@ -52,6 +54,8 @@ pub extern "C" fn dilluvas_raw_open_file(
 // A store of which nothing was read.
 fn new_store(alloc: Global, settings: FileSettings, len: u64) -> Result<Box<Store>, u32>
     ensures begun { IfOk result (λ store. IsBegun (config_of settings) store.value) }
+    ensures faultless { IfOk result (λ store. fault_of (config_of settings) ≡ None) }
+    ensures settings { IfErr result (TellsFault (config_of settings)) }
     ensures fails { IfErr result IsFailure }
 {
     let config = Config {

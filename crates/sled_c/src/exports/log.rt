@@ -19,20 +19,7 @@ pub extern "C" fn dilluvas_raw_generate_id(alloc: Global, handle: &mut Handle, i
     ensures { Through ⟦<FileLog as Log>⟧ handle.old.store handle.new.store result (id.new ≡ id.old)
         (λ _ g old new status. GivesId g old new status id.old id.new) }
 {
-    let Some(mut store) = handle.take(alloc) else {
-        return CLOSED;
-    };
-    let status = match &mut *store {
-        Store::Memory(cache) => calls::generate_id(cache, id),
-        Store::File(cache) if has_failed(cache) => WRITE,
-        Store::File(cache) => {
-            let status = calls::generate_id(cache, id);
-            told(cache, status)
-        }
-        Store::Begun(_) => CLOSED,
-    };
-    handle.put(alloc, store);
-    status
+    through!(alloc, handle, cache => calls::generate_id(cache, id))
 }
 
 /// Makes all that is pending durable, and writes how many bytes that wrote.
@@ -41,20 +28,7 @@ pub extern "C" fn dilluvas_raw_flush(alloc: Global, handle: &mut Handle, written
     ensures { Through ⟦<FileLog as Log>⟧ handle.old.store handle.new.store result (written.new ≡ written.old)
         (λ _ g old new status. MakesStable g old new status written.old written.new) }
 {
-    let Some(mut store) = handle.take(alloc) else {
-        return CLOSED;
-    };
-    let status = match &mut *store {
-        Store::Memory(cache) => calls::flush(cache, written),
-        Store::File(cache) if has_failed(cache) => WRITE,
-        Store::File(cache) => {
-            let status = calls::flush(cache, written);
-            told(cache, status)
-        }
-        Store::Begun(_) => CLOSED,
-    };
-    handle.put(alloc, store);
-    status
+    through!(alloc, handle, cache => calls::flush(cache, written))
 }
 
 /// Writes how many bytes the log has.
@@ -63,20 +37,7 @@ pub extern "C" fn dilluvas_raw_size(alloc: Global, handle: &mut Handle, bytes: &
     ensures { Through ⟦<FileLog as Log>⟧ handle.old.store handle.new.store result (bytes.new ≡ bytes.old)
         (λ _ g old new status. TellsSize g old new status bytes.old bytes.new) }
 {
-    let Some(store) = handle.take(alloc) else {
-        return CLOSED;
-    };
-    let status = match &*store {
-        Store::Memory(cache) => calls::size(cache, bytes),
-        Store::File(cache) if has_failed(cache) => WRITE,
-        Store::File(cache) => {
-            let status = calls::size(cache, bytes);
-            told(cache, status)
-        }
-        Store::Begun(_) => CLOSED,
-    };
-    handle.put(alloc, store);
-    status
+    through!(alloc, handle, cache => calls::size(cache, bytes))
 }
 
 /// Writes how many bytes the log has, and how many the pages would take, at most `u64::MAX`.
@@ -136,18 +97,5 @@ pub extern "C" fn dilluvas_raw_was_recovered(
     ensures { Through ⟦<FileLog as Log>⟧ handle.old.store handle.new.store result (recovered.new ≡ recovered.old)
         (λ _ g old new status. TellsRecovered g old new status recovered.new) }
 {
-    let Some(store) = handle.take(alloc) else {
-        return CLOSED;
-    };
-    let status = match &*store {
-        Store::Memory(cache) => calls::was_recovered(cache, recovered),
-        Store::File(cache) if has_failed(cache) => WRITE,
-        Store::File(cache) => {
-            let status = calls::was_recovered(cache, recovered);
-            told(cache, status)
-        }
-        Store::Begun(_) => CLOSED,
-    };
-    handle.put(alloc, store);
-    status
+    through!(alloc, handle, cache => calls::was_recovered(cache, recovered))
 }

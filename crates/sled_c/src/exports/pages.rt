@@ -31,20 +31,7 @@ pub extern "C" fn dilluvas_raw_allocate(
         (λ _ g old new status. AllocatesLeaf g old new pairs.now status (page.old, stamp.old)
         (page.new, stamp.new)) }
 {
-    let Some(mut store) = handle.take(alloc) else {
-        return CLOSED;
-    };
-    let status = match &mut *store {
-        Store::Memory(cache) => calls::allocate(alloc, cache, pairs, page, stamp),
-        Store::File(cache) if has_failed(cache) => WRITE,
-        Store::File(cache) => {
-            let status = calls::allocate(alloc, cache, pairs, page, stamp);
-            told(cache, status)
-        }
-        Store::Begun(_) => CLOSED,
-    };
-    handle.put(alloc, store);
-    status
+    through!(alloc, handle, cache => calls::allocate(alloc, cache, pairs, page, stamp))
 }
 
 /// Writes what a page is, and its pairs.
@@ -61,20 +48,7 @@ pub extern "C" fn dilluvas_raw_get(
         (λ _ g old new status. GetsPage g old new page status (found.old, buffer.old)
         (found.new, buffer.new)) }
 {
-    let Some(mut store) = handle.take(alloc) else {
-        return CLOSED;
-    };
-    let status = match &mut *store {
-        Store::Memory(cache) => calls::get(cache, page, found, buffer),
-        Store::File(cache) if has_failed(cache) => WRITE,
-        Store::File(cache) => {
-            let status = calls::get(cache, page, found, buffer);
-            told(cache, status)
-        }
-        Store::Begun(_) => CLOSED,
-    };
-    handle.put(alloc, store);
-    status
+    through!(alloc, handle, cache => calls::get(cache, page, found, buffer))
 }
 
 /// Writes the value of one key of a leaf, and the stamp of the page.
@@ -93,20 +67,7 @@ pub extern "C" fn dilluvas_raw_value(
         (λ _ g old new status. GetsValue g old new page key.now status (written stamp.old needed.old
         buffer.old) (written stamp.new needed.new buffer.new)) }
 {
-    let Some(mut store) = handle.take(alloc) else {
-        return CLOSED;
-    };
-    let status = match &mut *store {
-        Store::Memory(cache) => calls::value(cache, page, key, stamp, buffer, needed),
-        Store::File(cache) if has_failed(cache) => WRITE,
-        Store::File(cache) => {
-            let status = calls::value(cache, page, key, stamp, buffer, needed);
-            told(cache, status)
-        }
-        Store::Begun(_) => CLOSED,
-    };
-    handle.put(alloc, store);
-    status
+    through!(alloc, handle, cache => calls::value(cache, page, key, stamp, buffer, needed))
 }
 
 /// Maps a key of a leaf to a value, where the page is still at the stamp, and writes the stamp that it has now.
@@ -123,20 +84,7 @@ pub extern "C" fn dilluvas_raw_set(
         (λ _ g old new status. MakesLink g old new page (Set key.now value.now) status stamp.old
         stamp.new) }
 {
-    let Some(mut store) = handle.take(alloc) else {
-        return CLOSED;
-    };
-    let status = match &mut *store {
-        Store::Memory(cache) => calls::set(alloc, cache, page, stamp, key, value),
-        Store::File(cache) if has_failed(cache) => WRITE,
-        Store::File(cache) => {
-            let status = calls::set(alloc, cache, page, stamp, key, value);
-            told(cache, status)
-        }
-        Store::Begun(_) => CLOSED,
-    };
-    handle.put(alloc, store);
-    status
+    through!(alloc, handle, cache => calls::set(alloc, cache, page, stamp, key, value))
 }
 
 /// Takes a key out of a leaf, likewise.
@@ -151,20 +99,7 @@ pub extern "C" fn dilluvas_raw_del(
     ensures { Through ⟦<FileLog as Log>⟧ handle.old.store handle.new.store result (stamp.new ≡ stamp.old)
         (λ _ g old new status. MakesLink g old new page (Del key.now) status stamp.old stamp.new) }
 {
-    let Some(mut store) = handle.take(alloc) else {
-        return CLOSED;
-    };
-    let status = match &mut *store {
-        Store::Memory(cache) => calls::del(alloc, cache, page, stamp, key),
-        Store::File(cache) if has_failed(cache) => WRITE,
-        Store::File(cache) => {
-            let status = calls::del(alloc, cache, page, stamp, key);
-            told(cache, status)
-        }
-        Store::Begun(_) => CLOSED,
-    };
-    handle.put(alloc, store);
-    status
+    through!(alloc, handle, cache => calls::del(alloc, cache, page, stamp, key))
 }
 
 /// Puts a leaf of the pairs on a page in place of what it held, likewise.
@@ -179,20 +114,7 @@ pub extern "C" fn dilluvas_raw_replace(
     ensures { Through ⟦<FileLog as Log>⟧ handle.old.store handle.new.store result (stamp.new ≡ stamp.old)
         (λ _ g old new status. ReplacesByLeaf g old new page pairs.now status stamp.old stamp.new) }
 {
-    let Some(mut store) = handle.take(alloc) else {
-        return CLOSED;
-    };
-    let status = match &mut *store {
-        Store::Memory(cache) => calls::replace(alloc, cache, page, stamp, pairs),
-        Store::File(cache) if has_failed(cache) => WRITE,
-        Store::File(cache) => {
-            let status = calls::replace(alloc, cache, page, stamp, pairs);
-            told(cache, status)
-        }
-        Store::Begun(_) => CLOSED,
-    };
-    handle.put(alloc, store);
-    status
+    through!(alloc, handle, cache => calls::replace(alloc, cache, page, stamp, pairs))
 }
 
 /// Frees a page, likewise.
@@ -206,18 +128,5 @@ pub extern "C" fn dilluvas_raw_free(
     ensures { Through ⟦<FileLog as Log>⟧ handle.old.store handle.new.store result (stamp.new ≡ stamp.old)
         (λ _ g old new status. FreesPage g old new page status stamp.old stamp.new) }
 {
-    let Some(mut store) = handle.take(alloc) else {
-        return CLOSED;
-    };
-    let status = match &mut *store {
-        Store::Memory(cache) => calls::free(cache, page, stamp),
-        Store::File(cache) if has_failed(cache) => WRITE,
-        Store::File(cache) => {
-            let status = calls::free(cache, page, stamp);
-            told(cache, status)
-        }
-        Store::Begun(_) => CLOSED,
-    };
-    handle.put(alloc, store);
-    status
+    through!(alloc, handle, cache => calls::free(cache, page, stamp))
 }

@@ -24,20 +24,7 @@ pub extern "C" fn dilluvas_raw_root(
     ensures { Through ⟦<FileLog as Log>⟧ handle.old.store handle.new.store result (page.new ≡ page.old)
         (λ _ g old new status. FindsRoot g old new name.now status page.old page.new) }
 {
-    let Some(store) = handle.take(alloc) else {
-        return CLOSED;
-    };
-    let status = match &*store {
-        Store::Memory(cache) => calls::root(cache, name, page),
-        Store::File(cache) if has_failed(cache) => WRITE,
-        Store::File(cache) => {
-            let status = calls::root(cache, name, page);
-            told(cache, status)
-        }
-        Store::Begun(_) => CLOSED,
-    };
-    handle.put(alloc, store);
-    status
+    through!(alloc, handle, cache => calls::root(cache, name, page))
 }
 
 /// Gives a name another root, where page 0 stands for none.
@@ -52,20 +39,7 @@ pub extern "C" fn dilluvas_raw_cas_root(
     ensures { Through ⟦<FileLog as Log>⟧ handle.old.store handle.new.store result (root.new ≡ root.old)
         (λ _ g old new status. SwapsRoot g old new name.now next status root.old root.new) }
 {
-    let Some(mut store) = handle.take(alloc) else {
-        return CLOSED;
-    };
-    let status = match &mut *store {
-        Store::Memory(cache) => calls::cas_root(cache, name, root, next),
-        Store::File(cache) if has_failed(cache) => WRITE,
-        Store::File(cache) => {
-            let status = calls::cas_root(cache, name, root, next);
-            told(cache, status)
-        }
-        Store::Begun(_) => CLOSED,
-    };
-    handle.put(alloc, store);
-    status
+    through!(alloc, handle, cache => calls::cas_root(cache, name, root, next))
 }
 
 /// Writes the root page of a name. A name that has none is given an index over an empty leaf.
@@ -79,18 +53,5 @@ pub extern "C" fn dilluvas_raw_open_tree(
     ensures { Through ⟦<FileLog as Log>⟧ handle.old.store handle.new.store result (page.new ≡ page.old)
         (λ _ g old new status. OpensTree g old new name.now status page.old page.new) }
 {
-    let Some(mut store) = handle.take(alloc) else {
-        return CLOSED;
-    };
-    let status = match &mut *store {
-        Store::Memory(cache) => calls::open_tree(alloc, cache, name, page),
-        Store::File(cache) if has_failed(cache) => WRITE,
-        Store::File(cache) => {
-            let status = calls::open_tree(alloc, cache, name, page);
-            told(cache, status)
-        }
-        Store::Begun(_) => CLOSED,
-    };
-    handle.put(alloc, store);
-    status
+    through!(alloc, handle, cache => calls::open_tree(alloc, cache, name, page))
 }

@@ -80,7 +80,7 @@ impl StagedDisk {
     }
 
     /// What the last read wanted whose bytes weren't handed in: their place, and how many. It is `None` again once bytes are handed in
-    /// and kept, and behind `forget`. A read outside of the file is not noted.
+    /// and kept, behind `forget`, and behind a read outside of the file, which no bytes would help.
     pub fn needs(&self) -> Option<(u64, usize)> {
         match self.stage.try_borrow() {
             Ok(stage) => stage.needs,
@@ -264,7 +264,9 @@ impl Disk for StagedDisk {
     {
         count(&mut self.reads);
         let is_within = at <= self.len && into.len() as u64 <= self.len - at;
-        if is_within && self.stage.get_mut().read(at, into) {
+        if !is_within {
+            self.stage.get_mut().needs = None;
+        } else if self.stage.get_mut().read(at, into) {
             return Ok(());
         }
         count(&mut self.failed_reads);

@@ -29,7 +29,7 @@ mod snapshots;
 mod swaps;
 pub(crate) mod trees;
 
-use super::handles::config::{Config, fault_of};
+use super::handles::config::Config;
 use super::memory::accesses::Accesses;
 use super::open::start::open;
 use super::table::free::FreeIds;
@@ -111,7 +111,7 @@ impl<L: Log> PageCache<L> {
         ensures listed { IfOk result ListsResident }
         ensures closed { IfOk result (λ cache. cache.batch ≡ false) }
     {
-        if let Some(why) = fault_of(config) {
+        if let Some(why) = config.fault() {
             return Err((Error::Unsupported(why), log));
         }
         let Ok(lru) = Lru::new(alloc, config.cache_capacity) else {

@@ -76,6 +76,19 @@ pub(super) const READS: &[Script] = &[
         ],
     ),
     (
+        "behind a read outside of the file nothing is needed that was before",
+        8,
+        &[
+            ReadFails(2, 3),
+            Needs(2, 3),
+            ReadFails(7, 2),
+            NeedsNothing,
+            ReadFails(2, 3),
+            ReadFails(9, 0),
+            NeedsNothing,
+        ],
+    ),
+    (
         "a read goes over pieces that adjoin or overlap, in whatever order they came",
         16,
         &[

@@ -16,18 +16,20 @@ pub struct Config {
     pub segment_size: usize,
 }
 
-// What is wrong with a config, by the first of its faults.
-pub(crate) fn fault_of(config: Config) -> Option<Why>
-    ensures { result ≡ fault_of config }
-{
-    if config.cache_capacity < 256 {
-        return Some(Why::CapacityTooSmall);
+impl Config {
+    /// What is wrong with the settings, by the first of their faults, in the order of the fields. A cache opens with none alone.
+    pub fn fault(self) -> Option<Why>
+        ensures { result ≡ fault_of self }
+    {
+        if self.cache_capacity < 256 {
+            return Some(Why::CapacityTooSmall);
+        }
+        if self.idgen_persist_interval == 0 {
+            return Some(Why::IntervalZero);
+        }
+        if self.segment_size == 0 {
+            return Some(Why::SegmentZero);
+        }
+        None
     }
-    if config.idgen_persist_interval == 0 {
-        return Some(Why::IntervalZero);
-    }
-    if config.segment_size == 0 {
-        return Some(Why::SegmentZero);
-    }
-    None
 }

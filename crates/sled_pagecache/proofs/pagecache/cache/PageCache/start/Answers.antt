@@ -20,7 +20,7 @@ pub invariant_of-result : goal.invariant_of-result
 invariant_of-result g c =
     let done = c.in-Ok-open.ensures in
     record {
-      whole = record { consistent = done.consistent; positive = positive c.args.config (sym c.fault_of.ensures ∙ c.in_default.is); counted = done.counted };
+      whole = record { consistent = done.consistent; positive = positive c.args.config (sym c.fault.ensures ∙ c.in_default.is); counted = done.counted };
       none = refl;
       bounded = opened-bounded g.L.Log _ _ _ _ _ _ _ done.consistent done.unread c.in-Ok.ensures.empty c.in-Ok.ensures.sound;
     }
