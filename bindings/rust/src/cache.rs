@@ -1,113 +1,56 @@
-//! An open cache, and a batch of its changes.
+//! An open cache.
+
+mod log;
+mod names;
+mod pages;
 
 use crate::device::{Attached, Device};
 use crate::error::Error;
 use crate::file;
-use crate::page::{Page, encoded};
+use crate::settings::{FileSettings, Settings};
 use crate::sys;
 use std::fmt;
-use std::ops::{Deref, DerefMut};
 use std::path::Path;
 
-/// The settings of a cache over a log in memory.
-#[derive(Clone, Copy, Debug, PartialEq, Eq)]
-pub struct Settings {
-    /// Bytes of messages whose pages stay in memory as nodes, at least 256.
-    pub cache_capacity: u64,
-    /// How many ids one counter covers, at least 1.
-    pub idgen_persist_interval: u64,
-    /// The bytes of a segment of the log, at least 1.
-    pub segment_size: usize,
-    /// Payloads of more bytes are kept beside the log.
-    pub blob_limit: usize,
-    /// A page is due to be moved for so many messages, and none where this is 0.
-    pub clean_every: u64,
-}
-
-impl Default for Settings {
-    fn default() -> Settings {
-        Settings {
-            cache_capacity: 1 << 20,
-            idgen_persist_interval: 10,
-            segment_size: 4096,
-            blob_limit: 512,
-            clean_every: 16,
-        }
-    }
-}
-
-/// The settings of a cache over a file or another device.
-#[derive(Clone, Copy, Debug, PartialEq, Eq)]
-pub struct FileSettings {
-    /// Bytes of messages whose pages stay in memory as nodes, at least 256.
-    pub cache_capacity: u64,
-    /// How many ids one counter covers, at least 1.
-    pub idgen_persist_interval: u64,
-    /// At so many bytes that are pending they are written, at least 1: this takes two syncs.
-    pub segment_size: usize,
-}
-
-impl Default for FileSettings {
-    fn default() -> FileSettings {
-        FileSettings {
-            cache_capacity: 1 << 20,
-            idgen_persist_interval: 10,
-            segment_size: 1 << 20,
-        }
-    }
-}
-
-/// A page's number, and a stamp that it had.
-#[derive(Clone, Copy, Debug, PartialEq, Eq, Hash)]
-pub struct Token {
-    /// The page.
-    pub page: u64,
-    /// The stamp.
-    pub stamp: u64,
-}
-
-/// What a change of a page came to.
-#[derive(Clone, Copy, Debug, PartialEq, Eq)]
-#[must_use]
-pub enum Swap {
-    /// The page was changed, and this is its token now.
-    Done(Token),
-    /// The token was stale, nothing changed, and this is the present one.
-    Stale(Token),
-    /// There is no such page.
-    Gone,
-}
-
-/// How much a cache takes.
-#[derive(Clone, Copy, Debug, PartialEq, Eq)]
-pub struct Amplification {
-    /// The bytes of the log.
-    pub log: u64,
-    /// What the pages would take by their contents, a segment among it; `u64::MAX` stands for that and for more.
-    pub pages: u64,
-}
-
 /// An open cache. It is closed where it is dropped, and nothing is flushed then.
+///
+/// A page holds pairs of a key and a value, and has a stamp that each change raises by one. A change names the [`Token`](crate::Token) that
+/// it expects, and answers by a [`Swap`](crate::Swap) whether the page had it.
+///
+/// # Errors
+///
+/// A method that answers an error has changed nothing, unless it says otherwise. There are two of which this isn't all:
+///
+/// - [`Error::Write`]: a write or a sync of the device failed, in this call or in an earlier one. Every later call answers so too, until the
+///   device is opened again: then all that was flushed is there, and of what came behind it a part may be.
+/// - [`Error::Read`] and [`Error::OutOfMemory`]: the call may be made again.
+///
+/// A cache in memory answers neither `Write` nor `Read` nor [`Error::Corruption`].
 pub struct Cache {
+    // it is closed before the device is
     handle: sys::Handle,
     attached: Option<Attached>,
 }
 
-// SAFETY: that a handle may go to another thread is proved where the library declares it.
-unsafe impl Send for Cache {}
-
 impl Cache {
-    /// Opens a cache over a new log in memory.
+    /// Opens a cache over a new log in memory. Nothing is left of it once it is dropped.
+    ///
+    /// ```
+    /// use dilluvas::{Cache, Error, Settings};
+    ///
+    /// let cache = Cache::in_memory(&Settings::default())?;
+    /// let settings = Settings { cache_capacity: 255, ..Settings::default() };
+    /// assert_eq!(Cache::in_memory(&settings).unwrap_err(), Error::CapacityTooSmall);
+    /// # Ok::<(), Error>(())
+    /// ```
+    ///
+    /// # Errors
+    ///
+    /// [`CapacityTooSmall`](Error::CapacityTooSmall), [`IntervalZero`](Error::IntervalZero), [`SegmentZero`](Error::SegmentZero);
+    /// [`OutOfMemory`](Error::OutOfMemory).
     pub fn in_memory(settings: &Settings) -> Result<Cache, Error> {
-        let settings = sys::Settings {
-            cache_capacity: settings.cache_capacity,
-            idgen_persist_interval: settings.idgen_persist_interval,
-            segment_size: settings.segment_size,
-            blob_limit: settings.blob_limit,
-            clean_every: settings.clean_every,
-        };
         let mut handle = sys::Handle::CLOSED;
-        done(unsafe { sys::dilluvas_raw_open_memory(&mut handle, &settings) })?;
+        done(handle.open_memory(settings))?;
         Ok(Cache {
             handle,
             attached: None,
@@ -116,34 +59,113 @@ impl Cache {
 
     /// Opens a cache over a file, which is locked until the cache is dropped. One that is absent or empty is made: with `.dilluvas-new`
     /// behind its name until it is whole and durable, so a crash leaves it whole or as it was.
+    ///
+    /// ```
+    /// use dilluvas::{Cache, Error, FileSettings};
+    ///
+    /// # let folder = std::env::temp_dir().join(format!("dilluvas-open-{}", std::process::id()));
+    /// # std::fs::create_dir(&folder).unwrap();
+    /// # let path = folder.join("pages");
+    /// let mut cache = Cache::open(&path, &FileSettings::default())?;
+    /// let token = cache.allocate([("key", "value")])?;
+    /// cache.flush()?;
+    /// let held = Cache::open(&path, &FileSettings::default());
+    /// assert_eq!(held.unwrap_err(), Error::Held);
+    /// drop(cache);
+    ///
+    /// let mut cache = Cache::open(&path, &FileSettings::default())?;
+    /// let page = cache.get(token.page)?.expect("it was flushed");
+    /// assert_eq!(page.get("key"), Some(&b"value"[..]));
+    /// # drop(cache);
+    /// # std::fs::remove_dir_all(&folder).unwrap();
+    /// # Ok::<(), Error>(())
+    /// ```
+    ///
+    /// # Errors
+    ///
+    /// [`NoFile`](Error::NoFile), [`NoAccess`](Error::NoAccess), [`Held`](Error::Held), and those of [`on_device`](Cache::on_device). What
+    /// the file holds is as it was then. [`Write`](Error::Write) comes too where the file was made and its folder could not be synced: a
+    /// crash may take it away again.
     pub fn open(path: impl AsRef<Path>, settings: &FileSettings) -> Result<Cache, Error> {
         let path = path.as_ref();
         match file::open_locked(path, false)? {
-            Some((file, len)) if len > 0 => Cache::on_device(Box::new(file), settings),
+            Some((file, len)) if len > 0 => Cache::on_device(file, settings),
             // while the file is made, an empty one stays locked
-            _empty => file::make(path, |file| Cache::on_device(Box::new(file), settings)),
+            _empty => file::make(path, |file| Cache::on_device(file, settings)),
         }
     }
 
     /// Opens a cache over a device, of which one of no bytes is given an empty log. Nobody else writes to it.
-    pub fn on_device(device: Box<dyn Device>, settings: &FileSettings) -> Result<Cache, Error> {
-        let settings = sys::FileSettings {
-            cache_capacity: settings.cache_capacity,
-            idgen_persist_interval: settings.idgen_persist_interval,
-            segment_size: settings.segment_size,
-        };
-        let attached = Attached::new(device)?;
+    ///
+    /// A device whose making was cut short by a crash may not open: [`open`](Cache::open) gives a file its name once it is made.
+    ///
+    /// ```
+    /// use dilluvas::{Cache, Device, Error, FileSettings};
+    /// use std::io;
+    /// use std::sync::{Arc, Mutex};
+    ///
+    /// // Bytes in memory, which are kept beside the cache.
+    /// #[derive(Clone, Default)]
+    /// struct Bytes(Arc<Mutex<Vec<u8>>>);
+    ///
+    /// impl Device for Bytes {
+    ///     fn size(&mut self) -> io::Result<u64> {
+    ///         Ok(self.0.lock().unwrap().len() as u64)
+    ///     }
+    ///
+    ///     fn read_at(&mut self, at: u64, into: &mut [u8]) -> io::Result<()> {
+    ///         let bytes = self.0.lock().unwrap();
+    ///         let found = bytes.get(at as usize..).and_then(|rest| rest.get(..into.len()));
+    ///         into.copy_from_slice(found.ok_or(io::ErrorKind::UnexpectedEof)?);
+    ///         Ok(())
+    ///     }
+    ///
+    ///     fn write_at(&mut self, at: u64, bytes: &[u8]) -> io::Result<()> {
+    ///         let (at, mut present) = (at as usize, self.0.lock().unwrap());
+    ///         let end = present.len().max(at + bytes.len());
+    ///         present.resize(end, 0);
+    ///         present[at..at + bytes.len()].copy_from_slice(bytes);
+    ///         Ok(())
+    ///     }
+    ///
+    ///     fn sync(&mut self) -> io::Result<()> {
+    ///         Ok(())
+    ///     }
+    /// }
+    ///
+    /// # fn main() -> Result<(), Error> {
+    /// let device = Bytes::default();
+    /// let mut cache = Cache::on_device(device.clone(), &FileSettings::default())?;
+    /// let token = cache.allocate([("key", "value")])?;
+    /// cache.flush()?;
+    /// drop(cache);
+    /// let mut cache = Cache::on_device(device, &FileSettings::default())?;
+    /// assert!(cache.get(token.page)?.is_some());
+    /// # Ok(())
+    /// # }
+    /// ```
+    ///
+    /// # Errors
+    ///
+    /// [`CapacityTooSmall`](Error::CapacityTooSmall), [`IntervalZero`](Error::IntervalZero), [`SegmentZero`](Error::SegmentZero);
+    /// [`Read`](Error::Read), [`Write`](Error::Write), [`OutOfMemory`](Error::OutOfMemory); [`Corruption`](Error::Corruption) where no cache
+    /// wrote the bytes; [`LogFull`](Error::LogFull).
+    pub fn on_device(
+        device: impl Device + 'static,
+        settings: &FileSettings,
+    ) -> Result<Cache, Error> {
+        let attached = Attached::new(Box::new(device))?;
         let len = attached.end();
         let mut cache = Cache {
             handle: sys::Handle::CLOSED,
             attached: Some(attached),
         };
-        done(cache.on(|handle| unsafe { sys::dilluvas_raw_open_file(handle, &settings, len) }))?;
+        done(cache.on(|handle| handle.open_file(settings, len)))?;
         Ok(cache)
     }
 
     // Makes a call until it is answered: over a device what it wants of that is done between.
-    fn on(&mut self, mut call: impl FnMut(&mut sys::Handle) -> u32) -> u32 {
+    pub(crate) fn on(&mut self, mut call: impl FnMut(&mut sys::Handle) -> u32) -> u32 {
         loop {
             let status = call(&mut self.handle);
             let answer = match &mut self.attached {
@@ -155,233 +177,6 @@ impl Cache {
             }
         }
     }
-
-    /// Puts a leaf of these pairs, whose keys ascend, on a page.
-    pub fn allocate<'a>(
-        &mut self,
-        pairs: impl IntoIterator<Item = (&'a [u8], &'a [u8])>,
-    ) -> Result<Token, Error> {
-        let pairs = encoded(pairs)?;
-        let (mut page, mut stamp) = (0, 0);
-        done(self.on(|handle| unsafe {
-            sys::dilluvas_raw_allocate(handle, pairs.as_ptr(), pairs.len(), &mut page, &mut stamp)
-        }))?;
-        Ok(Token { page, stamp })
-    }
-
-    /// A page, or none where there is no such page.
-    pub fn get(&mut self, page: u64) -> Result<Option<Page>, Error> {
-        let mut found = Page::empty();
-        let is_there = self.get_into(page, &mut found)?;
-        Ok(is_there.then_some(found))
-    }
-
-    /// As [`get`](Cache::get), into a page whose memory is used again. It answers whether there is such a page.
-    pub fn get_into(&mut self, page: u64, to: &mut Page) -> Result<bool, Error> {
-        let mut found = sys::Found::default();
-        to.used = 0;
-        loop {
-            let (buffer, room) = (to.buffer.as_mut_ptr(), to.buffer.len());
-            match self.on(|handle| unsafe {
-                sys::dilluvas_raw_get(handle, page, &mut found, buffer, room)
-            }) {
-                sys::OK => break,
-                sys::SHORT => to.buffer.resize(found.needed, 0),
-                sys::GONE => return Ok(false),
-                status => return Err(Error::of(status)),
-            }
-        }
-        to.token = Token {
-            page,
-            stamp: found.stamp,
-        };
-        to.is_index = found.is_index;
-        to.count = found.count;
-        to.used = found.needed;
-        Ok(true)
-    }
-
-    /// Appends the value of a key of a leaf, and answers the page's token, or none where there is no such page or key.
-    pub fn value_into(
-        &mut self,
-        page: u64,
-        key: &[u8],
-        value: &mut Vec<u8>,
-    ) -> Result<Option<Token>, Error> {
-        let start = value.len();
-        let (mut stamp, mut needed) = (0, 0);
-        // Most values fit here, so that most calls are one.
-        value.resize(start + 64, 0);
-        let status = loop {
-            let room = &mut value[start..];
-            let (buffer, room) = (room.as_mut_ptr(), room.len());
-            match self.on(|handle| unsafe {
-                sys::dilluvas_raw_value(
-                    handle,
-                    page,
-                    key.as_ptr(),
-                    key.len(),
-                    &mut stamp,
-                    buffer,
-                    room,
-                    &mut needed,
-                )
-            }) {
-                sys::SHORT => value.resize(start + needed, 0),
-                status => break status,
-            }
-        };
-        let written = if status == sys::OK { needed } else { 0 };
-        value.truncate(start + written);
-        match status {
-            sys::OK => Ok(Some(Token { page, stamp })),
-            sys::GONE | sys::NONE => Ok(None),
-            status => Err(Error::of(status)),
-        }
-    }
-
-    /// Maps a key of a leaf to a value.
-    pub fn set(&mut self, token: Token, key: &[u8], value: &[u8]) -> Result<Swap, Error> {
-        let Token { page, mut stamp } = token;
-        let status = self.on(|handle| unsafe {
-            sys::dilluvas_raw_set(
-                handle,
-                page,
-                &mut stamp,
-                key.as_ptr(),
-                key.len(),
-                value.as_ptr(),
-                value.len(),
-            )
-        });
-        swapped(status, page, stamp)
-    }
-
-    /// Takes a key out of a leaf, whether or not it is there.
-    pub fn del(&mut self, token: Token, key: &[u8]) -> Result<Swap, Error> {
-        let Token { page, mut stamp } = token;
-        let (bytes, length) = (key.as_ptr(), key.len());
-        let status = self
-            .on(|handle| unsafe { sys::dilluvas_raw_del(handle, page, &mut stamp, bytes, length) });
-        swapped(status, page, stamp)
-    }
-
-    /// Puts a leaf of these pairs on a page, in place of what it held.
-    pub fn replace<'a>(
-        &mut self,
-        token: Token,
-        pairs: impl IntoIterator<Item = (&'a [u8], &'a [u8])>,
-    ) -> Result<Swap, Error> {
-        let pairs = encoded(pairs)?;
-        let Token { page, mut stamp } = token;
-        let (bytes, length) = (pairs.as_ptr(), pairs.len());
-        let status = self.on(|handle| unsafe {
-            sys::dilluvas_raw_replace(handle, page, &mut stamp, bytes, length)
-        });
-        swapped(status, page, stamp)
-    }
-
-    /// Frees a page, whose number an [`allocate`](Cache::allocate) uses again.
-    pub fn free(&mut self, token: Token) -> Result<Swap, Error> {
-        let Token { page, mut stamp } = token;
-        let status = self.on(|handle| unsafe { sys::dilluvas_raw_free(handle, page, &mut stamp) });
-        swapped(status, page, stamp)
-    }
-
-    /// The root page of a name.
-    pub fn root(&mut self, name: &[u8]) -> Result<Option<u64>, Error> {
-        let mut page = 0;
-        let (bytes, length) = (name.as_ptr(), name.len());
-        match self.on(|handle| unsafe { sys::dilluvas_raw_root(handle, bytes, length, &mut page) })
-        {
-            sys::OK => Ok(Some(page)),
-            sys::NONE => Ok(None),
-            status => Err(Error::of(status)),
-        }
-    }
-
-    /// Gives a name another root page, or none, if its root is `old`. Else the root that it has comes back as the inner error.
-    pub fn cas_root(
-        &mut self,
-        name: &[u8],
-        old: Option<u64>,
-        new: Option<u64>,
-    ) -> Result<Result<(), Option<u64>>, Error> {
-        let mut root = old.unwrap_or(0);
-        let (bytes, length) = (name.as_ptr(), name.len());
-        match self.on(|handle| unsafe {
-            sys::dilluvas_raw_cas_root(handle, bytes, length, &mut root, new.unwrap_or(0))
-        }) {
-            sys::OK => Ok(Ok(())),
-            sys::STALE => Ok(Err((root != 0).then_some(root))),
-            status => Err(Error::of(status)),
-        }
-    }
-
-    /// The root page of a name. A name that has none is given an index over an empty leaf.
-    pub fn open_tree(&mut self, name: &[u8]) -> Result<u64, Error> {
-        let mut page = 0;
-        let (bytes, length) = (name.as_ptr(), name.len());
-        done(self.on(|handle| unsafe {
-            sys::dilluvas_raw_open_tree(handle, bytes, length, &mut page)
-        }))?;
-        Ok(page)
-    }
-
-    /// A number that was never given before.
-    pub fn generate_id(&mut self) -> Result<u64, Error> {
-        let mut id = 0;
-        done(self.on(|handle| unsafe { sys::dilluvas_raw_generate_id(handle, &mut id) }))?;
-        Ok(id)
-    }
-
-    /// Opens a batch: once it is sealed, a crash leaves all of it or nothing.
-    pub fn pin(&mut self) -> Result<Batch<'_>, Error> {
-        done(self.on(|handle| unsafe { sys::dilluvas_raw_pin(handle) }))?;
-        Ok(Batch { cache: self })
-    }
-
-    /// Makes all that is pending durable, and answers how many bytes that wrote.
-    pub fn flush(&mut self) -> Result<usize, Error> {
-        let mut written = 0;
-        done(self.on(|handle| unsafe { sys::dilluvas_raw_flush(handle, &mut written) }))?;
-        Ok(written)
-    }
-
-    /// How many bytes the log has.
-    pub fn size(&mut self) -> Result<u64, Error> {
-        let mut bytes = 0;
-        done(self.on(|handle| unsafe { sys::dilluvas_raw_size(handle, &mut bytes) }))?;
-        Ok(bytes)
-    }
-
-    /// How much the log takes, and how much the pages would. Over a file it is [`Error::NotOverFile`].
-    pub fn amplification(&mut self) -> Result<Amplification, Error> {
-        let (mut log, mut pages) = (0, 0);
-        done(self.on(|handle| unsafe { sys::dilluvas_raw_amp(handle, &mut log, &mut pages) }))?;
-        Ok(Amplification { log, pages })
-    }
-
-    /// Moves the page that is due, and answers whether there was one. No page, stamp or id changes. Over a file none is due, and it is
-    /// [`Error::NotOverFile`].
-    pub fn attempt_gc(&mut self) -> Result<bool, Error> {
-        let mut moved = false;
-        done(self.on(|handle| unsafe { sys::dilluvas_raw_gc(handle, &mut moved) }))?;
-        Ok(moved)
-    }
-
-    /// Whether the log had the cache's own pages as it was opened: a new one has not.
-    pub fn was_recovered(&mut self) -> bool {
-        let mut recovered = false;
-        self.on(|handle| unsafe { sys::dilluvas_raw_was_recovered(handle, &mut recovered) });
-        recovered
-    }
-}
-
-impl Drop for Cache {
-    fn drop(&mut self) {
-        unsafe { sys::dilluvas_raw_close(&mut self.handle) };
-    }
 }
 
 impl fmt::Debug for Cache {
@@ -390,58 +185,9 @@ impl fmt::Debug for Cache {
     }
 }
 
-fn done(status: u32) -> Result<(), Error> {
+pub(crate) fn done(status: u32) -> Result<(), Error> {
     match status {
         sys::OK => Ok(()),
         status => Err(Error::of(status)),
-    }
-}
-
-fn swapped(status: u32, page: u64, stamp: u64) -> Result<Swap, Error> {
-    match status {
-        sys::OK => Ok(Swap::Done(Token { page, stamp })),
-        sys::STALE => Ok(Swap::Stale(Token { page, stamp })),
-        sys::GONE => Ok(Swap::Gone),
-        status => Err(Error::of(status)),
-    }
-}
-
-/// A batch that is open. It lends the cache, and is cancelled where it is dropped: a crash may then leave a part of it, and nothing is
-/// undone.
-#[derive(Debug)]
-pub struct Batch<'a> {
-    cache: &'a mut Cache,
-}
-
-impl Batch<'_> {
-    /// Closes the batch: a crash leaves all of it or nothing.
-    pub fn seal(self) -> Result<(), Error> {
-        let sealed = done(
-            self.cache
-                .on(|handle| unsafe { sys::dilluvas_raw_seal(handle) }),
-        );
-        std::mem::forget(self);
-        sealed
-    }
-}
-
-impl Deref for Batch<'_> {
-    type Target = Cache;
-
-    fn deref(&self) -> &Cache {
-        self.cache
-    }
-}
-
-impl DerefMut for Batch<'_> {
-    fn deref_mut(&mut self) -> &mut Cache {
-        self.cache
-    }
-}
-
-impl Drop for Batch<'_> {
-    fn drop(&mut self) {
-        self.cache
-            .on(|handle| unsafe { sys::dilluvas_raw_cancel(handle) });
     }
 }

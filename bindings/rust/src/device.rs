@@ -3,8 +3,13 @@
 use crate::error::Error;
 use crate::sys;
 use std::io;
+use std::mem;
 
 /// Bytes in order, which are read and written at a place: a file, or another thing that keeps them.
+///
+/// [`Cache::on_device`](crate::Cache::on_device) has an example. What a device may fail at is told by an [`io::Error`], which a cache takes
+/// for [`Error::Read`] or [`Error::Write`]: a call that wants to be made again, as one that was interrupted, the device makes itself. One
+/// that panics is taken for one whose write failed.
 pub trait Device: Send {
     /// How many bytes there are.
     fn size(&mut self) -> io::Result<u64>;
@@ -15,8 +20,26 @@ pub trait Device: Send {
     /// Writes over what is there, and past the end.
     fn write_at(&mut self, at: u64, bytes: &[u8]) -> io::Result<()>;
 
-    /// Makes durable what was written.
+    /// Makes durable what was written: all of it is there after a crash, in whatever order it was written.
     fn sync(&mut self) -> io::Result<()>;
+}
+
+impl<D: Device + ?Sized> Device for Box<D> {
+    fn size(&mut self) -> io::Result<u64> {
+        (**self).size()
+    }
+
+    fn read_at(&mut self, at: u64, into: &mut [u8]) -> io::Result<()> {
+        (**self).read_at(at, into)
+    }
+
+    fn write_at(&mut self, at: u64, bytes: &[u8]) -> io::Result<()> {
+        (**self).write_at(at, bytes)
+    }
+
+    fn sync(&mut self) -> io::Result<()> {
+        (**self).sync()
+    }
 }
 
 // The bytes of the buffer, and how many are read at least: what a page's later messages need often stands near.
@@ -28,6 +51,8 @@ pub(crate) struct Attached {
     device: Box<dyn Device>,
     end: u64,
     buffer: Vec<u8>,
+    // A write or a sync failed, or the device panicked: a task that the library takes for done isn't.
+    has_failed: bool,
 }
 
 impl Attached {
@@ -37,6 +62,7 @@ impl Attached {
             device,
             end,
             buffer: vec![0; ROOM],
+            has_failed: false,
         })
     }
 
@@ -47,27 +73,24 @@ impl Attached {
 
     /// Does what the library wants behind a call that answered so: the answer, or none where the call is to be made again.
     pub(crate) fn settle(&mut self, handle: &mut sys::Handle, status: u32) -> Option<u32> {
-        if self.do_tasks(handle).is_err() {
-            unsafe { sys::dilluvas_raw_failed(handle) };
+        // it stays so where the device panics
+        let had_failed = mem::replace(&mut self.has_failed, true);
+        if had_failed || self.do_tasks(handle).is_err() {
+            handle.failed();
             return Some(sys::WRITE);
         }
-        if status != sys::NEEDS {
-            return Some(status);
-        }
-        match self.read_needed(handle) {
-            sys::OK => None,
-            refused => {
-                unsafe { sys::dilluvas_raw_forget(handle) };
-                Some(refused)
-            }
-        }
+        let answer = match status {
+            sys::NEEDS => self.answer_needs(handle),
+            status => Some(status),
+        };
+        self.has_failed = false;
+        answer
     }
 
     fn do_tasks(&mut self, handle: &mut sys::Handle) -> io::Result<()> {
-        let mut task = sys::FileTask::default();
+        let mut task = sys::Task::default();
         loop {
-            let (buffer, room) = (self.buffer.as_mut_ptr(), self.buffer.len());
-            let status = unsafe { sys::dilluvas_raw_next_task(handle, &mut task, buffer, room) };
+            let status = handle.next_task(&mut task, &mut self.buffer);
             match task.kind {
                 _ if status != sys::OK => return Ok(()),
                 sys::NOTHING => return Ok(()),
@@ -80,10 +103,20 @@ impl Attached {
         }
     }
 
+    fn answer_needs(&mut self, handle: &mut sys::Handle) -> Option<u32> {
+        match self.read_needed(handle) {
+            sys::OK => None,
+            refused => {
+                handle.forget();
+                Some(refused)
+            }
+        }
+    }
+
     // Reads what is needed and hands it in, piece by piece.
     fn read_needed(&mut self, handle: &mut sys::Handle) -> u32 {
         let (mut at, mut len) = (0, 0);
-        let mut status = unsafe { sys::dilluvas_raw_needs(handle, &mut at, &mut len) };
+        let mut status = handle.needs(&mut at, &mut len);
         let needed = at.saturating_add(len as u64);
         let end = needed.max(self.end.min(at.saturating_add(LEAST_READ)));
         while status == sys::OK && at < end {
@@ -91,7 +124,7 @@ impl Attached {
             if self.device.read_at(at, piece).is_err() {
                 return sys::READ;
             }
-            status = unsafe { sys::dilluvas_raw_hand_in(handle, at, piece.as_ptr(), piece.len()) };
+            status = handle.hand_in(at, piece);
             at += piece.len() as u64;
         }
         status

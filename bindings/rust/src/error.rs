@@ -3,7 +3,25 @@
 use crate::sys;
 use std::fmt;
 
-/// Why a call was refused. It has changed nothing, but for the pages that [`Cache::open_tree`](crate::Cache::open_tree) had made.
+/// Why a call was refused. It has changed nothing, but for the pages that [`Cache::open_tree`](crate::Cache::open_tree) had made, and for
+/// [`Write`](Error::Write).
+///
+/// ```
+/// use dilluvas::{Cache, Error, NO_PAIRS, Settings};
+///
+/// # fn main() -> Result<(), Error> {
+/// let mut cache = Cache::in_memory(&Settings::default())?;
+/// let mut batch = cache.pin()?;
+/// let error = batch.flush().unwrap_err();
+/// assert_eq!(error, Error::BatchOpen);
+/// assert_eq!(error.status(), 108);
+/// assert!(error.to_string().starts_with("a batch is open"));
+/// // nothing changed: the batch goes on
+/// batch.allocate(NO_PAIRS)?;
+/// batch.seal()?;
+/// # Ok(())
+/// # }
+/// ```
 #[derive(Clone, Copy, Debug, PartialEq, Eq)]
 #[non_exhaustive]
 pub enum Error {
@@ -15,11 +33,12 @@ pub enum Error {
     Index,
     /// The call isn't made over a file.
     NotOverFile,
-    /// An allocation failed.
+    /// An allocation failed. The call may be made again.
     OutOfMemory,
-    /// A read failed.
+    /// A read failed. The call may be made again.
     Read,
-    /// A write failed, in this call or in an earlier one.
+    /// A write or a sync failed, in this call or in an earlier one. Every later call answers so, until the device is opened again: then all
+    /// that was flushed is there, and of what came behind it a part may be.
     Write,
     /// The messages of the page, or the bytes of the file, aren't what a cache wrote.
     Corruption,
@@ -29,7 +48,7 @@ pub enum Error {
     NoAccess,
     /// Another process has the file open, or this one has.
     Held,
-    /// The page is the cache's own.
+    /// The page is the cache's own: 0, 1 or 2^64 - 667.
     ReservedId,
     /// The capacity of the cache is below 256.
     CapacityTooSmall,
@@ -91,6 +110,7 @@ impl Error {
     }
 
     /// The number of the status that tells it, as `dilluvas.h` has it.
+    #[must_use]
     pub fn status(self) -> u32 {
         if let Error::Unknown(status) = self {
             return status;
@@ -102,15 +122,10 @@ impl Error {
 
 impl fmt::Display for Error {
     fn fmt(&self, f: &mut fmt::Formatter<'_>) -> fmt::Result {
-        let mut text = [0; 128];
-        let mut needed = 0;
-        let status = unsafe {
-            sys::dilluvas_raw_text(self.status(), text.as_mut_ptr(), text.len(), &mut needed)
-        };
-        let text = if status == sys::OK {
-            &text[..needed]
-        } else {
-            &[]
+        let (mut text, mut needed) = ([0; 128], 0);
+        let text = match sys::text(self.status(), &mut text, &mut needed) {
+            sys::OK => &text[..needed],
+            _ => &[],
         };
         f.write_str(&String::from_utf8_lossy(text))
     }

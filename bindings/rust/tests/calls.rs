@@ -1,16 +1,14 @@
 //! Each method once, and answers that aren't `Ok`.
 
-use dilluvas::{Amplification, Cache, Error, Settings, Swap, Token};
+use dilluvas::{Amplification, Cache, Error, NO_PAIRS, Page, Settings, Swap, Token};
+use std::collections::BTreeMap;
 
 fn open() -> Cache {
     Cache::in_memory(&Settings::default()).expect("these settings are allowed")
 }
 
 fn done(swap: Swap) -> Token {
-    match swap {
-        Swap::Done(token) => token,
-        other => panic!("{other:?}"),
-    }
+    swap.done().expect("the token is the page's")
 }
 
 #[test]
@@ -26,9 +24,19 @@ fn settings_are_tested() {
 }
 
 #[test]
+fn each_error_has_a_number_and_a_text() {
+    for status in 0..=300 {
+        let error = Error::Unknown(status);
+        assert_eq!(error.status(), status);
+        assert!(!error.to_string().is_empty(), "{status}");
+    }
+    assert_eq!(Error::LinkRefused.status(), 203);
+}
+
+#[test]
 fn pages_have_stamps() -> Result<(), Error> {
     let mut cache = open();
-    let old = cache.allocate([])?;
+    let old = cache.allocate(NO_PAIRS)?;
     assert_eq!(old, Token { page: 2, stamp: 1 });
     let token = done(cache.set(old, b"b", b"v")?);
     assert_eq!(cache.set(old, b"b", b"w")?, Swap::Stale(token));
@@ -43,7 +51,7 @@ fn pages_have_stamps() -> Result<(), Error> {
         page: 2,
         stamp: freed.stamp + 1,
     };
-    assert_eq!(cache.allocate([])?, again);
+    assert_eq!(cache.allocate(NO_PAIRS)?, again);
     Ok(())
 }
 
@@ -65,8 +73,47 @@ fn pairs_come_back() -> Result<(), Error> {
     assert_eq!(value, b"before v");
     let token = done(cache.replace(token, [(&b"x"[..], &b"1"[..]), (b"y", b"")])?);
     assert_eq!(cache.get(2)?.expect("it is there").len(), 2);
-    let falling = [(&b"y"[..], &b""[..]), (b"x", b"")];
+    let falling = [("y", ""), ("x", "")];
     assert_eq!(cache.replace(token, falling), Err(Error::Arguments));
+    Ok(())
+}
+
+#[test]
+fn pairs_are_counted_and_searched() -> Result<(), Error> {
+    let mut cache = open();
+    let map = BTreeMap::from([("a", vec![1]), ("c", vec![]), ("d", vec![4; 300])]);
+    let token = cache.allocate(&map)?;
+    let page = cache.get(token.page)?.expect("it is there");
+    let mut pairs = page.into_iter();
+    for left in (0..map.len()).rev() {
+        assert!(pairs.next().is_some());
+        assert_eq!(pairs.len(), left);
+    }
+    assert_eq!((pairs.next(), pairs.next(), pairs.len()), (None, None, 0));
+    for key in ["", "a", "b", "c", "d", "da"] {
+        assert_eq!(page.get(key), map.get(key).map(Vec::as_slice), "{key}");
+    }
+    let copied = cache.allocate(&page)?;
+    assert_eq!(cache.get(copied.page)?.expect("it is there").len(), 3);
+    assert_eq!(Page::default().pairs().len(), 0);
+    assert_eq!(Page::default().get(""), None);
+    Ok(())
+}
+
+#[test]
+fn a_page_that_is_used_again_keeps_nothing() -> Result<(), Error> {
+    let mut cache = open();
+    let long = cache.allocate([("key", "a long value")])?.page;
+    let short = cache.allocate([("k", "v")])?.page;
+    let mut page = Page::empty();
+    assert!(cache.get_into(long, &mut page)?);
+    assert!(cache.get_into(short, &mut page)?);
+    assert_eq!(Some(&page), cache.get(short)?.as_ref());
+    assert!(!cache.get_into(9, &mut page)?);
+    assert_eq!(page, Page::empty());
+    assert!(cache.get_into(long, &mut page)?);
+    assert_eq!(cache.get_into(0, &mut page), Err(Error::ReservedId));
+    assert_eq!((page.len(), page.token().page), (0, 0));
     Ok(())
 }
 
@@ -92,7 +139,7 @@ fn names_have_roots() -> Result<(), Error> {
 fn batches_are_sealed_or_cancelled() -> Result<(), Error> {
     let mut cache = open();
     let mut batch = cache.pin()?;
-    let token = batch.allocate([])?;
+    let token = batch.allocate(NO_PAIRS)?;
     assert_eq!(batch.flush(), Err(Error::BatchOpen));
     batch.seal()?;
     drop(cache.pin()?);
@@ -109,7 +156,7 @@ fn the_log_is_asked() -> Result<(), Error> {
     let Amplification { log: same, pages } = cache.amplification()?;
     assert!(same == log && pages > 4096);
     assert!(!cache.attempt_gc()?);
-    assert!(!cache.was_recovered());
+    assert!(!cache.was_recovered()?);
     Ok(())
 }
 
@@ -117,11 +164,11 @@ fn the_log_is_asked() -> Result<(), Error> {
 fn caches_are_moved_and_many() -> Result<(), Error> {
     let mut caches: Vec<Cache> = (0..10).map(|_| open()).collect();
     for cache in &mut caches {
-        cache.allocate([])?;
+        cache.allocate(NO_PAIRS)?;
     }
     caches.rotate_left(3);
     for mut cache in caches {
-        assert_eq!(cache.allocate([])?.page, 3);
+        assert_eq!(cache.allocate(NO_PAIRS)?.page, 3);
     }
     Ok(())
 }
@@ -139,7 +186,7 @@ fn a_batch_whose_cache_was_swapped_away_is_refused() -> Result<(), Error> {
 #[test]
 fn a_cache_goes_to_another_thread() -> Result<(), Error> {
     let mut cache = open();
-    let token = cache.allocate([])?;
+    let token = cache.allocate(NO_PAIRS)?;
     let changed = std::thread::spawn(move || {
         cache.set(token, b"k", b"v").map(done)?;
         Ok::<Cache, Error>(cache)

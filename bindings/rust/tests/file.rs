@@ -1,6 +1,9 @@
 //! A cache over a file of the system.
 
-use dilluvas::{Cache, Error, FileSettings, Swap};
+mod folder;
+
+use dilluvas::{Cache, Error, FileSettings, NO_PAIRS, Swap};
+use folder::Folder;
 use std::fs;
 use std::path::PathBuf;
 
@@ -10,39 +13,18 @@ const SETTINGS: FileSettings = FileSettings {
     segment_size: 4096,
 };
 
-// A folder that is gone behind the test.
-struct Folder(PathBuf);
-
-impl Folder {
-    fn new(name: &str) -> Folder {
-        let path = std::env::temp_dir().join(format!("dilluvas-{}-{name}", std::process::id()));
-        fs::create_dir(&path).unwrap();
-        Folder(path)
-    }
-
-    fn file(&self) -> PathBuf {
-        self.0.join("pages")
-    }
-}
-
-impl Drop for Folder {
-    fn drop(&mut self) {
-        let _ = fs::remove_dir_all(&self.0);
-    }
-}
-
 #[test]
 fn what_was_flushed_is_found_again() -> Result<(), Error> {
     let folder = Folder::new("found");
     let mut cache = Cache::open(folder.file(), &SETTINGS)?;
-    assert!(!cache.was_recovered());
+    assert!(!cache.was_recovered()?);
     let mut tokens = Vec::new();
     for _ in 0..200 {
-        tokens.push(cache.allocate([])?);
+        tokens.push(cache.allocate(NO_PAIRS)?);
     }
     for round in 0..5u8 {
         for token in &mut tokens {
-            let Swap::Done(next) = cache.set(*token, b"key", &[round; 100])? else {
+            let Swap::Done(next) = cache.set(*token, b"key", [round; 100])? else {
                 unreachable!("no other call changed the page")
             };
             *token = next;
@@ -52,7 +34,7 @@ fn what_was_flushed_is_found_again() -> Result<(), Error> {
     cache.flush()?;
     drop(cache);
     let mut cache = Cache::open(folder.file(), &SETTINGS)?;
-    assert!(cache.was_recovered());
+    assert!(cache.was_recovered()?);
     for token in tokens {
         let page = cache.get(token.page)?.expect("it was flushed");
         assert_eq!(page.pairs().next(), Some((&b"key"[..], &[4; 100][..])));
@@ -67,9 +49,12 @@ fn what_was_flushed_is_found_again() -> Result<(), Error> {
 fn what_is_no_file_is_told() {
     let folder = Folder::new("told");
     let opened = |path: PathBuf| Cache::open(path, &SETTINGS).map(|_| ());
-    assert_eq!(opened(folder.0.clone()), Err(Error::NoFile));
+    assert_eq!(opened(folder.path().into()), Err(Error::NoFile));
     assert_eq!(opened("/dev/null".into()), Err(Error::NoFile));
-    assert_eq!(opened(folder.0.join("absent/pages")), Err(Error::NoAccess));
+    assert_eq!(
+        opened(folder.path().join("absent/pages")),
+        Err(Error::NoAccess)
+    );
     let cache = Cache::open(folder.file(), &SETTINGS).unwrap();
     assert_eq!(opened(folder.file()), Err(Error::Held));
     drop(cache);
@@ -79,5 +64,5 @@ fn what_is_no_file_is_told() {
     assert_eq!(fs::read(folder.file()).unwrap(), b"no cache wrote this");
     fs::write(folder.file(), b"").unwrap();
     assert_eq!(opened(folder.file()), Ok(()));
-    assert_eq!(fs::read_dir(&folder.0).unwrap().count(), 1);
+    assert_eq!(fs::read_dir(folder.path()).unwrap().count(), 1);
 }

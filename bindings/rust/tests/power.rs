@@ -1,6 +1,6 @@
 //! The power goes before each call of a device in turn. What was not synced is there then, is not there, or is any bytes.
 
-use dilluvas::{Cache, Device, Error, FileSettings, Swap};
+use dilluvas::{Cache, Device, Error, FileSettings, NO_PAIRS, Swap};
 use std::io;
 use std::sync::{Arc, Mutex};
 
@@ -130,11 +130,11 @@ struct Promised {
 
 // Rounds of a batch of four changes of the first page, a flush and an id.
 fn run(cache: &mut Cache, promised: &mut Promised) -> Result<(), Error> {
-    let mut token = cache.allocate([])?;
+    let mut token = cache.allocate(NO_PAIRS)?;
     for round in 1..=6 {
         let mut batch = cache.pin()?;
         for key in 0..4u8 {
-            let Swap::Done(next) = batch.set(token, &[key], &[round; 30])? else {
+            let Swap::Done(next) = batch.set(token, [key], [round; 30])? else {
                 unreachable!("no other call changed the page")
             };
             token = next;
@@ -149,13 +149,14 @@ fn run(cache: &mut Cache, promised: &mut Promised) -> Result<(), Error> {
 
 // Whether what a crash left opens with all that was promised, and of each batch all or nothing.
 fn keeps(left: Vec<u8>, promised: &Promised) -> bool {
-    let Ok(mut cache) = Cache::on_device(Box::new(Disk::of(left, u32::MAX, 1)), &SETTINGS) else {
+    let device: Box<dyn Device> = Box::new(Disk::of(left, u32::MAX, 1));
+    let Ok(mut cache) = Cache::on_device(device, &SETTINGS) else {
         return false;
     };
     let mut rounds = Vec::new();
     for key in 0..4u8 {
         let mut value = Vec::new();
-        match cache.value_into(2, &[key], &mut value) {
+        match cache.value_into(2, [key], &mut value) {
             Ok(Some(_)) => rounds.push(value[0]),
             Ok(None) => {}
             Err(_) => return false,
@@ -175,11 +176,11 @@ fn crashes(syncs_one_of: u32) -> (u32, u32) {
     for goes_at in 1.. {
         let device = Disk::of(Vec::new(), u32::MAX, 1);
         // `Cache::open` gives a file its name once it is made
-        drop(Cache::on_device(Box::new(device.clone()), &SETTINGS).unwrap());
+        drop(Cache::on_device(device.clone(), &SETTINGS).unwrap());
         let made = device.0.lock().unwrap().bytes.clone();
         let device = Disk::of(made, goes_at, syncs_one_of);
         let mut promised = Promised::default();
-        let ran = Cache::on_device(Box::new(device.clone()), &SETTINGS)
+        let ran = Cache::on_device(device.clone(), &SETTINGS)
             .and_then(|mut cache| run(&mut cache, &mut promised));
         for _ in 0..40 {
             let left = device.0.lock().unwrap().left(&mut seed);

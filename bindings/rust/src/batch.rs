@@ -1,0 +1,86 @@
+//! Changes of which a crash leaves all or nothing.
+
+use crate::cache::{Cache, done};
+use crate::error::Error;
+use crate::sys;
+use std::ops::{Deref, DerefMut};
+
+/// A batch that is open, which lends the cache. What [`Cache::pin`] answers.
+///
+/// It is sealed by [`seal`](Batch::seal), and cancelled where it is dropped before: a crash may leave a part of it then, and nothing is
+/// undone. One that is neither, as by [`std::mem::forget`], stays open.
+#[derive(Debug)]
+#[must_use = "a batch that is dropped is cancelled"]
+pub struct Batch<'a> {
+    cache: &'a mut Cache,
+}
+
+impl Cache {
+    /// Opens a batch: once it is sealed, a crash leaves all of it or nothing, and all once a flush has answered.
+    ///
+    /// ```
+    /// use dilluvas::{Cache, Error, NO_PAIRS, Settings};
+    ///
+    /// # fn main() -> Result<(), Error> {
+    /// let mut cache = Cache::in_memory(&Settings::default())?;
+    /// let [from, to] = [cache.allocate([("gold", "7")])?, cache.allocate(NO_PAIRS)?];
+    ///
+    /// let mut batch = cache.pin()?;
+    /// let moved = (batch.del(from, "gold")?.done(), batch.set(to, "gold", "7")?.done());
+    /// assert!(moved.0.is_some() && moved.1.is_some());
+    /// assert_eq!(batch.flush(), Err(Error::BatchOpen));
+    /// batch.seal()?;
+    /// cache.flush()?;
+    ///
+    /// // the changes of a batch that is dropped stand
+    /// let mut batch = cache.pin()?;
+    /// let token = batch.allocate([("k", "v")])?;
+    /// drop(batch);
+    /// assert!(cache.get(token.page)?.is_some());
+    /// # Ok(())
+    /// # }
+    /// ```
+    ///
+    /// # Errors
+    ///
+    /// [`BatchOpen`](Error::BatchOpen), [`LogFull`](Error::LogFull), [`OutOfMemory`](Error::OutOfMemory), [`Write`](Error::Write). No batch
+    /// is opened then.
+    pub fn pin(&mut self) -> Result<Batch<'_>, Error> {
+        done(self.on(sys::Handle::pin))?;
+        Ok(Batch { cache: self })
+    }
+}
+
+impl Batch<'_> {
+    /// Closes the batch: a crash leaves all of it or nothing, and all once a flush has answered.
+    ///
+    /// # Errors
+    ///
+    /// [`Write`](Error::Write); [`NoBatch`](Error::NoBatch) where another cache was put in the place of the one that it was opened in. The
+    /// batch is closed in each case.
+    pub fn seal(self) -> Result<(), Error> {
+        let sealed = done(self.cache.on(sys::Handle::seal));
+        std::mem::forget(self);
+        sealed
+    }
+}
+
+impl Deref for Batch<'_> {
+    type Target = Cache;
+
+    fn deref(&self) -> &Cache {
+        self.cache
+    }
+}
+
+impl DerefMut for Batch<'_> {
+    fn deref_mut(&mut self) -> &mut Cache {
+        self.cache
+    }
+}
+
+impl Drop for Batch<'_> {
+    fn drop(&mut self) {
+        self.cache.on(sys::Handle::cancel);
+    }
+}

@@ -1,0 +1,87 @@
+//! Ids, and the whole log.
+
+use super::{Cache, done};
+use crate::answer::Amplification;
+use crate::error::Error;
+
+impl Cache {
+    /// A number that was never given before. It ascends, and a crash may skip some.
+    ///
+    /// ```
+    /// use dilluvas::{Cache, Settings};
+    ///
+    /// # fn main() -> Result<(), dilluvas::Error> {
+    /// let mut cache = Cache::in_memory(&Settings::default())?;
+    /// let id = cache.generate_id()?;
+    /// assert!(cache.generate_id()? > id);
+    /// # Ok(())
+    /// # }
+    /// ```
+    ///
+    /// # Errors
+    ///
+    /// [`IdsUsedUp`](Error::IdsUsedUp); [`BatchOpen`](Error::BatchOpen) where a batch is open, and a new counter is needed;
+    /// [`StampUsedUp`](Error::StampUsedUp), [`LogFull`](Error::LogFull), [`OutOfMemory`](Error::OutOfMemory), [`Write`](Error::Write). No
+    /// number is used up then.
+    pub fn generate_id(&mut self) -> Result<u64, Error> {
+        let mut id = 0;
+        done(self.on(|handle| handle.generate_id(&mut id)))?;
+        Ok(id)
+    }
+
+    /// Makes all that is pending durable, and answers how many bytes that wrote.
+    ///
+    /// # Errors
+    ///
+    /// [`BatchOpen`](Error::BatchOpen), [`Write`](Error::Write).
+    pub fn flush(&mut self) -> Result<usize, Error> {
+        let mut written = 0;
+        done(self.on(|handle| handle.flush(&mut written)))?;
+        Ok(written)
+    }
+
+    /// How many bytes the log has.
+    ///
+    /// # Errors
+    ///
+    /// [`Write`](Error::Write).
+    pub fn size(&mut self) -> Result<u64, Error> {
+        let mut bytes = 0;
+        done(self.on(|handle| handle.size(&mut bytes)))?;
+        Ok(bytes)
+    }
+
+    /// How much the log takes, and how much the pages would. It reads the pages that don't lie in memory.
+    ///
+    /// # Errors
+    ///
+    /// [`NotOverFile`](Error::NotOverFile) over a file or another device, or [`Write`](Error::Write) there; [`OutOfMemory`](Error::OutOfMemory).
+    pub fn amplification(&mut self) -> Result<Amplification, Error> {
+        let (mut log, mut pages) = (0, 0);
+        done(self.on(|handle| handle.amp(&mut log, &mut pages)))?;
+        Ok(Amplification { log, pages })
+    }
+
+    /// Moves the page that is due, and answers whether there was one. No page, stamp or id changes.
+    ///
+    /// # Errors
+    ///
+    /// [`NotOverFile`](Error::NotOverFile) over a file or another device, where no page is due, or [`Write`](Error::Write) there;
+    /// [`LogFull`](Error::LogFull), [`OutOfMemory`](Error::OutOfMemory): the page isn't due again then.
+    pub fn attempt_gc(&mut self) -> Result<bool, Error> {
+        let mut moved = false;
+        done(self.on(|handle| handle.gc(&mut moved)))?;
+        Ok(moved)
+    }
+
+    /// Whether the log had the cache's own pages as it was opened: a new one has not.
+    ///
+    /// # Errors
+    ///
+    /// [`Write`](Error::Write).
+    pub fn was_recovered(&mut self) -> Result<bool, Error> {
+        let mut recovered = false;
+        done(self.on(|handle| handle.was_recovered(&mut recovered)))?;
+        Ok(recovered)
+    }
+}

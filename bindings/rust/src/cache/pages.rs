@@ -1,0 +1,224 @@
+//! Making, reading, changing and freeing a page.
+
+use super::{Cache, done};
+use crate::answer::{Swap, Token};
+use crate::error::Error;
+use crate::page::{Page, encoded};
+use crate::sys;
+
+// Most values fit here, so that most calls are one.
+const USUAL_VALUE: usize = 64;
+
+impl Cache {
+    /// Puts a leaf of these pairs, whose keys ascend by their bytes, on a page: the free page of the greatest number, or else a new one.
+    /// [`NO_PAIRS`](crate::NO_PAIRS) is an empty leaf.
+    ///
+    /// ```
+    /// use dilluvas::{Cache, Error, NO_PAIRS, Settings};
+    ///
+    /// # fn main() -> Result<(), Error> {
+    /// let mut cache = Cache::in_memory(&Settings::default())?;
+    /// let empty = cache.allocate(NO_PAIRS)?;
+    /// let token = cache.allocate([("a", "1"), ("b", "2")])?;
+    /// assert_ne!(token.page, empty.page);
+    /// let falling = cache.allocate([("b", "2"), ("a", "1")]);
+    /// assert_eq!(falling, Err(Error::Arguments));
+    /// # Ok(())
+    /// # }
+    /// ```
+    ///
+    /// # Errors
+    ///
+    /// [`Arguments`](Error::Arguments) where the keys don't ascend, or a leaf can't hold the pairs; [`PagesUsedUp`](Error::PagesUsedUp),
+    /// [`StampUsedUp`](Error::StampUsedUp), [`LogFull`](Error::LogFull), [`OutOfMemory`](Error::OutOfMemory), [`Write`](Error::Write).
+    pub fn allocate<K: AsRef<[u8]>, V: AsRef<[u8]>>(
+        &mut self,
+        pairs: impl IntoIterator<Item = (K, V)>,
+    ) -> Result<Token, Error> {
+        let pairs = encoded(pairs)?;
+        let (mut page, mut stamp) = (0, 0);
+        done(self.on(|handle| handle.allocate(&pairs, &mut page, &mut stamp)))?;
+        Ok(Token { page, stamp })
+    }
+
+    /// A page, or none where there is no such page.
+    ///
+    /// # Errors
+    ///
+    /// [`ReservedId`](Error::ReservedId), [`OutOfMemory`](Error::OutOfMemory), [`Read`](Error::Read), [`Write`](Error::Write),
+    /// [`Corruption`](Error::Corruption).
+    pub fn get(&mut self, page: u64) -> Result<Option<Page>, Error> {
+        let mut found = Page::empty();
+        let is_there = self.get_into(page, &mut found)?;
+        Ok(is_there.then_some(found))
+    }
+
+    /// As [`get`](Cache::get), into a page whose memory is used again. It answers whether there is such a page.
+    ///
+    /// ```
+    /// use dilluvas::{Cache, Page, Settings};
+    ///
+    /// # fn main() -> Result<(), dilluvas::Error> {
+    /// let mut cache = Cache::in_memory(&Settings::default())?;
+    /// let mut pages = Vec::new();
+    /// for name in ["one", "two", "three"] {
+    ///     pages.push(cache.allocate([("name", name)])?.page);
+    /// }
+    /// let mut page = Page::empty();
+    /// for number in pages {
+    ///     assert!(cache.get_into(number, &mut page)?);
+    ///     assert_eq!(page.len(), 1);
+    /// }
+    /// # Ok(())
+    /// # }
+    /// ```
+    ///
+    /// # Errors
+    ///
+    /// As [`get`](Cache::get). The page that is given is empty then, as it is where there is no such page.
+    pub fn get_into(&mut self, page: u64, to: &mut Page) -> Result<bool, Error> {
+        let mut found = sys::Found::default();
+        to.clear();
+        loop {
+            match self.on(|handle| handle.get(page, &mut found, to.buffer())) {
+                sys::OK => break,
+                sys::SHORT => to.make_room(found.needed),
+                sys::GONE => return Ok(false),
+                status => return Err(Error::of(status)),
+            }
+        }
+        to.become_page(page, &found);
+        Ok(true)
+    }
+
+    /// Appends the value of a key of a leaf, and answers the page's token, or none where there is no such page or key. The other pairs
+    /// aren't copied.
+    ///
+    /// ```
+    /// use dilluvas::{Cache, Settings};
+    ///
+    /// # fn main() -> Result<(), dilluvas::Error> {
+    /// let mut cache = Cache::in_memory(&Settings::default())?;
+    /// let token = cache.allocate([("key", "value")])?;
+    /// let mut value = Vec::new();
+    /// assert_eq!(cache.value_into(token.page, "key", &mut value)?, Some(token));
+    /// assert_eq!(value, b"value");
+    /// assert_eq!(cache.value_into(token.page, "other", &mut value)?, None);
+    /// # Ok(())
+    /// # }
+    /// ```
+    ///
+    /// # Errors
+    ///
+    /// [`Index`](Error::Index) where the page is an index; [`ReservedId`](Error::ReservedId), [`OutOfMemory`](Error::OutOfMemory),
+    /// [`Read`](Error::Read), [`Write`](Error::Write), [`Corruption`](Error::Corruption). Nothing is appended then.
+    pub fn value_into(
+        &mut self,
+        page: u64,
+        key: impl AsRef<[u8]>,
+        value: &mut Vec<u8>,
+    ) -> Result<Option<Token>, Error> {
+        let (key, start) = (key.as_ref(), value.len());
+        let (mut stamp, mut needed) = (0, 0);
+        value.resize(start + USUAL_VALUE, 0);
+        let status = loop {
+            let room = &mut value[start..];
+            match self.on(|handle| handle.value(page, key, &mut stamp, room, &mut needed)) {
+                sys::SHORT => value.resize(start + needed, 0),
+                status => break status,
+            }
+        };
+        let written = if status == sys::OK { needed } else { 0 };
+        value.truncate(start + written);
+        match status {
+            sys::OK => Ok(Some(Token { page, stamp })),
+            sys::GONE | sys::NONE => Ok(None),
+            status => Err(Error::of(status)),
+        }
+    }
+
+    /// Maps a key of a leaf to a value. [`Swap`] has an example.
+    ///
+    /// # Errors
+    ///
+    /// [`LinkRefused`](Error::LinkRefused) where the page is an index, or the leaf has no room for the key; [`ReservedId`](Error::ReservedId),
+    /// [`StampUsedUp`](Error::StampUsedUp), [`LogFull`](Error::LogFull), [`OutOfMemory`](Error::OutOfMemory), [`Read`](Error::Read),
+    /// [`Write`](Error::Write), [`Corruption`](Error::Corruption).
+    pub fn set(
+        &mut self,
+        token: Token,
+        key: impl AsRef<[u8]>,
+        value: impl AsRef<[u8]>,
+    ) -> Result<Swap, Error> {
+        let (key, value) = (key.as_ref(), value.as_ref());
+        self.swap(token, |handle, page, stamp| {
+            handle.set(page, stamp, key, value)
+        })
+    }
+
+    /// Takes a key out of a leaf, whether or not it is there.
+    ///
+    /// # Errors
+    ///
+    /// As [`set`](Cache::set).
+    pub fn del(&mut self, token: Token, key: impl AsRef<[u8]>) -> Result<Swap, Error> {
+        let key = key.as_ref();
+        self.swap(token, |handle, page, stamp| handle.del(page, stamp, key))
+    }
+
+    /// Puts a leaf of these pairs, whose keys ascend by their bytes, on a page in place of what it held. In memory the page that is due is
+    /// moved then, as by [`attempt_gc`](Cache::attempt_gc), whatever comes of it.
+    ///
+    /// ```
+    /// use dilluvas::{Cache, Settings};
+    ///
+    /// # fn main() -> Result<(), dilluvas::Error> {
+    /// let mut cache = Cache::in_memory(&Settings::default())?;
+    /// let token = cache.allocate([("a", "1"), ("b", "2")])?;
+    /// let page = cache.get(token.page)?.expect("it was allocated");
+    /// let token = cache.replace(token, page.pairs().take(1))?.done().expect("it is the page's");
+    /// assert_eq!(cache.get(token.page)?.expect("it is there").len(), 1);
+    /// # Ok(())
+    /// # }
+    /// ```
+    ///
+    /// # Errors
+    ///
+    /// [`Arguments`](Error::Arguments) where the keys don't ascend, or a leaf can't hold the pairs; [`ReservedId`](Error::ReservedId),
+    /// [`StampUsedUp`](Error::StampUsedUp), [`LogFull`](Error::LogFull), [`OutOfMemory`](Error::OutOfMemory), [`Write`](Error::Write).
+    pub fn replace<K: AsRef<[u8]>, V: AsRef<[u8]>>(
+        &mut self,
+        token: Token,
+        pairs: impl IntoIterator<Item = (K, V)>,
+    ) -> Result<Swap, Error> {
+        let pairs = encoded(pairs)?;
+        self.swap(token, |handle, page, stamp| {
+            handle.replace(page, stamp, &pairs)
+        })
+    }
+
+    /// Frees a page: it is gone for every other call, until [`allocate`](Cache::allocate) uses its number again, at the next stamp.
+    ///
+    /// # Errors
+    ///
+    /// [`ReservedId`](Error::ReservedId), [`StampUsedUp`](Error::StampUsedUp), [`LogFull`](Error::LogFull),
+    /// [`OutOfMemory`](Error::OutOfMemory), [`Write`](Error::Write).
+    pub fn free(&mut self, token: Token) -> Result<Swap, Error> {
+        self.swap(token, |handle, page, stamp| handle.free(page, stamp))
+    }
+
+    // Makes a change, which writes the stamp that the page has.
+    fn swap(
+        &mut self,
+        token: Token,
+        mut change: impl FnMut(&mut sys::Handle, u64, &mut u64) -> u32,
+    ) -> Result<Swap, Error> {
+        let Token { page, mut stamp } = token;
+        match self.on(|handle| change(handle, page, &mut stamp)) {
+            sys::OK => Ok(Swap::Done(Token { page, stamp })),
+            sys::STALE => Ok(Swap::Stale(Token { page, stamp })),
+            sys::GONE => Ok(Swap::Gone),
+            status => Err(Error::of(status)),
+        }
+    }
+}
