@@ -53,6 +53,20 @@ impl Cache {
 
     /// How much the log takes, and how much the pages would. It reads the pages that don't lie in memory.
     ///
+    /// ```
+    /// use dilluvas::{Cache, Settings};
+    ///
+    /// # fn main() -> Result<(), dilluvas::Error> {
+    /// let mut cache = Cache::in_memory(&Settings::default())?;
+    /// let takes = cache.amplification()?;
+    /// assert_eq!(takes.log, cache.size()?);
+    /// if takes.log > 2 * takes.pages {
+    ///     while cache.attempt_gc()? {}
+    /// }
+    /// # Ok(())
+    /// # }
+    /// ```
+    ///
     /// # Errors
     ///
     /// [`NotOverFile`](Error::NotOverFile) over a file or another device, or [`Write`](Error::Write) there; [`OutOfMemory`](Error::OutOfMemory).

@@ -199,6 +199,20 @@ impl Cache {
 
     /// Frees a page: it is gone for every other call, until [`allocate`](Cache::allocate) uses its number again, at the next stamp.
     ///
+    /// ```
+    /// use dilluvas::{Cache, NO_PAIRS, Settings};
+    ///
+    /// # fn main() -> Result<(), dilluvas::Error> {
+    /// let mut cache = Cache::in_memory(&Settings::default())?;
+    /// let token = cache.allocate(NO_PAIRS)?;
+    /// let freed = cache.free(token)?.done().expect("the token is the page's");
+    /// assert_eq!(cache.get(token.page)?, None);
+    /// let again = cache.allocate(NO_PAIRS)?;
+    /// assert!(again.page == token.page && again.stamp > freed.stamp);
+    /// # Ok(())
+    /// # }
+    /// ```
+    ///
     /// # Errors
     ///
     /// [`ReservedId`](Error::ReservedId), [`StampUsedUp`](Error::StampUsedUp), [`LogFull`](Error::LogFull),
