@@ -7,7 +7,7 @@ mod model;
 
 use dilluvas::{Cache, Error, FileSettings};
 use folder::Folder;
-use model::{Change, History, Model, Run, Seed, Told, is_permitted, read};
+use model::{Change, History, Model, Pairs, Run, Seed, Told, is_permitted, read};
 use std::collections::BTreeSet;
 use std::fs::{self, File};
 use std::io::Write;
@@ -67,9 +67,10 @@ fn change_until_killed(seed: u64) {
     run.go_on(&mut cache).unwrap();
 }
 
-// Lets this program change the file for a while, and kills it: what it had told.
-fn log_of_one_killed(folder: &Folder, seed: u64, after: Duration) -> Vec<u8> {
-    let _ = fs::remove_file(folder.path().join("log"));
+// Lets this program change the file for a while, or begin to, and kills it: what it had told.
+fn log_of_one_killed(folder: &Folder, seed: u64, after: Duration, has_begun: bool) -> Vec<u8> {
+    let log = folder.path().join("log");
+    let _ = fs::remove_file(&log);
     let mut child = Command::new(env::current_exe().unwrap())
         .args(["what_was_flushed_survives_each_kill", "--exact"])
         .arg("--nocapture")
@@ -78,11 +79,14 @@ fn log_of_one_killed(folder: &Folder, seed: u64, after: Duration) -> Vec<u8> {
         .stdout(Stdio::null())
         .spawn()
         .unwrap();
+    while has_begun && !log.exists() && child.try_wait().unwrap().is_none() {
+        thread::sleep(Duration::from_micros(500));
+    }
     thread::sleep(after);
     child.kill().unwrap();
     let status = child.wait().unwrap();
     assert_eq!(status.signal(), Some(9), "it was killed, and did not fail");
-    fs::read(folder.path().join("log")).unwrap_or_default()
+    fs::read(log).unwrap_or_default()
 }
 
 // The changes of which a log tells: they come from the seed alone, and what they were answered from the log.
@@ -118,8 +122,11 @@ fn changes_of_many_killed(store: u64) -> usize {
     let (mut moments, mut changes) = (Seed(store), 0);
     for kill in 0..KILLS {
         let seed = store * KILLS + kill;
-        let after = Duration::from_micros(moments.below(80_000) as u64);
-        let log = log_of_one_killed(&folder, seed, after);
+        // the first ones while it starts, and makes the file or opens it
+        let has_begun = kill >= KILLS / 3;
+        let most = if has_begun { 120_000 } else { 8_000 };
+        let after = Duration::from_micros(moments.below(most) as u64);
+        let log = log_of_one_killed(&folder, seed, after, has_begun);
         let history = history_of(&model, seed, &log);
         if !folder.file().exists() {
             assert!(model == Model::default() && history.is_empty());
@@ -149,4 +156,32 @@ fn what_was_flushed_survives_each_kill() {
     let changes: usize = (0..STORES).map(changes_of_many_killed).sum();
     println!("{} kills, {changes} changes", STORES * KILLS);
     assert!(changes > (STORES * KILLS) as usize);
+}
+
+#[test]
+fn what_is_lost_is_seen() {
+    let some = |page: u64| (Change::Allocate(Pairs::new()), Some(page));
+    let ended = |change| (change, Some(0));
+    let of = |pages: &[u64]| Model {
+        pages: pages.iter().map(|page| (*page, Pairs::new())).collect(),
+        ..Model::default()
+    };
+    let permits = |history: &History, pages: &[u64]| is_permitted(&of(&[]), history, &of(pages));
+
+    let flushed = vec![some(2), ended(Change::Flush), some(3), some(4)];
+    assert!(permits(&flushed, &[2]) && permits(&flushed, &[2, 3]));
+    assert!(permits(&flushed, &[2, 3, 4]));
+    assert!(!permits(&flushed, &[]) && !permits(&flushed, &[2, 4]));
+
+    let mut batch = vec![some(2), ended(Change::Pin), some(3), some(4)];
+    let is_whole = |batch: &History| !permits(batch, &[2, 3]) && permits(batch, &[2]);
+    assert!(is_whole(&batch) && !permits(&batch, &[2, 3, 4]));
+    batch.push((Change::Seal, None));
+    assert!(is_whole(&batch) && permits(&batch, &[2, 3, 4]));
+    batch[4] = (Change::Cancel, None);
+    assert!(permits(&batch, &[2, 3]));
+
+    let unanswered = vec![(Change::Allocate(Pairs::new()), None)];
+    assert!(permits(&unanswered, &[]) && permits(&unanswered, &[2]));
+    assert!(!permits(&unanswered, &[2, 3]));
 }
