@@ -58,7 +58,8 @@ impl Cache {
     }
 
     /// Opens a cache over a file, which is locked until the cache is dropped. One that is absent or empty is made: with `.dilluvas-new`
-    /// behind its name until it is whole and durable, so a crash leaves it whole or as it was.
+    /// behind its name until it is whole and durable, so a crash leaves it whole or as it was. It has the owner and the mode of the empty one,
+    /// and a link to that stays. None is made where a link leads to no file.
     ///
     /// ```
     /// use dilluvas::{Cache, Error, FileSettings};
@@ -87,12 +88,7 @@ impl Cache {
     /// the file holds is as it was then. [`Write`](Error::Write) comes too where the file was made and its folder could not be synced: a
     /// crash may take it away again.
     pub fn open(path: impl AsRef<Path>, settings: &FileSettings) -> Result<Cache, Error> {
-        let path = path.as_ref();
-        match file::open_locked(path, false)? {
-            Some((file, len)) if len > 0 => Cache::on_device(file, settings),
-            // while the file is made, an empty one stays locked
-            _empty => file::make(path, |file| Cache::on_device(file, settings)),
-        }
+        file::open_or_make(path.as_ref(), |file| Cache::on_device(file, settings))
     }
 
     /// Opens a cache over a device, of which one of no bytes is given an empty log. Nobody else writes to it.

@@ -113,20 +113,33 @@ impl Attached {
         }
     }
 
-    // Reads what is needed and hands it in, piece by piece.
+    // Reads what is needed and hands it in, and more where that can be read too.
     fn read_needed(&mut self, handle: &mut sys::Handle) -> u32 {
         let (mut at, mut len) = (0, 0);
-        let mut status = handle.needs(&mut at, &mut len);
-        let needed = at.saturating_add(len as u64);
-        let end = needed.max(self.end.min(at.saturating_add(LEAST_READ)));
-        while status == sys::OK && at < end {
+        let status = handle.needs(&mut at, &mut len);
+        if status != sys::OK {
+            return status;
+        }
+        let end = at.saturating_add(len as u64);
+        let more = self.end.min(at.saturating_add(LEAST_READ));
+        if end < more && self.hand_in(handle, at, more) == sys::OK {
+            return sys::OK;
+        }
+        self.hand_in(handle, at, end)
+    }
+
+    // Reads the bytes between two places and hands them in, piece by piece.
+    fn hand_in(&mut self, handle: &mut sys::Handle, mut at: u64, end: u64) -> u32 {
+        while at < end {
             let piece = &mut self.buffer[..(end - at).min(ROOM as u64) as usize];
             if self.device.read_at(at, piece).is_err() {
                 return sys::READ;
             }
-            status = handle.hand_in(at, piece);
-            at += piece.len() as u64;
+            match handle.hand_in(at, piece) {
+                sys::OK => at += piece.len() as u64,
+                refused => return refused,
+            }
         }
-        status
+        sys::OK
     }
 }

@@ -3,10 +3,13 @@
 use crate::device::Device;
 use crate::error::Error;
 use std::ffi::OsString;
-use std::fs::{self, File, OpenOptions, TryLockError};
+use std::fs::{self, File, Metadata, OpenOptions, TryLockError};
 use std::io::{self, ErrorKind};
-use std::os::unix::fs::{FileExt, MetadataExt};
+use std::os::unix::fs::{FileExt, MetadataExt, fchown};
 use std::path::{Path, PathBuf};
+
+// So often is a file opened again whose place another took meanwhile.
+const MOST_TRIES: usize = 100;
 
 impl Device for File {
     fn size(&mut self) -> io::Result<u64> {
@@ -26,66 +29,180 @@ impl Device for File {
     }
 }
 
-/// Opens the file of a path and locks it: the file and its length, or none where it is absent.
-pub(crate) fn open_locked(path: &Path, create: bool) -> Result<Option<(File, u64)>, Error> {
-    loop {
-        let mut options = OpenOptions::new();
-        let file = match options.read(true).write(true).create(create).open(path) {
-            Ok(file) => file,
-            Err(error) => match error.kind() {
-                ErrorKind::NotFound => return Ok(None),
-                ErrorKind::IsADirectory => return Err(Error::NoFile),
-                _ => return Err(Error::NoAccess),
-            },
-        };
-        if !file.metadata().map_err(|_| Error::Read)?.is_file() {
-            return Err(Error::NoFile);
-        }
-        match file.try_lock() {
-            Ok(()) => {}
-            Err(TryLockError::WouldBlock) => return Err(Error::Held),
-            Err(TryLockError::Error(_)) => return Err(Error::NoAccess),
-        }
-        let found = file.metadata().map_err(|_| Error::Read)?;
-        let is_same =
-            |other: fs::Metadata| (other.dev(), other.ino()) == (found.dev(), found.ino());
-        if fs::metadata(path).is_ok_and(is_same) {
-            return Ok(Some((file, found.len())));
-        }
-        // another file took its place before it was locked
+/// A file that is locked. It is unlocked where it is dropped, and not only closed: a process that is just being started has it open too.
+pub(crate) struct Locked(File);
+
+impl Device for Locked {
+    fn size(&mut self) -> io::Result<u64> {
+        Device::size(&mut self.0)
+    }
+
+    fn read_at(&mut self, at: u64, into: &mut [u8]) -> io::Result<()> {
+        Device::read_at(&mut self.0, at, into)
+    }
+
+    fn write_at(&mut self, at: u64, bytes: &[u8]) -> io::Result<()> {
+        Device::write_at(&mut self.0, at, bytes)
+    }
+
+    fn sync(&mut self) -> io::Result<()> {
+        Device::sync(&mut self.0)
     }
 }
 
-/// Makes a file by another name, and gives it its own once what is opened over it is durable.
-pub(crate) fn make<T>(
+impl Drop for Locked {
+    fn drop(&mut self) {
+        // closing it does so too
+        let _ = self.0.unlock();
+    }
+}
+
+/// Opens and locks the file of a path, or makes it where it is absent or empty: then `open` is given it with no bytes, and it has its name
+/// once that has succeeded.
+pub(crate) fn open_or_make<T>(
     path: &Path,
-    open: impl FnOnce(File) -> Result<T, Error>,
+    open: impl FnOnce(Locked) -> Result<T, Error>,
 ) -> Result<T, Error> {
+    match open_locked(path)? {
+        Some((file, found)) if found.len() > 0 => {
+            sync_name(path)?;
+            open(file)
+        }
+        // while it is made, the empty one stays locked
+        Some((_empty, found)) => {
+            let path = fs::canonicalize(path).map_err(|_| Error::NoAccess)?;
+            make(&path, Some(&found), open)
+        }
+        // where a link leads to no file, none is made
+        None if path.as_os_str().is_empty() || fs::symlink_metadata(path).is_ok() => {
+            Err(Error::NoAccess)
+        }
+        None => make(path, None, open),
+    }
+}
+
+// Opens the file of a path and locks it, or answers none where it is absent.
+fn open_locked(path: &Path) -> Result<Option<(Locked, Metadata)>, Error> {
+    let mut options = OpenOptions::new();
+    options.read(true).write(true);
+    for _ in 0..MOST_TRIES {
+        // what is no file isn't opened: that may wait, or do something to it
+        if fs::metadata(path).is_ok_and(|found| !found.is_file()) {
+            return Err(Error::NoFile);
+        }
+        let file = match options.open(path) {
+            Ok(file) => file,
+            Err(error) if error.kind() == ErrorKind::NotFound => return Ok(None),
+            Err(error) => return Err(refusal(&error)),
+        };
+        let (file, found) = lock(file)?;
+        if fs::metadata(path).is_ok_and(|present| are_one_file(&present, &found)) {
+            return Ok(Some((file, found)));
+        }
+        // another file took its place before it was locked
+    }
+    Err(Error::NoAccess)
+}
+
+// Makes or opens a file that is being made, and locks it. No link is followed.
+fn open_new(path: &Path) -> Result<Locked, Error> {
+    let mut options = OpenOptions::new();
+    options.read(true).write(true);
+    for _ in 0..MOST_TRIES {
+        let is_there = match fs::symlink_metadata(path) {
+            Ok(found) if !found.is_file() => return Err(Error::NoAccess),
+            found => found.is_ok(),
+        };
+        let file = match options.create_new(!is_there).open(path) {
+            Ok(file) => file,
+            Err(error) if matches!(error.kind(), ErrorKind::AlreadyExists) => continue,
+            Err(error) if is_there && error.kind() == ErrorKind::NotFound => continue,
+            Err(error) => return Err(refusal(&error)),
+        };
+        let (file, found) = lock(file)?;
+        if fs::symlink_metadata(path).is_ok_and(|present| are_one_file(&present, &found)) {
+            return Ok(file);
+        }
+    }
+    Err(Error::NoAccess)
+}
+
+fn refusal(error: &io::Error) -> Error {
+    match error.kind() {
+        ErrorKind::IsADirectory => Error::NoFile,
+        _ => Error::NoAccess,
+    }
+}
+
+fn lock(file: File) -> Result<(Locked, Metadata), Error> {
+    let found = file.metadata().map_err(|_| Error::Read)?;
+    if !found.is_file() {
+        return Err(Error::NoFile);
+    }
+    match file.try_lock() {
+        Ok(()) => {}
+        Err(TryLockError::WouldBlock) => return Err(Error::Held),
+        Err(TryLockError::Error(_)) => return Err(Error::NoAccess),
+    }
+    let file = Locked(file);
+    // it may have grown before
+    let found = file.0.metadata().map_err(|_| Error::Read)?;
+    Ok((file, found))
+}
+
+fn are_one_file(one: &Metadata, other: &Metadata) -> bool {
+    (one.dev(), one.ino()) == (other.dev(), other.ino())
+}
+
+// Makes a file by another name, in place of an empty one if that is given.
+fn make<T>(
+    path: &Path,
+    empty: Option<&Metadata>,
+    open: impl FnOnce(Locked) -> Result<T, Error>,
+) -> Result<T, Error> {
+    let folder = File::open(folder_of(path)).map_err(|_| Error::NoAccess)?;
     let other = name_while_made(path);
-    let (file, _) = open_locked(&other, true)?.ok_or(Error::NoAccess)?;
-    let made = make_over(path, &other, file, open);
+    let file = open_new(&other)?;
+    let made = make_over(path, &other, file, empty, open);
     if made.is_err() {
-        // it has its own name where only its folder was not synced
         let _ = fs::remove_file(&other);
     }
-    made
+    let opened = made?;
+    sync_folder(&folder)?;
+    Ok(opened)
 }
 
 fn make_over<T>(
     path: &Path,
     other: &Path,
-    file: File,
-    open: impl FnOnce(File) -> Result<T, Error>,
+    file: Locked,
+    empty: Option<&Metadata>,
+    open: impl FnOnce(Locked) -> Result<T, Error>,
 ) -> Result<T, Error> {
     // another process may have made the file meanwhile, and one that was killed may have left bytes
     if fs::metadata(path).is_ok_and(|found| found.len() > 0) {
         return Err(Error::Held);
     }
-    file.set_len(0).map_err(|_| Error::Write)?;
+    file.0.set_len(0).map_err(|_| Error::Write)?;
+    if let Some(empty) = empty {
+        give_owner_and_mode(&file.0, empty).map_err(|_| Error::Write)?;
+    }
     let opened = open(file)?;
     fs::rename(other, path).map_err(|_| Error::NoAccess)?;
-    sync_folder(path).map_err(|_| Error::Write)?;
     Ok(opened)
+}
+
+// Gives a file the owner and the mode of an empty one whose place it takes.
+fn give_owner_and_mode(file: &File, empty: &Metadata) -> io::Result<()> {
+    let found = file.metadata()?;
+    if (found.uid(), found.gid()) != (empty.uid(), empty.gid()) {
+        match fchown(file, Some(empty.uid()), Some(empty.gid())) {
+            // who may not give a file away keeps it
+            Err(error) if error.kind() == ErrorKind::PermissionDenied => {}
+            done => done?,
+        }
+    }
+    file.set_permissions(empty.permissions())
 }
 
 fn name_while_made(path: &Path) -> PathBuf {
@@ -94,14 +211,28 @@ fn name_while_made(path: &Path) -> PathBuf {
     PathBuf::from(name)
 }
 
-// Makes durable which files the folder of a path has.
-fn sync_folder(path: &Path) -> io::Result<()> {
+fn folder_of(path: &Path) -> &Path {
     let folder = path
         .parent()
         .filter(|folder| !folder.as_os_str().is_empty());
-    match File::open(folder.unwrap_or(Path::new(".")))?.sync_all() {
+    folder.unwrap_or(Path::new("."))
+}
+
+// Makes the name of a file durable: whoever gave it may have ended before it was.
+fn sync_name(path: &Path) -> Result<(), Error> {
+    let folder = fs::canonicalize(path).and_then(|path| File::open(folder_of(&path)));
+    match folder {
+        Ok(folder) => sync_folder(&folder),
+        // a folder that may not be read is synced by nobody
+        Err(_) => Ok(()),
+    }
+}
+
+// Makes durable which files a folder has.
+fn sync_folder(folder: &File) -> Result<(), Error> {
+    match folder.sync_all() {
         // there are systems that sync no folder
-        Err(error) if error.kind() == ErrorKind::InvalidInput => Ok(()),
-        done => done,
+        Err(error) if error.kind() != ErrorKind::InvalidInput => Err(Error::Write),
+        _ => Ok(()),
     }
 }

@@ -40,6 +40,10 @@ struct Disk {
     calls: u64,
     // which call fails, and how
     fails: Option<(u64, Fault)>,
+    // the place of a read that failed: the next one there fails too, since a cache that asked for more than it needs asks again
+    failed_at: Option<u64>,
+    // a byte that no read gives
+    bad: Option<u64>,
 }
 
 impl Disk {
@@ -72,6 +76,7 @@ impl Shared {
     fn has_failed(&self) -> bool {
         let mut disk = self.0.lock().unwrap();
         let calls = disk.calls;
+        disk.failed_at = None;
         disk.fails.take().is_some_and(|(at, _)| at <= calls)
     }
 
@@ -107,9 +112,22 @@ impl Device for Shared {
 
     fn read_at(&mut self, at: u64, into: &mut [u8]) -> io::Result<()> {
         let (done, fault) = self.call(into.len());
-        let at = at as usize;
-        into[..done].copy_from_slice(&self.0.lock().unwrap().bytes[at..at + done]);
-        ended(fault)
+        let mut disk = self.0.lock().unwrap();
+        let place = at as usize;
+        into[..done].copy_from_slice(&disk.bytes[place..place + done]);
+        let fails_again = disk.failed_at.take() == Some(at);
+        let is_bad = disk
+            .bad
+            .is_some_and(|bad| (at..at + into.len() as u64).contains(&bad));
+        if fault.is_some() {
+            disk.failed_at = Some(at);
+        }
+        drop(disk);
+        ended(fault)?;
+        if fails_again || is_bad {
+            return Err(io::Error::other("the device fails"));
+        }
+        Ok(())
     }
 
     fn write_at(&mut self, at: u64, bytes: &[u8]) -> io::Result<()> {
@@ -208,7 +226,7 @@ fn end_of_changes((bytes, start): &(Vec<u8>, Model), call: u64, fault: Fault) ->
     let end = match ran {
         Ok(Ok(())) => {
             assert_eq!(read(&mut cache).unwrap(), run.model);
-            assert_eq!(run.told.made_again, u64::from(has_failed));
+            assert_eq!(run.told.made_again > 0, has_failed);
             End::BehindFailedRead
         }
         Ok(Err(error)) => {
@@ -290,4 +308,25 @@ fn each_page_comes_behind_a_read_that_failed() {
     }
     assert!(failed > model.pages.len() / 2);
     assert_eq!(read(&mut cache).unwrap(), model);
+}
+
+// A cache asks for more than it needs, where there is more.
+#[test]
+fn a_bad_byte_harms_no_page_in_front_of_it() {
+    let (bytes, model) = made();
+    let device = Shared::of(bytes);
+    let mut cache = open(&device);
+    let end = device.0.lock().unwrap().bytes.len() as u64;
+    device.0.lock().unwrap().bad = Some(end - 1);
+    let mut harmed = 0;
+    for (number, pairs) in &model.pages {
+        match cache.get(*number) {
+            Ok(page) => assert_eq!(page.unwrap().len(), pairs.len()),
+            Err(error) => {
+                assert_eq!(error, Error::Read);
+                harmed += 1;
+            }
+        }
+    }
+    assert!(harmed <= 1, "{harmed} pages");
 }

@@ -4,8 +4,10 @@ mod folder;
 
 use dilluvas::{Cache, Error, FileSettings, NO_PAIRS, Swap};
 use folder::Folder;
-use std::fs;
-use std::path::PathBuf;
+use std::fs::{self, Permissions};
+use std::os::unix::fs::{PermissionsExt, symlink};
+use std::path::{Path, PathBuf};
+use std::process::Command;
 
 const SETTINGS: FileSettings = FileSettings {
     cache_capacity: 4096,
@@ -65,4 +67,35 @@ fn what_is_no_file_is_told() {
     fs::write(folder.file(), b"").unwrap();
     assert_eq!(opened(folder.file()), Ok(()));
     assert_eq!(fs::read_dir(folder.path()).unwrap().count(), 1);
+}
+
+#[test]
+fn what_stands_at_the_path_is_left_as_it_is() {
+    let folder = Folder::new("left");
+    let at = |name: &str| folder.path().join(name);
+    let opened = |path: &Path| Cache::open(path, &SETTINGS).map(drop);
+
+    // a link that leads to no file, and one that leads to an empty one
+    symlink(at("led-to"), at("link")).unwrap();
+    assert_eq!(opened(&at("link")), Err(Error::NoAccess));
+    assert!(!at("led-to").exists());
+    fs::write(at("led-to"), b"").unwrap();
+    fs::set_permissions(at("led-to"), Permissions::from_mode(0o640)).unwrap();
+    assert_eq!(opened(&at("link")), Ok(()));
+    assert!(fs::symlink_metadata(at("link")).unwrap().is_symlink());
+    let made = fs::metadata(at("led-to")).unwrap();
+    assert!(made.len() > 0);
+    assert_eq!(made.permissions().mode() & 0o777, 0o640);
+
+    // a link by the name that a file has while it is made
+    fs::write(at("other"), b"another's").unwrap();
+    symlink(at("other"), at("new.dilluvas-new")).unwrap();
+    assert_eq!(opened(&at("new")), Err(Error::NoAccess));
+    assert_eq!(fs::read(at("other")).unwrap(), b"another's");
+
+    // a pipe, which isn't waited for, and no path
+    let made = Command::new("mkfifo").arg(at("pipe")).status().unwrap();
+    assert!(made.success());
+    assert_eq!(opened(&at("pipe")), Err(Error::NoFile));
+    assert_eq!(opened(Path::new("")), Err(Error::NoAccess));
 }
