@@ -1,7 +1,7 @@
 #!/bin/sh
 # Makes one folder of what a program that calls the cache needs: libdilluvas.a, libdilluvas.so and dilluvas.h, and of what reads and writes
 # a file for it, dilluvas_file.h and dilluvas_file.c. It takes the proved library as `rt lib` left it in crates/sled_c, and makes that first
-# where it isn't there, or is older than a source.
+# where it isn't there, or is older than a source. It prints nothing but faults, and on standard error that it proves the library.
 #
 #     bindings/build.sh [FOLDER]
 #
@@ -13,7 +13,12 @@ mkdir -p "${1:-$top/bindings/out}"
 folder=$(CDPATH='' cd -- "${1:-$top/bindings/out}" && pwd)
 archive=$top/crates/sled_c/out/libsled_c.a
 if [ ! -f "$archive" ] || [ -n "$(find "$top"/crates/*/src -name '*.rt' -newer "$archive" | head -n 1)" ]; then
-    (cd "$top/crates/sled_c" && rt lib)
+    log=$folder/build.log
+    echo "build.sh: proving and building the library, which takes up to 20 minutes; what the toolchain says goes to $log" >&2
+    if ! (cd "$top/crates/sled_c" && rt lib) >"$log" 2>&1; then
+        tail -n 20 "$log" >&2
+        exit 1
+    fi
 fi
 
 # What calls the heap is the kit's, one object.

@@ -1,8 +1,9 @@
 #!/bin/sh
 # Compares README.md with the code, word for word, and prints what differs:
 #
-# - each block of Rust stands at the head of a file of a folder readme, of crates/sledpc/src/tests or crates/sled_shared_tests/src, which is
-#   named as its function is and has a test behind it, and each of these files has its block;
+# - each block of Rattle stands at the head of a file of a folder readme, of crates/sledpc/src/tests or crates/sled_shared_tests/src, which
+#   is named as its function is and has a test behind it, and each of these files has its block;
+# - each block of Rust that uses the crate dilluvas, of C and of Python is a program of bindings, which bindings/check.sh runs;
 # - each session of the program `./sledpc` stands in the run that the gate makes of it: its words in crates/sledpc/args,
 #   its input in crates/sledpc/stdin, and its replies at the same lines of crates/sledpc/stdout; and one over a file in a row of the
 #   tests of the program;
@@ -27,14 +28,14 @@ differ() {
     status=1
 }
 
-# Cuts the page into files, in order: NUMBER.rust for a block of Rust, NUMBER.COUNT.command for a command of a session and
-# NUMBER.COUNT.replies for what stands below it.
+# Cuts the page into files, in order: NUMBER.rust, NUMBER.c and NUMBER.python for a block of that language, NUMBER.COUNT.command for a
+# command of a session and NUMBER.COUNT.replies for what stands below it.
 cut_page() {
     awk -v work="$work" '
         /^```/ && !inside { inside = 1; number++; kind = substr($0, 4); count = 0; next }
         /^```/ { inside = 0; next }
         !inside { next }
-        kind == "rust" { print > sprintf("%s/%03d.rust", work, number); next }
+        kind == "rust" || kind == "c" || kind == "python" { print > sprintf("%s/%03d.%s", work, number, kind); next }
         kind != "" && kind != "console" && kind != "sh" { next }
         /^\$ / { count++; print substr($0, 3) > sprintf("%s/%03d.%03d.command", work, number, count); next }
         count > 0 { print > sprintf("%s/%03d.%03d.replies", work, number, count); next }
@@ -46,6 +47,7 @@ cut_page() {
 compare_rust() {
     for block in "$work"/*.rust; do
         [ -e "$block" ] || continue
+        grep -q '^use dilluvas::' "$block" && mv "$block" "$block.dilluvas" && continue
         name=$(sed -n 's/^\(pub \)\{0,1\}fn \([a-z0-9_]*\).*/\2/p' "$block" | head -n 1)
         file=$(find $examples -name "$name.rt")
         if [ -z "$name" ] || [ ! -f "$file" ]; then
@@ -64,6 +66,22 @@ compare_rust() {
     while read -r file; do
         [ -e "$work/$(basename "$file" .rt).has_block" ] || differ "no block has $file"
     done <"$work/examples"
+}
+
+# Compares the one block of a language with a program: $1 is the block, if there is one, and $2 the program.
+compare_program() {
+    if [ ! -f "$1" ]; then
+        differ "no block is $2, or more than one"
+    elif ! diff "$1" "$2" >"$work/diff"; then
+        differ "a block (<) differs from $2 (>):"
+        cat "$work/diff"
+    fi
+}
+
+compare_bindings() {
+    compare_program "$(echo "$work"/*.rust.dilluvas)" bindings/rust/examples/readme.rs
+    compare_program "$(echo "$work"/*.c)" bindings/c/readme.c
+    compare_program "$(echo "$work"/*.python)" bindings/python/readme.py
 }
 
 # Compares one run of the program: $1 is what is printed to it, $2 its words, $3 the file of what it replies.
@@ -125,6 +143,8 @@ compare_sessions() {
             [ -x "${text%% *}" ] || differ "there is no command ${text%% *}"
             ;;
         "rt "* | "cd crates/"*) ;;
+        # bindings/readme.sh makes these
+        bindings/* | "cargo "* | "cc "* | "PYTHONPATH="*) ;;
         *) differ "nothing is known of the command '$text'" ;;
         esac
     done
@@ -142,6 +162,7 @@ compare_definitions() {
 
 cut_page
 compare_rust
+compare_bindings
 compare_sessions
 compare_definitions
 if [ -s "$work/faults" ]; then

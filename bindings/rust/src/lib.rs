@@ -22,6 +22,7 @@
 //! Every method takes `&mut self`: a [`Cache`] may go to another thread, and is used by one at a time. It is `Send`, and not `Sync`.
 
 #![deny(unsafe_code)]
+#![warn(missing_docs)]
 
 mod answer;
 mod batch;

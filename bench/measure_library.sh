@@ -1,0 +1,35 @@
+#!/bin/sh
+# Measures calls of the library from Rust beside LMDB through its C interface, and prints the table of docs/BENCHMARKS.md's section
+# 'From Rust':
+#
+#     bench/measure_library.sh >library_table.md
+#
+# MEMORY is a folder that lies in memory (/dev/shm) and DISK one on a disk (/var/tmp). Everything is made in new folders there, which go at
+# the end. It needs cargo and liblmdb-dev.
+set -eu
+
+top=$(CDPATH='' cd -- "$(dirname -- "$(readlink -f -- "$0")")/.." && pwd)
+for tool in cargo awk; do
+    command -v "$tool" >/dev/null || { echo "measure_library.sh: it needs $tool" >&2; exit 1; }
+done
+memory=$(mktemp -d "${MEMORY:-/dev/shm}/library-XXXXXX")
+disk=$(mktemp -d "${DISK:-/var/tmp}/library-XXXXXX")
+trap 'rm -rf "$memory" "$disk"' EXIT
+trap 'exit 1' HUP INT TERM
+
+"$top/bindings/build.sh" >&2
+(cd "$top/bench/library" && CARGO_TARGET_DIR=$top/bindings/out/target cargo build --release --offline -q)
+load_before=$(cut -d ' ' -f 1-3 /proc/loadavg)
+"$top/bindings/out/target/release/library" "$memory" "$disk" >"$memory/figures"
+printf 'Measured on %s: %s, %s processors, Linux %s, load average %s at the start and %s at the end; LMDB %s.\n\n' "$(date -u +%F)" \
+    "$(sed -n 's/^model name[^:]*: //p' /proc/cpuinfo | head -n 1)" "$(nproc)" "$(uname -r)" "$load_before" \
+    "$(cut -d ' ' -f 1-3 /proc/loadavg)" "$(dpkg-query -W -f '${Version}' liblmdb-dev 2>/dev/null || echo unknown)"
+awk '
+    $3 == "dilluvas" { ours = $4 }
+    $3 == "lmdb" { rows[$1] = rows[$1] sprintf("| `%s`%s | %.0f | %.0f | %.2f |\n", $2, $1 == "disk" ? ", over a file" : "", ours, $4, ours / $4) }
+    END {
+        print "| call | dilluvas, ns | LMDB, ns | ratio |"
+        print "|---|---|---|---|"
+        printf "%s%s", rows["memory"], rows["disk"]
+    }
+' "$memory/figures"
