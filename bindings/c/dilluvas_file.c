@@ -2,6 +2,7 @@
 #include "dilluvas_file.h"
 #include <errno.h>
 #include <fcntl.h>
+#include <limits.h>
 #include <stdio.h>
 #include <stdlib.h>
 #include <sys/file.h>
@@ -9,8 +10,10 @@
 #include <unistd.h>
 
 enum {
-    ROOM = 65536,     /* bytes of the buffer */
-    LEAST_READ = 4096 /* so many are read at least: what a page's later messages need often stands near */
+    ROOM = 65536,      /* bytes of the buffer */
+    LEAST_READ = 4096, /* so many are read at least: what a page's later messages need often stands near */
+    MOST_TRIES = 100,  /* so often is a file opened again whose place another took meanwhile */
+    OFFSETS_HAVE_64_BITS = 1 / (sizeof(off_t) >= 8)
 };
 
 /* ---- Reading and writing. */
@@ -27,14 +30,14 @@ static bool write_all(int descriptor, const uint8_t *bytes, size_t len, uint64_t
     return true;
 }
 
-/* Reads so many bytes, or as many as there are up to the file's end, and writes how many. */
+/* Reads so many bytes, or as many as there are up to the file's end or to bytes that can't be read, and writes how many. */
 static bool read_up_to(int descriptor, uint8_t *bytes, size_t len, uint64_t at, size_t *got) {
     *got = 0;
     while (*got < len) {
         ssize_t read = pread(descriptor, bytes + *got, len - *got, (off_t)(at + *got));
         if (read < 0 && errno == EINTR) continue;
-        if (read < 0) return false;
-        if (read == 0) break;
+        if (read < 0 && *got == 0) return false;
+        if (read <= 0) break;
         *got += (size_t)read;
     }
     return true;
@@ -102,9 +105,11 @@ static dilluvas_status lock_file(int descriptor, struct stat *found) {
 
 /* Opens the file of a path and locks it. NONE: there is none. */
 static dilluvas_status open_locked(const char *path, int flags, int *descriptor, struct stat *found) {
-    for (;;) {
+    for (int tried = 0; tried < MOST_TRIES; tried++) {
         struct stat present;
-        int opened = open(path, flags | O_RDWR | O_CLOEXEC, 0666);
+        /* what is no file isn't opened: that may wait, or do something to it */
+        if (stat(path, &present) == 0 && !S_ISREG(present.st_mode)) return DILLUVAS_NO_FILE;
+        int opened = open(path, flags | O_RDWR | O_CLOEXEC | O_NOCTTY, 0666);
         if (opened < 0) return errno == EISDIR ? DILLUVAS_NO_FILE : errno == ENOENT ? DILLUVAS_NONE : DILLUVAS_NO_ACCESS;
         dilluvas_status status = lock_file(opened, found);
         if (status == DILLUVAS_OK && stat(path, &present) == 0 && are_one_file(found, &present)) {
@@ -115,18 +120,40 @@ static dilluvas_status open_locked(const char *path, int flags, int *descriptor,
         if (status != DILLUVAS_OK) return status;
         /* another file took its place before it was locked */
     }
+    return DILLUVAS_NO_ACCESS;
 }
 
-/* Makes durable which files the folder of a path has. It cuts the path. */
-static bool sync_folder(char *path) {
-    char *slash = strrchr(path, '/');
-    if (slash == path) slash[1] = 0;
-    else if (slash) slash[0] = 0;
-    int descriptor = open(slash ? path : ".", O_RDONLY | O_DIRECTORY | O_CLOEXEC);
-    if (descriptor < 0) return false;
+/* Opens the folder of a path, or answers -1. */
+static int open_folder(const char *path) {
+    char folder[PATH_MAX] = ".";
+    const char *slash = strrchr(path, '/');
+    if (slash) {
+        size_t len = slash == path ? 1 : (size_t)(slash - path);
+        if (len >= sizeof folder) return -1;
+        memcpy(folder, path, len);
+        folder[len] = 0;
+    }
+    return open(folder, O_RDONLY | O_DIRECTORY | O_CLOEXEC);
+}
+
+/* Makes durable which files a folder has. */
+static bool sync_folder(int folder) {
+    int done;
+    do {
+        done = fsync(folder);
+    } while (done != 0 && errno == EINTR);
     /* there are systems that sync no folder */
-    bool done = fsync(descriptor) == 0 || errno == EINVAL;
-    close(descriptor);
+    return done == 0 || errno == EINVAL;
+}
+
+/* Makes the name of a file durable: whoever gave it may have ended before it was. */
+static bool sync_name(const char *path) {
+    char real[PATH_MAX];
+    int folder = realpath(path, real) ? open_folder(real) : -1;
+    /* a folder that may not be read is synced by nobody */
+    if (folder < 0) return true;
+    bool done = sync_folder(folder);
+    close(folder);
     return done;
 }
 
@@ -149,32 +176,66 @@ static void close_all(dilluvas_file *file) {
     file->descriptor = -1;
 }
 
-/* Makes a file by another name, and gives it its own once it is durable. The other name is kept by one process at a time. */
-static dilluvas_status make(dilluvas_file *file, const char *path, char *other, const dilluvas_file_settings *settings) {
+/* Gives a file the owner and the mode of an empty one whose place it takes. */
+static bool give_owner_and_mode(int descriptor, const struct stat *empty) {
     struct stat found;
-    dilluvas_status status = open_locked(other, O_CREAT, &file->descriptor, &found);
+    if (fstat(descriptor, &found) != 0) return false;
+    bool is_theirs = found.st_uid == empty->st_uid && found.st_gid == empty->st_gid;
+    /* who may not give a file away keeps it */
+    if (!is_theirs && fchown(descriptor, empty->st_uid, empty->st_gid) != 0 && errno != EPERM) return false;
+    return fchmod(descriptor, empty->st_mode & 07777) == 0;
+}
+
+/* Makes a file by another name, and gives it its own once it is durable. The other name is kept by one process at a time. */
+static dilluvas_status make(dilluvas_file *file, const char *path, const char *other, const struct stat *empty,
+                            const dilluvas_file_settings *settings) {
+    struct stat found;
+    dilluvas_status status = open_locked(other, O_CREAT | O_NOFOLLOW, &file->descriptor, &found);
     if (status != DILLUVAS_OK) return status == DILLUVAS_NONE ? DILLUVAS_NO_ACCESS : status;
     /* another process may have made the file meanwhile, and one that was killed may have left bytes */
     if (stat(path, &found) == 0 && found.st_size > 0) status = DILLUVAS_HELD;
     else if (ftruncate(file->descriptor, 0) != 0) status = DILLUVAS_WRITE;
+    else if (empty && !give_owner_and_mode(file->descriptor, empty)) status = DILLUVAS_WRITE;
     else status = open_cache(file, settings, 0);
     if (status == DILLUVAS_OK && rename(other, path) != 0) status = DILLUVAS_NO_ACCESS;
-    if (status != DILLUVAS_OK) {
-        unlink(other);
-        return status;
-    }
-    return sync_folder(other) ? DILLUVAS_OK : DILLUVAS_WRITE;
+    if (status != DILLUVAS_OK) unlink(other);
+    return status;
 }
 
-static dilluvas_status make_new(dilluvas_file *file, const char *path, const dilluvas_file_settings *settings) {
+/* Makes a file, in place of an empty one if that is given. */
+static dilluvas_status make_new(dilluvas_file *file, const char *path, const struct stat *empty, const dilluvas_file_settings *settings) {
     static const char behind[] = ".dilluvas-new";
     size_t len = strlen(path);
+    int folder = open_folder(path);
+    if (folder < 0) return DILLUVAS_NO_ACCESS;
     char *other = malloc(len + sizeof behind);
-    if (!other) return DILLUVAS_MEMORY;
-    memcpy(other, path, len);
-    memcpy(other + len, behind, sizeof behind);
-    dilluvas_status status = make(file, path, other, settings);
+    dilluvas_status status = DILLUVAS_MEMORY;
+    if (other) {
+        memcpy(other, path, len);
+        memcpy(other + len, behind, sizeof behind);
+        status = make(file, path, other, empty, settings);
+    }
+    if (status == DILLUVAS_OK && !sync_folder(folder)) status = DILLUVAS_WRITE;
     free(other);
+    close(folder);
+    return status;
+}
+
+/* Makes a file where none is, and none where a link leads. */
+static dilluvas_status make_absent(dilluvas_file *file, const char *path, const dilluvas_file_settings *settings) {
+    struct stat found;
+    if (!*path || (lstat(path, &found) == 0 && S_ISLNK(found.st_mode))) return DILLUVAS_NO_ACCESS;
+    return make_new(file, path, NULL, settings);
+}
+
+/* Makes a file in place of an empty one, where a link leads too. While it is made, the empty one stays locked. */
+static dilluvas_status make_of_empty(dilluvas_file *file, const char *path, const struct stat *empty,
+                                     const dilluvas_file_settings *settings) {
+    char real[PATH_MAX];
+    int descriptor = file->descriptor;
+    file->descriptor = -1;
+    dilluvas_status status = realpath(path, real) ? make_new(file, real, empty, settings) : DILLUVAS_NO_ACCESS;
+    close(descriptor);
     return status;
 }
 
@@ -182,17 +243,14 @@ dilluvas_status dilluvas_file_open(dilluvas_file *file, const char *path, const 
     struct stat found;
     if (!file || !path) return DILLUVAS_ARGUMENTS;
     if (file->buffer) return DILLUVAS_ALREADY_OPEN;
+    file->descriptor = -1;
     dilluvas_status status = open_locked(path, 0, &file->descriptor, &found);
     if (status == DILLUVAS_OK && found.st_size > 0) {
-        status = open_cache(file, settings, (uint64_t)found.st_size);
+        status = sync_name(path) ? open_cache(file, settings, (uint64_t)found.st_size) : DILLUVAS_WRITE;
     } else if (status == DILLUVAS_OK) {
-        /* while it is made, the empty file stays locked */
-        int empty = file->descriptor;
-        file->descriptor = -1;
-        status = make_new(file, path, settings);
-        close(empty);
+        status = make_of_empty(file, path, &found, settings);
     } else if (status == DILLUVAS_NONE) {
-        status = make_new(file, path, settings);
+        status = make_absent(file, path, settings);
     }
     if (status != DILLUVAS_OK) close_all(file);
     return status;

@@ -5,6 +5,7 @@
         cache.flush()
 """
 
+import contextlib
 import ctypes
 import errno
 import fcntl
@@ -12,13 +13,16 @@ import os
 import stat
 from ctypes import byref, c_size_t, c_uint64
 
-from dilluvas import HELD, NEEDS, NO_ACCESS, NO_FILE, OK, READ, WRITE, Cache, Refused, _FileSettings, _Handle, _Task
+from dilluvas import HELD, NEEDS, NO_ACCESS, NO_FILE, OK, READ, WRITE, Cache, Refused, _FileSettings, _Handle, _number, _Task
 
 # The kinds of a task.
 _NOTHING, _WRITE_BYTES, _SYNC = range(3)
 
 # So many bytes are written at a time, and so many read at least: what a page's later messages need often stands near.
 _ROOM, _LEAST_READ = 65536, 4096
+
+# So often is a file opened again whose place another took meanwhile.
+_MOST_TRIES = 100
 
 
 class FileCache(Cache):
@@ -31,17 +35,18 @@ class FileCache(Cache):
     def __init__(self, path, capacity=1 << 20, interval=10, segment_size=1 << 20):
         self._handle, self._descriptor = _Handle(), -1
         self._room = ctypes.create_string_buffer(_ROOM)
-        settings = _FileSettings(capacity, interval, segment_size)
+        settings = _FileSettings(_number(capacity), _number(interval), _number(segment_size))
         path = os.fspath(path)
         descriptor = _open_locked(path, 0)
         try:
-            length = 0 if descriptor is None else os.fstat(descriptor).st_size
-            if length > 0:
+            found = None if descriptor is None else os.fstat(descriptor)
+            if found and found.st_size > 0:
                 self._descriptor, descriptor = descriptor, None
-                self._open(settings, length)
+                _sync_name(os.path.realpath(path))
+                self._open(settings, found.st_size)
             else:
                 # while the file is made, an empty one stays locked
-                self._make(path, settings)
+                self._make(_name_of_new(path), found, settings)
         except BaseException:
             self.close()
             raise
@@ -52,9 +57,19 @@ class FileCache(Cache):
     def _open(self, settings, length):
         self._do("open_file", byref(settings), length)
 
-    def _make(self, path, settings):
+    # Makes a file by another name, and gives it its own once it is durable. It takes the place of an empty one, if that was found.
+    def _make(self, path, empty, settings):
         other = path + (b".dilluvas-new" if isinstance(path, bytes) else ".dilluvas-new")
-        descriptor = _open_locked(other, os.O_CREAT)
+        with _told_as(NO_ACCESS):
+            folder = _open_folder(path)
+        try:
+            self._make_by(other, path, empty, settings)
+            _sync_folder(folder)
+        finally:
+            os.close(folder)
+
+    def _make_by(self, other, path, empty, settings):
+        descriptor = _open_locked(other, os.O_CREAT | os.O_NOFOLLOW)
         if descriptor is None:
             raise Refused(NO_ACCESS)
         self._descriptor = descriptor
@@ -62,13 +77,16 @@ class FileCache(Cache):
             # another process may have made the file meanwhile, and one that was killed may have left bytes
             if os.path.exists(path) and os.path.getsize(path) > 0:
                 raise Refused(HELD)
-            os.ftruncate(self._descriptor, 0)
+            with _told_as(WRITE):
+                os.ftruncate(descriptor, 0)
+                if empty:
+                    _give_owner_and_mode(descriptor, empty)
             self._open(settings, 0)
-            os.rename(other, path)
+            with _told_as(NO_ACCESS):
+                os.rename(other, path)
         except BaseException:
             os.unlink(other)
             raise
-        _sync_folder(path)
 
     def close(self):
         """Closes the cache and its file. Closing it again does nothing."""
@@ -86,6 +104,10 @@ class FileCache(Cache):
             except OSError:
                 super()._ask("failed")
                 return WRITE
+            except BaseException:
+                # a task counts as done once it is handed out
+                super()._ask("failed")
+                raise
             if status != NEEDS:
                 return status
             status = self._read_needed()
@@ -102,6 +124,8 @@ class FileCache(Cache):
             at, left = task.at, memoryview(self._room)[: task.len]
             while left:
                 written = os.pwrite(self._descriptor, left, at)
+                if not written:
+                    raise OSError(errno.EIO, "nothing was written")
                 at, left = at + written, left[written:]
 
     # Reads what is needed and hands it in.
@@ -113,7 +137,7 @@ class FileCache(Cache):
             try:
                 read = os.pread(self._descriptor, wanted - len(data), at.value + len(data))
             except OSError:
-                return READ
+                break
             if not read:
                 break
             data += read
@@ -122,11 +146,22 @@ class FileCache(Cache):
         return status or super()._ask("hand_in", at, data, len(data))
 
 
+@contextlib.contextmanager
+def _told_as(status):
+    """An error of the system is told by a status."""
+    try:
+        yield
+    except OSError as error:
+        raise Refused(status) from error
+
+
 def _open_locked(path, flags):
     """Opens the file of a path and locks it, or None where it is absent."""
-    while True:
+    for _ in range(_MOST_TRIES):
+        # what is no file isn't opened: that may wait, or do something to it
+        _check_is_file(path)
         try:
-            descriptor = os.open(path, flags | os.O_RDWR | os.O_CLOEXEC, 0o666)
+            descriptor = os.open(path, flags | os.O_RDWR | os.O_CLOEXEC | os.O_NOCTTY, 0o666)
         except FileNotFoundError:
             return None
         except IsADirectoryError:
@@ -134,30 +169,82 @@ def _open_locked(path, flags):
         except OSError:
             raise Refused(NO_ACCESS) from None
         try:
-            found = os.fstat(descriptor)
-            if not stat.S_ISREG(found.st_mode):
-                raise Refused(NO_FILE)
-            fcntl.flock(descriptor, fcntl.LOCK_EX | fcntl.LOCK_NB)
-            if os.path.exists(path) and os.path.samestat(found, os.stat(path)):
+            if _lock(descriptor, path):
                 locked, descriptor = descriptor, None
                 return locked
             # another file took its place before it was locked
-        except BlockingIOError:
-            raise Refused(HELD) from None
         finally:
             if descriptor is not None:
                 os.close(descriptor)
+    raise Refused(NO_ACCESS)
 
 
-def _sync_folder(path):
-    """Makes durable which files the folder of a path has."""
-    here = b"." if isinstance(path, bytes) else "."
-    descriptor = os.open(os.path.dirname(path) or here, os.O_RDONLY | os.O_DIRECTORY | os.O_CLOEXEC)
+def _check_is_file(path):
     try:
-        os.fsync(descriptor)
+        found = os.stat(path)
+    except OSError:
+        return
+    if not stat.S_ISREG(found.st_mode):
+        raise Refused(NO_FILE)
+
+
+def _lock(descriptor, path):
+    """Locks a file, and answers whether the path still leads to it."""
+    with _told_as(READ):
+        found = os.fstat(descriptor)
+    if not stat.S_ISREG(found.st_mode):
+        raise Refused(NO_FILE)
+    try:
+        fcntl.flock(descriptor, fcntl.LOCK_EX | fcntl.LOCK_NB)
+    except BlockingIOError:
+        raise Refused(HELD) from None
+    except OSError:
+        raise Refused(NO_ACCESS) from None
+    try:
+        return os.path.samestat(found, os.stat(path))
+    except OSError:
+        return False
+
+
+def _name_of_new(path):
+    """Where a file is made: where a link leads that has an empty file, and nowhere for one that leads to none."""
+    if not path or os.path.islink(path) and not os.path.exists(path):
+        raise Refused(NO_ACCESS)
+    return os.path.realpath(path) if os.path.islink(path) else path
+
+
+def _give_owner_and_mode(descriptor, empty):
+    found = os.fstat(descriptor)
+    if (found.st_uid, found.st_gid) != (empty.st_uid, empty.st_gid):
+        # who may not give a file away keeps it
+        with contextlib.suppress(PermissionError):
+            os.fchown(descriptor, empty.st_uid, empty.st_gid)
+    os.fchmod(descriptor, stat.S_IMODE(empty.st_mode))
+
+
+def _open_folder(path):
+    here = b"." if isinstance(path, bytes) else "."
+    return os.open(os.path.dirname(path) or here, os.O_RDONLY | os.O_DIRECTORY | os.O_CLOEXEC)
+
+
+def _sync_folder(folder):
+    """Makes durable which files a folder has."""
+    try:
+        os.fsync(folder)
     except OSError as error:
         # there are systems that sync no folder
         if error.errno != errno.EINVAL:
-            raise
+            raise Refused(WRITE) from error
+
+
+def _sync_name(path):
+    """Makes the name of a file durable: whoever gave it may have ended before it was."""
+    try:
+        folder = _open_folder(path)
+    except OSError:
+        # one that may not be read is synced by nobody
+        return
+    try:
+        _sync_folder(folder)
     finally:
-        os.close(descriptor)
+        os.close(folder)

@@ -1,0 +1,177 @@
+/* Opens caches by paths that lead to files, to other things and to nothing, and over what stands there already. Prints the line of each check
+ * that fails: the status is 1 then. Linked with --wrap=pread and --wrap=fsync. Usage: paths FOLDER, in which it makes its files. */
+#define _DEFAULT_SOURCE
+#include "dilluvas_file.h"
+#include <errno.h>
+#include <fcntl.h>
+#include <stdio.h>
+#include <stdlib.h>
+#include <sys/stat.h>
+#include <unistd.h>
+
+static int failures;
+
+static void is(int line, unsigned long long got, unsigned long long wanted) {
+    if (got == wanted) return;
+    printf("line %d: %llu, not %llu\n", line, got, wanted);
+    failures++;
+}
+
+#define IS(got, wanted) is(__LINE__, (got), (wanted))
+
+/* ---- The system. */
+
+/* From this place on nothing can be read, and whether folders can't be synced. */
+static off_t bad_from = -1;
+static bool no_sync;
+
+ssize_t __real_pread(int descriptor, void *bytes, size_t len, off_t at);
+int __real_fsync(int descriptor);
+
+ssize_t __wrap_pread(int descriptor, void *bytes, size_t len, off_t at) {
+    if (bad_from < 0 || at + (off_t)len <= bad_from) return __real_pread(descriptor, bytes, len, at);
+    if (at < bad_from) return __real_pread(descriptor, bytes, (size_t)(bad_from - at), at);
+    errno = EIO;
+    return -1;
+}
+
+int __wrap_fsync(int descriptor) {
+    if (!no_sync) return __real_fsync(descriptor);
+    errno = EIO;
+    return -1;
+}
+
+/* ---- The tests, in a folder that the program is in. */
+
+static dilluvas_status opened(const char *path) {
+    dilluvas_file file = DILLUVAS_FILE_CLOSED;
+    dilluvas_status status = dilluvas_file_open(&file, path, NULL);
+    IS(dilluvas_file_close(&file), status ? DILLUVAS_NOT_OPEN : DILLUVAS_OK);
+    return status;
+}
+
+static void put(const char *path, const char *bytes, mode_t mode) {
+    int descriptor = open(path, O_WRONLY | O_CREAT | O_TRUNC, mode);
+    IS(write(descriptor, bytes, strlen(bytes)), strlen(bytes));
+    IS(fchmod(descriptor, mode), 0);
+    close(descriptor);
+}
+
+static off_t size_of(const char *path) {
+    struct stat found;
+    return stat(path, &found) == 0 ? found.st_size : -1;
+}
+
+static bool is_link(const char *path) {
+    struct stat found;
+    return lstat(path, &found) == 0 && S_ISLNK(found.st_mode);
+}
+
+static void what_is_no_file_is_not_opened(void) {
+    IS(mkfifo("fifo", 0666), 0);
+    IS(opened("fifo"), DILLUVAS_NO_FILE);
+    IS(opened("/dev/zero"), DILLUVAS_NO_FILE);
+    IS(opened("."), DILLUVAS_NO_FILE);
+    IS(opened(""), DILLUVAS_NO_ACCESS);
+    IS(size_of(".dilluvas-new"), -1);
+    IS(symlink("loop", "loop"), 0);
+    IS(opened("loop"), DILLUVAS_NO_ACCESS);
+}
+
+static void links_stay(void) {
+    IS(symlink("nothing", "to nothing"), 0);
+    IS(opened("to nothing"), DILLUVAS_NO_ACCESS);
+    IS(is_link("to nothing"), true);
+    IS(size_of("nothing"), -1);
+    put("empty", "", 0600);
+    IS(symlink("empty", "to empty"), 0);
+    IS(opened("to empty"), DILLUVAS_OK);
+    IS(is_link("to empty"), true);
+    IS(size_of("empty") > 9, true);
+    dilluvas_file file = DILLUVAS_FILE_CLOSED;
+    IS(dilluvas_file_open(&file, "empty", NULL), DILLUVAS_OK);
+    IS(opened("to empty"), DILLUVAS_HELD);
+    dilluvas_file_close(&file);
+}
+
+static void an_empty_file_keeps_its_mode(void) {
+    struct stat before, after;
+    put("private", "", 0600);
+    if (geteuid() == 0) IS(chown("private", 65534, 65534), 0);
+    IS(stat("private", &before), 0);
+    IS(opened("private"), DILLUVAS_OK);
+    IS(stat("private", &after), 0);
+    IS(before.st_mode == after.st_mode && before.st_uid == after.st_uid && before.st_gid == after.st_gid, true);
+}
+
+/* A link by the name that a file has while it is made leads to no other file's end. */
+static void no_other_file_is_written(void) {
+    put("precious", "bytes", 0644);
+    IS(symlink("precious", "made.dilluvas-new"), 0);
+    IS(opened("made"), DILLUVAS_NO_ACCESS);
+    IS(size_of("precious"), 5);
+    IS(unlink("made.dilluvas-new"), 0);
+    put("made.dilluvas-new", "left by one that was killed", 0644);
+    IS(opened("made"), DILLUVAS_OK);
+    IS(size_of("made.dilluvas-new"), -1);
+}
+
+/* A file that is all zeros is closed too, and its descriptor isn't the standard input. */
+static void zeros_are_closed(void) {
+    dilluvas_file file;
+    memset(&file, 0, sizeof file);
+    IS(dilluvas_file_open(&file, "absent/file", NULL), DILLUVAS_NO_ACCESS);
+    IS(fcntl(STDIN_FILENO, F_GETFD) >= 0, true);
+}
+
+/* Whoever made a file may have ended before its name was durable. */
+static void a_name_is_synced(void) {
+    no_sync = true;
+    IS(opened("named"), DILLUVAS_WRITE);
+    IS(opened("named"), DILLUVAS_WRITE);
+    no_sync = false;
+    IS(opened("named"), DILLUVAS_OK);
+}
+
+/* What stands near the bytes that are needed may be unreadable. */
+static void a_bad_block_harms_its_pages_alone(void) {
+    dilluvas_file file = DILLUVAS_FILE_CLOSED;
+    dilluvas_status status;
+    uint64_t pages[2], stamp;
+    uint8_t pairs[3000], value[3000];
+    dilluvas_found found;
+    memset(value, 'v', sizeof value);
+    IS(dilluvas_file_open(&file, "blocks", NULL), DILLUVAS_OK);
+    for (int i = 0; i < 2; i++) {
+        size_t end = dilluvas_put(pairs, sizeof pairs, 0, "k", 1, value, i ? 2900 : 1);
+        DILLUVAS_FILE_CALL(&file, status, dilluvas_allocate(&file.cache, pairs, end, &pages[i], &stamp));
+        IS(status, DILLUVAS_OK);
+    }
+    size_t written;
+    DILLUVAS_FILE_CALL(&file, status, dilluvas_flush(&file.cache, &written));
+    IS(status, DILLUVAS_OK);
+    dilluvas_file_close(&file);
+    IS(dilluvas_file_open(&file, "blocks", NULL), DILLUVAS_OK);
+    bad_from = size_of("blocks") - 1000;
+    for (int i = 0; i < 2; i++) {
+        DILLUVAS_FILE_CALL(&file, status, dilluvas_get(&file.cache, pages[i], &found, pairs, sizeof pairs));
+        IS(status, i ? DILLUVAS_READ : DILLUVAS_OK);
+    }
+    bad_from = -1;
+    DILLUVAS_FILE_CALL(&file, status, dilluvas_get(&file.cache, pages[1], &found, pairs, sizeof pairs));
+    IS(status, DILLUVAS_OK);
+    dilluvas_file_close(&file);
+}
+
+int main(int count, char **arguments) {
+    if (count != 2 || chdir(arguments[1]) != 0 || mkdir("paths", 0755) != 0 || chdir("paths") != 0) return 2;
+    what_is_no_file_is_not_opened();
+    links_stay();
+    an_empty_file_keeps_its_mode();
+    no_other_file_is_written();
+    zeros_are_closed();
+    a_name_is_synced();
+    a_bad_block_harms_its_pages_alone();
+    if (failures == 0) printf("paths: passed\n");
+    return failures != 0;
+}
