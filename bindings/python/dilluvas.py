@@ -10,6 +10,7 @@ bindings/build.sh fills, or the file that the variable DILLUVAS_SO names.
 """
 
 import ctypes
+import operator
 import os
 import struct
 from ctypes import POINTER, byref, c_bool, c_char_p, c_size_t, c_uint32, c_uint64, c_void_p
@@ -144,6 +145,14 @@ def _check(status):
         raise Refused(status)
 
 
+def _number(value):
+    """A number that C takes as it is: ctypes cuts one of more than 64 bits."""
+    number = operator.index(value)
+    if not 0 <= number < 1 << 64:
+        raise OverflowError(f"{number} is no number of 64 bits")
+    return number
+
+
 def _encoded(pairs):
     return b"".join(struct.pack("<II", len(key), len(value)) + key + value for key, value in pairs)
 
@@ -163,7 +172,7 @@ class Cache:
 
     def __init__(self, capacity=1 << 20, interval=10, segment_size=4096, blob_limit=512, clean_every=16):
         self._handle = _Handle()
-        settings = _Settings(capacity, interval, segment_size, blob_limit, clean_every)
+        settings = _Settings(*map(_number, (capacity, interval, segment_size, blob_limit, clean_every)))
         self._do("open_memory", byref(settings))
 
     def __enter__(self):
@@ -182,8 +191,8 @@ class Cache:
         _check(self._ask(name, *arguments))
 
     def _swap(self, name, page, stamp, *arguments):
-        now = c_uint64(stamp)
-        status = self._ask(name, page, byref(now), *arguments)
+        now = c_uint64(_number(stamp))
+        status = self._ask(name, _number(page), byref(now), *arguments)
         if status == STALE:
             raise Stale(now.value)
         _check(status)
@@ -201,7 +210,7 @@ class Cache:
 
     def get(self, page):
         """A page, or None where there is no such page."""
-        found, room = _Found(), b""
+        page, found, room = _number(page), _Found(), b""
         status = SHORT
         while status == SHORT:
             room = ctypes.create_string_buffer(max(found.needed, 1))
@@ -213,7 +222,7 @@ class Cache:
 
     def value(self, page, key):
         """The value of a key of a leaf, or None where there is no such page or key."""
-        stamp, needed, room = c_uint64(), c_size_t(64), b""
+        page, stamp, needed, room = _number(page), c_uint64(), c_size_t(64), b""
         status = SHORT
         while status == SHORT:
             room = ctypes.create_string_buffer(max(needed.value, 1))
@@ -251,8 +260,8 @@ class Cache:
 
     def cas_root(self, name, old, new):
         """Gives a name another root page, or none, if its root is the old one. None stands for no root."""
-        root = c_uint64(old or 0)
-        status = self._ask("cas_root", name, len(name), byref(root), new or 0)
+        root = c_uint64(_number(old or 0))
+        status = self._ask("cas_root", name, len(name), byref(root), _number(new or 0))
         if status == STALE:
             raise Stale(root.value or None)
         _check(status)
