@@ -1,0 +1,63 @@
+/* dilluvas_file.c, whose reads, writes and syncs go by a hook: bindings/python/c_loop.py sets it, and lets them fail. */
+#define _DEFAULT_SOURCE
+#include <errno.h>
+#include <stdint.h>
+#include <stdio.h>
+#include <sys/types.h>
+#include <unistd.h>
+
+enum { READ, WRITE, SYNC, SYNC_FOLDER, CUT, RENAME, UNLINK };
+
+/* Answers what the call would, or the number of an error below 0. A name stands in place of bytes, and a second one in place of `at`. */
+typedef int64_t (*hook)(int kind, int descriptor, const void *bytes, size_t len, int64_t at);
+
+static hook present;
+
+void dilluvas_set_hook(hook next) {
+    present = next;
+}
+
+static int64_t call(int kind, int descriptor, const void *bytes, size_t len, int64_t at) {
+    int64_t answer = present(kind, descriptor, bytes, len, at);
+    if (answer >= 0) return answer;
+    errno = (int)-answer;
+    return -1;
+}
+
+static ssize_t hooked_pread(int descriptor, void *bytes, size_t len, off_t at) {
+    return (ssize_t)call(READ, descriptor, bytes, len, at);
+}
+
+static ssize_t hooked_pwrite(int descriptor, const void *bytes, size_t len, off_t at) {
+    return (ssize_t)call(WRITE, descriptor, bytes, len, at);
+}
+
+static int hooked_fdatasync(int descriptor) {
+    return (int)call(SYNC, descriptor, NULL, 0, 0);
+}
+
+static int hooked_fsync(int descriptor) {
+    return (int)call(SYNC_FOLDER, descriptor, NULL, 0, 0);
+}
+
+static int hooked_ftruncate(int descriptor, off_t size) {
+    return (int)call(CUT, descriptor, NULL, 0, size);
+}
+
+static int hooked_rename(const char *old, const char *new) {
+    return (int)call(RENAME, -1, old, 0, (int64_t)(intptr_t)new);
+}
+
+static int hooked_unlink(const char *path) {
+    return (int)call(UNLINK, -1, path, 0, 0);
+}
+
+#define pread hooked_pread
+#define pwrite hooked_pwrite
+#define fdatasync hooked_fdatasync
+#define fsync hooked_fsync
+#define ftruncate hooked_ftruncate
+#define rename hooked_rename
+#define unlink hooked_unlink
+#undef _DEFAULT_SOURCE
+#include "dilluvas_file.c"

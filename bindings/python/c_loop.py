@@ -1,0 +1,104 @@
+"""The loop of dilluvas_file.c, for the judge: what it reads, writes and syncs goes by a system of faults.
+
+It wants a shared library of bindings/c/hooks.c and libdilluvas.a, and DILLUVAS_SO to name that.
+"""
+
+import ctypes
+import errno
+import os
+from ctypes import POINTER, byref, c_bool, c_char_p, c_int, c_int64, c_size_t, c_uint32, c_void_p
+
+from dilluvas import Cache, _check, _FileSettings, _Handle, _LIBRARY, _number
+from faults import PowerCut
+
+_READ, _WRITE, _SYNC, _SYNC_FOLDER, _CUT, _RENAME, _UNLINK = range(7)
+_HOOK = ctypes.CFUNCTYPE(c_int64, c_int, c_int, c_void_p, c_size_t, c_int64)
+
+
+class _File(ctypes.Structure):
+    _fields_ = [("cache", _Handle), ("descriptor", c_int), ("buffer", c_void_p)]
+
+
+def is_there():
+    return hasattr(_LIBRARY, "dilluvas_set_hook")
+
+
+def _load():
+    _LIBRARY.dilluvas_set_hook.argtypes = (_HOOK,)
+    for name, parameters, result in (
+        ("open", (POINTER(_File), c_char_p, POINTER(_FileSettings)), c_uint32),
+        ("again", (POINTER(_File), POINTER(c_uint32)), c_bool),
+        ("close", (POINTER(_File),), c_uint32),
+    ):
+        function = getattr(_LIBRARY, "dilluvas_file_" + name)
+        function.argtypes, function.restype = parameters, result
+
+
+class Loop:
+    """Opens caches by the loop of C over a system."""
+
+    def __init__(self, system, random):
+        self.system, self._random = system, random
+        self._hook = _HOOK(self._called)
+
+    def __call__(self, path, capacity=1 << 20, interval=10, segment_size=1 << 20):
+        _load()
+        return CFileCache(self, path, _FileSettings(_number(capacity), _number(interval), _number(segment_size)))
+
+    def set_hook(self):
+        _LIBRARY.dilluvas_set_hook(self._hook)
+
+    def _called(self, kind, descriptor, data, length, at):
+        if kind in (_READ, _WRITE, _SYNC, _SYNC_FOLDER) and self._random.randrange(8) == 0:
+            return -errno.EINTR
+        try:
+            return self._do(kind, descriptor, data, length, at) or 0
+        except OSError as error:
+            return -error.errno
+        except PowerCut:
+            return -errno.EIO
+
+    def _do(self, kind, descriptor, data, length, at):
+        system = self.system
+        if kind == _READ:
+            read = system.pread(descriptor, length, at)
+            ctypes.memmove(data, read, len(read))
+            return len(read)
+        if kind == _WRITE:
+            return system.pwrite(descriptor, ctypes.string_at(data, length), at)
+        if kind == _RENAME:
+            return system.rename(os.fsdecode(ctypes.string_at(data)), os.fsdecode(ctypes.string_at(at)))
+        if kind == _UNLINK:
+            return system.unlink(os.fsdecode(ctypes.string_at(data)))
+        if kind == _CUT:
+            return system.ftruncate(descriptor, at)
+        return system.fdatasync(descriptor) if kind == _SYNC else system.fsync(descriptor)
+
+
+class CFileCache(Cache):
+    """An open cache over a file, as FileCache of dilluvas_file is one."""
+
+    def __init__(self, loop, path, settings):
+        self._loop, self._file = loop, _File(descriptor=-1)
+        self._handle = self._file.cache
+        loop.set_hook()
+        was_off = loop.system.is_off
+        status = _LIBRARY.dilluvas_file_open(byref(self._file), os.fsencode(path), byref(settings))
+        self._tell_power(was_off)
+        _check(status)
+
+    def _tell_power(self, was_off):
+        if self._loop.system.is_off and not was_off:
+            raise PowerCut
+
+    def _ask(self, name, *arguments):
+        while True:
+            was_off = self._loop.system.is_off
+            status = c_uint32(super()._ask(name, *arguments))
+            again = _LIBRARY.dilluvas_file_again(byref(self._file), byref(status))
+            self._tell_power(was_off)
+            if not again:
+                return status.value
+
+    def close(self):
+        _LIBRARY.dilluvas_file_close(byref(self._file))

@@ -1,0 +1,283 @@
+"""Judges the library over a file by what the plain model answers, and each reopening by which pages a crash may leave."""
+
+import collections
+import os
+import random
+
+import c_loop
+from dilluvas import NO_ACCESS, OK, READ, STALE, WRITE, Refused, Stale
+from dilluvas_file import FileCache
+from faults import ENDS, FAILS, PowerCut, System
+from history import History
+from journal import Journal, end_of, with_gates_open
+from machine import FLUSH, NOT_OPEN, Change, Held, Machine
+from scripts import Writer
+
+
+class Wrong(AssertionError):
+    """The library did what it may not."""
+
+
+def check(holds, *told):
+    if not holds:
+        raise Wrong(*told)
+
+
+def answer_of(cache, name, arguments):
+    """What a call answers, as the machine tells it."""
+    try:
+        return OK, getattr(cache, name)(*arguments)
+    except Stale as stale:
+        return STALE, stale.present
+    except Refused as refused:
+        return refused.status, None
+
+
+class Script:
+    """One file, and what becomes of it: it is opened again and again, and each life of a cache ends by a close, a fault or a crash."""
+
+    def __init__(self, seed, folder, counts):
+        self.random = random.Random(seed)
+        self.path = os.path.join(folder, "pages")
+        self.counts = counts
+        self.system = System(self.random)
+        self.open_cache = c_loop.Loop(self.system, self.random) if c_loop.is_there() else FileCache
+        self.writer = Writer(self.random)
+        self.journal = self.history = None
+        self.interval, self.last_id = self.random.randint(1, 10), -1
+        self.is_long = self.random.randrange(16) == 0
+        self.names = set()
+        self.trail = collections.deque(maxlen=12)
+
+    def run(self):
+        if self.random.randrange(8) == 0:
+            open(self.path, "wb").close()
+        with self.system:
+            for _ in range(self.random.randint(1, 4)):
+                self._live()
+            self._open_for_last()
+
+    # ---- A life.
+
+    def _live(self):
+        cache = self._open()
+        if self.random.randrange(3) == 0:
+            self._look(cache)
+        self.history = History(held.content for held in self.journal.stable)
+        self._arm(1.0)
+        is_well = True
+        try:
+            if self.is_long and is_well and len(self.machine.held) < 300:
+                is_well = all(self._call(cache, "allocate", ([(b"k", b"v" * 20)],)) for _ in range(300))
+            for _ in range(self.random.choice((3, 30, 100))):
+                if not is_well:
+                    break
+                is_well = self._call(cache, *self.writer.next_call(self.machine))
+            if not is_well:
+                self._is_stuck(cache)
+        except PowerCut:
+            pass
+        self._end(cache)
+
+    def _arm(self, weight):
+        """Something goes wrong, or nothing."""
+        self.system.disarm()
+        self.system.fails_one_read_of = self.random.choice((0, 0, 2, 5))
+        if self.random.random() < 0.7 * weight:
+            stops_at = int(self.random.expovariate(1 / self.random.choice((2, 12, 60)))) + 1
+            self.system.arm(self.random.choice((FAILS, ENDS)), stops_at, self.random.randrange(2) == 0)
+
+    def _end(self, cache):
+        """The cache is closed, or what came before was a crash."""
+        is_crash = self.system.is_off or self.random.randrange(3) == 0
+        cache.close()
+        check(answer_of(cache, "flush", ()) == (NOT_OPEN, None), "a closed handle does something")
+        cache.close()
+        if is_crash and self.random.randrange(4):
+            self.system.lose_power(self.path)
+            self.counts["crashes"] += 1
+        self.system.stop_process()
+        self.system.disarm()
+
+    # ---- Opening.
+
+    def _open(self):
+        self.settings = {
+            "capacity": self.random.choice((256, 4096, 1 << 20)),
+            "interval": self.interval,
+            "segment_size": self.random.choice((1, 17, 35, 100, 1000, 4096, 1 << 20)),
+        }
+        if self.journal is not None:
+            self._end_of_file()
+        for tried in range(100):
+            self._arm(0.3 if tried < 3 else 0)
+            is_there = self._is_there()
+            try:
+                cache = self.open_cache(self.path, **self.settings)
+            except PowerCut:
+                self._is_unmade(is_there)
+                continue
+            except Refused as refused:
+                self._is_unopened(refused.status, is_there)
+                continue
+            self._is_opened(not is_there)
+            return cache
+        raise Wrong("it isn't opened")
+
+    def _is_there(self):
+        return os.path.exists(self.path) and os.path.getsize(self.path) > 0
+
+    def _is_unmade(self, was_there):
+        if self.random.randrange(4):
+            self.counts["crashes"] += 1
+            self.system.lose_power(self.path)
+        self.system.stop_process()
+        if was_there:
+            self._end_of_file()
+        elif self._is_there():
+            self._is_new()
+
+    def _is_unopened(self, status, was_there):
+        """Why it wasn't opened, and that the file is as it was."""
+        self.counts["openings refused"] += 1
+        if self.system.failed_writes:
+            check(status in (WRITE, NO_ACCESS), "a write failed", status)
+        else:
+            check(self.system.failed_reads and status == READ, "refused", status)
+        check(not os.path.exists(self.path + ".dilluvas-new"), "a new file is left")
+        if was_there:
+            self._end_of_file()
+        elif self._is_there():
+            self._is_new()
+
+    def _is_new(self):
+        """The file has a log in which only the cache's own pages are."""
+        self.journal = Journal()
+        self.journal.segment_size = self.settings["segment_size"]
+        for event in (Change(0, Held({}, 1)), Change(1, Held(0, 1)), FLUSH):
+            self.journal.take(event)
+        del self.journal.ends[:-1]
+        self._end_of_file()
+
+    def _is_opened(self, is_new):
+        self.counts["openings"] += 1
+        self.interval += self.random.choice((0, 0, 1))
+        if is_new:
+            self._is_new()
+        self._settle()
+        self.journal.segment_size = self.settings["segment_size"]
+        self.machine = Machine(self.journal.stable, self.settings["interval"], is_new)
+
+    def _end_of_file(self):
+        """The file ends at one of the ends that it may have, and has the bytes in front of it."""
+        with open(self.path, "rb") as file:
+            content = file.read()
+        end = end_of(content)
+        ends = [end for end, _ in self.journal.ends]
+        check(end in ends, "the file ends elsewhere", end, ends)
+        stands = with_gates_open(content[: end - 1]) == self.journal.image[: end - 1]
+        check(stands and content[end - 1] == 0, "the file has other bytes", end)
+        return end
+
+    def _settle(self):
+        """The file is synced: what it holds is durable, and all else is lost."""
+        end = self._end_of_file()
+        self.journal.reopen(end, dict(self.journal.ends)[end])
+
+    # ---- A call.
+
+    def _call(self, cache, name, arguments):
+        """Whether all is well behind it: no write failed."""
+        self.trail.append((name, arguments))
+        self.counts["calls"] += 1
+        if name in ("root", "cas_root", "open_tree"):
+            self.names.add(arguments[0])
+        expected = self._expected(name, arguments)
+        reads = self.system.failed_reads
+        try:
+            answer = answer_of(cache, name, arguments)
+        except PowerCut:
+            self._take(expected, False)
+            raise
+        if answer[0] == READ:
+            self.counts["reads failed"] += 1
+            check(self.system.failed_reads > reads, "no read failed")
+            if self.random.randrange(2):
+                return True
+            # it succeeds when it is made again
+            self.system.fails_one_read_of = 0
+            return self._call(cache, name, arguments)
+        written = self._take(expected, answer[0] != WRITE)
+        if answer[0] == WRITE:
+            self.counts["writes failed"] += 1
+            check(self.system.failed_writes, "no write failed")
+            return False
+        check(not self.system.failed_writes, "a write failed", answer)
+        # what the call wrote is durable
+        del self.journal.ends[:-1]
+        self._compare(name, answer, expected, written)
+        return True
+
+    def _expected(self, name, arguments):
+        if name == "size":
+            return None
+        return getattr(self.machine, name)(*arguments)
+
+    def _take(self, expected, is_done):
+        """What a call did, or had begun, is done in the models: how many bytes its flush wrote."""
+        written = None
+        events = expected.events if expected else ()
+        for event in events:
+            self.machine.commit(event)
+            answered = self.journal.take(event)
+            written = answered if answered is not None else written
+        if self.history is not None:
+            self.history.add(events, is_done)
+        return written
+
+    def _compare(self, name, answer, expected, written):
+        if name == "size":
+            wanted = (OK, len(self.journal.image))
+        else:
+            wanted = (expected.status, written if name == "flush" and expected.status == OK else expected.value)
+        check(answer == wanted, name, answer, wanted)
+        self.counts["refused" if answer[0] else "answered"] += 1
+        if name == "generate_id" and answer[0] == OK:
+            check(answer[1] > self.last_id, "an id came twice", answer[1], self.last_id)
+            self.last_id = answer[1]
+
+    def _is_stuck(self, cache):
+        """Behind a write that failed every call answers so, and does nothing."""
+        calls = self.system.calls
+        for _ in range(5):
+            name, arguments = self.writer.next_call(self.machine)
+            check(answer_of(cache, name, arguments) == (WRITE, None), "it goes on behind a write error", name)
+        check(self.system.calls == calls, "something is done behind a write error")
+
+    # ---- The pages.
+
+    def _look(self, cache):
+        """All pages and roots that are shown are those that the file has, and that the history allows."""
+        self.system.disarm()
+        shown = []
+        for page in range(2, len(self.machine.held) + 3):
+            found = cache.get(page)
+            check(found is None or found.stamp == self.machine.stamps[page], "stamp", page)
+            shown.append(found and (found.is_index, tuple(found.pairs)))
+        check(shown[-3:] == [None] * 3, "a page too many")
+        roots = {name: cache.root(name) for name in self.names}
+        contents = [{name: page for name, page in roots.items() if page is not None}, self.machine.held[1].content, *shown[:-3]]
+        check(contents == [held.content for held in self.machine.held], "other pages than the file's are shown")
+        check(self.history is None or self.history.allows(contents), "pages are shown that no crash may leave")
+        self.counts["looks"] += 1
+
+    def _open_for_last(self):
+        """Opened once more with no faults, the file shows all of its pages, and new ids."""
+        cache = self._open()
+        self._look(cache)
+        self.history = None
+        for _ in range(2):
+            self._call(cache, "generate_id", ())
+        self._call(cache, "was_recovered", ())
+        cache.close()
+        self._settle()
