@@ -1,6 +1,8 @@
-/* dilluvas_file.c, whose reads, writes and syncs go by a hook: bindings/python/c_loop.py sets it, and lets them fail. */
+/* dilluvas_file.c, whose reads, writes and syncs go by a hook: bindings/python/c_loop.py sets it, and lets them fail. With it allocations
+ * are refused. Linked into a shared library with --wrap=malloc, --wrap=calloc and --wrap=realloc. */
 #define _DEFAULT_SOURCE
 #include <errno.h>
+#include <stdbool.h>
 #include <stdint.h>
 #include <stdio.h>
 #include <sys/types.h>
@@ -23,6 +25,48 @@ static int64_t call(int kind, int descriptor, const void *bytes, size_t len, int
     errno = (int)-answer;
     return -1;
 }
+
+/* ---- Allocations. */
+
+void *__real_malloc(size_t size);
+void *__real_calloc(size_t count, size_t size);
+void *__real_realloc(void *block, size_t size);
+
+/* How many succeed before one is refused, and none is where this is below 0. */
+static long left = -1;
+
+void dilluvas_refuse_allocation(long next) {
+    left = next;
+}
+
+/* Whether one was refused. */
+bool dilluvas_was_refused(void) {
+    return left == -2;
+}
+
+static bool is_refused(void) {
+    if (left < 0) return false;
+    if (left > 0) {
+        left--;
+        return false;
+    }
+    left = -2;
+    return true;
+}
+
+void *__wrap_malloc(size_t size) {
+    return is_refused() ? NULL : __real_malloc(size);
+}
+
+void *__wrap_calloc(size_t count, size_t size) {
+    return is_refused() ? NULL : __real_calloc(count, size);
+}
+
+void *__wrap_realloc(void *block, size_t size) {
+    return is_refused() ? NULL : __real_realloc(block, size);
+}
+
+/* ---- The loop. */
 
 static ssize_t hooked_pread(int descriptor, void *bytes, size_t len, off_t at) {
     return (ssize_t)call(READ, descriptor, bytes, len, at);

@@ -1,12 +1,12 @@
 """The loop of dilluvas_file.c, for the judge: what it reads, writes and syncs goes by a system of faults.
 
-It wants a shared library of bindings/c/hooks.c and libdilluvas.a, and DILLUVAS_SO to name that.
+It wants a shared library of bindings/c/hooks.c and libdilluvas.a, and DILLUVAS_SO to name that. Allocations can be refused there too.
 """
 
 import ctypes
 import errno
 import os
-from ctypes import POINTER, byref, c_bool, c_char_p, c_int, c_int64, c_size_t, c_uint32, c_void_p
+from ctypes import POINTER, byref, c_bool, c_char_p, c_int, c_int64, c_long, c_size_t, c_uint32, c_void_p
 
 from dilluvas import Cache, _check, _FileSettings, _Handle, _LIBRARY, _number
 from faults import PowerCut
@@ -25,6 +25,8 @@ def is_there():
 
 def _load():
     _LIBRARY.dilluvas_set_hook.argtypes = (_HOOK,)
+    _LIBRARY.dilluvas_refuse_allocation.argtypes = (c_long,)
+    _LIBRARY.dilluvas_was_refused.restype = c_bool
     for name, parameters, result in (
         ("open", (POINTER(_File), c_char_p, POINTER(_FileSettings)), c_uint32),
         ("again", (POINTER(_File), POINTER(c_uint32)), c_bool),
@@ -40,13 +42,20 @@ class Loop:
     def __init__(self, system, random):
         self.system, self._random = system, random
         self._hook = _HOOK(self._called)
+        _load()
 
     def __call__(self, path, capacity=1 << 20, interval=10, segment_size=1 << 20):
-        _load()
         return CFileCache(self, path, _FileSettings(_number(capacity), _number(interval), _number(segment_size)))
 
     def set_hook(self):
         _LIBRARY.dilluvas_set_hook(self._hook)
+
+    def refuse_allocation(self, behind):
+        """The allocation behind so many is refused, and none where this is -1."""
+        _LIBRARY.dilluvas_refuse_allocation(behind)
+
+    def was_refused(self):
+        return _LIBRARY.dilluvas_was_refused()
 
     def _called(self, kind, descriptor, data, length, at):
         if kind in (_READ, _WRITE, _SYNC, _SYNC_FOLDER) and self._random.randrange(8) == 0:

@@ -18,14 +18,15 @@ class PowerCut(BaseException):
 
 class System:
     """`calls` counts what would change the file or make it durable; the one that `stops_at` names goes wrong, and with `is_lasting` all
-    behind it do. Of the reads one of `fails_one_read_of` fails, and none where this is 0. Many reads and writes do a part."""
+    behind it do. Of the reads one of `fails_one_read_of` fails, and none where this is 0. Many reads and writes do a part. One that
+    `drops_syncs` makes nothing durable."""
 
     def __init__(self, random):
         self._random = random
         # of the file that was written last: which one it is, what was there before each write since its last sync, and its size by then
         self._file, self._unsynced, self._synced_size = None, [], 0
         self._renamed = None
-        self.is_off = False
+        self.is_off = self.drops_syncs = False
         self.disarm()
 
     def __getattr__(self, name):
@@ -120,7 +121,8 @@ class System:
         return os.pwrite(descriptor, data, at)
 
     def _sync(self, descriptor):
-        self._unsynced = []
+        if not self.drops_syncs:
+            self._unsynced = []
 
     # ---- What a crash leaves.
 

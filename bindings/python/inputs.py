@@ -38,19 +38,32 @@ def is_raised(kind, call, *arguments, **settings):
     return False
 
 
-def status_elsewhere(call):
-    """The status of a call in another process, by a user who has no rights."""
+def in_child(call):
+    """Begins a call in another process, whose status it answers there."""
     child = os.fork()
     if child == 0:
         try:
-            if os.geteuid() == 0:
-                os.setgroups([])
-                os.setgid(65534)
-                os.setuid(65534)
-            os._exit(status_of(call))
+            os._exit(call())
         finally:
             os._exit(255)
+    return child
+
+
+def answer_in(child):
     return os.waitstatus_to_exitcode(os.waitpid(child, 0)[1])
+
+
+def status_elsewhere(call):
+    """The status of a call in another process, by a user who has no rights."""
+
+    def without_rights():
+        if os.geteuid() == 0:
+            os.setgroups([])
+            os.setgid(65534)
+            os.setuid(65534)
+        return status_of(call)
+
+    return answer_in(in_child(without_rights))
 
 
 def written(path):
@@ -89,6 +102,28 @@ def opened_twice(folder):
         assert status_elsewhere(lambda: FileCache(path)) == HELD
     assert status_elsewhere(lambda: FileCache(path)) == OK
     assert is_whole(path + " hard") and is_whole(path + " soft") and os.path.islink(path + " soft")
+    made = os.path.join(folder, "made by ")
+    for name in (os.fsencode(made + "bytes"), pathlib.Path(made + "path"), os.path.relpath(made + "relative")):
+        assert is_whole(written(name))
+
+
+def many_processes(folder):
+    """One at a time has the file, which each of them may make, and none loses what another wrote."""
+    path = os.path.join(folder, "many")
+
+    def add_pages():
+        made = 0
+        for _ in range(40):
+            with contextlib.suppress(Refused), FileCache(path) as cache:
+                cache.allocate()
+                made += cache.flush() > 0
+        return made
+
+    children = [in_child(add_pages) for _ in range(4)]
+    made = sum(answer_in(child) for child in children)
+    with FileCache(path) as cache:
+        assert cache.get(made + 1) is not None and cache.get(made + 2) is None, made
+    assert not os.path.exists(path + ".dilluvas-new")
 
 
 # ---- Paths.
@@ -312,7 +347,7 @@ def odd_systems(folder):
 
 
 TESTS = (
-    closed_handles, opened_twice, what_is_no_file, rights, what_is_made, settings, numbers, short_buffers, a_full_disk, no_memory,
+    closed_handles, opened_twice, many_processes, what_is_no_file, rights, what_is_made, settings, numbers, short_buffers, a_full_disk, no_memory,
     a_file_that_shrinks, odd_systems,
 )  # fmt: skip
 

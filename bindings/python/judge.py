@@ -10,7 +10,7 @@ from dilluvas_file import FileCache
 from faults import ENDS, FAILS, PowerCut, System
 from history import History
 from journal import Journal, end_of, with_gates_open
-from machine import FLUSH, NOT_OPEN, Change, Held, Machine
+from machine import FLUSH, MEMORY, NOT_OPEN, Change, Held, Machine
 from scripts import Writer
 
 
@@ -41,7 +41,8 @@ class Script:
         self.path = os.path.join(folder, "pages")
         self.counts = counts
         self.system = System(self.random)
-        self.open_cache = c_loop.Loop(self.system, self.random) if c_loop.is_there() else FileCache
+        self.loop = c_loop.Loop(self.system, self.random) if c_loop.is_there() else None
+        self.open_cache = self.loop or FileCache
         self.writer = Writer(self.random)
         self.journal = self.history = None
         self.interval, self.last_id = self.random.randint(1, 10), -1
@@ -112,8 +113,9 @@ class Script:
         for tried in range(100):
             self._arm(0.3 if tried < 3 else 0)
             is_there = self._is_there()
+            self.was_left = os.path.exists(self.path + ".dilluvas-new")
             try:
-                cache = self.open_cache(self.path, **self.settings)
+                cache = self._with_less_memory(lambda: self.open_cache(self.path, **self.settings))
             except PowerCut:
                 self._is_unmade(is_there)
                 continue
@@ -142,9 +144,11 @@ class Script:
         self.counts["openings refused"] += 1
         if self.system.failed_writes:
             check(status in (WRITE, NO_ACCESS), "a write failed", status)
+        elif status == MEMORY:
+            check(self.was_refused, "no allocation failed")
         else:
             check(self.system.failed_reads and status == READ, "refused", status)
-        check(not os.path.exists(self.path + ".dilluvas-new"), "a new file is left")
+        check(self.was_left or not os.path.exists(self.path + ".dilluvas-new"), "a new file is left")
         if was_there:
             self._end_of_file()
         elif self._is_there():
@@ -195,10 +199,15 @@ class Script:
         expected = self._expected(name, arguments)
         reads = self.system.failed_reads
         try:
-            answer = answer_of(cache, name, arguments)
+            answer = self._with_less_memory(lambda: answer_of(cache, name, arguments))
         except PowerCut:
             self._take(expected, False)
             raise
+        if answer[0] == MEMORY:
+            self.counts["refused memory"] += 1
+            check(self.was_refused, "no allocation failed")
+            self._take_part(cache, name, expected)
+            return True
         if answer[0] == READ:
             self.counts["reads failed"] += 1
             check(self.system.failed_reads > reads, "no read failed")
@@ -217,6 +226,28 @@ class Script:
         del self.journal.ends[:-1]
         self._compare(name, answer, expected, written)
         return True
+
+    def _with_less_memory(self, call):
+        """Makes a call, in which an allocation may be refused."""
+        self.was_refused = False
+        if self.loop is None:
+            return call()
+        self.loop.refuse_allocation(self.random.randrange(12) if self.random.randrange(16) == 0 else -1)
+        try:
+            return call()
+        finally:
+            self.was_refused = self.loop.was_refused()
+            self.loop.refuse_allocation(-1)
+
+    def _take_part(self, cache, name, expected):
+        """A tree that wasn't opened for want of memory may have left its leaf, and its index."""
+        fails_one_read_of, self.system.fails_one_read_of = self.system.fails_one_read_of, 0
+        for change in expected.events[:2] if name == "open_tree" else ():
+            if cache.get(change.page) is None:
+                break
+            self._take(expected._replace(events=(change,)), True)
+        del self.journal.ends[:-1]
+        self.system.fails_one_read_of = fails_one_read_of
 
     def _expected(self, name, arguments):
         if name == "size":

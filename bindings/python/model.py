@@ -2,8 +2,8 @@
 
     model.py SEED COUNT
 
-makes COUNT scripts, the first from SEED, and prints the seed of one that fails: `model.py THAT 1` makes it again. With no arguments it
-makes some hundreds, damages files, and gives bad input.
+makes COUNT scripts, the first from SEED, damages files and calls the library with no loop. It prints the seed of what fails, which
+`model.py THAT 1` makes again. With no arguments it makes some hundreds, and gives bad input too.
 """
 
 import collections
@@ -14,10 +14,19 @@ import threading
 
 import damage
 import inputs
-from judge import Script
+import judge
+import raw
 
 # So many seconds may a script take before it is said to hang.
 LONGEST = 120
+
+
+class Careless(judge.Script):
+    """A script over a system that makes nothing durable: the judge has to see it."""
+
+    def __init__(self, *arguments):
+        super().__init__(*arguments)
+        self.system.drops_syncs = True
 
 
 def hangs(seed):
@@ -25,12 +34,13 @@ def hangs(seed):
     os._exit(1)
 
 
-def run(kind, seed, count, counts):
+def run(kind, seed, count, counts, tell=print):
     """Makes scripts of a kind, and answers how many failed."""
     failed = 0
     place = "/dev/shm" if os.path.isdir("/dev/shm") else None
     for number in range(seed, seed + count):
         watch = threading.Timer(LONGEST, hangs, (number,))
+        watch.daemon = True
         watch.start()
         with tempfile.TemporaryDirectory(dir=place) as folder:
             script = kind(number, folder, counts)
@@ -38,7 +48,7 @@ def run(kind, seed, count, counts):
                 script.run()
             except Exception as error:
                 failed += 1
-                print(f"{kind.__name__}, seed {number}: {error!r}, behind {[name for name, _ in script.trail]}")
+                tell(f"{kind.__module__}, seed {number}: {error!r}, behind {[name for name, _ in script.trail]}")
                 if count == 1:
                     raise
         watch.cancel()
@@ -48,10 +58,12 @@ def run(kind, seed, count, counts):
 def main(arguments):
     counts = collections.Counter()
     seed, count = (int(argument) for argument in arguments) if arguments else (0, 300)
-    failed = run(Script, seed, count, counts) + run(damage.Script, seed, count // 4, counts)
     if not arguments:
         with tempfile.TemporaryDirectory() as folder:
             inputs.run(folder)
+        assert run(Careless, 0, 30, collections.Counter(), tell=lambda _: None) > 0
+    kinds = (judge.Script, count), (damage.Script, count // 4 or 1), (raw.Script, count // 2 or 1)
+    failed = sum(run(kind, seed, times, counts) for kind, times in kinds)
     print("model:", ", ".join(f"{number} {what}" for what, number in sorted(counts.items())))
     return 1 if failed else 0
 

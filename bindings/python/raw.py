@@ -1,0 +1,166 @@
+"""Calls of the library with no loop between them, or with one that lies: each answers a status that dilluvas.h names, and nothing else."""
+
+import collections
+import ctypes
+import random
+from ctypes import byref, c_bool, c_size_t, c_uint64
+
+from dilluvas import NEEDS, OK, _call, _encoded, _FileSettings, _Found, _Handle, _Settings, _Task
+from judge import check
+from scripts import LARGEST, Writer
+
+_STATUSES = {*range(11), *range(16, 21), *range(101, 112), 203}
+_ROOM = 4096
+
+
+class Script:
+    """One handle, which is opened over a file of random bytes or in memory."""
+
+    def __init__(self, seed, folder, counts):
+        self.random, self.counts = random.Random(seed), counts
+        self.writer = Writer(self.random)
+        self.handle, self.room = _Handle(), ctypes.create_string_buffer(_ROOM)
+        self.number, self.other, self.size = c_uint64(), c_uint64(), c_size_t()
+        self.file = bytearray()
+        # of so many tasks one isn't done, and of so many bytes that are needed some are others
+        self.leaves_one_of, self.lies_one_of = self.random.choice((8, 10**6)), self.random.choice((2, 8, 10**6))
+        self.trail = collections.deque(maxlen=12)
+
+    def run(self):
+        names = [name for name in dir(self) if name.startswith("to_")]
+        try:
+            self._open()
+            for _ in range(150):
+                self._make(self.random.choice(names))
+                if self.random.randrange(3):
+                    self._serve()
+        finally:
+            _call("close", byref(self.handle))
+
+    def _open(self):
+        if self.random.randrange(8) == 0:
+            self._make("to_open_memory")
+        while self._make("to_open_file") == NEEDS and self.random.randrange(30):
+            self._serve()
+
+    def _make(self, name):
+        self.trail.append((name, ()))
+        status = getattr(self, name)()
+        self.counts["raw calls"] += 1
+        check(status in _STATUSES, "no status", status)
+        return status
+
+    def _ask(self, name, *arguments):
+        return _call(name, byref(self.handle), *arguments)
+
+    def _serve(self):
+        """Does the tasks, or some, and reads what is needed, or any other bytes."""
+        task, room = _Task(), self._size()
+        while self._ask("next_task", byref(task), self.room, max(room, 1)) == OK and task.kind and self.random.randrange(self.leaves_one_of):
+            if task.kind == 1:
+                check(0 < task.len <= max(room, 1), "more bytes than there is room for", task.len)
+                self.file[task.at : task.at + task.len] = self.room.raw[: task.len]
+        if self._ask("needs", byref(self.number), byref(self.size)) == OK and self.size.value:
+            check(self.size.value < 1 << 30, "bytes that no file has", self.size.value)
+            data = bytes(self.file[self.number.value : self.number.value + self.size.value])
+            if len(data) < self.size.value or self.random.randrange(self.lies_one_of) == 0:
+                data = self._lie(data)
+            self._ask("hand_in", self.number.value, data, len(data))
+
+    def _lie(self, data):
+        data = bytearray(data if self.random.randrange(2) else b"")
+        data += self.random.randbytes(self.size.value - len(data))
+        data[self.random.randrange(len(data))] ^= 1 << self.random.randrange(8)
+        return bytes(data)
+
+    def _size(self):
+        return self.random.choice((0, 1, 8, 100, _ROOM))
+
+    def _stamp(self):
+        return self.random.choice((0, 0, 1, 1, 2, 3, LARGEST))
+
+    def _page(self):
+        return self.random.choice((0, 1, 2, 2, 3, 3, 4, 9, 2**37, LARGEST - 666, LARGEST))
+
+    def _bytes(self):
+        data = self.random.randbytes(self.random.choice((0, 1, 1, 5, 30)))
+        return data, len(data)
+
+    def _pairs(self):
+        data = _encoded(self.writer.pairs())
+        if self.random.randrange(6) == 0:
+            data = data[: self.random.randrange(len(data) + 1)] + self._bytes()[0]
+        return data, len(data)
+
+    # ---- One method for each function.
+
+    def to_open_memory(self):
+        settings = _Settings(self.random.choice((0, 255, 256, LARGEST)), self.random.choice((0, 1, LARGEST)), 1, 5, self.random.randrange(3))
+        return self._ask("open_memory", byref(settings))
+
+    def to_open_file(self):
+        choose, end = self.random.choice, len(self.file)
+        is_right = self.random.randrange(4) > 0
+        settings = _FileSettings(256, choose((1, 10, LARGEST)), choose((1, 100, LARGEST)))
+        if not is_right:
+            settings = _FileSettings(choose((0, LARGEST)), choose((0, 1)), choose((0, 1)))
+        return self._ask("open_file", byref(settings), end if is_right else choose((0, end + 1, 9, 100, LARGEST)))
+
+    def to_forget(self):
+        return self._ask("forget")
+
+    def to_fail(self):
+        return self._ask("failed") if self.random.randrange(40) == 0 else OK
+
+    def to_close(self):
+        if self.random.randrange(3):
+            return OK
+        status = self._ask("close")
+        self._open()
+        return status
+
+    def to_hand_in(self):
+        return self._ask("hand_in", self.random.choice((0, 9, len(self.file), LARGEST)), *self._bytes())
+
+    def to_allocate(self):
+        return self._ask("allocate", *self._pairs(), byref(self.number), byref(self.other))
+
+    def to_get(self):
+        return self._ask("get", self._page(), byref(_Found()), self.room, self._size())
+
+    def to_value(self):
+        return self._ask("value", self._page(), *self._bytes(), byref(self.other), self.room, self._size(), byref(self.size))
+
+    def to_set(self):
+        return self._ask("set", self._page(), byref(c_uint64(self._stamp())), *self._bytes(), *self._bytes())
+
+    def to_del(self):
+        return self._ask("del", self._page(), byref(c_uint64(self._stamp())), *self._bytes())
+
+    def to_replace(self):
+        return self._ask("replace", self._page(), byref(c_uint64(self._stamp())), *self._pairs())
+
+    def to_free(self):
+        return self._ask("free", self._page(), byref(c_uint64(self._stamp())))
+
+    def to_root(self):
+        return self._ask("root", *self._bytes(), byref(self.number))
+
+    def to_cas_root(self):
+        return self._ask("cas_root", *self._bytes(), byref(c_uint64(self._page())), self._page())
+
+    def to_open_tree(self):
+        return self._ask("open_tree", *self._bytes(), byref(self.number))
+
+    def to_generate_id(self):
+        return self._ask("generate_id", byref(self.number))
+
+    def to_measure(self):
+        return self.random.choice((
+            lambda: self._ask("size", byref(self.number)), lambda: self._ask("amp", byref(self.number), byref(self.other)),
+            lambda: self._ask("flush", byref(self.size)), lambda: self._ask("was_recovered", byref(c_bool())),
+            lambda: self._ask("gc", byref(c_bool())),
+        ))()  # fmt: skip
+
+    def to_batch(self):
+        return self._ask(self.random.choice(("pin", "seal", "cancel")))
