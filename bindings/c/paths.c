@@ -1,5 +1,5 @@
-/* Opens caches by paths that lead to files, to other things and to nothing, and over what stands there already. Prints the line of each check
- * that fails: the status is 1 then. Linked with --wrap=pread and --wrap=fsync. Usage: paths FOLDER, in which it makes its files. */
+/* Opens caches by paths that lead to files, to other things and to nothing, and over what stands there already. Prints the line of each
+ * check that fails: the status is 1 then. Linked with --wrap=pread and --wrap=fsync. Usage: paths FOLDER, in which it makes its files. */
 #define _DEFAULT_SOURCE
 #include "dilluvas_file.h"
 #include <errno.h>

@@ -29,8 +29,8 @@ class FileCache(Cache):
     """An open cache over a file, which is locked until it is closed. Nothing is flushed then.
 
     A file that is absent or empty is made: with ".dilluvas-new" behind its name until it is whole and durable, so a crash leaves it whole
-    or as it was. It has the owner and the mode of the empty one, and a link to that stays. `amplification` and `attempt_gc` are refused over
-    a file.
+    or as it was. It has the owner and the mode of the empty one, and a link to that stays. None is made where a link leads to no file.
+    `amplification` and `attempt_gc` are refused over a file.
     """
 
     def __init__(self, path, capacity=1 << 20, interval=10, segment_size=1 << 20):

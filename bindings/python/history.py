@@ -1,5 +1,5 @@
-"""Which pages a cache may show that is opened again, whatever its file looks like: those after a prefix of the changes that were begun, which
-holds all that was flushed, and no batch in part."""
+"""Which pages a cache may show that is opened again, whatever its file looks like: those after a prefix of the changes that were begun,
+which holds all that was flushed, and no batch in part."""
 
 from machine import CANCEL, FLUSH, PIN, SEAL, Change
 

@@ -347,8 +347,8 @@ def odd_systems(folder):
 
 
 TESTS = (
-    closed_handles, opened_twice, many_processes, what_is_no_file, rights, what_is_made, settings, numbers, short_buffers, a_full_disk, no_memory,
-    a_file_that_shrinks, odd_systems,
+    closed_handles, opened_twice, many_processes, what_is_no_file, rights, what_is_made, settings, numbers, short_buffers, a_full_disk,
+    no_memory, a_file_that_shrinks, odd_systems,
 )  # fmt: skip
 
 

@@ -68,7 +68,7 @@ class Script:
         self._arm(1.0)
         is_well = True
         try:
-            if self.is_long and is_well and len(self.machine.held) < 300:
+            if self.is_long and len(self.machine.held) < 300:
                 is_well = all(self._call(cache, "allocate", ([(b"k", b"v" * 20)],)) for _ in range(300))
             for _ in range(self.random.choice((3, 30, 100))):
                 if not is_well:

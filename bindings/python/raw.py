@@ -55,10 +55,10 @@ class Script:
 
     def _serve(self):
         """Does the tasks, or some, and reads what is needed, or any other bytes."""
-        task, room = _Task(), self._size()
-        while self._ask("next_task", byref(task), self.room, max(room, 1)) == OK and task.kind and self.random.randrange(self.leaves_one_of):
+        task, room = _Task(), max(self._size(), 1)
+        while self._ask("next_task", byref(task), self.room, room) == OK and task.kind and self.random.randrange(self.leaves_one_of):
             if task.kind == 1:
-                check(0 < task.len <= max(room, 1), "more bytes than there is room for", task.len)
+                check(0 < task.len <= room, "more bytes than there is room for", task.len)
                 self.file[task.at : task.at + task.len] = self.room.raw[: task.len]
         if self._ask("needs", byref(self.number), byref(self.size)) == OK and self.size.value:
             check(self.size.value < 1 << 30, "bytes that no file has", self.size.value)
@@ -95,7 +95,8 @@ class Script:
     # ---- One method for each function.
 
     def to_open_memory(self):
-        settings = _Settings(self.random.choice((0, 255, 256, LARGEST)), self.random.choice((0, 1, LARGEST)), 1, 5, self.random.randrange(3))
+        choose = self.random.choice
+        settings = _Settings(choose((0, 255, 256, LARGEST)), choose((0, 1, LARGEST)), 1, 5, choose((0, 1, 2)))
         return self._ask("open_memory", byref(settings))
 
     def to_open_file(self):
