@@ -1,13 +1,13 @@
-"""Damages a file: it opens or is refused, nothing hangs, and pages whose records are whole are as they were."""
+"""Damages a file: it opens or is refused, nothing hangs, and each page is what its records make, or is told as damaged."""
 
-import os
 import struct
 
 import judge
 from dilluvas import OK, Refused
 from judge import answer_of, check
-from journal import FREED, OF_LINK, OPENING, SEALED_BATCH, records_of
-from machine import BATCH, CORRUPTION
+from journal import FREED, OPENING, SEALED_BATCH, records_of
+from machine import BATCH, CORRUPTION, Node
+from payloads import Unreadable, chains_of, is_fit, roots_in, shown_of
 
 _CANCELLED, _PUTS, _LINKS = (1,), (5, 6, 7, 8, 9), (10, 11)
 
@@ -58,15 +58,6 @@ def _fits(kind, page, pages):
     return kind in _CANCELLED or kind in _LINKS and page < len(pages) and pages[page]
 
 
-def is_sure_to_open(whole, content):
-    """Whether the damaged file has the records of the whole one, and of the cache's own pages the payloads."""
-    if not is_log(content):
-        return False
-    records, others = records_of(whole), records_of(content)
-    own = all(whole[at : at + length] == content[at : at + length] for _, page, at, length in records if page < 2)
-    return own and records == others
-
-
 class Script(judge.Script):
     """A file that was written with no faults is damaged, and opened."""
 
@@ -74,10 +65,10 @@ class Script(judge.Script):
         with self.system:
             while self.journal is None or len(self.journal.stable) < 4:
                 self._write()
-        with open(self.path, "rb") as file:
-            self.whole = file.read()
-        for _ in range(6):
-            self.random.choice((self._damage_payload, self._damage_any, self._damage_any))()
+            with open(self.path, "rb") as file:
+                self.whole = file.read()
+            for _ in range(6):
+                self._open_damaged(self._damaged())
 
     def _write(self):
         cache = self._open()
@@ -90,92 +81,77 @@ class Script(judge.Script):
         cache.close()
         self._settle()
 
-    def _put(self, content):
-        with open(self.path, "wb") as file:
-            file.write(content)
-
-    def _changed(self, content, at):
-        content[at] ^= self.random.randrange(1, 256)
-
-    # ---- The payload of one record.
-
-    def _damage_payload(self):
-        payloads = [(page, at, length) for kind, page, at, length in records_of(self.whole) if kind >= 8 and length]
-        page, at, length = self.random.choice(payloads)
-        content = bytearray(self.whole)
-        for _ in range(self.random.randint(1, 3)):
-            self._changed(content, at + self.random.randrange(length))
-        self._put(content)
-        with self.open_cache(self.path, capacity=256) as cache:
-            self._is_unharmed(cache, page)
-            found = answer_of(cache, "get", (page,))
-            if found[0] == CORRUPTION:
-                self._is_reported(cache, page)
-            else:
-                check(found[0] == OK, "get", found)
-            self._is_unharmed(cache, page)
-        with self.open_cache(self.path) as cache:
-            self._is_unharmed(cache, page)
-            check(found[0] == OK or cache.get(page).pairs == [(b"", b"")], "a page was put on a damaged one")
-
-    def _is_unharmed(self, cache, damaged):
-        for page, held in enumerate(self.journal.stable):
-            if page < 2 or page == damaged:
-                continue
-            found = cache.get(page)
-            check((found and found[1:]) == (held.content and (held.content.is_index, list(held.content.pairs))), page, found)
-
-    def _is_reported(self, cache, page):
-        """Each call that reads a damaged page says so, and one that doesn't goes on."""
-        self.counts["pages damaged"] += 1
-        for name, arguments in (("get", (page,)), ("value", (page, b"")), ("set", (page, 0, b"", b"")), ("delete", (page, 0, b""))):
-            check(answer_of(cache, name, arguments) == (CORRUPTION, None), name)
-        check(answer_of(cache, "replace", (page, 0, [(b"", b"")])) == (OK, 1), "replace")
-        check(answer_of(cache, "get", (page,)) == (OK, (1, False, [(b"", b"")])), "get")
-        cache.flush()
-
-    # ---- Any bytes.
-
-    def _damage_any(self):
+    def _damaged(self):
         content, random = bytearray(self.whole), self.random
-        way = random.randrange(5)
+        way = random.randrange(8)
         if way == 0:
-            del content[random.randrange(len(content)) :]
+            del content[random.randint(1, len(content) - 1) :]
         elif way == 1:
             content += random.randbytes(random.randint(1, 100))
         elif way == 2:
             at = random.randrange(len(content))
-            content[at : at + 50] = self.whole[: random.randrange(60)]
-        else:
+            content[at : at + 50] = self.whole[: random.randint(1, 60)]
+        elif way < 5:
             for _ in range(random.randint(1, 8)):
-                self._changed(content, random.randrange(len(content)))
-        if not content:
-            return
-        self._put(content)
+                content[random.randrange(len(content))] ^= random.randrange(1, 256)
+        else:
+            _, _, at, length = random.choice([record for record in records_of(self.whole) if record[3]])
+            for _ in range(random.randint(1, 3)):
+                content[at + random.randrange(length)] ^= random.randrange(1, 256)
+        return content
+
+    def _open_damaged(self, content):
+        with open(self.path, "wb") as file:
+            file.write(content)
+        chains = chains_of(content) if is_log(content) else []
+        opens = is_log(content) and all(is_fit(page, chain) for page, chain in enumerate(chains))
         try:
-            cache = self.open_cache(self.path, capacity=256, segment_size=random.choice((1, 4096)))
+            cache = self.open_cache(self.path, capacity=256, segment_size=self.random.choice((1, 4096)))
         except Refused as refused:
             self.counts["damaged files refused"] += 1
-            check(refused.status == CORRUPTION and not is_sure_to_open(self.whole, content), "refused", refused.status)
+            check(refused.status == CORRUPTION and not opens, "refused", refused.status)
             with open(self.path, "rb") as file:
                 check(file.read() == content, "a file that is refused was written")
             return
-        check(is_log(content), "a file that is no log is opened")
         self.counts["damaged files opened"] += 1
         with cache:
-            self._use(cache)
+            check(opens, "a file is opened that no cache wrote")
+            pages = self._shows(cache, chains)
+            self._use(cache, pages)
+        with self.open_cache(self.path) as cache:
+            for page, content in pages.items():
+                check(self._shown(cache, page) == content, "a page has changed", page)
 
-    def _use(self, cache):
-        """What it shows is there when it is opened again, with what is written then."""
-        shown = [answer_of(cache, "get", (page,)) for page in range(2, len(self.journal.stable) + 9)]
-        check(all(found[0] in (OK, CORRUPTION) for found in shown), "get")
-        page, _ = cache.allocate([(b"new", b"page")])
-        cache.generate_id()
+    def _shown(self, cache, page):
+        status, found = answer_of(cache, "get", (page,))
+        return found and Node(found.is_index, tuple(found.pairs)) if status == OK else status
+
+    def _shows(self, cache, chains):
+        """Each page is what its messages make, or is told as damaged: what they are by then."""
+        pages = {}
+        for page, chain in list(enumerate(chains))[2:]:
+            try:
+                wanted = shown_of(chain)
+            except Unreadable:
+                wanted = CORRUPTION
+            pages[page] = self._shown(cache, page)
+            check(pages[page] == wanted, "get", page, pages[page], wanted)
+        for name, root in roots_in(chains[0][0][1]).items() if chains else ():
+            check(cache.root(name) == root, "root", name)
+        return pages
+
+    def _use(self, cache, pages):
+        """Each call that reads a damaged page says so, and one that doesn't goes on. New pages can be put."""
+        put = [(b"new", b"page")]
+        for page in [page for page, shown in pages.items() if shown == CORRUPTION]:
+            self.counts["pages damaged"] += 1
+            for name, *arguments in ("get",), ("value", b""), ("set", 0, b"", b""), ("delete", 0, b""):
+                check(answer_of(cache, name, (page, *arguments)) == (CORRUPTION, None), name)
+            if self.random.randrange(2):
+                check(answer_of(cache, "replace", (page, 0, put)) == (OK, 1), "replace")
+                pages[page] = Node(False, tuple(put))
+        page, _ = cache.allocate(put)
+        check(pages.get(page) is None, "a page that is there was allocated")
+        pages[page] = Node(False, tuple(put))
+        answer_of(cache, "generate_id", ())
         cache.flush()
-        cache.close()
-        with self.open_cache(self.path) as again:
-            for other, (status, found) in enumerate(shown, 2):
-                if other != page:
-                    now = answer_of(again, "get", (other,))
-                    check((now[0], now[1] and now[1][1:]) == (status, found and found[1:]), "get", other, now)
-            check(again.get(page).pairs == [(b"new", b"page")], "a new page")
