@@ -3,7 +3,7 @@
     model.py SEED COUNT
 
 makes COUNT scripts, the first from SEED, damages files and calls the library with no loop. It prints the seed of what fails, which
-`model.py THAT 1` makes again. With no arguments it makes some hundreds, and gives bad input too.
+`model.py THAT 1` makes again. With no arguments it makes some hundreds, gives bad input, and is shown a system that drops its syncs.
 """
 
 import collections
@@ -19,6 +19,9 @@ import raw
 
 # So many seconds may a script take before it is said to hang.
 LONGEST = 120
+
+# Where files are made: in memory, if that can be.
+PLACE = "/dev/shm" if os.path.isdir("/dev/shm") else None
 
 
 class Careless(judge.Script):
@@ -37,12 +40,11 @@ def hangs(seed):
 def run(kind, seed, count, counts, tell=print):
     """Makes scripts of a kind, and answers how many failed."""
     failed = 0
-    place = "/dev/shm" if os.path.isdir("/dev/shm") else None
     for number in range(seed, seed + count):
         watch = threading.Timer(LONGEST, hangs, (number,))
         watch.daemon = True
         watch.start()
-        with tempfile.TemporaryDirectory(dir=place) as folder:
+        with tempfile.TemporaryDirectory(dir=PLACE) as folder:
             script = kind(number, folder, counts)
             try:
                 script.run()
@@ -57,9 +59,9 @@ def run(kind, seed, count, counts, tell=print):
 
 def main(arguments):
     counts = collections.Counter()
-    seed, count = (int(argument) for argument in arguments) if arguments else (0, 300)
+    seed, count = (int(argument) for argument in arguments) if arguments else (0, 200)
     if not arguments:
-        with tempfile.TemporaryDirectory() as folder:
+        with tempfile.TemporaryDirectory(dir=PLACE) as folder:
             inputs.run(folder)
         assert run(Careless, 0, 30, collections.Counter(), tell=lambda _: None) > 0
     kinds = (judge.Script, count), (damage.Script, count // 4 or 1), (raw.Script, count // 2 or 1)
