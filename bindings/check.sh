@@ -1,6 +1,7 @@
 #!/bin/sh
 # Builds the library (build.sh) and runs the programs that call it: those in C, under valgrind too where it is there, and the tests of the
-# crate and of the module, where there is a cargo and a python3. The status is 0 where all pass.
+# crate and of the module, where there is a cargo and a python3. Then it compares what they reply to scripts with what `sledpc` does
+# (scripts.sh). The status is 0 where all pass.
 set -eu
 
 here=$(CDPATH='' cd -- "$(dirname -- "$0")" && pwd)
@@ -25,10 +26,13 @@ compile file "$out/dilluvas_file.c" -Wl,--wrap=pread,--wrap=pwrite,--wrap=fdatas
 "$out/file" "$files"
 compile killed "$out/dilluvas_file.c"
 "$out/killed" "$files" 200
+compile script "$here/c/script_lines.c" "$out/dilluvas_file.c"
+awk -v seed=1 -v lines=300 -v parts=1 -v name="$files/script" -v over_file=0 -v moves=1 -f "$here/scripts.awk"
 if command -v valgrind >/dev/null; then
-    for program in calls "no_memory $files" "file $files"; do
-        # shellcheck disable=SC2086 # a program and its argument
-        valgrind -q --child-silent-after-fork=yes --error-exitcode=1 --leak-check=full --show-leak-kinds=all "$out/"$program >/dev/null
+    for program in calls "no_memory $files" "file $files" 'script mem' "script file $files/log"; do
+        # shellcheck disable=SC2086 # a program and its arguments
+        valgrind -q --child-silent-after-fork=yes --error-exitcode=1 --leak-check=full --show-leak-kinds=all "$out/"$program \
+            <"$files/script.1" >/dev/null
     done
     echo 'valgrind: passed'
 fi
@@ -42,3 +46,4 @@ if command -v python3 >/dev/null; then
     DILLUVAS_SO=$out/libdilluvas.so PYTHONDONTWRITEBYTECODE=1 python3 "$here/python/calls.py"
     echo 'Python: passed'
 fi
+"$here/scripts.sh"
