@@ -271,10 +271,23 @@ static const struct command {
     const char *name;
     bool (*serve)(script *s, words *left);
 } commands[] = {
-    {"alloc", serve_alloc}, {"get", serve_get},   {"set", serve_set},     {"del", serve_del},       {"replace", serve_replace},
-    {"free", serve_free},   {"open", serve_open}, {"root", serve_root},   {"cas", serve_cas},       {"id", serve_id},
-    {"pin", serve_pin},     {"seal", serve_seal}, {"cancel", serve_cancel}, {"flush", serve_flush}, {"size", serve_size},
-    {"amp", serve_amp},     {"gc", serve_gc},
+    {"alloc", serve_alloc},
+    {"get", serve_get},
+    {"set", serve_set},
+    {"del", serve_del},
+    {"replace", serve_replace},
+    {"free", serve_free},
+    {"open", serve_open},
+    {"root", serve_root},
+    {"cas", serve_cas},
+    {"id", serve_id},
+    {"pin", serve_pin},
+    {"seal", serve_seal},
+    {"cancel", serve_cancel},
+    {"flush", serve_flush},
+    {"size", serve_size},
+    {"amp", serve_amp},
+    {"gc", serve_gc},
 };
 
 /* ---- Lines. */
@@ -308,7 +321,7 @@ static void serve_lines(script *s) {
 static dilluvas_status open_cache(script *s, const char *path) {
     const dilluvas_settings settings = DILLUVAS_SETTINGS;
     const dilluvas_file_settings file_settings = {1048576, 10, 4096};
-    s->is_over_file = path;
+    s->is_over_file = path != NULL;
     if (path) return dilluvas_file_open(&s->file, path, &file_settings);
     return dilluvas_open_memory(&s->file.cache, &settings);
 }
