@@ -24,12 +24,15 @@ compile no_memory "$out/dilluvas_file.c" -Wl,--wrap=malloc,--wrap=calloc,--wrap=
 "$out/no_memory" "$files"
 compile file "$out/dilluvas_file.c" -Wl,--wrap=pread,--wrap=pwrite,--wrap=fdatasync,--wrap=fsync
 "$out/file" "$files"
+compile paths "$out/dilluvas_file.c" -Wl,--wrap=pread,--wrap=fsync
+"$out/paths" "$files"
+rm -rf "$files/paths"
 compile killed "$out/dilluvas_file.c"
 "$out/killed" "$files" 200
 compile script "$here/c/script_lines.c" "$out/dilluvas_file.c"
 awk -v seed=1 -v lines=300 -v parts=1 -v name="$files/script" -v over_file=0 -v moves=1 -f "$here/scripts.awk"
 if command -v valgrind >/dev/null; then
-    for program in calls "no_memory $files" "file $files" 'script mem' "script file $files/log"; do
+    for program in calls "no_memory $files" "file $files" "paths $files" 'script mem' "script file $files/log"; do
         # shellcheck disable=SC2086 # a program and its arguments
         valgrind -q --child-silent-after-fork=yes --error-exitcode=1 --leak-check=full --show-leak-kinds=all "$out/"$program \
             <"$files/script.1" >/dev/null
@@ -43,7 +46,15 @@ if command -v cargo >/dev/null; then
     echo 'Rust: passed'
 fi
 if command -v python3 >/dev/null; then
-    DILLUVAS_SO=$out/libdilluvas.so PYTHONDONTWRITEBYTECODE=1 python3 "$here/python/calls.py"
+    export PYTHONDONTWRITEBYTECODE=1
+    DILLUVAS_SO=$out/libdilluvas.so python3 "$here/python/calls.py"
+    # the loop in Python and then that in C, with failing devices and refused memory
+    DILLUVAS_SO=$out/libdilluvas.so python3 "$here/python/model.py"
+    "${CC:-cc}" -std=c11 -Wall -Wextra -Wpedantic -Werror -O2 -fPIC -shared -o "$out/libhooked.so" "$here/c/hooks.c" -I"$out" \
+        -Wl,--whole-archive "$out/libdilluvas.a" -Wl,--no-whole-archive -Wl,--wrap=malloc,--wrap=calloc,--wrap=realloc
+    DILLUVAS_SO=$out/libhooked.so python3 "$here/python/model.py" 0 50
     echo 'Python: passed'
 fi
+"$here/readme.sh"
+echo "README's sessions: passed"
 "$here/scripts.sh"

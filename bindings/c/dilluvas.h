@@ -96,7 +96,7 @@ typedef struct dilluvas {
 /* The settings of a cache over a log in memory. */
 typedef struct dilluvas_settings {
     uint64_t cache_capacity;         /* bytes of messages whose pages stay in memory as nodes, at least 256 */
-    uint64_t idgen_persist_interval; /* how many ids one counter covers, at least 1: so many may be skipped by a crash */
+    uint64_t idgen_persist_interval; /* how many ids one counter covers, at least 1 */
     size_t segment_size;             /* bytes, at least 1 */
     size_t blob_limit;               /* payloads of more bytes are kept beside the log */
     uint64_t clean_every;            /* a page is due to be moved for so many messages, and none where this is 0 */
@@ -104,10 +104,11 @@ typedef struct dilluvas_settings {
 
 #define DILLUVAS_SETTINGS {1048576, 10, 4096, 512, 16}
 
-/* The settings of a cache over a file. */
+/* The settings of a cache over a file. It may be opened with others than it was made with, but for a smaller interval of ids: an id could
+ * come twice then. */
 typedef struct dilluvas_file_settings {
     uint64_t cache_capacity;         /* as above */
-    uint64_t idgen_persist_interval; /* as above */
+    uint64_t idgen_persist_interval; /* as above: an opening skips at most twice as many ids, and it is never made smaller */
     size_t segment_size;             /* at so many bytes that are pending they are written, at least 1: this takes two syncs */
 } dilluvas_file_settings;
 

@@ -171,7 +171,11 @@ static dilluvas_status open_cache(dilluvas_file *file, const dilluvas_file_setti
 static void close_all(dilluvas_file *file) {
     dilluvas_close(&file->cache);
     free(file->buffer);
-    if (file->descriptor >= 0) close(file->descriptor);
+    if (file->descriptor >= 0) {
+        /* a process that is just being started has it open too */
+        flock(file->descriptor, LOCK_UN);
+        close(file->descriptor);
+    }
     file->buffer = NULL;
     file->descriptor = -1;
 }

@@ -93,6 +93,8 @@ class FileCache(Cache):
         """Closes the cache and its file. Closing it again does nothing."""
         super().close()
         if self._descriptor >= 0:
+            # a process that is just being started has it open too
+            fcntl.flock(self._descriptor, fcntl.LOCK_UN)
             os.close(self._descriptor)
             self._descriptor = -1
 

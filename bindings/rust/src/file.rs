@@ -7,53 +7,40 @@ use std::fs::{self, File, Metadata, OpenOptions, TryLockError};
 use std::io::{self, ErrorKind};
 use std::os::unix::fs::{FileExt, MetadataExt, fchown};
 use std::path::{Path, PathBuf};
+use std::sync::Arc;
 
 // So often is a file opened again whose place another took meanwhile.
 const MOST_TRIES: usize = 100;
 
-impl Device for File {
-    fn size(&mut self) -> io::Result<u64> {
-        Ok(self.metadata()?.len())
-    }
-
-    fn read_at(&mut self, at: u64, into: &mut [u8]) -> io::Result<()> {
-        self.read_exact_at(into, at)
-    }
-
-    fn write_at(&mut self, at: u64, bytes: &[u8]) -> io::Result<()> {
-        self.write_all_at(bytes, at)
-    }
-
-    fn sync(&mut self) -> io::Result<()> {
-        self.sync_data()
-    }
-}
-
-/// A file that is locked. It is unlocked where it is dropped, and not only closed: a process that is just being started has it open too.
-pub(crate) struct Locked(File);
+/// A file that is locked. It is unlocked where the last of its clones is dropped, and not only closed: a process that is just being started
+/// has it open too.
+#[derive(Clone)]
+pub(crate) struct Locked(Arc<File>);
 
 impl Device for Locked {
     fn size(&mut self) -> io::Result<u64> {
-        Device::size(&mut self.0)
+        Ok(self.0.metadata()?.len())
     }
 
     fn read_at(&mut self, at: u64, into: &mut [u8]) -> io::Result<()> {
-        Device::read_at(&mut self.0, at, into)
+        self.0.read_exact_at(into, at)
     }
 
     fn write_at(&mut self, at: u64, bytes: &[u8]) -> io::Result<()> {
-        Device::write_at(&mut self.0, at, bytes)
+        self.0.write_all_at(bytes, at)
     }
 
     fn sync(&mut self) -> io::Result<()> {
-        Device::sync(&mut self.0)
+        self.0.sync_data()
     }
 }
 
 impl Drop for Locked {
     fn drop(&mut self) {
-        // closing it does so too
-        let _ = self.0.unlock();
+        if let Some(file) = Arc::get_mut(&mut self.0) {
+            // closing it does so too
+            let _ = file.unlock();
+        }
     }
 }
 
@@ -144,7 +131,7 @@ fn lock(file: File) -> Result<(Locked, Metadata), Error> {
         Err(TryLockError::WouldBlock) => return Err(Error::Held),
         Err(TryLockError::Error(_)) => return Err(Error::NoAccess),
     }
-    let file = Locked(file);
+    let file = Locked(Arc::new(file));
     // it may have grown before
     let found = file.0.metadata().map_err(|_| Error::Read)?;
     Ok((file, found))
@@ -163,8 +150,9 @@ fn make<T>(
     let folder = File::open(folder_of(path)).map_err(|_| Error::NoAccess)?;
     let other = name_while_made(path);
     let file = open_new(&other)?;
-    let made = make_over(path, &other, file, empty, open);
+    let made = make_over(path, &other, file.clone(), empty, open);
     if made.is_err() {
+        // it is still locked, so no other process makes it meanwhile
         let _ = fs::remove_file(&other);
     }
     let opened = made?;

@@ -37,14 +37,16 @@ impl Default for Settings {
     }
 }
 
-/// The settings of a cache over a file or another device. A file may be opened with others than it was made with.
+/// The settings of a cache over a file or another device. It may be opened with others than it was made with, but for a smaller interval of
+/// ids.
 // The library reads it, as above.
 #[repr(C)]
 #[derive(Clone, Copy, Debug, PartialEq, Eq)]
 pub struct FileSettings {
     /// Bytes of messages whose pages stay in memory as nodes, at least 256.
     pub cache_capacity: u64,
-    /// How many ids one counter covers, at least 1: so many may be skipped by a crash.
+    /// How many ids one counter covers, at least 1: an opening skips at most twice as many. It is never made smaller: an id could come
+    /// twice then.
     pub idgen_persist_interval: u64,
     /// At so many bytes that are pending they are written, at least 1: this takes two syncs.
     pub segment_size: usize,
