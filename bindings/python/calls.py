@@ -41,6 +41,7 @@ def roots(cache):
     assert refused(lambda: cache.cas_root(b"t", None, 2)).present == root
     cache.cas_root(b"t", root, None)
     assert refused(lambda: cache.cas_root(b"t", root, 2)).present is None
+    assert refused(lambda: cache.cas_root(b"t", None, 0)).status == refused(lambda: cache.cas_root(b"t", 0, None)).status == 101
 
 
 def log(cache):

@@ -19,6 +19,7 @@ from typing import NamedTuple
 OK, STALE, GONE, NONE, SHORT = range(5)
 READ, WRITE, NEEDS = 17, 18, 20
 NO_FILE, NO_ACCESS, HELD = 32, 33, 34
+_RESERVED_ID = 101
 
 
 class _Handle(ctypes.Structure):
@@ -259,7 +260,9 @@ class Cache:
         return page.value
 
     def cas_root(self, name, old, new):
-        """Gives a name another root page, or none, if its root is the old one. None stands for no root."""
+        """Gives a name another root page, or none, if its root is the old one. None stands for no root, and page 0 is the cache's own."""
+        if 0 in (old, new):
+            raise Refused(_RESERVED_ID)
         root = c_uint64(_number(old or 0))
         status = self._ask("cas_root", name, len(name), byref(root), _number(new or 0))
         if status == STALE:

@@ -125,6 +125,9 @@ fn names_have_roots() -> Result<(), Error> {
     assert_eq!(cache.cas_root(b"t", None, Some(2))?, Err(Some(root)));
     assert_eq!(cache.cas_root(b"t", Some(root), None)?, Ok(()));
     assert_eq!(cache.cas_root(b"t", Some(root), None)?, Err(None));
+    for (old, new) in [(None, Some(0)), (Some(0), None)] {
+        assert_eq!(cache.cas_root(b"t", old, new), Err(Error::ReservedId));
+    }
     assert_eq!(cache.root(b"t")?, None);
     let page = cache.get(root)?.expect("it is there");
     assert!(page.is_index() && !page.is_empty());

@@ -19,8 +19,7 @@ impl Cache {
         }
     }
 
-    /// Gives a name another root page, or none, if its root is `old`. Else the root that it has comes back as the inner error. Page 0 stands
-    /// for none.
+    /// Gives a name another root page, or none, if its root is `old`. Else the root that it has comes back as the inner error.
     ///
     /// ```
     /// use dilluvas::{Cache, NO_PAIRS, Settings};
@@ -39,14 +38,18 @@ impl Cache {
     ///
     /// # Errors
     ///
-    /// [`TooManyNames`](Error::TooManyNames), [`NameTooLong`](Error::NameTooLong), [`StampUsedUp`](Error::StampUsedUp),
-    /// [`LogFull`](Error::LogFull), [`OutOfMemory`](Error::OutOfMemory), [`Write`](Error::Write).
+    /// [`ReservedId`](Error::ReservedId) for page 0, which is the cache's own and no root; [`TooManyNames`](Error::TooManyNames),
+    /// [`NameTooLong`](Error::NameTooLong), [`StampUsedUp`](Error::StampUsedUp), [`LogFull`](Error::LogFull),
+    /// [`OutOfMemory`](Error::OutOfMemory), [`Write`](Error::Write).
     pub fn cas_root(
         &mut self,
         name: impl AsRef<[u8]>,
         old: Option<u64>,
         new: Option<u64>,
     ) -> Result<Result<(), Option<u64>>, Error> {
+        if old == Some(0) || new == Some(0) {
+            return Err(Error::ReservedId);
+        }
         let (name, mut root) = (name.as_ref(), old.unwrap_or(0));
         match self.on(|handle| handle.cas_root(name, &mut root, new.unwrap_or(0))) {
             sys::OK => Ok(Ok(())),
