@@ -15,6 +15,15 @@ compile() {
     "${CC:-cc}" -std=c11 -Wall -Wextra -Wpedantic -Werror -O2 -g -I"$out" -o "$out/$name" "$here/c/$name.c" "$@" "$out/libdilluvas.a"
 }
 
+# A program may be compiled with more warnings than these, or as C++.
+strict='-Wall -Wextra -Wpedantic -Wconversion -Wsign-conversion -Wshadow -Werror -fsyntax-only'
+# shellcheck disable=SC2086 # options
+"${CC:-cc}" -std=c11 $strict -x c -I"$out" "$out/dilluvas_file.h"
+if command -v "${CXX:-c++}" >/dev/null; then
+    # shellcheck disable=SC2086 # options
+    "${CXX:-c++}" -std=c++11 $strict -x c++ -I"$out" "$out/dilluvas_file.h"
+fi
+
 compile calls
 "$out/calls"
 files=$(mktemp -d)

@@ -469,7 +469,7 @@ static inline uint64_t dilluvas_child(const dilluvas_pair *pair) {
 static inline size_t dilluvas_put(uint8_t *pairs, size_t room, size_t at, const void *key, uint32_t key_len, const void *value,
                                   uint32_t value_len) {
     if (!pairs || room < at || room - at < 8 || room - at - 8 < key_len || room - at - 8 - key_len < value_len) return 0;
-    for (int i = 0; i < 4; i++) {
+    for (size_t i = 0; i < 4; i++) {
         pairs[at + i] = (uint8_t)(key_len >> 8 * i);
         pairs[at + 4 + i] = (uint8_t)(value_len >> 8 * i);
     }

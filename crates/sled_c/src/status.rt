@@ -50,7 +50,7 @@ pub const READ: u32 = 17;
 /// A write failed, in this call or in an earlier one. Every later call answers so, until the store is opened again.
 pub const WRITE: u32 = 18;
 
-/// The log holds what no cache wrote: the messages of the page make no node. Nothing changed.
+/// No cache wrote the messages of the page, or the bytes of the file. Nothing changed.
 pub const CORRUPTION: u32 = 19;
 
 /// Bytes of the file are needed. Nothing changed: the program hands them in, and makes the call again.
@@ -157,7 +157,7 @@ pub fn text_of(status: u32) -> &'static str {
         MEMORY => "an allocation failed",
         READ => "a read failed",
         WRITE => "a write failed",
-        CORRUPTION => "the messages of the page make no node",
+        CORRUPTION => "no cache wrote the messages of the page, or the bytes of the file",
         NEEDS => "bytes of the file are needed",
         NO_FILE => "it is a folder, or another thing that is no file",
         NO_ACCESS => "the file may not be read and written",
