@@ -24,7 +24,7 @@ use std::sync::Arc;
 /// Up to this many bytes are kept in place, without an allocation.
 pub const CUTOFF: usize = 22;
 
-/// A byte string that is cheap to copy: up to [`CUTOFF`] bytes lie in place, and more are shared.
+/// A byte string that is cheap to copy: up to [`CUTOFF`] bytes are kept in place, and more are shared.
 ///
 /// Contracts see the list of its bytes. Order, equality and hash are those of the bytes.
 #[derive(Drop)]

@@ -40,7 +40,7 @@ const EMPTY: [u8; 9] = [0x53, 0x4c, 0x50, 0x43, 0x4c, 0x4f, 0x47, 0x31, 0];
 
 /// A log on a disk, which `create` made empty once, and on which each `open` finds all that is durable.
 ///
-/// What is pending waits in memory, and is written as one frame: behind a closed gate, which is opened once the frame is durable. So
+/// What is pending waits in memory, and is written as one frame: after a closed gate, which is opened once the frame is durable. So
 /// at any moment a crash leaves all that was durable, and all of a frame or nothing of it, and what it leaves opens again.
 ///
 /// Full: the place of the next gate would be above `i64::MAX`. Memory: an allocation failed, in the log or for what the disk is to
@@ -143,8 +143,8 @@ impl<D: Disk> DiskLog<D> {
         }
     }
 
-    /// The log of a file whose reading was begun: the last step of `open`, behind a sync of the disk and `Reader::begin`, for a caller
-    /// who goes on behind a fault. The two numbers are those of `open`.
+    /// The log of a file whose reading was begun: the last step of `open`, after a sync of the disk and `Reader::begin`, for a caller
+    /// who goes on after a fault. The two numbers are those of `open`.
     ///
     /// ReadFault: the device failed to read. Memory: an allocation failed. Corruption: the file describes no events. At an error the
     /// disk comes back, which was read at most, and beside it the reader: with both the call can be made again, and goes on where it

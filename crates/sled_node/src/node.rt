@@ -192,7 +192,7 @@ impl Node {
         self.contents.len()
     }
 
-    /// The stored key of the pair at place `i`, which is below [`len`](Node::len), and what stands behind it.
+    /// The stored key of the pair at place `i`, which is below [`len`](Node::len), and what it leads to: a value or a page.
     ///
     /// The first pair is at place 0, and the keys ascend.
     pub fn pair(&self, i: usize) -> (&[u8], Item<'_>)

@@ -63,7 +63,7 @@ pub fn writes_and_syncs(cache: &PageCache<DiskLog<MemDisk>>) -> usize
 /// are left as they were written or, where one is given, of that byte.
 ///
 /// A cache was flushed, and calls were made of it since, whatever they answered. The crash comes at any moment since the flush, also
-/// inside a call, inside a batch, and behind a write fault. The cache that is opened again has the pages after a prefix of the changes
+/// inside a call, inside a batch, and after a write fault. The cache that is opened again has the pages after a prefix of the changes
 /// of those calls, which splits no batch and holds all that was flushed; and all of it is durable, so the same holds of the next crash.
 /// Nothing but the settings, an allocation or the device refuses it.
 pub fn reopen_after_a_crash(

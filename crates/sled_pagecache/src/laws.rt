@@ -54,7 +54,7 @@ pub fn what_a_crash_leaves_is_logged()
 /// durable and splits no batch.
 ///
 /// It is said of a call, of calls in a row, and of opening a cache, in whatever state each is. The moment is any since its start;
-/// what a log may have lost then is any of its crash states, behind a write error too; and a cache that `start` opens over a log
+/// what a log may have lost then is any of its crash states, after a write error too; and a cache that `start` opens over a log
 /// which holds that is the opening of those pages.
 pub fn a_crash_reopens_to_a_prefix<L: Log>()
     ensures of_a_call { (old new : Cache L) (call : Call) (answer : Answer)

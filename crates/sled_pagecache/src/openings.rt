@@ -16,7 +16,7 @@ use sled_log::Log;
 ///
 /// Each crash keeps such a prefix of what came since the one before, and what comes then is added to that. A flush that was made flushes all
 /// that came, and so does an id that wrote a counter. A cache is opened over what the
-/// time before left: what a crash left, inside a call or inside `start` too, and behind a write fault; the log that `into_log` handed on,
+/// time before left: what a crash left, inside a call or inside `start` too, and after a write fault; the log that `into_log` handed on,
 /// where no write failed; or the log that a refused `start` gave back. Nothing but an allocation, the device, the settings, or a log that
 /// has no room for a missing system page refuses an opening. That is all that is asked, of any log that tells its bytes.
 pub fn every_opening_shows_a_prefix<L: Log>()

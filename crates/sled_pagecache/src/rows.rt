@@ -9,7 +9,7 @@ ghost use Rattle.sled_pagecache.specs.declared.pagecache.handles.call.Call.{Call
 
 use sled_log::Log;
 
-/// No call and one call are steps in a row, and so are calls behind others, and calls that were made one after another.
+/// No call and one call are steps in a row, and so are calls after others, and calls that were made one after another.
 ///
 /// What they write is added to the log in order, and a crash at any moment of them leaves what the log held and a prefix of
 /// what all of them write, which splits no batch.

@@ -9,8 +9,11 @@ use std::alloc::AllocError;
 /// A swap of a batch, with its arguments. It names its page by its token.
 #[derive(Debug, Drop)]
 pub enum Swap {
+    /// A link, as `link` applies it.
     Link(PageView, Link),
+    /// Another node, as `replace` puts it there.
     Replace(PageView, Node),
+    /// No page, as `free` leaves it.
     Free(PageView),
 }
 
@@ -32,7 +35,10 @@ impl Clone for Swap {
 /// What a swap of a batch answered, unless it was refused: what the call of its name answers.
 #[derive(Debug, Drop)]
 pub enum SwapAnswer {
+    /// The next token; or the present one with the link; or none, where there is no such page.
     Link(Result<PageView, Option<(PageView, Link)>>),
+    /// The same with the node.
     Replace(Result<PageView, Option<(PageView, Node)>>),
+    /// The same with nothing.
     Free(Result<PageView, Option<(PageView, ())>>),
 }

@@ -10,13 +10,13 @@ use sled_pagecache::PageView;
 use std::marker::Model;
 use std::mem::size_of;
 
-/// What an entry keeps of an answer. A refusal lies behind a pointer, since most calls have none.
+/// What an entry keeps of an answer. A refusal is kept by a pointer, since most calls have none.
 pub type Kept<T> = Result<T, Box<Refusal>>;
 
 /// How a swap ended. The page is the one that its token names, and a change that was handed back is the one that was asked for.
 #[derive(Clone, Copy, Debug, PartialEq, Eq)]
 pub enum Ending {
-    /// It was made: the page has the stamp behind that of the token.
+    /// It was made: the page has the stamp after that of the token.
     Made,
     /// The page is absent or free.
     Gone,
@@ -27,15 +27,20 @@ pub enum Ending {
 /// The swap of a named root.
 #[derive(Debug, Drop)]
 pub struct RootSwap {
+    /// The name.
     pub name: IVec,
+    /// The root that was expected, or none.
     pub old: Option<PageId>,
+    /// The root to give it, or none, which takes the name out.
     pub new: Option<PageId>,
 }
 
 /// The swaps of a batch, and how those ended that were made. Where one was refused, it is the first that has no ending.
 #[derive(Debug, Drop)]
 pub struct Batch {
+    /// The swaps that were asked for, in order.
     pub swaps: Vec<Swap>,
+    /// How those ended that were made.
     pub endings: Vec<Ending>,
 }
 
@@ -46,9 +51,13 @@ pub enum Called {
     Allocate(Box<Node>, Kept<(PageId, PageView)>),
     /// The page's stamp and node, or none where it is absent or free.
     Get(PageId, Kept<Option<(u64, Box<Node>)>>),
+    /// The token and the link, and how it ended.
     Link(Box<(PageView, Link)>, Kept<Ending>),
+    /// The token and the node, and how it ended.
     Replace(Box<(PageView, Node)>, Kept<Ending>),
+    /// The token, and how it ended.
     Free(PageView, Kept<Ending>),
+    /// The id.
     GenerateId(Kept<u64>),
     /// How many bytes were written.
     Flush(Kept<usize>),
@@ -62,7 +71,7 @@ pub enum Called {
     Batch(Box<Batch>, Kept<()>),
 }
 
-/// A call that was entered. It takes 48 bytes, and what lies behind a pointer: the node of an `allocate`, a `replace` or a `get`, a link
+/// A call that was entered. It takes 48 bytes, and what its pointers lead to: the node of an `allocate`, a `replace` or a `get`, a link
 /// or a node with the 16 bytes of its token, a name.
 ///
 /// Contracts see the call and its answer.

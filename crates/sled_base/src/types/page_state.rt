@@ -10,7 +10,9 @@ use super::{DiskPtr, Lsn};
 pub enum PageState {
     /// The page has a content: what put it there, and the links after it.
     Present {
+        /// The message that put it there.
         base: (Lsn, DiskPtr, u64),
+        /// The links after it, in order.
         frags: Vec<(Lsn, DiskPtr, u64)>,
     },
     /// The page was freed by the message at this place.

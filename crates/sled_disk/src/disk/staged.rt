@@ -80,7 +80,7 @@ impl StagedDisk {
     }
 
     /// What the last read wanted whose bytes weren't handed in: their place, and how many. It is `None` again once bytes are handed in
-    /// and kept, behind `forget`, and behind a read outside of the file, which no bytes would help.
+    /// and kept, after `forget`, and after a read outside of the file, which no bytes would help.
     pub fn needs(&self) -> Option<(u64, usize)> {
         match self.stage.try_borrow() {
             Ok(stage) => stage.needs,

@@ -17,7 +17,7 @@ use sled_base::{IVec, PageId};
 use std::alloc::{AllocError, Global};
 use std::marker::Model;
 
-/// What stands behind a key of a node.
+/// What a key of a node leads to.
 #[derive(Clone, Copy, Debug, PartialEq, Eq)]
 pub enum Item<'a> {
     /// The value of a leaf's key.

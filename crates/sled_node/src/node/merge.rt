@@ -22,7 +22,7 @@ impl Node {
             && self.len() <= MAX_PAIRS - right.len()
     }
 
-    /// This node with the pairs of its right neighbour behind its own, where it [`can_receive`](Node::can_receive) them.
+    /// This node with the pairs of its right neighbour after its own, where it [`can_receive`](Node::can_receive) them.
     ///
     /// It has this node's marks, and the neighbour's end and next. Stored keys lack what its bounds have in common, up to
     /// 255 bytes. Both nodes are left as they are. An error means that an allocation failed.

@@ -12,9 +12,9 @@ use std::alloc::AllocError;
 use std::ops::Bound;
 
 impl Node {
-    /// The whole key and the value of the leaf's first pair behind the bound, or none where no pair is behind it.
+    /// The whole key and the value of the leaf's first pair after the bound, or none where no pair is after it.
     ///
-    /// An included key is behind its own bound, and without a bound all keys are. The node has to be a leaf; the bound may be
+    /// An included key is after its own bound, and without a bound all keys are. The node has to be a leaf; the bound may be
     /// out of its range. An error means that the copy could not be allocated.
     pub fn successor(&self, bound: &Bound<IVec>) -> Result<Option<(IVec, IVec)>, AllocError>
         requires leaf { self.now.is_index ≡ false }

@@ -47,7 +47,7 @@ use std::marker::Model;
 /// shard takes its part of the capacity, by what the messages of its pages take of the log, each page rounded up to a power of two.
 /// Where they take more, the nodes that were accessed longest ago leave memory. The page that was accessed last stays.
 ///
-/// Contracts see the stamps, which pages lie in memory, how much the messages of each node there take, the next generated id,
+/// Contracts see the stamps, which pages are in memory, how much the messages of each node there take, the next generated id,
 /// whether a batch is open, whether a write fault is kept, the config, whether the system pages were found in the log, the pages by
 /// their recent use, and the log.
 #[derive(Drop)]
@@ -83,8 +83,9 @@ impl<L: Log> PageCache<L> {
     ///
     /// `Corruption` comes without a pointer for more than 2^37 pages, and otherwise with the pointer of the first message of the
     /// first page, by id, that no cache leaves so: one of more than 10 messages, a page 0 that doesn't hold named roots by one
-    /// message, or a page 1 that doesn't hold a counter so. `LogFull` comes where the log has no room for a missing page, behind
-    /// those that were added.
+    /// message, or a page 1 that doesn't hold a counter so. `LogFull` comes where the log has no room for a missing page, after
+    /// those that were added. `Io` comes where the device failed, and `OutOfMemory` where an allocation did: the table takes memory for each
+    /// page of the log, and for each of its messages.
     ///
     /// An error leaves the log unchanged but for the missing pages that were added before it, and the log comes back; unless a
     /// write failed, a cache can be opened over it again. A crash meanwhile leaves what the log held and, of the missing pages
@@ -137,7 +138,7 @@ impl<L: Log> PageCache<L> {
         }
     }
 
-    /// Whether both system pages were found in the log.
+    /// Whether both system pages were found in the log when the cache was opened. The log isn't called.
     pub fn was_recovered(&self) -> bool
         ensures { result ≡ self.now.recovered }
     {
@@ -146,7 +147,8 @@ impl<L: Log> PageCache<L> {
 
     /// Makes all that is pending in the log stable, and answers how many bytes that wrote.
     ///
-    /// It allocates nothing. Inside a batch `BatchOpen` comes. A write error is sticky: every later call answers it, until the log is
+    /// It allocates nothing, and a log on a disk writes one frame for it, with two syncs, or nothing where nothing is pending. Inside a
+    /// batch `BatchOpen` comes. The only other error is a write error, which is sticky: every later call answers it, until the log is
     /// opened again.
     #[tactic(auto, using(crate::proofs::Refused::no_name))]
     pub fn flush(&mut self) -> Result<usize, Error>
@@ -169,7 +171,9 @@ impl<L: Log> PageCache<L> {
         Ok(self.sticky_log.make_stable()?)
     }
 
-    /// How many bytes the log has.
+    /// How many bytes the log has. A log on a disk counts those that are written, and the log in memory what is pending too.
+    ///
+    /// No page is read, and nothing is allocated. The only error is a write error that is kept.
     pub fn size_on_disk(&self) -> Result<u64, Error>
         ensures step { Steps L.Log self.now SizeOnDisk (Sized result) self.now }
         ensures keeps { Keeps self.now self.now result (λ _. self.now.stamps) }
@@ -182,7 +186,7 @@ impl<L: Log> PageCache<L> {
         Ok(self.sticky_log.log.size())
     }
 
-    /// Ends the cache, of which no batch is open, and hands its log back. Nothing is flushed.
+    /// Ends the cache, of which no batch is open, and hands its log back. Nothing is flushed, and nothing fails.
     ///
     /// Unless a write fault was kept, a cache can be opened over the log again.
     pub fn into_log(self) -> L

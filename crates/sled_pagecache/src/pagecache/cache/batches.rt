@@ -11,7 +11,7 @@ use sled_base::{Device, Error, Why};
 use sled_log::Log;
 
 impl<L: Log> PageCache<L> {
-    /// Whether a batch is open.
+    /// Whether a batch is open. It is the test for what `seal`, `cancel` and `into_log` ask for, and the log isn't called.
     pub fn batch_open(&self) -> bool
         ensures { result ≡ self.now.batch }
     {

@@ -38,7 +38,7 @@ impl<L: Log> PageCache<L> {
 }
 
 impl<'a, L: Log> RecoveryGuard<'a, L> {
-    /// The cache, lent. Its changes are the batch's.
+    /// The cache, lent. Its changes are the batch's. It is the cache that `pin_log` was called on, and nothing fails.
     pub fn cache(&mut self) -> &mut PageCache<L>
         ensures* lends { sem 𝓛 (LendsCache L.row L.Log self.entry result) }
         ensures value { result.now ≡ (cache_lent self.old).now }

@@ -20,7 +20,9 @@ use sled_base::{Device, Error, Why};
 use sled_log::Log;
 
 impl<L: Log> PageCache<L> {
-    /// The counter of generated ids with the token of its page. It lies in memory, so nothing is read and nothing allocated.
+    /// The counter of generated ids with the token of its page. It is in memory, so nothing is read and nothing allocated.
+    ///
+    /// The only error is a write error that is kept.
     pub fn get_idgen(&self) -> Result<(PageView, u64), Error>
         ensures step { Steps L.Log self.now GetIdgen (GotIdgen result) self.now }
         ensures keeps { Keeps self.now self.now result (λ _. self.now.stamps) }
@@ -41,9 +43,9 @@ impl<L: Log> PageCache<L> {
     /// only once the start of its interval is the counter, and that and all that is pending are stable. Every other id takes no
     /// memory, and changes neither a page nor the log.
     ///
-    /// `IdsUsedUp` comes where the next id is above the greatest u64. Where a new counter is needed, `StampUsedUp` comes where the
-    /// stamp of its page is the greatest, `LogFull` where the log has no room. These and `OutOfMemory` leave every page and message
-    /// unchanged, and use no id. A write error is sticky: every later call answers it, until the log is opened again.
+    /// `IdsUsedUp` comes where the next id is above the greatest u64. Where a new counter is needed, `BatchOpen` comes inside a batch,
+    /// `StampUsedUp` where the stamp of its page is the greatest, `LogFull` where the log has no room. These and `OutOfMemory` leave every
+    /// page and message unchanged, and use no id. A write error is sticky: every later call answers it, until the log is opened again.
     #[tactic(auto, using(crate::proofs::Refused::no_name))]
     pub fn generate_id_inner(&mut self) -> Result<u64, Error>
         ensures covered { IfOk result (IsCovered L.Log self.new) }

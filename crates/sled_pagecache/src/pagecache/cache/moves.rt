@@ -14,7 +14,7 @@ impl<L: Log> PageCache<L> {
     ///
     /// A log names the messages of pages one after another, one for so many that are appended. Where one of the page's messages lies in
     /// the segment of the one that is named, the page is written again, by one message: a free page and the cache's own pages too. One
-    /// that doesn't lie in memory is read, by one read for each of its messages, and then lies there. A page of one message that is
+    /// that isn't in memory is read, by one read for each of its messages, and is in memory then. A page of one message that is
     /// kept as a blob isn't read: another message that names the blob is written, and the page stays in memory or out of it.
     ///
     /// `Corruption` comes where the messages of a page that is read make no node, with the pointer of the first wrong one, and

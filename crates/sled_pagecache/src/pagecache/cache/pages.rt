@@ -38,7 +38,10 @@ use sled_log::Log;
 use sled_node::{Link, Node};
 
 impl<L: Log> PageCache<L> {
-    /// Puts a node on a page: the free page with the greatest id at its next stamp, or else a new one at stamp 1.
+    /// Puts a node on a page: the free page with the greatest id at its next stamp, or else a new one at stamp 1. It answers the page's id
+    /// and token.
+    ///
+    /// One message with the whole node is appended, and nothing is read.
     ///
     /// `PagesUsedUp` comes where there are 2^37 pages and none is free, `StampUsedUp` where the stamp of the free page is the
     /// greatest, `LogFull` where the log has no room. These and `OutOfMemory` leave every page and message
@@ -76,9 +79,11 @@ impl<L: Log> PageCache<L> {
 
     /// The node of a page with the page's token, lent. None where the page is absent or free.
     ///
-    /// A page that doesn't lie in memory is read from the log, by one read for each message that makes it, and then lies there.
+    /// A page that is in memory is lent without an allocation, and the log isn't called. Another one is read from the log, by one read for
+    /// each message that makes it, and is in memory then.
     /// `ReservedId` comes for the cache's own pages, and `Corruption` where the messages of the page make no node, with the pointer
-    /// of the first wrong one. These, `Io` and `OutOfMemory` leave every page unchanged.
+    /// of the first wrong one. These, `Io` and `OutOfMemory` leave every page unchanged. A write error that is kept is answered for every
+    /// page.
     pub fn get(&mut self, pid: PageId) -> Result<Option<NodeView<'_>>, Refusal>
         ensures* got { sem 𝓛 (AfterLoan L.row L.Log self.entry
             (IsGot L.Log self.entry.now pid result)) }
@@ -93,7 +98,7 @@ impl<L: Log> PageCache<L> {
     /// (`attempt_gc`): whatever comes of that, the answer stands.
     ///
     /// At another stamp the page's present token comes back with the link; where the page is absent or free, nothing
-    /// does. In this order: `ReservedId` comes for the cache's own pages; a page that doesn't lie in memory is read, and
+    /// does. In this order: `ReservedId` comes for the cache's own pages; a page that isn't in memory is read, and
     /// `Corruption` comes where its messages make no node, with the pointer of the first wrong one; `LinkRefused` comes where
     /// the node does not accept the link, `StampUsedUp` where the stamp is the greatest; only then memory is asked for, and
     /// `LogFull` comes where the log has no room. These, `OutOfMemory` and a read that failed leave every page and message
@@ -131,7 +136,8 @@ impl<L: Log> PageCache<L> {
     }
 
     /// Puts a node on a page that is still at the stamp of the token, in place of what it held, and raises the stamp by
-    /// one. Then it moves the page that is due, if the log names one (`attempt_gc`): whatever comes of that, the answer stands.
+    /// one. The page isn't read. Then the page that is due is moved, if the log names one (`attempt_gc`): whatever comes of that, the answer
+    /// stands.
     ///
     /// At another stamp the page's present token comes back with the node; where the page is absent or free, nothing
     /// does. `ReservedId` comes for the cache's own pages, `StampUsedUp` where the stamp is the greatest, `LogFull` where the
@@ -163,7 +169,7 @@ impl<L: Log> PageCache<L> {
     }
 
     /// Frees a page that is still at the stamp of the token, and raises its stamp by one. The page is absent for every other call, until
-    /// an `allocate` uses it again.
+    /// an `allocate` uses it again. One message is appended, and nothing is read.
     ///
     /// At another stamp the page's present token comes back; where the page is absent or free, nothing does. `ReservedId` comes
     /// for the cache's own pages, `StampUsedUp` where the stamp is the greatest, `LogFull` where the log has no room. These and

@@ -19,7 +19,9 @@ use sled_base::{Error, IVec, PageId, Refusal};
 use sled_log::Log;
 
 impl<L: Log> PageCache<L> {
-    /// The map of named roots with the token of its page, lent. It lies in memory, so nothing is read and nothing allocated.
+    /// The map of named roots with the token of its page, lent. It is in memory, so nothing is read and nothing allocated.
+    ///
+    /// The only error is a write error that is kept.
     pub fn get_meta(&self) -> Result<MetaView<'_>, Refusal>
         ensures step { Steps L.Log self.now GetMeta (GotMeta (lent_meta result)) self.now }
         ensures keeps { Keeps self.now self.now (lent_meta result) (λ _. self.now.stamps) }
@@ -33,7 +35,8 @@ impl<L: Log> PageCache<L> {
 
     /// The root page of a name. `CollectionNotFound`, with the name, comes where it has none.
     ///
-    /// Only the copy of a name in that error takes memory.
+    /// Nothing is read. Only the copy of a name in that error takes memory, and `OutOfMemory` comes where there is none. A write error that
+    /// is kept is answered first.
     #[tactic(auto, using(crate::proofs::Refused::names_none))]
     pub fn meta_pid_for_name(&self, name: &[u8]) -> Result<PageId, Error>
         ensures step { Steps L.Log self.now (MetaPidForName name.now) (FoundRoot result) self.now }
@@ -57,7 +60,7 @@ impl<L: Log> PageCache<L> {
     /// log has no room. These and `OutOfMemory` leave every page and message unchanged. A write error is sticky: every later call
     /// answers it, until the log is opened again.
     ///
-    /// The whole map is written, and kept as one message.
+    /// The whole map is written, and kept as one message. Nothing is read.
     #[tactic(auto, using(crate::proofs::Refused::no_name))]
     pub fn cas_root_in_meta(
         &mut self,

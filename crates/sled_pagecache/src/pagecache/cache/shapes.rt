@@ -12,7 +12,8 @@ use sled_log::Log;
 use std::alloc::{AllocError, Global};
 
 impl<L: Log> PageCache<L> {
-    /// The shape of the cache. Only the list takes memory, and the log isn't called, so it is answered with a write error kept too.
+    /// The shape of the cache. Only the list takes memory, and the log isn't called, so it is answered with a write error kept too. The only
+    /// error is an allocation that failed.
     pub fn shape(&self) -> Result<Shape, AllocError>
         ensures { IfOk result (Shows L.Log self.now) }
     {

@@ -20,9 +20,10 @@ impl<L: Log> PageCache<L> {
     /// How many bytes the log has, and how many the pages would take together: the sizes of the nodes and of the map of named
     /// roots by their `rss`, 8 for the counter of ids, and a segment. Free pages take nothing.
     ///
-    /// Pages whose node doesn't lie in memory are read, each by one read for each of its messages, one page after another by their
+    /// Pages whose node isn't in memory are read, each by one read for each of its messages, one page after another by their
     /// ids. Nothing that is read is kept, and no page is accessed. `Corruption` comes where the messages of a page make no node,
-    /// with the pointer of the first wrong one. This, `Io` and `OutOfMemory` leave every page unchanged. A write error is sticky.
+    /// with the pointer of the first wrong one. This, `Io` and `OutOfMemory` leave every page unchanged. A write error that is kept is
+    /// answered first, and nothing is read.
     #[tactic(auto, using(crate::proofs::Refused::no_name))]
     pub fn space_amplification(&mut self) -> Result<(u64, u128), Error>
         ensures step { Steps L.Log self.old SpaceAmplification (Amplified result) self.new }

@@ -20,7 +20,7 @@ impl<L: Log> PageCache<L> {
     /// How far the log is durable, and where it keeps each page, without a call of the device: as a log tells its pages when it is
     /// recovered, and by what is pending too.
     ///
-    /// `OutOfMemory` is the only error, but for a write error that is kept.
+    /// It takes memory for each page and for each of its messages. `OutOfMemory` is the only error, but for a write error that is kept.
     pub fn take_fuzzy_snapshot(&self) -> Result<Snapshot, Error>
         ensures step { Steps L.Log self.now TakeFuzzySnapshot (TookSnapshot result) self.now }
         ensures keeps { Keeps self.now self.now result (λ _. self.now.stamps) }

@@ -16,7 +16,7 @@ use sled_node::Node;
 /// The root page of the tree that has this name. A name that has no root is given one: an index over all keys, which leads to an
 /// empty leaf.
 ///
-/// A name that has a root takes no memory, and the log isn't called. For another one, `NameTooLong` comes above
+/// Nothing is read. A name that has a root takes no memory, and the log isn't called. For another one, `NameTooLong` comes above
 /// [`MAX_BYTES`](sled_node::node::MAX_BYTES) and `TooManyNames` where [`MAX_NAMES`](sled_node::meta::MAX_NAMES) others stand, before
 /// anything is made. Then the leaf is allocated, then the index, then the name is set, as by
 /// [`allocate`](PageCache::allocate) and [`cas_root_in_meta`](PageCache::cas_root_in_meta). The first of these that is refused ends

@@ -9,24 +9,33 @@ use std::marker::Model;
 /// What a page holds. A page that isn't free and isn't the cache's own holds a node, as far as its messages make one.
 #[derive(Clone, Copy, Debug, PartialEq, Eq)]
 pub enum Kind {
+    /// Nothing: the page is free.
     Free,
+    /// The counter of generated ids.
     Counter,
+    /// The map of named roots.
     Roots,
+    /// A node.
     Node,
 }
 
 /// A page without its content.
 #[derive(Clone, Copy, Debug, PartialEq, Eq)]
 pub struct PageShape {
+    /// Its stamp.
     pub stamp: u64,
+    /// What it holds.
     pub kind: Kind,
 }
 
 /// A cache without the contents of its pages: the stamp and the kind of each id, the next generated id, and whether a write error is kept.
 #[derive(Debug, Drop)]
 pub struct Shape {
+    /// The pages, by their ids.
     pub pages: Vec<PageShape>,
+    /// The next generated id.
     pub next: u128,
+    /// Whether a write error is kept.
     pub fault: bool,
 }
 

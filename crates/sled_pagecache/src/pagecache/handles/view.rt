@@ -17,12 +17,14 @@ pub struct PageView {
 }
 
 impl PageView {
+    /// The token of a page at a stamp. Whether the page has that stamp is judged by the call that takes the token.
     pub fn new(pid: PageId, ts: u64) -> PageView
         ensures { result ≡ token pid ts }
     {
         PageView { pid, stamp: ts }
     }
 
+    /// The page's id.
     pub fn pid(self) -> PageId
         ensures { result ≡ pid_of self }
     {
@@ -52,12 +54,14 @@ impl<'a> NodeView<'a> {
         NodeView { node, token }
     }
 
+    /// The node, lent as long as the view is.
     pub fn node(&self) -> &'a Node
         ensures { result.now ≡ self.now.node.now }
     {
         self.node
     }
 
+    /// The token of its page.
     pub fn token(&self) -> PageView
         ensures { result ≡ self.now.token }
     {
@@ -80,12 +84,14 @@ impl<'a> MetaView<'a> {
         MetaView { meta, token }
     }
 
+    /// The map, lent as long as the view is.
     pub fn meta(&self) -> &'a Meta
         ensures { result.now ≡ self.now.meta.now }
     {
         self.meta
     }
 
+    /// The token of page 0, which holds the map.
     pub fn token(&self) -> PageView
         ensures { result ≡ self.now.token }
     {

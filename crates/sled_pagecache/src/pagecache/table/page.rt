@@ -15,9 +15,13 @@ use std::alloc::{AllocError, Global};
 /// place, and its log size in bytes.
 #[derive(Clone, Copy, Debug, PartialEq, Eq)]
 pub struct CacheInfo {
+    /// The stamp of the page once the message stood, or 0 where it was recovered.
     pub ts: u64,
+    /// The message's place.
     pub lsn: Lsn,
+    /// The pointer by which it is read.
     pub pointer: DiskPtr,
+    /// How many bytes of the log it takes up.
     pub log_size: u64,
 }
 
