@@ -89,7 +89,7 @@ run_once() {
     compare_replies "$1" "$2"
 }
 
-# Every program replies to the examples as README.md says.
+# Every program replies to the examples as docs/SCRIPT.md says.
 check_examples() {
     for example in "$bench"/examples/*.script; do
         without_own example <"${example%.script}.replies" >"$work/want"

@@ -1,4 +1,4 @@
-# A random script (README.md, "The script") for scripts.sh. The variables say which: `seed`; `lines`, about how many; `parts`, how many
+# A random script (docs/SCRIPT.md) for scripts.sh. The variables say which: `seed`; `lines`, about how many; `parts`, how many
 # files they come in, `name`.1 and so on; `over_file`, 1 where they are to be run over a file, and 0 over a log in memory; and `moves`, 0
 # where no page may be moved over a file: nothing is replaced then, no page is linked ten times, and a part ends anywhere. Else each part
 # ends with a flush.

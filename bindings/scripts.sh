@@ -1,5 +1,5 @@
 #!/bin/sh
-# Runs scripts (README.md, "The script") through the programs that answer them by the library, in C, Rust and Python, and through `sledpc`,
+# Runs scripts (docs/SCRIPT.md) through the programs that answer them by the library, in C, Rust and Python, and through `sledpc`,
 # over a log in memory and over a file, and compares the replies byte for byte: those of bench/examples and of the gate's run of `sledpc`,
 # and random ones (scripts.awk). It takes the programs that check.sh and `rt run` have built, and leaves out those that aren't there.
 #

@@ -1,23 +1,24 @@
 #!/bin/sh
-# Compares README.md with the code, word for word, and prints what differs:
+# Compares README.md, docs/SCRIPT.md and docs/API.md with the code, word for word, and prints what differs:
 #
-# - each block of Rattle stands at the head of a file of a folder readme, of crates/sledpc/src/tests or crates/sled_shared_tests/src, which
-#   is named as its function is and has a test behind it, and each of these files has its block;
-# - each block of Rust that uses the crate dilluvas, of C and of Python is a program of bindings, which bindings/check.sh runs;
-# - each session of the program `./sledpc` stands in the run that the gate makes of it: its words in crates/sledpc/args,
-#   its input in crates/sledpc/stdin, and its replies at the same lines of crates/sledpc/stdout; and one over a file in a row of the
-#   tests of the program;
+# - each block of Rattle of README stands at the head of a file of a folder readme, of crates/sledpc/src/tests or
+#   crates/sled_shared_tests/src, which is named as its function is and has a test behind it, and each of these files has its block;
+# - each block of Rust of README that uses the crate dilluvas, of C and of Python is a program of bindings, which bindings/check.sh runs;
+# - each session of the program `./sledpc` in README and docs/SCRIPT.md is one that the gate makes. Over a log in memory it stands in the
+#   gate's run of the program (its words in crates/sledpc/args, its input in crates/sledpc/stdin, and its replies at the same lines of
+#   crates/sledpc/stdout), or is a row of the tests of the program; over a file the runs of a block are the first rows of a test, one
+#   after another; and so is one of a crew;
 # - each other command of a session is there;
-# - each file of a crate's specs has its line in docs/ARCHITECTURE.md.
+# - each file of a crate's specs has its line in docs/ARCHITECTURE.md;
+# - docs/API.md is what tools/api.sh prints.
 #
 # The status is 0 where nothing differs, and else 1.
 set -eu
 
 cd "$(CDPATH='' cd -- "$(dirname -- "$0")/.." && pwd)"
-page=README.md
 examples='crates/sledpc/src/tests/readme crates/sled_shared_tests/src/readme'
 run=crates/sledpc
-file_runs=crates/sledpc/src/program/tests/files.rt
+tests=crates/sledpc/src/program/tests
 work=$(mktemp -d)
 trap 'rm -rf "$work"' EXIT
 trap 'exit 1' HUP INT PIPE TERM
@@ -28,10 +29,13 @@ differ() {
     status=1
 }
 
-# Cuts the page into files, in order: NUMBER.rust, NUMBER.c and NUMBER.python for a block of that language, NUMBER.COUNT.command for a
-# command of a session and NUMBER.COUNT.replies for what stands below it.
+# Cuts a page into files in a folder of its own, $cut, in order: NUMBER.rust, NUMBER.c and NUMBER.python for a block of that language,
+# NUMBER.COUNT.command for a command of a session and NUMBER.COUNT.replies for what stands below it. The page is $page from then on.
 cut_page() {
-    awk -v work="$work" '
+    page=$1
+    cut=$work/$(basename "$page" .md)
+    mkdir "$cut"
+    awk -v work="$cut" -v page="$page" '
         /^```/ && !inside { inside = 1; number++; kind = substr($0, 4); count = 0; next }
         /^```/ { inside = 0; next }
         !inside { next }
@@ -39,22 +43,23 @@ cut_page() {
         kind != "" && kind != "console" && kind != "sh" { next }
         /^\$ / { count++; print substr($0, 3) > sprintf("%s/%03d.%03d.command", work, number, count); next }
         count > 0 { print > sprintf("%s/%03d.%03d.replies", work, number, count); next }
-        { print "'"$page"': a session begins with no command: " $0 > (work "/faults") }
-        END { if (inside) print "'"$page"': a block has no end" > (work "/faults") }
+        { print page ": a session begins with no command: " $0 > (work "/faults") }
+        END { if (inside) print page ": a block has no end" > (work "/faults") }
     ' "$page"
 }
 
 compare_rust() {
-    for block in "$work"/*.rust; do
+    for block in "$cut"/*.rust; do
         [ -e "$block" ] || continue
         grep -q '^use dilluvas::' "$block" && mv "$block" "$block.dilluvas" && continue
         name=$(sed -n 's/^\(pub \)\{0,1\}fn \([a-z0-9_]*\).*/\2/p' "$block" | head -n 1)
+        # shellcheck disable=SC2086 # several folders
         file=$(find $examples -name "$name.rt")
         if [ -z "$name" ] || [ ! -f "$file" ]; then
             differ "no file $name.rt of $examples has the block that begins so: $(head -n 1 "$block")"
             continue
         fi
-        : >"$work/$name.has_block"
+        : >"$cut/$name.has_block"
         grep -q '^#\[test\]$' "$file" || differ "no test in $file runs its block"
         head -n "$(wc -l <"$block")" "$file" >"$work/head"
         if ! diff "$block" "$work/head" >"$work/diff"; then
@@ -62,9 +67,10 @@ compare_rust() {
             cat "$work/diff"
         fi
     done
+    # shellcheck disable=SC2086 # several folders
     find $examples -name '*.rt' >"$work/examples"
     while read -r file; do
-        [ -e "$work/$(basename "$file" .rt).has_block" ] || differ "no block has $file"
+        [ -e "$cut/$(basename "$file" .rt).has_block" ] || differ "no block has $file"
     done <"$work/examples"
 }
 
@@ -79,15 +85,36 @@ compare_program() {
 }
 
 compare_bindings() {
-    compare_program "$(echo "$work"/*.rust.dilluvas)" bindings/rust/examples/readme.rs
-    compare_program "$(echo "$work"/*.c)" bindings/c/readme.c
-    compare_program "$(echo "$work"/*.python)" bindings/python/readme.py
+    compare_program "$(echo "$cut"/*.rust.dilluvas)" bindings/rust/examples/readme.rs
+    compare_program "$(echo "$cut"/*.c)" bindings/c/readme.c
+    compare_program "$(echo "$cut"/*.python)" bindings/python/readme.py
 }
 
-# Compares one run of the program: $1 is what is printed to it, $2 its words, $3 the file of what it replies.
+# Puts the rows of a file of tests on one line, as ("..",".."),("..",".."), without what stands between them.
+rows_of() {
+    awk '
+        { sub(/^ */, "") }
+        /^\/\// { next }
+        { rows = rows $0 }
+        END { gsub(/", "/, "\",\"", rows); gsub(/",\)/, "\")", rows); gsub(/\), \(/, "),(", rows); print rows }
+    ' "$tests/$1.rt" >"$work/$1.rows"
+}
+
+# A row of a run: what is printed to it, and the file of what it replies.
+row_of() {
+    printf '("%s","%s")' "$1" "$(awk '{ printf "%s\\n", $0 }' "$2")"
+}
+
+# Compares one run of the program over a log in memory: $1 is what is printed to it, $2 the file of what it replies.
 compare_run() {
-    if [ "$2" != "$(tr '\n' ' ' <"$run/args" | sed 's/ *$//')" ]; then
-        differ "the words '$2' aren't those of $run/args"
+    # What the script `sledpc` says of its building comes between the replies.
+    sed -n 's/^sledpc: //p' "$2" | while read -r said; do
+        grep -qF "say '$said'" sledpc || echo "$page: the script sledpc doesn't say '$said'" >>"$cut/faults"
+    done
+    sed '/^sledpc: /d' "$2" >"$work/replies"
+    grep -qF -- "$(row_of "$1" "$work/replies")," "$work/scripts.rows" && return
+    if [ mem != "$(tr '\n' ' ' <"$run/args" | sed 's/ *$//')" ]; then
+        differ "the word mem isn't that of $run/args"
     fi
     printf '%b' "$1" >"$work/input"
     first=$(awk '
@@ -101,15 +128,11 @@ compare_run() {
         }
     ' "$work/input" "$run/stdin")
     if [ -z "$first" ]; then
-        differ "these lines don't stand in $run/stdin:"
-        cat "$work/input"
+        differ "no row of $tests/scripts.rt is this, and its lines don't stand in $run/stdin:"
+        row_of "$1" "$work/replies"
+        echo
         return
     fi
-    # What the script `sledpc` says of its building comes between the replies.
-    sed -n 's/^sledpc: //p' "$3" | while read -r said; do
-        grep -qF "say '$said'" sledpc || echo "$page: the script sledpc doesn't say '$said'" >>"$work/faults"
-    done
-    sed '/^sledpc: /d' "$3" >"$work/replies"
     sed -n "$first,$((first + $(wc -l <"$work/input") - 1))p" "$run/stdout" >"$work/stdout"
     if ! diff "$work/replies" "$work/stdout" >"$work/diff"; then
         differ "the replies to '$1' (<) differ from $run/stdout (>):"
@@ -117,27 +140,44 @@ compare_run() {
     fi
 }
 
-# Compares a run of the program over a file: $1 is what is printed to it, $2 the file of what it replies.
-compare_file_run() {
-    row="(\"$1\", \"$(awk '{ printf "%s\\n", $0 }' "$2")\"),"
-    grep -qF -- "$row" "$file_runs" || differ "no row of $file_runs is $row"
+# The runs over one file that a block has so far, as rows, and the block and the file.
+file_rows=''
+file_runs=''
+
+# Compares them: a test over a file that isn't there begins with these rows.
+compare_file_runs() {
+    [ -z "$file_rows" ] || grep -qF -- "&[${file_rows%,}" "$work/files.rows" ||
+        differ "no test of $tests/files.rt begins with ${file_rows%,}"
+    file_rows=''
 }
 
 compare_sessions() {
-    for command in "$work"/*.command; do
+    for command in "$cut"/*.command; do
         [ -e "$command" ] || continue
         replies=${command%.command}.replies
         [ -e "$replies" ] || : >"$replies"
         text=$(cat "$command")
+        input=''
+        words=''
         case $text in
         "printf '"*"' | ./sledpc "*)
-            text=${text#"printf '"}
-            input=${text%"' | ./sledpc "*}
+            input=${text#"printf '"}
+            input=${input%"' | ./sledpc "*}
             words=${text##*"' | ./sledpc "}
-            case $words in
-            "file "*) compare_file_run "$input" "$replies" ;;
-            *) compare_run "$input" "$words" "$replies" ;;
-            esac
+            ;;
+        esac
+        runs="${command%.*.command} $words"
+        [ "$runs" = "$file_runs" ] || compare_file_runs
+        case $text in
+        "printf '"*"' | ./sledpc file "*)
+            file_runs=$runs
+            file_rows="$file_rows$(row_of "$input" "$replies"),"
+            ;;
+        "printf '"*"' | ./sledpc mem") compare_run "$input" "$replies" ;;
+        "./sledpc crew "*)
+            words=${text#"./sledpc crew "}
+            row="(\"${words% *}\",\"${words#* }\",\"$(cat "$replies")\\n\"),"
+            grep -qF -- "$row" "$work/crews.rows" || differ "no row of $tests/crews.rt is $row"
             ;;
         ./* | .ci/* | tools/*)
             [ -x "${text%% *}" ] || differ "there is no command ${text%% *}"
@@ -148,6 +188,13 @@ compare_sessions() {
         *) differ "nothing is known of the command '$text'" ;;
         esac
     done
+    compare_file_runs
+}
+
+tell_faults() {
+    [ -s "$cut/faults" ] || return 0
+    cat "$cut/faults"
+    status=1
 }
 
 # Each file of definitions is named in the list of them.
@@ -160,13 +207,28 @@ compare_definitions() {
     done
 }
 
-cut_page
+compare_calls() {
+    page=docs/API.md
+    if ! tools/api.sh >"$work/calls" 2>"$work/complaints"; then
+        differ 'tools/api.sh fails:'
+        cat "$work/complaints"
+    elif ! diff "$page" "$work/calls" >"$work/diff"; then
+        differ 'it (<) differs from what tools/api.sh prints (>):'
+        cat "$work/diff"
+    fi
+}
+
+for rows in scripts files crews; do
+    rows_of "$rows"
+done
+cut_page README.md
 compare_rust
 compare_bindings
 compare_sessions
 compare_definitions
-if [ -s "$work/faults" ]; then
-    cat "$work/faults"
-    status=1
-fi
+tell_faults
+cut_page docs/SCRIPT.md
+compare_sessions
+tell_faults
+compare_calls
 exit $status

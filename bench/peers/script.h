@@ -1,4 +1,4 @@
-// README.md's script over a store in C++: reads lines from standard input, asks the store, and writes the replies. A program has
+// docs/SCRIPT.md's script over a store in C++: reads lines from standard input, asks the store, and writes the replies. A program has
 // its store alone, and calls `script::run<Store>()`. A store has
 //
 //     void allocate(id, stamp, Pairs &&)     makes a page of an id that has none: a free one, or the next, from 2 on

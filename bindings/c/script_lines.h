@@ -1,4 +1,4 @@
-/* The words of a script's line, and what they encode: README.md has the rules. */
+/* The words of a script's line, and what they encode: docs/SCRIPT.md has the rules. */
 #ifndef SCRIPT_LINES_H
 #define SCRIPT_LINES_H
 

@@ -1,4 +1,4 @@
-"""The script of README.md over the library: `script.py mem` over a new log in memory, and `script.py file PATH` over the log in a file.
+"""The script of docs/SCRIPT.md over the library: `script.py mem` over a new log in memory, and `script.py file PATH` over the log in a file.
 
 It reads lines from standard input, and writes for each the reply that the program `sledpc` writes. Two things the library doesn't do: a
 root page 0 is no root to it, and the line that names one is no command here; and over a file it makes neither `amp` nor `gc`, and moves no
