@@ -9,6 +9,8 @@
 # interval of ids is 1,000 in place of 10 (without it one is built), and CHART where the chart goes (docs/benchmarks.svg).
 set -eu
 
+[ "${1-}" != --help ] || { sed -n '2,/^[^#]/s/^# \{0,1\}//p' "$0"; exit; }
+
 top=$(CDPATH='' cd -- "$(dirname -- "$(readlink -f -- "$0")")/.." && pwd)
 count=${COUNT:-300000}
 list=$top/bench/memory.list

@@ -9,6 +9,8 @@
 # measure.sh, and so is how replies are compared and what ends all. Syncs are counted in one more run of each, where strace is there.
 set -eu
 
+[ "${1-}" != --help ] || { sed -n '2,/^[^#]/s/^# \{0,1\}//p' "$0"; exit; }
+
 top=$(CDPATH='' cd -- "$(dirname -- "$(readlink -f -- "$0")")/.." && pwd)
 count=${COUNT:-30000}
 list=$top/bench/file.list

@@ -4,9 +4,11 @@
 #
 #     bench/measure_library.sh >library_table.md
 #
-# MEMORY is a folder that lies in memory (/dev/shm) and DISK one on a disk (/var/tmp). Everything is made in new folders there, which go at
+# MEMORY is a folder in memory (/dev/shm) and DISK one on a disk (/var/tmp). Everything is made in new folders there, which go at
 # the end. It needs cargo and liblmdb-dev.
 set -eu
+
+[ "${1-}" != --help ] || { sed -n '2,/^[^#]/s/^# \{0,1\}//p' "$0"; exit; }
 
 top=$(CDPATH='' cd -- "$(dirname -- "$(readlink -f -- "$0")")/.." && pwd)
 for tool in cargo awk; do

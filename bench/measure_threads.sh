@@ -9,6 +9,8 @@
 # many calls it made, and fails where one was answered otherwise than it should be; either ends all with a message.
 set -eu
 
+[ "${1-}" != --help ] || { sed -n '2,/^[^#]/s/^# \{0,1\}//p' "$0"; exit; }
+
 top=$(CDPATH='' cd -- "$(dirname -- "$(readlink -f -- "$0")")/.." && pwd)
 count=${COUNT:-1000000}
 list=$top/bench/threads.list
