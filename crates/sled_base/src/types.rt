@@ -107,14 +107,14 @@ impl Why {
     }
 }
 
-/// What should never be seen: a misuse of a node, or a page of the wrong kind.
+/// A misuse of a node, or what should never be seen: a page of the wrong kind.
 #[derive(Clone, Copy, Debug, PartialEq, Eq)]
 pub enum Bug {
     /// The page of the named roots is missing.
     MissingMeta = 1,
-    /// The page of the counter is missing.
+    /// The page of the counter is missing. No call answers this.
     MissingCounter = 2,
-    /// The node does not accept the link.
+    /// The node doesn't accept the link, as one whose key is out of its range.
     LinkRefused = 3,
     /// A free page was read from the log.
     FreeInPull = 4,

@@ -39,7 +39,7 @@ pub(crate) fn recovered_pages(alloc: Global, states: &[PageState]) -> Result<Pag
 }
 
 impl Page {
-    /// The page that a log says, of which the content doesn't lie in memory, at stamp 0. The only error is out of memory.
+    /// The page that a log says, of which the content isn't in memory, at stamp 0. The only error is out of memory.
     pub fn from_state(alloc: Global, state: &PageState) -> Result<Page, AllocError>
         ensures { IfOk result (IsRecovered state.now) }
     {

@@ -25,7 +25,7 @@ pub struct CacheInfo {
     pub log_size: u64,
 }
 
-/// A page of the cache: its stamp, where the log keeps the messages that make it, and what it holds, where that lies in
+/// A page of the cache: its stamp, where the log keeps the messages that make it, and what it holds, where that is in
 /// memory.
 #[derive(Debug, Drop)]
 pub struct Page {
@@ -41,7 +41,7 @@ pub struct Page {
 #[derive(Debug, Drop)]
 pub(crate) enum Kept {
     Free,
-    /// A content that doesn't lie in memory.
+    /// A content that isn't in memory.
     Away,
     Counter(u64),
     Roots(Meta),
