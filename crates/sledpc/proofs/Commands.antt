@@ -1,5 +1,5 @@
 -- What a name and the text behind it ask for.
-use Rattle.std.proofs.Common.{◌≡◌, ◌≢◌, ℕ, ◌+◌, ◌*◌, ◌<◌, ◌^◌, ◌≤◌, List, [], ◌∷◌, ◌++◌, ◌-◌, map, drop, take, length, get_or, Option, None, Some, IfNone, IfOk, IfSome, Result, Ok, Err, codes, sym, ap, ◌∙◌, subst, arith, rules, refl}
+use Rattle.std.proofs.Common.{◌≡◌, ◌≢◌, ℕ, ◌+◌, ◌*◌, ◌<◌, ◌^◌, ◌≤◌, List, [], ◌∷◌, ◌++◌, map, length, get_or, Option, None, Some, IfNone, IfOk, IfSome, Result, Ok, Err, codes, sym, ap, ◌∙◌, subst, arith, rules, refl}
 use Rattle.std.specs.Fmt.{decimal}
 use Rattle.std.specs.List.{join_with_byte}
 use Rattle.std.specs.Option.{SomeIff}
@@ -7,7 +7,6 @@ use Rattle.std.specs.Str.Parse.{AllDigits}
 use Rattle.std.specs.Char.{digit_value}
 use Rattle.std.proofs.lemmas.Bool.Decides.{nat_tests}
 use Rattle.std.proofs.lemmas.Fmt.{digits_decimal}
-use Rattle.std.proofs.lemmas.List.{take_all}
 use Rattle.std.proofs.lemmas.Str.Parse.{numerals_by_value, tells_digits}
 use Rattle.sled_base.specs.Order.{Bytes}
 use Rattle.sled_node.specs.declared.node.link.Link.TheVariants.{Set, Del, ParentMergeIntention, ParentMergeConfirm, ChildMergeCap}
@@ -17,11 +16,8 @@ use Rattle.sled_pagecache.specs.State.{Token, token, pid_of, stamp_of}
 use Rattle.sled_pagecache.specs.declared.pagecache.handles.call.Call.{Call}
 use Rattle.sled_pagecache.specs.declared.pagecache.handles.call.Call.TheVariants.{Allocate, Get, Link, Replace, Free, GetMeta, MetaPidForName, CasRoot, GetIdgen, GenerateId, Flush, SizeOnDisk, SpaceAmplification, TakeFuzzySnapshot, AttemptGc, Pin, Seal, Cancel}
 use Rattle.sledpc.specs.Asked.{AsksBehind, AreTwo, BeginsWithToken, EncodeLeaf, EncodeRoots, at_the_end}
-use Rattle.sledpc.specs.Commands.{Asks, IsRootNumber, IsToken, Encodes, EncodesOpen, IsCommand, IsOfScript, mark_word, root_word}
+use Rattle.sledpc.specs.Commands.{Asks, IsRootNumber, IsToken, Encodes, EncodesOpen, root_word}
 use Rattle.sledpc.specs.Cut.{HasNo}
-use Rattle.sledpc.specs.declared.script.command.Command.{Command}
-use Rattle.sledpc.specs.declared.script.command.Command.TheVariants as command
-use Rattle.sledpc.specs.declared.script.command.Mark.{Mark}
 use Rattle.sledpc.specs.Settings.{longest_line}
 use Rattle.sledpc.specs.Words.{AreBytes, ArePairs, EncodePairs, bytes_word, pair_word, after_name, HasNoSpace, BeginsLine}
 use Rattle.sledpc.proofs.Cut.{cut_once, no_mark}
@@ -59,7 +55,7 @@ begins_itself word [] plain = (plain, refl)
 begins_itself word (next ∷ words) plain = (plain, refl)
 
 -- the names differ in their first three bytes
-abbrev key_of_name : Bytes → ℕ
+abbrev pub key_of_name : Bytes → ℕ
 key_of_name name = get_or name 0 0 + 256 * get_or name 1 0 + 65536 * get_or name 2 0
 
 abbrev pub key_of : Call → ℕ
@@ -154,7 +150,7 @@ behind line word first more text rest is begins plain e = (in_front line word fi
 -- ---- a token
 
 -- a line is cut at its first space in one way
-begins_once : (line word other : Bytes) (rest more : Option Bytes) → BeginsLine line word rest → BeginsLine line other more → (word ≡ other) × (rest ≡ more)
+pub begins_once : (line word other : Bytes) (rest more : Option Bytes) → BeginsLine line word rest → BeginsLine line other more → (word ≡ other) × (rest ≡ more)
 begins_once line word other None None begins also = (sym begins.1 ∙ also.1, refl)
 begins_once line word other None (Some more) begins also = absurd (no_mark 32 word other more begins.0 (sym begins.1 ∙ also.1))
 begins_once line word other (Some rest) None begins also = absurd (no_mark 32 other word rest also.0 (sym also.1 ∙ begins.1))
@@ -351,43 +347,6 @@ no_dash root number is = by (subst (AllDigits 10) (sym is) (digits_decimal (nume
 pub roots_two : (text : Bytes) (old new : Option ℕ) → EncodeRoots text old new → AreTwo (Some text) (root_word old) (root_word new)
 roots_two text old new encode = record { plain_first = no_space_in_root old encode.numbers.0; joined = ap Some encode.joined }
 
--- ---- names without words
-
-pub id_asked : (text : Option Bytes) (call : Call) → AsksBehind (codes "id") text call → text ≡ None
-id_asked text GenerateId asked =
-    let e : asked.0 ≡ [] = cc (asked.1) in
-    asked.2 ∙ ap after_name e
-id_asked text (Link old ChildMergeCap) asked = absurd (asked.1)
-id_asked text call asked = let e : ◌≡◌ {A = ℕ} 25705 (key_of call) = asks_by_key (codes "id" ∷ asked.0) call (asked.1) in absurd (omega (arith, e))
-
-pub flush_asked : (text : Option Bytes) (call : Call) → AsksBehind (codes "flush") text call → text ≡ None
-flush_asked text Flush asked =
-    let e : asked.0 ≡ [] = cc (asked.1) in
-    asked.2 ∙ ap after_name e
-flush_asked text (Link old ChildMergeCap) asked = absurd (asked.1)
-flush_asked text call asked = let e : ◌≡◌ {A = ℕ} 7695462 (key_of call) = asks_by_key (codes "flush" ∷ asked.0) call (asked.1) in absurd (omega (arith, e))
-
-pub size_asked : (text : Option Bytes) (call : Call) → AsksBehind (codes "size") text call → text ≡ None
-size_asked text SizeOnDisk asked =
-    let e : asked.0 ≡ [] = cc (asked.1) in
-    asked.2 ∙ ap after_name e
-size_asked text (Link old ChildMergeCap) asked = absurd (asked.1)
-size_asked text call asked = let e : ◌≡◌ {A = ℕ} 8022387 (key_of call) = asks_by_key (codes "size" ∷ asked.0) call (asked.1) in absurd (omega (arith, e))
-
-pub amp_asked : (text : Option Bytes) (call : Call) → AsksBehind (codes "amp") text call → text ≡ None
-amp_asked text SpaceAmplification asked =
-    let e : asked.0 ≡ [] = cc (asked.1) in
-    asked.2 ∙ ap after_name e
-amp_asked text (Link old ChildMergeCap) asked = absurd (asked.1)
-amp_asked text call asked = let e : ◌≡◌ {A = ℕ} 7368033 (key_of call) = asks_by_key (codes "amp" ∷ asked.0) call (asked.1) in absurd (omega (arith, e))
-
-pub gc_asked : (text : Option Bytes) (call : Call) → AsksBehind (codes "gc") text call → text ≡ None
-gc_asked text AttemptGc asked =
-    let e : asked.0 ≡ [] = cc (asked.1) in
-    asked.2 ∙ ap after_name e
-gc_asked text (Link old ChildMergeCap) asked = absurd (asked.1)
-gc_asked text call asked = let e : ◌≡◌ {A = ℕ} 25447 (key_of call) = asks_by_key (codes "gc" ∷ asked.0) call (asked.1) in absurd (omega (arith, e))
-
 -- ---- a line by its name
 
 -- words that ask for a call begin with one of thirteen names
@@ -435,86 +394,65 @@ joined_line : (line name : Bytes) (text : Option Bytes) (words : List Bytes) →
 joined_line line name text [] begins e = (subst (BeginsLine line name) e begins).1
 joined_line line name text (word ∷ words) begins e = (subst (BeginsLine line name) e begins).1
 
--- so is one that encodes what a call is made of
-pub made_encoded : {A E : Type 0} (call_of : A → Call) (line name : Bytes) (text : Option Bytes) (result : Result (Option A) E) → length line ≤ longest_line → BeginsLine line name text → IfOk result (λ found. IfSome found (λ made. AsksBehind name text (call_of made)))
-    → IfOk result (λ found. IfSome found (λ made. Encodes line (call_of made)))
-made_encoded call_of line name text (Ok None) short begins some = tt
-made_encoded call_of line name text (Ok (Some made)) short begins some = (short, (name ∷ some.0, some.1, joined_line line name text some.0 begins some.2))
-made_encoded call_of line name text (Err error) short begins some = tt
+pub encodes_behind : (line name : Bytes) (text : Option Bytes) (call : Call) → length line ≤ longest_line → BeginsLine line name text → AsksBehind name text call → Encodes line call
+encodes_behind line name text call short begins (words, asks, e) = (short, (name ∷ words, asks, joined_line line name text words begins e))
 
--- the leaf that a text encodes is asked for behind `alloc`
-pub leaf_asked : {E : Type 0} (text : Option Bytes) (result : Result (Option WholeNode) E) → IfOk result (λ found. IfSome found (EncodeLeaf text)) → IfOk result (λ found. IfSome found (λ node. AsksBehind (codes "alloc") text (Allocate node)))
-leaf_asked text (Ok None) some = tt
-leaf_asked text (Ok (Some node)) some = (map pair_word some.0, (some.0, some.1, refl), some.2)
-leaf_asked text (Err error) some = tt
-
-pub some_encoded_if_ok : {E : Type 0} (line name : Bytes) (text : Option Bytes) (result : Result (Option Call) E) → length line ≤ longest_line → BeginsLine line name text → IfOk result (λ found. IfSome found (AsksBehind name text)) → IfOk result (λ found. IfSome found (Encodes line))
-some_encoded_if_ok line name text result short begins some = made_encoded (λ call. call) line name text result short begins some
-
--- a line that begins with four bytes, or with six, and the text behind them
-pub four_bytes : (line : Bytes) (a b c d : ℕ) → 4 ≤ length line → get_or line 0 0 ≡ a → get_or line 1 0 ≡ b → get_or line 2 0 ≡ c → get_or line 3 0 ≡ d → line ≡ a ∷ b ∷ c ∷ d ∷ take (length line - 4) (drop 4 line)
-four_bytes [] a b c d n p q r s = absurd (omega (arith, n))
-four_bytes (x0 ∷ []) a b c d n p q r s = absurd (omega (arith, n))
-four_bytes (x0 ∷ x1 ∷ []) a b c d n p q r s = absurd (omega (arith, n))
-four_bytes (x0 ∷ x1 ∷ x2 ∷ []) a b c d n p q r s = absurd (omega (arith, n))
-four_bytes (x0 ∷ x1 ∷ x2 ∷ x3 ∷ rest) a b c d n p q r s = let whole = take_all (length (x0 ∷ x1 ∷ x2 ∷ x3 ∷ rest) - 4) rest (omega arith) in cc
-
-pub six_bytes : (line : Bytes) (a b c d e f : ℕ) → 6 ≤ length line → get_or line 0 0 ≡ a → get_or line 1 0 ≡ b → get_or line 2 0 ≡ c → get_or line 3 0 ≡ d → get_or line 4 0 ≡ e → get_or line 5 0 ≡ f → line ≡ a ∷ b ∷ c ∷ d ∷ e ∷ f ∷ take (length line - 6) (drop 6 line)
+-- a word of six bytes, byte by byte
+pub six_bytes : (word : Bytes) (a b c d e f : ℕ) → length word ≡ 6 → get_or word 0 0 ≡ a → get_or word 1 0 ≡ b → get_or word 2 0 ≡ c → get_or word 3 0 ≡ d → get_or word 4 0 ≡ e → get_or word 5 0 ≡ f → word ≡ a ∷ b ∷ c ∷ d ∷ e ∷ f ∷ []
 six_bytes [] a b c d e f n p q r s t u = absurd (omega (arith, n))
 six_bytes (x0 ∷ []) a b c d e f n p q r s t u = absurd (omega (arith, n))
 six_bytes (x0 ∷ x1 ∷ []) a b c d e f n p q r s t u = absurd (omega (arith, n))
 six_bytes (x0 ∷ x1 ∷ x2 ∷ []) a b c d e f n p q r s t u = absurd (omega (arith, n))
 six_bytes (x0 ∷ x1 ∷ x2 ∷ x3 ∷ []) a b c d e f n p q r s t u = absurd (omega (arith, n))
 six_bytes (x0 ∷ x1 ∷ x2 ∷ x3 ∷ x4 ∷ []) a b c d e f n p q r s t u = absurd (omega (arith, n))
-six_bytes (x0 ∷ x1 ∷ x2 ∷ x3 ∷ x4 ∷ x5 ∷ rest) a b c d e f n p q r s t u = let whole = take_all (length (x0 ∷ x1 ∷ x2 ∷ x3 ∷ x4 ∷ x5 ∷ rest) - 6) rest (omega arith) in cc
+six_bytes (x0 ∷ x1 ∷ x2 ∷ x3 ∷ x4 ∷ x5 ∷ []) a b c d e f n p q r s t u = cc
+six_bytes (x0 ∷ x1 ∷ x2 ∷ x3 ∷ x4 ∷ x5 ∷ y ∷ more) a b c d e f n p q r s t u = absurd (omega (arith, n))
 
--- a word of seven bytes, byte by byte
-pub seven_bytes : (word : Bytes) (a b c d e f g : ℕ) → length word ≡ 7 → get_or word 0 0 ≡ a → get_or word 1 0 ≡ b → get_or word 2 0 ≡ c → get_or word 3 0 ≡ d → get_or word 4 0 ≡ e → get_or word 5 0 ≡ f → get_or word 6 0 ≡ g → word ≡ a ∷ b ∷ c ∷ d ∷ e ∷ f ∷ g ∷ []
-seven_bytes [] a b c d e f g n p q r s t u v = absurd (omega (arith, n))
-seven_bytes (x0 ∷ []) a b c d e f g n p q r s t u v = absurd (omega (arith, n))
-seven_bytes (x0 ∷ x1 ∷ []) a b c d e f g n p q r s t u v = absurd (omega (arith, n))
-seven_bytes (x0 ∷ x1 ∷ x2 ∷ []) a b c d e f g n p q r s t u v = absurd (omega (arith, n))
-seven_bytes (x0 ∷ x1 ∷ x2 ∷ x3 ∷ []) a b c d e f g n p q r s t u v = absurd (omega (arith, n))
-seven_bytes (x0 ∷ x1 ∷ x2 ∷ x3 ∷ x4 ∷ []) a b c d e f g n p q r s t u v = absurd (omega (arith, n))
-seven_bytes (x0 ∷ x1 ∷ x2 ∷ x3 ∷ x4 ∷ x5 ∷ []) a b c d e f g n p q r s t u v = absurd (omega (arith, n))
-seven_bytes (x0 ∷ x1 ∷ x2 ∷ x3 ∷ x4 ∷ x5 ∷ x6 ∷ []) a b c d e f g n p q r s t u v = cc
-seven_bytes (x0 ∷ x1 ∷ x2 ∷ x3 ∷ x4 ∷ x5 ∷ x6 ∷ y ∷ more) a b c d e f g n p q r s t u v = absurd (omega (arith, n))
+-- nothing stands behind a word that stands alone
+none_after : (words : List Bytes) → None ≡ after_name words → words ≡ []
+none_after [] e = refl
+none_after (word ∷ words) e = absurd cc
 
--- there are thirteen names
-pub no_name : (name : Bytes) (text : Option Bytes) (call : Call) → name ≢ codes "alloc" → name ≢ codes "get" → name ≢ codes "set" → name ≢ codes "del" → name ≢ codes "replace" → name ≢ codes "free" → name ≢ codes "root" → name ≢ codes "cas" → name ≢ codes "id" → name ≢ codes "flush" → name ≢ codes "size" → name ≢ codes "amp" → name ≢ codes "gc" → AsksBehind name text call → ⊥
-no_name name text (Allocate node) alloc get set del replace free root cas id flush size amp gc asked = alloc (cc (asked.1.2))
-no_name name text (Get pid) alloc get set del replace free root cas id flush size amp gc asked = get (cc (asked.1.1))
-no_name name text (Link old (Set key value)) alloc get set del replace free root cas id flush size amp gc asked = set (cc (asked.1.3))
-no_name name text (Link old (Del key)) alloc get set del replace free root cas id flush size amp gc asked = del (cc (asked.1.2))
-no_name name text (Replace old node) alloc get set del replace free root cas id flush size amp gc asked = replace (cc (asked.1.3))
-no_name name text (Free old) alloc get set del replace free root cas id flush size amp gc asked = free (cc (asked.1.1))
-no_name name text (MetaPidForName asked_name) alloc get set del replace free root cas id flush size amp gc asked = root (cc (asked.1.1))
-no_name name text (CasRoot asked_name old new) alloc get set del replace free root cas id flush size amp gc asked = cas (cc (asked.1.3))
-no_name name text GenerateId alloc get set del replace free root cas id flush size amp gc asked = id (cc (asked.1))
-no_name name text Flush alloc get set del replace free root cas id flush size amp gc asked = flush (cc (asked.1))
-no_name name text SizeOnDisk alloc get set del replace free root cas id flush size amp gc asked = size (cc (asked.1))
-no_name name text SpaceAmplification alloc get set del replace free root cas id flush size amp gc asked = amp (cc (asked.1))
-no_name name text AttemptGc alloc get set del replace free root cas id flush size amp gc asked = gc (cc (asked.1))
-no_name name text call alloc get set del replace free root cas id flush size amp gc asked = asked.1
+alone : (name words : Bytes) (others : List Bytes) (word : Bytes) → name ∷ others ≡ word ∷ [] → Some words ≡ after_name others → ⊥
+alone name words [] word e behind = absurd cc
+alone name words (other ∷ others) word e behind = absurd cc
 
--- what no call is asked for behind the name, no call is encoded for by the line
-pub none_encoded : (line name : Bytes) (text : Option Bytes) (found : Option Call) → BeginsLine line name text → IfNone found ((call : Call) → AsksBehind name text call → ⊥) → IfNone found ((call : Call) → Encodes line call → ⊥)
-none_encoded line name text None begins none = λ call encodes. none call (encoded_behind line name text call begins encodes)
-none_encoded line name text (Some call) begins none = tt
+-- there are eight names with words behind them
+pub no_words : (name words : Bytes) (call : Call) → name ≢ codes "alloc" → name ≢ codes "get" → name ≢ codes "set" → name ≢ codes "del" → name ≢ codes "replace" → name ≢ codes "free" → name ≢ codes "root" → name ≢ codes "cas" → ¬ AsksBehind name (Some words) call
+no_words name words (Allocate node) alloc get set del replace free root cas asked = alloc (cc (asked.1.2))
+no_words name words (Get pid) alloc get set del replace free root cas asked = get (cc (asked.1.1))
+no_words name words (Link old (Set key value)) alloc get set del replace free root cas asked = set (cc (asked.1.3))
+no_words name words (Link old (Del key)) alloc get set del replace free root cas asked = del (cc (asked.1.2))
+no_words name words (Replace old node) alloc get set del replace free root cas asked = replace (cc (asked.1.3))
+no_words name words (Free old) alloc get set del replace free root cas asked = free (cc (asked.1.1))
+no_words name words (MetaPidForName asked_name) alloc get set del replace free root cas asked = root (cc (asked.1.1))
+no_words name words (CasRoot asked_name old new) alloc get set del replace free root cas asked = cas (cc (asked.1.3))
+no_words name words GenerateId alloc get set del replace free root cas asked = alone name words asked.0 (codes "id") asked.1 asked.2
+no_words name words Flush alloc get set del replace free root cas asked = alone name words asked.0 (codes "flush") asked.1 asked.2
+no_words name words SizeOnDisk alloc get set del replace free root cas asked = alone name words asked.0 (codes "size") asked.1 asked.2
+no_words name words SpaceAmplification alloc get set del replace free root cas asked = alone name words asked.0 (codes "amp") asked.1 asked.2
+no_words name words AttemptGc alloc get set del replace free root cas asked = alone name words asked.0 (codes "gc") asked.1 asked.2
+no_words name words call alloc get set del replace free root cas asked = asked.1
 
-pub none_encoded_if_ok : {E : Type 0} (line name : Bytes) (text : Option Bytes) (result : Result (Option Call) E) → BeginsLine line name text → IfOk result (λ found. IfNone found ((call : Call) → AsksBehind name text call → ⊥)) → IfOk result (λ found. IfNone found ((call : Call) → Encodes line call → ⊥))
-none_encoded_if_ok line name text (Ok found) begins none = none_encoded line name text found begins none
-none_encoded_if_ok line name text (Err error) begins none = tt
-
--- a line asks for no call but one of the script
-pub of_script : (line : Bytes) (call : Call) → Encodes line call → IsOfScript call
-of_script line GetMeta encodes = absurd (encodes.1.1)
-of_script line GetIdgen encodes = absurd (encodes.1.1)
-of_script line TakeFuzzySnapshot encodes = absurd (encodes.1.1)
-of_script line Pin encodes = absurd (encodes.1.1)
-of_script line Seal encodes = absurd (encodes.1.1)
-of_script line Cancel encodes = absurd (encodes.1.1)
-of_script line call encodes = tt
+-- there are six that stand alone
+pub no_word : (name : Bytes) (call : Call) → name ≢ codes "alloc" → name ≢ codes "id" → name ≢ codes "flush" → name ≢ codes "size" → name ≢ codes "amp" → name ≢ codes "gc" → ¬ AsksBehind name None call
+no_word name call alloc id flush size amp gc (words, asks, e) = of call (subst (λ others. Asks (name ∷ others) call) (none_after words e) asks)
+  where
+    of : (call : Call) → ¬ Asks (name ∷ []) call
+    of (Allocate node) asks = alloc (cc (asks.2))
+    of (Get pid) asks = absurd (cc (asks.1))
+    of (Link old (Set key value)) asks = absurd (cc (asks.3))
+    of (Link old (Del key)) asks = absurd (cc (asks.2))
+    of (Replace old node) asks = absurd (cc (asks.3))
+    of (Free old) asks = absurd (cc (asks.1))
+    of (MetaPidForName asked_name) asks = absurd (cc (asks.1))
+    of (CasRoot asked_name old new) asks = absurd (cc (asks.3))
+    of GenerateId asks = id (cc asks)
+    of Flush asks = flush (cc asks)
+    of SizeOnDisk asks = size (cc asks)
+    of SpaceAmplification asks = amp (cc asks)
+    of AttemptGc asks = gc (cc asks)
+    of call asks = asks
 
 -- ---- a tree to be opened
 
@@ -524,24 +462,6 @@ open_behind line name text asked begins encodes =
     let plain : HasNoSpace (codes "open") = search rules in
     named line name (codes "open") text (bytes_word asked ∷ []) begins plain encodes.2
 
-pub some_open : {E : Type 0} (line name : Bytes) (text : Option Bytes) (result : Result (Option Bytes) E) → length line ≤ longest_line → BeginsLine line name text → name ≡ codes "open"
-    → IfOk result (λ found. IfSome found (λ asked. AreBytes asked × (text ≡ Some (bytes_word asked)))) → IfOk result (λ found. IfSome found (EncodesOpen line))
-some_open line name text (Ok None) short begins is some = tt
-some_open line name text (Ok (Some asked)) short begins is some = (short, some.0, joined_line line (codes "open") text (bytes_word asked ∷ []) (subst (λ word. BeginsLine line word text) is begins) some.1)
-some_open line name text (Err error) short begins is some = tt
-
-pub none_open : {E : Type 0} (line name : Bytes) (text : Option Bytes) (result : Result (Option Bytes) E) → BeginsLine line name text
-    → IfOk result (λ found. IfNone found ((asked : Bytes) → AreBytes asked → text ≢ Some (bytes_word asked))) → IfOk result (λ found. IfNone found ((asked : Bytes) → ¬ EncodesOpen line asked))
-none_open line name text (Ok None) begins none = λ asked encodes. none asked encodes.1 (open_behind line name text asked begins encodes).1
-none_open line name text (Ok (Some asked)) begins none = tt
-none_open line name text (Err error) begins none = tt
-
--- a line of another name opens no tree
-pub no_open : (line name : Bytes) (text : Option Bytes) → BeginsLine line name text → name ≢ codes "open" → (asked : Bytes) → ¬ EncodesOpen line asked
-no_open line name text begins other asked encodes = other (open_behind line name text asked begins encodes).0
-
--- a line that asks for no call, is that of no mark and opens no tree is no command
-pub no_command : (line : Bytes) → ((call : Call) → ¬ Encodes line call) → ((asked : Mark) → line ≢ mark_word asked) → ((asked : Bytes) → ¬ EncodesOpen line asked) → (asked : Command) → ¬ IsCommand line asked
-no_command line calls marks trees (command.Call call) encodes = calls call encodes
-no_command line calls marks trees (command.OpenTree asked) encodes = trees asked encodes
-no_command line calls marks trees (command.Mark asked) encodes = marks asked encodes
+-- its name and the word behind it are a line that opens it
+pub opens_behind : (line words asked : Bytes) → length line ≤ longest_line → BeginsLine line (codes "open") (Some words) → AreBytes asked → words ≡ bytes_word asked → EncodesOpen line asked
+opens_behind line words asked short begins are e = (short, are, joined_line line (codes "open") (Some words) (bytes_word asked ∷ []) begins (ap Some e))

@@ -13,5 +13,6 @@ pub mod Batches
 pub mod Encoded
 pub mod Commands
 pub mod Marks
+pub mod Replied
 pub mod Leaves
 pub mod Job

@@ -5,16 +5,14 @@ use Rattle.sled_node.specs.declared.node.link.Link.TheVariants.{ChildMergeCap}
 use Rattle.sled_pagecache.specs.declared.pagecache.handles.call.Call.{Call}
 use Rattle.sled_pagecache.specs.declared.pagecache.handles.call.Call.TheVariants.{Link}
 use Rattle.sledpc.specs.Asked.{AsksBehind}
-use Rattle.sledpc.specs.Commands.{IsCommand, MayAsk, MayMark, mark_word}
+use Rattle.sledpc.specs.Commands.{Command, ForCall, ForTree, ForMark, IsCommand, MayAsk, MayMark, mark_word}
 use Rattle.sledpc.specs.Words.{BeginsLine}
-use Rattle.sledpc.specs.declared.script.command.Command.{Command}
-use Rattle.sledpc.specs.declared.script.command.Command.TheVariants as command
 use Rattle.sledpc.specs.declared.script.command.Mark.{Mark}
 use Rattle.sledpc.specs.declared.script.command.Mark.TheVariants as mark
 use Rattle.sledpc.proofs.Commands.{asks_by_key, encoded_behind, key_of, open_behind}
 
 -- No call and no tree is asked for by the line of a mark
-mark_begins : (asked : Mark) → BeginsLine (mark_word asked) (mark_word asked) None
+pub mark_begins : (asked : Mark) → BeginsLine (mark_word asked) (mark_word asked) None
 mark_begins mark.Pin = (search rules, refl)
 mark_begins mark.Seal = (search rules, refl)
 mark_begins mark.Cancel = (search rules, refl)
@@ -53,6 +51,6 @@ same_mark mark.Cancel mark.Cancel e may = may
 
 -- so where no batch is open, nothing may be asked for by a line that would close one
 pub closes_none : (asked : Mark) → ¬ MayMark false asked → (other : Command) → IsCommand (mark_word asked) other → ¬ MayAsk false other
-closes_none asked not (command.Call call) encodes may = mark_asks_none asked call (encoded_behind (mark_word asked) (mark_word asked) None call (mark_begins asked) encodes)
-closes_none asked not (command.OpenTree name) encodes may = mark_opens_none asked (open_behind (mark_word asked) (mark_word asked) None name (mark_begins asked) encodes).0
-closes_none asked not (command.Mark other) encodes may = not (same_mark asked other encodes may)
+closes_none asked not (ForCall call) encodes may = mark_asks_none asked call (encoded_behind (mark_word asked) (mark_word asked) None call (mark_begins asked) encodes)
+closes_none asked not (ForTree name) encodes may = mark_opens_none asked (open_behind (mark_word asked) (mark_word asked) None name (mark_begins asked) encodes).0
+closes_none asked not (ForMark other) encodes may = not (same_mark asked other encodes may)

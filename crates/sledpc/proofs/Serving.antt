@@ -6,9 +6,7 @@ use Rattle.sled_log.specs.declared.log.Log.{Ghosts}
 use Rattle.sled_pagecache.specs.Cache.{Cache}
 use Rattle.sled_pagecache.specs.Trees.{IsKnown}
 use Rattle.sled_pagecache.specs.Inside.SequenceLaws.{OnlyNow}
-use Rattle.sledpc.specs.Commands.{IsCommand, mark_word}
-use Rattle.sledpc.specs.declared.script.command.Command.{Command}
-use Rattle.sledpc.specs.declared.script.command.Command.TheVariants as command
+use Rattle.sledpc.specs.Commands.{Command, ForCall, ForTree, ForMark, IsCommand, mark_word}
 use Rattle.sledpc.specs.declared.script.command.Mark.{Mark}
 use Rattle.sledpc.specs.declared.script.command.Mark.TheVariants as mark
 use Rattle.sledpc.specs.Lines.{lines_of, ReadsLine, IsUnreadLine}
@@ -33,9 +31,9 @@ short_mark line mark.Seal is = omega (arith, ap length is)
 short_mark line mark.Cancel is = omega (arith, ap length is)
 
 short_command : (line : Bytes) (asked : Command) → IsCommand line asked → length line ≤ longest_line
-short_command line (command.Call call) encodes = encodes.0
-short_command line (command.OpenTree name) encodes = encodes.0
-short_command line (command.Mark asked) is = short_mark line asked is
+short_command line (ForCall call) encodes = encodes.0
+short_command line (ForTree name) encodes = encodes.0
+short_command line (ForMark asked) is = short_mark line asked is
 
 -- a reply that was gathered stands where the writing of all that waits fails behind it
 stands : (mid last new : Option Bytes) (before then text : Bytes) → Gathered mid last before then text → AppendsPrefix last new (then ++ []) → AppendsPrefix mid new (before ++ text)

@@ -10,8 +10,6 @@ use Rattle.sled_pagecache.specs.State.{Token, pid_of, stamp_of}
 use Rattle.sled_pagecache.specs.declared.pagecache.handles.call.Call.{Call}
 use Rattle.sled_pagecache.specs.declared.pagecache.handles.call.Call.TheVariants.{Allocate, Get, Link, Replace, Free, GetMeta, MetaPidForName, CasRoot, GetIdgen, GenerateId, Flush, SizeOnDisk, SpaceAmplification, TakeFuzzySnapshot, AttemptGc, Pin, Seal, Cancel}
 use Rattle.sledpc.specs.Words.{bytes_word, pair_word, AreBytes, ArePairs}
-use Rattle.sledpc.specs.declared.script.command.Command.{Command}
-use Rattle.sledpc.specs.declared.script.command.Command.TheVariants as command
 use Rattle.sledpc.specs.declared.script.command.Mark.{Mark}
 use Rattle.sledpc.specs.declared.script.command.Mark.TheVariants as mark
 use Rattle.sledpc.specs.Settings.{longest_line}
@@ -64,16 +62,6 @@ Asks words TakeFuzzySnapshot = ⊥
 abbrev pub Encodes : Bytes → Call → Type 0
 Encodes line call = (length line ≤ longest_line) × ((words : List Bytes) × Asks words call × (line ≡ join_with_byte 32 words))
 
--- a call that some line may ask for
-abbrev pub IsOfScript : Call → Type 0
-IsOfScript GetMeta = ⊥
-IsOfScript GetIdgen = ⊥
-IsOfScript TakeFuzzySnapshot = ⊥
-IsOfScript Pin = ⊥
-IsOfScript Seal = ⊥
-IsOfScript Cancel = ⊥
-IsOfScript call = ⊤
-
 -- the line asks for the tree of this name
 abbrev pub EncodesOpen : Bytes → Bytes → Type 0
 EncodesOpen line name = (length line ≤ longest_line) × AreBytes name × (line ≡ join_with_byte 32 (codes "open" ∷ bytes_word name ∷ []))
@@ -84,11 +72,17 @@ mark_word mark.Pin = codes "pin"
 mark_word mark.Seal = codes "seal"
 mark_word mark.Cancel = codes "cancel"
 
+-- what a line asks for: a call of the cache; the tree of this name, which several calls open; or a mark of a batch
+pub data Command : Type 0 where
+  ForCall : Call → Command
+  ForTree : Bytes → Command
+  ForMark : Mark → Command
+
 -- the line is this command
 abbrev pub IsCommand : Bytes → Command → Type 0
-IsCommand line (command.Call call) = Encodes line call
-IsCommand line (command.OpenTree name) = EncodesOpen line name
-IsCommand line (command.Mark mark) = line ≡ mark_word mark
+IsCommand line (ForCall call) = Encodes line call
+IsCommand line (ForTree name) = EncodesOpen line name
+IsCommand line (ForMark mark) = line ≡ mark_word mark
 
 -- A batch that isn't open can't be closed.
 abbrev pub MayMark : Bool → Mark → Type 0
@@ -98,5 +92,5 @@ MayMark is_open mark.Cancel = is_open ≡ true
 
 -- the command may be asked for, where a batch is open or isn't
 abbrev pub MayAsk : Bool → Command → Type 0
-MayAsk is_open (command.Mark mark) = MayMark is_open mark
+MayAsk is_open (ForMark mark) = MayMark is_open mark
 MayAsk is_open asked = ⊤

@@ -11,13 +11,12 @@ use Rattle.sled_pagecache.specs.declared.pagecache.handles.call.Answer.{Answer}
 use Rattle.sled_pagecache.specs.declared.pagecache.handles.call.Answer.TheVariants.{Pinned, Sealed, Cancelled}
 use Rattle.sled_pagecache.specs.declared.pagecache.handles.call.Call.{Call}
 use Rattle.sled_pagecache.specs.declared.pagecache.handles.call.Call.TheVariants.{Pin, Seal, Cancel}
-use Rattle.sledpc.specs.Commands.{Encodes, EncodesOpen, IsCommand, MayAsk, MayMark, mark_word}
+use Rattle.sledpc.specs.Commands.{Command, Encodes, EncodesOpen, IsCommand, MayAsk, MayMark, mark_word}
 use Rattle.sledpc.specs.Lines.{lines_of}
 use Rattle.sledpc.specs.Output.{AppendsPrefix}
 use Rattle.sledpc.specs.Replies.{reply_of, reply_of_mark, reply_of_tree}
 use Rattle.sledpc.specs.declared.lines.ReadError.{ReadError}
 use Rattle.sledpc.specs.declared.lines.ReadError.TheVariants as unread
-use Rattle.sledpc.specs.declared.script.command.Command.{Command}
 use Rattle.sledpc.specs.declared.script.command.Mark.{Mark}
 use Rattle.sledpc.specs.declared.script.command.Mark.TheVariants as mark
 use Rattle.sledpc.specs.declared.script.run.RunError.{RunError}

@@ -1,11 +1,11 @@
--- What serving one call, one opening of a tree, one line, and several lines does.
-use Rattle.std.specs.Prelude.{Bool, true, false, ℕ, ◌≡◌, ◌⊎◌, List, [], ◌∷◌, ◌++◌, Option, None, Some, Result, Ok, Err, ⊤}
+-- What serving one call, one line, and several lines does.
+use Rattle.std.specs.Prelude.{Bool, true, false, ◌≡◌, ◌≤◌, ◌⊎◌, List, [], ◌∷◌, ◌++◌, length, Option, None, Some, Result, Ok, Err, ⊤}
 use Rattle.sled_base.specs.Order.{Bytes}
 use Rattle.sled_base.specs.declared.types.Error.{Error}
 use Rattle.sled_log.specs.declared.log.Log.{Ghosts}
 use Rattle.sled_pagecache.specs.Cache.{Cache}
 use Rattle.sled_pagecache.specs.Rows.{IsMade, AreMade, StepInRow}
-use Rattle.sled_pagecache.specs.Trees.{IsKnown, IsTreeOpened}
+use Rattle.sled_pagecache.specs.Trees.{IsKnown}
 use Rattle.sled_pagecache.specs.declared.pagecache.handles.call.Answer.{Answer}
 use Rattle.sled_pagecache.specs.declared.pagecache.handles.call.Answer.TheVariants.{Pinned, Cancelled}
 use Rattle.sled_pagecache.specs.declared.pagecache.handles.call.Call.{Call}
@@ -13,8 +13,10 @@ use Rattle.sled_pagecache.specs.declared.pagecache.handles.call.Call.TheVariants
 use Rattle.sledpc.specs.Commands.{mark_word}
 use Rattle.sledpc.specs.Lines.{lines_of}
 use Rattle.sledpc.specs.Output.{AppendsPrefix, Gathered, Gathers}
-use Rattle.sledpc.specs.Replies.{reply_of, reply_of_tree}
+use Rattle.sledpc.specs.Replies.{reply_of}
 use Rattle.sledpc.specs.Runs.{Served, Nothing, Made, Opened, Marked, AsksFor, AskFor, Answers, call_of_mark, calls_of, is_open_after, is_open_behind, reply_to, text_of}
+use Rattle.sledpc.specs.Settings.{longest_line}
+use Rattle.sledpc.specs.Words.{BeginsLine}
 use Rattle.sledpc.specs.declared.script.command.Mark.{Mark}
 use Rattle.sledpc.specs.declared.script.command.Mark.TheVariants as mark
 use Rattle.sledpc.specs.declared.script.run.RunError.{RunError}
@@ -47,6 +49,11 @@ Turns is_open mark.Pin = is_open ≡ false
 Turns is_open mark.Seal = is_open ≡ true
 Turns is_open mark.Cancel = is_open ≡ true
 
+-- what a line comes to whose reply was put, or not written
+abbrev pub answered : {E : Type 0} → Result Unit E → Result (Option Mark) RunError
+answered (Ok done) = Ok None
+answered (Err e) = Err Write
+
 module _ {L : Type 0} (g : Ghosts L) where
   -- the call is made, and the reply to its answer is put as a line behind what waits
   pub record RepliesTo {E : Type 0} (cache : Cache L) (call : Call) (old new : Option Bytes) (before waits : Bytes) (result : Result Unit E) (after : Cache L) : Type 0 where
@@ -54,13 +61,6 @@ module _ {L : Type 0} (g : Ghosts L) where
     pub made : IsMade g cache call answer after
     pub batch : after.batch ≡ cache.batch
     pub written : Gathers old new before waits result (reply_of answer ++ 10 ∷ [])
-
-  -- the tree is opened, and the reply to that is put as a line behind what waits
-  pub record RepliesToOpen {E : Type 0} (cache : Cache L) (name : Bytes) (old new : Option Bytes) (before waits : Bytes) (result : Result Unit E) (after : Cache L) : Type 0 where
-    pub root : Result ℕ Error
-    pub opened : IsTreeOpened g cache name root after
-    pub batch : after.batch ≡ cache.batch
-    pub written : Gathers old new before waits result (reply_of_tree root ++ 10 ∷ [])
 
   -- the calls are made, and without one the cache is left
   abbrev pub Goes : Cache L → Served → Cache L → Type 0
@@ -83,6 +83,10 @@ module _ {L : Type 0} (g : Ghosts L) where
   RepliesLine cache line old new before waits (Err Write) after = (one : Served) × IsServed cache line one after × AppendsPrefix old new (before ++ (reply_to one ++ 10 ∷ []))
   RepliesLine cache line old new before waits (Err Memory) after = (after ≡ cache) × Gathered old new before waits []
   RepliesLine cache line old new before waits (Err Read) after = ⊥
+
+  -- so is a line of this name and the text behind it
+  abbrev pub RepliesBehind : Cache L → Bytes → Option Bytes → Option Bytes → Option Bytes → Bytes → Bytes → Result (Option Mark) RunError → Cache L → Type 0
+  RepliesBehind cache name text old new before waits result after = (line : Bytes) → length line ≤ longest_line → BeginsLine line name text → RepliesLine cache line old new before waits result after
 
   -- Some first lines of the input were answered, by calls that are steps in a row, and just their replies were gathered.
   pub record HasServed (cache : Cache L) (input rest old new : Option Bytes) (before waits : Bytes) (after : Cache L) : Type 0 where

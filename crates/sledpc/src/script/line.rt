@@ -1,27 +1,29 @@
 //! One line of the script, and the reply to it.
 
-ghost use Rattle.std.specs.Prelude.{◌≡◌, ◌≤◌, length};
-ghost use Rattle.sledpc.specs.Commands.{Encodes, IsOfScript, mark_word};
-ghost use Rattle.sledpc.specs.Served.{RepliesTo, RepliesToOpen, RepliesLine};
+ghost use Rattle.std.specs.Prelude.{◌≡◌, ◌++◌, ◌∷◌, [], ◌≤◌, None, Some, codes, length};
+ghost use Rattle.std.specs.Option.{option_map};
+ghost use Rattle.sledpc.specs.Commands.{mark_word};
+ghost use Rattle.sledpc.specs.Output.{Gathers};
+ghost use Rattle.sledpc.specs.Served.{RepliesTo, RepliesLine, RepliesBehind, answered};
 ghost use Rattle.sledpc.specs.Settings.{longest_line};
-ghost use Rattle.sled_pagecache.specs.declared.pagecache.handles.call.Call.{Call};
+ghost use Rattle.sledpc.specs.Words.{HasNoSpace};
 ghost use Rattle.sled_pagecache.specs.declared.pagecache.handles.call.Call.TheVariants as calls;
 
 use super::batch::pin_again;
 use super::command::{
-    Mark, call_of, leaf_to_add, link_to_make, mark_of, page_to_get, tree_to_open,
+    Mark, cas_behind, del_behind, free_behind, leaf_behind, replace_behind, set_behind,
 };
 use super::reply::{LentAnswer, gather_line, gather_mark, gather_tree};
 use super::run::RunError;
+use super::words::{bytes_of, first_word, number_of};
 use crate::output::{Unwritten, gather_text};
 use crate::piece::Piece;
-use sled_pagecache::{Call, IVec, Link, Log, Node, PageCache, PageId, PageView, open_tree};
+use sled_pagecache::{Link, Log, PageCache, PageView, open_tree};
 use std::alloc::Global;
 use std::io::Write;
 
 /// Serves one line: its reply is put as a line behind those that were gathered. One that opens a batch where none is open, or closes the
-/// one that is, is left, and its mark is answered. The lines that most scripts have most of are read without a call around what they
-/// ask for, which would be room to clear and to copy.
+/// one that is, is left, and its mark is answered.
 pub fn serve_line<L: Log, W: Write>(
     alloc: Global,
     cache: &mut PageCache<L>,
@@ -34,105 +36,82 @@ pub fn serve_line<L: Log, W: Write>(
         (W.contents writer.new) piece.old piece.new result cache.new }
     ensures batch { cache.new.batch ≡ cache.old.batch }
 {
-    if let Some(pid) = page_to_get(line) {
-        serve_get(cache, pid, writer, piece)?;
-        return Ok(None);
-    }
-    serve_change(alloc, cache, line, writer, piece)
-}
-
-// Serves one line that gets no page.
-fn serve_change<L: Log, W: Write>(
-    alloc: Global,
-    cache: &mut PageCache<L>,
-    line: &[u8],
-    writer: &mut W,
-    piece: &mut Piece,
-) -> Result<Option<Mark>, RunError>
-    requires { length line.now ≤ longest_line }
-    ensures replies { RepliesLine L.Log cache.old line.now (W.contents writer.old)
-        (W.contents writer.new) piece.old piece.new result cache.new }
-    ensures batch { cache.new.batch ≡ cache.old.batch }
-{
-    match link_to_make(alloc, line) {
-        Ok(Some((old, link))) => {
-            serve_link(cache, old, link, writer, piece)?;
-            Ok(None)
-        }
-        Ok(None) => serve_new(alloc, cache, line, writer, piece),
-        Err(_) => Err(RunError::Memory),
+    match first_word(line) {
+        (name, None) => serve_word(alloc, cache, name, writer, piece),
+        (name, Some(words)) => serve_words(alloc, cache, name, words, writer, piece),
     }
 }
 
-// Serves one line that gets no page, and makes no link.
-fn serve_new<L: Log, W: Write>(
+// Serves a line of one word. Each call is made in a function of its own: a function clears at its start what all of its branches need.
+fn serve_word<L: Log, W: Write>(
     alloc: Global,
     cache: &mut PageCache<L>,
-    line: &[u8],
+    word: &[u8],
     writer: &mut W,
     piece: &mut Piece,
 ) -> Result<Option<Mark>, RunError>
-    requires { length line.now ≤ longest_line }
-    ensures replies { RepliesLine L.Log cache.old line.now (W.contents writer.old)
+    requires { HasNoSpace word.now }
+    ensures replies { RepliesLine L.Log cache.old word.now (W.contents writer.old)
         (W.contents writer.new) piece.old piece.new result cache.new }
     ensures batch { cache.new.batch ≡ cache.old.batch }
 {
-    match leaf_to_add(alloc, line) {
-        Ok(Some(node)) => {
-            serve_allocate(cache, node, writer, piece)?;
-            Ok(None)
-        }
-        Ok(None) => serve_other(alloc, cache, line, writer, piece),
-        Err(_) => Err(RunError::Memory),
+    match word {
+        b"id" => answered(serve_id(cache, writer, piece)),
+        b"pin" => serve_mark(cache, Mark::Pin, writer, piece),
+        b"seal" => serve_mark(cache, Mark::Seal, writer, piece),
+        b"alloc" => serve_alloc(alloc, cache, None, writer, piece),
+        b"flush" => answered(serve_flush(cache, writer, piece)),
+        b"gc" => answered(serve_gc(cache, writer, piece)),
+        b"amp" => answered(serve_amp(cache, writer, piece)),
+        b"size" => answered(serve_size(cache, writer, piece)),
+        b"cancel" => serve_mark(cache, Mark::Cancel, writer, piece),
+        _ => answered(refuse(writer, piece)),
     }
 }
 
-// Serves one line that asks for another call, or for none. A call is served as it was read, since a command that holds it would be one more copy of all
-// that it holds.
-fn serve_other<L: Log, W: Write>(
+// Serves a line of a name and words behind it.
+fn serve_words<L: Log, W: Write>(
     alloc: Global,
     cache: &mut PageCache<L>,
-    line: &[u8],
+    name: &[u8],
+    words: &[u8],
     writer: &mut W,
     piece: &mut Piece,
 ) -> Result<Option<Mark>, RunError>
-    requires { length line.now ≤ longest_line }
-    ensures replies { RepliesLine L.Log cache.old line.now (W.contents writer.old)
-        (W.contents writer.new) piece.old piece.new result cache.new }
+    ensures replies { RepliesBehind L.Log cache.old name.now (Some words.now)
+        (W.contents writer.old) (W.contents writer.new) piece.old piece.new result cache.new }
     ensures batch { cache.new.batch ≡ cache.old.batch }
 {
-    match call_of(alloc, line) {
-        Ok(Some(call)) => {
-            serve_call(cache, call, writer, piece)?;
-            Ok(None)
-        }
-        Ok(None) => serve_uncalled(alloc, cache, line, writer, piece),
-        Err(_) => Err(RunError::Memory),
+    match name {
+        b"get" => serve_get(cache, words, writer, piece),
+        b"set" => serve_set(alloc, cache, words, writer, piece),
+        b"del" => serve_del(alloc, cache, words, writer, piece),
+        b"alloc" => serve_alloc(alloc, cache, Some(words), writer, piece),
+        b"free" => serve_free(cache, words, writer, piece),
+        b"cas" => serve_cas(alloc, cache, words, writer, piece),
+        b"root" => serve_root(alloc, cache, words, writer, piece),
+        b"open" => serve_open(alloc, cache, words, writer, piece),
+        b"replace" => serve_replace(alloc, cache, words, writer, piece),
+        _ => answered(refuse(writer, piece)),
     }
 }
 
-// Serves one line that asks for no call: that of a mark, one that opens a tree, or no command.
-fn serve_uncalled<L: Log, W: Write>(
-    alloc: Global,
-    cache: &mut PageCache<L>,
-    line: &[u8],
-    writer: &mut W,
-    piece: &mut Piece,
-) -> Result<Option<Mark>, RunError>
-    requires short { length line.now ≤ longest_line }
-    requires uncalled { (call : Call) → ¬ Encodes line.now call }
-    ensures replies { RepliesLine L.Log cache.old line.now (W.contents writer.old)
-        (W.contents writer.new) piece.old piece.new result cache.new }
-    ensures batch { cache.new.batch ≡ cache.old.batch }
+// What a line comes to whose reply was put, or not written.
+fn answered(reply: Result<(), Unwritten>) -> Result<Option<Mark>, RunError>
+    ensures { result ≡ answered reply }
 {
-    if let Some(mark) = mark_of(line) {
-        return serve_mark(cache, mark, writer, piece);
+    match reply {
+        Ok(()) => Ok(None),
+        Err(_) => Err(RunError::Write),
     }
-    match tree_to_open(alloc, line)? {
-        Some(name) => serve_open(cache, name, writer, piece)?,
-        None => gather_text(writer, piece, b"error line\n")?,
-    }
-    Ok(None)
+}
+
+// Replies to a line that asks for nothing that it may ask for.
+fn refuse<W: Write>(writer: &mut W, piece: &mut Piece) -> Result<(), Unwritten>
+    ensures { Gathers (W.contents writer.old) (W.contents writer.new) piece.old piece.new result
+        (codes "error line" ++ 10 ∷ []) }
+{
+    gather_text(writer, piece, b"error line\n")
 }
 
 // Serves the line of a mark.
@@ -150,85 +129,191 @@ fn serve_mark<L: Log, W: Write>(
         (Mark::Pin, false) | (Mark::Seal | Mark::Cancel, true) => Ok(Some(mark)),
         (Mark::Pin, true) => {
             let refused = pin_again(cache);
-            gather_mark(writer, piece, &refused)?;
-            Ok(None)
+            answered(gather_mark(writer, piece, &refused))
         }
-        (Mark::Seal | Mark::Cancel, false) => {
-            gather_text(writer, piece, b"error line\n")?;
-            Ok(None)
-        }
+        (Mark::Seal | Mark::Cancel, false) => answered(refuse(writer, piece)),
     }
 }
 
-// Opens a tree, and puts the reply to that as a line behind those that were gathered.
-fn serve_open<L: Log, W: Write>(
-    cache: &mut PageCache<L>,
-    name: IVec,
-    writer: &mut W,
-    piece: &mut Piece,
-) -> Result<(), Unwritten>
-    ensures { RepliesToOpen L.Log cache.old name (W.contents writer.old) (W.contents writer.new)
-        piece.old piece.new result cache.new }
-{
-    let root = open_tree(cache, name);
-    gather_tree(writer, piece, &root)
-}
-
-// Makes a call, and puts the reply to its answer as a line behind those that were gathered. Each call is made in a function of
-// its own: a function clears at its start what all of its branches need.
-fn serve_call<L: Log, W: Write>(
-    cache: &mut PageCache<L>,
-    call: Call,
-    writer: &mut W,
-    piece: &mut Piece,
-) -> Result<(), Unwritten>
-    requires { IsOfScript call }
-    ensures { RepliesTo L.Log cache.old call (W.contents writer.old) (W.contents writer.new)
-        piece.old piece.new result cache.new }
-{
-    match call {
-        Call::Allocate(node) => serve_allocate(cache, node, writer, piece),
-        Call::Get(pid) => serve_get(cache, pid, writer, piece),
-        Call::Link(old, link) => serve_link(cache, old, link, writer, piece),
-        Call::Replace(old, node) => serve_replace(cache, old, node, writer, piece),
-        Call::Free(old) => serve_free(cache, old, writer, piece),
-        Call::GetMeta | Call::GetIdgen | Call::TakeFuzzySnapshot => unreachable!(),
-        Call::Pin | Call::Seal | Call::Cancel => unreachable!(),
-        Call::MetaPidForName(name) => serve_root(cache, name, writer, piece),
-        Call::CasRoot(name, old, new) => serve_cas(cache, name, old, new, writer, piece),
-        Call::GenerateId => serve_id(cache, writer, piece),
-        Call::Flush => serve_flush(cache, writer, piece),
-        Call::SizeOnDisk => serve_size(cache, writer, piece),
-        Call::SpaceAmplification => serve_amp(cache, writer, piece),
-        Call::AttemptGc => serve_gc(cache, writer, piece),
-    }
-}
-
-fn serve_allocate<L: Log, W: Write>(
-    cache: &mut PageCache<L>,
-    node: Node,
-    writer: &mut W,
-    piece: &mut Piece,
-) -> Result<(), Unwritten>
-    ensures { RepliesTo L.Log cache.old (calls.Allocate node) (W.contents writer.old)
-        (W.contents writer.new) piece.old piece.new result cache.new }
-{
-    let answer = cache.allocate(node);
-    gather_line(writer, piece, LentAnswer::Allocated(&answer))
-}
-
+// `get ID`
 fn serve_get<L: Log, W: Write>(
     cache: &mut PageCache<L>,
-    pid: PageId,
+    word: &[u8],
     writer: &mut W,
     piece: &mut Piece,
-) -> Result<(), Unwritten>
-    ensures { RepliesTo L.Log cache.old (calls.Get pid) (W.contents writer.old)
-        (W.contents writer.new) piece.old piece.new result cache.new }
+) -> Result<Option<Mark>, RunError>
+    ensures replies { RepliesBehind L.Log cache.old (codes "get") (Some word.now)
+        (W.contents writer.old) (W.contents writer.new) piece.old piece.new result cache.new }
+    ensures batch { cache.new.batch ≡ cache.old.batch }
 {
-    gather_line(writer, piece, LentAnswer::Got(cache.get(pid)))
+    match number_of(word) {
+        Some(pid) => answered(gather_line(writer, piece, LentAnswer::Got(cache.get(pid)))),
+        None => answered(refuse(writer, piece)),
+    }
 }
 
+// `set ID STAMP KEY VALUE`
+fn serve_set<L: Log, W: Write>(
+    alloc: Global,
+    cache: &mut PageCache<L>,
+    words: &[u8],
+    writer: &mut W,
+    piece: &mut Piece,
+) -> Result<Option<Mark>, RunError>
+    ensures replies { RepliesBehind L.Log cache.old (codes "set") (Some words.now)
+        (W.contents writer.old) (W.contents writer.new) piece.old piece.new result cache.new }
+    ensures batch { cache.new.batch ≡ cache.old.batch }
+{
+    match set_behind(alloc, words)? {
+        Some((old, link)) => answered(serve_link(cache, old, link, writer, piece)),
+        None => answered(refuse(writer, piece)),
+    }
+}
+
+// `del ID STAMP KEY`
+fn serve_del<L: Log, W: Write>(
+    alloc: Global,
+    cache: &mut PageCache<L>,
+    words: &[u8],
+    writer: &mut W,
+    piece: &mut Piece,
+) -> Result<Option<Mark>, RunError>
+    ensures replies { RepliesBehind L.Log cache.old (codes "del") (Some words.now)
+        (W.contents writer.old) (W.contents writer.new) piece.old piece.new result cache.new }
+    ensures batch { cache.new.batch ≡ cache.old.batch }
+{
+    match del_behind(alloc, words)? {
+        Some((old, link)) => answered(serve_link(cache, old, link, writer, piece)),
+        None => answered(refuse(writer, piece)),
+    }
+}
+
+// `alloc PAIRS`, or `alloc`
+fn serve_alloc<L: Log, W: Write>(
+    alloc: Global,
+    cache: &mut PageCache<L>,
+    pairs: Option<&[u8]>,
+    writer: &mut W,
+    piece: &mut Piece,
+) -> Result<Option<Mark>, RunError>
+    ensures replies { RepliesBehind L.Log cache.old (codes "alloc") (option_map (λ rest. rest.now) pairs.entry)
+        (W.contents writer.old) (W.contents writer.new) piece.old piece.new result cache.new }
+    ensures batch { cache.new.batch ≡ cache.old.batch }
+{
+    match leaf_behind(alloc, pairs)? {
+        Some(node) => {
+            let answer = cache.allocate(node);
+            answered(gather_line(writer, piece, LentAnswer::Allocated(&answer)))
+        }
+        None => answered(refuse(writer, piece)),
+    }
+}
+
+// `replace ID STAMP PAIRS`
+fn serve_replace<L: Log, W: Write>(
+    alloc: Global,
+    cache: &mut PageCache<L>,
+    words: &[u8],
+    writer: &mut W,
+    piece: &mut Piece,
+) -> Result<Option<Mark>, RunError>
+    ensures replies { RepliesBehind L.Log cache.old (codes "replace") (Some words.now)
+        (W.contents writer.old) (W.contents writer.new) piece.old piece.new result cache.new }
+    ensures batch { cache.new.batch ≡ cache.old.batch }
+{
+    match replace_behind(alloc, words)? {
+        Some((old, node)) => {
+            let answer = cache.replace(old.pid(), old, node);
+            answered(gather_line(writer, piece, LentAnswer::Replaced(&answer)))
+        }
+        None => answered(refuse(writer, piece)),
+    }
+}
+
+// `free ID STAMP`
+fn serve_free<L: Log, W: Write>(
+    cache: &mut PageCache<L>,
+    words: &[u8],
+    writer: &mut W,
+    piece: &mut Piece,
+) -> Result<Option<Mark>, RunError>
+    ensures replies { RepliesBehind L.Log cache.old (codes "free") (Some words.now)
+        (W.contents writer.old) (W.contents writer.new) piece.old piece.new result cache.new }
+    ensures batch { cache.new.batch ≡ cache.old.batch }
+{
+    match free_behind(words) {
+        Some(old) => {
+            let answer = cache.free(old.pid(), old);
+            answered(gather_line(writer, piece, LentAnswer::Freed(&answer)))
+        }
+        None => answered(refuse(writer, piece)),
+    }
+}
+
+// `root NAME`
+fn serve_root<L: Log, W: Write>(
+    alloc: Global,
+    cache: &mut PageCache<L>,
+    word: &[u8],
+    writer: &mut W,
+    piece: &mut Piece,
+) -> Result<Option<Mark>, RunError>
+    ensures replies { RepliesBehind L.Log cache.old (codes "root") (Some word.now)
+        (W.contents writer.old) (W.contents writer.new) piece.old piece.new result cache.new }
+    ensures batch { cache.new.batch ≡ cache.old.batch }
+{
+    match bytes_of(alloc, word)? {
+        Some(name) => {
+            let answer = cache.meta_pid_for_name(name.as_slice());
+            answered(gather_line(writer, piece, LentAnswer::FoundRoot(&answer)))
+        }
+        None => answered(refuse(writer, piece)),
+    }
+}
+
+// `cas NAME OLD NEW`
+fn serve_cas<L: Log, W: Write>(
+    alloc: Global,
+    cache: &mut PageCache<L>,
+    words: &[u8],
+    writer: &mut W,
+    piece: &mut Piece,
+) -> Result<Option<Mark>, RunError>
+    ensures replies { RepliesBehind L.Log cache.old (codes "cas") (Some words.now)
+        (W.contents writer.old) (W.contents writer.new) piece.old piece.new result cache.new }
+    ensures batch { cache.new.batch ≡ cache.old.batch }
+{
+    match cas_behind(alloc, words)? {
+        Some((name, old, new)) => {
+            let answer = cache.cas_root_in_meta(name.as_slice(), old, new);
+            answered(gather_line(writer, piece, LentAnswer::RootSwapped(&answer)))
+        }
+        None => answered(refuse(writer, piece)),
+    }
+}
+
+// `open NAME`: several calls
+fn serve_open<L: Log, W: Write>(
+    alloc: Global,
+    cache: &mut PageCache<L>,
+    word: &[u8],
+    writer: &mut W,
+    piece: &mut Piece,
+) -> Result<Option<Mark>, RunError>
+    ensures replies { RepliesBehind L.Log cache.old (codes "open") (Some word.now)
+        (W.contents writer.old) (W.contents writer.new) piece.old piece.new result cache.new }
+    ensures batch { cache.new.batch ≡ cache.old.batch }
+{
+    match bytes_of(alloc, word)? {
+        Some(name) => {
+            let root = open_tree(cache, name);
+            answered(gather_tree(writer, piece, &root))
+        }
+        None => answered(refuse(writer, piece)),
+    }
+}
+
+// Makes the call of a link, and puts the reply to its answer as a line behind those that were gathered.
 fn serve_link<L: Log, W: Write>(
     cache: &mut PageCache<L>,
     old: PageView,
@@ -241,61 +326,6 @@ fn serve_link<L: Log, W: Write>(
 {
     let answer = cache.link(old.pid(), old, link);
     gather_line(writer, piece, LentAnswer::Linked(&answer))
-}
-
-fn serve_replace<L: Log, W: Write>(
-    cache: &mut PageCache<L>,
-    old: PageView,
-    node: Node,
-    writer: &mut W,
-    piece: &mut Piece,
-) -> Result<(), Unwritten>
-    ensures { RepliesTo L.Log cache.old (calls.Replace old node) (W.contents writer.old)
-        (W.contents writer.new) piece.old piece.new result cache.new }
-{
-    let answer = cache.replace(old.pid(), old, node);
-    gather_line(writer, piece, LentAnswer::Replaced(&answer))
-}
-
-fn serve_free<L: Log, W: Write>(
-    cache: &mut PageCache<L>,
-    old: PageView,
-    writer: &mut W,
-    piece: &mut Piece,
-) -> Result<(), Unwritten>
-    ensures { RepliesTo L.Log cache.old (calls.Free old) (W.contents writer.old)
-        (W.contents writer.new) piece.old piece.new result cache.new }
-{
-    let answer = cache.free(old.pid(), old);
-    gather_line(writer, piece, LentAnswer::Freed(&answer))
-}
-
-fn serve_root<L: Log, W: Write>(
-    cache: &mut PageCache<L>,
-    name: IVec,
-    writer: &mut W,
-    piece: &mut Piece,
-) -> Result<(), Unwritten>
-    ensures { RepliesTo L.Log cache.old (calls.MetaPidForName name) (W.contents writer.old)
-        (W.contents writer.new) piece.old piece.new result cache.new }
-{
-    let answer = cache.meta_pid_for_name(name.as_slice());
-    gather_line(writer, piece, LentAnswer::FoundRoot(&answer))
-}
-
-fn serve_cas<L: Log, W: Write>(
-    cache: &mut PageCache<L>,
-    name: IVec,
-    old: Option<PageId>,
-    new: Option<PageId>,
-    writer: &mut W,
-    piece: &mut Piece,
-) -> Result<(), Unwritten>
-    ensures { RepliesTo L.Log cache.old (calls.CasRoot name old new) (W.contents writer.old)
-        (W.contents writer.new) piece.old piece.new result cache.new }
-{
-    let answer = cache.cas_root_in_meta(name.as_slice(), old, new);
-    gather_line(writer, piece, LentAnswer::RootSwapped(&answer))
 }
 
 fn serve_id<L: Log, W: Write>(

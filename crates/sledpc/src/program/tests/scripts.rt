@@ -43,6 +43,14 @@ const REPLIES: &[(&str, &str)] = &[
         "alloc\nset 2 1 6 62\nset 2 1 61 6G\nset 2 1 61 6A\nset 2 1 61\nset 2 1 61 62 63\nset  2 1 61 62\nget 2\n",
         "page 2 1\nerror line\nerror line\nerror line\nerror line\nerror line\nerror line\nleaf 1\n",
     ),
+    (
+        " \nalloc 61=62 61=63\nget \nget 2 \nset 2 1 62\nset 2 1 62 76 77\nset 2 1 6 76\nset  2 1 62 76\nSET 2 1 62 76\nallocx\ndel 2 1 62 63\nfree\nfree 2 \n",
+        "error line\nerror line\nerror line\nerror line\nerror line\nerror line\nerror line\nerror line\nerror line\nerror line\nerror line\nerror line\nerror line\n",
+    ),
+    (
+        "free 2 1 61\nfree 2 01\ni\nflush 2\nsize 2\namp 2\nam\ngc 2\ng\nopen 74 74\nopenx\nSEAL\ncancel 1\ncance\n",
+        "error line\nerror line\nerror line\nerror line\nerror line\nerror line\nerror line\nerror line\nerror line\nerror line\nerror line\nerror line\nerror line\nerror line\n",
+    ),
     ("gc \ngc 0\nGC\n", "error line\nerror line\nerror line\n"),
     (
         "pin\nalloc 61=62\nflush\npin\nseal\nseal\nget 0\n",

@@ -1,6 +1,6 @@
 //! The arguments that several commands have.
 
-ghost use Rattle.std.specs.Prelude.{◌≡◌, ◌≢◌, ℕ, Option, IfSome, IfNone};
+ghost use Rattle.std.specs.Prelude.{◌≡◌, ◌≢◌, ℕ, Option, Some, IfSome, IfNone};
 ghost use Rattle.std.specs.Option.{option_map};
 ghost use Rattle.sled_base.specs.Order.{Bytes};
 ghost use Rattle.sled_pagecache.specs.State.{Token};
@@ -11,13 +11,13 @@ use crate::script::words::{first_word, number_of};
 use sled_pagecache::{PageId, PageView};
 
 /// The token whose words stand in front, and what follows the space behind them, if a space is there.
-pub fn token_of(arguments: Option<&[u8]>) -> Option<(PageView, Option<&[u8]>)>
-    ensures some { IfSome result (λ read. BeginsWithToken (option_map
-        (λ rest. rest.now) arguments.entry) read.0 (option_map (λ rest. rest.now) read.1)) }
+pub fn token_of(words: &[u8]) -> Option<(PageView, Option<&[u8]>)>
+    ensures some { IfSome result (λ read. BeginsWithToken (Some words.now) read.0
+        (option_map (λ rest. rest.now) read.1)) }
     ensures none { IfNone result ((old : Token) (rest : Option Bytes)
-        → ¬ BeginsWithToken (option_map (λ rest. rest.now) arguments.entry) old rest) }
+        → ¬ BeginsWithToken (Some words.now) old rest) }
 {
-    let (page, rest) = first_word(arguments?);
+    let (page, rest) = first_word(words);
     let (stamp, rest) = first_word(rest?);
     let old = PageView::new(number_of(page)?, number_of(stamp)?);
     Some((old, rest))

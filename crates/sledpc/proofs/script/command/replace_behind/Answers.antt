@@ -5,7 +5,7 @@ use Rattle.sled_pagecache.specs.State.{pid_of, stamp_of}
 use Rattle.sledpc.specs.Asked.{EncodeLeaf}
 use Rattle.sledpc.specs.Words.{pair_word}
 use Rattle.sledpc.proofs.Commands.{replace_asked, token_rest, token_joined}
-use Rattle.sledpc.proofs.script.command.replace_of.Goals as goal
+use Rattle.sledpc.proofs.script.command.replace_behind.Goals as goal
 
 pub returns-in_default-clause-none : goal.returns-in_default-clause-none
 returns-in_default-clause-none c = λ call asked.

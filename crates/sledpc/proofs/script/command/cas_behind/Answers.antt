@@ -5,7 +5,7 @@ use Rattle.sledpc.specs.Asked.{EncodeRoots}
 use Rattle.sledpc.specs.Commands.{root_word}
 use Rattle.sledpc.specs.Words.{bytes_word}
 use Rattle.sledpc.proofs.Commands.{cas_asked, two_once}
-use Rattle.sledpc.proofs.script.command.cas_of.Goals as goal
+use Rattle.sledpc.proofs.script.command.cas_behind.Goals as goal
 
 pub returns-in_default-clause-none : goal.returns-in_default-clause-none
 returns-in_default-clause-none c = λ call asked.

@@ -4,7 +4,7 @@ use Rattle.std.specs.Fmt.{decimal}
 use Rattle.std.specs.Option.{option_map}
 use Rattle.sled_pagecache.specs.State.{pid_of, stamp_of}
 use Rattle.sledpc.proofs.Commands.{free_asked, token_rest, token_joined}
-use Rattle.sledpc.proofs.script.command.free_of.Goals as goal
+use Rattle.sledpc.proofs.script.command.free_behind.Goals as goal
 
 pub returns-in_err-old-clause-none : goal.returns-in_err-old-clause-none
 returns-in_err-old-clause-none c = rw c.from_residual.ensures (λ call asked. let free = free_asked _ call asked in c.in_err-old.ensures.none free.old None free.token)
