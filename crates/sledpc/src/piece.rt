@@ -139,14 +139,13 @@ impl Piece {
     }
 }
 
+/// The hexadecimal digits of the numbers below 16.
+const HEX_DIGITS: &[u8; 16] = b"0123456789abcdef";
+
 /// The hexadecimal digit of a number below 16.
 fn hex_digit(value: u8) -> u8
     requires { value < 16 }
     ensures { result ≡ words.hex_digit value }
 {
-    if value < 10 {
-        b'0' + value
-    } else {
-        b'a' + (value - 10)
-    }
+    HEX_DIGITS[usize::from(value)]
 }

@@ -228,16 +228,23 @@ fn gather_node<W: Write>(
         (node_text stamp node.now ++ 10 ∷ []) }
 {
     make_room(writer, piece, 30)?;
-    put_labelled(piece, label_of(node), stamp);
+    put_head(piece, node.is_index(), stamp);
     gather_entries(writer, piece, node)?;
     gather_text(writer, piece, b"\n")
 }
 
-// What a reply calls the node.
-fn label_of(node: &Node) -> &'static [u8]
-    ensures { result.now ≡ (if node.now.is_index then codes "index " else codes "leaf ") }
+// Puts what a reply calls a node, and the node's stamp, into a piece, which has room for them. Each label is put by its own call, which
+// knows how long it is.
+fn put_head(piece: &mut Piece, is_index: bool, stamp: u64)
+    requires { length piece.old + 26 ≤ piece_room }
+    ensures { piece.new ≡ piece.old
+        ++ ((if is_index then codes "index " else codes "leaf ") ++ decimal stamp) }
 {
-    if node.is_index() { b"index " } else { b"leaf " }
+    if is_index {
+        put_labelled(piece, b"index ", stamp);
+    } else {
+        put_labelled(piece, b"leaf ", stamp);
+    }
 }
 
 fn gather_entries<W: Write>(writer: &mut W, piece: &mut Piece, node: &Node) -> Result<(), Unwritten>
