@@ -1,7 +1,6 @@
 -- What a change of the map of named roots leaves where it wasn't written.
 use Rattle.sled_pagecache.proofs.Names.{◌<◌, length, map, CacheInfo, Kept, Page, ◌≡◌, Result, Ok, Err, OnErr, stamps_to}
 use Rattle.std.proofs.Props.{props}
-use Rattle.std.specs.Prelude.{vec_len}
 
 -- what an error leaves
 pub on-err : {T E : Type 0} (P : Type 0) (result : Result T E) → P → OnErr result P
@@ -9,11 +8,11 @@ on-err P (Ok t) p = tt
 on-err P (Err e) p = p
 
 -- the page, where it keeps the same
-pub same-page : (page : Page) (held : Kept) (some : 0 < vec_len page.infos) (stamped : map (λ (info : CacheInfo). info.ts) page.infos.items ≡ stamps_to page.stamp (length page.infos.items)) → held ≡ page.kept
+pub same-page : (page : Page) (held : Kept) (some : 0 < length page.infos.items) (stamped : map (λ (info : CacheInfo). info.ts) page.infos.items ≡ stamps_to page.stamp (length page.infos.items)) → held ≡ page.kept
     → record page { kept = held; some = some; stamped = stamped } ≡ page
 same-page page held some stamped is = λ i. record page { kept = is i; some = one some page.some i; stamped = all stamped page.stamped i }
   where
-    one : IsProp (0 < vec_len page.infos)
+    one : IsProp (0 < length page.infos.items)
     one = hlevel props
 
     all : IsProp (map (λ (info : CacheInfo). info.ts) page.infos.items ≡ stamps_to page.stamp (length page.infos.items))

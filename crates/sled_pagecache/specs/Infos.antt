@@ -1,5 +1,5 @@
 -- Where a page keeps the messages that make it, and their stamps.
-use Rattle.std.specs.Prelude.{◌≡◌, ℕ, zero, suc, ℤ, [], ◌-◌, List, ◌∷◌, length, map, slice_get, Some}
+use Rattle.std.specs.Prelude.{◌≡◌, Bool, ℕ, zero, suc, ℤ, [], ◌-◌, List, ◌∷◌, length, map, slice_get, Some}
 use Rattle.sled_base.specs.declared.types.DiskPtr.{DiskPtr}
 use Rattle.sled_pagecache.specs.declared.pagecache.table.page.CacheInfo.{CacheInfo}
 
@@ -20,3 +20,8 @@ IsLast infos lsn = slice_get (map (λ info. info.lsn) infos) (length infos - 1) 
 -- where a message is kept that frees a page
 abbrev pub place_of_freeing : CacheInfo → ℤ × DiskPtr
 place_of_freeing info = (info.lsn, info.pointer)
+
+-- the places of a page's messages, and whether one more can be put in without memory
+pub record InfosView : Type 0 where
+  pub items : List CacheInfo
+  pub room : Bool

@@ -1,9 +1,11 @@
 //! The pages as the cache keeps them.
 //!
 //! - `page`: a page, and what it holds
+//! - `infos`: where the log keeps the messages of a page
 //! - `pagetable`: the table of pages by their ids
 //! - `free`: the ids of the free ones
 
 pub(crate) mod free;
+pub(crate) mod infos;
 pub(crate) mod page;
 pub(crate) mod pagetable;

@@ -10,7 +10,7 @@ use super::steps::Sight::{Absent, Empty, Leads, Pair, Reserved};
 use super::steps::Step::{
     Adds, Counts, Finds, Frees, Gets, Gives, Has, Links, Opens, Recovered, Replaces, Swaps, Writes,
 };
-use super::steps::{PAIR, Step, shown};
+use super::steps::{PAIR, Step, shown, shows_page};
 use super::*;
 use sled_base::{DoublyLinkedList, Lru, Slot};
 use sled_node::Meta;
@@ -312,6 +312,36 @@ fn serves_on_disk(alloc: Global, is_sealed: bool, left: usize) -> bool {
         Ok(mut cache) => serves_all(alloc, &mut cache, 129, is_sealed, left),
         Err(_) => false,
     }
+}
+
+// ---- what takes memory
+
+// The message that joins another one.
+const TAKING: &[Step] = &[Links(2, 1, PAIR, At(2))];
+
+// Whether these steps are refused where no memory is left, and show what they should once there is some.
+fn are_refused_at_first(alloc: Global, steps: &[Step]) -> bool {
+    let Some(mut cache) = started(alloc, 512) else {
+        return false;
+    };
+    let is_so = shown(alloc, &mut cache, &[Adds(2, 1)]) == 1;
+    let blocks = taken(alloc, 0);
+    for step in steps {
+        if shows_page(alloc, &mut cache, step).is_some() {
+            return false;
+        }
+    }
+    drop(blocks);
+    is_so && shown(alloc, &mut cache, steps) == steps.len()
+}
+
+#[test]
+fn what_takes_memory_is_refused_without(rt: HostRuntime) {
+    let alloc = rt.alloc();
+    if !can_be_taken(alloc) {
+        return;
+    }
+    assert!(rt; are_refused_at_first(alloc, TAKING));
 }
 
 #[test]

@@ -5,6 +5,7 @@ ghost use Rattle.sled_pagecache.specs.Limits.{most_pages};
 
 use super::*;
 use sled_pagecache::{CacheInfo, Page, PageTable, split_fanout};
+use std::mem::size_of;
 
 // ---- a page of some messages, and a free one
 
@@ -290,6 +291,12 @@ fn has_room_for_at_most(alloc: Global, count: u64, most: usize) -> bool
         Ok(table) => table.capacity() <= most,
         Err(_) => false,
     }
+}
+
+// One message, and no node, lie in place of a vector.
+#[test]
+fn an_entry_is_small(rt: HostRuntime) {
+    assert!(rt; size_of::<Page>() <= 208);
 }
 
 // The room of a chunk grows as the chunk fills.

@@ -44,7 +44,7 @@ pub(crate) fn pull<L: Log>(
     ensures is_there { is_resident page.old.kept ≡ true → IsOk result }
 {
     if let Kept::Away = page.kept {
-        page.kept = Kept::Node(read_node(alloc, sticky_log, pid, &page.infos)?);
+        page.kept = Kept::Node(read_node(alloc, sticky_log, pid, page.cache_infos())?);
     }
     Ok(())
 }
@@ -109,7 +109,7 @@ fn access_node(accesses: &mut Accesses, pid: PageId, page: &Page) -> Result<(), 
     ensures always { IsListedAt pid page.now accesses.old.lru → IsOk result }
 {
     match page.kept {
-        Kept::Node(_) => accesses.access(pid, total_size(&page.infos)),
+        Kept::Node(_) => accesses.access(pid, total_size(page.cache_infos())),
         _ => Ok(()),
     }
 }

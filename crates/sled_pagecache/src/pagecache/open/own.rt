@@ -19,6 +19,7 @@ ghost use Rattle.sled_pagecache.specs.Inside.Invariant.{stamps_in};
 use crate::pagecache::memory::chain::read_chain;
 use crate::pagecache::memory::reading::{Found, whole};
 use crate::pagecache::open::recovered::is_misfit;
+use crate::pagecache::table::infos::Infos;
 use crate::pagecache::table::page::{Kept, Page};
 use crate::pagecache::table::pagetable::PageTable;
 use crate::pagecache::write::message::{write_counter, write_roots};
@@ -95,9 +96,9 @@ fn read_own<L: Log>(
     ensures reads { HasRead L.counts sticky_log.old.log sticky_log.new.log 1 result }
 {
     if is_misfit(pid as usize, page) {
-        return Err(Refusal::Corruption(Some(page.infos[0].pointer)));
+        return Err(Refusal::Corruption(Some(page.first_info().pointer)));
     }
-    let found = read_chain(alloc, sticky_log, pid, &page.infos)?;
+    let found = read_chain(alloc, sticky_log, pid, page.cache_infos())?;
     if found[0].kind == MessageKind::Free {
         return Err(Refusal::ReportableBug(Bug::FreeInPull));
     }
@@ -155,16 +156,15 @@ pub(crate) fn add_roots<L: Log>(
     if pages.len() > 0 {
         return Ok(());
     }
-    let (Ok(()), Ok(mut infos)) = (pages.reserve(), Vec::with_capacity(alloc, 1)) else {
+    let Ok(()) = pages.reserve() else {
         return Err(Refusal::OutOfMemory);
     };
     let roots = Meta::default(alloc);
     let size = roots.serialized_size();
     let info = write_roots(alloc, sticky_log, META_PID, &roots, size, 1)?;
-    infos.push_reserved(info);
     pages.push_reserved(Page {
         stamp: 1,
-        infos,
+        infos: Infos::one(info),
         kept: Kept::Roots(roots),
     });
     Ok(())
@@ -190,14 +190,13 @@ pub(crate) fn add_counter<L: Log>(
     ensures unread { (L.counts sticky_log.new.log).reads ≡ (L.counts sticky_log.old.log).reads }
     ensures two { OnOk result (length pages.new.pages ≡ 2) }
 {
-    let (Ok(()), Ok(mut infos)) = (pages.reserve(), Vec::with_capacity(alloc, 1)) else {
+    let Ok(()) = pages.reserve() else {
         return Err(Refusal::OutOfMemory);
     };
     let info = write_counter(alloc, sticky_log, COUNTER_PID, 0, 1)?;
-    infos.push_reserved(info);
     pages.push_reserved(Page {
         stamp: 1,
-        infos,
+        infos: Infos::one(info),
         kept: Kept::Counter(0),
     });
     Ok(())

@@ -10,6 +10,7 @@ ghost use Rattle.sled_pagecache.specs.Inside.PageEntry.{free_ids};
 ghost use Rattle.sled_pagecache.specs.Inside.Recovery.{IsRecovered, info_at, is_misfit, AllFit, BeginsMisfit};
 
 use crate::pagecache::table::free::FreeIds;
+use crate::pagecache::table::infos::Infos;
 use crate::pagecache::table::page::{CacheInfo, Kept, Page};
 use crate::pagecache::table::pagetable::PageTable;
 use crate::pagecache::{COUNTER_PID, PAGE_CONSOLIDATION_THRESHOLD};
@@ -44,15 +45,11 @@ impl Page {
         ensures { IfOk result (IsRecovered state.now) }
     {
         match state {
-            PageState::Free(lsn, pointer) => {
-                let mut infos = Vec::with_capacity(alloc, 1)?;
-                infos.push_reserved(info_at((*lsn, *pointer, MAX_MSG_HEADER_LEN)));
-                Ok(Page {
-                    stamp: 0,
-                    infos,
-                    kept: Kept::Free,
-                })
-            }
+            PageState::Free(lsn, pointer) => Ok(Page {
+                stamp: 0,
+                infos: Infos::one(info_at((*lsn, *pointer, MAX_MSG_HEADER_LEN))),
+                kept: Kept::Free,
+            }),
             PageState::Present { base, frags } => Ok(Page {
                 stamp: 0,
                 infos: infos_of(alloc, *base, frags)?,
@@ -67,15 +64,18 @@ fn infos_of(
     alloc: Global,
     base: (Lsn, DiskPtr, u64),
     frags: &[(Lsn, DiskPtr, u64)],
-) -> Result<Vec<CacheInfo>, AllocError>
+) -> Result<Infos, AllocError>
     ensures { IfOk result (λ infos. infos.items ≡ map info_at (base ∷ frags.now)) }
 {
+    if frags.is_empty() {
+        return Ok(Infos::one(info_at(base)));
+    }
     let mut infos = Vec::with_capacity(alloc, frags.len().saturating_add(1))?;
     infos.push(info_at(base))?;
     for frag in frags {
         infos.push(info_at(*frag))?;
     }
-    Ok(infos)
+    Ok(Infos::several(infos))
 }
 
 // The place of a recovered message, as its page keeps it.
@@ -99,7 +99,7 @@ pub(crate) fn misfit(pages: &PageTable) -> Option<DiskPtr>
         if let Some(page) = pages.get(pid as PageId)
             && is_misfit(pid, page)
         {
-            return Some(page.infos[0].pointer);
+            return Some(page.first_info().pointer);
         }
     }
     None
@@ -109,7 +109,7 @@ pub(crate) fn misfit(pages: &PageTable) -> Option<DiskPtr>
 pub(crate) fn is_misfit(pid: usize, page: &Page) -> bool
     ensures { result ≡ is_misfit pid page.now }
 {
-    let len = page.infos.len();
+    let len = page.cache_infos().len();
     len > PAGE_CONSOLIDATION_THRESHOLD
         || pid as PageId <= COUNTER_PID && (page.is_free() || len > 1)
 }

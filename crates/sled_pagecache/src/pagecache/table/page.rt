@@ -1,12 +1,12 @@
 //! Pages as the cache keeps them.
 
-ghost use Rattle.std.specs.Prelude.{◌≡◌, ◌+◌, ◌<◌, ◌-◌, ◌^◌, ◌++◌, [], ◌∷◌, min, length, vec_len, vec_capacity, map, IfOk, true};
+ghost use Rattle.std.specs.Prelude.{◌≡◌, ◌+◌, ◌<◌, ◌-◌, ◌^◌, ◌++◌, [], ◌∷◌, min, length, map, slice_get, Some, IfOk, true};
 ghost use Rattle.std.specs.List.{sum_by};
 ghost use Rattle.sled_pagecache.specs.Infos.{place_of};
 ghost use Rattle.sled_pagecache.specs.Infos.{stamps_to};
 ghost use Rattle.sled_pagecache.specs.Inside.Infos.{joined_infos};
 
-use crate::pagecache::PAGE_CONSOLIDATION_THRESHOLD;
+use crate::pagecache::table::infos::Infos;
 use sled_base::{DiskPtr, Lsn, PageState};
 use sled_node::{Meta, Node};
 use std::alloc::{AllocError, Global};
@@ -31,9 +31,9 @@ pub struct CacheInfo {
 pub struct Page {
     pub(crate) stamp: u64,
     // in the order of its chain
-    pub(crate) infos: Vec<CacheInfo>,
+    pub(crate) infos: Infos,
     pub(crate) kept: Kept,
-    ghost some: { 0 < vec_len infos },
+    ghost some: { 0 < length infos.items },
     ghost stamped: { map (λ info. info.ts) infos.items ≡ stamps_to stamp (length infos.items) },
 }
 
@@ -57,7 +57,7 @@ impl Page {
     pub fn cache_infos(&self) -> &[CacheInfo]
         ensures { result.now ≡ self.now.infos.items }
     {
-        &self.infos
+        self.infos.as_slice()
     }
 
     /// How much of the log these messages take up together, in bytes, or `u64::MAX` where it is no less.
@@ -65,14 +65,22 @@ impl Page {
         ensures { sum_by (λ info. info.log_size) self.now.infos.items < 2 ^ 64
             → result ≡ sum_by (λ info. info.log_size) self.now.infos.items }
     {
-        total_size(&self.infos)
+        total_size(self.cache_infos())
     }
 
     /// The lsn of the last of these messages.
     pub fn last_lsn(&self) -> Lsn
         ensures { IsLast self.now.infos.items result }
     {
-        self.infos[self.infos.len() - 1].lsn
+        let infos = self.cache_infos();
+        infos[infos.len() - 1].lsn
+    }
+
+    // The place of the first of them.
+    pub(crate) fn first_info(&self) -> CacheInfo
+        ensures { slice_get self.now.infos.items 0 ≡ Some result }
+    {
+        self.cache_infos()[0]
     }
 
     /// Whether the page is free.
@@ -95,11 +103,11 @@ impl Page {
     pub fn to_page_state(&self, alloc: Global) -> Result<PageState, AllocError>
         ensures { IfOk result (IsSaidBy self.now) }
     {
-        let first = self.infos[0];
+        let first = self.first_info();
         if self.is_free() {
             return Ok(PageState::Free(first.lsn, first.pointer));
         }
-        let frags = places(alloc, &self.infos[1..])?;
+        let frags = places(alloc, &self.cache_infos()[1..])?;
         Ok(PageState::Present {
             base: place(first),
             frags,
@@ -138,7 +146,7 @@ impl Clone for Kept {
 // Keeps how a message is kept that joins the others of a page, or takes their place, at the next stamp of the page.
 pub(crate) fn keep_linked(joins: bool, page: &mut Page, info: CacheInfo)
     requires below { page.old.stamp < 2 ^ 64 - 1 }
-    requires room { joins ≡ true → vec_len page.old.infos < vec_capacity page.old.infos }
+    requires room { joins ≡ true → page.old.infos.room ≡ true }
     requires stamped { info.ts ≡ page.old.stamp + 1 }
     ensures stamp { page.new.stamp ≡ page.old.stamp + 1 }
     ensures infos { page.new.infos.items ≡ joined_infos joins page.old.infos.items info }
@@ -159,7 +167,7 @@ pub(crate) fn keep_alone(page: &mut Page, info: CacheInfo)
     ensures infos { page.new.infos.items ≡ info ∷ [] }
     ensures kept { page.new.kept ≡ page.old.kept }
 {
-    keep_one(&mut page.infos, info);
+    page.infos.keep_one(info);
     page.stamp += 1;
 }
 
@@ -170,23 +178,13 @@ pub(crate) fn keep_moved(page: &mut Page, info: CacheInfo)
     ensures infos { page.new.infos.items ≡ info ∷ [] }
     ensures kept { page.new.kept ≡ page.old.kept }
 {
-    keep_one(&mut page.infos, info);
-}
-
-// Keeps this place of a message in place of the others.
-fn keep_one(infos: &mut Vec<CacheInfo>, info: CacheInfo)
-    requires { 0 < vec_len infos.old }
-    ensures { infos.new.items ≡ info ∷ [] }
-{
-    infos.clear();
-    infos.shrink_to(1);
-    infos.push_reserved(info);
+    page.infos.keep_one(info);
 }
 
 // Keeps how a message is kept behind the others of a page, at the next stamp.
 fn keep_also(page: &mut Page, info: CacheInfo)
     requires below { page.old.stamp < 2 ^ 64 - 1 }
-    requires room { vec_len page.old.infos < vec_capacity page.old.infos }
+    requires room { page.old.infos.room ≡ true }
     requires stamped { info.ts ≡ page.old.stamp + 1 }
     ensures stamp { page.new.stamp ≡ page.old.stamp + 1 }
     ensures infos { page.new.infos.items ≡ page.old.infos.items ++ info ∷ [] }

@@ -7,6 +7,7 @@ ghost use Rattle.sled_pagecache.specs.Inside.Appends.{PutsOnNewPage};
 
 use crate::pagecache::MAX_PAGES;
 use crate::pagecache::memory::accesses::{Accesses, size_with};
+use crate::pagecache::table::infos::Infos;
 use crate::pagecache::table::page::{Kept, Page};
 use crate::pagecache::table::pagetable::PageTable;
 use crate::pagecache::write::message::write_node;
@@ -40,18 +41,14 @@ pub(crate) fn add_page<L: Log>(
     let Ok(()) = pages.reserve() else {
         return Err(Refusal::OutOfMemory);
     };
-    let Ok(mut infos) = Vec::with_capacity(alloc, 1) else {
-        return Err(Refusal::OutOfMemory);
-    };
     let size = node.serialized_size();
     let Ok(()) = accesses.access(pid, size_with(0, size)) else {
         return Err(Refusal::OutOfMemory);
     };
     let info = write_node(alloc, sticky_log, pid, &node, size, 1)?;
-    infos.push_reserved(info);
     pages.push_reserved(Page {
         stamp: 1,
-        infos,
+        infos: Infos::one(info),
         kept: Kept::Node(node),
     });
     Ok(())

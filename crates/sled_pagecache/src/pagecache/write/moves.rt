@@ -75,10 +75,11 @@ fn blob_of(page: &Page) -> Option<BlobPointer>
         → is_one_blob (pointers_in page.now.infos.items) ≡ false)
         (λ blob. IsBlobOf page.now blob) }
 {
-    if page.is_free() || page.infos.len() != 1 {
+    let infos = page.cache_infos();
+    if page.is_free() || infos.len() != 1 {
         return None;
     }
-    match page.infos[0].pointer {
+    match infos[0].pointer {
         DiskPtr::Blob(_, blob) => Some(blob),
         DiskPtr::Inline(_) => None,
     }
@@ -103,7 +104,7 @@ fn move_blob<L: Log>(
     ensures { MovesOrNot L.Log sticky_log.old pid page.old sticky_log.new accesses.old accesses.new
         page.new result }
 {
-    let log_size = page.infos[0].log_size;
+    let log_size = page.first_info().log_size;
     let Ok(()) = accesses.access(pid, log_size) else {
         return Err(Refusal::OutOfMemory);
     };

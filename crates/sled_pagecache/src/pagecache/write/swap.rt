@@ -1,6 +1,6 @@
 //! The swaps of a page that stands and lies in memory.
 
-ghost use Rattle.std.specs.Prelude.{◌≡◌, ◌≢◌, ◌+◌, ◌-◌, ◌<◌, ◌≤◌, ◌↔◌, false, true, length, max, vec_len, vec_capacity, OnOk, OnErr, IsTrue, take};
+ghost use Rattle.std.specs.Prelude.{◌≡◌, ◌≢◌, ◌+◌, ◌-◌, ◌<◌, ◌↔◌, false, true, length, OnOk, OnErr, IsTrue, take};
 ghost use Rattle.std.specs.BTreeSet.{insert_key};
 ghost use Rattle.std.specs.List.{AllByRecursion};
 ghost use Rattle.std.specs.Ordering.{nat_cmp};
@@ -24,6 +24,7 @@ ghost use Rattle.sled_pagecache.specs.declared.pagecache.table.page.Kept.TheVari
 use crate::pagecache::PAGE_CONSOLIDATION_THRESHOLD;
 use crate::pagecache::memory::accesses::{Accesses, size_with};
 use crate::pagecache::table::free::FreeIds;
+use crate::pagecache::table::infos::Infos;
 use crate::pagecache::table::page::{CacheInfo, Kept, Page, keep_alone, keep_linked, total_size};
 use crate::pagecache::write::message::{write_kept, write_link, write_node};
 use crate::pagecache::write::sticky_log::StickyLog;
@@ -167,11 +168,11 @@ pub(crate) fn link_page<L: Log>(
         return Err(Refusal::Unsupported(Why::StampUsedUp));
     }
     let joins = page.infos.len() < PAGE_CONSOLIDATION_THRESHOLD;
-    let Ok(()) = prepare(joins, &mut page.infos, node, link) else {
+    let Ok(()) = prepare(joins, alloc, &mut page.infos, node, link) else {
         return Err(Refusal::OutOfMemory);
     };
     let size = linked_size(joins, node, link);
-    let Ok(()) = access_linked(joins, accesses, pid, &page.infos, size) else {
+    let Ok(()) = access_linked(joins, accesses, pid, page.infos.as_slice(), size) else {
         page.kept = Kept::Away;
         return Err(Refusal::OutOfMemory);
     };
@@ -206,39 +207,22 @@ fn accepts(node: &Node, link: &Link) -> bool
 // Makes room for the message of a link that joins the others, and applies the link. A refusal leaves both.
 fn prepare(
     joins: bool,
-    infos: &mut Vec<CacheInfo>,
+    alloc: Global,
+    infos: &mut Infos,
     node: &mut Node,
     link: &Link,
 ) -> Result<(), AllocError>
     requires accepted { Accepts node.old link.now }
-    requires few { joins ≡ true → vec_len infos.old < most_messages }
+    requires few { joins ≡ true → length infos.old.items < most_messages }
     ensures infos { infos.new.items ≡ infos.old.items }
-    ensures len { vec_len infos.new ≡ vec_len infos.old }
-    ensures room { OnOk result (joins ≡ true → vec_len infos.new < vec_capacity infos.new) }
+    ensures room { OnOk result (joins ≡ true → infos.new.room ≡ true) }
     ensures applied { OnOk result (node.new ≡ applied link.now node.old) }
     ensures err { OnErr result (node.new ≡ node.old) }
 {
     if joins {
-        make_room(infos)?;
+        infos.reserve(alloc)?;
     }
     node.apply(link)
-}
-
-// Makes room for one more message where there is none: for twice as many, or for 10 where that is less.
-fn make_room(infos: &mut Vec<CacheInfo>) -> Result<(), AllocError>
-    requires { vec_len infos.old < most_messages }
-    ensures infos { infos.new.items ≡ infos.old.items }
-    ensures len { vec_len infos.new ≡ vec_len infos.old }
-    ensures room { OnOk result (vec_len infos.new < vec_capacity infos.new) }
-    ensures most { OnOk result
-        (vec_capacity infos.new ≤ max (vec_capacity infos.old) most_messages) }
-{
-    let len = infos.len();
-    if len < infos.capacity() {
-        return Ok(());
-    }
-    let more = len.clamp(1, PAGE_CONSOLIDATION_THRESHOLD - len);
-    infos.reserve_exact(more)
 }
 
 // In how many bytes a link is written that joins the other messages, or else the node that it made.

@@ -1,4 +1,4 @@
-use Rattle.sled_pagecache.proofs.Names.{[], ◌∷◌, ◌++◌, List, sym, refl, ap, ◌∙◌, arith, Err, OutOfMemory, Counter, counter_event, CacheInfo, refused-is}
+use Rattle.sled_pagecache.proofs.Names.{[], ◌∷◌, sym, refl, arith, Err, OutOfMemory, Counter, counter_event, CacheInfo, refused-is}
 use Rattle.sled_pagecache.proofs.Proceeding.{proceeds-not, proceeds-unplaced}
 use Rattle.sled_pagecache.proofs.Starting.{own-table}
 use Rattle.sled_pagecache.proofs.pagecache.open.own.add_counter.Goals as goal
@@ -17,7 +17,6 @@ returns-in_err-info-clause-proceeds g c =
 pub returns-clause-table : goal.returns-clause-table
 returns-clause-table g c =
     let pages = c.args.pages.now.pages in
-    let infos = c.push_reserved.ensures.items ∙ ap (λ (l : List CacheInfo). l ++ c.in_ok-info.info ∷ []) c.in-Ok-Ok.ensures'.items in
-    rw (c.push_reserved-2.ensures, c.reserve.ensures.same)
+    rw (c.push_reserved.ensures, c.reserve.ensures.same)
     (own-table g.L.Log c.args.sticky_log.now c.write_counter.new.sticky_log 1 1 (Counter 0) c.in_ok-info.info c.in_ok-info.ensures pages _
-    c.requires.table (sym c.requires.one) (omega arith) refl infos (λ chain makes. makes) tt)
+    c.requires.table (sym c.requires.one) (omega arith) refl c.one.ensures (λ chain makes. makes) tt)

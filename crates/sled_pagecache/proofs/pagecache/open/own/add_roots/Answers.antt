@@ -1,4 +1,4 @@
-use Rattle.sled_pagecache.proofs.Names.{[], ◌∷◌, ◌++◌, List, length, sym, refl, ap, ◌∙◌, arith, rules, Err, OutOfMemory, Roots, events_of_roots, CacheInfo, nil_from_length, refused-is, subst, Some, Put, Change, Proceeds, message_of}
+use Rattle.sled_pagecache.proofs.Names.{[], ◌∷◌, length, sym, refl, ap, arith, rules, Err, OutOfMemory, Roots, events_of_roots, CacheInfo, nil_from_length, refused-is, subst, Some, Put, Change, Proceeds, message_of}
 use Rattle.sled_pagecache.proofs.Proceeding.{proceeds-not, proceeds-unplaced}
 use Rattle.sled_pagecache.proofs.Starting.{own-table}
 use Rattle.sled_pagecache.proofs.pagecache.open.own.add_roots.Goals as goal
@@ -20,7 +20,6 @@ pub returns-clause-table : goal.returns-clause-table
 returns-clause-table g c =
     let pages = c.args.pages.now.pages in
     let none = nil_from_length pages (search rules) in
-    let infos = c.push_reserved.ensures.items ∙ ap (λ (l : List CacheInfo). l ++ c.in_ok-info.info ∷ []) c.in-Ok-Ok.ensures'.items in
-    rw (c.push_reserved-2.ensures, c.reserve.ensures.same)
+    rw (c.push_reserved.ensures, c.reserve.ensures.same)
     (own-table g.L.Log c.args.sticky_log.now c.write_roots.new.sticky_log 0 1 (Roots c.default-roots.result) c.in_ok-info.info c.in_ok-info.ensures pages _
-    c.requires.table (sym (ap length none)) (omega arith) refl infos (λ chain makes. makes) tt)
+    c.requires.table (sym (ap length none)) (omega arith) refl c.one.ensures (λ chain makes. makes) tt)

@@ -1,11 +1,11 @@
-use Rattle.sled_pagecache.proofs.Names.{arith, rules, refl, CacheInfo, map-at, slice_get_read, ◌≡◌, false, subst, Option, IfSome, is_misfit, Page, slice_get, slice_get_within}
+use Rattle.sled_pagecache.proofs.Names.{arith, rules, CacheInfo, map-at, ◌≡◌, false, subst, Option, IfSome, is_misfit, Page, slice_get, slice_get_within}
 use Rattle.sled_pagecache.proofs.RecoveredPages.{if-some}
 use Rattle.sled_pagecache.proofs.pagecache.open.recovered.misfit.Goals as goal
 
 pub returns-in-loop-pid : goal.returns-in-loop-pid
 returns-in-loop-pid c =
     let page = c.in-Some.page.now in
-    let begins = map-at (λ (info : CacheInfo). info.pointer) page.infos.items 0 c.index.result.now (slice_get_read _ _ 0 _ refl (search rules) (search rules)) in
+    let begins = map-at (λ (info : CacheInfo). info.pointer) page.infos.items 0 c.first_info.result c.first_info.ensures in
     record { pid = c.loop-pid.pid; page = page; is = c.in-Some.ensures; misfit = search rules; first = c.loop-pid.invariant; begins = begins }
 
 pub returns : goal.returns

@@ -27,6 +27,6 @@ pub returns : goal.returns
 returns g c =
     let done = c.in_ok-lsn.ensures in
     let is = c.requires.blob in
-    let same : c.index.result.now.log_size ≡ is.info.log_size = grind arith in
+    let same : c.first_info-log_size.result.log_size ≡ is.info.log_size = grind arith in
     moved-blob g.L.Log c.args.sticky_log.now c.rewrite_blob_pointer.new.self c.args.pid c.args.page.now c.keep_moved.new.page c.args.blob c.requires.blob c.requires.there c.requires.kept c.requires.chain c.requires.sized _ done.chains done.size done.went done.cause.fault done.reads done.sized c.keep_moved.ensures.stamp c.keep_moved.ensures.infos
     refl (to_z-of_z w64 c.in_ok-lsn.lsn (search rules)) refl same c.keep_moved.ensures.kept (subst (λ n. WasAccessed c.args.accesses.now c.args.pid (capped_size n) c.access.new.self) same c.in-Ok.ensures.accessed)

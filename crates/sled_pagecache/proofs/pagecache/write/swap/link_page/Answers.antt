@@ -39,7 +39,7 @@ returns-in-Ok-write_linked g c =
     let linked = λ (told : g.L.Log.tells). page-linked _ c.args.pid (c.requires.there told) page (c.requires.kept told) c.args.link.now c.in-Node.node c.prepare.new.node c.in-Node.is (c.accepts.ensures.accepted.0 c.if-not-accepts.false) c.in-Ok.ensures.applied c.len-joins.result (search rules) _ done.info (writes.chains told) c.keep_linked.new.page done.ensures.is
     infos c.keep_linked.ensures.kept in
     let accessed = subst (λ n. WasAccessed c.args.accesses.now c.args.pid n c.access_linked.new.accesses)
-    (linked-size (ltb c.len-joins.result 10) c.deref.result.now c.prepare.new.infos.items c.linked_size-size.result c.keep_linked.new.page done.info c.deref.ensures.value c.keep_linked.ensures.infos (writes.size.0 ∙ ap (λ n. head_size + n) (sym c.linked_size-size.ensures)))
+    (linked-size (ltb c.len-joins.result 10) c.as_slice.result.now c.prepare.new.infos.items c.linked_size-size.result c.keep_linked.new.page done.info c.as_slice.ensures c.keep_linked.ensures.infos (writes.size.0 ∙ ap (λ n. head_size + n) (sym c.linked_size-size.ensures)))
     c.in-Ok-access_linked.ensures.accessed in
     grind (arith, length-append page.infos.items (done.info ∷ []))
 
