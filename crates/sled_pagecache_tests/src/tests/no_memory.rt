@@ -316,15 +316,15 @@ fn serves_on_disk(alloc: Global, is_sealed: bool, left: usize) -> bool {
 
 // ---- what takes memory
 
-// The message that joins another one.
-const TAKING: &[Step] = &[Links(2, 1, PAIR, At(2))];
+// The message that joins another one, and the node of a page.
+const TAKING: &[Step] = &[Links(2, 1, PAIR, At(2)), Replaces(3, 1, At(2)), Adds(4, 1)];
 
 // Whether these steps are refused where no memory is left, and show what they should once there is some.
 fn are_refused_at_first(alloc: Global, steps: &[Step]) -> bool {
     let Some(mut cache) = started(alloc, 512) else {
         return false;
     };
-    let is_so = shown(alloc, &mut cache, &[Adds(2, 1)]) == 1;
+    let is_so = shown(alloc, &mut cache, &[Adds(2, 1), Adds(3, 1)]) == 2;
     let blocks = taken(alloc, 0);
     for step in steps {
         if shows_page(alloc, &mut cache, step).is_some() {

@@ -293,10 +293,10 @@ fn has_room_for_at_most(alloc: Global, count: u64, most: usize) -> bool
     }
 }
 
-// One message, and no node, lie in place of a vector.
+// One message lies in place of a vector, and a node apart.
 #[test]
 fn an_entry_is_small(rt: HostRuntime) {
-    assert!(rt; size_of::<Page>() <= 208);
+    assert!(rt; size_of::<Page>() <= 96);
 }
 
 // The room of a chunk grows as the chunk fills.

@@ -249,6 +249,6 @@ impl<L: Log> PageCache<L> {
         let Kept::Node(node) = &page.kept else {
             return None;
         };
-        Some(NodeView::new(node, PageView::new(pid, page.stamp)))
+        Some(NodeView::new(node.as_node(), PageView::new(pid, page.stamp)))
     }
 }

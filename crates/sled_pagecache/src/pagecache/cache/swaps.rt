@@ -16,9 +16,8 @@ use crate::pagecache::PAGE_CONSOLIDATION_THRESHOLD;
 use crate::pagecache::handles::view::PageView;
 use crate::pagecache::memory::evict::end_swap;
 use crate::pagecache::memory::pull::pull_and_link;
-use crate::pagecache::table::page::Kept;
 use crate::pagecache::write::judge::judge;
-use crate::pagecache::write::swap::put_page;
+use crate::pagecache::write::swap::put_node;
 use sled_base::{Error, PageId};
 use sled_log::Log;
 use sled_node::{Link, Node};
@@ -95,7 +94,7 @@ impl<L: Log> PageCache<L> {
         }
         let (log, accesses) = (&mut self.sticky_log, &mut self.accesses);
         let page = self.pages.get_mut(pid);
-        let put = put_page(self.alloc, log, accesses, pid, page, Kept::Node(node));
+        let put = put_node(self.alloc, log, accesses, pid, page, node);
         let token = PageView::new(pid, page.stamp);
         end_swap(&mut self.pages, &mut self.accesses, token, put)
     }

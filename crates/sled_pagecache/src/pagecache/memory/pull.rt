@@ -21,13 +21,14 @@ ghost use Rattle.sled_pagecache.specs.declared.pagecache.table.page.Kept.TheVari
 
 use crate::pagecache::memory::accesses::Accesses;
 use crate::pagecache::memory::chain::read_chain;
-use crate::pagecache::memory::reading::node_of;
+use crate::pagecache::memory::reading::held_of;
+use crate::pagecache::table::held::HeldNode;
 use crate::pagecache::table::page::{CacheInfo, Kept, Page, total_size};
 use crate::pagecache::write::sticky_log::StickyLog;
 use crate::pagecache::write::swap::link_page;
 use sled_base::{PageId, Refusal};
 use sled_log::Log;
-use sled_node::{Link, Node};
+use sled_node::Link;
 use std::alloc::Global;
 
 // Reads the node of a page from the log, unless what the page holds lies in memory. A refusal leaves the page.
@@ -55,7 +56,7 @@ pub(crate) fn read_node<L: Log>(
     sticky_log: &mut StickyLog<L>,
     pid: PageId,
     infos: &[CacheInfo],
-) -> Result<Node, Refusal>
+) -> Result<HeldNode, Refusal>
     requires ready { sticky_log.old.fault ≡ false }
     requires usable { (L.state sticky_log.old.log).usable ≡ true }
     requires some { 0 < length infos.now }
@@ -71,7 +72,7 @@ pub(crate) fn read_node<L: Log>(
         → IfErr result (RefusesPull (chain_at (L.state sticky_log.old.log) pid)) }
 {
     let found = read_chain(alloc, sticky_log, pid, infos)?;
-    node_of(&found, alloc)
+    held_of(&found, alloc)
 }
 
 // Reads the node of a page and accesses the page, which takes no memory where it is listed with its size. What a refused access has

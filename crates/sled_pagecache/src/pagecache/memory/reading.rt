@@ -11,6 +11,7 @@ ghost use Rattle.sled_node.specs.declared.node.link.Link.{Link as NodeLink};
 ghost use Rattle.sled_pagecache.specs.Inside.PageIn.{found_message, BeginsFree, RefusesNode, EncodesNothing, Leads, RefusesMessage};
 ghost use Rattle.sled_pagecache.specs.Damage.{MakesNode};
 
+use crate::pagecache::table::held::HeldNode;
 use sled_base::{Bug, DiskPtr, Error, MessageKind, Refusal};
 use sled_node::{Link, Node, Serialize};
 use std::alloc::Global;
@@ -44,6 +45,17 @@ pub(crate) fn node_of(messages: &[Found], alloc: Global) -> Result<Node, Refusal
         apply_link(&mut node, found, alloc)?;
     }
     Ok(node)
+}
+
+// The same, held in memory.
+pub(crate) fn held_of(messages: &[Found], alloc: Global) -> Result<HeldNode, Refusal>
+    requires { 0 < length messages.now }
+    ensures made { IfOk result
+        (λ node. Makes (map found_message messages.now) (contents.Node node)) }
+    ensures refused { IfErr result (RefusesNode messages.now) }
+{
+    let node = node_of(messages, alloc)?;
+    HeldNode::new(alloc, node).map_err(|_| Refusal::OutOfMemory)
 }
 
 // The node that the first message of a page puts there.

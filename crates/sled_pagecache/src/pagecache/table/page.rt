@@ -6,9 +6,10 @@ ghost use Rattle.sled_pagecache.specs.Infos.{place_of};
 ghost use Rattle.sled_pagecache.specs.Infos.{stamps_to};
 ghost use Rattle.sled_pagecache.specs.Inside.Infos.{joined_infos};
 
+use crate::pagecache::table::held::HeldNode;
 use crate::pagecache::table::infos::Infos;
 use sled_base::{DiskPtr, Lsn, PageState};
-use sled_node::{Meta, Node};
+use sled_node::Meta;
 use std::alloc::{AllocError, Global};
 
 /// How a log keeps one message of a page: the stamp of the page once the message stood, or 0 where it was recovered, its
@@ -45,7 +46,7 @@ pub(crate) enum Kept {
     Away,
     Counter(u64),
     Roots(Meta),
-    Node(Node),
+    Node(HeldNode),
 }
 
 impl Page {

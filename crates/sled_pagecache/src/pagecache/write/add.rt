@@ -7,6 +7,7 @@ ghost use Rattle.sled_pagecache.specs.Inside.Appends.{PutsOnNewPage};
 
 use crate::pagecache::MAX_PAGES;
 use crate::pagecache::memory::accesses::{Accesses, size_with};
+use crate::pagecache::table::held::HeldNode;
 use crate::pagecache::table::infos::Infos;
 use crate::pagecache::table::page::{Kept, Page};
 use crate::pagecache::table::pagetable::PageTable;
@@ -42,14 +43,17 @@ pub(crate) fn add_page<L: Log>(
         return Err(Refusal::OutOfMemory);
     };
     let size = node.serialized_size();
+    let Ok(held) = HeldNode::new(alloc, node) else {
+        return Err(Refusal::OutOfMemory);
+    };
     let Ok(()) = accesses.access(pid, size_with(0, size)) else {
         return Err(Refusal::OutOfMemory);
     };
-    let info = write_node(alloc, sticky_log, pid, &node, size, 1)?;
+    let info = write_node(alloc, sticky_log, pid, &held, size, 1)?;
     pages.push_reserved(Page {
         stamp: 1,
         infos: Infos::one(info),
-        kept: Kept::Node(node),
+        kept: Kept::Node(held),
     });
     Ok(())
 }

@@ -10,11 +10,12 @@ ghost use Rattle.sled_node.specs.Meta.{IsRootMap};
 ghost use Rattle.sled_node.specs.Payloads.Links.{CanWriteLink};
 ghost use Rattle.sled_pagecache.specs.Inside.PageWrites.{CanPut, WritesMessage, Wrote, content_of};
 
+use crate::pagecache::table::held::HeldNode;
 use crate::pagecache::table::page::{CacheInfo, Kept};
 use crate::pagecache::write::sticky_log::StickyLog;
 use sled_base::{MessageKind, PageId, Refusal, Serialize};
 use sled_log::Log;
-use sled_node::{Link, Meta, Node};
+use sled_node::{Link, Meta};
 use std::alloc::Global;
 
 // A payload of at most so many bytes is made without an allocation.
@@ -25,7 +26,7 @@ pub(crate) fn write_node<L: Log>(
     alloc: Global,
     sticky_log: &mut StickyLog<L>,
     pid: PageId,
-    node: &Node,
+    node: &HeldNode,
     size: u64,
     stamp: u64,
 ) -> Result<CacheInfo, Refusal>
@@ -38,6 +39,7 @@ pub(crate) fn write_node<L: Log>(
     ensures { Wrote L.Log sticky_log.old sticky_log.new pid (contents.Put (contents.Node node.now))
         stamp result }
 {
+    let node = node.as_node();
     // Every node is well-formed.
     let _ = node.data();
     write(

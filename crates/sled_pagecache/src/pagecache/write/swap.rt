@@ -24,6 +24,7 @@ ghost use Rattle.sled_pagecache.specs.declared.pagecache.table.page.Kept.TheVari
 use crate::pagecache::PAGE_CONSOLIDATION_THRESHOLD;
 use crate::pagecache::memory::accesses::{Accesses, size_with};
 use crate::pagecache::table::free::FreeIds;
+use crate::pagecache::table::held::HeldNode;
 use crate::pagecache::table::infos::Infos;
 use crate::pagecache::table::page::{CacheInfo, Kept, Page, keep_alone, keep_linked, total_size};
 use crate::pagecache::write::message::{write_kept, write_link, write_node};
@@ -60,6 +61,32 @@ pub(crate) fn put_page<L: Log>(
     page.kept = kept;
     keep_alone(page, info);
     Ok(())
+}
+
+// Puts a node on a page in place of what it held. A refusal leaves the page.
+pub(crate) fn put_node<L: Log>(
+    alloc: Global,
+    sticky_log: &mut StickyLog<L>,
+    accesses: &mut Accesses,
+    pid: PageId,
+    page: &mut Page,
+    node: Node,
+) -> Result<(), Refusal>
+    requires ready { sticky_log.old.fault ≡ false }
+    requires usable { (L.state sticky_log.old.log).usable ≡ true }
+    requires there { L.tells → pid < length (now effect_of_entry (L.state sticky_log.old.log)) }
+    ensures { Puts L.Log pid (kept.Node node) sticky_log.old sticky_log.new accesses.old
+        accesses.new page.old page.new result }
+{
+    // Every node is well-formed.
+    let _ = node.data();
+    if page.stamp == u64::MAX {
+        return Err(Refusal::Unsupported(Why::StampUsedUp));
+    }
+    let Ok(held) = HeldNode::new(alloc, node) else {
+        return Err(Refusal::OutOfMemory);
+    };
+    put_page(alloc, sticky_log, accesses, pid, page, Kept::Node(held))
 }
 
 // Frees a page, and puts its id among those of the free ones. A refusal leaves both.
@@ -112,7 +139,7 @@ pub(crate) fn reuse_page<L: Log>(
     ensures put { Puts L.Log pid (kept.Node node) sticky_log.old sticky_log.new accesses.old
         accesses.new page.old page.new result }
 {
-    let put = put_page(alloc, sticky_log, accesses, pid, page, Kept::Node(node));
+    let put = put_node(alloc, sticky_log, accesses, pid, page, node);
     if put.is_ok() {
         free.take_greatest();
     }
@@ -128,6 +155,7 @@ pub(crate) fn payload_size(kept: &Kept) -> u64
 {
     match kept {
         Kept::Node(node) => {
+            let node = node.as_node();
             // Every node is well-formed.
             let _ = node.data();
             node.serialized_size()
@@ -190,7 +218,7 @@ pub(crate) fn link_page<L: Log>(
 }
 
 // Whether the node accepts the link, which can be written then.
-fn accepts(node: &Node, link: &Link) -> bool
+fn accepts(node: &HeldNode, link: &Link) -> bool
     ensures accepted { IsTrue result ↔ Accepts node.now link.now }
     ensures can_write { result ≡ true → CanWriteLink link.now }
 {
@@ -198,9 +226,9 @@ fn accepts(node: &Node, link: &Link) -> bool
         // It is read here, which shows that it has 64 bits.
         Link::ParentMergeIntention(page) => {
             let _page = *page;
-            node.accepts(link)
+            node.as_node().accepts(link)
         }
-        _ => node.accepts(link),
+        _ => node.as_node().accepts(link),
     }
 }
 
@@ -209,7 +237,7 @@ fn prepare(
     joins: bool,
     alloc: Global,
     infos: &mut Infos,
-    node: &mut Node,
+    node: &mut HeldNode,
     link: &Link,
 ) -> Result<(), AllocError>
     requires accepted { Accepts node.old link.now }
@@ -226,14 +254,14 @@ fn prepare(
 }
 
 // In how many bytes a link is written that joins the other messages, or else the node that it made.
-fn linked_size(joins: bool, node: &Node, link: &Link) -> u64
+fn linked_size(joins: bool, node: &HeldNode, link: &Link) -> u64
     requires { CanWriteLink link.now }
     ensures { result ≡ length (message_of (joined_update joins link.now node.now)).payload }
 {
     if joins {
         return link.serialized_size();
     }
-    node.serialized_size()
+    node.as_node().serialized_size()
 }
 
 // Accesses a page with what its messages will take: such a payload, with theirs where it joins them.
@@ -260,7 +288,7 @@ fn write_linked<L: Log>(
     alloc: Global,
     sticky_log: &mut StickyLog<L>,
     pid: PageId,
-    node: &Node,
+    node: &HeldNode,
     link: &Link,
     size: u64,
     stamp: u64,

@@ -16,8 +16,8 @@ returns-in-Err g c =
 pub get_mut-page-requires : goal.get_mut-page-requires
 get_mut-page-requires g c = slice_get_within _ c.args.pid _ c.in-Ok.ensures.1.at
 
-pub put_page-put-requires-clause-there : goal.put_page-put-requires-clause-there
-put_page-put-requires-clause-there g c = λ told.
+pub put_node-put-requires-clause-there : goal.put_node-put-requires-clause-there
+put_node-put-requires-clause-there g c = λ told.
     let fresh = c.in-Ok.ensures.1 in
     let within = slice_get_within _ c.args.pid _ fresh.at in
     let long = beside-long g.L.Log.tells g.L.Log.state c.self.inside.sticky_log.log c.self.inside.pages.pages (c.self.invariant.whole.consistent.beside fresh.clear) told in
@@ -27,13 +27,13 @@ pub invariant_of-self : goal.invariant_of-self
 invariant_of-self g c =
     let fresh = fresh-at c.in-Ok.ensures c.get_mut-page.ensures.page in
     (swap-ended g.L.Log c.self.invariant fresh c.requires c.args.node (kept.Node c.args.node) tt (call.Replace c.args.old c.args.node) Replaced (replace-swap g.L.Log _ c.args.old c.args.node) (λ cache. IsResident cache c.args.pid)
-    c.put_page-put.new.page _ c.new-token.ensures c.put_page-put.result c.put_page-put.ensures tt refl
-    (either-way c.put_page-put.result (λ holds. c.self.invariant.whole.consistent.free ∙ sym (free-same 0 _ c.args.pid _ _ fresh.at (ap is_free holds ∙ sym fresh.full))) refl) c.end_swap.ensures.evicts (λ holds there none. there)).0
+    c.put_node-put.new.page _ c.new-token.ensures c.put_node-put.result c.put_node-put.ensures tt refl
+    (either-way c.put_node-put.result (λ holds. c.self.invariant.whole.consistent.free ∙ sym (free-same 0 _ c.args.pid _ _ fresh.at (ap is_free holds ∙ sym fresh.full))) refl) c.end_swap.ensures.evicts (λ holds there none. there)).0
 
 pub returns : goal.returns
 returns g c =
     let fresh = fresh-at c.in-Ok.ensures c.get_mut-page.ensures.page in
     rw (c.end_swap.ensures.answer, ← c.self.view_is)
     (swap-ended g.L.Log c.self.invariant fresh c.requires c.args.node (kept.Node c.args.node) tt (call.Replace c.args.old c.args.node) Replaced (replace-swap g.L.Log _ c.args.old c.args.node) (λ cache. IsResident cache c.args.pid)
-    c.put_page-put.new.page _ c.new-token.ensures c.put_page-put.result c.put_page-put.ensures tt refl
-    (either-way c.put_page-put.result (λ holds. c.self.invariant.whole.consistent.free ∙ sym (free-same 0 _ c.args.pid _ _ fresh.at (ap is_free holds ∙ sym fresh.full))) refl) c.end_swap.ensures.evicts (λ holds there none. there)).1
+    c.put_node-put.new.page _ c.new-token.ensures c.put_node-put.result c.put_node-put.ensures tt refl
+    (either-way c.put_node-put.result (λ holds. c.self.invariant.whole.consistent.free ∙ sym (free-same 0 _ c.args.pid _ _ fresh.at (ap is_free holds ∙ sym fresh.full))) refl) c.end_swap.ensures.evicts (λ holds there none. there)).1

@@ -2,7 +2,7 @@ use Rattle.sled_pagecache.proofs.Names.{Counter, HoldsChain, Node, Roots, refl, 
 use Rattle.sled_pagecache.proofs.pagecache.memory.sizes.page_rss.Goals as goal
 
 pub returns-in_ok-read_node-in-Away-clause-size : goal.returns-in_ok-read_node-in-Away-clause-size
-returns-in_ok-read_node-in-Away-clause-size g c = λ known. (Node c.in_ok-read_node-in-Away.field-0, c.in_ok-read_node-in-Away.ensures.made known, c.rss-in-Away.ensures.value)
+returns-in_ok-read_node-in-Away-clause-size g c = λ known. (Node c.in_ok-read_node-in-Away.field-0, c.in_ok-read_node-in-Away.ensures.made known, c.rss-in-Away.ensures)
 
 pub returns-in-Counter-clause-size : goal.returns-in-Counter-clause-size
 returns-in-Counter-clause-size g c = λ known. (Counter c.in-Counter.field-0, subst (HoldsChain _) c.in-Counter.is (c.requires.kept known).holds, refl)
@@ -11,4 +11,4 @@ pub returns-in-Roots-clause-size : goal.returns-in-Roots-clause-size
 returns-in-Roots-clause-size g c = λ known. (Roots c.in-Roots.roots, subst (HoldsChain _) c.in-Roots.is (c.requires.kept known).holds, c.rss-in-Roots.ensures)
 
 pub returns-in-Node-clause-size : goal.returns-in-Node-clause-size
-returns-in-Node-clause-size g c = λ known. (Node c.in-Node.node, subst (HoldsChain _) c.in-Node.is (c.requires.kept known).holds, c.rss-in-Node.ensures.value)
+returns-in-Node-clause-size g c = λ known. (Node c.in-Node.node, subst (HoldsChain _) c.in-Node.is (c.requires.kept known).holds, c.rss-in-Node.ensures)
