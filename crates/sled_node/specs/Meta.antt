@@ -1,10 +1,10 @@
 -- A finite map from names to root pages, as the list of its names with their roots, in the order of names.
-use Rattle.std.specs.Prelude.{◌≡◌, ℕ, ◌+◌, ◌<◌, ◌^◌, Bool, true, false, List, [], ◌∷◌, ◌++◌, map, length, Option, Some, None, ⊤, if◌then◌else◌}
+use Rattle.std.specs.Prelude.{◌≡◌, ℕ, ◌+◌, ◌<◌, ◌^◌, Bool, List, [], ◌∷◌, ◌++◌, map, length, Option, Some, None, ⊤, if◌then◌else◌}
 use Rattle.std.specs.BTreeMap.{BTreeMap}
 use Rattle.std.specs.Global.{Vec}
 use Rattle.std.specs.List.{fold, sum_by}
 use Rattle.std.specs.Ordering.{is_eq}
-use Rattle.sled_base.specs.Order.{Bytes, bytes_cmp, is_below}
+use Rattle.sled_base.specs.Order.{Bytes, bytes_cmp}
 use Rattle.sled_node.specs.Pairs.{pairs_below, pairs_above, IsWithinLimit, HasPairs}
 use Rattle.sled_node.specs.Limits.{bytes_limit, names_limit, page_bytes}
 
@@ -39,11 +39,6 @@ without_root name roots = pairs_below name roots ++ pairs_above name roots
 abbrev pub changed_roots : Bytes → Option ℕ → Roots → Roots
 changed_roots name None roots = without_root name roots
 changed_roots name (Some root) roots = with_root name root roots
-
--- whether the other name is above the name, or below it
-abbrev pub is_on_side : Bool → Bytes → Bytes → Bool
-is_on_side true name other = is_below name other
-is_on_side false name other = is_below other name
 
 -- the map with the pairs set one after the other, so that a later pair of a name wins
 abbrev pub with_roots : List (Bytes × ℕ) → Roots → Roots

@@ -1,5 +1,5 @@
 -- The laws of the root map.
-use Rattle.std.specs.Prelude.{◌≡◌, ◌≢◌, ℕ, Bool, true, false, [], ◌∷◌, ◌++◌, filter, Option, Some, None, refl}
+use Rattle.std.specs.Prelude.{◌≡◌, ◌≢◌, ℕ, Bool, true, false, [], ◌∷◌, ◌++◌, filter, Option, Some, None, unwrap_or, refl}
 use Rattle.std.proofs.Common.{cond, sym, ap, subst, ◌∙◌, append_assoc}
 use Rattle.std.proofs.lemmas.List.{append-nil}
 use Rattle.std.specs.List.{AllByRecursion}
@@ -200,3 +200,40 @@ module _ (name : Bytes) (root : ℕ) where
   pub taken_back : (roots : Roots) → IsAscending roots → root_of name roots ≡ None → without_root name (with_root name root roots) ≡ roots
   taken_back [] ascending missing = back_before [] tt
   taken_back (pair ∷ roots) ascending missing = back_one pair roots ascending missing (λ none. taken_back roots ascending.1 none) (bytes_cmp name pair.0) refl
+
+-- ---- a name that was given another root and is given its former one again
+
+module _ (name : Bytes) (root former : ℕ) where
+  -- before names that are above it
+  set_first : (some other : ℕ) (roots : Roots) → AllByRecursion (λ later. IsBelow name later.0) roots → with_root name other ((name, some) ∷ roots) ≡ (name, other) ∷ roots
+  set_first some other roots above =
+      let parts = all_after name roots above in
+      let itself = not_below_itself name in
+      rw itself (ap (λ front. front ++ (name, other) ∷ pairs_above name roots) parts.0 ∙ ap (λ back. (name, other) ∷ back) parts.1)
+
+  -- behind a name that is below it
+  set_behind : (some : ℕ) (pair : Bytes × ℕ) (roots : Roots) → IsBelow pair.0 name → with_root name some (pair ∷ roots) ≡ pair ∷ with_root name some roots
+  set_behind some pair roots lt =
+      let parts = behind_one name some pair roots lt in
+      ap (λ front. front ++ (name, some) ∷ pairs_above name (pair ∷ roots)) parts.0 ∙ ap (λ back. pair ∷ pairs_below name roots ++ (name, some) ∷ back) parts.1
+
+  given_one : (pair : Bytes × ℕ) (roots : Roots) → IsAscending (pair ∷ roots) → (root_of name roots ≡ Some former → with_root name former (with_root name root roots) ≡ roots)
+      → (o : Ordering) → bytes_cmp name pair.0 ≡ o → cond (is_eq o) (Some pair.1) (root_of name roots) ≡ Some former → with_root name former (with_root name root (pair ∷ roots)) ≡ pair ∷ roots
+  given_one pair roots ascending others Less is there =
+      let above = (all_after name roots (above_all name root pair roots is ascending.0)).1 in
+      let none = subst (λ some. root_of name some ≡ None) above (above_missing name roots) in
+      absurd (let e = sym none ∙ there in cc)
+  given_one pair roots ascending others Equal is there =
+      let same = equal_is_same name pair.0 is in
+      let above = subst (λ k. AllByRecursion (λ later. IsBelow k later.0) roots) (sym same) ascending.0 in
+      let its : pair.1 ≡ former = ap (λ found. unwrap_or found 0) there in
+      ap (λ k. with_root name former (with_root name root ((k, pair.1) ∷ roots))) (sym same)
+      ∙ ap (with_root name former) (set_first pair.1 root roots above) ∙ set_first root former roots above ∙ (λ i. (same i, sym its i) ∷ roots)
+  given_one pair roots ascending others Greater is there =
+      let lt = above_is_below name pair.0 is in
+      ap (with_root name former) (set_behind root pair roots lt) ∙ set_behind former pair (with_root name root roots) lt ∙ ap (λ rest. pair ∷ rest) (others there)
+
+  -- leaves the map as it was
+  pub given_back : (roots : Roots) → IsAscending roots → root_of name roots ≡ Some former → with_root name former (with_root name root roots) ≡ roots
+  given_back [] ascending there = absurd cc
+  given_back (pair ∷ roots) ascending there = given_one pair roots ascending (given_back roots ascending.1) (bytes_cmp name pair.0) refl there

@@ -1,22 +1,22 @@
 //! The root map of a page cache: which page is the root of each named tree.
 
-ghost use Rattle.std.specs.Prelude.{◌≡◌, ◌≢◌, ◌↔◌, ◌<◌, ◌^◌, [], length, None, IsTrue, IfSome, IfOk, IsOk, OnOk, OnErr, nat_eq};
+ghost use Rattle.std.specs.Prelude.{◌≡◌, ◌≢◌, ◌↔◌, ◌<◌, ◌^◌, [], length, None, IsTrue, IfSome, IfNone, IfOk, IsOk, OnOk, OnErr, nat_eq};
 ghost use Rattle.std.specs.Cmp.{partial_equiv_from_equiv};
 ghost use Rattle.sled_node.specs.Pairs.{IsWithinLimit};
 ghost use Rattle.sled_node.specs.Equality.{same_pairs, index_equiv};
-ghost use Rattle.sled_node.specs.Meta.{named_pages, root_of, with_root, without_root, changed_roots, IsRootMap, HasRoom, roots_size};
+ghost use Rattle.sled_node.specs.Meta.{named_pages, root_of, with_root, without_root, IsRootMap, HasRoom, roots_size};
 ghost use Rattle.sled_node.specs.Payloads.Roots.{written_roots};
 
-mod changed;
 mod names;
 mod payload;
+mod written;
 
-use changed::serialize_changed;
-use names::{put_page, root_of, take_page};
+use names::{put_page, replace_page, root_of, take_page};
 use sled_base::{IVec, PageId};
 use std::alloc::{AllocError, Global};
 use std::collections::BTreeMap;
 use std::marker::Model;
+use written::serialize_without;
 
 /// The greatest number of names in a root map.
 pub const MAX_NAMES: usize = 1 << 24;
@@ -84,20 +84,25 @@ impl Meta {
 
     /// Gives a name its root page, and answers the page that it had before.
     ///
-    /// The name isn't longer than [`MAX_BYTES`](crate::node::MAX_BYTES), and the map [`has_room`](Meta::has_room) for it, of
-    /// which it keeps a copy. An error means that an allocation failed, and leaves the map unchanged.
+    /// The name isn't longer than [`MAX_BYTES`](crate::node::MAX_BYTES), and the map [`has_room`](Meta::has_room) for it. Where it
+    /// is new, the map keeps a copy. An error means that an allocation failed, and leaves the map unchanged. It comes only where
+    /// the name isn't there.
     pub fn set_root(&mut self, name: IVec, root: PageId) -> Result<Option<PageId>, AllocError>
         requires name { IsWithinLimit name }
         requires room { HasRoom name self.old }
         ensures former { IfOk result (λ former. former ≡ root_of name self.old) }
         ensures ok { OnOk result (self.new ≡ with_root name root self.old) }
         ensures err { OnErr result (self.new ≡ self.old) }
+        ensures there { root_of name self.old ≢ None → IsOk result }
     {
+        if let Some(former) = self.replace_root(name.as_slice(), root) {
+            return Ok(Some(former));
+        }
         let copy = Vec::from_slice(self.alloc, name.as_slice())?;
         self.put_root(copy, root)
     }
 
-    /// The same with a name that the map takes. It fails only where the name isn't there.
+    /// The same with a name that the map takes.
     pub fn put_root(&mut self, name: Vec<u8>, root: PageId) -> Result<Option<PageId>, AllocError>
         requires name { IsWithinLimit name.items }
         requires room { HasRoom name.items self.old }
@@ -110,6 +115,16 @@ impl Meta {
         Ok(former)
     }
 
+    /// Gives a name that is there another root page, and answers the page that it had before. Another name is left missing. It
+    /// allocates nothing.
+    pub fn replace_root(&mut self, name: &[u8], root: PageId) -> Option<PageId>
+        ensures former { result ≡ root_of name.now self.old }
+        ensures there { IfSome result (λ _. self.new ≡ with_root name.now root self.old) }
+        ensures missing { IfNone result (self.new ≡ self.old) }
+    {
+        replace_page(&mut self.roots, name, root)
+    }
+
     /// Takes a name out, and answers the page that it had, if the name was there. It allocates nothing.
     pub fn del_root(&mut self, name: &[u8]) -> Option<PageId>
         ensures former { result ≡ root_of name.now self.old }
@@ -118,19 +133,12 @@ impl Meta {
         take_page(&mut self.roots, name)
     }
 
-    /// How the map would be written with the name at that root page, or without the name where there is none.
-    ///
-    /// A name with a root page isn't longer than [`MAX_BYTES`](crate::node::MAX_BYTES). An error means that an allocation failed.
-    pub fn serialize_changed(
-        &self,
-        name: &[u8],
-        root: Option<PageId>,
-    ) -> Result<Vec<u8>, AllocError>
-        requires { IfSome root (λ _. IsWithinLimit name.now) }
+    /// How the map would be written without the name. An error means that an allocation failed.
+    pub fn serialize_without(&self, name: &[u8]) -> Result<Vec<u8>, AllocError>
         ensures { IfOk result
-            (λ bytes. bytes.items ≡ written_roots (changed_roots name.now root self.now)) }
+            (λ bytes. bytes.items ≡ written_roots (without_root name.now self.now)) }
     {
-        serialize_changed(self.alloc, self.roots(), name, root)
+        serialize_without(self.alloc, self.roots(), name)
     }
 
     /// A copy of the names with their root pages, in the order of names. An error means that it could not be allocated.

@@ -5,7 +5,7 @@ use Rattle.std.proofs.lemmas.List.{length-append}
 use Rattle.std.proofs.lemmas.List.Sums.{fold-append}
 use Rattle.sled_base.specs.Order.{Bytes}
 use Rattle.sled_node.specs.Pairs.{IsAscending}
-use Rattle.sled_node.specs.Meta.{Roots, with_root, with_roots, IsRootMap}
+use Rattle.sled_node.specs.Meta.{Roots, with_root, with_roots, IsRootMap, HasRoom}
 use Rattle.sled_base.specs.Payloads.Reading.{ReadsNoValue}
 use Rattle.sled_base.specs.Payloads.Numbers.{written_u64}
 use Rattle.sled_base.specs.Payloads.ByteStrings.{written_bytes}
@@ -14,7 +14,7 @@ use Rattle.sled_node.specs.Payloads.Sequences.{ReadsAll}
 use Rattle.sled_node.specs.Payloads.SequenceLaws.{ReadsAll-more}
 use Rattle.sled_node.specs.Payloads.Roots.{ReadsRoot, ReadsRoots, AsksRoots, written_root, written_roots}
 use Rattle.sled_node.specs.Payloads.RootLaws.{CanWriteRoot, go_on, can_write_roots}
-use Rattle.sled_node.proofs.Roots.{never_fewer, ascending_with}
+use Rattle.sled_node.proofs.Roots.{fits_with, never_fewer, ascending_with}
 use Rattle.sled_node.proofs.Payloads.Sizes.{all_size, number_size, string_size}
 
 -- the pairs that a map comes from, so far
@@ -28,6 +28,11 @@ put_last pairs pair = fold-append (λ so_far x. with_root x.0 x.1 so_far) [] pai
 pub put_more : (input middle rest : List ℕ) (roots : Roots) (pair : Bytes × ℕ) → PutSoFar input middle roots → ReadsRoot middle pair rest → PutSoFar input rest (with_root pair.0 pair.1 roots)
 put_more input middle rest roots pair (pairs, so_far, is) read =
     (pairs ++ pair ∷ [], ReadsAll-more ReadsRoot input pairs middle pair rest so_far read, ap (with_root pair.0 pair.1) is ∙ sym (put_last pairs pair))
+
+-- in a map that has room for it
+pub put_one : (input middle rest : List ℕ) (roots new : Roots) (pair : Bytes × ℕ) → PutSoFar input middle roots → length roots ≤ 2 ^ 24 → ReadsRoot middle pair rest → HasRoom pair.0 roots → new ≡ with_root pair.0 pair.1 roots → PutSoFar input rest new × (length new ≤ 2 ^ 24)
+put_one input middle rest roots new pair put few read room is =
+    subst (λ k. PutSoFar input rest k × (length k ≤ 2 ^ 24)) (sym is) (put_more input middle rest roots pair put read, fits_with pair.0 pair.1 roots few room)
 
 -- where bytes are left that are no pair, no map is read
 pub no_pair : (input middle : List ℕ) (roots : Roots) → PutSoFar input middle roots → middle ≢ [] → ReadsNoValue ReadsRoot middle → ReadsNoValue ReadsRoots input

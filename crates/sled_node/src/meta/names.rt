@@ -1,12 +1,13 @@
 //! Names with their pages, in std's map.
 
-ghost use Rattle.std.specs.Prelude.{◌≡◌, ◌≢◌, None, IfOk, IsOk, OnOk, OnErr};
+ghost use Rattle.std.specs.Prelude.{◌≡◌, ◌≢◌, None, IfSome, IfNone, IfOk, IsOk, OnOk, OnErr};
 ghost use Rattle.sled_node.specs.Pairs.{IsAscending};
 ghost use Rattle.sled_node.specs.Meta.{named_pages, root_of, with_root, without_root};
 
 use sled_base::PageId;
 use std::alloc::AllocError;
 use std::collections::BTreeMap;
+use std::mem::replace;
 
 // The page of a name, if the name is there.
 pub fn root_of(pages: &BTreeMap<Vec<u8>, PageId>, name: &[u8]) -> Option<PageId>
@@ -30,6 +31,24 @@ pub fn put_page(
 {
     let former = pages.insert(name, page)?;
     Ok(former)
+}
+
+// Gives a name that is there another page, and answers the page that it had before. It takes no memory.
+pub fn replace_page(
+    pages: &mut BTreeMap<Vec<u8>, PageId>,
+    name: &[u8],
+    page: PageId,
+) -> Option<PageId>
+    requires ascending { IsAscending (named_pages pages.old) }
+    ensures former { result ≡ root_of name.now (named_pages pages.old) }
+    ensures there { IfSome result
+        (λ _. named_pages pages.new ≡ with_root name.now page (named_pages pages.old)) }
+    ensures missing { IfNone result (named_pages pages.new ≡ named_pages pages.old) }
+{
+    match pages.get_mut(name) {
+        Some(former) => Some(replace(former, page)),
+        None => None,
+    }
 }
 
 // Takes a name out, and answers the page that it had, if the name was there.

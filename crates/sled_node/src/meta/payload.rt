@@ -10,6 +10,7 @@ ghost use Rattle.sled_node.specs.Payloads.Roots.{ReadsRoot, ReadsRoots, AsksRoot
 ghost use Rattle.sled_node.specs.Payloads.RootLaws.{Roots-grammar, Roots-take};
 
 use super::Meta;
+use super::written::serialize;
 use crate::serialization::Serialize;
 use crate::serialization::short::read_short;
 use sled_base::{Error, IVec, PageId};
@@ -65,7 +66,8 @@ impl Serialize for Meta {
             if !meta.has_room(name.as_slice()) {
                 return Err(Error::Corruption(None));
             }
-            meta.set_root(name, root)?;
+            let copy = Vec::from_slice(alloc, name.as_slice())?;
+            meta.put_root(copy, root)?;
         }
         *input = rest;
         Ok(meta)
@@ -74,15 +76,12 @@ impl Serialize for Meta {
     fn serialize(&self, alloc: Global) -> Result<Vec<u8>, AllocError>
         ensures { IfOk result (λ bytes. bytes.items ≡ written_roots self.now) }
     {
-        let size = self.serialized_size() as usize;
-        let mut bytes = vec![in alloc; 0u8; size]?;
-        self.serialize_into(&mut bytes);
-        Ok(bytes)
+        serialize(alloc, self.roots())
     }
 }
 
 // How many bytes a name and its page are written as.
-pub fn root_size(name: &[u8], root: PageId) -> u64
+fn root_size(name: &[u8], root: PageId) -> u64
     requires fits { length (written_root (name.now, root)) < 2 ^ 64 }
     ensures { result ≡ length (written_root (name.now, root)) }
 {
@@ -105,7 +104,7 @@ fn write_roots(roots: &BTreeMap<Vec<u8>, PageId>, out: &mut [u8]) -> usize
 }
 
 // Writes a name and its page from a place on, and answers where they end.
-pub fn write_root(name: &[u8], root: PageId, out: &mut [u8], start: usize) -> usize
+fn write_root(name: &[u8], root: PageId, out: &mut [u8], start: usize) -> usize
     requires room { start + length (written_root (name.now, root)) ≤ length out.old }
     ensures size { result ≡ start + length (written_root (name.now, root)) }
     ensures bytes { out.new ≡ (take start out.old ++ written_root (name.now, root))

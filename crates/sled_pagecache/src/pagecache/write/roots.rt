@@ -23,7 +23,7 @@ use crate::pagecache::table::page::{CacheInfo, Kept, Page, keep_alone};
 use crate::pagecache::table::pagetable::PageTable;
 use crate::pagecache::write::message::write_payload;
 use crate::pagecache::write::sticky_log::StickyLog;
-use sled_base::{Device, MessageKind, PageId, Refusal, Why};
+use sled_base::{Device, MessageKind, PageId, Refusal, Serialize, Why};
 use sled_log::Log;
 use sled_node::Meta;
 use sled_node::node::MAX_BYTES;
@@ -159,17 +159,18 @@ fn put_without<L: Log>(
     ensures changed { OnOk result (roots.new ≡ changed_roots name.now None roots.old) }
     ensures left { OnErr result (roots.new ≡ roots.old) }
 {
-    let Ok(payload) = roots.serialize_changed(name, None) else {
+    let Ok(payload) = roots.serialize_without(name) else {
         return Err(Refusal::OutOfMemory);
     };
-    let written = put_map(sticky_log, accesses, &payload, stamp);
+    let written = put_payload(sticky_log, accesses, &payload, stamp);
     if written.is_ok() {
         roots.del_root(name);
     }
     written
 }
 
-// Writes the map with the name at that root, and sets the name. A new name stands in the map before it is written, as it takes memory.
+// Sets the name to that root, and writes the map. Where it can't be written, the name is given back what it had, which takes no
+// memory.
 fn put_with<L: Log>(
     alloc: Global,
     sticky_log: &mut StickyLog<L>,
@@ -191,31 +192,49 @@ fn put_with<L: Log>(
 {
     // Every map keeps the limits.
     let _ = roots.len();
-    let (Ok(payload), Ok(copy)) = (
-        roots.serialize_changed(name, Some(root)),
-        Vec::from_slice(alloc, name),
-    ) else {
-        return Err(Refusal::OutOfMemory);
-    };
-    if roots.get_root(name).is_some() {
-        let written = put_map(sticky_log, accesses, &payload, stamp);
-        if written.is_ok() {
-            let _ = roots.put_root(copy, root);
+    if let Some(former) = roots.replace_root(name, root) {
+        let written = put_map(alloc, sticky_log, accesses, roots, stamp);
+        if written.is_err() {
+            roots.replace_root(name, former);
         }
         return written;
     }
+    let Ok(copy) = Vec::from_slice(alloc, name) else {
+        return Err(Refusal::OutOfMemory);
+    };
     let Ok(_) = roots.put_root(copy, root) else {
         return Err(Refusal::OutOfMemory);
     };
-    let written = put_map(sticky_log, accesses, &payload, stamp);
+    let written = put_map(alloc, sticky_log, accesses, roots, stamp);
     if written.is_err() {
         roots.del_root(name);
     }
     written
 }
 
-// Accesses the page of the named roots and writes the map that has this payload.
+// Writes the map as it is.
 fn put_map<L: Log>(
+    alloc: Global,
+    sticky_log: &mut StickyLog<L>,
+    accesses: &mut Accesses,
+    roots: &Meta,
+    stamp: u64,
+) -> Result<CacheInfo, Refusal>
+    requires ready { sticky_log.old.fault ≡ false }
+    requires usable { (L.state sticky_log.old.log).usable ≡ true }
+    requires there { L.tells
+        → meta_pid < length (now effect_of_entry (L.state sticky_log.old.log)) }
+    ensures { WritesMap L.Log sticky_log.old sticky_log.new accesses.old accesses.new
+        (written_roots roots.now) stamp result }
+{
+    let Ok(payload) = roots.serialize(alloc) else {
+        return Err(Refusal::OutOfMemory);
+    };
+    put_payload(sticky_log, accesses, &payload, stamp)
+}
+
+// Accesses the page of the named roots and writes the map that has this payload.
+fn put_payload<L: Log>(
     sticky_log: &mut StickyLog<L>,
     accesses: &mut Accesses,
     payload: &[u8],

@@ -4,9 +4,9 @@ use Rattle.std.proofs.lemmas.Result.{err_from_is_err_and}
 use Rattle.sled_node.specs.Meta.{with_root}
 use Rattle.sled_node.specs.Payloads.ShortStrings.{AsksShort}
 use Rattle.sled_node.specs.Payloads.Roots.{ReadsRoot, ReadsRoots, AsksRoots}
-use Rattle.sled_node.proofs.Roots.{fits_with, passes_with}
+use Rattle.sled_node.proofs.Roots.{passes_with}
 use Rattle.sled_base.proofs.Payloads.Refusals.{refused_so}
-use Rattle.sled_node.proofs.Payloads.Roots.{put_more, no_pair, too_many, asks_so_far, asks_for_name}
+use Rattle.sled_node.proofs.Payloads.Roots.{put_more, put_one, no_pair, too_many, asks_so_far, asks_for_name}
 use Rattle.sled_node.proofs.meta.payload.MetaSerialize.deserialize.Goals as goal
 
 -- where bytes are left that are no pair
@@ -17,10 +17,15 @@ returns-in_err-name-clause-refused c =
     let rest = c.loop-alloc.rest.now in
     rw (p.1, p.2) (refused_so AsksShort AsksRoots ReadsRoot ReadsRoots rest input c.in_err-name.field-0.0 (asks_so_far input rest c.loop-alloc.meta c.loop-alloc.invariant.put) (no_pair input rest c.loop-alloc.meta c.loop-alloc.invariant.put (λ none. let empty = c.loop-alloc-test.ensures ∙ ap (λ bytes. length bytes == 0) none in absurd cc)) c.in_err-name.ensures.refused)
 
--- where the name is there, and its page has no room
-pub returns-in_err-set_root-clause-refused : goal.returns-in_err-set_root-clause-refused
-returns-in_err-set_root-clause-refused c =
-    let p = err_from_is_err_and c.from_residual-in_err-set_root.result c.from_residual-in_err-set_root.ensures.1 in
+-- where the name is there, and its copy or its page has no room
+pub returns-in_err-copy-clause-refused : goal.returns-in_err-copy-clause-refused
+returns-in_err-copy-clause-refused c =
+    let p = err_from_is_err_and c.from_residual-in_err-copy.result c.from_residual-in_err-copy.ensures.1 in
+    rw (p.1, p.2) (asks_for_name c.args.input.now.now c.loop-alloc.rest.now c.read_root.new.input.now c.loop-alloc.meta (c.in_ok-name.name, c.in_ok-name.root) c.loop-alloc.invariant.put c.in_ok-name.ensures.read)
+
+pub returns-in_err-put_root-clause-refused : goal.returns-in_err-put_root-clause-refused
+returns-in_err-put_root-clause-refused c =
+    let p = err_from_is_err_and c.from_residual-in_err-put_root.result c.from_residual-in_err-put_root.ensures.1 in
     rw (p.1, p.2) (asks_for_name c.args.input.now.now c.loop-alloc.rest.now c.read_root.new.input.now c.loop-alloc.meta (c.in_ok-name.name, c.in_ok-name.root) c.loop-alloc.invariant.put c.in_ok-name.ensures.read)
 
 -- where one name more is too many
@@ -36,10 +41,22 @@ returns-then-not-has_room-clause-refused c =
 
 pub loop-alloc-preserved : goal.loop-alloc-preserved
 loop-alloc-preserved c =
-    let input = c.args.input.now.now in
-    let rest = c.read_root.new.input.now in
+    let roots = c.loop-alloc.meta in
     let name = c.in_ok-name.name in
     let root = c.in_ok-name.root in
-    let put = put_more input c.loop-alloc.rest.now rest c.loop-alloc.meta (name, root) c.loop-alloc.invariant.put c.in_ok-name.ensures.read in
     let tested = rw c.as_slice.ensures at c.if-not-has_room.ensures in
-    rw c.in_ok-set_root.ensures.ok (record { put = put; few = fits_with name root c.loop-alloc.meta c.loop-alloc.invariant.few (tested.0 refl) })
+    let copied = c.in_ok-copy.ensures.items ∙ c.as_slice-in-loop-alloc.ensures in
+    let set = c.in_ok-put_root.ensures.ok ∙ ap (λ k. with_root k root roots) copied in
+    let more = put_one c.args.input.now.now c.loop-alloc.rest.now c.read_root.new.input.now roots c.put_root.new.self (name, root) c.loop-alloc.invariant.put c.loop-alloc.invariant.few c.in_ok-name.ensures.read (tested.0 refl) set in
+    record { put = more.0; few = more.1 }
+
+pub loop-alloc-preserved-in_ok-put_root : goal.loop-alloc-preserved-in_ok-put_root
+loop-alloc-preserved-in_ok-put_root c =
+    let roots = c.loop-alloc.meta in
+    let name = c.in_ok-name.name in
+    let root = c.in_ok-name.root in
+    let tested = rw c.as_slice.ensures at c.if-not-has_room.ensures in
+    let copied = c.in_ok-copy.ensures.items ∙ c.as_slice-in-loop-alloc.ensures in
+    let set = c.in_ok-put_root.ensures.ok ∙ ap (λ k. with_root k root roots) copied in
+    let more = put_one c.args.input.now.now c.loop-alloc.rest.now c.read_root.new.input.now roots c.put_root.new.self (name, root) c.loop-alloc.invariant.put c.loop-alloc.invariant.few c.in_ok-name.ensures.read (tested.0 refl) set in
+    record { put = more.0; few = more.1 }
