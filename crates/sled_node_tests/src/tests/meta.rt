@@ -1,3 +1,4 @@
+mod changes;
 mod corners;
 
 use super::serialization::{is_corrupt, is_meta_written};

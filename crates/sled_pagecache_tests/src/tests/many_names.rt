@@ -1,5 +1,6 @@
 // Swaps of roots in a map of 100,000 names, which is read from one payload that no cache wrote.
 
+use super::calls::{root_of, swaps};
 use super::scripts::walks_over;
 use super::steps::Outcome::{Done, Is};
 use super::steps::Step;
@@ -87,4 +88,88 @@ fn walks_many(alloc: Global) -> Option<usize> {
 #[test]
 fn a_hundred_thousand_names_are_read_from_one_payload(rt: HostRuntime) {
     assert_eq!(rt; walks_many(rt.alloc()), Some(STEPS.len()));
+}
+
+// ---- one swap in a map of none to 1,000 names
+
+const COUNTS: &[u32] = &[0, 1, 2, 16, 17, 1_000];
+
+// Where the name stands that is swapped: it is there, or missing below the others, between them or above them.
+#[derive(Clone, Copy, Debug)]
+enum Place {
+    First,
+    Middle,
+    Last,
+    Below,
+    Between,
+    Above,
+}
+
+const PLACES: &[Place] = &[
+    Place::First,
+    Place::Middle,
+    Place::Last,
+    Place::Below,
+    Place::Between,
+    Place::Above,
+];
+
+// The name at a place among so many, and how long it is.
+fn name_at(place: Place, count: u32) -> ([u8; 5], usize) {
+    let (n, len) = match place {
+        Place::First => (0, 4),
+        Place::Middle => (count / 2, 4),
+        Place::Last => (count.saturating_sub(1), 4),
+        Place::Below => (0, 0),
+        Place::Between => (count / 2, 5),
+        Place::Above => (count, 4),
+    };
+    let [a, b, c, d] = n.to_be_bytes();
+    ([a, b, c, d, 0], len)
+}
+
+// Whether each name but that one has the root that was read.
+fn are_left(cache: &Cache, count: u32, name: &[u8]) -> bool {
+    for n in 0..count {
+        let other = n.to_be_bytes();
+        let root = Some(Some(ROOT + n as PageId));
+        if other.as_slice() != name && root_of(cache, &other) != root {
+            return false;
+        }
+    }
+    true
+}
+
+// Whether the name has this root, and each other the one that was read, in the cache and in one that is opened over its log again.
+fn is_swapped(alloc: Global, cache: Cache, count: u32, name: &[u8], root: Option<PageId>) -> bool {
+    if root_of(&cache, name) != Some(root) || !are_left(&cache, count, name) {
+        return false;
+    }
+    match super::log_of(cache).and_then(|log| opened_over(alloc, CONFIG, log)) {
+        Some(again) => root_of(&again, name) == Some(root) && are_left(&again, count, name),
+        None => false,
+    }
+}
+
+// Whether the name at that place is given another root, or taken out.
+fn swaps_one(alloc: Global, count: u32, place: Place, new: Option<PageId>) -> Option<bool> {
+    let roots = payload(alloc, count).ok()?;
+    let mut cache = opened_over(alloc, CONFIG, log_of(alloc, &roots)?)?;
+    let (bytes, len) = name_at(place, count);
+    let name = bytes.get(..len)?;
+    let old = root_of(&cache, name)?;
+    let is_done = swaps(&mut cache, name, old, new) == Done;
+    Some(is_done && is_swapped(alloc, cache, count, name, new))
+}
+
+#[test]
+fn one_name_is_swapped_at_each_place(rt: HostRuntime) {
+    for count in COUNTS {
+        for place in PLACES {
+            for new in [Some(300), None] {
+                let is_so = swaps_one(rt.alloc(), *count, *place, new);
+                assert_eq!(rt; is_so, Some(true), "{place:?} of {count} names");
+            }
+        }
+    }
 }

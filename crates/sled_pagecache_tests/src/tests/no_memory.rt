@@ -155,7 +155,7 @@ fn accesses(alloc: Global, left: usize) -> bool {
         && is_left(alloc, left)
 }
 
-// Whether roots are found and taken out. A name that is taken out gives its memory back.
+// Whether roots are found, replaced and taken out. A name that is taken out gives its memory back.
 fn loses_roots(alloc: Global, left: usize) -> bool {
     let mut input = [1, 97, 2, 1, 98, 3].as_slice();
     let Ok(mut roots) = Meta::deserialize(alloc, &mut input) else {
@@ -164,6 +164,9 @@ fn loses_roots(alloc: Global, left: usize) -> bool {
     let _blocks = taken(alloc, left);
     roots.get_root(b"b") == Some(3)
         && roots.get_root(b"c") == None
+        && roots.replace_root(b"b", 5) == Some(3)
+        && roots.replace_root(b"c", 5) == None
+        && roots.get_root(b"b") == Some(5)
         && is_left(alloc, left)
         && roots.del_root(b"a") == Some(2)
         && roots.get_root(b"a") == None
