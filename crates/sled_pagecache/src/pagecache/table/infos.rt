@@ -1,6 +1,6 @@
 //! Where the log keeps the messages of a page.
 
-ghost use Rattle.std.specs.Prelude.{◌≡◌, ◌<◌, ◌++◌, [], ◌∷◌, true, length, vec_len, vec_capacity, IfOk, OnOk};
+ghost use Rattle.std.specs.Prelude.{◌≡◌, ◌<◌, ◌≤◌, ◌++◌, [], ◌∷◌, true, length, max, vec_len, vec_capacity, IfOk, OnOk};
 ghost use Rattle.sled_pagecache.specs.Limits.{most_messages};
 
 use crate::pagecache::PAGE_CONSOLIDATION_THRESHOLD;
@@ -131,6 +131,8 @@ fn make_room(infos: &mut Vec<CacheInfo>) -> Result<(), AllocError>
     ensures infos { infos.new.items ≡ infos.old.items }
     ensures room { OnOk result (vec_len infos.new < vec_capacity infos.new) }
     ensures len { vec_len infos.new ≡ vec_len infos.old }
+    ensures most { OnOk result
+        (vec_capacity infos.new ≤ max (vec_capacity infos.old) most_messages) }
 {
     let len = infos.len();
     if len < infos.capacity() {
