@@ -9,8 +9,10 @@
 #   crates/sledpc/stdout), or is a row of the tests of the program; over a file the runs of a block are the first rows of a test, one
 #   after another; and so is one of a crew;
 # - each other command of a session is there;
-# - each file of a crate's specs has its line in docs/ARCHITECTURE.md;
-# - docs/API.md is what tools/api.sh prints.
+# - each file of a crate's specs has its line in docs/dev/SPECS.md;
+# - docs/API.md is what tools/api.sh prints;
+# - each relative link of a page leads to a file that is there, and to a heading of it, and each page of docs or bench that a source or a
+#   script names is there.
 #
 # The status is 0 where nothing differs, and else 1.
 set -eu
@@ -202,9 +204,32 @@ compare_definitions() {
     for file in crates/*/specs/*.antt crates/*/specs/*/*.antt; do
         case $file in
         */Lib.antt) ;;
-        *) grep -qF "(../$file)" docs/ARCHITECTURE.md || differ "docs/ARCHITECTURE.md has no line for $file" ;;
+        *) grep -qF "(../../$file)" docs/dev/SPECS.md || differ "docs/dev/SPECS.md has no line for $file" ;;
         esac
     done
+}
+
+# docs/api/page.md is a part of docs/API.md, and its links are of that page.
+compare_links() {
+    find . -name '*.md' ! -path './.git/*' ! -path '*/out/*' ! -path ./docs/api/page.md | sed 's/^\.\///' >"$work/pages"
+    # shellcheck disable=SC2046 # no path has a space
+    awk -f tools/links.awk $(cat "$work/pages") >"$work/links"
+    grep '^link ' "$work/links" >"$work/only_links" || true
+    while read -r _ page file anchor; do
+        if [ ! -e "$file" ]; then
+            differ "it links to $file, which isn't there"
+        elif [ "$anchor" != - ] && ! grep -qxF "heading $file $anchor" "$work/links"; then
+            differ "it links to #$anchor of $file, which has no such heading"
+        fi
+    done <"$work/only_links"
+}
+
+compare_named_pages() {
+    find . -type f ! -path './.git/*' ! -path '*/out/*' ! -path '*/target/*' -exec grep -oE '(docs|bench)/[A-Za-z_/]+\.md' {} + |
+        sort -u >"$work/named"
+    while IFS=: read -r page file; do
+        [ -e "$file" ] || [ -e "${page%/*}/$file" ] || differ "it names $file, which isn't there"
+    done <"$work/named"
 }
 
 compare_calls() {
@@ -231,4 +256,6 @@ cut_page docs/SCRIPT.md
 compare_sessions
 tell_faults
 compare_calls
+compare_links
+compare_named_pages
 exit $status
