@@ -1,4 +1,5 @@
-# Prints measure_file.sh's tables of docs/BENCHMARKS.md, with figures.awk and tables.awk.
+# Prints measure_file.sh's tables, with figures.awk and tables.awk: with `tables` page that of docs/BENCHMARKS.md, else those of
+# bench/results/file.md.
 
 # The syncs of a script's own lines, without its setup's.
 function syncs_cell(script, whose) {
@@ -44,15 +45,18 @@ function print_openings(    i) {
 }
 
 END {
-    print "### Over a file: wall time of a line, microseconds\n"
-    print_times(wall)
-    print "\n### Over a file: processor time of a line, microseconds\n"
+    if (tables == "page") {
+        print "### Over a file: wall time of a line, microseconds\n"
+        print_times(wall)
+        exit
+    }
+    print "## Processor time of a line, microseconds\n"
     print_times(time)
-    print "\n### Over a file: syncs\n"
+    print "\n## Syncs\n"
     if (syncs_count) print_syncs()
     else print "Not counted, as strace is missing or may not trace here."
-    print "\n### Reopening, and one get\n"
+    print "\n## Reopening, and one get\n"
     print_openings()
-    print "\n### Over a file: wall time of whole runs, setup included, seconds: median (least to greatest)\n"
+    print "\n## Wall time of whole runs, setup included, seconds: median (least to greatest)\n"
     print_runs(wall)
 }

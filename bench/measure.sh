@@ -1,7 +1,8 @@
 #!/bin/sh
-# Measures `sledpc mem` beside other stores under the same scripts, and prints docs/BENCHMARKS.md's tables:
+# Measures `sledpc mem` beside other stores under the same scripts, and prints the tables of docs/BENCHMARKS.md and of
+# bench/results/memory.md, which publish.sh puts there:
 #
-#     bench/measure.sh >tables.md
+#     bench/measure.sh >tables.md && bench/publish.sh tables.md
 #
 # Each program runs each script RUNS times (5), and every reply of each run is compared with the plain map's. A program that fails, or
 # replies otherwise, ends all with a message. It needs g++ and awk; a store whose package is missing is left out, and named as that.
@@ -44,8 +45,10 @@ while read -r listed setup_of_listed _; do
     measure "$listed" "$setup_of_listed"
 done <"$list"
 
-print_machine
-echo
-draw memory_tables.awk
+print_machine >"$work/machine"
+part memory docs/BENCHMARKS.md
+draw memory_tables.awk page
+part memory bench/results/memory.md
+draw memory_tables.awk others
 draw chart.awk >"$chart"
 say "the chart is in $chart"

@@ -1,8 +1,8 @@
 #!/bin/sh
-# Measures `sledpc file` beside other stores on a disk, with their syncs on, and prints the tables of docs/BENCHMARKS.md's section
-# 'Over a file':
+# Measures `sledpc file` beside other stores on a disk, with their syncs on, and prints the table of docs/BENCHMARKS.md's section
+# 'Over a file' and those of bench/results/file.md, which publish.sh puts there:
 #
-#     bench/measure_file.sh >file_tables.md
+#     bench/measure_file.sh >file_tables.md && bench/publish.sh file_tables.md
 #
 # FOLDER is a folder on the disk (/var/tmp). Everything is made in a new folder there, which goes at the end. COUNT is about how many
 # lines most scripts have (30,000), and PROGRAMS which of `sledpc lmdb sqlite leveldb rocksdb` run, in order. RUNS and PROGRAM are as in
@@ -130,7 +130,9 @@ while read -r listed setup_of_listed _; do
     esac
 done <"$list"
 
-print_machine strace
-echo "Files on $(file_system), below $folder, where a synced write of 512 bytes takes $(sync_time) ms."
-echo
-draw file_tables.awk
+print_machine strace >"$work/machine"
+echo "Files on $(file_system), below $folder, where a synced write of 512 bytes takes $(sync_time) ms." >>"$work/machine"
+part file docs/BENCHMARKS.md
+draw file_tables.awk page
+part file bench/results/file.md
+draw file_tables.awk others

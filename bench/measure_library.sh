@@ -1,8 +1,8 @@
 #!/bin/sh
 # Measures calls of the library from Rust beside LMDB through its C interface, and prints the table of docs/BENCHMARKS.md's section
-# 'From Rust':
+# 'From Rust', which publish.sh puts there:
 #
-#     bench/measure_library.sh >library_table.md
+#     bench/measure_library.sh >library_table.md && bench/publish.sh library_table.md
 #
 # MEMORY is a folder in memory (/dev/shm) and DISK one on a disk (/var/tmp). Everything is made in new folders there, which go at
 # the end. It needs cargo and liblmdb-dev.
@@ -23,6 +23,7 @@ trap 'exit 1' HUP INT TERM
 (cd "$top/bench/library" && CARGO_TARGET_DIR=$top/bindings/out/target cargo build --release --offline -q)
 load_before=$(cut -d ' ' -f 1-3 /proc/loadavg)
 "$top/bindings/out/target/release/library" "$memory" "$disk" >"$memory/figures"
+echo '<!-- part: library docs/BENCHMARKS.md -->'
 printf 'Measured on %s: %s, %s processors, Linux %s, load average %s at the start and %s at the end; LMDB %s.\n\n' "$(date -u +%F)" \
     "$(sed -n 's/^model name[^:]*: //p' /proc/cpuinfo | head -n 1)" "$(nproc)" "$(uname -r)" "$load_before" \
     "$(cut -d ' ' -f 1-3 /proc/loadavg)" "$(dpkg-query -W -f '${Version}' liblmdb-dev 2>/dev/null || echo unknown)"

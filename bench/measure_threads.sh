@@ -1,8 +1,8 @@
 #!/bin/sh
-# Measures threads that share a cache beside threads that share other stores, and prints the tables of docs/BENCHMARKS.md's section
-# 'Threads':
+# Measures threads that share a cache beside threads that share other stores, and prints the table of docs/BENCHMARKS.md's section
+# 'Threads' and those of bench/results/threads.md, which publish.sh puts there:
 #
-#     bench/measure_threads.sh >threads_tables.md
+#     bench/measure_threads.sh >threads_tables.md && bench/publish.sh threads_tables.md
 #
 # COUNT is how many calls the threads of a run make together (1,000,000). The program of our calls is proved and built for it, unless
 # CALLS gives the binary of an earlier time (`bench/threads_program.sh FILE` makes one). RUNS is as in measure.sh. Each program tells how
@@ -72,6 +72,8 @@ while read -r listed setup_of_listed _; do
     measure_calls "$listed" "$setup_of_listed"
 done <"$list"
 
-print_machine
-echo
-draw threads_tables.awk
+print_machine >"$work/machine"
+part threads docs/BENCHMARKS.md
+draw threads_tables.awk page
+part threads bench/results/threads.md
+draw threads_tables.awk others

@@ -1,4 +1,5 @@
-# Prints measure.sh's tables of docs/BENCHMARKS.md, with figures.awk and tables.awk.
+# Prints measure.sh's tables, with figures.awk and tables.awk: with `tables` page that of docs/BENCHMARKS.md, else those of
+# bench/results/memory.md.
 
 function ratio_cell(script, other) {
     if (is_nothing(time, script, program[1]) || is_nothing(time, script, other)) return "-"
@@ -38,12 +39,15 @@ function print_memory(    i, j, line, script, wanted, count) {
 }
 
 END {
-    print "### Processor time of a line, microseconds\n"
-    print_times(time)
-    print "\n### `sledpc`'s processor time over each other's\n"
+    if (tables == "page") {
+        print "### Processor time of a line, microseconds\n"
+        print_times(time)
+        exit
+    }
+    print "## `sledpc`'s processor time over each other's\n"
     print_ratios()
-    print "\n### Processor time of whole runs, setup included, seconds: median (least to greatest)\n"
+    print "\n## Processor time of whole runs, setup included, seconds: median (least to greatest)\n"
     print_runs(time)
-    print "\n### Peak memory, bytes a line, and bytes of files a line\n"
+    print "\n## Peak memory, bytes a line, and bytes of files a line\n"
     print_memory()
 }

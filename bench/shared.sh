@@ -135,7 +135,14 @@ print_machine() {
     sed -n 's/^left out \([^ ]*\) \(.*\)/Left out, as the package \2 is missing: \1./p' "$work/built"
 }
 
-# draw PART: what this part of awk prints of the results
+# part NAME PAGE: begins what publish.sh puts into this page: where and when it was measured, by $work/machine, and then tables
+part() {
+    echo "<!-- part: $1 $2 -->"
+    cat "$work/machine"
+    echo
+}
+
+# draw FILE [TABLES]: what this file of awk prints of the results: of the tables the one for docs/BENCHMARKS.md (page), or the others
 draw() {
-    awk -f "$bench/figures.awk" -f "$bench/tables.awk" -f "$bench/$1" -v programs="$programs" "$list" "$work/results"
+    awk -f "$bench/figures.awk" -f "$bench/tables.awk" -f "$bench/$1" -v programs="$programs" -v tables="${2-}" "$list" "$work/results"
 }

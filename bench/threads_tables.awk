@@ -1,4 +1,5 @@
-# Prints measure_threads.sh's tables of docs/BENCHMARKS.md, with figures.awk and tables.awk.
+# Prints measure_threads.sh's tables, with figures.awk and tables.awk: with `tables` page that of docs/BENCHMARKS.md, else those of
+# bench/results/threads.md.
 
 BEGIN {
     split("shared plain plain_map lmdb lmdb_own sqlite sqlite_own", names, " ")
@@ -23,10 +24,13 @@ function print_rates(    i, j, line) {
 }
 
 END {
-    print "### Threads: thousand calls a second, by the clock\n"
-    print_rates()
-    print "\n### Threads: processor time of a call, microseconds\n"
+    if (tables == "page") {
+        print "### Threads: thousand calls a second, by the clock\n"
+        print_rates()
+        exit
+    }
+    print "## Processor time of a call, microseconds\n"
     print_times(time)
-    print "\n### Threads: wall time of whole runs, setup included, seconds: median (least to greatest)\n"
+    print "\n## Wall time of whole runs, setup included, seconds: median (least to greatest)\n"
     print_runs(wall)
 }
